@@ -1,0 +1,2 @@
+pub mod Aborted
+pub mod Meaning

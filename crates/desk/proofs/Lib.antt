@@ -1,0 +1,5 @@
+pub mod Legal
+pub mod Seating
+pub mod Steps
+pub mod Tied
+pub mod Walks

@@ -1,0 +1,16 @@
+use Rattle.std.proofs.Common.{All, sym, ap, subst, ◌≡◌, ◌∙◌}
+use Rattle.desk.specs.History.{part_of}
+use Rattle.desk.specs.Seats.{HasSeatsTo, IsLeastMissing}
+use Rattle.desk.proofs.desk.Desk.close.Goals as goal
+
+pub returns-in-Some-clause-least : goal.returns-in-Some-clause-least
+returns-in-Some-clause-least g c = subst (λ seats. IsLeastMissing seats c.in-Some.missing) c.deref.ensures.value c.in-Some.ensures.least
+
+pub returns-clause-all : goal.returns-clause-all
+returns-clause-all g c =
+    subst (λ n. HasSeatsTo n c.args.lefts.items) c.self.invariant.0 (subst (HasSeatsTo c.self.inside.workers) c.deref.ensures.value c.in_default.ensures.none)
+
+pub returns-clause-parts : goal.returns-clause-parts
+returns-clause-parts g c =
+    let same : c.into_parts-machine.result.1.items ≡ c.into_inner.result.1 = c.into_parts-machine.ensures.same.1 ∙ ap (λ v. v.1) c.compare_all-guarded.ensures.same in
+    subst (λ history. All (λ l. part_of l.0 history ≡ l.1) c.args.lefts.items) (sym same) c.compare_all-guarded.ensures.parts

@@ -1,0 +1,5 @@
+use Rattle.desk.specs.Seats.{HasSeatsTo}
+use Rattle.desk.proofs.desk.missing_seat.Given as goal
+
+abbrev pub invariant-loop-before : goal.invariant-loop-before
+invariant-loop-before g l = HasSeatsTo l.before l.lefts

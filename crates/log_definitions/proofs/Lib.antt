@@ -1,0 +1,9 @@
+pub mod Keys
+pub mod Nodes
+pub mod Renaming
+pub mod Scanning
+pub mod Identities
+pub mod Together
+pub mod Numbered
+pub mod Accepted
+pub mod Refused

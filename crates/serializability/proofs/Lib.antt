@@ -1,0 +1,10 @@
+pub mod Places
+pub mod Replays
+pub mod Sources
+pub mod Serial
+pub mod Once
+pub mod Ranks
+pub mod Lines
+pub mod Tournament
+pub mod Made
+pub mod PlainLaws

@@ -1,0 +1,9 @@
+pub mod Log
+pub mod Replay
+pub mod Reads
+pub mod Polygraph
+pub mod Pairs
+pub mod Formula
+pub mod Decoded
+pub mod Plain
+pub mod Anomalies

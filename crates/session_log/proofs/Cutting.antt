@@ -1,0 +1,131 @@
+-- The blocks of a log, from left to right.
+use Rattle.std.proofs.Common.{◌≡◌, ℕ, ◌+◌, ◌≤◌, ◌^◌, Bool, true, false, cond, List, [], ◌∷◌, ◌++◌, length, Some, None, refl, sym, ap, ◌∙◌, arith, append_assoc, length-append, if◌then◌else◌}
+use Rattle.std.specs.Prelude.{count_by}
+use Rattle.std.specs.Int.{from_bool}
+use Rattle.std.proofs.lemmas.List.{append-nil}
+use Rattle.std.proofs.lemmas.List.Sums.{sum_by-cons}
+use Rattle.std.proofs.lemmas.List.Concat.{flat_map-append}
+use Rattle.session_log.specs.Lines.{lines, bytes_of}
+use Rattle.session_log.specs.Faults.{is_session_line, NoSessionLine}
+use Rattle.session_log.specs.Blocks.{ends_block, blocks, text_of, located, blocks_of, size_fault}
+use Rattle.session_log.specs.declared.fault.LogFault.TheVariants.{OverLimit}
+use Rattle.session_log.specs.declared.fault.Limit.TheVariants.{Sessions}
+use Rattle.std.proofs.lemmas.Bool.{le-ltb, lt-ltb}
+use Rattle.session_log.specs.declared.block.Block.{Block}
+
+-- from a line inside a block: the block that is open began at `start`, with line `line`; reading is at `at`, before line n
+abbrev pub blocks_from : ℕ → ℕ → ℕ → ℕ → List (List ℕ × Bool) → List Block
+blocks_from start line at n [] = record { start = start; stop = at; line = line } ∷ []
+blocks_from start line at n (l ∷ ls) =
+    if is_session_line l then record { start = start; stop = at; line = line } ∷ blocks_from at n (at + length (bytes_of l)) (n + 1) ls else
+    blocks_from start line (at + length (bytes_of l)) (n + 1) ls
+
+-- a block is closed where another begins
+pub blocks_open : (c : List ℕ × Bool) (cs ls : List (List ℕ × Bool)) → NoSessionLine cs → ends_block ls ≡ true → blocks (c ∷ cs ++ ls) ≡ (c ∷ cs) ∷ blocks ls
+blocks_open c [] ls h e = rw e refl
+blocks_open c (d ∷ ds) ls h e = rw (h.0, blocks_open d ds ls h.1 e) refl
+
+no_more : (cs : List (List ℕ × Bool)) (l : List ℕ × Bool) → NoSessionLine cs → is_session_line l ≡ false → NoSessionLine (cs ++ l ∷ [])
+no_more [] l h e = (e, tt)
+no_more (c ∷ cs) l h e = (h.0, no_more cs l h.1 e)
+
+text_more : (cs : List (List ℕ × Bool)) (l : List ℕ × Bool) → length (text_of (cs ++ l ∷ [])) ≡ length (text_of cs) + length (bytes_of l)
+text_more cs l = ap length (flat_map-append bytes_of cs (l ∷ [])) ∙ (length-append (text_of cs) (bytes_of l ++ []) ∙ ap (λ x. length (text_of cs) + length x) (append-nil (bytes_of l)))
+
+abbrev mk : ℕ → ℕ → ℕ → Block
+mk start stop line = record { start = start; stop = stop; line = line }
+
+abbrev FromIs : List (List ℕ × Bool) → Type 0
+FromIs ls = (s k at n : ℕ) (c : List ℕ × Bool) (cs : List (List ℕ × Bool)) → NoSessionLine cs → at ≡ s + length (text_of (c ∷ cs)) → n ≡ k + length (c ∷ cs) → blocks_from s k at n ls ≡ located s k (blocks (c ∷ cs ++ ls))
+
+from_nil : FromIs []
+from_nil s k at n c cs h e f = ap (λ x. mk s x k ∷ []) e ∙ sym (ap (located s k) (blocks_open c cs [] h refl))
+
+from_cons : (l : List ℕ × Bool) (ls : List (List ℕ × Bool)) → FromIs ls → (t : Bool) → is_session_line l ≡ t → FromIs (l ∷ ls)
+from_cons l ls ih true i s k at n c cs h e f =
+    let close : mk s at k ∷ located at n (blocks (l ∷ ls)) ≡ mk s (s + length (text_of (c ∷ cs))) k ∷ located (s + length (text_of (c ∷ cs))) (k + length (c ∷ cs)) (blocks (l ∷ ls)) =
+    ap (λ x. mk s x k ∷ located x n (blocks (l ∷ ls))) e ∙ ap (λ y. mk s (s + length (text_of (c ∷ cs))) k ∷ located (s + length (text_of (c ∷ cs))) y (blocks (l ∷ ls))) f in
+    let head : blocks_from s k at n (l ∷ ls) ≡ mk s at k ∷ blocks_from at n (at + length (bytes_of l)) (n + 1) ls = rw i refl in
+    let one : at + length (bytes_of l) ≡ at + length (text_of (l ∷ [])) = ap (λ x. at + length x) (sym (append-nil (bytes_of l))) in
+    head ∙ (ap (λ r. mk s at k ∷ r) (ih at n (at + length (bytes_of l)) (n + 1) l [] tt one refl) ∙ (close ∙ sym (ap (located s k) (blocks_open c cs (l ∷ ls) h i))))
+from_cons l ls ih false i s k at n c cs h e f =
+    let head : blocks_from s k at n (l ∷ ls) ≡ blocks_from s k (at + length (bytes_of l)) (n + 1) ls = rw i refl in
+    let more = text_more (c ∷ cs) l in
+    let counted = length-append cs (l ∷ []) in
+    head ∙ (ih s k (at + length (bytes_of l)) (n + 1) c (cs ++ l ∷ []) (no_more cs l h i) (omega (arith, e, more)) (omega (arith, f, counted)) ∙ ap (λ x. located s k (blocks (c ∷ x))) (append_assoc cs (l ∷ []) ls))
+
+pub from_is : (ls : List (List ℕ × Bool)) → FromIs ls
+from_is [] = from_nil
+from_is (l ∷ ls) = from_cons l ls (from_is ls) (is_session_line l) refl
+
+-- the first line, and then the others
+pub start_blocks : (text : List ℕ) (l : List ℕ × Bool) (ls : List (List ℕ × Bool)) (at n : ℕ) → lines text ≡ l ∷ ls → at ≡ length (bytes_of l) → n ≡ 2 → blocks_from 0 1 at n ls ≡ blocks_of text
+unfolding blocks_of
+start_blocks text l ls at n e a b =
+    from_is ls 0 1 at n l [] tt (omega (arith, a, ap length (append-nil (bytes_of l)))) (omega (arith, b)) ∙ ap (λ x. located 0 1 (blocks x)) (sym e)
+
+pub no_blocks : (text : List ℕ) → 0 ≡ length text → [] ≡ blocks_of text
+unfolding blocks_of lines
+no_blocks [] e = refl
+no_blocks (b ∷ bs) e = absurd (omega arith)
+
+-- one line more
+pub block_ends : (s k at n : ℕ) (l : List ℕ × Bool) (ls rest : List (List ℕ × Bool)) (out out' : List Block) (whole : List Block) (at' n' : ℕ) → out ++ blocks_from s k at n rest ≡ whole → rest ≡ l ∷ ls → is_session_line l ≡ true → out' ≡ out ++ mk s at k ∷ [] → at' ≡ at + length (bytes_of l) → n' ≡ n + 1 → out' ++ blocks_from at n at' n' ls ≡ whole
+block_ends s k at n l ls rest out out' whole at' n' h e i o a m =
+    let head : blocks_from s k at n (l ∷ ls) ≡ mk s at k ∷ blocks_from at n (at + length (bytes_of l)) (n + 1) ls = rw i refl in
+    rw (o, a, m) (append_assoc out (mk s at k ∷ []) (blocks_from at n (at + length (bytes_of l)) (n + 1) ls) ∙ (ap (λ x. out ++ x) (sym head ∙ ap (blocks_from s k at n) (sym e)) ∙ h))
+
+pub block_goes_on : (s k at n : ℕ) (l : List ℕ × Bool) (ls rest : List (List ℕ × Bool)) (out : List Block) (whole : List Block) (at' n' : ℕ) → out ++ blocks_from s k at n rest ≡ whole → rest ≡ l ∷ ls → is_session_line l ≡ false → at' ≡ at + length (bytes_of l) → n' ≡ n + 1 → out ++ blocks_from s k at' n' ls ≡ whole
+block_goes_on s k at n l ls rest out whole at' n' h e i a m =
+    let head : blocks_from s k at n (l ∷ ls) ≡ blocks_from s k (at + length (bytes_of l)) (n + 1) ls = rw i refl in
+    rw (a, m) (ap (λ x. out ++ x) (sym head ∙ ap (blocks_from s k at n) (sym e)) ∙ h)
+
+pub blocks_end : (s k at n : ℕ) (rest : List ℕ) (out whole : List Block) → out ++ blocks_from s k at n (lines rest) ≡ whole → 0 ≡ length rest → out ++ mk s at k ∷ [] ≡ whole
+unfolding lines
+blocks_end s k at n [] out whole h e = h
+blocks_end s k at n (b ∷ bs) out whole h e = absurd (omega arith)
+
+pub count_end : (n m : ℕ) (rest : List ℕ) → n + count_by is_session_line (lines rest) ≡ m → 0 ≡ length rest → n ≡ m
+unfolding lines
+count_end n m [] h e = omega (arith, h)
+count_end n m (b ∷ bs) h e = absurd (omega arith)
+
+pub len_split : (text b r : List ℕ) → text ≡ b ++ r → length text ≡ length b + length r
+len_split text b r e = ap length e ∙ length-append b r
+
+-- the lines that begin with `session`
+counted_cons : (l : List ℕ × Bool) (ls rest : List (List ℕ × Bool)) → rest ≡ l ∷ ls → count_by is_session_line rest ≡ cond (is_session_line l) 1 0 + count_by is_session_line ls
+counted_cons l ls rest e = ap (count_by is_session_line) e ∙ sum_by-cons (λ l. cond (is_session_line l) 1 0) l ls
+
+pub first_counted : (k : ℕ) (t : Bool) (l : List ℕ × Bool) (ls rest : List (List ℕ × Bool)) → k ≡ from_bool t → t ≡ is_session_line l → rest ≡ l ∷ ls → (k + count_by is_session_line ls ≡ count_by is_session_line rest) × (k ≤ 64)
+first_counted k true l ls rest e f h = (ap (λ n. n + count_by is_session_line ls) e ∙ sym (counted_cons l ls rest h ∙ ap (λ t. cond t 1 0 + count_by is_session_line ls) (sym f)), omega (arith, e))
+first_counted k false l ls rest e f h = (ap (λ n. n + count_by is_session_line ls) e ∙ sym (counted_cons l ls rest h ∙ ap (λ t. cond t 1 0 + count_by is_session_line ls) (sym f)), omega (arith, e))
+
+pub session_counted : (n m : ℕ) (l : List ℕ × Bool) (ls rest : List (List ℕ × Bool)) → n + count_by is_session_line rest ≡ m → rest ≡ l ∷ ls → is_session_line l ≡ true → n + 1 + count_by is_session_line ls ≡ m
+session_counted n m l ls rest h e i =
+    let here : count_by is_session_line rest ≡ 1 + count_by is_session_line ls = counted_cons l ls rest e ∙ ap (λ t. cond t 1 0 + count_by is_session_line ls) i in
+    omega (arith, h, here)
+
+pub other_counted : (n m : ℕ) (l : List ℕ × Bool) (ls rest : List (List ℕ × Bool)) → n + count_by is_session_line rest ≡ m → rest ≡ l ∷ ls → is_session_line l ≡ false → n + count_by is_session_line ls ≡ m
+other_counted n m l ls rest h e i =
+    let here : count_by is_session_line rest ≡ 0 + count_by is_session_line ls = counted_cons l ls rest e ∙ ap (λ t. cond t 1 0 + count_by is_session_line ls) i in
+    omega (arith, h, here)
+
+-- the limit on sessions
+pub too_many : (text : List ℕ) (n m : ℕ) → length text ≤ 2 ^ 24 → n + 1 + m ≡ count_by is_session_line (lines text) → n ≡ 64 → size_fault text ≡ Some (OverLimit Sessions)
+unfolding size_fault
+too_many text n m small h e =
+    let fits = le-ltb (2 ^ 24) (length text) small in
+    let over = lt-ltb 64 (count_by is_session_line (lines text)) (omega (arith, h, e)) in
+    rw (fits, over) refl
+
+pub few_enough : (text rest : List ℕ) (n : ℕ) → length text ≤ 2 ^ 24 → n + count_by is_session_line (lines rest) ≡ count_by is_session_line (lines text) → n ≤ 64 → 0 ≡ length rest → size_fault text ≡ None
+unfolding size_fault
+few_enough text rest n small h few end =
+    let fits = le-ltb (2 ^ 24) (length text) small in
+    let counted = count_end n (count_by is_session_line (lines text)) rest h end in
+    let under = le-ltb 64 (count_by is_session_line (lines text)) (omega (arith, counted, few)) in
+    rw (fits, under) refl
+
+pub empty_fits : (text : List ℕ) → 0 ≡ length text → size_fault text ≡ None
+empty_fits text end = few_enough text text 0 (omega (arith, end)) (omega arith) (omega arith) end

@@ -1,0 +1,71 @@
+use Rattle.std.proofs.Common.{ℕ, List, Bool, ◌≡◌, ◌+◌, ◌-◌, ◌++◌, length, sym, refl, ap, ◌∙◌, arith}
+use Rattle.std.proofs.lemmas.Bool.{eqb-true}
+use Rattle.std.specs.Prelude.{count_by}
+use Rattle.session_log.specs.Lines.{lines, bytes_of}
+use Rattle.session_log.specs.Faults.{is_session_line}
+use Rattle.session_log.specs.Blocks.{blocks_of}
+use Rattle.session_log.proofs.Cutting.{blocks_from, start_blocks, block_ends, block_goes_on, blocks_end, len_split, first_counted, session_counted, other_counted, too_many, few_enough}
+use Rattle.session_log.proofs.block.cut_lines.Goals as goal
+use Rattle.session_log.proofs.block.cut_lines.Goals.{then-starts_session+else-sessions-eq-MAX_SESSIONS+in_ok-push, else-starts_session}
+
+pub loop-rest-init : goal.loop-rest-init
+loop-rest-init c =
+    let body = c.next_line.result.0.now in
+    let ended = c.next_line.result.1 in
+    let rest = c.next_line.result.2.now in
+    let is = c.next_line.ensures.line in
+    let len = len_split c.args.log.now (bytes_of (body, ended)) rest c.next_line.ensures.text in
+    let first = first_counted c.from-sessions.result c.starts_session.result (body, ended) (lines rest) (lines c.args.log.now) c.from-sessions.ensures c.starts_session.ensures is in
+    record {
+      done = ap (λ o. o ++ blocks_from 0 1 (length c.args.log.now - length rest) 2 (lines rest)) c.in_ok-found.ensures.items ∙ start_blocks c.args.log.now (body, ended) (lines rest) (length c.args.log.now - length rest) 2 is (omega (arith, len)) refl;
+      counted = first.0;
+      few = first.1;
+      place = omega (arith, len);
+      room = omega (arith, len, c.next_line.ensures.shorter);
+    }
+
+pub returns-then-sessions-eq-MAX_SESSIONS-clause-fault : goal.returns-then-sessions-eq-MAX_SESSIONS-clause-fault
+returns-then-sessions-eq-MAX_SESSIONS-clause-fault c =
+    let l : List ℕ × Bool = (c.next_line-in-loop-rest.result.0.now, c.next_line-in-loop-rest.result.1) in
+    let ls = lines c.next_line-in-loop-rest.result.2.now in
+    let yes = sym c.starts_session-in-loop-rest.ensures ∙ c.if-starts_session.true in
+    let counted = session_counted c.loop-rest.sessions (count_by is_session_line (lines c.args.log.now)) l ls (lines c.loop-rest.rest.now) c.loop-rest.invariant.counted c.next_line-in-loop-rest.ensures.line yes in
+    too_many c.args.log.now c.loop-rest.sessions (count_by is_session_line ls) c.requires.small counted c.if-sessions-eq-MAX_SESSIONS.true
+
+pub loop-rest-preserved : goal.loop-rest-preserved
+loop-rest-preserved c =
+    let body = c.next_line-in-loop-rest.result.0.now in
+    let ended = c.next_line-in-loop-rest.result.1 in
+    let rest = c.next_line-in-loop-rest.result.2.now in
+    let is = c.next_line-in-loop-rest.ensures.line in
+    let total = count_by is_session_line (lines c.args.log.now) in
+    let len = len_split c.loop-rest.rest.now (bytes_of (body, ended)) rest c.next_line-in-loop-rest.ensures.text in
+    let moved : length c.args.log.now - length rest ≡ c.loop-rest.at + length (bytes_of (body, ended)) = omega (arith, len, c.loop-rest.invariant.place) in
+    record {
+      done = elim c.if-starts_session.branch [
+        | then-starts_session+else-sessions-eq-MAX_SESSIONS+in_ok-push w ↦
+            let yes = sym c.starts_session-in-loop-rest.ensures ∙ w.if-starts_session.true in
+            rw (w.start-is, w.line-is) (block_ends c.loop-rest.start c.loop-rest.line c.loop-rest.at c.loop-rest.n (body, ended) (lines rest) (lines c.loop-rest.rest.now) c.loop-rest.found.items c.if-starts_session.found.items (blocks_of c.args.log.now) (length c.args.log.now - length rest) (c.loop-rest.n + 1) c.loop-rest.invariant.done is yes (rw w.found-is w.in_ok-push.ensures.items) moved refl)
+        | else-starts_session w ↦
+            let no = sym c.starts_session-in-loop-rest.ensures ∙ w.if-starts_session.false in
+            rw (w.start-is, w.line-is, w.found-is) (block_goes_on c.loop-rest.start c.loop-rest.line c.loop-rest.at c.loop-rest.n (body, ended) (lines rest) (lines c.loop-rest.rest.now) c.loop-rest.found.items (blocks_of c.args.log.now) (length c.args.log.now - length rest) (c.loop-rest.n + 1) c.loop-rest.invariant.done is no moved refl)
+      ];
+      counted = elim c.if-starts_session.branch [
+        | then-starts_session+else-sessions-eq-MAX_SESSIONS+in_ok-push w ↦
+            rw w.sessions-is (session_counted c.loop-rest.sessions total (body, ended) (lines rest) (lines c.loop-rest.rest.now) c.loop-rest.invariant.counted is (sym c.starts_session-in-loop-rest.ensures ∙ w.if-starts_session.true))
+        | else-starts_session w ↦
+            rw w.sessions-is (other_counted c.loop-rest.sessions total (body, ended) (lines rest) (lines c.loop-rest.rest.now) c.loop-rest.invariant.counted is (sym c.starts_session-in-loop-rest.ensures ∙ w.if-starts_session.false))
+      ];
+      few = elim c.if-starts_session.branch [
+        | then-starts_session+else-sessions-eq-MAX_SESSIONS+in_ok-push w ↦ omega (arith, w.sessions-is, w.if-sessions-eq-MAX_SESSIONS.false, c.loop-rest.invariant.few)
+        | else-starts_session w ↦ omega (arith, w.sessions-is, c.loop-rest.invariant.few)
+      ];
+      place = omega (arith, len, c.loop-rest.invariant.place);
+      room = omega (arith, len, c.loop-rest.invariant.place, c.loop-rest.invariant.room, c.next_line-in-loop-rest.ensures.shorter);
+    }
+
+pub returns-clause-accepted : goal.returns-clause-accepted
+returns-clause-accepted c = few_enough c.args.log.now c.loop-rest.rest.now c.loop-rest.sessions c.requires.small c.loop-rest.invariant.counted c.loop-rest.invariant.few (sym (eqb-true (length c.loop-rest.rest.now) 0 (sym c.is_empty.ensures ∙ c.loop-rest-test.false)))
+
+pub returns-clause-blocks : goal.returns-clause-blocks
+returns-clause-blocks c = c.in_ok-push-2.ensures.items ∙ blocks_end c.loop-rest.start c.loop-rest.line c.loop-rest.at c.loop-rest.n c.loop-rest.rest.now c.loop-rest.found.items (blocks_of c.args.log.now) c.loop-rest.invariant.done (sym (eqb-true (length c.loop-rest.rest.now) 0 (sym c.is_empty.ensures ∙ c.loop-rest-test.false)))

@@ -1,0 +1,20 @@
+use Rattle.std.proofs.Common.{◌≡◌, ◌+◌, ◌≤◌, ◌++◌, length}
+use Rattle.std.specs.Prelude.{count_by}
+use Rattle.session_log.specs.Lines.{lines}
+use Rattle.session_log.specs.Faults.{is_session_line}
+use Rattle.session_log.specs.Blocks.{blocks_of}
+use Rattle.session_log.proofs.Cutting.{blocks_from}
+use Rattle.session_log.proofs.block.cut_lines.Given as goal
+
+abbrev pub invariant-loop-rest : goal.invariant-loop-rest
+invariant-loop-rest l =
+    record {
+      done : l.found.items ++ blocks_from l.start l.line l.at l.n (lines l.rest) ≡ blocks_of l.log;
+      counted : l.sessions + count_by is_session_line (lines l.rest) ≡ count_by is_session_line (lines l.log);
+      few : l.sessions ≤ 64;
+      place : l.at + length l.rest ≡ length l.log;
+      room : l.n ≤ l.at + 1;
+    }
+
+abbrev pub decreases-loop-rest : goal.decreases-loop-rest
+decreases-loop-rest l = length l.rest

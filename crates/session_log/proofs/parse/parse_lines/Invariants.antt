@@ -1,0 +1,20 @@
+use Rattle.std.proofs.Common.{◌≡◌, ◌+◌, ◌≤◌, ◌∷◌, ◌++◌, length}
+use Rattle.session_log.specs.Lines.{lines}
+use Rattle.session_log.specs.Faults.{first_fault, Start, NoSessionLine}
+use Rattle.session_log.specs.Text.{text_of_lines}
+use Rattle.session_log.specs.Reading.{place_of, lines_of, IsLegalReading}
+use Rattle.session_log.specs.declared.line.Line.TheVariants as line
+use Rattle.session_log.proofs.parse.parse_lines.Given as goal
+
+abbrev pub invariant-loop-rest : goal.invariant-loop-rest
+invariant-loop-rest l =
+    record {
+      fault : first_fault l.fn.first_line Start (lines l.text) ≡ first_fault (l.n + 1) (place_of l.reading) (lines l.rest);
+      text : l.text ≡ text_of_lines (line.Session l.number ∷ lines_of l.reading) ++ l.rest;
+      legal : IsLegalReading l.reading;
+      others : NoSessionLine (lines l.rest);
+      room : l.n + length l.rest + 1 ≤ l.fn.first_line + length l.text;
+    }
+
+abbrev pub decreases-loop-rest : goal.decreases-loop-rest
+decreases-loop-rest l = length l.rest

@@ -1,0 +1,95 @@
+-- The one text of each list of sessions.
+use Rattle.std.specs.Prelude.{ℕ, ◌<◌, ◌^◌, List, [], ◌∷◌, ◌++◌, map, codes, decimal}
+use Rattle.std.specs.List.{flat_map, AllByRecursion}
+use Rattle.session_log.specs.Key.{IsKey}
+use Rattle.session_log.specs.declared.line.Line.{Line}
+use Rattle.session_log.specs.declared.line.Line.TheVariants as line
+use Rattle.session_log.specs.declared.session.Op.{Op}
+use Rattle.session_log.specs.declared.session.Op.TheVariants.{Read, Write}
+use Rattle.session_log.specs.declared.session.Outcome.{Outcome}
+use Rattle.session_log.specs.declared.session.Outcome.TheVariants.{Commit, Abort}
+use Rattle.session_log.specs.declared.session.Txn.{Txn}
+use Rattle.session_log.specs.declared.session.Session.{Session}
+
+-- a transaction, without where it lies in memory
+pub record Transaction : Type 0 where
+  pub ops : List Op
+  pub outcome : Outcome
+
+-- a session, the same
+pub record ClientSession : Type 0 where
+  pub number : ℕ
+  pub txns : List Transaction
+
+-- what a transaction in memory holds
+abbrev pub view_txn : Txn → Transaction
+view_txn t = record { ops = t.ops.items; outcome = t.outcome }
+
+-- what a session in memory holds
+abbrev pub view : Session → ClientSession
+view s = record { number = s.number; txns = map view_txn s.txns.items }
+
+-- the line of an operation, by its form
+abbrev pub op_line : Op → Line
+op_line (Read key wid) = line.Read key wid
+op_line (Write key wid) = line.Write key wid
+
+-- the line that ends a transaction
+abbrev pub end_line : Outcome → Line
+end_line Commit = line.Commit
+end_line Abort = line.Abort
+
+-- a transaction: `begin`, its operations, `commit` or `abort`
+abbrev pub txn_lines : Transaction → List Line
+txn_lines t = line.Begin ∷ map op_line t.ops ++ end_line t.outcome ∷ []
+
+-- a session: its number, then its transactions
+abbrev pub session_lines : ClientSession → List Line
+session_lines s = line.Session s.number ∷ flat_map txn_lines s.txns
+
+-- the text of a line, without its LF: words with one space between them
+unfoldable pub line_text : Line → List ℕ
+line_text (line.Session number) = codes "session " ++ decimal number
+line_text line.Begin = codes "begin"
+line_text (line.Read key wid) = codes "r " ++ key ++ 32 ∷ decimal wid
+line_text (line.Write key wid) = codes "w " ++ key ++ 32 ∷ decimal wid
+line_text line.Commit = codes "commit"
+line_text line.Abort = codes "abort"
+
+-- a line with its LF
+abbrev pub full_line : Line → List ℕ
+full_line l = line_text l ++ 10 ∷ []
+
+-- the text of lines
+abbrev pub text_of_lines : List Line → List ℕ
+text_of_lines lines = flat_map full_line lines
+
+-- a session's text
+unfoldable pub session_text : ClientSession → List ℕ
+session_text s = text_of_lines (session_lines s)
+
+-- the text of a list of sessions
+unfoldable pub log_text : List ClientSession → List ℕ
+log_text ss = flat_map session_text ss
+
+-- what a line of each form holds
+abbrev pub IsLegalLine : Line → Type 0
+IsLegalLine (line.Session number) = (0 < number) × (number < 2 ^ 16)
+IsLegalLine (line.Read key wid) = IsKey key × (wid < 2 ^ 64)
+IsLegalLine (line.Write key wid) = IsKey key × (wid < 2 ^ 64)
+IsLegalLine _ = Unit {0}
+
+-- an operation that a log can hold: no write has identity 0, that of the initial value
+abbrev pub IsLegalOp : Op → Type 0
+IsLegalOp (Read key wid) = IsKey key × (wid < 2 ^ 64)
+IsLegalOp (Write key wid) = IsKey key × (0 < wid) × (wid < 2 ^ 64)
+
+-- a transaction of such operations
+abbrev pub IsLegalTxn : Transaction → Type 0
+IsLegalTxn t = AllByRecursion IsLegalOp t.ops
+
+-- a session that a log can hold
+pub record IsLegal (s : ClientSession) : Type 0 where
+  pub low : 0 < s.number
+  pub high : s.number < 2 ^ 16
+  pub txns : AllByRecursion IsLegalTxn s.txns

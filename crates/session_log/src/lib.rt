@@ -1,0 +1,21 @@
+//! The log of client sessions: what it holds, its text, and its faults.
+#![tactic(auto)]
+
+mod block;
+mod fault;
+mod key;
+pub mod laws;
+mod line;
+mod parse;
+mod print;
+mod session;
+#[cfg(test)]
+mod tests;
+
+pub use block::{Block, MAX_LOG_BYTES, MAX_SESSIONS, cut, parse_block};
+pub use fault::{Limit, LogFault};
+pub use key::Key;
+pub use line::Line;
+pub use parse::parse_lines;
+pub use print::print_log;
+pub use session::{Op, Outcome, Session, Txn};

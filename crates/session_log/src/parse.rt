@@ -1,0 +1,164 @@
+//! The lines of one session, read from the first on.
+
+ghost use Rattle.std.specs.Prelude.{◌≡◌, ◌∷◌, ◌++◌, ◌<◌, ◌+◌, ◌^◌, false, Some, None, [], length, if◌then◌else◌, IfOk, IfErr};
+ghost use Rattle.session_log.specs.Lines.{lines, form_of, bytes_of};
+ghost use Rattle.session_log.specs.Faults.{after, step, first_fault, Start, IsBlock, form_at, is_session_line, FailsAs, IsFault, IsGrammarFault};
+ghost use Rattle.session_log.specs.Text.{view, session_text, IsLegal};
+ghost use Rattle.session_log.specs.Reading.{place_of, Adds, Takes, IsBodyLine};
+
+use crate::fault::LogFault;
+use crate::line::{Line, form_of, index_of};
+use crate::session::{Op, Outcome, Session, Txn};
+use std::alloc::{AllocError, Global};
+
+/// A transaction that is open, with the line of its `begin`.
+#[derive(Debug, Drop)]
+struct OpenTxn {
+    line: usize,
+    ops: Vec<Op>,
+}
+
+/// What has been read of a session after its first line.
+#[derive(Debug, Drop)]
+struct Reading {
+    txns: Vec<Txn>,
+    current: Option<OpenTxn>,
+}
+
+/// Takes the next line, which is line `n`.
+fn with_line(alloc: Global, reading: Reading, n: usize, form: Line) -> Result<Reading, LogFault>
+    requires { IsBodyLine form }
+    ensures taken { IfOk result (λ new. Adds n reading form new) }
+    ensures fault { IfErr result (λ f. FailsAs f (after n (place_of reading) form)) }
+    ensures kind { IfErr result (λ f. IsGrammarFault f) }
+{
+    let Reading { mut txns, current } = reading;
+    let current = match current {
+        None => match form {
+            Line::Begin => Some(OpenTxn {
+                line: n,
+                ops: Vec::new(alloc),
+            }),
+            _ => return Err(LogFault::OutsideTransaction { line: n }),
+        },
+        Some(OpenTxn { line, mut ops }) => match form {
+            Line::Session(_) | Line::Begin => return Err(LogFault::OpenTransaction { line }),
+            Line::Write(_, 0) => return Err(LogFault::WriteZero { line: n }),
+            Line::Read(key, wid) => {
+                ops.push(Op::Read { key, wid })?;
+                Some(OpenTxn { line, ops })
+            }
+            Line::Write(key, wid) => {
+                ops.push(Op::Write { key, wid })?;
+                Some(OpenTxn { line, ops })
+            }
+            Line::Commit => {
+                txns.push(Txn {
+                    ops,
+                    outcome: Outcome::Commit,
+                })?;
+                None
+            }
+            Line::Abort => {
+                txns.push(Txn {
+                    ops,
+                    outcome: Outcome::Abort,
+                })?;
+                None
+            }
+        },
+    };
+    Ok(Reading { txns, current })
+}
+
+/// The number of the session that a block begins with.
+#[tactic(auto, unfolding(crate::specs::Faults::step))]
+fn header_of(alloc: Global, body: &[u8], ended: bool, n: usize) -> Result<u16, LogFault>
+    ensures number { IfOk result (λ k. form_at (body.now, ended) ≡ Some (Line.Session k)) }
+    ensures fault { IfErr result (λ f. FailsAs f (step n Start (body.now, ended))) }
+    ensures kind { IfErr result (λ f. IsGrammarFault f) }
+{
+    match read_form(alloc, body, ended)? {
+        Some(form) => match form {
+            Line::Session(number) => Ok(number),
+            _ => Err(LogFault::OutsideTransaction { line: n }),
+        },
+        None => Err(LogFault::BadLine { line: n }),
+    }
+}
+
+/// Takes the next line, as it stands.
+fn with_next(
+    alloc: Global,
+    reading: Reading,
+    body: &[u8],
+    ended: bool,
+    n: usize,
+) -> Result<Reading, LogFault>
+    requires { is_session_line (body.now, ended) ≡ false }
+    ensures taken { IfOk result (λ new. Takes n reading (body.now, ended) new) }
+    ensures fault { IfErr result (λ f. FailsAs f (step n (place_of reading) (body.now, ended))) }
+    ensures kind { IfErr result (λ f. IsGrammarFault f) }
+{
+    match read_form(alloc, body, ended)? {
+        Some(form) => with_line(alloc, reading, n, form),
+        None => Err(LogFault::BadLine { line: n }),
+    }
+}
+
+/// Reads a block by its bytes and the line of the log that is its first: the session whose text
+/// it is. None of its lines but the first begins with the bytes `session`.
+///
+/// Refused with its first fault, by its line in the log, and with `Memory`.
+pub fn parse_lines(alloc: Global, text: &[u8], first_line: usize) -> Result<Session, LogFault>
+    requires block { IsBlock (lines text.now) }
+    requires room { first_line + length text.now < 2 ^ 64 }
+    ensures accepted { IfOk result (λ _. first_fault first_line Start (lines text.now) ≡ None) }
+    ensures legal { IfOk result (λ s. IsLegal (view s)) }
+    ensures text { IfOk result (λ s. text.now ≡ session_text (view s)) }
+    ensures fault { IfErr result (λ f. IsFault f (first_fault first_line Start (lines text.now))) }
+    ensures kind { IfErr result (λ f. IsGrammarFault f) }
+{
+    let (header, ended, mut rest) = next_line(text);
+    let number = header_of(alloc, header, ended, first_line)?;
+    let mut reading = Reading {
+        txns: Vec::new(alloc),
+        current: None,
+    };
+    let mut n = first_line;
+    while !rest.is_empty() {
+        let (body, ended, after) = next_line(rest);
+        n += 1;
+        reading = with_next(alloc, reading, body, ended, n)?;
+        rest = after;
+    }
+    let Reading { txns, current } = reading;
+    match current {
+        Some(txn) => Err(LogFault::OpenTransaction { line: txn.line }),
+        None => Ok(Session { number, txns }),
+    }
+}
+
+/// The form of a line, where it has one and its LF.
+fn read_form(alloc: Global, body: &[u8], ended: bool) -> Result<Option<Line>, AllocError>
+    ensures { IfOk result (λ o. o ≡ (if ended then form_of body.now else None)) }
+{
+    if ended {
+        form_of(alloc, body)
+    } else {
+        Ok(None)
+    }
+}
+
+/// The first line of a text without its LF, whether it has one, and the text after it.
+pub fn next_line(text: &[u8]) -> (&[u8], bool, &[u8])
+    requires { 0 < length text.now }
+    ensures line { lines text.now ≡ (result.0.now, result.1) ∷ lines result.2.now }
+    ensures text { text.now ≡ bytes_of (result.0.now, result.1) ++ result.2.now }
+    ensures shorter { length result.2.now < length text.now }
+{
+    match index_of(text, b'\n') {
+        Some(i) => (&text[..i], true, &text[i + 1..]),
+        None => (text, false, &[]),
+    }
+}

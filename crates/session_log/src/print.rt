@@ -1,0 +1,111 @@
+//! The text of sessions.
+
+ghost use Rattle.std.specs.Prelude.{◌≡◌, ◌++◌, ◌∷◌, [], IfOk, OnOk, map, decimal, codes};
+ghost use Rattle.std.specs.List.{flat_map};
+ghost use Rattle.session_log.specs.Text.{view, view_txn, op_line, end_line, full_line};
+ghost use Rattle.session_log.specs.Text.{text_of_lines, txn_lines, session_text, log_text};
+ghost use Rattle.session_log.specs.declared.line.Line.TheVariants as line;
+
+use crate::key::Key;
+use crate::session::{Op, Outcome, Session, Txn};
+use std::alloc::{AllocError, Global};
+
+fn put_number(alloc: Global, out: &mut Vec<u8>, n: u64) -> Result<(), AllocError>
+    ensures { OnOk result (out.new.items ≡ out.old.items ++ decimal n) }
+{
+    let text = format!(in alloc; "{n}")?;
+    out.extend_from_slice(text.as_bytes())?;
+    Ok(())
+}
+
+fn put_keyed(
+    alloc: Global,
+    out: &mut Vec<u8>,
+    word: &[u8],
+    key: &Key,
+    wid: u64,
+) -> Result<(), AllocError>
+    ensures { OnOk result (out.new.items
+        ≡ out.old.items ++ (word.now ++ (key.now ++ 32 ∷ decimal wid) ++ 10 ∷ [])) }
+{
+    out.extend_from_slice(word)?;
+    out.extend_from_slice(key.as_bytes())?;
+    out.push(b' ')?;
+    put_number(alloc, out, wid)?;
+    out.push(b'\n')?;
+    Ok(())
+}
+
+#[tactic(auto, unfolding(crate::specs::Text::line_text))]
+fn put_op(alloc: Global, out: &mut Vec<u8>, op: &Op) -> Result<(), AllocError>
+    ensures { OnOk result (out.new.items ≡ out.old.items ++ full_line (op_line op.now)) }
+{
+    match op {
+        Op::Read { key, wid } => put_keyed(alloc, out, b"r ", key, *wid),
+        Op::Write { key, wid } => put_keyed(alloc, out, b"w ", key, *wid),
+    }
+}
+
+#[tactic(auto, unfolding(crate::specs::Text::line_text))]
+fn put_end(out: &mut Vec<u8>, outcome: Outcome) -> Result<(), AllocError>
+    ensures { OnOk result (out.new.items ≡ out.old.items ++ full_line (end_line outcome)) }
+{
+    match outcome {
+        Outcome::Commit => out.extend_from_slice(b"commit\n")?,
+        Outcome::Abort => out.extend_from_slice(b"abort\n")?,
+    }
+    Ok(())
+}
+
+#[tactic(auto, unfolding(crate::specs::Text::line_text))]
+fn put_begin(out: &mut Vec<u8>) -> Result<(), AllocError>
+    ensures { OnOk result (out.new.items ≡ out.old.items ++ full_line line.Begin) }
+{
+    out.extend_from_slice(b"begin\n")?;
+    Ok(())
+}
+
+#[tactic(auto, unfolding(crate::specs::Text::line_text))]
+fn put_header(alloc: Global, out: &mut Vec<u8>, number: u16) -> Result<(), AllocError>
+    ensures { OnOk result (out.new.items ≡ out.old.items ++ full_line (line.Session number)) }
+{
+    out.extend_from_slice(b"session ")?;
+    put_number(alloc, out, u64::from(number))?;
+    out.push(b'\n')?;
+    Ok(())
+}
+
+fn put_txn(alloc: Global, out: &mut Vec<u8>, txn: &Txn) -> Result<(), AllocError>
+    ensures { OnOk result (out.new.items
+        ≡ out.old.items ++ text_of_lines (txn_lines (view_txn txn.now))) }
+{
+    put_begin(out)?;
+    for op in &txn.ops {
+        put_op(alloc, out, op)?;
+    }
+    put_end(out, txn.outcome)
+}
+
+#[tactic(auto, unfolding(crate::specs::Text::session_text))]
+fn put_session(alloc: Global, out: &mut Vec<u8>, session: &Session) -> Result<(), AllocError>
+    ensures { OnOk result (out.new.items ≡ out.old.items ++ session_text (view session.now)) }
+{
+    put_header(alloc, out, session.number)?;
+    for txn in &session.txns {
+        put_txn(alloc, out, txn)?;
+    }
+    Ok(())
+}
+
+/// The text of these sessions, each by its lines. It is a log that is read as the same sessions
+/// where they are legal.
+#[tactic(auto, unfolding(crate::specs::Text::log_text))]
+pub fn print_log(alloc: Global, sessions: &[Session]) -> Result<Vec<u8>, AllocError>
+    ensures text { IfOk result (λ text. text.items ≡ log_text (map view sessions.now)) }
+{
+    let mut out = Vec::new(alloc);
+    for session in sessions {
+        put_session(alloc, &mut out, session)?;
+    }
+    Ok(out)
+}

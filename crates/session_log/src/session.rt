@@ -1,0 +1,33 @@
+//! What a client's log holds.
+
+use crate::key::Key;
+
+/// An operation of a transaction.
+#[derive(Debug, Drop)]
+pub enum Op {
+    /// A read of `key`, which gave the write of identity `wid`: 0 is the initial value.
+    Read { key: Key, wid: u64 },
+    /// A write of `key`, under an identity of its own. A legal one is not 0.
+    Write { key: Key, wid: u64 },
+}
+
+/// How a transaction ended.
+#[derive(Clone, Copy, Debug, PartialEq, Eq)]
+pub enum Outcome {
+    Commit,
+    Abort,
+}
+
+/// A transaction: its operations in the order of the log, and how it ended.
+#[derive(Debug, Drop)]
+pub struct Txn {
+    pub ops: Vec<Op>,
+    pub outcome: Outcome,
+}
+
+/// A client's session: its number, 1 to 65535 in a legal one, and its transactions in order.
+#[derive(Debug, Drop)]
+pub struct Session {
+    pub number: u16,
+    pub txns: Vec<Txn>,
+}

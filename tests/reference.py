@@ -1,0 +1,243 @@
+"""A plain, slow reading of the definitions in docs/DEFINITIONS.md, made apart from the program: the faults of a log,
+its anomalies, its serial orders by listing all orders, and the text of its plain formula. It shares no code with the program."""
+import itertools, re
+
+LIMITS = dict(bytes=16 * 1024 * 1024, sessions=64, operations=200000, committed=400, keys=10000, choices=100000, plain=100)
+
+NUMBER = rb'(?:0|[1-9][0-9]*)'
+KEY = rb'[A-Za-z0-9_.:/-]{1,64}'
+SESSION = re.compile(rb'session (' + NUMBER + rb')\Z')
+READ = re.compile(rb'r (' + KEY + rb') (' + NUMBER + rb')\Z')
+WRITE = re.compile(rb'w (' + KEY + rb') (' + NUMBER + rb')\Z')
+
+
+class Refused(Exception):
+    """The printed code of a refusal, as 'L4 line 2'."""
+
+
+def lines_of(text):
+    """The lines of a text, each with whether it has its line feed."""
+    parts = text.split(b'\n')
+    return [(part, True) for part in parts[:-1]] + ([(parts[-1], False)] if parts[-1] else [])
+
+
+def form_of(line):
+    if line in (b'begin', b'commit', b'abort'):
+        return (line.decode(),)
+    found = SESSION.match(line)
+    if found:
+        return ('session', int(found.group(1))) if 1 <= int(found.group(1)) <= 65535 else None
+    for word, form in ((READ, 'r'), (WRITE, 'w')):
+        found = word.match(line)
+        if found and int(found.group(2)) < 2 ** 64:
+            return (form, found.group(1).decode(), int(found.group(2)))
+    return None
+
+
+def read_log(text):
+    """The sessions of a well-formed log: (number, [(operations, committed)]); else Refused with the fault that stands first."""
+    if len(text) > LIMITS['bytes']:
+        raise Refused('L7 log-bytes')
+    lines = lines_of(text)
+    if sum(line.startswith(b'session') for line, _ in lines) > LIMITS['sessions']:
+        raise Refused('L7 sessions')
+    sessions, opened, writes, numbers = [], None, [], []
+    for n, (line, ended) in enumerate(lines, 1):
+        if opened and line.startswith(b'session'):
+            raise Refused('L4 line %d' % opened[0])
+        form = form_of(line) if ended else None
+        if form is None:
+            raise Refused('L1 line %d' % n)
+        kind = form[0]
+        if (not sessions and kind != 'session') or (not opened and kind in ('r', 'w', 'commit', 'abort')):
+            raise Refused('L3 line %d' % n)
+        if opened and kind == 'begin':
+            raise Refused('L4 line %d' % opened[0])
+        if kind == 'w' and form[2] == 0:
+            raise Refused('L5 line %d' % n)
+        if kind == 'session':
+            sessions.append((form[1], []))
+            numbers.append((form[1], n))
+        elif kind == 'begin':
+            opened = (n, [])
+        elif kind in ('r', 'w'):
+            opened[1].append(form)
+            if kind == 'w':
+                writes.append((form[2], n))
+        else:
+            sessions[-1][1].append((opened[1], kind == 'commit'))
+            opened = None
+    if opened:
+        raise Refused('L4 line %d' % opened[0])
+    seen = set()
+    for number, n in numbers:
+        if number in seen:
+            raise Refused('L2 line %d' % n)
+        seen.add(number)
+    transactions = [t for _, ts in sessions for t in ts]
+    operations = [o for ops, _ in transactions for o in ops]
+    if len(operations) > LIMITS['operations']:
+        raise Refused('L7 operations')
+    if sum(committed for _, committed in transactions) > LIMITS['committed']:
+        raise Refused('L7 committed')
+    if len({o[1] for o in operations}) > LIMITS['keys']:
+        raise Refused('L7 keys')
+    seen = set()
+    for wid, n in writes:
+        if wid in seen:
+            raise Refused('L6 line %d' % n)
+        seen.add(wid)
+    return sessions
+
+
+class History:
+    """The committed transactions of sessions as nodes 1 to n."""
+
+    def __init__(self, sessions):
+        self.sessions = sessions
+        self.names, self.ops, self.aborted = [(0, 0)], [[]], []
+        for number, transactions in sessions:
+            for place, (ops, committed) in enumerate(transactions, 1):
+                if committed:
+                    self.names.append((number, place))
+                    self.ops.append(ops)
+                else:
+                    self.aborted.append(ops)
+        self.n = len(self.ops) - 1
+        self.keys = []
+        for _, transactions in sessions:
+            for ops, _ in transactions:
+                for op in ops:
+                    if op[1] not in self.keys:
+                        self.keys.append(op[1])
+        self.nodes = range(1, self.n + 1)
+
+    def last_write(self, ops, key):
+        written = [wid for kind, k, wid in ops if kind == 'w' and k == key]
+        return written[-1] if written else None
+
+    def source(self, node, key):
+        """The node that a clean history's external read of the key names."""
+        for kind, k, wid in self.ops[node]:
+            if k == key:
+                if kind == 'w':
+                    return None
+                return next((u for u in self.nodes if self.last_write(self.ops[u], key) == wid), 0)
+        return None
+
+    def read_anomaly(self, node, place):
+        kind, key, wid = self.ops[node][place]
+        if kind != 'r':
+            return None
+        before, behind = self.ops[node][:place], self.ops[node][place + 1:]
+        own = self.last_write(before, key)
+        if own is not None:
+            return None if own == wid else 'A4'
+        here = lambda ops: ('w', key, wid) in ops
+        if wid and not any(here(ops) for ops in self.ops + self.aborted):
+            return 'A1'
+        if any(here(ops) for ops in self.aborted):
+            return 'A2'
+        if here(behind):
+            return 'A5'
+        if any(u != node and here(self.ops[u]) and self.last_write(self.ops[u], key) != wid for u in self.nodes):
+            return 'A3'
+        if any(k == 'r' and x == key and w != wid for k, x, w in before):
+            return 'A6'
+        return None
+
+    def anomaly(self):
+        """(code, node, operation from 1), or ('A7', key number, source, first, second), or None."""
+        for node in self.nodes:
+            for place in range(len(self.ops[node])):
+                code = self.read_anomaly(node, place)
+                if code:
+                    return code, node, place + 1
+        for x, key in enumerate(self.keys):
+            for source in range(self.n + 1):
+                both = [r for r in self.nodes if self.source(r, key) == source and self.last_write(self.ops[r], key) is not None]
+                if len(both) > 1:
+                    return 'A7', x, source, both[0], both[1]
+        return None
+
+    def arcs(self):
+        found = {(0, j) for j in self.nodes}
+        found |= {(a, a + 1) for a in self.nodes if a < self.n and self.names[a][0] == self.names[a + 1][0]}
+        found |= {(self.source(r, key), r) for r in self.nodes for key in self.keys if self.source(r, key) is not None}
+        return sorted(found)
+
+    def bipaths(self):
+        for r in self.nodes:
+            for key in self.keys:
+                w = self.source(r, key)
+                if w is None:
+                    continue
+                for k in self.nodes:
+                    if k not in (w, r) and self.last_write(self.ops[k], key) is not None:
+                        yield (k, w), (r, k)
+
+    def plain(self):
+        """The variables and clauses of the plain formula."""
+        pairs = list(itertools.combinations(range(self.n + 1), 2))
+        number = {pair: i for i, pair in enumerate(pairs, 1)}
+        literal = lambda u, v: number[u, v] if u < v else -number[v, u]
+        clauses = [[literal(*arc)] for arc in self.arcs()]
+        clauses += [[literal(*one), literal(*two)] for one, two in self.bipaths()]
+        for i, j, k in itertools.combinations(range(self.n + 1), 3):
+            clauses.append([-number[i, j], -number[j, k], number[i, k]])
+            clauses.append([number[i, j], number[j, k], -number[i, k]])
+        return len(pairs), clauses
+
+    def is_serial(self, order):
+        if sorted(order) != list(self.nodes):
+            return False
+        place = {v: p for p, v in enumerate(order)}
+        if any(self.names[a][0] == self.names[b][0] and place[a] > place[b] for a in self.nodes for b in self.nodes if a < b):
+            return False
+        store = {}
+        for v in order:
+            for kind, key, wid in self.ops[v]:
+                if kind == 'w':
+                    store[key] = wid
+                elif store.get(key, 0) != wid:
+                    return False
+        return True
+
+    def serial_orders(self):
+        return [order for order in itertools.permutations(self.nodes) if self.is_serial(list(order))]
+
+
+def plain_text(text):
+    """What `encode --plain` writes for a log; else Refused."""
+    history = History(read_log(text))
+    if history.n > LIMITS['plain']:
+        raise Refused('G2')
+    if history.anomaly():
+        variables, clauses = 1, [[1], [-1]]
+    else:
+        if sum(1 for _ in history.bipaths()) > LIMITS['choices']:
+            raise Refused('G1')
+        variables, clauses = history.plain()
+    lines = ['p cnf %d %d' % (variables, len(clauses))] + [' '.join(map(str, clause + [0])) for clause in clauses]
+    return ''.join(line + '\n' for line in lines).encode()
+
+
+def stats_text(text):
+    """What `stats --plain` writes for a log; else Refused."""
+    sessions = read_log(text)
+    history = History(sessions)
+    if history.n > LIMITS['plain']:
+        raise Refused('G2')
+    transactions = [t for _, ts in sessions for t in ts]
+    lines = [('sessions', len(sessions)), ('committed', history.n), ('aborted', len(transactions) - history.n),
+             ('keys', len(history.keys)), ('operations', sum(len(ops) for ops, _ in transactions))]
+    anomaly = history.anomaly()
+    if anomaly:
+        lines += [('anomaly', anomaly[0]), ('variables', 1), ('clauses', 2)]
+    else:
+        choices = sum(1 for _ in history.bipaths())
+        if choices > LIMITS['choices']:
+            raise Refused('G1')
+        variables, clauses = history.plain()
+        lines += [('choices', choices), ('variables', variables), ('clauses', len(clauses))]
+    return ''.join('%s %s\n' % line for line in lines).encode()
