@@ -44,7 +44,8 @@ pub fn pair<E, R>() -> (Account<E, R>, Receipt<E, R>)
     )
 }
 
-/// Shows that both halves have the same list, and adds a call to it, the last one if `last` says so.
+/// Shows that both halves have the same list, and adds a call to it, the last one if `last` says
+/// so.
 pub fn add<E, R>(
     account: &mut Account<E, R>,
     receipt: &mut Receipt<E, R>,

@@ -64,7 +64,8 @@ impl<M: Machine, J: Naming> Desk<M, J> {
         requires names { J.names ≡ opened.1 }
         requires desk { J.desk ≡ opened.2 }
         ensures desk { IfOk result (λ r. r.0 ≡ Some opened.0) }
-        ensures seats { IfOk result (λ r. AreFresh r.1.items × (length r.1.items ≡ length opened.1)) }
+        ensures seats { IfOk result (λ r. AreFresh r.1.items) }
+        ensures count { IfOk result (λ r. length r.1.items ≡ length opened.1) }
     {
         let Opened {
             machine,
@@ -158,8 +159,10 @@ impl<M: Machine, J: Naming> Desk<M, J> {
         ensures all { OnOk result (HasSeatsTo (length J.names) lefts.items) }
 
         // The history is legal from the opening state, and the machine is its replay.
-        ensures legal { IfOk result (λ c. IsReached M.next M.reply_at self c.history.items c.machine) }
-        ensures parts { IfOk result (λ c. All (λ l. part_of l.0 c.history.items ≡ l.1) lefts.items) }
+        ensures legal { IfOk result (λ c.
+            IsReached M.next M.reply_at self c.history.items c.machine) }
+        ensures parts { IfOk result (λ c.
+            All (λ l. part_of l.0 c.history.items ≡ l.1) lefts.items) }
         ensures seats { IfOk result (λ c. All (λ x. IsSeat J.names x.seat) c.history.items) }
         ensures valid { IfOk result (λ c. M.valid c.machine) }
 

@@ -37,7 +37,8 @@ impl<M: Machine, J: Naming> Model for Guarded<M, J> {
 
     ghost view = { λ g. (g.machine, g.history.items, opening_of g.opening.calls) };
 
-    ghost invariant = { λ g. IsReached M.next M.reply_at (opening_of g.opening.calls) g.history.items g.machine
+    ghost invariant = { λ g.
+        IsReached M.next M.reply_at (opening_of g.opening.calls) g.history.items g.machine
         × M.valid g.machine
         × AreTied J.names g.rows.items g.history.items
         × (vec_len g.history + staying g.rows.items ≤ vec_capacity g.history)
@@ -88,7 +89,8 @@ impl<M: Machine, J: Naming> Guarded<M, J> {
         requires named { slice_get J.names (seat - 1) ≡ Some receipt.old.name }
         requires here { receipt.old.left ≡ false }
         ensures ok { IfOk result (λ r. receipt.new.calls ≡ receipt.old.calls ++ (event, r) ∷ []) }
-        ensures err { IfErr result (λ e. (e.0 ≡ event) × (receipt.new ≡ receipt.old) × (self.new ≡ self.old)) }
+        ensures err { IfErr result (λ e. (e.0 ≡ event) × (receipt.new ≡ receipt.old)
+            × (self.new ≡ self.old)) }
         ensures receipt { (receipt.new.name ≡ receipt.old.name) × (receipt.new.left ≡ false) }
         ensures entered { IfOk result (λ r.
             IsEntered M.next M.reply_at (λ s. s ≡ self.old.0) seat event r receipt.new.calls) }
@@ -119,7 +121,8 @@ impl<M: Machine, J: Naming> Guarded<M, J> {
         requires here { receipt.old.left ≡ false }
         ensures calls { receipt.new.calls ≡ receipt.old.calls ++ (event, result) ∷ [] }
         ensures receipt { (receipt.new.name ≡ receipt.old.name) × (receipt.new.left ≡ true) }
-        ensures entered { IsEntered M.next M.reply_at (λ s. s ≡ self.old.0) seat event result receipt.new.calls }
+        ensures entered { IsEntered M.next M.reply_at (λ s. s ≡ self.old.0)
+            seat event result receipt.new.calls }
     {
         let Guarded {
             machine,
@@ -151,7 +154,8 @@ impl<M: Machine, J: Naming> Guarded<M, J> {
     ) -> (M, Vec<Entry<M::Event, M::Reply>>)
         requires { opening.name ≡ J.desk }
         ensures same { (result.0 ≡ self.0) × (result.1.items ≡ self.1) }
-        ensures legal { IsReached M.next M.reply_at (opening_of opening.calls) result.1.items result.0 }
+        ensures legal { IsReached M.next M.reply_at (opening_of opening.calls)
+            result.1.items result.0 }
         ensures seats { All (λ x. IsSeat J.names x.seat) result.1.items }
         ensures valid { M.valid result.0 }
     {
@@ -181,7 +185,8 @@ fn enter<E, R: Copy, J: Naming>(
     requires named { slice_get J.names (seat - 1) ≡ Some receipt.old.name }
     requires here { receipt.old.left ≡ false }
     requires room { vec_len history.old + staying rows.old.items ≤ vec_capacity history.old }
-    requires more { OnFalse last (vec_len history.old + staying rows.old.items < vec_capacity history.old) }
+    requires more { OnFalse last
+        (vec_len history.old + staying rows.old.items < vec_capacity history.old) }
     ensures tied { AreTied J.names rows.new.items history.new.items }
     ensures room { vec_len history.new + staying rows.new.items ≤ vec_capacity history.new }
     ensures history { history.new.items ≡ history.old.items ++ entry seat event reply ∷ [] }

@@ -1,8 +1,8 @@
 //! One lock, one history: a machine that several threads call, and what each of them may know.
 //!
-//! A `Machine` is a state that takes one event at a time and answers it. A `Desk` holds one behind a
-//! lock, together with the history of all steps so far, and hands out numbered seats, one for each
-//! worker thread.
+//! A `Machine` is a state that takes one event at a time and answers it. A `Desk` holds one behind
+//! a lock, together with the history of all steps so far, and hands out numbered seats, one for
+//! each worker thread.
 //!
 //! ```text
 //! let opened = Opened::new(alloc, machine, workers)?;
@@ -34,19 +34,20 @@
 //! calls of each seat, and no others? By tokens: values without bytes that carry what is known.
 //!
 //! A *ghost name* is a place that exists in proofs alone. It has a value and two halves, with two
-//! rules: both halves show the same value, and it changes only where both are in one hand. Who holds
-//! one half therefore knows that nobody changed the value in the meantime.
+//! rules: both halves show the same value, and it changes only where both are in one hand. Who
+//! holds one half therefore knows that nobody changed the value in the meantime.
 //!
 //! Each seat has such a name, whose value is the list of the seat's calls with their replies, and
-//! whether it has left. The half under the lock is an `Account`, the half in the seat a `Receipt`. A
-//! call takes the lock, makes the step, and now has both halves: it appends the same entry to both
+//! whether it has left. The half under the lock is an `Account`, the half in the seat a `Receipt`.
+//! A call takes the lock, makes the step, and now has both halves: it appends the same call to both
 //! and to the stored history. What the lock guards has a type, `Guarded`, which says that each
 //! account's list is the seat's part of the history, and that the history is legal and leads to the
 //! machine's state. So this has to be true again before the lock is let go.
 //!
 //! When the desk is closed, all receipts are back. Comparing each with its account shows that the
 //! seat's list is its part of the history. The opening state has a pair of the same kind, one half
-//! under the lock and one beside it in the desk, so that the history provably starts where it should.
+//! under the lock and one beside it in the desk, so that the history provably starts where it
+//! should.
 //!
 //! # Which desk it is
 //!

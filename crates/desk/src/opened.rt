@@ -9,8 +9,10 @@ use crate::seat_no::{SeatNo, Workers};
 use std::alloc::{AllocError, Global};
 use std::marker::Model;
 
-/// A desk and its seats, before the desk has a name. Contracts see the opening state of its machine,
-/// the ghost names of its seats, and the ghost name of that state.
+/// A desk and its seats, before the desk has a name.
+///
+/// Contracts see the opening state of the machine, the ghost names of the seats, and the ghost name
+/// of that state.
 #[derive(Drop)]
 pub struct Opened<M: Machine> {
     pub(crate) machine: M,

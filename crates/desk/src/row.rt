@@ -23,7 +23,8 @@ impl<E, R> Row<E, R> {
     /// Adds a call to both halves, which shows that they had the same list.
     pub(crate) fn add(&mut self, receipt: &mut Receipt<E, R>, event: &E, reply: &R, last: bool)
         requires { self.old.account.name ≡ receipt.old.name }
-        ensures same { (self.old.left ≡ receipt.old.left) × (self.old.account.calls ≡ receipt.old.calls) }
+        ensures same { (self.old.left ≡ receipt.old.left)
+            × (self.old.account.calls ≡ receipt.old.calls) }
         ensures row { (self.new.left ≡ last) × (self.new.account.name ≡ self.old.account.name)
             × (self.new.account.calls ≡ self.old.account.calls ++ (event.now, reply.now) ∷ []) }
         ensures receipt { (receipt.new.name ≡ receipt.old.name) × (receipt.new.left ≡ last)
@@ -37,7 +38,8 @@ impl<E, R> Row<E, R> {
     /// Shows that both halves have the same list.
     pub(crate) fn compare(&mut self, receipt: &mut Receipt<E, R>)
         requires { self.old.account.name ≡ receipt.old.name }
-        ensures same { (self.old.left ≡ receipt.old.left) × (self.old.account.calls ≡ receipt.old.calls) }
+        ensures same { (self.old.left ≡ receipt.old.left)
+            × (self.old.account.calls ≡ receipt.old.calls) }
         ensures row { self.new ≡ self.old }
         ensures receipt { receipt.new ≡ receipt.old }
     {

@@ -20,7 +20,8 @@ impl<M: Machine, J: Naming> Model for Seat<M, J> {
 
     ghost view = { λ s. (s.number, s.receipt.calls) };
 
-    ghost invariant = { λ s. (slice_get J.names (s.number - 1) ≡ Some s.receipt.name) × (s.receipt.left ≡ false) };
+    ghost invariant = { λ s. (slice_get J.names (s.number - 1) ≡ Some s.receipt.name)
+        × (s.receipt.left ≡ false) };
 }
 
 /// A seat whose last call was made. Contracts see its number and the list of its calls.
@@ -36,7 +37,8 @@ impl<M: Machine, J: Naming> Model for Left<M, J> {
 
     ghost view = { λ l. (l.seat, l.receipt.calls) };
 
-    ghost invariant = { λ l. (slice_get J.names (l.seat - 1) ≡ Some l.receipt.name) × (l.receipt.left ≡ true) };
+    ghost invariant = { λ l. (slice_get J.names (l.seat - 1) ≡ Some l.receipt.name)
+        × (l.receipt.left ≡ true) };
 }
 
 impl<M: Machine, J: Naming> Seat<M, J> {

@@ -200,6 +200,7 @@ fn add_twice<J: Naming, R: Wait + Abort>(
     leave(rt, desk, seat, 20)
 }
 
+// An event that was refused for memory comes back, and is sent again.
 fn add<J: Naming, R: Wait + Abort>(
     rt: &R,
     desk: &Desk<Adder, J>,
@@ -207,9 +208,10 @@ fn add<J: Naming, R: Wait + Abort>(
     amount: u64,
     at_least: u64,
 ) -> u64 {
-    desk.call(rt, seat, Amount { amount, at_least })
-        .ok()
-        .expect(rt, "memory")
+    match desk.call(rt, seat, Amount { amount, at_least }) {
+        Ok(before) => before,
+        Err((event, _)) => desk.call(rt, seat, event).ok().expect(rt, "memory"),
+    }
 }
 
 // The last call does not wait for the sum.

@@ -13,7 +13,7 @@ abbrev pub ends_block : List (List ℕ × Bool) → Bool
 ends_block [] = true
 ends_block (l ∷ ls) = is_session_line l
 
--- a line before the first block
+-- a line more at the head of the first block
 abbrev pub onto_block : List ℕ × Bool → List (List (List ℕ × Bool)) → List (List (List ℕ × Bool))
 onto_block l [] = (l ∷ []) ∷ []
 onto_block l (b ∷ bs) = (l ∷ b) ∷ bs

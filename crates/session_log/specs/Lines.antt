@@ -9,21 +9,21 @@ use Rattle.session_log.specs.Key.{is_key}
 use Rattle.session_log.specs.declared.line.Line.{Line}
 use Rattle.session_log.specs.declared.line.Line.TheVariants as line
 
--- a line without its LF, and whether it had one: only the last may lack it
+-- a byte before lines; of each line there are its bytes without LF, and whether it has one
 abbrev pub onto_line : ℕ → List (List ℕ × Bool) → List (List ℕ × Bool)
 onto_line b [] = (b ∷ [], false) ∷ []
 onto_line b (l ∷ ls) = (b ∷ l.0, l.1) ∷ ls
 
--- the bytes of such a line
+-- a line's bytes, with its LF where it has one
 abbrev pub bytes_of : List ℕ × Bool → List ℕ
 bytes_of l = l.0 ++ (if l.1 then 10 ∷ [] else [])
 
--- the lines of a text
+-- the lines of a text: only the last may lack its LF
 unfoldable pub lines : List ℕ → List (List ℕ × Bool)
 lines [] = []
 lines (b ∷ bs) = if b == 10 then ([], true) ∷ lines bs else onto_line b (lines bs)
 
--- a word that is read where the one before it was
+-- what is read of a value that may be missing
 infixl 10 ◌>>=◌
 abbrev pub ◌>>=◌ : {A B : Type 0} → Option A → (A → Option B) → Option B
 o >>= f = option_and_then f o

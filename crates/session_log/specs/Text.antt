@@ -1,4 +1,5 @@
--- The one text of each list of sessions.
+-- The one text of each list of sessions. Its lines are this project's own; that each write has an
+-- identity, which the reads of it name, is after Cobra (Tan et al., OSDI 2020).
 use Rattle.std.specs.Prelude.{ℕ, ◌<◌, ◌^◌, List, [], ◌∷◌, ◌++◌, map, codes, decimal}
 use Rattle.std.specs.List.{flat_map, AllByRecursion}
 use Rattle.session_log.specs.Key.{IsKey}
@@ -16,7 +17,7 @@ pub record Transaction : Type 0 where
   pub ops : List Op
   pub outcome : Outcome
 
--- a session, the same
+-- a session, without where it lies in memory
 pub record ClientSession : Type 0 where
   pub number : ℕ
   pub txns : List Transaction

@@ -38,7 +38,7 @@ impl Model for Key {
 impl Key {
     /// The key of these bytes, where they are one, and `None` where they are not.
     pub fn new(alloc: Global, bytes: &[u8]) -> Result<Option<Key>, AllocError>
-        ensures key { IfOk result (λ key. key ≡ (if is_key bytes.now then Some bytes.now else None)) }
+        ensures key { IfOk result (λ k. k ≡ (if is_key bytes.now then Some bytes.now else None)) }
     {
         if !is_key(bytes) {
             return Ok(None);
@@ -109,7 +109,8 @@ impl Ord for Key {
 impl Hash for Key {
     ghost hash_input = { λ k. fed.slice fed.u8 k };
 
-    ghost respects_eq = { (items_Alike {F = fed.u8} (record { fed = Prim.search (hashing, rules) })).fed };
+    ghost respects_eq = { (items_Alike {F = fed.u8}
+        (record { fed = Prim.search (hashing, rules) })).fed };
 
     fn hash<H: Hasher>(&self, state: &mut H) {
         self.bytes.hash(state);

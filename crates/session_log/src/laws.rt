@@ -23,7 +23,8 @@ pub fn one_list()
         → AllByRecursion IsLegal b → log_text a ≡ log_text b → a ≡ b }
 {}
 
-/// A log is read block by block: the first fault of its blocks is its own, and their sessions are its list.
+/// A log is read block by block: the first fault of its blocks is its own, and their sessions are
+/// its list.
 pub fn block_by_block()
     ensures fault { (text : List ℕ)
         → grammar_fault text ≡ first_of (map (block_fault text) (blocks_of text)) }

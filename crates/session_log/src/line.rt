@@ -75,12 +75,14 @@ fn session_of(word: &[u8]) -> Option<Line>
     }
 }
 
+/// The first place of a byte.
 pub fn index_of(bytes: &[u8], byte: u8) -> Option<usize>
     ensures { result ≡ position (λ b. b == byte) bytes.now }
 {
     bytes.iter().position(|b| *b == byte)
 }
 
+// A key, a space and a number.
 #[tactic(auto, unfolding(crate::specs::Lines::keyed_of))]
 fn keyed_of(alloc: Global, words: &[u8]) -> Result<Option<(Key, u64)>, AllocError>
     ensures { IfOk result (λ o. o ≡ keyed_of words.now) }
@@ -97,6 +99,7 @@ fn keyed_of(alloc: Global, words: &[u8]) -> Result<Option<(Key, u64)>, AllocErro
     }
 }
 
+/// The form of a line without its LF, and `None` where it has none.
 #[tactic(auto, unfolding(crate::specs::Lines::form_of))]
 pub fn form_of(alloc: Global, body: &[u8]) -> Result<Option<Line>, AllocError>
     ensures { IfOk result (λ o. o ≡ form_of body.now) }

@@ -1,8 +1,10 @@
 //! The lines of one session, read from the first on.
 
-ghost use Rattle.std.specs.Prelude.{◌≡◌, ◌∷◌, ◌++◌, ◌<◌, ◌+◌, ◌^◌, false, Some, None, [], length, if◌then◌else◌, IfOk, IfErr};
+ghost use Rattle.std.specs.Prelude.{◌≡◌, ◌∷◌, ◌++◌, ◌<◌, ◌+◌, ◌^◌, false, Some, None, length};
+ghost use Rattle.std.specs.Prelude.{if◌then◌else◌, IfOk, IfErr};
 ghost use Rattle.session_log.specs.Lines.{lines, form_of, bytes_of};
-ghost use Rattle.session_log.specs.Faults.{after, step, first_fault, Start, IsBlock, form_at, is_session_line, FailsAs, IsFault, IsGrammarFault};
+ghost use Rattle.session_log.specs.Faults.{Start, after, step, first_fault, form_at, is_session_line};
+ghost use Rattle.session_log.specs.Faults.{IsBlock, FailsAs, IsFault, IsGrammarFault};
 ghost use Rattle.session_log.specs.Text.{view, session_text, IsLegal};
 ghost use Rattle.session_log.specs.Reading.{place_of, Adds, Takes, IsBodyLine};
 

@@ -12,7 +12,5 @@ invariant_of-desk g c =
     let o = c.opened.inside.rows.ok in let n = length-names_of c.opened.inside.rows.items in let s = c.opened.invariant.4 in
     let same = ap (λ v. length v.1) c.opened.view_is in let named = ap length c.requires.names in (s ∙ o.0 ∙ sym n ∙ same ∙ sym named, c.opened.invariant.5 ∙ ap (λ v. v.2) c.opened.view_is ∙ sym c.requires.desk)
 
-pub returns-clause-seats : goal.returns-clause-seats
-returns-clause-seats g c =
-    let h = c.in_ok-seats.ensures in
-    (h.0, h.1 ∙ c.opened.invariant.3.0 ∙ sym (length-names_of c.opened.inside.rows.items) ∙ ap (λ v. length v.1) c.opened.view_is)
+pub returns-clause-count : goal.returns-clause-count
+returns-clause-count g c = c.in_ok-seats.ensures.1 ∙ c.opened.invariant.3.0 ∙ sym (length-names_of c.opened.inside.rows.items) ∙ ap (λ v. length v.1) c.opened.view_is

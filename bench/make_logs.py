@@ -1,0 +1,48 @@
+#!/usr/bin/env python3
+"""make_logs.py FOLDER: logs at the limits, for the benchmark."""
+import os, sys
+
+folder = sys.argv[1]
+os.makedirs(folder, exist_ok=True)
+
+
+def write(name, lines):
+    with open(os.path.join(folder, name), 'w') as out:
+        out.write(''.join(line + '\n' for line in lines))
+
+
+def bipaths(keys):
+    """50 sessions, each with a transaction that writes the keys and one that reads them: 100 transactions, 2450 bipaths a key."""
+    for s in range(1, 51):
+        yield 'session %d' % s
+        yield 'begin'
+        for k in range(1, keys + 1):
+            yield 'w k%d %d' % (k, s * 1000 + k)
+        yield 'commit'
+        yield 'begin'
+        for k in range(1, keys + 1):
+            yield 'r k%d %d' % (k, s * 1000 + k)
+        yield 'commit'
+
+
+def operations(committed, long_keys):
+    """200,000 operations over 10,000 keys in this many committed transactions and 64 sessions, close to 16 MiB with long keys."""
+    prefix = 'k' * (55 if long_keys else 1)
+    each = 200000 // committed
+    count = 0
+    for t in range(committed):
+        if t * 64 // committed != (t - 1) * 64 // committed or t == 0:
+            yield 'session %d' % (t * 64 // committed + 1)
+        yield 'begin'
+        for _ in range(each):
+            count += 1
+            yield 'w %s%d %d' % (prefix, count * 7919 % 10000, 2 ** 63 + count * 104729 % 2 ** 60)
+        yield 'commit'
+
+
+write('bipaths_40.log', bipaths(40))
+write('bipaths_41.log', bipaths(41))
+write('operations_100.log', operations(100, True))
+write('operations_400.log', operations(400, True))
+write('one_transaction.log', operations(1, True))
+write('begins.log', ['session 1'] + ['begin', 'commit'] * 390 + ['begin', 'abort'] * 1000000)

@@ -1,0 +1,33 @@
+#!/usr/bin/env bash
+# Times the built program on logs at the limits, beside `cat` of the same bytes: bench/run.sh [PROGRAM]
+set -eu
+top=$(cd "$(dirname "${BASH_SOURCE[0]}")/.." && pwd)
+program=${1:-$top/crates/cobra_poly/out/cobra_poly}
+folder=$(mktemp -d)
+trap 'rm -rf "$folder"' EXIT
+python3 "$top/bench/make_logs.py" "$folder"
+echo "machine: $(nproc) processors, $(date -u +%F)"
+measure() { # name, file, command..
+    local name=$1 file=$2
+    shift 2
+    python3 - "$name" "$file" "$@" <<'PY'
+import os, resource, subprocess, sys, time
+name, file, words = sys.argv[1], sys.argv[2], sys.argv[3:]
+best, size, status = None, 0, 0
+for _ in range(3):
+    start = time.time()
+    with open('/dev/null', 'wb') as null:
+        ran = subprocess.run(words, stdout=subprocess.PIPE, stderr=subprocess.PIPE)
+    took = time.time() - start
+    best = took if best is None else min(best, took)
+    size, status, said = len(ran.stdout), ran.returncode, ran.stderr.decode().strip()
+peak = resource.getrusage(resource.RUSAGE_CHILDREN).ru_maxrss // 1024
+print('%-34s %10d bytes in %10d out  %7.3f s  peak %5d MiB  status %d %s' % (name, os.path.getsize(file), size, best, peak, status, said))
+PY
+}
+for log in "$folder"/*.log; do
+    name=$(basename "$log" .log)
+    measure "cat $name" "$log" cat "$log"
+    measure "stats $name" "$log" "$program" stats --plain "$log"
+    measure "encode $name" "$log" "$program" encode --plain "$log"
+done

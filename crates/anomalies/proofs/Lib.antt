@@ -1,0 +1,8 @@
+mod Sound
+mod Named
+mod Usages
+mod Marks
+mod Scan
+mod Turns
+mod Sources
+mod Clashes

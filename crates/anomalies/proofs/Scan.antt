@@ -1,0 +1,62 @@
+-- The first of the results over a range of nodes or keys, and over the operations of a node.
+use Rattle.std.proofs.Common.{◌≡◌, ℕ, suc, ◌+◌, ◌-◌, ◌<◌, ◌≤◌, List, [], ◌∷◌, ◌++◌, length, get_or, take, drop, Option, None, Some, refl, sym, ap, ◌∙◌, arith}
+use Rattle.std.specs.Prelude.{map}
+use Rattle.std.specs.List.{flat_map, range_with_len}
+use Rattle.std.specs.Option.{option_or}
+use Rattle.std.proofs.lemmas.List.{at_drop_more, at_drop_all, take_more}
+use Rattle.serializability.specs.declared.event.Event.{Event}
+use Rattle.serializability.specs.declared.anomaly.Anomaly.{Anomaly}
+use Rattle.serializability.specs.Anomalies.{Place, places_from, first_some}
+
+or_assoc : {X : Type 0} (a b c : Option X) → option_or a (option_or b c) ≡ option_or (option_or a b) c
+or_assoc None b c = refl
+or_assoc (Some x) b c = refl
+
+pub first-append : {X : Type 0} (f : X → Option Anomaly) (xs ys : List X) → first_some (map f (xs ++ ys)) ≡ option_or (first_some (map f xs)) (first_some (map f ys))
+first-append f [] ys = refl
+first-append f (x ∷ xs) ys = ap (option_or (f x)) (first-append f xs ys) ∙ or_assoc (f x) (first_some (map f xs)) (first_some (map f ys))
+
+-- ---- what G gives for the numbers from v up to the end
+abbrev pub first_from : {X : Type 0} → (X → Option Anomaly) → (ℕ → List X) → ℕ → ℕ → Option Anomaly
+first_from f G v end = first_some (map f (flat_map G (range_with_len v (end - v))))
+
+pub first_from-more : {X : Type 0} (f : X → Option Anomaly) (G : ℕ → List X) (v end : ℕ) → v < end → first_from f G v end ≡ option_or (first_some (map f (G v))) (first_from f G (v + 1) end)
+first_from-more f G v end lt =
+    let count : end - v ≡ suc (end - (v + 1)) = omega arith in
+    ap (λ n. first_some (map f (flat_map G (range_with_len v n)))) count
+    ∙ first-append f (G v) (flat_map G (range_with_len (v + 1) (end - (v + 1))))
+
+pub first_from-all : {X : Type 0} (f : X → Option Anomaly) (G : ℕ → List X) (v end : ℕ) → end ≤ v → first_from f G v end ≡ None
+first_from-all f G v end le =
+    let count : end - v ≡ 0 = omega arith in
+    ap (λ n. first_some (map f (flat_map G (range_with_len v n)))) count
+
+-- where the turn of v, here u, gives nothing, the rest decides
+pub passed : {X : Type 0} (f : X → Option Anomaly) (G : ℕ → List X) (u v end : ℕ) → u ≡ v → v < end → None ≡ first_some (map f (G u)) → first_from f G v end ≡ first_from f G (v + 1) end
+passed f G u v end same lt none =
+    first_from-more f G v end lt ∙ ap (λ o. option_or o (first_from f G (v + 1) end)) (sym (none ∙ ap (λ k. first_some (map f (G k))) same))
+
+pub stopped : {X : Type 0} (f : X → Option Anomaly) (G : ℕ → List X) (u v end : ℕ) (a : Anomaly) → u ≡ v → v < end → Some a ≡ first_some (map f (G u)) → first_from f G v end ≡ Some a
+stopped f G u v end a same lt some =
+    first_from-more f G v end lt ∙ ap (λ o. option_or o (first_from f G (v + 1) end)) (sym (some ∙ ap (λ k. first_some (map f (G k))) same))
+
+pub first_from-one : {X : Type 0} (f : X → Option Anomaly) (G : ℕ → List X) (n : ℕ) → first_from f G 1 (n + 1) ≡ first_some (map f (flat_map G (range_with_len 1 n)))
+first_from-one f G n = let count : n + 1 - 1 ≡ n = omega arith in ap (λ k. first_some (map f (flat_map G (range_with_len 1 k)))) count
+
+pub first_from-zero : {X : Type 0} (f : X → Option Anomaly) (G : ℕ → List X) (n : ℕ) → first_from f G 0 n ≡ first_some (map f (flat_map G (range_with_len 0 n)))
+first_from-zero f G n = let count : n - 0 ≡ n = omega arith in ap (λ k. first_some (map f (flat_map G (range_with_len 0 k)))) count
+
+-- ---- what f gives for the operations from place i on
+abbrev pub first_behind : (Place → Option Anomaly) → ℕ → List Event → ℕ → Option Anomaly
+first_behind f v ops i = first_some (map f (places_from v (take i ops) (drop i ops)))
+
+abbrev pub place_at : ℕ → List Event → ℕ → Event → Place
+place_at v ops i e = record { node = v; front = take i ops; event = e; back = drop (i + 1) ops }
+
+pub first_behind-more : (f : Place → Option Anomaly) (v : ℕ) (ops : List Event) (i : ℕ) (d : Event) → i < length ops → first_behind f v ops i ≡ option_or (f (place_at v ops i (get_or ops i d))) (first_behind f v ops (i + 1))
+first_behind-more f v ops i d lt =
+    at_drop_more (λ l. first_some (map f (places_from v (take i ops) l))) ops i d lt
+    ∙ ap (λ l. option_or (f (place_at v ops i (get_or ops i d))) (first_some (map f (places_from v l (drop (i + 1) ops))))) (sym (take_more ops i d lt))
+
+pub first_behind-all : (f : Place → Option Anomaly) (v : ℕ) (ops : List Event) (i : ℕ) → length ops ≤ i → first_behind f v ops i ≡ None
+first_behind-all f v ops i le = at_drop_all (λ l. first_some (map f (places_from v (take i ops) l))) ops i le

@@ -1,0 +1,129 @@
+-- What a transaction's operations did to a key, one operation further.
+use Rattle.std.proofs.Common.{◌≡◌, ℕ, Bool, true, false, eqb, cond, not, ◌&&◌, ◌||◌, List, [], ◌∷◌, ◌++◌, Option, None, Some, refl, sym, ap, ◌∙◌, eq-eqb, ne_eqb}
+use Rattle.std.specs.Bool.{then_some}
+use Rattle.std.specs.List.{list_any}
+use Rattle.std.specs.Option.{option_or}
+use Rattle.std.proofs.lemmas.Bool.{cond-true, cond-false, and_left, not-false, eqb-true}
+use Rattle.std.proofs.lemmas.List.Folds.{list_any-append}
+use Rattle.serializability.specs.declared.event.Event.{Event}
+use Rattle.serializability.specs.declared.event.Event.TheVariants.{Read, Write}
+use Rattle.serializability.specs.declared.anomaly.ReadAnomaly.{ReadAnomaly}
+use Rattle.serializability.specs.declared.anomaly.ReadAnomaly.TheVariants.{Split}
+use Rattle.serializability.specs.Log.{Log}
+use Rattle.serializability.specs.Reads.{later, last_write}
+use Rattle.serializability.specs.Anomalies.{is_other_read, external_anomaly, internal_anomaly, read_anomaly, event_anomaly, is_unknown, is_aborted, writes_as, is_intermediate}
+use Rattle.serializability.proofs.Replays.{last_write-append}
+use Rattle.anomalies.specs.declared.reads.Usage.{Usage}
+use Rattle.anomalies.specs.declared.reads.Usage.TheVariants as usage
+use Rattle.anomalies.specs.Usage.{key_of, split_anomaly, own_write, names_other, IsUsage, used_after}
+
+-- ---- the anomaly of a read
+or_none : {X : Type 0} (o : Option X) → option_or o None ≡ o
+or_none None = refl
+or_none (Some x) = refl
+
+split_is : (x w : ℕ) (before : List Event) (used : Option Usage) → IsUsage x before used → own_write used ≡ None → split_anomaly x w before ≡ cond (names_other used w) (Some Split) None
+split_is x w before used h none = ap (λ b. cond b (Some Split) None) (h.reads none w)
+
+some_where : (b : Bool) → cond b (Some Split) None ≡ then_some b Split
+some_where true = refl
+some_where false = refl
+
+pub first_read : (log : Log) (v x w : ℕ) (before behind : List Event) (r : Option ReadAnomaly) → IsUsage x before None → (last_write x before ≡ None → external_anomaly log v before x w behind ≡ option_or r (split_anomaly x w before)) → r ≡ read_anomaly log v before x w behind (last_write x before)
+first_read log v x w before behind r h e =
+    sym (ap (read_anomaly log v before x w behind) h.own ∙ e h.own ∙ ap (option_or r) (split_is x w before None h refl) ∙ or_none r)
+
+pub further_read : (log : Log) (v x w first : ℕ) (before behind : List Event) (r : Option ReadAnomaly) → IsUsage x before (Some (usage.Read first)) → (last_write x before ≡ None → external_anomaly log v before x w behind ≡ option_or r (split_anomaly x w before)) → option_or r (then_some (not (eqb first w)) Split) ≡ read_anomaly log v before x w behind (last_write x before)
+further_read log v x w first before behind r h e =
+    sym (ap (read_anomaly log v before x w behind) h.own ∙ e h.own ∙ ap (option_or r) (split_is x w before (Some (usage.Read first)) h refl ∙ some_where (not (eqb first w))))
+
+pub own_read : (log : Log) (v x w own : ℕ) (before behind : List Event) → IsUsage x before (Some (usage.Wrote own)) → internal_anomaly own w ≡ read_anomaly log v before x w behind (last_write x before)
+own_read log v x w own before behind h = sym (ap (read_anomaly log v before x w behind) h.own)
+
+-- ---- one operation on the key further
+some_is_none : {X : Type 0} (x : X) {P : Type 0} → Some x ≡ None → P
+some_is_none x e = cc
+
+test_false : (b : Bool) (kind : ReadAnomaly) (o : Option ReadAnomaly) → cond b (Some kind) o ≡ None → (b ≡ false) × (o ≡ None)
+test_false true kind o e = cc
+test_false false kind o e = (refl, e)
+
+not_split : (log : Log) (v x w : ℕ) (before behind : List Event) → external_anomaly log v before x w behind ≡ None → list_any (is_other_read x w) before ≡ false
+not_split log v x w before behind e =
+    let p = test_false (is_unknown log x w) _ _ e in
+    let q = test_false (is_aborted log x w) _ _ p.1 in
+    let r = test_false (writes_as x w behind) _ _ q.1 in
+    let s = test_false (is_intermediate log v x w) _ _ r.1 in
+    (test_false (list_any (is_other_read x w) before) Split None s.1).0
+
+after_write : (x w : ℕ) (before : List Event) → last_write x (before ++ Write x w ∷ []) ≡ Some w
+after_write x w before =
+    last_write-append x before (Write x w ∷ [])
+    ∙ ap (λ o. later (last_write x before) (later o None)) (cond-true (eqb x x) (Some w) None (eq-eqb x x refl))
+
+after_read : (x k w : ℕ) (before : List Event) → last_write x (before ++ Read k w ∷ []) ≡ last_write x before
+after_read x k w before = last_write-append x before (Read k w ∷ [])
+
+or_itself : (a b : Bool) → a ≡ b → (a || (b || false)) ≡ b
+or_itself a true e = rw e refl
+or_itself a false e = rw e refl
+
+only_there : (b : Bool) → (false || (b || false)) ≡ b
+only_there true = refl
+only_there false = refl
+
+here_other : (x w y : ℕ) → is_other_read x y (Read x w) ≡ not (eqb w y)
+here_other x w y = ap (λ t. t && not (eqb w y)) (eq-eqb x x refl)
+
+usage_read : (x w : ℕ) (before : List Event) → last_write x before ≡ None → ((y : ℕ) → (list_any (is_other_read x y) before || (not (eqb w y) || false)) ≡ not (eqb w y)) → IsUsage x (before ++ Read x w ∷ []) (Some (usage.Read w))
+usage_read x w before none same = record {
+  own = after_read x x w before ∙ none;
+  reads = λ _ y.
+      list_any-append (is_other_read x y) before (Read x w ∷ [])
+      ∙ ap (λ b. list_any (is_other_read x y) before || (b || false)) (here_other x w y)
+      ∙ same y;
+}
+
+pub usage_more : (log : Log) (v : ℕ) (before behind : List Event) (e : Event) (used : Option Usage) → IsUsage (key_of e) before used → event_anomaly log v before e behind ≡ None → IsUsage (key_of e) (before ++ e ∷ []) (Some (used_after used e))
+usage_more log v before behind (Write x w) used h none = record {
+  own = after_write x w before;
+  reads = λ bad y. some_is_none w bad;
+}
+usage_more log v before behind (Read x w) None h none =
+    usage_read x w before h.own (λ y. ap (λ b. b || (not (eqb w y) || false)) (h.reads refl y) ∙ only_there (not (eqb w y)))
+usage_more log v before behind (Read x w) (Some (usage.Read first)) h none =
+    let external : external_anomaly log v before x w behind ≡ None = sym (ap (read_anomaly log v before x w behind) h.own) ∙ none in
+    let same : not (eqb first w) ≡ false = sym (h.reads refl w) ∙ not_split log v x w before behind external in
+    let named : first ≡ w = eqb-true first w (not-false (eqb first w) same) in
+    usage_read x w before h.own (λ y. or_itself (list_any (is_other_read x y) before) (not (eqb w y)) (h.reads refl y ∙ ap (λ k. not (eqb k y)) named))
+usage_more log v before behind (Read x w) (Some (usage.Wrote own)) h none = record {
+  own = after_read x x w before ∙ h.own;
+  reads = λ bad y. some_is_none own bad;
+}
+
+-- ---- one operation on another key further
+other_write : (x : ℕ) (before : List Event) (e : Event) → eqb (key_of e) x ≡ false → last_write x (before ++ e ∷ []) ≡ last_write x before
+other_write x before (Read k w) ne = after_read x k w before
+other_write x before (Write k w) ne =
+    last_write-append x before (Write k w ∷ [])
+    ∙ ap (λ o. later (last_write x before) (later o None)) (cond-false (eqb k x) (Some w) None ne)
+
+other_event : (x y : ℕ) (e : Event) → eqb (key_of e) x ≡ false → is_other_read x y e ≡ false
+other_event x y (Read k w) ne = and_left (eqb k x) (not (eqb w y)) ne
+other_event x y (Write k w) ne = refl
+
+or_neither : (a : Bool) → (a || (false || false)) ≡ a
+or_neither true = refl
+or_neither false = refl
+
+pub usage_other : (x : ℕ) (before : List Event) (e : Event) (used : Option Usage) → (key_of e ≡ x → ⊥) → IsUsage x before used → IsUsage x (before ++ e ∷ []) used
+usage_other x before e used ne h =
+    let apart = ne_eqb (key_of e) x ne in
+    record {
+      own = other_write x before e apart ∙ h.own;
+      reads = λ none y.
+          list_any-append (is_other_read x y) before (e ∷ [])
+          ∙ ap (λ b. list_any (is_other_read x y) before || (b || false)) (other_event x y e apart)
+          ∙ or_neither (list_any (is_other_read x y) before)
+          ∙ h.reads none y;
+    }

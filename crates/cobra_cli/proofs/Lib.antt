@@ -1,0 +1,5 @@
+pub mod Taking
+pub mod Logs
+pub mod Named
+pub mod Answering
+pub mod Counting

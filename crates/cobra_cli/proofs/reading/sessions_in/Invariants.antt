@@ -1,0 +1,14 @@
+use Rattle.std.proofs.Common.{◌≡◌, map, take, drop}
+use Rattle.std.specs.List.{AllByRecursion}
+use Rattle.session_log.specs.Text.{view, session_text, IsLegal}
+use Rattle.session_log.specs.Faults.{grammar_fault}
+use Rattle.session_log.specs.Blocks.{block_text, block_fault, first_of}
+use Rattle.cobra_cli.proofs.reading.sessions_in.Given as goal
+
+abbrev pub invariant-loop-block : goal.invariant-loop-block
+invariant-loop-block l =
+    record {
+      legal : AllByRecursion IsLegal (map view l.sessions.items);
+      texts : map (block_text l.log) (take l.block-index l.blocks) ≡ map session_text (map view l.sessions.items);
+      fault : grammar_fault l.log ≡ first_of (map (block_fault l.log) (drop l.block-index l.blocks));
+    }

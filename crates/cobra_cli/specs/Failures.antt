@@ -1,0 +1,17 @@
+-- How a command's end shows in the sink's count of failures, and in the program's exit status.
+use Rattle.std.specs.Prelude.{ℕ, Result, Ok, Err}
+use Rattle.dimacs.specs.Sinks.{one_more}
+use Rattle.cobra_cli.specs.declared.status.Status.{Status}
+use Rattle.cobra_cli.specs.declared.status.Status.TheVariants.{Done, Unknown}
+use Rattle.cobra_cli.specs.declared.fault.Fault.{Fault}
+use Rattle.cobra_cli.specs.declared.fault.Fault.TheVariants.{Device}
+
+-- the sink failed in this call exactly where it is refused for that
+abbrev pub failures_after : ℕ → Result Status Fault → ℕ
+failures_after before (Ok s) = before
+failures_after before (Err (Device written)) = one_more before
+failures_after before (Err _) = before
+
+abbrev pub code_of : Status → ℕ
+code_of Done = 0
+code_of Unknown = 3

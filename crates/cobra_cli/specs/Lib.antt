@@ -1,0 +1,4 @@
+pub mod Sources
+pub mod Commands
+pub mod Failures
+pub mod Statistics

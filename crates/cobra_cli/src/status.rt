@@ -1,0 +1,36 @@
+//! How a command ends, and what it is asked for.
+
+ghost use Rattle.std.specs.Prelude.{◌≡◌};
+ghost use Rattle.cobra_cli.specs.Failures.{code_of};
+
+use desk::seat_no::Workers;
+
+/// How a command that is not refused ends.
+#[derive(Clone, Copy, Debug, PartialEq, Eq)]
+pub enum Status {
+    /// It did what was asked.
+    Done,
+    /// The answer leaves open whether a serial order exists.
+    Unknown,
+}
+
+impl Status {
+    /// The exit status of the program.
+    pub fn code(self) -> u8
+        ensures code { result ≡ code_of self }
+    {
+        match self {
+            Status::Done => 0,
+            Status::Unknown => 3,
+        }
+    }
+}
+
+/// What may be asked of a command beside its input.
+#[derive(Clone, Copy)]
+pub struct Options {
+    /// The plain formula was asked for. It is the only one so far, and is taken with or without this.
+    pub plain: bool,
+    /// How many workers may take part. One works so far, whatever this says.
+    pub workers: Workers,
+}

@@ -1,0 +1,150 @@
+//! The program: words, files and exit statuses. What it does with them stands in the crates below.
+#![tactic(auto)]
+
+ghost use Rattle.std.specs.Prelude.{◌<◌, ◌^◌};
+
+use cobra_cli::{CountedRead, Fault, Line, Options, ReadFault, Status, decode, encode, exit_status, read_all, stats, verify};
+use cobra_words::{Command, Request, Words, words_of};
+use dimacs::{Counted, MAX_ANSWER_BYTES};
+use order_text::MAX_ORDER_BYTES;
+use session_log::MAX_LOG_BYTES;
+use std::alloc::{AllocError, Global};
+use std::io::Write;
+use std::process::ExitCode;
+use std::rt::Files;
+use std::{env, fs};
+
+/// The exit statuses that no command decides.
+const USAGE: u8 = 2;
+const OUT_OF_MEMORY: u8 = 4;
+const DEVICE_FAILED: u8 = 5;
+
+/// Why a call ends before its command, or after it.
+enum Stop {
+    Refused(Fault),
+    Memory,
+    Input,
+    Output,
+}
+
+impl From<AllocError> for Stop {
+    fn from(_refused: AllocError) -> Stop {
+        Stop::Memory
+    }
+}
+
+impl From<ReadFault> for Stop {
+    fn from(fault: ReadFault) -> Stop {
+        match fault {
+            ReadFault::Device => Stop::Input,
+            ReadFault::Memory => Stop::Memory,
+        }
+    }
+}
+
+/// Reads a file, up to one byte more than the limit.
+fn read_file<R: Files>(rt: &R, alloc: Global, path: &str, limit: usize) -> Result<Vec<u8>, Stop>
+    requires { limit < 2 ^ 63 }
+{
+    let Ok(reader) = fs::open(rt, path) else {
+        return Err(Stop::Input);
+    };
+    let mut source = CountedRead {
+        reader,
+        failures: 0,
+    };
+    Ok(read_all(alloc, &mut source, limit)?)
+}
+
+/// Reads the log from its file, or from standard input.
+fn read_input(rt: &HostRuntime, alloc: Global, path: Option<&str>) -> Result<Vec<u8>, Stop> {
+    match path {
+        Some(path) => read_file(rt, alloc, path, MAX_LOG_BYTES),
+        None => {
+            let mut source = CountedRead {
+                reader: rt.stdin(),
+                failures: 0,
+            };
+            Ok(read_all(alloc, &mut source, MAX_LOG_BYTES)?)
+        }
+    }
+}
+
+/// Runs a command on what was read: first the log, then the answer or the order.
+fn run(rt: &HostRuntime, alloc: Global, request: Request<'_>) -> Result<Status, Stop> {
+    let log = read_input(rt, alloc, request.log)?;
+    let options = Options {
+        plain: request.plain,
+        workers: request.workers,
+    };
+    let mut sink = Counted::new(rt.stdout());
+    let ended = match request.command {
+        Command::Encode => encode(alloc, &log, &options, &mut sink),
+        Command::Stats => stats(alloc, &log, &options, &mut sink),
+        Command::Decode { model } => {
+            let answer = read_file(rt, alloc, model, MAX_ANSWER_BYTES)?;
+            decode(alloc, &log, &answer, &options, &mut sink)
+        }
+        Command::Verify { order } => {
+            let order = read_file(rt, alloc, order, MAX_ORDER_BYTES)?;
+            verify(alloc, &log, &order, &mut sink)
+        }
+    };
+    match ended {
+        Ok(status) => match sink.writer.flush() {
+            Ok(()) => Ok(status),
+            Err(_) => Err(Stop::Output),
+        },
+        Err(fault) => Err(Stop::Refused(fault)),
+    }
+}
+
+/// Says why a call ended early, and gives its exit status.
+fn report(rt: &HostRuntime, stop: Stop) -> u8 {
+    match stop {
+        Stop::Refused(fault) => {
+            let line = Line(&fault);
+            let _ = eprintln!(rt; "{line}");
+            exit_status(&fault)
+        }
+        Stop::Memory => {
+            let _ = eprintln!(rt; "out of memory");
+            OUT_OF_MEMORY
+        }
+        Stop::Input => {
+            let _ = eprintln!(rt; "device failed: input");
+            DEVICE_FAILED
+        }
+        Stop::Output => {
+            let _ = eprintln!(rt; "device failed: output");
+            DEVICE_FAILED
+        }
+    }
+}
+
+/// Does what the words ask for, and gives the exit status.
+fn answer(rt: &HostRuntime, alloc: Global, words: &[String]) -> Result<u8, Stop> {
+    match words_of(alloc, words)? {
+        Some(Words::Request(request)) => Ok(run(rt, alloc, request)?.code()),
+        Some(Words::Shown(text)) => {
+            let _ = text.print(rt);
+            Ok(text.exit_code() as u8)
+        }
+        None => Ok(USAGE),
+    }
+}
+
+fn main(rt: HostRuntime) -> ExitCode {
+    let alloc = rt.alloc();
+    let Ok(words) = env::args(&rt) else {
+        return ExitCode::from(OUT_OF_MEMORY);
+    };
+    let Ok(words): Result<Vec<String>, AllocError> = words.collect(alloc) else {
+        return ExitCode::from(OUT_OF_MEMORY);
+    };
+    let status = match answer(&rt, alloc, &words) {
+        Ok(status) => status,
+        Err(stop) => report(&rt, stop),
+    };
+    ExitCode::from(status)
+}

@@ -1,0 +1,152 @@
+//! What the words of a call ask for, read by `clap`.
+
+use clap::{Arg, ArgAction, ArgMatches, Error};
+use desk::seat_no::Workers;
+use std::alloc::{AllocError, Global};
+
+/// What is to be done with a log.
+#[derive(Debug, Drop)]
+pub enum Command<'a> {
+    /// Write the formula of the log.
+    Encode,
+    /// Turn a solver's answer, in this file, into a serial order.
+    Decode { model: &'a str },
+    /// Check the order in this file.
+    Verify { order: &'a str },
+    /// Write how large the log and its formula are.
+    Stats,
+}
+
+/// A call of the program.
+#[derive(Drop)]
+pub struct Request<'a> {
+    pub command: Command<'a>,
+    /// The plain formula was asked for.
+    pub plain: bool,
+    pub workers: Workers,
+    /// The file of the log, or standard input.
+    pub log: Option<&'a str>,
+}
+
+/// A call, or a text of help or usage that is to be shown in its place.
+#[derive(Drop)]
+pub enum Words<'a> {
+    Request(Request<'a>),
+    Shown(Error),
+}
+
+/// How many workers take part where the words do not say.
+const DEFAULT_WORKERS: &str = "4";
+
+fn log_file<'a>(alloc: Global) -> Arg<'a> {
+    Arg::new(alloc, "FILE").help("The log; standard input where absent")
+}
+
+fn workers<'a>(alloc: Global) -> Arg<'a> {
+    Arg::new(alloc, "workers")
+        .long("workers")
+        .value_name("N")
+        .help("How many workers take part")
+        .action(ArgAction::Set)
+        .value_parser(clap::value_parser!(u8).range(1..=16))
+        .default_value(DEFAULT_WORKERS)
+}
+
+fn plain<'a>(alloc: Global) -> Arg<'a> {
+    Arg::new(alloc, "plain")
+        .long("plain")
+        .help("Use the plain formula, of at most 100 transactions")
+        .action(ArgAction::SetTrue)
+}
+
+fn required_file<'a>(alloc: Global, name: &'a str, help: &'a str) -> Arg<'a> {
+    Arg::new(alloc, name)
+        .long(name)
+        .value_name("FILE")
+        .help(help)
+        .required(true)
+        .action(ArgAction::Set)
+}
+
+fn encode<'a>(alloc: Global) -> Result<clap::Command<'a>, AllocError> {
+    clap::Command::new(alloc, "encode")
+        .about("Write the formula of a log as DIMACS text")
+        .arg(plain(alloc))?
+        .arg(workers(alloc))?
+        .arg(log_file(alloc))
+}
+
+fn decode<'a>(alloc: Global) -> Result<clap::Command<'a>, AllocError> {
+    clap::Command::new(alloc, "decode")
+        .about("Turn a solver's answer into a serial order")
+        .arg(required_file(alloc, "model", "The solver's answer"))?
+        .arg(plain(alloc))?
+        .arg(workers(alloc))?
+        .arg(log_file(alloc))
+}
+
+fn verify<'a>(alloc: Global) -> Result<clap::Command<'a>, AllocError> {
+    clap::Command::new(alloc, "verify")
+        .about("Check that an order is a serial order of a log")
+        .arg(required_file(alloc, "order", "The order"))?
+        .arg(log_file(alloc))
+}
+
+fn stats<'a>(alloc: Global) -> Result<clap::Command<'a>, AllocError> {
+    clap::Command::new(alloc, "stats")
+        .about("Write how large a log and its formula are")
+        .arg(plain(alloc))?
+        .arg(workers(alloc))?
+        .arg(log_file(alloc))
+}
+
+fn program<'a>(alloc: Global) -> Result<clap::Command<'a>, AllocError> {
+    clap::Command::new(alloc, "cobra_poly")
+        .about("Decides by a formula whether some serial order explains what the clients of a store saw")
+        .subcommand_required(true)
+        .subcommand(encode(alloc)?)?
+        .subcommand(decode(alloc)?)?
+        .subcommand(verify(alloc)?)?
+        .subcommand(stats(alloc)?)
+}
+
+fn command_of<'a>(name: &str, matches: &ArgMatches<'a>) -> Option<Command<'a>> {
+    match name {
+        "encode" => Some(Command::Encode),
+        "decode" => Some(Command::Decode {
+            model: matches.get_str("model")?,
+        }),
+        "verify" => Some(Command::Verify {
+            order: matches.get_str("order")?,
+        }),
+        "stats" => Some(Command::Stats),
+        _ => None,
+    }
+}
+
+fn request_of<'a>(name: &str, matches: &ArgMatches<'a>) -> Option<Request<'a>> {
+    let command = command_of(name, matches)?;
+    let number = matches.get_one::<u8>("workers").unwrap_or(4);
+    Some(Request {
+        command,
+        plain: matches.get_flag("plain"),
+        workers: Workers::new(number)?,
+        log: matches.get_str("FILE"),
+    })
+}
+
+/// What these words ask for, the first of which is the program's name. `None` is never given for words that
+/// the command line lets through.
+pub fn words_of<'a>(alloc: Global, words: &'a [String]) -> Result<Option<Words<'a>>, AllocError> {
+    let program = program(alloc)?;
+    match program.try_get_matches_from(words) {
+        Err(error) => Ok(Some(Words::Shown(error))),
+        Ok(matches) => match matches.subcommand() {
+            Some((name, of_command)) => match request_of(name, of_command) {
+                Some(request) => Ok(Some(Words::Request(request))),
+                None => Ok(None),
+            },
+            None => Ok(None),
+        },
+    }
+}

@@ -1,0 +1,8 @@
+pub mod Placing
+pub mod Listed
+pub mod Early
+pub mod Mismatch
+pub mod Whole
+pub mod Marks
+pub mod Turns
+pub mod Keys

@@ -1,0 +1,170 @@
+-- Lists that have each of nodes 1 to n once.
+use Rattle.std.proofs.Common.{◌≡◌, ℕ, zero, suc, ◌+◌, ◌<◌, ◌≤◌, Bool, true, false, eqb, cond, List, [], ◌∷◌, length, get_or, refl, sym, ◌∙◌, subst, inl, inr, arith, eqb-true, eq-eqb, ne_eqb}
+use Rattle.std.specs.Prelude.{nat_eq, nat_lt, nat_le, ◌&&◌}
+use Rattle.std.specs.List.{list_any, list_all, count_by, range_with_len, AllByRecursion, IsDistinct}
+use Rattle.std.proofs.lemmas.Bool.{cases_eq, cases_Bool, cond-true, cond-false, false≢true, and_from, and_parts, ltb-true, leb-true, lt-ltb, le-leb}
+use Rattle.std.proofs.lemmas.Cmp.{nat_eq_equiv}
+use Rattle.std.proofs.lemmas.List.FromFn.{length-range_with_len}
+use Rattle.std.proofs.lemmas.List.Sums.{sum_by-cons}
+use Rattle.std.proofs.lemmas.Map.Made.{length-le_from_is_member}
+use Rattle.std.proofs.lemmas.Map.Steps.{length-le_from_distinct_below}
+use Rattle.serializability.specs.Replay.{ListsOnce}
+use Rattle.serializability.proofs.Places.{Has, Apart, Apart-from_IsDistinct, Has-from_Contains, Contains-from_Has}
+use Rattle.serializability.proofs.Sources.{any_found, any_from, Has-from_range, range-from_Has}
+use Rattle.serializability.proofs.Serial.{node_of}
+use Rattle.decode_order.specs.Replaying.{lists_once}
+
+-- ---- membership
+pub Has-from_any : (v : ℕ) (xs : List ℕ) → list_any (nat_eq v) xs ≡ true → Has v xs
+Has-from_any v xs t = let r = any_found (eqb v) xs t in subst (λ u. Has u xs) (sym (eqb-true v r.0 r.1.0)) r.1.1
+
+pub any-from_Has : (v : ℕ) (xs : List ℕ) → Has v xs → list_any (nat_eq v) xs ≡ true
+any-from_Has v xs h = any_from (eqb v) xs v (eq-eqb v v refl) h
+
+pub Has_get : (xs : List ℕ) (k d : ℕ) → k < length xs → Has (get_or xs k d) xs
+Has_get [] k d lt = absurd (omega arith)
+Has_get (x ∷ xs) zero d lt = inl refl
+Has_get (x ∷ xs) (suc k) d lt = inr (Has_get xs k d (omega arith))
+
+differs : (x : ℕ) (xs : List ℕ) → (Has x xs → ⊥) → AllByRecursion (λ y. nat_eq x y ≡ false) xs
+differs x [] a = tt
+differs x (y ∷ ys) a = (ne_eqb x y (λ e. a (inl (sym e))), differs x ys (λ h. a (inr h)))
+
+pub IsDistinct-from_Apart : (xs : List ℕ) → Apart xs → IsDistinct nat_eq xs
+unfolding IsDistinct
+IsDistinct-from_Apart [] a = tt
+IsDistinct-from_Apart (x ∷ xs) a = (differs x xs a.0, IsDistinct-from_Apart xs a.1)
+
+Apart_range : (a n : ℕ) → Apart (range_with_len a n)
+Apart_range a zero = tt
+Apart_range a (suc n) = (λ h. (let r = range-from_Has a (a + 1) n h in omega (arith, r.0)), Apart_range (a + 1) n)
+
+-- ---- as many nodes as there are
+-- different numbers up to n are at most n + 1
+few_below : (n : ℕ) (xs : List ℕ) → Apart xs → ((v : ℕ) → Has v xs → v ≤ n) → length xs ≤ n + 1
+few_below n xs a within =
+    length-le_from_distinct_below xs (n + 1) (IsDistinct-from_Apart xs a) (λ q t. omega (arith, within q (Has-from_any q xs t)))
+
+pub once_apart : (n : ℕ) (order : List ℕ) → ListsOnce n order → Apart order
+once_apart n order once = Apart-from_IsDistinct order once.distinct
+
+-- with node 0 before them
+with_zero : (order : List ℕ) → Apart order → ((v : ℕ) → Has v order → 0 < v) → Apart (0 ∷ order)
+with_zero order a lo = (λ h. (let z = lo 0 h in omega (arith, z)), a)
+
+zero_or_within : (n : ℕ) (order : List ℕ) → ((v : ℕ) → Has v order → (0 < v) × (v ≤ n)) → (v : ℕ) → Has v (0 ∷ order) → v ≤ n
+zero_or_within n order within v (inl e) = omega (arith, e)
+zero_or_within n order within v (inr h) = (within v h).1
+
+pub once_length : (n : ℕ) (order : List ℕ) → ListsOnce n order → length order ≡ n
+once_length n order once =
+    let within = node_of n order once in
+    let most = few_below n (0 ∷ order) (with_zero order (once_apart n order once) (λ v h. (within v h).0)) (zero_or_within n order within) in
+    let least = length-le_from_is_member nat_eq_equiv (range_with_len 1 n) order (IsDistinct-from_Apart (range_with_len 1 n) (Apart_range 1 n)) (λ q t.
+    (let r = range-from_Has q 1 n (Has-from_any q (range_with_len 1 n) t) in
+    any-from_Has q order (Has-from_Contains order q (once.each q (omega (arith, r.0)) (omega (arith, r.1)))))) in
+    omega (arith, most, least, length-range_with_len 1 n)
+
+-- n different nodes of 1 to n are all of them
+pub once_from : (n : ℕ) (order : List ℕ) → length order ≡ n → Apart order → ((v : ℕ) → Has v order → (0 < v) × (v ≤ n)) → ListsOnce n order
+once_from n order long a within = record {
+  only = λ k d lt. within (get_or order k d) (Has_get order k d lt);
+  each = λ v lo hi. elim (cases_Bool (list_any (nat_eq v) order)) [
+    | inl t ↦ Contains-from_Has order v (Has-from_any v order t)
+    | inr f ↦
+        let absent : Has v order → ⊥ = λ h. false≢true (sym f ∙ any-from_Has v order h) in
+        let apart : Apart (v ∷ 0 ∷ order) = (one_more v order lo absent, with_zero order a (λ u h. (within u h).0)) in
+        absurd (omega (arith, few_below n (v ∷ 0 ∷ order) apart (this_or_within n v order hi within), long))
+  ];
+  distinct = IsDistinct-from_Apart order a;
+}
+  where
+    one_more : (v : ℕ) (order : List ℕ) → 0 < v → (Has v order → ⊥) → Has v (0 ∷ order) → ⊥
+    one_more v order lo absent (inl e) = omega (arith, e)
+    one_more v order lo absent (inr h) = absent h
+
+    this_or_within : (n v : ℕ) (order : List ℕ) → v ≤ n → ((u : ℕ) → Has u order → (0 < u) × (u ≤ n)) → (u : ℕ) → Has u (v ∷ 0 ∷ order) → u ≤ n
+    this_or_within n v order hi within u (inl e) = omega (arith, e)
+    this_or_within n v order hi within u (inr h) = zero_or_within n order within u h
+
+-- ---- the test by counting
+all_each : (p : ℕ → Bool) (xs : List ℕ) → list_all p xs ≡ true → (v : ℕ) → Has v xs → p v ≡ true
+all_each p [] t v h = absurd h
+all_each p (x ∷ xs) t v (inl e) = subst (λ u. p u ≡ true) e (and_parts (p x) (list_all p xs) t).0
+all_each p (x ∷ xs) t v (inr h) = all_each p xs (and_parts (p x) (list_all p xs) t).1 v h
+
+all_from : (p : ℕ → Bool) (xs : List ℕ) → ((v : ℕ) → Has v xs → p v ≡ true) → list_all p xs ≡ true
+all_from p [] h = refl
+all_from p (x ∷ xs) h = and_from (p x) (list_all p xs) (h x (inl refl)) (all_from p xs (λ v k. h v (inr k)))
+
+count_more : (v x : ℕ) (xs : List ℕ) → count_by (nat_eq v) (x ∷ xs) ≡ cond (eqb v x) 1 0 + count_by (nat_eq v) xs
+count_more v x xs = sum_by-cons (λ y. cond (eqb v y) 1 0) x xs
+
+count_here : (v x : ℕ) (xs : List ℕ) → v ≡ x → count_by (nat_eq v) (x ∷ xs) ≡ 1 + count_by (nat_eq v) xs
+count_here v x xs e = omega (arith, count_more v x xs, cond-true {A = ℕ} (eqb v x) 1 0 (eq-eqb v x e))
+
+count_further : (v x : ℕ) (xs : List ℕ) → (v ≡ x → ⊥) → count_by (nat_eq v) (x ∷ xs) ≡ count_by (nat_eq v) xs
+count_further v x xs ne = omega (arith, count_more v x xs, cond-false {A = ℕ} (eqb v x) 1 0 (ne_eqb v x ne))
+
+count_absent : (v : ℕ) (xs : List ℕ) → (Has v xs → ⊥) → count_by (nat_eq v) xs ≡ 0
+count_absent v [] absent = refl
+count_absent v (x ∷ xs) absent = count_further v x xs (λ e. absent (inl (sym e))) ∙ count_absent v xs (λ h. absent (inr h))
+
+count_once : (v : ℕ) (xs : List ℕ) → Apart xs → Has v xs → count_by (nat_eq v) xs ≡ 1
+count_once v [] a h = absurd h
+count_once v (x ∷ xs) a h = elim (cases_eq v x) [
+  | inl e ↦ omega (arith, count_here v x xs e, count_absent v xs (λ k. a.0 (subst (λ u. Has u xs) e k)))
+  | inr ne ↦ elim h [
+    | inl e ↦ absurd (ne (sym e))
+    | inr k ↦ count_further v x xs ne ∙ count_once v xs a.1 k
+  ]
+]
+
+Has-from_count : (v : ℕ) (xs : List ℕ) → 0 < count_by (nat_eq v) xs → Has v xs
+Has-from_count v xs h = elim (cases_Bool (list_any (nat_eq v) xs)) [
+  | inl t ↦ Has-from_any v xs t
+  | inr f ↦ absurd (omega (arith, h, count_absent v xs (λ k. false≢true (sym f ∙ any-from_Has v xs k))))
+]
+
+count_pos : (v : ℕ) (xs : List ℕ) → Has v xs → 0 < count_by (nat_eq v) xs
+count_pos v [] h = absurd h
+count_pos v (x ∷ xs) h = elim (cases_eq v x) [
+  | inl e ↦ omega (arith, count_here v x xs e)
+  | inr ne ↦ elim h [
+    | inl e ↦ absurd (ne (sym e))
+    | inr k ↦ omega (arith, count_further v x xs ne, count_pos v xs k)
+  ]
+]
+
+count_grows : (v x : ℕ) (xs : List ℕ) → count_by (nat_eq v) xs ≤ count_by (nat_eq v) (x ∷ xs)
+count_grows v x xs = omega (arith, count_more v x xs)
+
+apart_from_counts : (xs : List ℕ) → ((v : ℕ) → Has v xs → count_by (nat_eq v) xs ≤ 1) → Apart xs
+apart_from_counts [] h = tt
+apart_from_counts (x ∷ xs) h = (
+  λ k. omega (arith, h x (inl refl), count_here x x xs refl, count_pos x xs k),
+  apart_from_counts xs (λ v k. (let here = h v (inr k) in omega (arith, here, count_grows v x xs))),
+)
+
+pub lists_once_is : (n : ℕ) (order : List ℕ) → lists_once n order ≡ true → ListsOnce n order
+lists_once_is n order t =
+    let parts = and_parts (list_all (λ v. eqb (count_by (nat_eq v) order) 1) (range_with_len 1 n)) (list_all (λ v. nat_lt 0 v && nat_le v n) order) t in
+    let within : (v : ℕ) → Has v order → (0 < v) × (v ≤ n) = λ v h. (
+    let both = and_parts (nat_lt 0 v) (nat_le v n) (all_each (λ v. nat_lt 0 v && nat_le v n) order parts.1 v h) in
+    (ltb-true 0 v both.0, leb-true v n both.1)) in
+    let once : (v : ℕ) → 0 < v → v ≤ n → count_by (nat_eq v) order ≡ 1 = λ v lo hi.
+    eqb-true _ 1 (all_each (λ v. eqb (count_by (nat_eq v) order) 1) (range_with_len 1 n) parts.0 v (Has-from_range v 1 n (omega arith) (omega arith))) in
+    record {
+      only = λ k d lt. within (get_or order k d) (Has_get order k d lt);
+      each = λ v lo hi. Contains-from_Has order v (Has-from_count v order (omega (arith, once v lo hi)));
+      distinct = IsDistinct-from_Apart order (apart_from_counts order (λ v h. omega (arith, once v (within v h).0 (within v h).1)));
+    }
+
+pub lists_once_from : (n : ℕ) (order : List ℕ) → ListsOnce n order → lists_once n order ≡ true
+lists_once_from n order once =
+    and_from (list_all (λ v. eqb (count_by (nat_eq v) order) 1) (range_with_len 1 n)) (list_all (λ v. nat_lt 0 v && nat_le v n) order)
+    (all_from (λ v. eqb (count_by (nat_eq v) order) 1) (range_with_len 1 n) (λ v h.
+    (let r = range-from_Has v 1 n h in
+    eq-eqb _ 1 (count_once v order (once_apart n order once) (Has-from_Contains order v (once.each v (omega (arith, r.0)) (omega (arith, r.1))))))))
+    (all_from (λ v. nat_lt 0 v && nat_le v n) order (λ v h.
+    and_from (nat_lt 0 v) (nat_le v n) (lt-ltb 0 v (node_of n order once v h).0) (le-leb v n (node_of n order once v h).1)))

@@ -1,0 +1,18 @@
+//! Orders of a history's transactions: the one that an assignment of a formula stands for, and the
+//! replay of an order on the history.
+#![tactic(auto)]
+
+mod decode;
+mod fault;
+pub mod laws;
+mod listing;
+mod node;
+mod reads;
+mod serial;
+mod sessions;
+#[cfg(test)]
+mod tests;
+
+pub use decode::positions;
+pub use fault::{DecodeFault, ReplayFault};
+pub use serial::replay;

@@ -1,0 +1,134 @@
+//! Bytes on their way to a sink, gathered so that a few large pieces go out.
+
+ghost use Rattle.std.specs.Prelude.{◌≡◌, ◌+◌, ◌≤◌, ◌↔◌, [], ◌++◌, length, codes, IsTrue};
+ghost use Rattle.order_cnf.specs.Clauses.{literals};
+ghost use Rattle.dimacs.specs.Text.{literal_text, clause_text, header};
+
+use itoa::{Buffer, Integer};
+use order_cnf::Clause;
+use serializability::Literal;
+use std::marker::Model;
+
+/// How many bytes can wait.
+const CAPACITY: usize = 16384;
+
+/// No line of a clause is longer.
+const MAX_CLAUSE_BYTES: usize = 64;
+
+/// Bytes that wait to go out.
+#[derive(Drop)]
+pub(crate) struct Piece {
+    bytes: [u8; CAPACITY],
+    len: usize,
+}
+
+impl Model for Piece {
+    ghost use Rattle.std.specs.Prelude.{ℕ, ◌≤◌, List, take};
+
+    ghost Value = { List ℕ };
+
+    ghost view = { λ p. take p.len p.bytes };
+
+    ghost invariant = { λ p. p.len ≤ 16384 };
+}
+
+impl Piece {
+    /// A piece with no bytes.
+    pub(crate) fn new() -> Piece
+        ensures { result ≡ [] }
+    {
+        Piece {
+            bytes: [0; CAPACITY],
+            len: 0,
+        }
+    }
+
+    /// The bytes.
+    pub(crate) fn as_slice(&self) -> &[u8]
+        ensures value { result.now ≡ self.now }
+        ensures bound { length self.now ≤ 16384 }
+    {
+        &self.bytes[..self.len]
+    }
+
+    /// Whether a clause still fits.
+    pub(crate) fn has_room(&self) -> bool
+        ensures { IsTrue result ↔ (length self.now + 64 ≤ 16384) }
+    {
+        self.len <= CAPACITY - MAX_CLAUSE_BYTES
+    }
+
+    /// Drops the bytes.
+    pub(crate) fn clear(&mut self)
+        ensures { self.new ≡ [] }
+    {
+        self.len = 0;
+    }
+
+    /// Adds bytes.
+    fn push(&mut self, text: &[u8])
+        requires { length self.old + length text.now ≤ 16384 }
+        ensures { self.new ≡ self.old ++ text.now }
+    {
+        let end = self.len + text.len();
+        self.bytes[self.len..end].copy_from_slice(text);
+        self.len = end;
+    }
+
+    /// Adds the digits of a number.
+    fn push_number<N: Integer>(&mut self, number: N)
+        requires { length self.old + N.MAX_STR_LEN ≤ 16384 }
+        ensures text { self.new ≡ self.old ++ N.text number }
+        ensures short { length self.new ≤ length self.old + N.MAX_STR_LEN }
+    {
+        let mut digits = Buffer::new();
+        self.push(digits.format(number).as_bytes());
+    }
+
+    /// Adds a literal and a space.
+    fn push_literal(&mut self, literal: Literal)
+        requires { length self.old + 12 ≤ 16384 }
+        ensures text { self.new ≡ self.old ++ (literal_text literal ++ codes " ") }
+        ensures short { length self.new ≤ length self.old + 12 }
+    {
+        if !literal.positive {
+            self.push(b"-");
+        }
+        self.push_number(literal.variable);
+        self.push(b" ");
+    }
+
+    /// Adds the first line of a text.
+    pub(crate) fn push_header(&mut self, variables: usize, clauses: usize)
+        requires { length self.old + 100 ≤ 16384 }
+        ensures text { self.new ≡ self.old ++ header variables clauses }
+        ensures short { length self.new ≤ length self.old + 100 }
+    {
+        self.push(b"p cnf ");
+        self.push_number(variables);
+        self.push(b" ");
+        self.push_number(clauses);
+        self.push(b"\n");
+    }
+
+    /// Adds the line of a clause.
+    pub(crate) fn push_clause(&mut self, clause: Clause)
+        requires { length self.old + 64 ≤ 16384 }
+        ensures text { self.new ≡ self.old ++ clause_text (literals clause) }
+        ensures short { length self.new ≤ length self.old + 64 }
+    {
+        match clause {
+            Clause::Unit(a) => self.push_literal(a),
+            Clause::Pair(a, b) => {
+                self.push_literal(a);
+                self.push_literal(b);
+            }
+            Clause::Triple(a, b, c) => {
+                self.push_literal(a);
+                self.push_literal(b);
+                self.push_literal(c);
+            }
+        }
+        self.push(b"0\n");
+    }
+}

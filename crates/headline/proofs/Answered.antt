@@ -1,0 +1,58 @@
+-- The formula of a log, with or without an anomaly.
+use Rattle.std.proofs.Common.{◌≡◌, ℕ, Bool, true, false, ◌||◌, not, List, Option, None, Some, refl}
+use Rattle.std.proofs.lemmas.Bool.{false≢true}
+use Rattle.session_log.specs.Text.{ClientSession}
+use Rattle.serializability.specs.declared.anomaly.Anomaly.{Anomaly}
+use Rattle.serializability.specs.Reads.{IsClean}
+use Rattle.serializability.specs.Formula.{Satisfies, value_of}
+use Rattle.serializability.specs.Decoded.{before, IsDecoded}
+use Rattle.serializability.specs.Plain.{plain, contradiction}
+use Rattle.serializability.specs.Anomalies.{anomaly_of}
+use Rattle.serializability.proofs.PlainLaws.{plain_where_serial, plain_serial, plain_decodes}
+use Rattle.log_definitions.specs.Serial.{IsSerialOrder}
+use Rattle.log_definitions.specs.Numbers.{IsWellFormedList, log_of, formula_where, plain_answer}
+use Rattle.log_definitions.proofs.Numbered.{numbered}
+use Rattle.log_definitions.proofs.Renaming.{serial_numbered, serial_by_keys}
+use Rattle.anomaly_laws.proofs.Clean.{clean_from_none}
+use Rattle.anomaly_laws.proofs.Serial.{no_order}
+
+pub clean_log : (ss : List ClientSession) → IsWellFormedList ss → anomaly_of (log_of ss) ≡ None → IsClean (log_of ss)
+clean_log ss h e = clean_from_none (log_of ss) (numbered ss h) e
+
+pub none_serial : (ss : List ClientSession) → IsWellFormedList ss → (a : Anomaly) → anomaly_of (log_of ss) ≡ Some a → (order : List ℕ) → IsSerialOrder ss order → ⊥
+none_serial ss h a e order s = no_order (log_of ss) (numbered ss h) a e order (serial_numbered ss order s)
+
+never_both : (b : Bool) → (b || false) ≡ true → (not b || false) ≡ true → ⊥
+never_both true p q = false≢true q
+never_both false p q = false≢true p
+
+pub contradicted : (values : List Bool) → Satisfies values contradiction → ⊥
+contradicted values s = never_both (value_of values 1) s.each_clause.0 s.each_clause.1.0
+
+-- ---- by the anomaly that is reported
+some_for : (ss : List ClientSession) → IsWellFormedList ss → (order : List ℕ) → IsSerialOrder ss order → (o : Option Anomaly) → anomaly_of (log_of ss) ≡ o → (values : List Bool) × Satisfies values (formula_where o (log_of ss))
+some_for ss h order s None e = plain_where_serial (log_of ss) (clean_log ss h e) order (serial_numbered ss order s)
+some_for ss h order s (Some a) e = absurd (none_serial ss h a e order s)
+
+each_for : (ss : List ClientSession) → IsWellFormedList ss → (values : List Bool) (o : Option Anomaly) → anomaly_of (log_of ss) ≡ o → Satisfies values (formula_where o (log_of ss)) → (order : List ℕ) → IsDecoded (formula_where o (log_of ss)).nodes (before (formula_where o (log_of ss)) values) order → IsSerialOrder ss order
+unfolding plain
+each_for ss h values None e s order d = serial_by_keys ss order (plain_serial (log_of ss) (clean_log ss h e) values s order d)
+each_for ss h values (Some a) e s order d = absurd (contradicted values s)
+
+decodes_for : (ss : List ClientSession) → IsWellFormedList ss → (values : List Bool) (o : Option Anomaly) → anomaly_of (log_of ss) ≡ o → Satisfies values (formula_where o (log_of ss)) → (order : List ℕ) × IsDecoded (formula_where o (log_of ss)).nodes (before (formula_where o (log_of ss)) values) order
+unfolding plain
+decodes_for ss h values None e s = plain_decodes (log_of ss) (clean_log ss h e) values s
+decodes_for ss h values (Some a) e s = absurd (contradicted values s)
+
+-- ---- of the sessions
+pub answer_where_serial : (ss : List ClientSession) → IsWellFormedList ss → (order : List ℕ) → IsSerialOrder ss order → (values : List Bool) × Satisfies values (plain_answer ss)
+unfolding plain_answer
+answer_where_serial ss h order s = some_for ss h order s (anomaly_of (log_of ss)) refl
+
+pub answer_serial : (ss : List ClientSession) → IsWellFormedList ss → (values : List Bool) → Satisfies values (plain_answer ss) → (order : List ℕ) → IsDecoded (plain_answer ss).nodes (before (plain_answer ss) values) order → IsSerialOrder ss order
+unfolding plain_answer
+answer_serial ss h values s order d = each_for ss h values (anomaly_of (log_of ss)) refl s order d
+
+pub answer_decodes : (ss : List ClientSession) → IsWellFormedList ss → (values : List Bool) → Satisfies values (plain_answer ss) → (order : List ℕ) × IsDecoded (plain_answer ss).nodes (before (plain_answer ss) values) order
+unfolding plain_answer
+answer_decodes ss h values s = decodes_for ss h values (anomaly_of (log_of ss)) refl s

@@ -1,0 +1,10 @@
+pub mod Tables
+pub mod Numbering
+pub mod Written
+pub mod Writes
+pub mod Taken
+pub mod Rows
+pub mod Sources
+pub mod Naming
+pub mod Held
+pub mod Counted

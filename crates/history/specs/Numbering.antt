@@ -1,0 +1,17 @@
+-- Keys and their numbers.
+use Rattle.std.specs.Prelude.{◌≡◌, ℕ, List, Option, Some, None, if◌then◌else◌}
+use Rattle.std.specs.List.{list_any}
+use Rattle.std.specs.Str.{bytes_eq}
+use Rattle.std.specs.Ordering.{nat_cmp}
+use Rattle.std.specs.Cmp.Lexicographic.{slice_cmp}
+use Rattle.std.specs.BTreeMap.{get}
+use Rattle.log_definitions.specs.Numbers.{number_in}
+use Rattle.history.specs.declared.numbers.Numbers.{Numbers}
+
+-- the number of a key, where it is one of these
+abbrev pub number_among : List (List ℕ) → List ℕ → Option ℕ
+number_among keys key = if list_any (bytes_eq key) keys then Some (number_in keys key) else None
+
+-- the map finds the number of each key of the list, and no other key
+pub record FindsEach (n : Numbers) : Type 0 where
+  pub found : (key : List ℕ) → get (slice_cmp nat_cmp) n.numbers key ≡ number_among n.texts.items key

@@ -1,0 +1,37 @@
+//! Session numbers that stand twice.
+
+ghost use Rattle.std.specs.Prelude.{◌≡◌, ◌<◌, ◌^◌, length, map, IfOk};
+ghost use Rattle.session_log.specs.Text.{view, session_lines};
+ghost use Rattle.log_definitions.specs.WellFormed.{log_lines, session_twice};
+
+use session_log::Session;
+use std::alloc::{AllocError, Global};
+use std::collections::BTreeSet;
+
+/// How many lines a session has.
+fn line_count(session: &Session) -> usize
+    requires { length (session_lines (view session.now)) < 2 ^ 64 }
+    ensures { result ≡ length (session_lines (view session.now)) }
+{
+    let mut count = 1;
+    for txn in &session.txns {
+        count += txn.ops.len() + 2;
+    }
+    count
+}
+
+/// The line of the first session whose number stood before.
+pub fn session_twice(alloc: Global, sessions: &[Session]) -> Result<Option<usize>, AllocError>
+    requires { length (log_lines (map view sessions.now)) < 2 ^ 63 }
+    ensures { IfOk result (λ found. found ≡ session_twice (log_lines (map view sessions.now))) }
+{
+    let mut seen = BTreeSet::new(alloc);
+    let mut line = 1;
+    for session in sessions {
+        if !seen.insert(session.number)? {
+            return Ok(Some(line));
+        }
+        line += line_count(session);
+    }
+    Ok(None)
+}

@@ -1,0 +1,146 @@
+-- The plain formula of a clean log is a formula: its literals are in range, its clauses short, and what satisfies it an order.
+use Rattle.std.proofs.Common.{◌≡◌, None, inl, inr, refl, ap, ◌∙◌, ℕ, ◌+◌, ◌<◌, ◌≤◌, List, [], ◌∷◌, ◌++◌, length, sym, subst, arith}
+use Rattle.std.specs.List.{AllByRecursion}
+use Rattle.std.specs.Prelude.{map}
+use Rattle.std.specs.Option.{option_or}
+use Rattle.std.proofs.lemmas.Bool.{cases_order, lt-ltb, le-ltb}
+use Rattle.std.proofs.lemmas.List.{length-map}
+use Rattle.serializability.specs.declared.literal.Literal.{Literal}
+use Rattle.serializability.specs.Log.{Log}
+use Rattle.serializability.specs.Reads.{IsClean}
+use Rattle.serializability.specs.Polygraph.{Edge, Choice, arcs, bipaths}
+use Rattle.serializability.specs.Pairs.{edge_literal, triples_of, triple_clauses, order_clauses}
+use Rattle.serializability.specs.Plain.{nothing_known, plain_nodes, plain_pairs, literals_of, plain, plain_of}
+use Rattle.serializability.specs.Formula.{IsInRange, HasShortClauses}
+use Rattle.serializability.specs.Decoded.{IsFormula}
+use Rattle.serializability.proofs.Places.{each_from_append, each_from_map, each_from_flat_map}
+use Rattle.serializability.proofs.Serial.{each_from_arcs, each_from_bipaths, arc_apart, rival_is, source_within}
+use Rattle.serializability.proofs.Made.{each_triple_from}
+use Rattle.serializability.proofs.PlainLaws.{plain_is_order}
+use Rattle.order_cnf.specs.Clauses.{IsWithin}
+use Rattle.order_cnf.specs.declared.arc.Arc.{Arc}
+use Rattle.order_cnf.specs.declared.bipath.Bipath.{Bipath}
+use Rattle.order_cnf.specs.Edges.{edge_of, choice_of, polygraph, Joins, JoinsBoth}
+use Rattle.order_cnf.specs.Limits.{choices_fault, size_fault, plain_fault}
+use Rattle.order_cnf.proofs.PairPlaces.{pair_within}
+
+-- ---- edges of different nodes
+pub arcs_joined : (log : Log) → IsClean log → AllByRecursion (Joins log.nodes) (arcs log)
+arcs_joined log clean = each_from_arcs log (Joins log.nodes) (λ u v hu hv t. record { from = hu; to = hv; apart = arc_apart log clean u v hv t })
+
+pub bipaths_joined : (log : Log) → IsClean log → AllByRecursion (JoinsBoth log.nodes) (bipaths log)
+bipaths_joined log clean = each_from_bipaths log (JoinsBoth log.nodes) (λ q x w v lo hi key from vlo vhi t.
+    let rival = rival_is log x w q v t in (
+      record { from = vhi; to = source_within log clean q x w lo hi from; apart = rival.1 },
+      (record { from = hi; to = vhi; apart = λ e. rival.2 (sym e) }, tt),
+    ))
+
+-- ---- their literals are in range
+pub literal_within : (n : ℕ) (e : Edge) → Joins n e → IsWithin (length (plain_pairs n)) (edge_literal (plain_pairs n) e.0 e.1)
+literal_within n e j = elim (cases_order e.0 e.1) [
+  | inl same ↦ absurd (j.apart same)
+  | inr o ↦ elim o [
+    | inl lt ↦ let t = lt-ltb e.0 e.1 lt in rw t (omega arith, pair_within n e.0 e.1 lt j.to)
+    | inr lt ↦ let f = le-ltb e.0 e.1 (omega arith) in rw f (omega arith, pair_within n e.1 e.0 lt j.from)
+  ]
+]
+
+literals_within : (n : ℕ) (edges : List Edge) → AllByRecursion (Joins n) edges → AllByRecursion (IsWithin (length (plain_pairs n))) (literals_of n edges)
+literals_within n [] h = tt
+literals_within n (e ∷ edges) h = (literal_within n e h.0, literals_within n edges h.1)
+
+-- what holds of each clause of one to three edges of different nodes holds of each clause
+abbrev EachClause : ℕ → (List Literal → Type 0) → Type 0
+EachClause n P = (e : Edge) (edges : List Edge) → length edges ≤ 2 → AllByRecursion (Joins n) (e ∷ edges) → P (literals_of n (e ∷ edges))
+
+in_triples : (n : ℕ) (P : List Literal → Type 0) → EachClause n P → AllByRecursion P (order_clauses nothing_known (plain_nodes n))
+in_triples n P h =
+    each_from_flat_map P (triple_clauses nothing_known (plain_pairs n)) (triples_of (plain_nodes n))
+    (each_triple_from (λ t. AllByRecursion P (triple_clauses nothing_known (plain_pairs n) t)) 0 (n + 1) (λ i j k lo ij jk hi.
+    let ij' : Joins n (i, j) = record { from = omega arith; to = omega arith; apart = λ e. omega (arith, e) } in
+    let ji : Joins n (j, i) = record { from = omega arith; to = omega arith; apart = λ e. omega (arith, e) } in
+    let jk' : Joins n (j, k) = record { from = omega arith; to = omega arith; apart = λ e. omega (arith, e) } in
+    let kj : Joins n (k, j) = record { from = omega arith; to = omega arith; apart = λ e. omega (arith, e) } in
+    let ik : Joins n (i, k) = record { from = omega arith; to = omega arith; apart = λ e. omega (arith, e) } in
+    let ki : Joins n (k, i) = record { from = omega arith; to = omega arith; apart = λ e. omega (arith, e) } in (
+      h (j, i) ((k, j) ∷ (i, k) ∷ []) (omega arith) (ji, (kj, (ik, tt))),
+      (h (i, j) ((j, k) ∷ (k, i) ∷ []) (omega arith) (ij', (jk', (ki, tt))), tt),
+    )))
+
+in_bipaths : (log : Log) → IsClean log → (P : List Literal → Type 0) → EachClause log.nodes P → AllByRecursion (λ (c : Choice). P (literals_of log.nodes (c.one ++ c.two))) (bipaths log)
+in_bipaths log clean P h = each_from_bipaths log (λ (c : Choice). P (literals_of log.nodes (c.one ++ c.two))) (λ q x w v lo hi key from vlo vhi t.
+    let rival = rival_is log x w q v t in
+    let one : Joins log.nodes (v, w) = record { from = vhi; to = source_within log clean q x w lo hi from; apart = rival.1 } in
+    let two : Joins log.nodes (q, v) = record { from = hi; to = vhi; apart = λ e. rival.2 (sym e) } in
+    h (v, w) ((q, v) ∷ []) (omega arith) (one, (two, tt)))
+
+in_arcs : (log : Log) → IsClean log → (P : List Literal → Type 0) → EachClause log.nodes P → AllByRecursion (λ (e : Edge). P (literals_of log.nodes (e ∷ []))) (arcs log)
+in_arcs log clean P h = each_from_arcs log (λ (e : Edge). P (literals_of log.nodes (e ∷ []))) (λ u v hu hv t.
+    h (u, v) [] (omega arith) (record { from = hu; to = hv; apart = arc_apart log clean u v hv t }, tt))
+
+in_plain : (log : Log) → IsClean log → (P : List Literal → Type 0) → EachClause log.nodes P → AllByRecursion P (plain log).clauses
+unfolding plain
+in_plain log clean P h =
+    let units = map (λ (e : Edge). literals_of log.nodes (e ∷ [])) (arcs log) in
+    let pairs = map (λ (c : Choice). literals_of log.nodes (c.one ++ c.two)) (bipaths log) in
+    each_from_append P (units ++ pairs) (order_clauses nothing_known (plain_nodes log.nodes))
+    (each_from_append P units pairs
+    (each_from_map P (λ (e : Edge). literals_of log.nodes (e ∷ [])) (arcs log) (in_arcs log clean P h))
+    (each_from_map P (λ (c : Choice). literals_of log.nodes (c.one ++ c.two)) (bipaths log) (in_bipaths log clean P h)))
+    (in_triples log.nodes P h)
+
+literal_count : (n : ℕ) (edges : List Edge) → length (literals_of n edges) ≡ length edges
+literal_count n edges = length-map edges (λ e. edge_literal (plain_pairs n) e.0 e.1)
+
+in_range : (log : Log) → IsClean log → IsInRange (plain log)
+unfolding plain
+in_range log clean = in_plain log clean (AllByRecursion (IsWithin (length (plain_pairs log.nodes)))) (λ e edges few joined. literals_within log.nodes (e ∷ edges) joined)
+
+short : (log : Log) → IsClean log → HasShortClauses (plain log)
+short log clean = in_plain log clean (λ c. (0 < length c) × (length c ≤ 3)) (λ e edges few joined.
+    let same = literal_count log.nodes edges in (omega arith, omega (arith, same, few)))
+
+nodes_of : (log : Log) → (plain log).nodes ≡ log.nodes
+unfolding plain
+nodes_of log = refl
+
+pub plain_is_formula : (log : Log) → IsClean log → log.nodes ≤ 400 → length (plain log).clauses ≤ 20000000 → IsFormula (plain log)
+unfolding plain
+plain_is_formula log clean few size = record {
+  few_nodes = few;
+  few_clauses = size;
+  in_range = in_range log clean;
+  short = short log clean;
+  orders = plain_is_order log;
+}
+
+-- ---- the code's arcs and bipaths make it
+pub record Made (log : Log) (n : ℕ) (a : List Arc) (b : List Bipath) : Type 0 where
+  pub nodes : n ≡ log.nodes
+  pub arcs : map edge_of a ≡ arcs log
+  pub bipaths : map choice_of b ≡ bipaths log
+
+pub made : {log : Log} {n : ℕ} {a arcs' : List Arc} {b bipaths' : List Bipath} → n ≡ log.nodes → a ≡ arcs' → map edge_of arcs' ≡ arcs log → b ≡ bipaths' → map choice_of bipaths' ≡ bipaths log → Made log n a b
+made nodes a_is a_made b_is b_made = record { nodes = nodes; arcs = ap (map edge_of) a_is ∙ a_made; bipaths = ap (map choice_of) b_is ∙ b_made }
+
+pub made_plain : (log : Log) (n : ℕ) (a : List Arc) (b : List Bipath) → Made log n a b → plain_of (polygraph n a b) ≡ plain log
+unfolding plain
+made_plain log n a b m =
+    ap (λ k. plain_of record { nodes = k; known = map edge_of a; choices = map choice_of b }) m.nodes
+    ∙ ap (λ l. plain_of record { nodes = log.nodes; known = l; choices = map choice_of b }) m.arcs
+    ∙ ap (λ l. plain_of record { nodes = log.nodes; known = arcs log; choices = l }) m.bipaths
+
+pub made_joined : (log : Log) → IsClean log → (n : ℕ) (a : List Arc) (b : List Bipath) → Made log n a b → AllByRecursion (Joins n) (map edge_of a) × AllByRecursion (JoinsBoth n) (map choice_of b)
+made_joined log clean n a b m = (
+  subst (λ k. AllByRecursion (Joins k) (map edge_of a)) (sym m.nodes) (subst (AllByRecursion (Joins log.nodes)) (sym m.arcs) (arcs_joined log clean)),
+  subst (λ k. AllByRecursion (JoinsBoth k) (map choice_of b)) (sym m.nodes) (subst (AllByRecursion (JoinsBoth log.nodes)) (sym m.bipaths) (bipaths_joined log clean)),
+)
+
+pub made_sound : (log : Log) → IsClean log → (n : ℕ) (a : List Arc) (b : List Bipath) → Made log n a b → n ≤ 400 → length (plain_of (polygraph n a b)).clauses ≤ 20000000 → IsFormula (plain_of (polygraph n a b))
+made_sound log clean n a b m few size =
+    let same = made_plain log n a b m in
+    subst IsFormula (sym same) (plain_is_formula log clean (omega (arith, m.nodes, few)) (subst (λ f. length f.clauses ≤ 20000000) same size))
+
+pub made_fault : (log : Log) (n : ℕ) (a : List Arc) (b : List Bipath) → Made log n a b → choices_fault log ≡ None → size_fault (plain_of (polygraph n a b)) ≡ plain_fault log
+made_fault log n a b m none =
+    ap size_fault (made_plain log n a b m) ∙ sym (ap (λ o. option_or o (size_fault (plain log))) none)

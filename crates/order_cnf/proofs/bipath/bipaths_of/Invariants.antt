@@ -1,0 +1,17 @@
+use Rattle.std.proofs.Common.{◌≡◌, ◌+◌, ◌++◌, drop}
+use Rattle.std.specs.Prelude.{map}
+use Rattle.log_definitions.specs.Numbers.{log_of}
+use Rattle.serializability.specs.Polygraph as spec
+use Rattle.history.specs.Tables.{sources_of}
+use Rattle.order_cnf.specs.Edges.{choice_of}
+use Rattle.order_cnf.proofs.Rests.{up_to}
+use Rattle.order_cnf.proofs.Sources.{of_readers, of_reads}
+use Rattle.order_cnf.proofs.bipath.bipaths_of.Given as goal
+
+abbrev pub invariant-loop-number : goal.invariant-loop-number
+invariant-loop-number l = map choice_of l.bipaths.items ++ of_readers (log_of l.history) (up_to l.number l.end) ≡ spec.bipaths (log_of l.history)
+
+abbrev pub invariant-loop-read : goal.invariant-loop-read
+invariant-loop-read l =
+    let log = log_of l.history in
+    map choice_of l.bipaths.items ++ (of_reads log l.number (drop l.read-index (sources_of log l.number)) ++ of_readers log (up_to (l.number + 1) l.end)) ≡ spec.bipaths log

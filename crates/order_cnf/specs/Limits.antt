@@ -1,0 +1,27 @@
+-- When there is no plain formula.
+use Rattle.std.specs.Prelude.{◌≡◌, ◌⊎◌, nat_lt, if◌then◌else◌, length, Option, None, Some}
+use Rattle.std.specs.Option.{option_or}
+use Rattle.serializability.specs.Log.{Log}
+use Rattle.serializability.specs.Polygraph.{bipaths}
+use Rattle.serializability.specs.Formula.{Cnf}
+use Rattle.serializability.specs.Plain.{plain}
+use Rattle.order_cnf.specs.declared.fault.CnfFault.{CnfFault}
+use Rattle.order_cnf.specs.declared.fault.CnfFault.TheVariants.{TooManyForPlain, TooManyChoices, FormulaTooLarge, Memory}
+
+-- more than 100 nodes, and then more than 100,000 bipaths
+abbrev pub choices_fault : Log → Option CnfFault
+choices_fault log =
+    if nat_lt 100 log.nodes then Some TooManyForPlain
+    else if nat_lt 100000 (length (bipaths log)) then Some TooManyChoices
+    else None
+
+-- more than 20,000,000 clauses
+abbrev pub size_fault : Cnf → Option CnfFault
+size_fault f = if nat_lt 20000000 (length f.clauses) then Some FormulaTooLarge else None
+
+abbrev pub plain_fault : Log → Option CnfFault
+plain_fault log = option_or (choices_fault log) (size_fault (plain log))
+
+-- a call fails by this fault, or for want of memory
+abbrev pub IsFault : CnfFault → Option CnfFault → Type 0
+IsFault e fault = (e ≡ Memory) ⊎ (fault ≡ Some e)

@@ -1,0 +1,4 @@
+pub mod Reading
+pub mod Names
+pub mod Printing
+pub mod Accepted

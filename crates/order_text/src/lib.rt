@@ -1,0 +1,12 @@
+//! The text of orders: one line for each place, written and read.
+#![tactic(auto)]
+
+mod fault;
+pub mod laws;
+mod print;
+mod read;
+mod words;
+
+pub use fault::OrderFault;
+pub use print::{print_order, put_name};
+pub use read::{MAX_ORDER_BYTES, read_order};
