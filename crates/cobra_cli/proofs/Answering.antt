@@ -7,6 +7,7 @@ use Rattle.std.proofs.lemmas.List.FromFn.{length-map-range_with_len}
 use Rattle.session_log.specs.Text.{ClientSession}
 use Rattle.serializability.specs.Formula.{Cnf, Satisfies}
 use Rattle.serializability.specs.Decoded.{before, IsDecoded}
+use Rattle.log_definitions.specs.WellFormed.{IsWellFormed}
 use Rattle.log_definitions.specs.Serial.{IsSerialOrder}
 use Rattle.log_definitions.specs.Numbers.{IsWellFormedList, log_of, plain_answer}
 use Rattle.headline.proofs.Answered.{answer_serial}
@@ -15,7 +16,7 @@ use Rattle.dimacs.specs.Words.{Item}
 use Rattle.order_text.specs.Text.{order_text}
 use Rattle.cobra_cli.specs.declared.fault.Fault.{Fault}
 use Rattle.cobra_cli.specs.declared.fault.Fault.TheVariants as fault
-use Rattle.cobra_cli.specs.Commands.{IsCutShort, IsOrderWritten, IsOrderFault, IsAnswerCutShort, at_order, named_by, IsDecodeFault}
+use Rattle.cobra_cli.specs.Commands.{IsCutShort, IsOrderWritten, IsOrderFault, IsAnswerCutShort, at_order, named_by, IsDecodeFault, HoldsOf, OrLogFault}
 
 pub serial_of : (ss : List ClientSession) → IsWellFormedList ss → (f : Cnf) (values : List Bool) (order : List ℕ) → f ≡ plain_answer ss → Satisfies values f → IsDecoded f.nodes (before f values) order → IsSerialOrder ss order
 serial_of ss h f values order e =
@@ -57,3 +58,19 @@ refused_by old new given ss fault.Memory h = h
 pub refused_answer : {X : Type 0} (old new : Option (List ℕ)) (values : List Bool) (given : List ℕ) (ss : List ClientSession) (r : Result X Fault) → values ≡ named_by given ss → IfErr r (λ f. IsOrderFault old new values f ss) → IfErr r (λ f. IsDecodeFault old new given f ss)
 refused_answer old new values given ss (Ok x) e h = tt
 refused_answer old new values given ss (Err f) e h = refused_by old new given ss f (subst (λ (v : List Bool). IsOrderFault old new v f ss) e h)
+
+one_of : (log : List ℕ) (old new : Option (List ℕ)) (given : List ℕ) (ss : List ClientSession) → IsWellFormed log ss → (f : Fault) → IsDecodeFault old new given f ss → OrLogFault log old new (IsDecodeFault old new given) f
+one_of log old new given ss w (fault.Log f) h = absurd h.0
+one_of log old new given ss w (fault.Formula f) h = record { sessions = ss; well_formed = w; holds = h }
+one_of log old new given ss w (fault.Answer f) h = record { sessions = ss; well_formed = w; holds = h }
+one_of log old new given ss w (fault.NotAModel k) h = record { sessions = ss; well_formed = w; holds = h }
+one_of log old new given ss w (fault.Order f) h = record { sessions = ss; well_formed = w; holds = h }
+one_of log old new given ss w fault.NotAPermutation h = record { sessions = ss; well_formed = w; holds = h }
+one_of log old new given ss w (fault.SessionOrder s p) h = record { sessions = ss; well_formed = w; holds = h }
+one_of log old new given ss w (fault.ReadMismatch s p o) h = record { sessions = ss; well_formed = w; holds = h }
+one_of log old new given ss w (fault.Device n) h = record { sessions = ss; well_formed = w; holds = h }
+one_of log old new given ss w fault.Memory h = record { sessions = ss; well_formed = w; holds = h }
+
+pub refused_log : {X : Type 0} (log : List ℕ) (old new : Option (List ℕ)) (given : List ℕ) (ss : List ClientSession) → IsWellFormed log ss → (r : Result X Fault) → IfErr r (λ f. IsDecodeFault old new given f ss) → IfErr r (OrLogFault log old new (IsDecodeFault old new given))
+refused_log log old new given ss w (Ok x) h = tt
+refused_log log old new given ss w (Err f) h = one_of log old new given ss w f h

@@ -26,11 +26,11 @@ early_one P session (u ∷ behind) v h e = elim (chosen _ u v (first_early sessi
   | inr rest ↦ early_one P session behind v h.1 rest
 ]
 
-mismatch_one : (P : PlacedOp → Type 0) (store : Store) (ps : List PlacedOp) (p : PlacedOp) → AllByRecursion P ps → first_mismatch store ps ≡ Some p → P p
-mismatch_one P store [] p h e = cc
-mismatch_one P store (q ∷ ps) p h e = elim (skipped (meets store q.op) q p (first_mismatch (after store (q.op ∷ [])) ps) e) [
-  | inl same ↦ subst P same h.0
-  | inr rest ↦ mismatch_one P (after store (q.op ∷ [])) ps p h.1 rest
+mismatch_one : (Q : ℕ → Type 0) (store : Store) (ps : List PlacedOp) (m : ℕ × ℕ) → AllByRecursion (λ (p : PlacedOp). Q p.node) ps → first_mismatch store ps ≡ Some m → Q m.0
+mismatch_one Q store [] m h e = cc
+mismatch_one Q store (q ∷ ps) m h e = elim (skipped (meets store q.op) (q.node, q.number) m (first_mismatch (after store (q.op ∷ [])) ps) e) [
+  | inl same ↦ subst (λ (pair : ℕ × ℕ). Q pair.0) same h.0
+  | inr rest ↦ mismatch_one Q (after store (q.op ∷ [])) ps m h.1 rest
 ]
 
 constant : {X : Type 0} (Q : Type 0) (xs : List X) → Q → AllByRecursion (λ x. Q) xs
@@ -51,16 +51,16 @@ placed_within n ops order h = each_from_flat_map (λ (p : PlacedOp). Within n p.
     each_node [] h = tt
     each_node (v ∷ rest) h = (each_from_map (λ (p : PlacedOp). Within n p.node) (λ e. record { node = v; number = e.0; op = e.1 }) (enumerate_from 1 (ops v)) (constant (Within n v) (enumerate_from 1 (ops v)) h.0), each_node rest h.1)
 
-abbrev whole : Bool → Option ℕ → Option PlacedOp → Option ReplayFault
-whole listed early missed = cond listed (option_or (option_map (λ v. SessionOrder v) early) (option_map (λ (p : PlacedOp). ReadMismatch p.node p.number) missed)) (Some NotAPermutation)
+abbrev whole : Bool → Option ℕ → Option (ℕ × ℕ) → Option ReplayFault
+whole listed early missed = cond listed (option_or (option_map (λ v. SessionOrder v) early) (option_map (λ (p : ℕ × ℕ). ReadMismatch p.0 p.1) missed)) (Some NotAPermutation)
 
-early_is : (listed : Bool) (early : Option ℕ) (missed : Option PlacedOp) (v : ℕ) → whole listed early missed ≡ Some (SessionOrder v) → early ≡ Some v
+early_is : (listed : Bool) (early : Option ℕ) (missed : Option (ℕ × ℕ)) (v : ℕ) → whole listed early missed ≡ Some (SessionOrder v) → early ≡ Some v
 early_is true (Some u) missed v e = cc
 early_is true None (Some p) v e = cc
 early_is true None None v e = cc
 early_is false early missed v e = cc
 
-missed_is : (listed : Bool) (early : Option ℕ) (missed : Option PlacedOp) (v k : ℕ) → whole listed early missed ≡ Some (ReadMismatch v k) → (p : PlacedOp) × ((missed ≡ Some p) × (p.node ≡ v))
+missed_is : (listed : Bool) (early : Option ℕ) (missed : Option (ℕ × ℕ)) (v k : ℕ) → whole listed early missed ≡ Some (ReadMismatch v k) → (p : ℕ × ℕ) × ((missed ≡ Some p) × (p.0 ≡ v))
 missed_is true (Some u) missed v k e = cc
 missed_is true None (Some p) v k e = (p, (refl, cc))
 missed_is true None None v k e = cc
@@ -76,6 +76,6 @@ pub mismatch_within : (log : Log) (order : List ℕ) (v k : ℕ) → All (Within
 unfolding replay_fault
 mismatch_within log order v k h e =
     let m = missed_is (lists_once log.nodes order) (first_early log.session order) (first_mismatch empty (in_replay log.ops order)) v k e in
-    let within = mismatch_one (λ (p : PlacedOp). Within log.nodes p.node) empty (in_replay log.ops order) m.0
-        (placed_within log.nodes log.ops order (by_recursion (Within log.nodes) order h)) m.1.0 in
+    let within = mismatch_one (Within log.nodes) empty (in_replay log.ops order) m.0
+    (placed_within log.nodes log.ops order (by_recursion (Within log.nodes) order h)) m.1.0 in
     subst (λ n. n ≤ log.nodes) m.1.1 within.1

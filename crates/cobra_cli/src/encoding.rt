@@ -17,10 +17,7 @@ use order_cnf::{CnfFault, Formula, MAX_PLAIN_NODES, contradiction, plain_formula
 use std::alloc::Global;
 
 /// The formula of a history: the plain one where no anomaly stands, and else the contradiction.
-#[tactic(auto, unfolding(
-    crate::specs::Commands::formula_fault,
-    log_definitions::specs::Numbers::plain_answer
-))]
+#[tactic(auto, unfolding(crate::specs::Commands::formula_fault, log_definitions::specs::Numbers::plain_answer))]
 pub fn formula_of(alloc: Global, history: &History) -> Result<Formula, CnfFault>
     ensures formula { IfOk result (λ f. cnf_of f ≡ plain_answer history.now) }
     ensures fault { IfErr result (λ e. IsFault e (formula_fault history.now)) }
@@ -36,11 +33,7 @@ pub fn formula_of(alloc: Global, history: &History) -> Result<Formula, CnfFault>
 }
 
 /// Writes the formula of a history.
-fn encode_history<W: Sink>(
-    alloc: Global,
-    history: &History,
-    sink: &mut W,
-) -> Result<Status, Fault>
+fn encode_history<W: Sink>(alloc: Global, history: &History, sink: &mut W) -> Result<Status, Fault>
     ensures encoded { OnOk result (IsEncoded (W.bytes sink.old) (W.bytes sink.new) history.now) }
     ensures status { IfOk result (λ status. status ≡ Status.Done) }
     ensures refused { IfErr result (λ f.

@@ -25,7 +25,9 @@ pub enum Fault {
     Answer(AnswerFault),
     /// The answer's assignment makes this clause false, counted from 1, the first that it does.
     #[error("the assignment makes clause {clause} false")]
-    NotAModel { clause: usize },
+    NotAModel {
+        clause: usize,
+    },
     /// The order file is no list of committed transactions.
     #[error("the order is refused")]
     Order(OrderFault),
@@ -34,7 +36,10 @@ pub enum Fault {
     NotAPermutation,
     /// The first listed transaction that stands before an earlier one of its session.
     #[error("transaction {session}.{place} stands before an earlier one of its session")]
-    SessionOrder { session: u16, place: usize },
+    SessionOrder {
+        session: u16,
+        place: usize,
+    },
     /// The first read in replay that does not name what its key holds.
     #[error("operation {op} of transaction {session}.{place} reads another version")]
     ReadMismatch {
@@ -44,7 +49,9 @@ pub enum Fault {
     },
     /// The output took no more than so many bytes of the text, from its front.
     #[error("the output failed after {written} bytes")]
-    Device { written: u64 },
+    Device {
+        written: u64,
+    },
     /// Memory was refused.
     #[error("out of memory")]
     Memory,

@@ -18,5 +18,5 @@ pub use line::{Line, exit_status};
 pub use reading::read_log;
 pub use source::{CountedRead, ReadFault, Source, SourceFailed, read_all};
 pub use statistics::stats;
-pub use verifying::verify;
 pub use status::{Options, Status};
+pub use verifying::verify;

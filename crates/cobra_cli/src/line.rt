@@ -13,7 +13,9 @@ pub struct Line<'a>(pub &'a Fault);
 
 /// The exit statuses of refusals: of the input, for want of memory, and of a device.
 const REFUSED: u8 = 2;
+
 const OUT_OF_MEMORY: u8 = 4;
+
 const DEVICE_FAILED: u8 = 5;
 
 /// Whether a refusal is for want of memory, in any layer.

@@ -3,7 +3,10 @@
 
 ghost use Rattle.std.specs.Prelude.{◌<◌, ◌^◌};
 
-use cobra_cli::{CountedRead, Fault, Line, Options, ReadFault, Status, decode, encode, exit_status, read_all, stats, verify};
+use cobra_cli::{
+    CountedRead, Fault, Line, Options, ReadFault, Status, decode, encode, exit_status, read_all,
+    stats, verify,
+};
 use cobra_words::{Command, Request, Words, words_of};
 use dimacs::{Counted, MAX_ANSWER_BYTES};
 use order_text::MAX_ORDER_BYTES;
@@ -16,7 +19,9 @@ use std::{env, fs};
 
 /// The exit statuses that no command decides.
 const USAGE: u8 = 2;
+
 const OUT_OF_MEMORY: u8 = 4;
+
 const DEVICE_FAILED: u8 = 5;
 
 /// Why a call ends before its command, or after it.

@@ -56,7 +56,10 @@ fn helped_words(rt: HostRuntime) -> Result<(), Fail> {
 
 #[test]
 fn accepted_words(rt: HostRuntime) -> Result<(), Fail> {
-    let line = words(rt.alloc(), "cobra_poly decode --plain --model m --workers 16 log")?;
+    let line = words(
+        rt.alloc(),
+        "cobra_poly decode --plain --model m --workers 16 log",
+    )?;
     match words_of(rt.alloc(), line.as_slice())? {
         Some(Words::Request(request)) => {
             assert!(rt; matches!(request.command, Command::Decode { model: "m" }));

@@ -102,7 +102,9 @@ fn stats<'a>(alloc: Global) -> Result<clap::Command<'a>, AllocError> {
 
 fn program<'a>(alloc: Global) -> Result<clap::Command<'a>, AllocError> {
     clap::Command::new(alloc, "cobra_poly")
-        .about("Decides by a formula whether some serial order explains what the clients of a store saw")
+        .about(
+            "Decides by a formula whether some serial order explains what the clients of a store saw",
+        )
         .subcommand_required(true)
         .subcommand(encode(alloc)?)?
         .subcommand(decode(alloc)?)?

@@ -19,6 +19,6 @@ pub use answer::{AnswerFault, SolverAnswer};
 pub use fault::{SinkFailed, WriteFault};
 pub use laws::{model_is_read_back, text_belongs_to_one_formula};
 pub use read::{MAX_ANSWER_BYTES, read_answer};
-pub use status::Status;
 pub use sink::{Counted, Sink, write_all};
+pub use status::Status;
 pub use write::write_formula;

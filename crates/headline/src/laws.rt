@@ -16,8 +16,7 @@ pub fn anomalies_decide()
         IsClean (log_of ss) }
     ensures none { (ss : List ClientSession) → IsWellFormedList ss → (a : Anomaly) →
         anomaly_of (log_of ss) ≡ Some a → (order : List ℕ) → IsSerialOrder ss order → ⊥ }
-{
-}
+{}
 
 /// The plain formula of a well-formed log, or the contradiction where it has an anomaly, can be satisfied exactly where
 /// a serial order exists; and what a satisfying assignment stands for is one.
@@ -31,5 +30,4 @@ pub fn plain_answer_is_serializability()
     ensures decodes { (ss : List ClientSession) → IsWellFormedList ss → (values : List Bool) →
         Satisfies values (plain_answer ss) →
         ((order : List ℕ) × IsDecoded (plain_answer ss).nodes (before (plain_answer ss) values) order) }
-{
-}
+{}

@@ -65,10 +65,13 @@ nodes_write ss t w r finds e lo =
     let last : r.last ≡ ends_with r.key w (log.ops r.node) =
     sym (and_same (is_write r.key r.node (Some r)) r.last own) ∙ sym (ap (is_last_write r.key r.node) e) ∙ finds.lasts r.key w r.node lo in
     record {
-      node = (lo, elim (cases_lt log.nodes r.node) [
-        | inl past ↦ absurd (false≢true (sym (ap (writes_as r.key w) (ops_past ss r.node past)) ∙ writes))
-        | inr within ↦ within
-      ]);
+      node = (
+        lo,
+        elim (cases_lt log.nodes r.node) [
+          | inl past ↦ absurd (false≢true (sym (ap (writes_as r.key w) (ops_past ss r.node past)) ∙ writes))
+          | inr within ↦ within
+        ],
+      );
       stands = contained_where_writes r.key w (log.ops r.node) writes;
       is_last = ((λ h. wrote_is (last_write r.key (log.ops r.node)) w (sym last ∙ h)), (λ h. last ∙ wrote_from (last_write r.key (log.ops r.node)) w h));
     }

@@ -18,5 +18,5 @@ pub use log::{History, MAX_KEYS, MAX_OPERATIONS};
 pub use names::Name;
 pub use order::Order;
 pub use reads::ReadFrom;
-pub use writes::Written;
 pub use serializability::{Anomaly, Event, NodeIx, ReadAnomaly};
+pub use writes::Written;

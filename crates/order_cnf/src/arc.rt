@@ -28,8 +28,7 @@ fn is_arc(history: &History, sources: &[Vec<bool>], from: NodeIx, to: NodeIx) ->
     requires nodes { (from ≤ (log_of history.now).nodes) × (to ≤ (log_of history.now).nodes) }
     ensures value { result ≡ spec.is_arc (log_of history.now) (from, to) }
 {
-    to != NodeIx::INITIAL
-        && (from == NodeIx::INITIAL || follows(history, sources, from, to))
+    to != NodeIx::INITIAL && (from == NodeIx::INITIAL || follows(history, sources, from, to))
 }
 
 // Whether a node is the next of the session, or a reader, of another.

@@ -13,15 +13,13 @@ ghost use Rattle.serializability.specs.Plain.{plain};
 pub fn serial_exactly_when_fitting()
     ensures { (log : Log) → IsClean log → (order : List ℕ) →
         (IsSerial log order ↔ Fits (bipath_polygraph log) order) }
-{
-}
+{}
 
 /// What a satisfying assignment of a plain formula puts before what is a strict total order of the nodes.
 pub fn satisfying_assignment_is_order()
     ensures { (log : Log) (values : List Bool) → Satisfies values (plain log) →
         IsOrder log.nodes (before (plain log) values) }
-{
-}
+{}
 
 /// The plain formula of a clean log can be satisfied exactly by what stands for a serial order.
 pub fn plain_formula_is_serializability()
@@ -31,5 +29,4 @@ pub fn plain_formula_is_serializability()
         (order : List ℕ) → IsDecoded log.nodes (before (plain log) values) order → IsSerial log order }
     ensures decodes { (log : Log) → IsClean log → (values : List Bool) → Satisfies values (plain log) →
         ((order : List ℕ) × IsDecoded log.nodes (before (plain log) values) order) }
-{
-}
+{}
