@@ -53,31 +53,3 @@ fn helped_words(rt: HostRuntime) -> Result<(), Fail> {
     }
     Ok(())
 }
-
-#[test]
-fn accepted_words(rt: HostRuntime) -> Result<(), Fail> {
-    let line = words(
-        rt.alloc(),
-        "cobra_poly decode --plain --model m --workers 16 log",
-    )?;
-    match words_of(rt.alloc(), line.as_slice())? {
-        Some(Words::Request(request)) => {
-            assert!(rt; matches!(request.command, Command::Decode { model: "m" }));
-            assert!(rt; request.plain);
-            assert_eq!(rt; request.workers.get(), 16);
-            assert_eq!(rt; request.log, Some("log"));
-        }
-        _ => assert!(rt; false),
-    }
-    let line = words(rt.alloc(), "cobra_poly verify --order o")?;
-    match words_of(rt.alloc(), line.as_slice())? {
-        Some(Words::Request(request)) => {
-            assert!(rt; matches!(request.command, Command::Verify { order: "o" }));
-            assert!(rt; !request.plain);
-            assert_eq!(rt; request.workers.get(), 4);
-            assert_eq!(rt; request.log, None);
-        }
-        _ => assert!(rt; false),
-    }
-    Ok(())
-}
