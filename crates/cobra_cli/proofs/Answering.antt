@@ -1,8 +1,8 @@
 -- The order of an assignment, and how its refusals are those of an answer.
-use Rattle.std.proofs.Common.{◌≡◌, ℕ, ◌<◌, ◌≤◌, Bool, List, length, take, Option, Some, None, Result, Ok, Err, refl, sym, ap, ◌∙◌, subst}
+use Rattle.std.proofs.Common.{◌≡◌, ℕ, ◌<◌, ◌≤◌, Bool, List, length, take, Option, Result, Ok, Err, sym, subst}
 use Rattle.std.specs.Prelude.{IfErr}
 use Rattle.std.specs.List.{All}
-use Rattle.std.specs.Io.KnownBytes.{Appends, Keeps}
+use Rattle.std.specs.Io.KnownBytes.{Appends}
 use Rattle.std.proofs.lemmas.List.FromFn.{length-map-range_with_len}
 use Rattle.session_log.specs.Text.{ClientSession}
 use Rattle.serializability.specs.Formula.{Cnf, Satisfies}
@@ -16,7 +16,7 @@ use Rattle.dimacs.specs.Words.{Item}
 use Rattle.order_text.specs.Text.{order_text}
 use Rattle.cobra_cli.specs.declared.fault.Fault.{Fault}
 use Rattle.cobra_cli.specs.declared.fault.Fault.TheVariants as fault
-use Rattle.cobra_cli.specs.Commands.{IsCutShort, IsOrderWritten, IsOrderFault, IsAnswerCutShort, at_order, named_by, IsDecodeFault, HoldsOf, OrLogFault}
+use Rattle.cobra_cli.specs.Commands.{IsCutShort, IsOrderWritten, IsOrderFault, at_order, named_by, IsDecodeFault, OrLogFault}
 
 pub serial_of : (ss : List ClientSession) → IsWellFormedList ss → (f : Cnf) (values : List Bool) (order : List ℕ) → f ≡ plain_answer ss → Satisfies values f → IsDecoded f.nodes (before f values) order → IsSerialOrder ss order
 serial_of ss h f values order e =

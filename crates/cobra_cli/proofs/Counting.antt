@@ -1,11 +1,9 @@
 -- Lines of counts, one behind the other, and the refusal of a count of choices.
-use Rattle.std.proofs.Common.{◌≡◌, ℕ, Bool, true, false, cond, List, ◌++◌, Option, None, Some, refl, sym, ap, ◌∙◌, inl, inr, append_assoc}
+use Rattle.std.proofs.Common.{◌≡◌, ℕ, cond, List, ◌++◌, Option, None, Some, sym, ap, ◌∙◌, inl, inr, append_assoc}
 use Rattle.std.specs.Prelude.{nat_lt}
 use Rattle.std.specs.Option.{option_or}
 use Rattle.std.proofs.lemmas.Bool.{cases_Bool, cond-true, cond-false}
 use Rattle.session_log.specs.Text.{ClientSession}
-use Rattle.serializability.specs.declared.anomaly.Anomaly.{Anomaly}
-use Rattle.serializability.specs.Log.{Log}
 use Rattle.serializability.specs.Anomalies.{anomaly_of}
 use Rattle.serializability.specs.Plain.{plain}
 use Rattle.serializability.specs.Polygraph.{bipaths}
@@ -13,7 +11,7 @@ use Rattle.std.specs.Prelude.{length}
 use Rattle.log_definitions.specs.Numbers.{log_of}
 use Rattle.order_cnf.specs.declared.fault.CnfFault.{CnfFault}
 use Rattle.order_cnf.specs.declared.fault.CnfFault.TheVariants.{TooManyForPlain, TooManyChoices}
-use Rattle.order_cnf.specs.Limits.{choices_fault, size_fault, plain_fault}
+use Rattle.order_cnf.specs.Limits.{choices_fault, size_fault}
 use Rattle.cobra_cli.specs.Commands.{fault_where, formula_fault}
 
 -- one piece more, behind those so far

@@ -1,12 +1,11 @@
 -- What the parts of reading say of a log.
-use Rattle.std.proofs.Common.{◌≡◌, ℕ, ◌+◌, ◌<◌, ◌≤◌, ◌^◌, Bool, true, false, cond, List, [], ◌∷◌, ◌++◌, length, map, take, Option, Some, None, Result, Ok, Err, refl, sym, ap, ◌∙◌, subst, arith, length-append, nat_lt}
-use Rattle.std.specs.Prelude.{IfErr, count_by}
+use Rattle.std.proofs.Common.{◌≡◌, ℕ, ◌<◌, ◌≤◌, ◌^◌, Bool, true, false, cond, List, [], ◌∷◌, ◌++◌, length, Option, Some, None, Result, Ok, Err, refl, ap, ◌∙◌, arith, length-append, nat_lt}
+use Rattle.std.specs.Prelude.{IfErr}
 use Rattle.std.specs.List.{AllByRecursion}
 use Rattle.std.proofs.lemmas.Bool.{ltb-false}
 use Rattle.session_log.specs.Text.{ClientSession, IsLegal, line_text, text_of_lines, log_text}
-use Rattle.session_log.specs.Lines.{lines}
 use Rattle.session_log.specs.Blocks.{size_fault}
-use Rattle.session_log.specs.Faults.{grammar_fault, is_session_line}
+use Rattle.session_log.specs.Faults.{grammar_fault}
 use Rattle.session_log.specs.Faults.{IsFault}
 use Rattle.session_log.specs.declared.line.Line.{Line}
 use Rattle.session_log.specs.declared.fault.Limit.TheVariants as limit

@@ -1,14 +1,13 @@
 -- The node that a refused replay names is one of the log's.
-use Rattle.std.proofs.Common.{◌≡◌, ◌⊎◌, ℕ, zero, suc, ◌+◌, ◌<◌, ◌≤◌, Bool, true, false, cond, List, [], ◌∷◌, length, get_or, Option, None, Some, refl, subst, inl, inr, arith}
-use Rattle.std.specs.Prelude.{map}
-use Rattle.std.specs.List.{All, AllByRecursion, enumerate_from, list_any}
+use Rattle.std.proofs.Common.{◌≡◌, ◌⊎◌, ℕ, suc, ◌<◌, ◌≤◌, Bool, true, false, cond, List, [], ◌∷◌, Option, None, Some, refl, subst, inl, inr, arith}
+use Rattle.std.specs.List.{All, AllByRecursion, enumerate_from}
 use Rattle.std.specs.Option.{option_map, option_or}
 use Rattle.serializability.specs.declared.event.Event.{Event}
 use Rattle.serializability.specs.Log.{Log}
 use Rattle.serializability.specs.Replay.{Store, empty, after}
 use Rattle.serializability.proofs.Places.{each_from_flat_map, each_from_map}
 use Rattle.decode_order.specs.declared.fault.ReplayFault.{ReplayFault}
-use Rattle.decode_order.specs.declared.fault.ReplayFault.TheVariants.{NotAPermutation, SessionOrder, ReadMismatch, Memory}
+use Rattle.decode_order.specs.declared.fault.ReplayFault.TheVariants.{NotAPermutation, SessionOrder, ReadMismatch}
 use Rattle.decode_order.specs.Replaying.{lists_once, first_early, PlacedOp, placed_from, in_replay, meets, first_mismatch, replay_fault}
 
 chosen : {X : Type 0} (b : Bool) (x y : X) (rest : Option X) → cond b (Some x) rest ≡ Some y → (x ≡ y) ⊎ (rest ≡ Some y)

@@ -1,5 +1,5 @@
 -- What each command promises.
-use Rattle.std.specs.Prelude.{◌≡◌, ℕ, ◌≤◌, nat_lt, if◌then◌else◌, List, ◌++◌, length, take, codes, decimal, count_by, Option, None, Some, Bool}
+use Rattle.std.specs.Prelude.{◌≡◌, ℕ, ◌≤◌, nat_lt, if◌then◌else◌, List, length, take, codes, Option, None, Some, Bool}
 use Rattle.std.specs.Io.KnownBytes.{Appends, Keeps}
 use Rattle.session_log.specs.Text.{ClientSession}
 use Rattle.serializability.specs.declared.anomaly.Anomaly.{Anomaly}
@@ -21,7 +21,6 @@ use Rattle.dimacs.specs.declared.status.Status.TheVariants as claim
 use Rattle.dimacs.specs.Answer as answer
 use Rattle.order_text.specs.Text.{order_text}
 use Rattle.order_text.specs.Faults as order
-use Rattle.decode_order.specs.declared.fault.ReplayFault.{ReplayFault}
 use Rattle.decode_order.specs.declared.fault.ReplayFault.TheVariants.{NotAPermutation, SessionOrder, ReadMismatch}
 use Rattle.decode_order.specs.Replaying.{replay_fault}
 use Rattle.cobra_cli.specs.Statistics.{stats_text}

@@ -127,9 +127,13 @@ fn report(rt: &HostRuntime, stop: Stop) -> u8 {
     }
 }
 
-/// Does what the words ask for, and gives the exit status.
-fn answer(rt: &HostRuntime, alloc: Global, words: &[String]) -> Result<u8, Stop> {
-    match words_of(alloc, words)? {
+/// Does what the words of the call ask for, and gives the exit status.
+fn answer(rt: &HostRuntime, alloc: Global) -> Result<u8, Stop> {
+    let Ok(words) = env::args(rt) else {
+        return Err(Stop::Memory);
+    };
+    let words: Vec<String> = words.collect(alloc)?;
+    match words_of(alloc, &words)? {
         Some(Words::Request(request)) => Ok(run(rt, alloc, request)?.code()),
         Some(Words::Shown(text)) => {
             let _ = text.print(rt);
@@ -140,14 +144,7 @@ fn answer(rt: &HostRuntime, alloc: Global, words: &[String]) -> Result<u8, Stop>
 }
 
 fn main(rt: HostRuntime) -> ExitCode {
-    let alloc = rt.alloc();
-    let Ok(words) = env::args(&rt) else {
-        return ExitCode::from(OUT_OF_MEMORY);
-    };
-    let Ok(words): Result<Vec<String>, AllocError> = words.collect(alloc) else {
-        return ExitCode::from(OUT_OF_MEMORY);
-    };
-    let status = match answer(&rt, alloc, &words) {
+    let status = match answer(&rt, rt.alloc()) {
         Ok(status) => status,
         Err(stop) => report(&rt, stop),
     };

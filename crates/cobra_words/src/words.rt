@@ -1,5 +1,6 @@
 //! What the words of a call ask for, read by `clap`.
 
+use clap::error::ErrorKind;
 use clap::{Arg, ArgAction, ArgMatches, Error};
 use desk::seat_no::Workers;
 use std::alloc::{AllocError, Global};
@@ -142,7 +143,10 @@ fn request_of<'a>(name: &str, matches: &ArgMatches<'a>) -> Option<Request<'a>> {
 pub fn words_of<'a>(alloc: Global, words: &'a [String]) -> Result<Option<Words<'a>>, AllocError> {
     let program = program(alloc)?;
     match program.try_get_matches_from(words) {
-        Err(error) => Ok(Some(Words::Shown(error))),
+        Err(error) => match error.kind() {
+            ErrorKind::OutOfMemory => Err(AllocError),
+            _ => Ok(Some(Words::Shown(error))),
+        },
         Ok(matches) => match matches.subcommand() {
             Some((name, of_command)) => match request_of(name, of_command) {
                 Some(request) => Ok(Some(Words::Request(request))),

@@ -1,6 +1,6 @@
 -- The write that an identity finds.
-use Rattle.std.proofs.Common.{◌≡◌, ◌⊎◌, ℕ, zero, suc, ◌<◌, ◌≤◌, Bool, true, false, eqb, ◌&&◌, List, [], ◌∷◌, length, get_or, Option, None, Some, refl, sym, ap, ◌∙◌, subst, inl, inr, arith, eqb-true, eq-eqb}
-use Rattle.std.specs.Prelude.{IsTrue, MatchOption}
+use Rattle.std.proofs.Common.{◌≡◌, ℕ, zero, suc, ◌<◌, Bool, true, false, eqb, ◌&&◌, List, [], ◌∷◌, length, get_or, Option, None, Some, refl, sym, ap, ◌∙◌, subst, inl, inr, arith, eqb-true, eq-eqb}
+use Rattle.std.specs.Prelude.{MatchOption}
 use Rattle.std.specs.List.{list_any, Contains}
 use Rattle.std.proofs.lemmas.Bool.{cases_eq, cases_lt, false≢true, or_cases, or_left, or_right, and_parts, and_from}
 use Rattle.session_log.specs.Text.{ClientSession}
@@ -14,7 +14,7 @@ use Rattle.log_definitions.specs.Numbers.{log_of}
 use Rattle.history.specs.declared.writes.Written.{Written}
 use Rattle.history.specs.declared.writes.Writes.{Writes}
 use Rattle.history.specs.Written.{entry_of, is_write, is_last_write, ends_with}
-use Rattle.history.specs.Writes.{IsUnwritten, IsAbortedWrite, IsNodesWrite, IsWrite}
+use Rattle.history.specs.Writes.{IsUnwritten, IsNodesWrite, IsWrite}
 use Rattle.history.specs.Held.{FindsWrites}
 use Rattle.history.proofs.Tabled.{ops_past}
 

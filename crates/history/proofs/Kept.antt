@@ -1,26 +1,24 @@
 -- What a history answers from its tables.
-use Rattle.std.proofs.Common.{◌≡◌, ℕ, zero, suc, ◌+◌, ◌-◌, ◌<◌, ◌≤◌, ◌⊎◌, inl, inr, List, [], ◌∷◌, length, map, count_by, get_or, slice_get, Option, Some, None, refl, sym, ap, subst, ◌∙◌, arith, is_some, nat_lt, Vec, Global, vec_len, Bor, IfSome}
-use Rattle.std.specs.List.{filter_map, cons_option, range_with_len}
+use Rattle.std.proofs.Common.{◌≡◌, ℕ, suc, ◌+◌, ◌-◌, ◌<◌, ◌≤◌, ◌⊎◌, inl, inr, List, [], ◌∷◌, length, count_by, get_or, slice_get, Option, Some, None, refl, sym, ap, ◌∙◌, arith, is_some, nat_lt, Bor, IfSome}
+use Rattle.std.specs.List.{filter_map, cons_option}
 use Rattle.std.specs.Option.{option_map, option_map_or}
 use Rattle.std.proofs.lemmas.Bool.{cases_lt, ltb-true, ltb-false}
 use Rattle.std.proofs.lemmas.List.{length-map}
-use Rattle.std.proofs.lemmas.Option.{slice_get_past, slice_get-get_or, slice_get_read}
+use Rattle.std.proofs.lemmas.Option.{slice_get_past, slice_get_read}
 use Rattle.session_log.specs.Text.{ClientSession}
-use Rattle.serializability.specs.declared.event.Event.{Event}
 use Rattle.serializability.specs.Log.{Log}
 use Rattle.serializability.specs.Reads.{external_read}
 use Rattle.serializability.specs.Polygraph.{all_keys, source, writer_of}
-use Rattle.log_definitions.specs.WellFormed.{keys_in, txns_in, is_committed}
+use Rattle.log_definitions.specs.WellFormed.{keys_in, is_committed}
 use Rattle.log_definitions.specs.Serial.{Committed, committed_in, node_in, node_of}
 use Rattle.log_definitions.specs.Numbers.{events_of, log_of}
-use Rattle.history.specs.Tables.{sources_of, writers_in, name_in}
-use Rattle.history.specs.Taken.{NumberedNode, node_view, nodes_among, placed_in}
-use Rattle.history.specs.Rows.{RowView, row_view}
+use Rattle.history.specs.Tables.{sources_of, name_in}
+use Rattle.history.specs.Taken.{NumberedNode, node_view, placed_in}
+use Rattle.history.specs.Rows.{row_view}
 use Rattle.history.specs.Sources.{reads_view}
 use Rattle.history.specs.Held.{numbered_node, node_kept, sessions_of, row_in, IsHistory}
 use Rattle.history.specs.declared.nodes.Node.{Node}
 use Rattle.history.specs.declared.rows.Row.{Row}
-use Rattle.history.specs.declared.reads.ReadFrom.{ReadFrom}
 use Rattle.history.specs.declared.log.History.TheInside.{Inside}
 use Rattle.history.proofs.Limits.{keeps_limits}
 use Rattle.history.proofs.Placings.{nodes_in, txns_placed, committed_placed}

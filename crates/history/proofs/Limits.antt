@@ -1,11 +1,10 @@
 -- What the sessions of a well-formed log keep to, and which fault others have.
-use Rattle.std.proofs.Common.{◌≡◌, ℕ, ◌<◌, ◌≤◌, Bool, true, false, cond, List, [], length, map, count_by, nat_lt, Option, Some, None, refl, sym, ap, ◌∙◌, arith}
+use Rattle.std.proofs.Common.{◌≡◌, ℕ, ◌<◌, ◌≤◌, Bool, true, false, cond, List, length, count_by, nat_lt, Option, Some, None, refl, sym, ap, ◌∙◌}
 use Rattle.std.specs.Option.{option_or}
 use Rattle.std.proofs.lemmas.Bool.{ltb-false, lt-ltb, le-ltb, cond-true, cond-false}
 use Rattle.session_log.specs.Text.{ClientSession}
 use Rattle.session_log.specs.declared.fault.Limit.TheVariants as limit
-use Rattle.session_log.specs.declared.fault.LogFault.{LogFault}
-use Rattle.session_log.specs.declared.fault.LogFault.TheVariants.{SessionTwice, WriteTwice, OverLimit}
+use Rattle.session_log.specs.declared.fault.LogFault.TheVariants.{SessionTwice, OverLimit}
 use Rattle.log_definitions.specs.WellFormed.{log_lines, session_twice, write_twice, session_fault, write_fault, limit_fault, list_fault, ops_in, txns_in, keys_in, is_committed}
 
 none_of : {X : Type 0} (a b : Option X) → option_or a b ≡ None → (a ≡ None) × (b ≡ None)

@@ -1,20 +1,18 @@
 -- The transactions of all sessions, their nodes and their keys.
-use Rattle.std.proofs.Common.{◌≡◌, ℕ, zero, suc, ◌+◌, ◌-◌, ◌<◌, ◌≤◌, Bool, true, false, not, ◌||◌, ◌&&◌, cond, List, [], ◌∷◌, ◌++◌, length, length-append, map, count_by, slice_get, Option, Some, None, refl, sym, ap, subst, ◌∙◌, arith, append_assoc, nat_eq}
+use Rattle.std.proofs.Common.{◌≡◌, ℕ, zero, suc, ◌+◌, ◌<◌, ◌≤◌, Bool, true, false, not, ◌||◌, ◌&&◌, cond, List, [], ◌∷◌, ◌++◌, length, map, count_by, slice_get, refl, sym, ap, subst, ◌∙◌, arith, nat_eq}
 use Rattle.std.specs.List.{flat_map, filter, list_any, enumerate_from, AllByRecursion}
-use Rattle.std.specs.Option.{option_map, option_map_or}
+use Rattle.std.specs.Option.{option_map_or}
 use Rattle.std.specs.Str.{bytes_eq}
-use Rattle.std.proofs.lemmas.Bool.{false≢true, eq-eqb, ne_eqb, or_left, or_right}
-use Rattle.std.proofs.lemmas.List.{append-nil, map-append, length-map}
-use Rattle.std.proofs.lemmas.Grind.{flat_map-append}
-use Rattle.std.proofs.lemmas.List.Folds.{list_any-append}
-use Rattle.std.proofs.lemmas.List.Sums.{sum_by-cons, sum_by-append}
+use Rattle.std.proofs.lemmas.Bool.{false≢true, eq-eqb, ne_eqb}
+use Rattle.std.proofs.lemmas.List.{map-append}
+use Rattle.std.proofs.lemmas.List.Sums.{sum_by-cons}
 use Rattle.session_log.specs.Text.{ClientSession, Transaction}
 use Rattle.session_log.specs.declared.session.Op.{Op}
 use Rattle.session_log.specs.declared.session.Op.TheVariants as op
 use Rattle.serializability.specs.declared.event.Event.{Event}
-use Rattle.log_definitions.specs.WellFormed.{first_seen, key_of, keys_in, ops_in, txns_in, is_committed}
+use Rattle.log_definitions.specs.WellFormed.{first_seen, key_of, keys_in, txns_in, is_committed}
 use Rattle.log_definitions.specs.Serial.{Committed, committed_of, committed_in}
-use Rattle.log_definitions.specs.Numbers.{number_in, event_of, events_of, aborted_in}
+use Rattle.log_definitions.specs.Numbers.{number_in, events_of}
 use Rattle.history.specs.Taken.{Placed, placed_from, placed_in, NumberedNode, nodes_among, numbered_from, keys_among}
 use Rattle.history.specs.Rows.{event_key}
 use Rattle.history.specs.Held.{numbered_node}

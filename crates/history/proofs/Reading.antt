@@ -1,8 +1,8 @@
 -- What each node reads, read by read.
-use Rattle.std.proofs.Common.{◌≡◌, ℕ, zero, suc, ◌+◌, ◌-◌, ◌<◌, ◌≤◌, Bool, true, false, ◌&&◌, cond, List, [], ◌∷◌, ◌++◌, length, length-append, map, take, get_or, set, slice_get, Option, Some, None, refl, sym, ap, subst, ◌∙◌, arith, append_assoc, nat_eq, Vec, Global}
+use Rattle.std.proofs.Common.{◌≡◌, ℕ, suc, ◌+◌, ◌<◌, Bool, true, false, cond, List, [], ◌∷◌, ◌++◌, length, map, take, get_or, set, slice_get, Some, refl, sym, ap, subst, ◌∙◌, arith, append_assoc, nat_eq, Vec, Global}
 use Rattle.std.specs.Option.{option_map}
-use Rattle.std.proofs.lemmas.Bool.{cond-true, cond-false, both_ways, eqb-true, eqb-false, eq-eqb, ne_eqb}
-use Rattle.std.proofs.lemmas.List.{append-nil, map-append, length-map, length-take, length-set, take_more, take_all}
+use Rattle.std.proofs.lemmas.Bool.{eqb-true, eqb-false, eq-eqb, ne_eqb}
+use Rattle.std.proofs.lemmas.List.{append-nil, map-append, length-map, length-take, length-set, take_more}
 use Rattle.history.specs.declared.reads.ReadFrom.{ReadFrom}
 use Rattle.history.specs.declared.rows.Row.{Row}
 use Rattle.history.specs.declared.rows.Reader.{Reader}

@@ -1,22 +1,21 @@
 -- The tables of the nodes are those of the log.
-use Rattle.std.proofs.Common.{◌≡◌, ℕ, zero, suc, ◌+◌, ◌-◌, ◌<◌, ◌≤◌, ◌⊎◌, inl, inr, Bool, true, false, not, ◌||◌, ◌&&◌, cond, List, [], ◌∷◌, ◌++◌, length, length-append, map, count_by, take, get_or, slice_get, Option, Some, None, is_some, unwrap_or, refl, sym, ap, subst, ◌∙◌, arith, append_assoc, nat_eq, All, Vec, Global}
-use Rattle.std.specs.List.{flat_map, filter, filter_map, cons_option, list_any, find, range_with_len, AllByRecursion}
+use Rattle.std.proofs.Common.{◌≡◌, ℕ, zero, suc, ◌+◌, ◌<◌, ◌≤◌, ◌⊎◌, inl, inr, Bool, true, false, not, ◌&&◌, cond, List, [], ◌∷◌, ◌++◌, length, length-append, map, count_by, get_or, slice_get, Option, Some, None, is_some, unwrap_or, refl, sym, ap, subst, ◌∙◌, arith, append_assoc, nat_eq, All, Vec, Global}
+use Rattle.std.specs.List.{filter, filter_map, cons_option, list_any, find, range_with_len, AllByRecursion}
 use Rattle.std.specs.Option.{option_map, option_map_or}
-use Rattle.std.proofs.lemmas.Bool.{false≢true, both_ways, eqb-true, eqb-false, eq-eqb, ne_eqb, cases_lt}
+use Rattle.std.proofs.lemmas.Bool.{both_ways, eqb-true, eqb-false, eq-eqb, ne_eqb, cases_lt}
 use Rattle.std.proofs.lemmas.Option.{slice_get_past, slice_get-get_or}
 use Rattle.std.proofs.lemmas.List.Elements.{All-from_recursion}
-use Rattle.std.proofs.lemmas.List.{append-nil, map-append, length-map}
-use Rattle.std.proofs.lemmas.List.FromFn.{length-range_with_len}
+use Rattle.std.proofs.lemmas.List.{append-nil, length-map}
 use Rattle.session_log.specs.Text.{ClientSession}
 use Rattle.serializability.specs.declared.event.Event.{Event}
 use Rattle.serializability.specs.Log.{Log}
 use Rattle.serializability.specs.Reads.{last_write, external_read}
-use Rattle.serializability.specs.Polygraph.{committed, all_keys, wrote, writer_of, source}
+use Rattle.serializability.specs.Polygraph.{committed, wrote, writer_of, source}
 use Rattle.serializability.specs.Anomalies.{writes_as}
 use Rattle.log_definitions.specs.WellFormed.{first_seen, keys_in, is_committed, txns_in, log_lines, list_fault, write_twice}
-use Rattle.log_definitions.specs.Serial.{Committed, committed_in, node_in, node_of, session_of, ops_of}
+use Rattle.log_definitions.specs.Serial.{Committed, committed_in, node_in, node_of}
 use Rattle.log_definitions.specs.Numbers.{events_of, aborted_in, log_of}
-use Rattle.history.specs.Tables.{sources_of, writers_in, node_named}
+use Rattle.history.specs.Tables.{sources_of, node_named}
 use Rattle.history.specs.Taken.{Placed, placed_in, NumberedNode, node_view, nodes_among, numbered_from, keys_among, HoldsAll}
 use Rattle.history.specs.declared.nodes.Transactions.{Transactions}
 use Rattle.history.specs.Naming.{node_among}
@@ -24,7 +23,7 @@ use Rattle.history.specs.Rows.{RowView, row_view, reader_view, event_key, row_af
 use Rattle.history.specs.Sources.{AreReads, final_node, found_by, found_in, readers_of}
 use Rattle.history.specs.declared.reads.ReadFrom.{ReadFrom}
 use Rattle.history.specs.declared.rows.Reader.{Reader}
-use Rattle.history.specs.Written.{entry_of, is_write, is_last_write, ends_with, HasWrites}
+use Rattle.history.specs.Written.{entry_of, is_last_write, ends_with, HasWrites}
 use Rattle.history.specs.Held.{readers_in, row_in, numbered_node, FindsWrites}
 use Rattle.history.specs.declared.nodes.Node.{Node}
 use Rattle.history.specs.declared.rows.Row.{Row}

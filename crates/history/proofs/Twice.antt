@@ -1,10 +1,10 @@
 -- The first session number that stood before.
-use Rattle.std.proofs.Common.{◌≡◌, ℕ, suc, ◌+◌, ◌<◌, Bool, true, false, not, ◌||◌, cond, List, [], ◌∷◌, ◌++◌, length, length-append, map, take, drop, get_or, Option, Some, None, refl, sym, ap, ◌∙◌, arith, append_assoc, nat_eq, nat_cmp}
+use Rattle.std.proofs.Common.{◌≡◌, ℕ, ◌+◌, ◌<◌, Bool, true, false, ◌||◌, cond, List, [], ◌∷◌, ◌++◌, length, length-append, map, take, drop, get_or, Some, None, refl, sym, ap, ◌∙◌, arith, nat_eq, nat_cmp}
 use Rattle.std.specs.List.{flat_map, list_any}
 use Rattle.std.specs.BTreeMap.{is_at}
 use Rattle.std.specs.Cmp.{unsigned_ties}
 use Rattle.std.proofs.lemmas.Bool.{eqb-true, eqb-false, eq-eqb, ne_eqb}
-use Rattle.std.proofs.lemmas.List.{append-nil, map-append, length-map, take_more, drop_more, take-append-drop}
+use Rattle.std.proofs.lemmas.List.{append-nil, map-append, take_more, take-append-drop}
 use Rattle.std.proofs.lemmas.List.Folds.{list_any-append}
 use Rattle.std.proofs.lemmas.Grind.{flat_map-append}
 use Rattle.session_log.specs.Text.{ClientSession, Transaction, view, op_line, end_line, txn_lines, session_lines}

@@ -1,5 +1,5 @@
 -- What a history holds of its sessions.
-use Rattle.std.specs.Prelude.{◌≡◌, ℕ, ◌<◌, Bool, List, Option, map}
+use Rattle.std.specs.Prelude.{◌≡◌, ℕ, ◌<◌, List, Option, map}
 use Rattle.std.specs.List.{filter_map, list_any}
 use Rattle.std.specs.Option.{option_map}
 use Rattle.std.specs.BTreeMap.{get}

@@ -1,12 +1,11 @@
 -- What a history tells of its nodes and keys.
-use Rattle.std.specs.Prelude.{ℕ, zero, ◌==◌, ◌&&◌, Bool, false, List, [], ◌∷◌, length, map, count_by, is_some, Option, None, Some, find}
+use Rattle.std.specs.Prelude.{ℕ, ◌==◌, ◌&&◌, false, List, length, is_some, Option, find}
 use Rattle.std.specs.List.{filter, filter_map, range_with_len}
 use Rattle.std.specs.Option.{option_map, option_map_or}
 use Rattle.session_log.specs.Text.{ClientSession}
 use Rattle.serializability.specs.Log.{Log}
 use Rattle.serializability.specs.Reads.{last_write}
 use Rattle.serializability.specs.Polygraph.{source, all_keys, committed}
-use Rattle.log_definitions.specs.WellFormed.{is_committed, txns_in, ops_in, keys_in}
 use Rattle.log_definitions.specs.Serial.{committed_in, node_of}
 
 -- the keys that node r reads externally, ascending, each with the node that it reads from

@@ -1,11 +1,10 @@
 -- What is kept of transactions, one after the other.
-use Rattle.std.specs.Prelude.{◌≡◌, ℕ, suc, ◌+◌, if◌then◌else◌, List, [], ◌∷◌, ◌++◌, length, map}
-use Rattle.std.specs.List.{flat_map, filter, enumerate_from}
+use Rattle.std.specs.Prelude.{◌≡◌, ℕ, ◌+◌, if◌then◌else◌, List, [], ◌∷◌, ◌++◌, length, map}
+use Rattle.std.specs.List.{flat_map}
 use Rattle.session_log.specs.Text.{ClientSession, Transaction}
 use Rattle.session_log.specs.declared.line.Line.{Line}
 use Rattle.serializability.specs.declared.event.Event.{Event}
 use Rattle.log_definitions.specs.WellFormed.{first_seen, key_of, is_committed, writes_from}
-use Rattle.log_definitions.specs.Serial.{Committed}
 use Rattle.log_definitions.specs.Numbers.{events_of}
 use Rattle.history.specs.declared.nodes.Node.{Node}
 use Rattle.history.specs.declared.nodes.Transactions.{Transactions}

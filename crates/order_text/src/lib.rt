@@ -5,7 +5,6 @@ mod fault;
 pub mod laws;
 mod print;
 mod read;
-mod words;
 
 pub use fault::OrderFault;
 pub use print::{print_order, put_name};

@@ -7,8 +7,9 @@ ghost use Rattle.session_log.specs.Text.{view, session_text, IsLegal};
 ghost use Rattle.session_log.specs.Blocks.{blocks_of, block_text, block_fault, size_fault};
 
 use crate::fault::{Limit, LogFault};
-use crate::parse::{next_line, parse_lines};
+use crate::parse::parse_lines;
 use crate::session::Session;
+use crate::words::next_line;
 use std::alloc::Global;
 
 /// The most bytes of a log, 16 MiB.

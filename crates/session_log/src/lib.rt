@@ -11,6 +11,7 @@ mod print;
 mod session;
 #[cfg(test)]
 mod tests;
+mod words;
 
 pub use block::{Block, MAX_LOG_BYTES, MAX_SESSIONS, cut, parse_block};
 pub use fault::{Limit, LogFault};
@@ -19,3 +20,4 @@ pub use line::Line;
 pub use parse::parse_lines;
 pub use print::print_log;
 pub use session::{Op, Outcome, Session, Txn};
+pub use words::{index_of, is_numeral, next_line, number_of};

@@ -7,6 +7,7 @@ ghost use Rattle.std.specs.Str.Parse.{digits_value};
 ghost use Rattle.session_log.specs.Lines.{is_numeral, number_of, session_of, keyed_of, form_of};
 
 use crate::key::Key;
+use crate::words::{index_of, number_of};
 use std::alloc::{AllocError, Global};
 
 /// A line of a log, by its form: the words of the contracts on its text.
@@ -23,46 +24,6 @@ pub enum Line {
     Abort,
 }
 
-fn all_digits(word: &[u8]) -> bool
-    ensures { result ≡ list_all is_ascii_digit word.now }
-{
-    word.iter().all(|b| b.is_ascii_digit())
-}
-
-fn is_numeral(word: &[u8]) -> bool
-    ensures { result ≡ is_numeral word.now }
-{
-    all_digits(word) && !word.is_empty() && (word.len() == 1 || word[0] != b'0')
-}
-
-// The number that digits write, where it is below 2 ^ 64.
-fn value_of(word: &[u8]) -> Option<u64>
-    requires { list_all is_ascii_digit word.now ≡ true }
-    ensures { let value = digits_value 10 word.now in
-        result ≡ (if nat_lt value (2 ^ 64) then Some value else None) }
-{
-    let mut n: u64 = 0;
-    for d in word {
-        let digit = u64::from(*d - b'0');
-        if n > (u64::MAX - digit) / 10 {
-            return None;
-        }
-        n = n * 10 + digit;
-    }
-    Some(n)
-}
-
-#[tactic(auto, unfolding(crate::specs::Lines::number_of))]
-fn number_of(word: &[u8]) -> Option<u64>
-    ensures { result ≡ number_of word.now }
-{
-    if is_numeral(word) {
-        value_of(word)
-    } else {
-        None
-    }
-}
-
 #[tactic(auto, unfolding(crate::specs::Lines::session_of))]
 fn session_of(word: &[u8]) -> Option<Line>
     ensures { result ≡ session_of word.now }
@@ -73,13 +34,6 @@ fn session_of(word: &[u8]) -> Option<Line>
     } else {
         None
     }
-}
-
-/// The first place of a byte.
-pub fn index_of(bytes: &[u8], byte: u8) -> Option<usize>
-    ensures { result ≡ position (λ b. b == byte) bytes.now }
-{
-    bytes.iter().position(|b| *b == byte)
 }
 
 // A key, a space and a number.

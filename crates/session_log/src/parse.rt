@@ -9,8 +9,9 @@ ghost use Rattle.session_log.specs.Text.{view, session_text, IsLegal};
 ghost use Rattle.session_log.specs.Reading.{place_of, Adds, Takes, IsBodyLine};
 
 use crate::fault::LogFault;
-use crate::line::{Line, form_of, index_of};
+use crate::line::{Line, form_of};
 use crate::session::{Op, Outcome, Session, Txn};
+use crate::words::next_line;
 use std::alloc::{AllocError, Global};
 
 /// A transaction that is open, with the line of its `begin`.
@@ -149,18 +150,5 @@ fn read_form(alloc: Global, body: &[u8], ended: bool) -> Result<Option<Line>, Al
         form_of(alloc, body)
     } else {
         Ok(None)
-    }
-}
-
-/// The first line of a text without its LF, whether it has one, and the text after it.
-pub fn next_line(text: &[u8]) -> (&[u8], bool, &[u8])
-    requires { 0 < length text.now }
-    ensures line { lines text.now ≡ (result.0.now, result.1) ∷ lines result.2.now }
-    ensures text { text.now ≡ bytes_of (result.0.now, result.1) ++ result.2.now }
-    ensures shorter { length result.2.now < length text.now }
-{
-    match index_of(text, b'\n') {
-        Some(i) => (&text[..i], true, &text[i + 1..]),
-        None => (text, false, &[]),
     }
 }

@@ -1,10 +1,10 @@
-use Rattle.std.proofs.Common.{◌≡◌, ℕ, List, Bool, sym, ap, ◌∙◌, subst, length}
+use Rattle.std.proofs.Common.{ℕ, ap, ◌∙◌, subst, length}
 use Rattle.std.proofs.lemmas.Result.{err_from_is_err_and}
 use Rattle.serializability.specs.Formula.{Cnf}
 use Rattle.dimacs.specs.declared.answer.SolverAnswer.{SolverAnswer}
 use Rattle.dimacs.specs.Answer.{IsAnswer, items_of, assignment}
-use Rattle.cobra_cli.specs.Commands.{unchecked_text, at_unchecked}
-use Rattle.cobra_cli.proofs.Answering.{cut_short, assignment_long, refused_answer}
+use Rattle.cobra_cli.specs.Commands.{at_unchecked}
+use Rattle.cobra_cli.proofs.Answering.{assignment_long, refused_answer}
 use Rattle.cobra_cli.proofs.decoding.decode_history.Goals as goal
 
 pub write_order-requires-clause-each_variable : goal.write_order-requires-clause-each_variable

@@ -1,8 +1,8 @@
-use Rattle.std.proofs.Common.{◌≡◌, sym, refl, ap, ◌∙◌, map, take, length, arith, subst}
+use Rattle.std.proofs.Common.{sym, ap, ◌∙◌, map, subst}
 use Rattle.std.specs.List.{AllByRecursion}
 use Rattle.std.proofs.lemmas.List.{take_all}
 use Rattle.session_log.specs.Text.{view, session_text, IsLegal}
-use Rattle.session_log.specs.Blocks.{block_text, block_fault, first_of, blocks_of}
+use Rattle.session_log.specs.Blocks.{block_text, block_fault, first_of}
 use Rattle.session_log.proofs.Together.{fault_by_blocks, joined}
 use Rattle.cobra_cli.proofs.reading.sessions_in.Goals as goal
 

@@ -1,4 +1,4 @@
-use Rattle.std.proofs.Common.{◌≡◌, ◌+◌, ◌-◌, ◌<◌, ◌≤◌, length, vec_len}
+use Rattle.std.proofs.Common.{◌≡◌, ◌+◌, ◌-◌, ◌<◌, ◌≤◌, vec_len}
 use Rattle.cobra_cli.specs.Sources.{Takes}
 use Rattle.cobra_cli.proofs.source.read_all.Given as goal
 

@@ -1,7 +1,6 @@
-use Rattle.std.proofs.Common.{◌≡◌, ◌+◌, ◌-◌, ◌^◌, min, map, take, length, count_by}
-use Rattle.std.specs.List.{flat_map}
-use Rattle.session_log.specs.Text.{view, view_txn}
-use Rattle.log_definitions.specs.WellFormed.{ops_in, txns_in, is_committed}
+use Rattle.std.proofs.Common.{◌≡◌, ◌+◌, ◌-◌, ◌^◌, min, map, take, count_by}
+use Rattle.session_log.specs.Text.{view_txn}
+use Rattle.log_definitions.specs.WellFormed.{is_committed}
 use Rattle.history.proofs.count.with_committed.Given as goal
 
 abbrev pub invariant-loop-txn : goal.invariant-loop-txn

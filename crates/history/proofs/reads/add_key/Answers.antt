@@ -1,4 +1,4 @@
-use Rattle.std.proofs.Common.{◌≡◌, ℕ, ◌∙◌, ap, sym, refl, ◌++◌, map, take, get_or, cond, nat_eq, ◌∷◌, []}
+use Rattle.std.proofs.Common.{ℕ, ◌∙◌, ap, sym, ◌++◌, map, take, cond, nat_eq, ◌∷◌, []}
 use Rattle.std.proofs.lemmas.List.{take_all}
 use Rattle.history.specs.Rows.{reader_view}
 use Rattle.history.specs.Written.{entry_of}

@@ -1,8 +1,8 @@
-use Rattle.std.proofs.Common.{◌≡◌, ◌∙◌, ap, sym, take, get_or, ◌++◌, ◌∷◌, []}
+use Rattle.std.proofs.Common.{◌∙◌, ap, sym, take, get_or, ◌++◌, ◌∷◌, []}
 use Rattle.std.proofs.lemmas.List.{take_more, take_all}
 use Rattle.serializability.specs.declared.event.Event.TheVariants.{Read}
 use Rattle.history.specs.Rows.{row_after}
-use Rattle.history.proofs.KeyRows.{rows_same, rows_begin}
+use Rattle.history.proofs.KeyRows.{rows_same}
 use Rattle.history.proofs.rows.add_node.Goals as goal
 
 pub loop-event-preserved : goal.loop-event-preserved

@@ -1,4 +1,4 @@
-use Rattle.std.proofs.Common.{◌∙◌, ap, arith, sym}
+use Rattle.std.proofs.Common.{◌∙◌, ap, arith}
 use Rattle.log_definitions.specs.Numbers.{log_of}
 use Rattle.history.proofs.Kept.{nodes_kept, nodes_few}
 use Rattle.history.proofs.log.History.committed.Goals as goal

@@ -1,4 +1,4 @@
-use Rattle.std.proofs.Common.{◌≡◌, ◌<◌, ◌∙◌, ap, arith, sym, subst, Some, slice_get}
+use Rattle.std.proofs.Common.{◌∙◌, ap, arith, sym, slice_get}
 use Rattle.log_definitions.specs.WellFormed.{keys_in}
 use Rattle.log_definitions.specs.Numbers.{log_of}
 use Rattle.history.proofs.Kept.{keys_kept, key_kept}

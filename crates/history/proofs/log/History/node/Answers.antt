@@ -1,4 +1,4 @@
-use Rattle.std.proofs.Common.{◌≡◌, ◌∙◌, ap, arith}
+use Rattle.std.proofs.Common.{◌∙◌, ap, arith}
 use Rattle.history.specs.Held.{node_kept}
 use Rattle.history.proofs.Kept.{node_got, none_at_zero}
 use Rattle.history.proofs.log.History.node.Goals as goal

@@ -1,14 +1,9 @@
-use Rattle.std.proofs.Common.{◌≡◌, ◌<◌, ◌≤◌, ℕ, List, ap, sym, ◌∙◌, arith, length, map, subst, All}
+use Rattle.std.proofs.Common.{◌<◌, ℕ, List, ap, sym, ◌∙◌, arith, length, map, subst, All}
 use Rattle.session_log.specs.Text.{view}
-use Rattle.log_definitions.specs.Numbers.{log_of}
-use Rattle.history.specs.Rows.{event_key, AreRows, row_from, no_row}
-use Rattle.history.specs.Sources.{AreReads, final_node, found_in, readers_of}
-use Rattle.history.specs.Written.{entry_of}
-use Rattle.history.specs.Held.{row_in}
+use Rattle.history.specs.Rows.{event_key}
 use Rattle.history.specs.Taken.{placed_in}
 use Rattle.log_definitions.specs.WellFormed.{ops_in}
 use Rattle.history.specs.declared.nodes.Node.{Node}
-use Rattle.history.specs.declared.rows.Row.{Row}
 use Rattle.history.specs.Counted.{CountsAll}
 use Rattle.session_log.specs.declared.session.Session.{Session}
 use Rattle.history.proofs.Tabled.{events_within, named_node, keys_held, nodes_held, committed_held, writes_held, rows_held, readers_held, reads_held}

@@ -1,4 +1,4 @@
-use Rattle.std.proofs.Common.{◌≡◌, [], ap, sym, ◌∙◌, refl, arith, length, map}
+use Rattle.std.proofs.Common.{[], ap, ◌∙◌, refl, arith, length}
 use Rattle.std.proofs.lemmas.List.{length-map}
 use Rattle.session_log.specs.Text.{view_txn}
 use Rattle.history.proofs.Taking.{takes_committed, takes_aborted, length-txn_lines}

@@ -1,4 +1,4 @@
-use Rattle.std.proofs.Common.{◌≡◌, ◌<◌, arith, List, length, get_or, subst, map, refl, sym, ap, ◌∙◌}
+use Rattle.std.proofs.Common.{arith, List, subst, map}
 use Rattle.std.proofs.lemmas.List.{take_all}
 use Rattle.session_log.specs.Text.{view}
 use Rattle.session_log.specs.declared.session.Session.{Session}

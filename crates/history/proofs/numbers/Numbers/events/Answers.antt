@@ -1,4 +1,4 @@
-use Rattle.std.proofs.Common.{◌≡◌, ap, ◌∙◌, take, length}
+use Rattle.std.proofs.Common.{ap, ◌∙◌}
 use Rattle.std.proofs.lemmas.List.{take_all}
 use Rattle.log_definitions.specs.WellFormed.{first_seen}
 use Rattle.log_definitions.specs.Numbers.{events_of}

@@ -1,4 +1,4 @@
-use Rattle.std.proofs.Common.{◌≡◌, sym, ◌∙◌, refl}
+use Rattle.std.proofs.Common.{sym, ◌∙◌, refl}
 use Rattle.history.proofs.KeyRows.{is_writer, is_reader, write_first, write_again, read_first, read_written, read_again}
 use Rattle.history.proofs.rows.Row.enter.Goals as goal
 use Rattle.history.proofs.rows.Row.enter.Goals.{else-not-is_last_writer-2-via-then-not-is_last_writer-2+else-not-is_last_reader, else-not-is_last_writer-2-via-else-not-is_last_writer-2}

@@ -1,4 +1,4 @@
-use Rattle.std.proofs.Common.{◌≡◌, sym, ap, ◌∙◌, refl, is_some, nat_eq, ◌++◌, ◌∷◌}
+use Rattle.std.proofs.Common.{sym, ap, ◌∙◌, refl, is_some, nat_eq, ◌++◌, ◌∷◌}
 use Rattle.history.proofs.Writing.{seen_twice, seen_again, seen_new, taking_new, none_from}
 use Rattle.history.proofs.writes.Writes.enter.Goals as goal
 

@@ -1,0 +1,3 @@
+pub mod Pruned
+pub mod Ledgers
+pub mod Same

@@ -1,0 +1,7 @@
+//! Tests that cross crates, over bytes in memory: a log goes in, and what a command prints and how it ends is compared.
+#![tactic(auto)]
+
+#[cfg(test)]
+mod tape;
+#[cfg(test)]
+mod tests;

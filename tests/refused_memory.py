@@ -1,0 +1,73 @@
+#!/usr/bin/env python3
+"""refused_memory.py PROGRAM: each allocation of each command is refused in turn.
+
+The program runs with the Nth request for memory refused, for N = 1, 2, .. until it makes fewer. Each such run must either
+say `out of memory` with status 4 and write nothing, or do what it does with ample memory. Needs a C compiler, for a small
+library that stands before the allocator of the C library. Last line: 'refused memory: N passed, M failed'."""
+import os, shutil, subprocess, sys, tempfile
+
+SHIM = r'''
+#define _GNU_SOURCE
+#include <dlfcn.h>
+#include <errno.h>
+#include <stdlib.h>
+static long left = -1;
+static void *refused(void) { errno = ENOMEM; return 0; }
+static int refuses(void) {
+    if (left < 0) { char *n = getenv("REFUSED"); left = n ? atol(n) : 0; }
+    return left > 0 && --left == 0;
+}
+void *malloc(size_t n) { static void *(*real)(size_t); if (!real) real = dlsym(RTLD_NEXT, "malloc"); return refuses() ? refused() : real(n); }
+void *realloc(void *p, size_t n) { static void *(*real)(void *, size_t); if (!real) real = dlsym(RTLD_NEXT, "realloc"); return refuses() ? refused() : real(p, n); }
+void *aligned_alloc(size_t a, size_t n) { static void *(*real)(size_t, size_t); if (!real) real = dlsym(RTLD_NEXT, "aligned_alloc"); return refuses() ? refused() : real(a, n); }
+int posix_memalign(void **p, size_t a, size_t n) { static int (*real)(void **, size_t, size_t); if (!real) real = dlsym(RTLD_NEXT, "posix_memalign"); return refuses() ? ENOMEM : real(p, a, n); }
+'''
+
+LOG = b'session 1\nbegin\nw x 1\ncommit\nsession 2\nbegin\nw x 2\ncommit\nsession 3\nbegin\nr x 1\ncommit\n'
+ANSWER = b's SATISFIABLE\nv 1 2 3 4 5 -6 0\n'
+ORDER = b'1 1\n3 1\n2 1\n'
+MOST = 2000
+
+
+def main():
+    program = os.path.abspath(sys.argv[1])
+    compiler = shutil.which('cc') or shutil.which('clang') or shutil.which('gcc')
+    if not compiler:
+        print('refused memory: cannot be tried, there is no C compiler here')
+        return
+    passed, failed = 0, 0
+    with tempfile.TemporaryDirectory() as folder:
+        paths = {name: os.path.join(folder, name) for name in ('log', 'answer', 'order', 'shim.c', 'shim.so')}
+        for name, data in (('log', LOG), ('answer', ANSWER), ('order', ORDER), ('shim.c', SHIM.encode())):
+            with open(paths[name], 'wb') as out:
+                out.write(data)
+        subprocess.run([compiler, '-shared', '-fPIC', '-o', paths['shim.so'], paths['shim.c'], '-ldl'], check=True)
+        for words in (['encode', '--plain', paths['log']], ['stats', '--plain', paths['log']],
+                      ['decode', '--plain', '--model', paths['answer'], paths['log']], ['verify', '--order', paths['order'], paths['log']]):
+            wanted, refusals = None, 0
+            for n in range(MOST):
+                place = dict(os.environ, LD_PRELOAD=paths['shim.so'], REFUSED=str(n))
+                ran = subprocess.run([program, *words], stdin=subprocess.DEVNULL, stdout=subprocess.PIPE, stderr=subprocess.PIPE, env=place, timeout=60)
+                got = (ran.returncode, ran.stdout, ran.stderr)
+                if n == 0:
+                    wanted = got
+                    continue
+                if got == wanted:
+                    passed += 1
+                    if n > refusals + 50:
+                        break
+                elif got == (4, b'', b'out of memory\n'):
+                    passed, refusals = passed + 1, n
+                else:
+                    failed += 1
+                    print('FAILED %s with request %d refused: %r' % (words[0], n, got))
+                    refusals = n
+            print('%s: the last refused request that is told is number %d' % (words[0], refusals))
+            if refusals == 0:
+                failed += 1
+                print('FAILED %s: no refusal was told' % words[0])
+    print('refused memory: %d passed, %d failed' % (passed, failed))
+    sys.exit(1 if failed else 0)
+
+
+main()
