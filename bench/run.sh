@@ -31,3 +31,6 @@ for log in "$folder"/*.log; do
     measure "stats $name" "$log" "$program" stats --plain "$log"
     measure "encode $name" "$log" "$program" encode --plain "$log"
 done
+for count in 1 2 4; do
+    measure "stats operations_100, $count workers" "$folder/operations_100.log" "$program" stats --plain --workers $count "$folder/operations_100.log"
+done

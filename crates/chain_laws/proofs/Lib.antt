@@ -1,3 +1,5 @@
 pub mod Walks
 pub mod Coalesced
 pub mod Maximal
+pub mod Closed
+pub mod OneChain

@@ -6,80 +6,69 @@ use Rattle.std.proofs.lemmas.Bool.{false≢true, or_cases, and_from, not_from_fa
 use Rattle.std.proofs.lemmas.Map.Steps.{length-le_from_distinct_below}
 use Rattle.serializability.specs.Log.{Log}
 use Rattle.serializability.specs.Reads.{IsClean}
-use Rattle.serializability.specs.Polygraph.{arcs, committed, source}
+use Rattle.serializability.specs.Polygraph.{committed, source}
 use Rattle.serializability.proofs.Places.{each_of_filter, each_from_filter, each_of_range, each_from_range}
-use Rattle.serializability.proofs.Sources.{reads_from_source}
-use Rattle.serializability.proofs.Serial.{each_of_arcs, arc_from_read, source_within, some_cases}
-use Rattle.reach_laws.specs.Reach.{Reaches, IsCyclic}
-use Rattle.reach_laws.proofs.Walks.{each_contained, each_from_contained, reach_joined}
-use Rattle.chain_laws.specs.Chains.{writes, next, tail_from, tail, is_head, heads, IsWriter, IsLinked, last, IsChain}
-use Rattle.chain_laws.proofs.Walks.{next_is, next_from, no_next, step_some, step_none, Head}
+use Rattle.serializability.proofs.Serial.{some_cases}
+use Rattle.reach_laws.proofs.Walks.{each_contained, each_from_contained}
+use Rattle.chain_laws.specs.Chains.{writes, next, tail_from, tail, is_head, heads, IsWriter, IsLinked, last, IsChain, NoneCloses}
+use Rattle.chain_laws.proofs.Closed.{Leads, leads_once, leads_on, closed_from}
+use Rattle.chain_laws.proofs.Walks.{IsNext, next_is, next_from, no_next, step_some, step_none, Head}
 use Rattle.chain_laws.proofs.Coalesced.{head_parts}
 
 -- ---- a chain ends
-next_reached : (log : Log) → IsClean log → (x w v : ℕ) → x < log.keys → next log x w ≡ Some v → Reaches (arcs log) w v
-next_reached log clean x w v key e =
-    let k = next_is log x w v e in
-    let In = Contains (arcs log) in
-    let all = each_from_contained In (arcs log) (λ d c. c) in (
-      [],
-      each_of_arcs log In all w v (source_within log clean v x w k.low k.high k.from) k.high
-          (arc_from_read log v w k.low (reads_from_source log v x w key k.from)),
-    )
-
--- distinct nodes from which w is reached, and w
-record Seen (log : Log) (w : ℕ) (seen : List ℕ) : Type 0 where
-  pub reach : AllByRecursion (λ u. Reaches (arcs log) u w) seen
+-- distinct nodes that lead to w, and w
+record Seen (log : Log) (x w : ℕ) (seen : List ℕ) : Type 0 where
+  pub leads : AllByRecursion (λ u. Leads log x u w) seen
   pub apart : IsDistinct nat_eq (w ∷ seen)
   pub within : AllByRecursion (λ u. u ≤ log.nodes) (w ∷ seen)
 
-cons_apart : (v : ℕ) (us : List ℕ) → AllByRecursion (λ u. nat_eq v u ≡ false) us → IsDistinct nat_eq us → IsDistinct nat_eq (v ∷ us)
+pub cons_apart : (v : ℕ) (us : List ℕ) → AllByRecursion (λ u. nat_eq v u ≡ false) us → IsDistinct nat_eq us → IsDistinct nat_eq (v ∷ us)
 unfolding IsDistinct
 cons_apart v us a d = (a, d)
 
-alone : (w : ℕ) → IsDistinct nat_eq (w ∷ [])
+pub alone : (w : ℕ) → IsDistinct nat_eq (w ∷ [])
 unfolding IsDistinct
 alone w = (tt, tt)
 
-further : (log : Log) → (w v : ℕ) → Reaches (arcs log) w v → (seen : List ℕ) → AllByRecursion (λ u. Reaches (arcs log) u w) seen → AllByRecursion (λ u. Reaches (arcs log) u v) seen
-further log w v r [] h = tt
-further log w v r (u ∷ seen) h = (reach_joined (arcs log) u w v h.0 r, further log w v r seen h.1)
+further : (log : Log) (x w v : ℕ) → IsNext log x w v → (seen : List ℕ) → AllByRecursion (λ u. Leads log x u w) seen → AllByRecursion (λ u. Leads log x u v) seen
+further log x w v k [] h = tt
+further log x w v k (u ∷ seen) h = (leads_on log x u w v h.0 k, further log x w v k seen h.1)
 
-others : (log : Log) → (IsCyclic (arcs log) → ⊥) → (v : ℕ) (seen : List ℕ) → AllByRecursion (λ u. Reaches (arcs log) u v) seen → AllByRecursion (λ u. nat_eq v u ≡ false) seen
-others log acyclic v [] h = tt
-others log acyclic v (u ∷ seen) h =
-    (ne_eqb v u (λ e. acyclic (v, subst (λ q. Reaches (arcs log) q v) (sym e) h.0)), others log acyclic v seen h.1)
+others : (log : Log) (x : ℕ) → NoneCloses log x → (v : ℕ) (seen : List ℕ) → AllByRecursion (λ u. Leads log x u v) seen → AllByRecursion (λ u. nat_eq v u ≡ false) seen
+others log x none v [] h = tt
+others log x none v (u ∷ seen) h =
+    (ne_eqb v u (λ e. let c = closed_from log x v (subst (λ q. Leads log x q v) (sym e) h.0) in none.none c.0 c.1), others log x none v seen h.1)
 
-onward : (log : Log) → IsClean log → (IsCyclic (arcs log) → ⊥) → (x w v : ℕ) (seen : List ℕ) → x < log.keys → next log x w ≡ Some v → Seen log w seen → Seen log v (w ∷ seen)
-onward log clean acyclic x w v seen key e s =
-    let r = next_reached log clean x w v key e in
-    let reach : AllByRecursion (λ u. Reaches (arcs log) u v) (w ∷ seen) = (r, further log w v r seen s.reach) in
-    record { reach = reach; apart = cons_apart v (w ∷ seen) (others log acyclic v (w ∷ seen) reach) s.apart; within = ((next_is log x w v e).high, s.within) }
+onward : (log : Log) (x : ℕ) → NoneCloses log x → (w v : ℕ) (seen : List ℕ) → next log x w ≡ Some v → Seen log x w seen → Seen log x v (w ∷ seen)
+onward log x none w v seen e s =
+    let k = next_is log x w v e in
+    let leads : AllByRecursion (λ u. Leads log x u v) (w ∷ seen) = (leads_once log x w v k, further log x w v k seen s.leads) in
+    record { leads = leads; apart = cons_apart v (w ∷ seen) (others log x none v (w ∷ seen) leads) s.apart; within = (k.high, s.within) }
 
-below_all : (n : ℕ) (us : List ℕ) → AllByRecursion (λ u. u ≤ n) us → (q : ℕ) → list_any (eqb q) us ≡ true → q < n + 1
+pub below_all : (n : ℕ) (us : List ℕ) → AllByRecursion (λ u. u ≤ n) us → (q : ℕ) → list_any (eqb q) us ≡ true → q < n + 1
 below_all n [] h q t = absurd (false≢true t)
 below_all n (u ∷ us) h q t = elim (or_cases (eqb q u) (list_any (eqb q) us) t) [
   | inl e ↦ omega (arith, eqb-true q u e, h.0)
   | inr r ↦ below_all n us h.1 q r
 ]
 
-ended : (log : Log) → IsClean log → (IsCyclic (arcs log) → ⊥) → (x : ℕ) → x < log.keys → (f w : ℕ) (seen : List ℕ) → Seen log w seen → log.nodes ≤ f + length seen → next log x (tail_from log x f w) ≡ None
-ended log clean acyclic x key zero w seen s h = elim (some_cases (next log x w)) [
+ended : (log : Log) (x : ℕ) → NoneCloses log x → (f w : ℕ) (seen : List ℕ) → Seen log x w seen → log.nodes ≤ f + length seen → next log x (tail_from log x f w) ≡ None
+ended log x none zero w seen s h = elim (some_cases (next log x w)) [
   | inl e ↦ e
   | inr v ↦
-      let t = onward log clean acyclic x w v.0 seen key v.1 s in
+      let t = onward log x none w v.0 seen v.1 s in
       let many = length-le_from_distinct_below (v.0 ∷ w ∷ seen) (log.nodes + 1) t.apart (below_all log.nodes (v.0 ∷ w ∷ seen) t.within) in
       absurd (omega (arith, many, h))
 ]
-ended log clean acyclic x key (suc f) w seen s h = elim (some_cases (next log x w)) [
+ended log x none (suc f) w seen s h = elim (some_cases (next log x w)) [
   | inl e ↦ subst (λ q. next log x q ≡ None) (sym (step_none log x f w e)) e
   | inr v ↦ subst (λ q. next log x q ≡ None) (sym (step_some log x f w v.0 v.1))
-      (ended log clean acyclic x key f v.0 (w ∷ seen) (onward log clean acyclic x w v.0 seen key v.1 s) (omega arith))
+      (ended log x none f v.0 (w ∷ seen) (onward log x none w v.0 seen v.1 s) (omega arith))
 ]
 
-tail_ends : (log : Log) → IsClean log → (IsCyclic (arcs log) → ⊥) → (x : ℕ) → x < log.keys → (w : ℕ) → w ≤ log.nodes → next log x (tail log x w) ≡ None
-tail_ends log clean acyclic x key w hw =
-    ended log clean acyclic x key log.nodes w [] (record { reach = tt; apart = alone w; within = (hw, tt) }) (omega arith)
+pub tail_ends : (log : Log) (x : ℕ) → NoneCloses log x → (w : ℕ) → w ≤ log.nodes → next log x (tail log x w) ≡ None
+tail_ends log x none w hw =
+    ended log x none log.nodes w [] (record { leads = tt; apart = alone w; within = (hw, tt) }) (omega arith)
 
 -- ---- lists of writers
 record Linked (log : Log) (x w t : ℕ) : Type 0 where
@@ -126,10 +115,10 @@ next_none log clean x t h = elim (some_cases (next log x t)) [
   | inr v ↦ let k = next_is log x t v.0 v.1 in absurd (h v.0 k.low k.high k.writer k.from)
 ]
 
-made : (log : Log) → IsClean log → (IsCyclic (arcs log) → ⊥) → (x : ℕ) → x < log.keys → (w : ℕ) → w ≤ log.nodes → IsWriter log x w → (w ≡ 0) ⊎ (source log w x ≡ None) → (rest : List ℕ) × IsChain log x w rest
-made log clean acyclic x key w hw writer begins =
+pub made : (log : Log) (x : ℕ) → NoneCloses log x → (w : ℕ) → w ≤ log.nodes → IsWriter log x w → (w ≡ 0) ⊎ (source log w x ≡ None) → (rest : List ℕ) × IsChain log x w rest
+made log x none w hw writer begins =
     let l = links log x log.nodes w in
-    let end = tail_ends log clean acyclic x key w hw in (
+    let end = tail_ends log x none w hw in (
       l.rest,
       record {
         writer = writer;
@@ -139,12 +128,12 @@ made log clean acyclic x key w hw writer begins =
       },
     )
 
-pub each_chain : (log : Log) → IsClean log → (IsCyclic (arcs log) → ⊥) → (x : ℕ) → x < log.keys → (w : ℕ) → (w ≡ 0) ⊎ Contains (heads log x) w → (rest : List ℕ) × IsChain log x w rest
-each_chain log clean acyclic x key w (inl z) = made log clean acyclic x key w (omega (arith, z)) (inl z) (inl z)
-each_chain log clean acyclic x key w (inr c) =
+pub each_chain : (log : Log) (x : ℕ) → NoneCloses log x → (w : ℕ) → (w ≡ 0) ⊎ Contains (heads log x) w → (rest : List ℕ) × IsChain log x w rest
+each_chain log x none w (inl z) = made log x none w (omega (arith, z)) (inl z) (inl z)
+each_chain log x none w (inr c) =
     let h = in_head log x w c in
     let p = head_parts log x w h.test in
-    made log clean acyclic x key w h.high (inr (h.low, h.high, p.writer)) (inr p.none)
+    made log x none w h.high (inr (h.low, h.high, p.writer)) (inr p.none)
 
 head_kind : (log : Log) (x w : ℕ) → IsWriter log x w → (w ≡ 0) ⊎ (source log w x ≡ None) → (w ≡ 0) ⊎ Contains (heads log x) w
 head_kind log x w (inl z) b = inl z
@@ -155,13 +144,13 @@ head_kind log x w (inr k) (inr none) = inr (head_in log x w (record {
   test = and_from (writes log x w) _ k.2 (not_from_false (is_some (source log w x)) (ap is_some none));
 }))
 
-writer_within : (log : Log) (x w : ℕ) → IsWriter log x w → w ≤ log.nodes
+pub writer_within : (log : Log) (x w : ℕ) → IsWriter log x w → w ≤ log.nodes
 writer_within log x w (inl z) = omega (arith, z)
 writer_within log x w (inr k) = k.1
 
-pub only_chain : (log : Log) → IsClean log → (IsCyclic (arcs log) → ⊥) → (x : ℕ) → x < log.keys → (w : ℕ) (rest : List ℕ) → IsChain log x w rest → ((w ≡ 0) ⊎ Contains (heads log x) w) × (last w rest ≡ tail log x w)
-only_chain log clean acyclic x key w rest c = (
+pub only_chain : (log : Log) → IsClean log → (x : ℕ) → NoneCloses log x → (w : ℕ) (rest : List ℕ) → IsChain log x w rest → ((w ≡ 0) ⊎ Contains (heads log x) w) × (last w rest ≡ tail log x w)
+only_chain log clean x none w rest c = (
   head_kind log x w c.writer c.begins,
   one_last log clean x log.nodes w rest c.linked (next_none log clean x (last w rest) c.ends)
-      (tail_ends log clean acyclic x key w (writer_within log x w c.writer)),
+      (tail_ends log x none w (writer_within log x w c.writer)),
 )

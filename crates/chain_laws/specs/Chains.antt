@@ -1,5 +1,5 @@
 -- The chains of a key, and the polygraph of a history's chains.
-use Rattle.std.specs.Prelude.{◌≡◌, ◌⊎◌, ◌<◌, ◌≤◌, ℕ, zero, suc, ◌==◌, ◌&&◌, not, List, [], ◌∷◌, ◌++◌, Option, None, Some, Bool, true, false, is_some, map}
+use Rattle.std.specs.Prelude.{◌≡◌, ◌⊎◌, ◌<◌, ◌≤◌, ℕ, zero, suc, ◌==◌, ◌&&◌, not, List, [], ◌∷◌, ◌++◌, length, Option, None, Some, Bool, true, false, is_some, map}
 use Rattle.std.specs.List.{find, filter, flat_map}
 use Rattle.std.specs.Option.{option_map_or}
 use Rattle.serializability.specs.Log.{Log}
@@ -94,3 +94,17 @@ pub record IsChain (log : Log) (x w : ℕ) (rest : List ℕ) : Type 0 where
   pub linked : IsLinked log x w rest
   pub begins : (w ≡ 0) ⊎ (source log w x ≡ None)
   pub ends : (v : ℕ) → 0 < v → v ≤ log.nodes → writes log x v ≡ true → source log v x ≡ Some (last w rest) → ⊥
+
+-- ---- chains that close on themselves
+-- at least two nodes, of which the first is the last again: each next one writes the key, and reads it from the one before
+pub record IsClosedChain (log : Log) (x : ℕ) (line : List ℕ) : Type 0 where
+  pub start : ℕ
+  pub rest : List ℕ
+  pub shape : line ≡ start ∷ rest
+  pub more : 0 < length rest
+  pub linked : IsLinked log x start rest
+  pub closes : last start rest ≡ start
+
+-- no chain of the key closes on itself
+pub record NoneCloses (log : Log) (x : ℕ) : Type 0 where
+  pub none : (line : List ℕ) → IsClosedChain log x line → ⊥

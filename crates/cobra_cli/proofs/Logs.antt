@@ -1,7 +1,8 @@
 -- What the parts of reading say of a log.
-use Rattle.std.proofs.Common.{◌≡◌, ℕ, ◌<◌, ◌≤◌, ◌^◌, Bool, true, false, cond, List, [], ◌∷◌, ◌++◌, length, Option, Some, None, Result, Ok, Err, refl, ap, ◌∙◌, arith, length-append, nat_lt}
+use Rattle.std.proofs.Common.{◌≡◌, ℕ, ◌<◌, ◌≤◌, ◌^◌, Bool, true, false, cond, List, [], ◌∷◌, ◌++◌, length, Option, Some, None, Result, Ok, Err, refl, sym, ap, ◌∙◌, subst, arith, length-append, nat_lt}
 use Rattle.std.specs.Prelude.{IfErr}
 use Rattle.std.specs.List.{AllByRecursion}
+use Rattle.std.specs.Option.{option_or}
 use Rattle.std.proofs.lemmas.Bool.{ltb-false}
 use Rattle.session_log.specs.Text.{ClientSession, IsLegal, line_text, text_of_lines, log_text}
 use Rattle.session_log.specs.Blocks.{size_fault}
@@ -12,6 +13,7 @@ use Rattle.session_log.specs.declared.fault.Limit.TheVariants as limit
 use Rattle.session_log.specs.declared.fault.LogFault.{LogFault}
 use Rattle.session_log.specs.declared.fault.LogFault.TheVariants as faults
 use Rattle.session_log.proofs.Whole.{log_by_lines}
+use Rattle.gather.specs.Pieces.{reading_fault}
 use Rattle.log_definitions.specs.WellFormed.{log_lines, list_fault, IsLogFault, memory, size, grammar, list}
 
 -- a fault, where memory is one apart
@@ -30,6 +32,13 @@ from_size text f h = named {P = IsLogFault text} (size_fault text) f memory (λ 
 
 pub from_grammar : (text : List ℕ) (f : LogFault) → size_fault text ≡ None → IsFault f (grammar_fault text) → IsLogFault text f
 from_grammar text f s h = named {P = IsLogFault text} (grammar_fault text) f memory (λ g e. grammar g s e) h
+
+reading : (text : List ℕ) (f : LogFault) (o : Option LogFault) → size_fault text ≡ o → IsFault f (option_or o (grammar_fault text)) → IsLogFault text f
+reading text f None e h = from_grammar text f e h
+reading text f (Some g) e h = from_size text f (subst (IsFault f) (sym e) h)
+
+pub from_reading : (text : List ℕ) (f : LogFault) → IsFault f (reading_fault text) → IsLogFault text f
+from_reading text f h = reading text f (size_fault text) refl h
 
 pub from_list : (text : List ℕ) (ss : List ClientSession) (f : LogFault) → size_fault text ≡ None → AllByRecursion IsLegal ss → text ≡ log_text ss → IsFault f (list_fault ss) → IsLogFault text f
 from_list text ss f s l t h = named {P = IsLogFault text} (list_fault ss) f memory (λ g e. list g ss s l t e) h

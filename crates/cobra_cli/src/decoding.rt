@@ -13,11 +13,15 @@ use crate::fault::Fault;
 use crate::reading::read_log;
 use crate::status::{Options, Status};
 use decode_order::{DecodeFault, positions};
+use desk::gate::Gate;
 use dimacs::{Sink, SolverAnswer, read_answer, write_all};
 use history::{History, Order};
 use order_cnf::Formula;
 use order_text::print_order;
 use std::alloc::Global;
+use std::sync::Wait;
+use std::thread::Threads;
+use std::time::Clock;
 
 /// The order that an assignment of a formula stands for.
 fn order_of(alloc: Global, formula: &Formula, values: &[bool]) -> Result<Order, Fault>
@@ -91,11 +95,13 @@ fn decode_history<W: Sink>(
 /// # Errors
 /// Those of the log and of its formula, as at `encode`; then those of the answer, M1 to M8; then E1 with the first clause that
 /// the assignment makes false; the sink's failure; want of memory.
-pub fn decode<W: Sink>(
+pub fn decode<R: Threads + Wait + Clock + Sync, G: Gate, W: Sink>(
+    rt: &R,
     alloc: Global,
     log: &[u8],
     answer: &[u8],
-    _options: &Options,
+    options: &Options,
+    gate: &G,
     sink: &mut W,
 ) -> Result<Status, Fault>
     ensures decoded { IfOk result (λ status. HoldsOf log.now
@@ -104,6 +110,6 @@ pub fn decode<W: Sink>(
         (IsDecodeFault (W.bytes sink.old) (W.bytes sink.new) answer.now)) }
     ensures count { W.failures sink.new ≡ failures_after (W.failures sink.old) result }
 {
-    let history = read_log(alloc, log)?;
+    let history = read_log(rt, alloc, log, options.workers, gate)?;
     decode_history(alloc, &history, answer, sink)
 }

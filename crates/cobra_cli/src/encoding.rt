@@ -11,10 +11,14 @@ use crate::fault::Fault;
 use crate::reading::read_log;
 use crate::status::{Options, Status};
 use anomalies::classify;
+use desk::gate::Gate;
 use dimacs::{Sink, write_formula};
 use history::History;
 use order_cnf::{CnfFault, Formula, MAX_PLAIN_NODES, contradiction, plain_formula};
 use std::alloc::Global;
+use std::sync::Wait;
+use std::thread::Threads;
+use std::time::Clock;
 
 /// The formula of a history: the plain one where no anomaly stands, and else the contradiction.
 #[tactic(auto, unfolding(crate::specs::Commands::formula_fault, log_definitions::specs::Numbers::plain_answer))]
@@ -51,10 +55,12 @@ fn encode_history<W: Sink>(alloc: Global, history: &History, sink: &mut W) -> Re
 /// # Errors
 /// The log's first fault; G2 above 100 committed transactions; G1 above 100,000 bipaths; the sink's failure, with how much
 /// of the text went out; want of memory. At each but the sink's nothing was written.
-pub fn encode<W: Sink>(
+pub fn encode<R: Threads + Wait + Clock + Sync, G: Gate, W: Sink>(
+    rt: &R,
     alloc: Global,
     log: &[u8],
-    _options: &Options,
+    options: &Options,
+    gate: &G,
     sink: &mut W,
 ) -> Result<Status, Fault>
     ensures encoded { OnOk result
@@ -64,6 +70,6 @@ pub fn encode<W: Sink>(
         (IsEncodeFault (W.bytes sink.old) (W.bytes sink.new))) }
     ensures count { W.failures sink.new ≡ failures_after (W.failures sink.old) result }
 {
-    let history = read_log(alloc, log)?;
+    let history = read_log(rt, alloc, log, options.workers, gate)?;
     encode_history(alloc, &history, sink)
 }

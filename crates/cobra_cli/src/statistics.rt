@@ -12,11 +12,15 @@ use crate::fault::Fault;
 use crate::reading::read_log;
 use crate::status::{Options, Status};
 use anomalies::classify;
+use desk::gate::Gate;
 use dimacs::{Sink, write_all};
 use history::{Anomaly, History, ReadAnomaly};
 use itoa::Buffer;
 use order_cnf::bipath_count;
 use std::alloc::{AllocError, Global};
+use std::sync::Wait;
+use std::thread::Threads;
+use std::time::Clock;
 
 /// Appends a word, a space and a number.
 fn put_count(out: &mut Vec<u8>, word: &[u8], count: usize) -> Result<(), AllocError>
@@ -132,10 +136,12 @@ fn write_stats<W: Sink>(alloc: Global, history: &History, sink: &mut W) -> Resul
 ///
 /// # Errors
 /// Those of `encode`.
-pub fn stats<W: Sink>(
+pub fn stats<R: Threads + Wait + Clock + Sync, G: Gate, W: Sink>(
+    rt: &R,
     alloc: Global,
     log: &[u8],
-    _options: &Options,
+    options: &Options,
+    gate: &G,
     sink: &mut W,
 ) -> Result<Status, Fault>
     ensures written { OnOk result
@@ -145,6 +151,6 @@ pub fn stats<W: Sink>(
         (IsStatsFault (W.bytes sink.old) (W.bytes sink.new))) }
     ensures count { W.failures sink.new ≡ failures_after (W.failures sink.old) result }
 {
-    let history = read_log(alloc, log)?;
+    let history = read_log(rt, alloc, log, options.workers, gate)?;
     write_stats(alloc, &history, sink)
 }

@@ -31,6 +31,6 @@ impl Status {
 pub struct Options {
     /// The plain formula was asked for. It is the only one so far, and is taken with or without this.
     pub plain: bool,
-    /// How many workers may take part. One works so far, whatever this says.
+    /// How many workers read the log.
     pub workers: Workers,
 }

@@ -10,12 +10,16 @@ ghost use Rattle.cobra_cli.specs.Failures.{failures_after};
 
 use crate::fault::Fault;
 use crate::reading::read_log;
-use crate::status::Status;
+use crate::status::{Options, Status};
 use decode_order::{ReplayFault, replay};
+use desk::gate::Gate;
 use dimacs::{Sink, write_all};
 use history::{History, Order};
 use order_text::read_order;
 use std::alloc::Global;
+use std::sync::Wait;
+use std::thread::Threads;
+use std::time::Clock;
 
 /// A refusal of a replay, with the names of the transactions.
 fn replay_refusal(history: &History, order: &Order, fault: ReplayFault) -> Fault
@@ -81,10 +85,13 @@ fn verify_history<W: Sink>(
 /// # Errors
 /// The log's first fault; the order file's, O1 to O3; then P1, P2 or P3 of the order's replay; the sink's failure; want of
 /// memory.
-pub fn verify<W: Sink>(
+pub fn verify<R: Threads + Wait + Clock + Sync, G: Gate, W: Sink>(
+    rt: &R,
     alloc: Global,
     log: &[u8],
     order: &[u8],
+    options: &Options,
+    gate: &G,
     sink: &mut W,
 ) -> Result<Status, Fault>
     ensures verified { OnOk result
@@ -94,6 +101,6 @@ pub fn verify<W: Sink>(
         (IsVerifyFault (W.bytes sink.old) (W.bytes sink.new) order.now)) }
     ensures count { W.failures sink.new ≡ failures_after (W.failures sink.old) result }
 {
-    let history = read_log(alloc, log)?;
+    let history = read_log(rt, alloc, log, options.workers, gate)?;
     verify_history(alloc, &history, order, sink)
 }

@@ -8,13 +8,16 @@ use cobra_cli::{
     stats, verify,
 };
 use cobra_words::{Command, Request, Words, words_of};
+use desk::gate::OpenGate;
 use dimacs::{Counted, MAX_ANSWER_BYTES};
 use order_text::MAX_ORDER_BYTES;
 use session_log::MAX_LOG_BYTES;
 use std::alloc::{AllocError, Global};
-use std::io::Write;
+use std::io::{Eprint, Read, Write};
 use std::process::ExitCode;
-use std::rt::Files;
+use std::rt::{Files, Runtime};
+use std::sync::Wait;
+use std::thread::Threads;
 use std::{env, fs};
 
 /// The exit statuses that no command decides.
@@ -62,12 +65,17 @@ fn read_file<R: Files>(rt: &R, alloc: Global, path: &str, limit: usize) -> Resul
 }
 
 /// Reads the log from its file, or from standard input.
-fn read_input(rt: &HostRuntime, alloc: Global, path: Option<&str>) -> Result<Vec<u8>, Stop> {
+fn read_log_bytes<R: Files, I: Read + Drop>(
+    rt: &R,
+    alloc: Global,
+    path: Option<&str>,
+    input: I,
+) -> Result<Vec<u8>, Stop> {
     match path {
         Some(path) => read_file(rt, alloc, path, MAX_LOG_BYTES),
         None => {
             let mut source = CountedRead {
-                reader: rt.stdin(),
+                reader: input,
                 failures: 0,
             };
             Ok(read_all(alloc, &mut source, MAX_LOG_BYTES)?)
@@ -76,23 +84,29 @@ fn read_input(rt: &HostRuntime, alloc: Global, path: Option<&str>) -> Result<Vec
 }
 
 /// Runs a command on what was read: first the log, then the answer or the order.
-fn run(rt: &HostRuntime, alloc: Global, request: Request<'_>) -> Result<Status, Stop> {
-    let log = read_input(rt, alloc, request.log)?;
+fn run<R: Runtime + Threads + Wait + Sync, I: Read + Drop, W: Write + Drop>(
+    rt: &R,
+    alloc: Global,
+    request: Request<'_>,
+    input: I,
+    output: W,
+) -> Result<Status, Stop> {
+    let log = read_log_bytes(rt, alloc, request.log, input)?;
     let options = Options {
         plain: request.plain,
         workers: request.workers,
     };
-    let mut sink = Counted::new(rt.stdout());
+    let mut sink = Counted::new(output);
     let ended = match request.command {
-        Command::Encode => encode(alloc, &log, &options, &mut sink),
-        Command::Stats => stats(alloc, &log, &options, &mut sink),
+        Command::Encode => encode(rt, alloc, &log, &options, &OpenGate, &mut sink),
+        Command::Stats => stats(rt, alloc, &log, &options, &OpenGate, &mut sink),
         Command::Decode { model } => {
             let answer = read_file(rt, alloc, model, MAX_ANSWER_BYTES)?;
-            decode(alloc, &log, &answer, &options, &mut sink)
+            decode(rt, alloc, &log, &answer, &options, &OpenGate, &mut sink)
         }
         Command::Verify { order } => {
             let order = read_file(rt, alloc, order, MAX_ORDER_BYTES)?;
-            verify(alloc, &log, &order, &mut sink)
+            verify(rt, alloc, &log, &order, &options, &OpenGate, &mut sink)
         }
     };
     match ended {
@@ -105,7 +119,7 @@ fn run(rt: &HostRuntime, alloc: Global, request: Request<'_>) -> Result<Status, 
 }
 
 /// Says why a call ended early, and gives its exit status.
-fn report(rt: &HostRuntime, stop: Stop) -> u8 {
+fn report<R: Eprint>(rt: &R, stop: Stop) -> u8 {
     match stop {
         Stop::Refused(fault) => {
             let line = Line(&fault);
@@ -128,13 +142,18 @@ fn report(rt: &HostRuntime, stop: Stop) -> u8 {
 }
 
 /// Does what the words of the call ask for, and gives the exit status.
-fn answer(rt: &HostRuntime, alloc: Global) -> Result<u8, Stop> {
+fn answer<R: Runtime + AllocGlobal + Threads + Wait + Sync, I: Read + Drop, W: Write + Drop>(
+    rt: &R,
+    alloc: Global,
+    input: I,
+    output: W,
+) -> Result<u8, Stop> {
     let Ok(words) = env::args(rt) else {
         return Err(Stop::Memory);
     };
     let words: Vec<String> = words.collect(alloc)?;
     match words_of(alloc, &words)? {
-        Some(Words::Request(request)) => Ok(run(rt, alloc, request)?.code()),
+        Some(Words::Request(request)) => Ok(run(rt, alloc, request, input, output)?.code()),
         Some(Words::Shown(text)) => {
             let _ = text.print(rt);
             Ok(text.exit_code() as u8)
@@ -144,7 +163,7 @@ fn answer(rt: &HostRuntime, alloc: Global) -> Result<u8, Stop> {
 }
 
 fn main(rt: HostRuntime) -> ExitCode {
-    let status = match answer(&rt, rt.alloc()) {
+    let status = match answer(&rt, rt.alloc(), rt.stdin(), rt.stdout()) {
         Ok(status) => status,
         Err(stop) => report(&rt, stop),
     };

@@ -4,13 +4,17 @@ use cobra_cli::{
     CountedRead, Fault, Line, Options, Status, decode, encode, exit_status, read_all, read_log,
     stats, verify,
 };
+use desk::gate::OpenGate;
 use desk::seat_no::Workers;
 use dimacs::Counted;
 use serializability::{Anomaly, NodeIx, ReadAnomaly};
 use session_log::{cut, parse_block, print_log};
 use std::alloc::{AllocError, Global};
 use std::process::Abort;
+use std::sync::Wait;
 use std::test::Fail;
+use std::thread::Threads;
+use std::time::Clock;
 
 /// A command, with the text of its second file where it has one.
 #[derive(Clone, Copy)]
@@ -29,7 +33,8 @@ fn options(rt: &impl Abort) -> Options {
 }
 
 /// What a command answers, and what it put into a sink that takes `most` bytes a call and fails after `good` calls.
-fn ended(
+fn ended<R: Threads + Wait + Clock + Sync>(
+    rt: &R,
     alloc: Global,
     options: &Options,
     command: Command<'_>,
@@ -43,24 +48,41 @@ fn ended(
         good,
     });
     let result = match command {
-        Command::Encode => encode(alloc, log.as_bytes(), options, &mut sink),
-        Command::Stats => stats(alloc, log.as_bytes(), options, &mut sink),
+        Command::Encode => encode(rt, alloc, log.as_bytes(), options, &OpenGate, &mut sink),
+        Command::Stats => stats(rt, alloc, log.as_bytes(), options, &OpenGate, &mut sink),
         Command::Decode(answer) => {
-            decode(alloc, log.as_bytes(), answer.as_bytes(), options, &mut sink)
+            decode(
+                rt,
+                alloc,
+                log.as_bytes(),
+                answer.as_bytes(),
+                options,
+                &OpenGate,
+                &mut sink,
+            )
         }
-        Command::Verify(order) => verify(alloc, log.as_bytes(), order.as_bytes(), &mut sink),
+        Command::Verify(order) => verify(
+            rt,
+            alloc,
+            log.as_bytes(),
+            order.as_bytes(),
+            options,
+            &OpenGate,
+            &mut sink,
+        ),
     };
     (result, sink.writer.taken)
 }
 
 /// The exit status of a command, and all that it prints.
-fn told(
+fn told<R: Threads + Wait + Clock + Sync>(
+    rt: &R,
     alloc: Global,
     options: &Options,
     command: Command<'_>,
     log: &str,
 ) -> Result<(u8, Vec<u8>), AllocError> {
-    let (result, taken) = ended(alloc, options, command, log, 1 << 20, 1 << 20);
+    let (result, taken) = ended(rt, alloc, options, command, log, 1 << 20, 1 << 20);
     match result {
         Ok(status) => Ok((status.code(), taken)),
         Err(fault) => {
@@ -221,7 +243,7 @@ fn commands_over_logs(rt: HostRuntime) -> Result<(), Fail> {
             "refused: P2 1.2",
         ),
     ] {
-        let (code, printed) = told(rt.alloc(), &options, command, log)?;
+        let (code, printed) = told(&rt, rt.alloc(), &options, command, log)?;
         assert_eq!(rt; code, status, "{text:?}");
         assert_eq!(rt; printed.as_slice(), text.as_bytes());
     }
@@ -243,7 +265,7 @@ fn refused_logs(rt: HostRuntime) -> Result<(), Fail> {
         ("session 1\nsession 1\n", "refused: L2 line 2"),
         ("session 1\nbegin\nw x 1\ncommit", "refused: L1 line 4"),
     ] {
-        let (code, printed) = told(rt.alloc(), &options, Command::Encode, log)?;
+        let (code, printed) = told(&rt, rt.alloc(), &options, Command::Encode, log)?;
         assert_eq!(rt; code, 2, "{line}");
         assert_eq!(rt; printed.as_slice(), line.as_bytes());
     }
@@ -252,15 +274,20 @@ fn refused_logs(rt: HostRuntime) -> Result<(), Fail> {
     for _ in 0..401 {
         many.push_str("begin\ncommit\n")?;
     }
-    let (code, printed) = told(rt.alloc(), &options, Command::Encode, &many)?;
+    let (code, printed) = told(&rt, rt.alloc(), &options, Command::Encode, &many)?;
     assert_eq!(rt; code, 2);
     assert_eq!(rt; printed.as_slice(), b"refused: L7 committed".as_slice());
     Ok(())
 }
 
 /// The anomaly of a log.
-fn anomaly_in(alloc: Global, log: &str) -> Result<Option<Anomaly>, Fault> {
-    let history = read_log(alloc, log.as_bytes())?;
+fn anomaly_in<R: Threads + Wait + Clock + Sync>(
+    rt: &R,
+    alloc: Global,
+    workers: Workers,
+    log: &str,
+) -> Result<Option<Anomaly>, Fault> {
+    let history = read_log(rt, alloc, log.as_bytes(), workers, &OpenGate)?;
     Ok(classify(alloc, &history)?)
 }
 
@@ -278,6 +305,7 @@ fn read(rt: &impl Abort, kind: ReadAnomaly, number: usize, op: usize) -> Option<
 
 #[test]
 fn anomalies_with_evidence(rt: HostRuntime) {
+    let options = options(&rt);
     let lost_update = Anomaly::LostUpdate {
         key: 0,
         source: NodeIx::INITIAL,
@@ -318,7 +346,7 @@ fn anomalies_with_evidence(rt: HostRuntime) {
         ("session 1\nbegin\nr x 9\nabort\n", None),
         (LATER_WRITE_READ, None),
     ] {
-        let found = anomaly_in(rt.alloc(), log).expect(&rt, log);
+        let found = anomaly_in(&rt, rt.alloc(), options.workers, log).expect(&rt, log);
         assert_eq!(rt; found, anomaly, "{log:?}");
     }
 }
@@ -328,7 +356,15 @@ fn each_put_fails_in_turn(rt: HostRuntime) -> Result<(), Fail> {
     let options = options(&rt);
     let text = TWO_WRITERS_FORMULA.as_bytes();
     for good in 0..text.len() {
-        let (result, taken) = ended(rt.alloc(), &options, Command::Encode, TWO_WRITERS, 1, good);
+        let (result, taken) = ended(
+            &rt,
+            rt.alloc(),
+            &options,
+            Command::Encode,
+            TWO_WRITERS,
+            1,
+            good,
+        );
         assert_eq!(rt;
             result,
             Err(Fault::Device {
@@ -338,6 +374,7 @@ fn each_put_fails_in_turn(rt: HostRuntime) -> Result<(), Fail> {
         assert_eq!(rt; taken.as_slice(), &text[..good]);
     }
     let (result, taken) = ended(
+        &rt,
         rt.alloc(),
         &options,
         Command::Encode,

@@ -1,0 +1,5 @@
+pub mod Joined
+pub mod Steps
+pub mod Sets
+pub mod Between
+pub mod LogRoom

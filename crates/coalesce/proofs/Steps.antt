@@ -1,0 +1,67 @@
+-- What is made of the elements of a list, one by one.
+use Rattle.std.proofs.Common.{◌≡◌, ℕ, zero, suc, ◌+◌, ◌<◌, ◌≤◌, List, [], ◌∷◌, ◌++◌, length, get_or, take, drop, sym, ap, ◌∙◌, subst, ◌-◌, arith, append_assoc, length-append}
+use Rattle.std.specs.Prelude.{map}
+use Rattle.std.specs.List.{flat_map, range_with_len}
+use Rattle.std.proofs.lemmas.List.{append-nil, map-append, take_more, drop_more}
+use Rattle.std.proofs.lemmas.Grind.{flat_map-append}
+
+-- ---- of the numbers below k
+range_last : (a k : ℕ) → range_with_len a (k + 1) ≡ range_with_len a k ++ (a + k) ∷ []
+range_last a zero = let e : a ≡ a + 0 = omega arith in ap (λ n. n ∷ []) e
+range_last a (suc k) =
+    let e : (a + 1) + k ≡ a + suc k = omega arith in
+    let two : suc k + 1 ≡ suc (k + 1) = omega arith in
+    ap (range_with_len a) two ∙ ap (λ l. a ∷ l) (range_last (a + 1) k) ∙ ap (λ n. a ∷ (range_with_len (a + 1) k ++ n ∷ [])) e
+
+abbrev pub so_far : {X : Type 0} → (ℕ → List X) → ℕ → List X
+so_far f k = flat_map f (range_with_len 0 k)
+
+pub so_far_more : {X : Type 0} (f : ℕ → List X) (k : ℕ) → so_far f (k + 1) ≡ so_far f k ++ f k
+so_far_more f k =
+    let here : 0 + k ≡ k = omega arith in
+    ap (flat_map f) (range_last 0 k ∙ ap (λ v. range_with_len 0 k ++ v ∷ []) here)
+    ∙ flat_map-append f (range_with_len 0 k) (k ∷ [])
+    ∙ ap (λ l. so_far f k ++ l) (append-nil (f k))
+
+so_far_up : {X : Type 0} (f : ℕ → List X) (k d : ℕ) → length (so_far f k) ≤ length (so_far f (k + d))
+so_far_up f k zero = let e : k + 0 ≡ k = omega arith in subst (λ n. length (so_far f k) ≤ length (so_far f n)) (sym e) (omega arith)
+so_far_up f k (suc d) =
+    let e : k + suc d ≡ (k + d) + 1 = omega arith in
+    subst (λ n. length (so_far f k) ≤ length (so_far f n)) (sym e)
+    (omega (arith, so_far_up f k d, ap length (so_far_more f (k + d)), length-append (so_far f (k + d)) (f (k + d))))
+
+pub so_far_length : {X : Type 0} (f : ℕ → List X) (k : ℕ) → length (so_far f (k + 1)) ≡ length (so_far f k) + length (f k)
+so_far_length f k = ap length (so_far_more f k) ∙ length-append (so_far f k) (f k)
+
+pub so_far_le : {X : Type 0} (f : ℕ → List X) (k n : ℕ) → k ≤ n → length (so_far f k) ≤ length (so_far f n)
+so_far_le f k n h = let e : k + (n - k) ≡ n = omega arith in subst (λ m. length (so_far f k) ≤ length (so_far f m)) e (so_far_up f k (n - k))
+
+-- ---- of what a list's items stand for
+pub mapped_more : {X Y Z : Type 0} (g : X → Y) (f : Y → Z) (xs : List X) (i : ℕ) (x : X) → i < length xs → x ≡ get_or xs i x → map f (map g (take (i + 1) xs)) ≡ map f (map g (take i xs)) ++ f (g x) ∷ []
+mapped_more g f xs i x lt is =
+    ap (λ l. map f (map g l)) (take_more xs i x lt)
+    ∙ ap (map f) (map-append g (take i xs) (get_or xs i x ∷ []))
+    ∙ map-append f (map g (take i xs)) (g (get_or xs i x) ∷ [])
+    ∙ ap (λ y. map f (map g (take i xs)) ++ f (g y) ∷ []) (sym is)
+
+pub flat_more : {X Y Z : Type 0} (g : X → Y) (f : Y → List Z) (xs : List X) (i : ℕ) (x : X) → i < length xs → x ≡ get_or xs i x → flat_map f (map g (take (i + 1) xs)) ≡ flat_map f (map g (take i xs)) ++ f (g x)
+flat_more g f xs i x lt is =
+    ap (λ l. flat_map f (map g l)) (take_more xs i x lt)
+    ∙ ap (flat_map f) (map-append g (take i xs) (get_or xs i x ∷ []))
+    ∙ flat_map-append f (map g (take i xs)) (g (get_or xs i x) ∷ [])
+    ∙ ap (λ l. flat_map f (map g (take i xs)) ++ l) (append-nil (f (g (get_or xs i x))))
+    ∙ ap (λ y. flat_map f (map g (take i xs)) ++ f (g y)) (sym is)
+
+pub one_more : {X Y : Type 0} (g : X → Y) (xs : List X) (i : ℕ) (x : X) → i < length xs → x ≡ get_or xs i x → map g (take (i + 1) xs) ≡ map g (take i xs) ++ g x ∷ []
+one_more g xs i x lt is =
+    ap (map g) (take_more xs i x lt)
+    ∙ map-append g (take i xs) (get_or xs i x ∷ [])
+    ∙ ap (λ y. map g (take i xs) ++ g y ∷ []) (sym is)
+
+pub rest_from : {X Y : Type 0} (g : X → Y) (xs : List X) (i : ℕ) (x : X) → i < length xs → x ≡ get_or xs i x → map g (drop i xs) ≡ g x ∷ map g (drop (i + 1) xs)
+rest_from g xs i x lt is = ap (map g) (drop_more xs i x lt) ∙ ap (λ y. g y ∷ map g (drop (i + 1) xs)) (sym is)
+
+-- what was written, and one piece more
+pub piece_added : {X : Type 0} (old made now next piece total : List X) → now ≡ old ++ made → next ≡ now ++ piece → total ≡ made ++ piece → next ≡ old ++ total
+piece_added old made now next piece total h e t =
+    e ∙ ap (λ l. l ++ piece) h ∙ append_assoc old made piece ∙ ap (λ l. old ++ l) (sym t)

@@ -1,0 +1,10 @@
+use Rattle.std.proofs.Common.{◌≡◌, take}
+use Rattle.std.specs.Prelude.{map}
+use Rattle.coalesce.specs.Added.{IsWith}
+use Rattle.coalesce.proofs.known.add_edges_to.Given as goal
+
+abbrev pub invariant-loop-source : goal.invariant-loop-source
+invariant-loop-source l = record {
+  edges : IsWith l.initial.known.edges (map (λ u. (u, l.target)) (take l.source-index l.sources)) l.known.edges;
+  nodes : l.known.nodes ≡ l.initial.known.nodes;
+}

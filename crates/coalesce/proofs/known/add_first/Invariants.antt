@@ -1,0 +1,13 @@
+use Rattle.std.proofs.Common.{◌≡◌, take}
+use Rattle.std.specs.Prelude.{map}
+use Rattle.std.specs.List.{flat_map}
+use Rattle.write_chains.specs.Views.{chain_view}
+use Rattle.coalesce.specs.Added.{IsWith}
+use Rattle.coalesce.specs.Between.{before}
+use Rattle.coalesce.proofs.known.add_first.Given as goal
+
+abbrev pub invariant-loop-other : goal.invariant-loop-other
+invariant-loop-other l = record {
+  edges : IsWith l.initial.known.edges (flat_map (before (chain_view l.first)) (map chain_view (take l.other-index l.others))) l.known.edges;
+  nodes : l.known.nodes ≡ l.initial.known.nodes;
+}

@@ -1,0 +1,74 @@
+-- What legal histories of the machine keep.
+use Rattle.std.proofs.Common.{◌≡◌, ◌≢◌, ⊎_elim, ℕ, zero, suc, Bool, true, false, ◌&&◌, ◌==◌, List, [], ◌∷◌, Option, Some, None, refl, sym, ap, ◌∙◌, subst}
+use Rattle.std.specs.Prelude.{slice_get, slice_set, if◌then◌else◌}
+use Rattle.std.specs.Str.{bytes_eq}
+use Rattle.std.proofs.lemmas.Bool.{eqb-true}
+use Rattle.std.proofs.lemmas.Slice.Eq.{bytes_eq-Decides}
+use Rattle.session_log.specs.Blocks.{blocks_of, block_text}
+use Rattle.session_log.specs.declared.block.Block.{Block as Place}
+use Rattle.desk.specs.declared.history.Entry.{Entry}
+use Rattle.desk.specs.History.{entry, IsLegal}
+use Rattle.desk.proofs.Tied.{get_set}
+use Rattle.gather.specs.Pieces.{Piece, IsPiece, is_piece_of, is_piece}
+use Rattle.gather.specs.Steps.{State, is_kept, is_held_by, put_reply, next_of, reply_of}
+use Rattle.gather.specs.Kept.{WasKept, AreKept}
+use Rattle.gather.specs.declared.parts.Mark.{Mark}
+use Rattle.gather.specs.declared.parts.Event.{Event}
+use Rattle.gather.specs.declared.parts.Event.TheVariants.{Take, Put, Release}
+use Rattle.gather.specs.declared.parts.Reply.{Reply}
+use Rattle.gather.specs.declared.parts.Reply.TheVariants.{Double, Kept, Stranger}
+
+log_same : (s : State) (seat : ℕ) (e : Event) → (next_of s seat e).log ≡ s.log
+log_same s seat Take = refl
+log_same s seat (Put k p) = refl
+log_same s seat Release = refl
+
+by_tests : (kept held fits : Bool) → (if kept then Double else (if held && fits then Kept else Stranger)) ≡ Kept → fits ≡ true
+by_tests true held fits e = absurd (cc)
+by_tests false false fits e = absurd (cc)
+by_tests false true true e = refl
+by_tests false true false e = absurd (cc)
+
+-- only a piece of the block is kept
+kept_fits : (seat : ℕ) (fits : Bool) (m : Option Mark) → put_reply seat fits m ≡ Kept → fits ≡ true
+kept_fits seat fits None e = absurd (cc)
+kept_fits seat fits (Some m) e = by_tests (is_kept m) (is_held_by seat m) fits e
+
+both : (a b : Bool) → (a && b) ≡ true → (a ≡ true) × (b ≡ true)
+both true b e = (refl, e)
+both false b e = absurd (cc)
+
+piece_of : (log : List ℕ) (k : ℕ) (p : Piece) (o : Option Place) → slice_get (blocks_of log) k ≡ o → is_piece_of log p o ≡ true → IsPiece log k p
+piece_of log k p None here e = absurd (cc)
+piece_of log k p (Some b) here e =
+    let t = both (bytes_eq p.text (block_text log b)) (p.line == b.line) e in
+    record { block = b; here = here; piece = record { text = (bytes_eq-Decides p.text (block_text log b)).0 t.0; line = eqb-true p.line b.line t.1 } }
+
+pub piece_where : (log : List ℕ) (k : ℕ) (p : Piece) → is_piece log k p ≡ true → IsPiece log k p
+piece_where log k p e = piece_of log k p (slice_get (blocks_of log) k) refl e
+
+kept_at : (s : State) (history : List (Entry Event Reply)) (n seat k : ℕ) (p : Piece) → IsLegal next_of reply_of s history → slice_get history n ≡ Some (entry seat (Put k p) Kept) → is_piece s.log k p ≡ true
+kept_at s [] n seat k p legal e = absurd (cc)
+kept_at s (x ∷ xs) zero seat k p legal e =
+    let some : Some x ≡ Some (entry seat (Put k p) Kept) = e in
+    let is : x ≡ entry seat (Put k p) Kept = cc in
+    let answered : (entry seat (Put k p) Kept).reply ≡ reply_of s seat (Put k p) = subst (λ (y : Entry Event Reply). y.reply ≡ reply_of s y.seat y.event) is legal.0 in
+    kept_fits seat (is_piece s.log k p) (slice_get s.marks k) (sym answered)
+kept_at s (x ∷ xs) (suc n) seat k p legal e =
+    ap (λ log. is_piece log k p) (sym (log_same s x.seat x.event)) ∙ kept_at (next_of s x.seat x.event) xs n seat k p legal.1 e
+
+pub kept_pieces : (s : State) (history : List (Entry Event Reply)) → IsLegal next_of reply_of s history → (k : ℕ) (p : Piece) → WasKept history k p → IsPiece s.log k p
+kept_pieces s history legal k p kept = piece_where s.log k p (kept_at s history kept.place kept.seat k p legal kept.here)
+
+-- one step more of a history was looked at, and it kept a piece
+pub kept_more : (history : List (Entry Event Reply)) (place : ℕ) (x : Entry Event Reply) (found now : List (Option Piece)) (k : ℕ) (p : Piece)
+    → AreKept history found → slice_get history place ≡ Some x → x.event ≡ Put k p → x.reply ≡ Kept → now ≡ slice_set found k (Some p) → AreKept history now
+kept_more history place x found now k p kept at event reply is = λ j q e. ⊎_elim
+    (λ (h : (j ≡ k) × (Some q ≡ Some p)).
+    let same : q ≡ p = cc in record {
+      place = place;
+      seat = x.seat;
+      here = at ∙ ap Some (ap (λ e. entry x.seat e x.reply) event ∙ ap (λ r. entry x.seat (Put k p) r) reply ∙ ap (λ i. entry x.seat (Put i p) Kept) (sym h.0) ∙ ap (λ r. entry x.seat (Put j r) Kept) (sym same));
+    })
+    (λ (h : (j ≢ k) × (slice_get found j ≡ Some (Some q))). kept j q h.1)
+    (get_set found k j (Some p) (Some q) (ap (λ l. slice_get l j) (sym is) ∙ e))

@@ -1,0 +1,4 @@
+pub mod Places
+pub mod Legal
+pub mod Reading
+pub mod Numbered

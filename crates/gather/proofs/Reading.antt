@@ -1,0 +1,110 @@
+-- What the pieces of a log say of the log.
+use Rattle.std.proofs.Common.{◌≡◌, ℕ, suc, ◌≤◌, length, List, [], ◌∷◌, ◌++◌, Option, Some, None, Ok, Err, map, take, drop, refl, sym, ap, ◌∙◌, subst}
+use Rattle.std.specs.Prelude.{slice_get}
+use Rattle.std.specs.Option.{option_or}
+use Rattle.std.specs.List.{AllByRecursion}
+use Rattle.std.proofs.lemmas.List.{map-append, take_all}
+use Rattle.session_log.specs.Text.{ClientSession, view, IsLegal, session_text, log_text}
+use Rattle.session_log.specs.declared.session.Session.{Session}
+use Rattle.session_log.specs.Lines.{lines}
+use Rattle.session_log.specs.Faults.{grammar_fault, first_fault, Start, IsFault}
+use Rattle.session_log.specs.Blocks.{blocks_of, block_text, block_fault, first_of}
+use Rattle.session_log.specs.declared.block.Block.{Block}
+use Rattle.session_log.specs.declared.fault.LogFault.{LogFault}
+use Rattle.session_log.specs.declared.fault.LogFault.TheVariants as faults
+use Rattle.gather.specs.Pieces.{Piece, IsOutcome, IsRead, IsPiece}
+use Rattle.gather.proofs.Places.{take_at, drop_at, all_push, length_push}
+use Rattle.session_log.proofs.Together.{fault_by_blocks, joined}
+
+-- this very fault
+is_fault : (f : LogFault) (whole : Option LogFault) → whole ≡ Some f → IsFault f whole
+is_fault faults.Memory whole e = tt
+is_fault (faults.BadLine k) whole e = e
+is_fault (faults.SessionTwice k) whole e = e
+is_fault (faults.OutsideTransaction k) whole e = e
+is_fault (faults.OpenTransaction k) whole e = e
+is_fault (faults.WriteZero k) whole e = e
+is_fault (faults.WriteTwice k) whole e = e
+is_fault (faults.OverLimit k) whole e = e
+
+-- a session was read of the block
+session_of : (log : List ℕ) (k : ℕ) (p : Piece) (s : ClientSession) → IsPiece log k p → IsRead p → p.outcome ≡ Ok s → (b : Block) × (slice_get (blocks_of log) k ≡ Some b) × (block_fault log b ≡ None) × IsLegal s × (block_text log b ≡ session_text s)
+session_of log k p s h r o =
+    let got = subst (IsOutcome p.text p.line) o r.outcome in
+    let b = h.block in
+    let fault : block_fault log b ≡ None = ap (λ t. first_fault b.line Start (lines t)) (sym h.piece.text) ∙ ap (λ n. first_fault n Start (lines p.text)) (sym h.piece.line) ∙ got.0 in
+    (b, h.here, fault, got.1, sym h.piece.text ∙ got.2)
+
+-- a fault was found in the block
+fault_of : (log : List ℕ) (k : ℕ) (p : Piece) (f : LogFault) → IsPiece log k p → IsRead p → p.outcome ≡ Err f → (b : Block) × (slice_get (blocks_of log) k ≡ Some b) × (block_fault log b ≡ Some f)
+fault_of log k p f h r o =
+    let got = subst (IsOutcome p.text p.line) o r.outcome in
+    let b = h.block in
+    let fault : block_fault log b ≡ Some f = ap (λ t. first_fault b.line Start (lines t)) (sym h.piece.text) ∙ ap (λ n. first_fault n Start (lines p.text)) (sym h.piece.line) ∙ got.0 in
+    (b, h.here, fault)
+
+module _ {A B C : Type 0} (f : A → C) (g : B → C) where
+  -- one more of both lists
+  one_more : (xs : List A) (ys : List B) (k : ℕ) (x : A) (y : B) → slice_get xs k ≡ Some x → map f (take k xs) ≡ map g ys → f x ≡ g y → map f (take (suc k) xs) ≡ map g (ys ++ y ∷ [])
+  one_more xs ys k x y e h same =
+      ap (map f) (take_at xs k x e) ∙ map-append f (take k xs) (x ∷ []) ∙ ap (λ l. l ++ f x ∷ []) h ∙ ap (λ c. map g ys ++ c ∷ []) same ∙ sym (map-append g ys (y ∷ []))
+
+module _ {A : Type 0} (h : A → Option LogFault) where
+  -- the first fault lies further on
+  further : (xs : List A) (k : ℕ) (x : A) (whole : Option LogFault) → slice_get xs k ≡ Some x → h x ≡ None → whole ≡ first_of (map h (drop k xs)) → whole ≡ first_of (map h (drop (suc k) xs))
+  further xs k x whole e none i = i ∙ ap (λ l. first_of (map h l)) (drop_at xs k x e) ∙ ap (λ o. first_of (o ∷ map h (drop (suc k) xs))) none
+
+  -- the first fault is here
+  here : (xs : List A) (k : ℕ) (x : A) (whole : Option LogFault) (f : LogFault) → slice_get xs k ≡ Some x → h x ≡ Some f → whole ≡ first_of (map h (drop k xs)) → whole ≡ Some f
+  here xs k x whole f e some i = i ∙ ap (λ l. first_of (map h l)) (drop_at xs k x e) ∙ ap (λ o. first_of (o ∷ map h (drop (suc k) xs))) some
+
+-- the first k blocks were read as these sessions
+pub record IsReadTo (log : List ℕ) (k : ℕ) (ss : List ClientSession) : Type 0 where
+  pub legal : AllByRecursion IsLegal ss
+  pub texts : map (block_text log) (take k (blocks_of log)) ≡ map session_text ss
+  pub fault : grammar_fault log ≡ first_of (map (block_fault log) (drop k (blocks_of log)))
+
+pub none_read : (log : List ℕ) → IsReadTo log 0 []
+none_read log = record { legal = tt; texts = refl; fault = fault_by_blocks log }
+
+one_more_read : (log : List ℕ) (k : ℕ) (ss : List ClientSession) (p : Piece) (s : ClientSession) → IsReadTo log k ss → IsPiece log k p → IsRead p → p.outcome ≡ Ok s → IsReadTo log (suc k) (ss ++ s ∷ [])
+one_more_read log k ss p s h piece r o =
+    let x = session_of log k p s piece r o in
+    let b = x.0 in record {
+      legal = all_push IsLegal ss s h.legal x.3;
+      texts = one_more (block_text log) session_text (blocks_of log) ss k b s x.1 h.texts x.4;
+      fault = further (block_fault log) (blocks_of log) k b (grammar_fault log) x.1 x.2 h.fault;
+    }
+
+-- the block after those that were seen was read as this session
+pub one_read : {X : Type 0} (log : List ℕ) (seen : List X) (x : X) (items now : List Session) (p : Piece) (s : Session) → IsReadTo log (length seen) (map view items) → IsPiece log (length seen) p → IsRead p → p.outcome ≡ Ok (view s) → now ≡ items ++ s ∷ [] → IsReadTo log (length (seen ++ x ∷ [])) (map view now)
+one_read log seen x items now p s h piece r o is =
+    let read = one_more_read log (length seen) (map view items) p (view s) h piece r o in
+    let viewed : map view items ++ view s ∷ [] ≡ map view now = sym (map-append view items (s ∷ [])) ∙ ap (map view) (sym is) in
+    subst (λ k. IsReadTo log k (map view now)) (sym (length_push seen x)) (subst (IsReadTo log (suc (length seen))) viewed read)
+
+pub one_refused : (log : List ℕ) (k : ℕ) (ss : List ClientSession) (p : Piece) (f : LogFault) → IsReadTo log k ss → IsPiece log k p → IsRead p → p.outcome ≡ Err f → IsFault f (grammar_fault log)
+one_refused log k ss p f h piece r o =
+    let x = fault_of log k p f piece r o in
+    is_fault f (grammar_fault log) (here (block_fault log) (blocks_of log) k x.0 (grammar_fault log) f x.1 x.2 h.fault)
+
+pub all_read : (log : List ℕ) (k : ℕ) (ss : List ClientSession) → IsReadTo log k ss → length (blocks_of log) ≤ k → log ≡ log_text ss
+all_read log k ss h e = joined log ss (ap (map (block_text log)) (sym (take_all k (blocks_of log) e)) ∙ h.texts)
+
+-- the same fault of another sentence
+fault_as : (f : LogFault) (o whole : Option LogFault) → (o ≡ Some f → whole ≡ Some f) → IsFault f o → IsFault f whole
+fault_as faults.Memory o whole to h = tt
+fault_as (faults.BadLine k) o whole to h = to h
+fault_as (faults.SessionTwice k) o whole to h = to h
+fault_as (faults.OutsideTransaction k) o whole to h = to h
+fault_as (faults.OpenTransaction k) o whole to h = to h
+fault_as (faults.WriteZero k) o whole to h = to h
+fault_as (faults.WriteTwice k) o whole to h = to h
+fault_as (faults.OverLimit k) o whole to h = to h
+
+-- the size is judged first, then the grammar
+pub by_size : (f : LogFault) (size grammar : Option LogFault) → IsFault f size → IsFault f (option_or size grammar)
+by_size f size grammar h = fault_as f size (option_or size grammar) (λ e. ap (λ o. option_or o grammar) e) h
+
+pub by_grammar : (f : LogFault) (size grammar : Option LogFault) → size ≡ None → IsFault f grammar → IsFault f (option_or size grammar)
+by_grammar f size grammar none h = fault_as f grammar (option_or size grammar) (λ e. ap (λ o. option_or o grammar) none ∙ e) h

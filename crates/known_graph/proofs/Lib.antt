@@ -1,0 +1,12 @@
+pub mod Bools
+pub mod Listed
+pub mod Words
+pub mod Edges
+pub mod Fresh
+pub mod Lines
+pub mod Trees
+pub mod Searched
+pub mod Walked
+pub mod ReadSources
+pub mod ArcSets
+pub mod TwoTransactions

@@ -1,0 +1,7 @@
+use Rattle.std.proofs.Common.{refl}
+use Rattle.known_graph.specs.Bits.{row_len}
+use Rattle.known_graph.proofs.bits.row_len.Goals as goal
+
+pub returns-clause-value : goal.returns-clause-value
+unfolding row_len
+returns-clause-value c = refl

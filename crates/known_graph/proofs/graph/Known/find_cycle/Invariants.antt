@@ -1,0 +1,6 @@
+use Rattle.std.proofs.Common.{ℕ, ◌<◌}
+use Rattle.reach_laws.specs.Reach.{Reaches}
+use Rattle.known_graph.proofs.graph.Known.find_cycle.Given as goal
+
+abbrev pub invariant-loop-number : goal.invariant-loop-number
+invariant-loop-number l = (w : ℕ) → w < l.number → Reaches l.self.edges w w → ⊥

@@ -1,0 +1,6 @@
+use Rattle.log_definitions.specs.Numbers.{log_of}
+use Rattle.known_graph.proofs.ArcSets.{HasArcsBelow}
+use Rattle.known_graph.proofs.graph.Known.of.Given as goal
+
+abbrev pub invariant-loop-number : goal.invariant-loop-number
+invariant-loop-number l = HasArcsBelow (log_of l.history) l.number l.known

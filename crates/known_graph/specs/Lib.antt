@@ -1,0 +1,5 @@
+pub mod Bits
+pub mod Pairs
+pub mod Held
+pub mod Graphs
+pub mod Tree

@@ -1,0 +1,16 @@
+//! Graphs of known edges between the nodes of a history: the arcs of a clean history, walks and
+//! cycles.
+#![tactic(auto)]
+
+mod arcs;
+pub mod bits;
+mod graph;
+pub mod laws;
+mod node;
+mod reached;
+mod walks;
+
+pub use graph::Known;
+
+#[cfg(test)]
+mod tests;

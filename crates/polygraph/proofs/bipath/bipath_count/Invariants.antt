@@ -1,0 +1,21 @@
+use Rattle.std.proofs.Common.{◌≡◌, ◌≤◌, ◌+◌, drop, length}
+use Rattle.log_definitions.specs.Numbers.{log_of}
+use Rattle.serializability.specs.Polygraph as spec
+use Rattle.history.specs.Tables.{sources_of}
+use Rattle.polygraph.proofs.Rests.{up_to}
+use Rattle.polygraph.proofs.Readers.{of_readers, of_reads}
+use Rattle.polygraph.proofs.bipath.bipath_count.Given as goal
+
+abbrev pub invariant-loop-number : goal.invariant-loop-number
+invariant-loop-number l = record {
+  few : l.count ≤ 100000;
+  rest : l.count + length (of_readers (log_of l.history) (up_to l.number l.end)) ≡ length (spec.bipaths (log_of l.history));
+}
+
+abbrev pub invariant-loop-read : goal.invariant-loop-read
+invariant-loop-read l =
+    let log = log_of l.history in
+    record {
+      few : l.count ≤ 100000;
+      rest : l.count + (length (of_reads log l.number (drop l.read-index (sources_of log l.number))) + length (of_readers log (up_to (l.number + 1) l.end))) ≡ length (spec.bipaths log);
+    }

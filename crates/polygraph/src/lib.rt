@@ -1,0 +1,24 @@
+//! Polygraphs: known edges between the nodes of a history, and choices of which an order keeps one side;
+//! the bipaths of a history; and the orders that fit a polygraph.
+#![tactic(auto)]
+
+mod bipath;
+mod choice;
+mod edges;
+mod fault;
+mod fits;
+mod index;
+mod node;
+mod places;
+mod polygraph;
+
+pub use bipath::bipaths;
+pub use choice::Choice;
+pub use edges::Edges;
+pub use fault::PolyFault;
+pub use fits::order_fits;
+pub use index::{ChoiceIx, MAX_CHOICES};
+pub use polygraph::Polygraph;
+
+#[cfg(test)]
+mod tests;

@@ -1,0 +1,124 @@
+-- Rows of several nodes, one behind the other.
+use Rattle.std.proofs.Common.{◌≡◌, ◌↔◌, ℕ, ◌+◌, ◌-◌, ◌*◌, ◌/◌, ◌%◌, ◌<◌, ◌≤◌, Bool, true, eqb, List, [], ◌∷◌, ◌++◌, length, get_or, refl, sym, ap, ◌∙◌, subst, inl, inr, arith, length-append}
+use Rattle.std.specs.List.{Contains}
+use Rattle.std.specs.Int.{bit_at}
+use Rattle.std.proofs.lemmas.Bool.{cases_lt}
+use Rattle.std.proofs.lemmas.List.{get_or_append_left, get_or-append-add}
+use Rattle.std.proofs.lemmas.Nat.{div_below, mul-add-lt}
+use Rattle.reach_laws.specs.Reach.{Graph, Walk, Reaches}
+use Rattle.known_graph.specs.Bits.{bit_of, row_len}
+use Rattle.known_graph.specs.Graphs.{IsKnownGraph}
+use Rattle.known_graph.specs.Held.{is_marked, marked_graph, bit_place}
+use Rattle.known_graph.proofs.Edges.{nodes_within_row, edge_of_Contains, Contains-of_edge}
+use Rattle.reach_rows.specs.ReachRows.{AreRowsOf}
+use Rattle.reach_rows.specs.Sources.{IsReachRow, AreReachRows}
+use Rattle.reach_rows.proofs.Joined.{row_bit_is}
+
+-- the bit of a pair, by its word
+pub mark_is : (n : ℕ) (words : List ℕ) (u v : ℕ) → is_marked n words (u, v) ≡ eqb (bit_at (get_or words (u * row_len n + v / 64) 0) (v % 64)) 1
+unfolding is_marked bit_place
+mark_is n words u v = row_bit_is words (row_len n) u v
+
+pub word_within : (n v : ℕ) → v ≤ n → v / 64 < row_len n
+word_within n v h = div_below v 64 (row_len n) (omega arith) (omega (arith, nodes_within_row n))
+
+mark_front : (n : ℕ) (xs ys : List ℕ) (u v rows : ℕ) → length xs ≡ rows * row_len n → u < rows → v ≤ n → is_marked n (xs ++ ys) (u, v) ≡ is_marked n xs (u, v)
+mark_front n xs ys u v rows len hu hv =
+    let here : u * row_len n + v / 64 < length xs = omega (arith, mul-add-lt u (row_len n) (v / 64) rows hu (word_within n v hv)) in
+    mark_is n (xs ++ ys) u v
+    ∙ ap (λ w. eqb (bit_at w (v % 64)) 1) (get_or_append_left xs ys 0 (u * row_len n + v / 64) here)
+    ∙ sym (mark_is n xs u v)
+
+mark_back : (n : ℕ) (xs ys : List ℕ) (u v rows : ℕ) → length xs ≡ rows * row_len n → is_marked n (xs ++ ys) (rows + u, v) ≡ is_marked n ys (u, v)
+mark_back n xs ys u v rows len =
+    let place : (rows + u) * row_len n + v / 64 ≡ length xs + (u * row_len n + v / 64) = omega arith in
+    mark_is n (xs ++ ys) (rows + u) v
+    ∙ ap (λ i. eqb (bit_at (get_or (xs ++ ys) i 0) (v % 64)) 1) place
+    ∙ ap (λ w. eqb (bit_at w (v % 64)) 1) (get_or-append-add xs ys (u * row_len n + v / 64) 0)
+    ∙ sym (mark_is n ys u v)
+
+iff_along : (a b : Bool) (P : Type 0) → a ≡ b → ((b ≡ true) ↔ P) → ((a ≡ true) ↔ P)
+iff_along a b P e h = (λ t. h.0 (sym e ∙ t), λ p. e ∙ h.1 p)
+
+pub rows_none : (graph : Graph) (first : ℕ) → AreReachRows graph first first []
+rows_none graph first =
+    let none : first - first ≡ 0 = omega arith in
+    record {
+      len = sym (ap (λ k. k * row_len graph.nodes) none ∙ omega arith);
+      reach = λ u v lo hi small. absurd (omega arith);
+    }
+
+pub rows_one : (graph : Graph) (u : ℕ) (row : List ℕ) → IsReachRow graph u row → AreReachRows graph u (u + 1) row
+unfolding is_marked bit_place
+rows_one graph u row h =
+    let n = graph.nodes in
+    let one : u + 1 - u ≡ 1 = omega arith in
+    record {
+      len = h.len ∙ sym (ap (λ k. k * row_len n) one ∙ omega arith);
+      reach = λ x v lo hi small.
+          (let same : x ≡ u = omega arith in
+          let place : (x - u) * (row_len n * 64) + v ≡ v = (let zero_rows : x - u ≡ 0 = omega arith in ap (λ k. k * (row_len n * 64) + v) zero_rows ∙ omega arith) in
+          subst (λ y. (bit_of row ((x - u) * (row_len n * 64) + v) ≡ true) ↔ Reaches graph.edges y v) (sym same)
+          (iff_along (bit_of row ((x - u) * (row_len n * 64) + v)) (bit_of row v) (Reaches graph.edges u v) (ap (bit_of row) place) (h.reach v)));
+    }
+
+pub rows_joined : (graph : Graph) (a b c : ℕ) (xs ys : List ℕ) → a ≤ b → b ≤ c → AreReachRows graph a b xs → AreReachRows graph b c ys → AreReachRows graph a c (xs ++ ys)
+rows_joined graph a b c xs ys ab bc p q =
+    let n = graph.nodes in
+    let whole : c - a ≡ (b - a) + (c - b) = omega arith in
+    record {
+      len = length-append xs ys ∙ (let e : length xs + length ys ≡ ((b - a) + (c - b)) * row_len n = omega (arith, p.len, q.len) in e) ∙ ap (λ k. k * row_len n) (sym whole);
+      reach = λ u v lo hi small. elim (cases_lt u b) [
+        | inl front ↦
+            iff_along (is_marked n (xs ++ ys) (u - a, v)) (is_marked n xs (u - a, v)) (Reaches graph.edges u v)
+            (mark_front n xs ys (u - a) v (b - a) p.len (omega arith) small) (p.reach u v lo front small)
+        | inr back ↦
+            let place : u - a ≡ (b - a) + (u - b) = omega arith in
+            iff_along (is_marked n (xs ++ ys) (u - a, v)) (is_marked n ys (u - b, v)) (Reaches graph.edges u v)
+            (ap (λ k. is_marked n (xs ++ ys) (k, v)) place ∙ mark_back n xs ys (u - b) v (b - a) p.len) (q.reach u v back hi small)
+      ];
+    }
+
+pub row_len_few : (n : ℕ) → n ≤ 400 → row_len n ≤ 401
+unfolding row_len
+row_len_few n h = omega arith
+
+-- the bit of a pair of nodes, as code finds it, is its edge
+pub set_edge : (n : ℕ) (words held : List ℕ) (place u v : ℕ) (b : Bool) → u ≤ n → v ≤ n → held ≡ words → place ≡ bit_place n u v → b ≡ bit_of held place → ((b ≡ true) ↔ Contains (marked_graph n words).edges (u, v))
+unfolding is_marked
+set_edge n words held place u v b hu hv same at is =
+    let e : b ≡ is_marked n words (u, v) = is ∙ ap (λ ws. bit_of ws place) same ∙ ap (bit_of words) at in (
+      λ t. Contains-of_edge n words u v (record { from = hu; to = hv; marked = sym e ∙ t }),
+      λ c. e ∙ (edge_of_Contains n words u v c).marked,
+    )
+
+-- a walk joins nodes of the graph
+pub walk_nodes : (graph : Graph) → IsKnownGraph graph → (ws : List ℕ) (u v : ℕ) → Walk graph.edges u ws v → (u ≤ graph.nodes) × (v ≤ graph.nodes)
+walk_nodes graph known [] u v w = known.joined (u, v) w
+walk_nodes graph known (x ∷ ws) u v w = ((known.joined (u, x) w.0).0, (walk_nodes graph known ws x v w.1).1)
+
+pub rows_all : (graph : Graph) (words : List ℕ) → IsKnownGraph graph → AreReachRows graph 0 (graph.nodes + 1) words → AreRowsOf (marked_graph graph.nodes words) graph
+unfolding marked_graph
+rows_all graph words known h =
+    let n = graph.nodes in
+    record {
+      nodes = refl;
+      reach = λ u v. (
+        λ c. (let e = edge_of_Contains n words u v c in
+            let same : u - 0 ≡ u = omega arith in
+            (h.reach u v (omega arith) (omega (arith, e.from)) e.to).0 (ap (λ k. is_marked n words (k, v)) same ∙ e.marked)),
+        λ r. (let ends = walk_nodes graph known r.0 u v r.1 in
+            let same : u - 0 ≡ u = omega arith in
+            Contains-of_edge n words u v (record {
+              from = ends.0;
+              to = ends.1;
+              marked = ap (λ k. is_marked n words (k, v)) (sym same) ∙ (h.reach u v (omega arith) (omega (arith, ends.0)) ends.1).1 r;
+            })),
+      );
+      test = is_marked n words;
+      listed = refl;
+    }
+
+-- words that fit, by their number
+pub all_places : (graph : Graph) (words : List ℕ) → AreReachRows graph 0 (graph.nodes + 1) words → length words ≡ (graph.nodes + 1) * row_len graph.nodes
+all_places graph words h = let e : graph.nodes + 1 - 0 ≡ graph.nodes + 1 = omega arith in h.len ∙ ap (λ k. k * row_len graph.nodes) e

@@ -1,0 +1,8 @@
+pub mod Joined
+pub mod Opened
+pub mod Spreading
+pub mod Behind
+pub mod Growing
+pub mod Walking
+pub mod Parting
+pub mod Same

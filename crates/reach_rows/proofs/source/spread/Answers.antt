@@ -1,0 +1,43 @@
+use Rattle.std.proofs.Common.{◌≡◌, ◌+◌, ◌↔◌, ℕ, true, eqb, ◌∙◌, subst, arith}
+use Rattle.std.specs.List.{Contains}
+use Rattle.std.proofs.lemmas.Bool.{or_left, or_right}
+use Rattle.std.proofs.Common.{eq-eqb, refl}
+use Rattle.known_graph.specs.Bits.{bit_of}
+use Rattle.reach_rows.proofs.Opened.{left_falls}
+use Rattle.reach_rows.proofs.Behind.{row_len_few, word_within}
+use Rattle.reach_rows.proofs.Spreading.{IsSpreadStep, spreading_more}
+use Rattle.reach_rows.proofs.source.spread.Goals as goal
+
+pub first_open-requires-clause-few : goal.first_open-requires-clause-few
+first_open-requires-clause-few c = omega (arith, row_len_few c.args.known.now.nodes (omega arith))
+
+pub set_bit-requires : goal.set_bit-requires
+set_bit-requires c =
+    let here = c.loop-number.invariant.nodes c.in-Some.number c.in-Some.ensures.found.0 in
+    record { within = omega (arith, word_within c.args.known.now.nodes c.in-Some.number here) }
+
+pub loop-number-smaller : goal.loop-number-smaller
+loop-number-smaller c =
+    let k = c.in-Some.number in
+    let here = c.loop-number.invariant.nodes k c.in-Some.ensures.found.0 in
+    let done = bit_of c.loop-number.done in
+    let next = bit_of c.set_bit.new.words in
+    left_falls done next
+    (λ j t. c.set_bit.ensures.bits j ∙ or_right (eqb j k) (done j) t)
+    k c.in-Some.ensures.found.1
+    (c.set_bit.ensures.bits k ∙ or_left (eqb k k) (done k) (eq-eqb k k refl))
+    (c.args.known.now.nodes + 1) (omega (arith, here))
+
+pub loop-number-preserved : goal.loop-number-preserved
+loop-number-preserved c =
+    let graph = c.args.known.now in
+    let k = c.in-Some.number in
+    let more = c.row_words.result.now in
+    let step : IsSpreadStep graph k c.loop-number.row c.loop-number.done more c.join_words.new.row c.set_bit.new.words = record {
+      here = c.in-Some.ensures.found.0;
+      clear = c.in-Some.ensures.found.1;
+      row_bits = c.join_words.ensures.bits;
+      done_bits = c.set_bit.ensures.bits;
+      edges = subst (λ u. (v : ℕ) → ((bit_of more v ≡ true) ↔ Contains graph.edges (u, v))) c.node.ensures.value c.row_words.ensures.edges;
+    } in
+    spreading_more graph c.args.row.now c.loop-number.row c.loop-number.done more c.join_words.new.row c.set_bit.new.words k c.nodes-nodes.ensures.graph c.loop-number.invariant step

@@ -1,0 +1,4 @@
+pub mod ReachRows
+pub mod Sources
+pub mod Held
+pub mod Parts

@@ -1,0 +1,172 @@
+//! Rows of a graph.
+
+ghost use Rattle.std.specs.Prelude.{◌≡◌, ℕ, ◌+◌, ◌*◌, ◌/◌, ◌<◌, ◌≤◌, ◌↔◌, IsTrue, IfOk, length};
+ghost use Rattle.std.specs.List.{Contains};
+ghost use Rattle.reach_laws.specs.Reach.{Graph, Reaches, IsCyclic};
+ghost use Rattle.known_graph.specs.Bits.{bit_of, row_len};
+ghost use Rattle.known_graph.specs.Held.{bit_place};
+ghost use Rattle.reach_rows.specs.ReachRows.{AreRowsOf, AddsEdge};
+ghost use Rattle.reach_rows.specs.Sources.{Grows};
+
+use crate::parts::rows_by_workers;
+use crate::source::{add_source, node};
+use crate::words::join_row;
+use desk::gate::Gate;
+use desk::seat_no::Workers;
+use known_graph::Known;
+use known_graph::bits::{has_bit, row_len, set_bit};
+use serializability::NodeIx;
+use std::alloc::{AllocError, Global};
+use std::marker::Model;
+use std::sync::Wait;
+use std::thread::Threads;
+use std::time::Clock;
+
+/// Which of nodes 0 to n reaches which, where n is at most 400. Contracts see a graph in which an edge
+/// leads from each node to each that it reaches.
+#[derive(Drop)]
+pub struct Rows {
+    nodes: usize,
+    words: Vec<u64>,
+}
+
+impl Model for Rows {
+    ghost use Rattle.reach_laws.specs.Reach.{Graph};
+
+    ghost Value = { Graph };
+
+    ghost use Rattle.reach_rows.specs.Held.{graph_of, AreHeld};
+
+    ghost view = { graph_of };
+
+    ghost invariant = { AreHeld };
+}
+
+/// The number of the bit that says whether u reaches v.
+fn bit_place(nodes: usize, u: usize, v: usize) -> usize
+    requires few { nodes ≤ 400 }
+    requires nodes { (u ≤ nodes) × (v ≤ nodes) }
+    ensures place { result ≡ bit_place nodes u v }
+    ensures within { result / 64 < (nodes + 1) * row_len nodes }
+{
+    u * (row_len(nodes) * 64) + v
+}
+
+impl Rows {
+    /// The rows of a graph, computed by the calling thread alone.
+    pub fn plain(alloc: Global, known: &Known) -> Result<Rows, AllocError>
+        ensures rows { IfOk result (λ rows. AreRowsOf rows known.now) }
+    {
+        let nodes = known.nodes();
+        let mut words = Vec::with_capacity(alloc, (nodes + 1) * row_len(nodes))?;
+        for source in 0..nodes + 1 {
+            add_source(alloc, known, node(source), &mut words)?;
+        }
+        Ok(Rows { nodes, words })
+    }
+
+    /// The rows of a graph, computed by so many workers in threads of their own.
+    ///
+    /// Each worker has consecutive nodes, from which it finds what they reach, and passes the gate before
+    /// each, with its turns counted from 0; one that has none passes it once. Seats are 1 to the number of
+    /// workers.
+    pub fn compute<R: Threads + Wait + Clock + Sync, G: Gate>(
+        rt: &R,
+        alloc: Global,
+        known: &Known,
+        workers: Workers,
+        gate: &G,
+    ) -> Result<Rows, AllocError>
+        ensures rows { IfOk result (λ rows. AreRowsOf rows known.now) }
+    {
+        Ok(Rows {
+            nodes: known.nodes(),
+            words: rows_by_workers(rt, alloc, known, workers, gate)?,
+        })
+    }
+
+    /// The number of nodes, n, without node 0.
+    pub fn nodes(&self) -> usize
+        ensures count { result ≡ self.now.nodes }
+        ensures few { result ≤ 400 }
+    {
+        self.nodes
+    }
+
+    /// Whether u reaches v; no node above n does, and none is reached.
+    pub fn reaches(&self, u: NodeIx, v: NodeIx) -> bool
+        ensures edge { IsTrue result ↔ Contains self.now.edges (u, v) }
+        ensures reach { (graph : Graph) → AreRowsOf self.now graph →
+            (IsTrue result ↔ Reaches graph.edges u v) }
+    {
+        let (from, to) = (u.get(), v.get());
+        from <= self.nodes && to <= self.nodes && self.is_set(from, to)
+    }
+
+    // Whether the bit of a pair of nodes is set.
+    fn is_set(&self, u: usize, v: usize) -> bool
+        requires nodes { (u ≤ self.now.nodes) × (v ≤ self.now.nodes) }
+        ensures edge { IsTrue result ↔ Contains self.now.edges (u, v) }
+    {
+        has_bit(&self.words, bit_place(self.nodes, u, v))
+    }
+
+    /// Whether some node reaches itself.
+    pub fn cyclic(&self) -> bool
+        ensures edge { IsTrue result ↔ ((v : ℕ) × Contains self.now.edges (v, v)) }
+        ensures cycle { (graph : Graph) → AreRowsOf self.now graph →
+            (IsTrue result ↔ IsCyclic graph.edges) }
+    {
+        for number in 0..self.nodes + 1 {
+            if self.is_set(number, number) {
+                return true;
+            }
+        }
+        false
+    }
+
+    /// Makes these the rows of the graph with an edge more, from u to v. It takes no memory.
+    ///
+    /// Where u reaches v already, nothing changes. Else u, and each node that reaches u, now reaches v
+    /// and what v reached.
+    pub fn add_edge(&mut self, u: NodeIx, v: NodeIx)
+        requires nodes { (u ≤ self.old.nodes) × (v ≤ self.old.nodes) }
+        ensures rows { (old new : Graph) → AreRowsOf self.old old → AddsEdge old new (u, v) →
+            AreRowsOf self.new new }
+        ensures nodes { self.new.nodes ≡ self.old.nodes }
+    {
+        if !self.reaches(u, v) {
+            add_reach(self.words.as_mut_slice(), self.nodes, u.get(), v.get());
+        }
+    }
+
+    /// Rows of the same graph.
+    pub fn copy(&self, alloc: Global) -> Result<Rows, AllocError>
+        ensures same { IfOk result (λ rows. rows ≡ self.now) }
+    {
+        Ok(Rows {
+            nodes: self.nodes,
+            words: Vec::from_slice(alloc, &self.words)?,
+        })
+    }
+}
+
+/// Lets u, and each node that reaches u, reach v and what v reaches.
+///
+/// Row v itself may change on the way, where v reaches u or is u. It then gets the bit of v and its own
+/// bits alone; and the bit of v is added to each row with row v, so that the old row v would give the same.
+fn add_reach(words: &mut [u64], nodes: usize, u: usize, v: usize)
+    requires few { nodes ≤ 400 }
+    requires nodes { (u ≤ nodes) × (v ≤ nodes) }
+    requires len { length words.old ≡ (nodes + 1) * row_len nodes }
+    ensures grown { Grows nodes words.old words.new u v }
+    ensures len { length words.new ≡ length words.old }
+{
+    let len = row_len(nodes);
+    for x in 0..nodes + 1 {
+        if x == u || has_bit(words, bit_place(nodes, x, u)) {
+            join_row(words, len, x, v);
+            set_bit(words, bit_place(nodes, x, v));
+        }
+    }
+}

@@ -1,0 +1,59 @@
+-- The heads of a key among its writers, and where walks along a table end.
+use Rattle.std.proofs.Common.{◌≡◌, ℕ, zero, suc, Bool, true, false, cond, ◌&&◌, not, List, [], ◌∷◌, ◌++◌, Option, None, Some, refl, sym, ap, ◌∙◌}
+use Rattle.std.specs.Prelude.{is_some, map}
+use Rattle.std.specs.List.{filter}
+use Rattle.std.specs.Option.{option_map_or}
+use Rattle.serializability.specs.Log.{Log}
+use Rattle.serializability.specs.Polygraph.{source, committed}
+use Rattle.history.specs.Tables.{writers_in}
+use Rattle.chain_laws.specs.Chains.{writes, readers, next, tail_from, heads}
+use Rattle.write_chains.specs.Walks.{end_by}
+use Rattle.write_chains.specs.Views.{ChainView, chain_from}
+use Rattle.std.proofs.lemmas.List.{append-nil, map-append}
+use Rattle.std.proofs.lemmas.List.Elements.{filter-append}
+
+-- whether v reads the key from nobody
+abbrev pub reads_nothing : Log → ℕ → ℕ → Bool
+reads_nothing log x v = not (is_some (source log v x))
+
+filter_both : {X : Type 0} (p q : X → Bool) (xs : List X) → filter p (filter q xs) ≡ filter (λ x. q x && p x) xs
+filter_both p q [] = refl
+filter_both p q (x ∷ xs) =
+    elim (q x) as (λ b. filter p (cond b (x ∷ filter q xs) (filter q xs)) ≡ cond (b && p x) (x ∷ filter (λ y. q y && p y) xs) (filter (λ y. q y && p y) xs)) [
+      | true ↦ ap (λ l. cond (p x) (x ∷ l) l) (filter_both p q xs)
+      | false ↦ filter_both p q xs
+    ]
+
+pub heads_among : (log : Log) (x : ℕ) → filter (reads_nothing log x) (writers_in log x) ≡ heads log x
+heads_among log x = filter_both (reads_nothing log x) (writes log x) (committed log)
+
+end_option : (f g : ℕ → ℕ) → ((v : ℕ) → f v ≡ g v) → (o : Option ℕ) (w : ℕ) → option_map_or f o w ≡ option_map_or g o w
+end_option f g e None w = refl
+end_option f g e (Some v) w = e v
+
+pub end_is : (log : Log) (x steps w : ℕ) → end_by (next log x) steps w ≡ tail_from log x steps w
+end_is log x zero w = refl
+end_is log x (suc steps) w = end_option (end_by (next log x) steps) (tail_from log x steps) (end_is log x steps) (next log x w) w
+
+pub end_some : (f : ℕ → Option ℕ) (steps v u : ℕ) → f v ≡ Some u → end_by f (suc steps) v ≡ end_by f steps u
+end_some f steps v u e = ap (λ o. option_map_or (end_by f steps) o v) e
+
+pub end_none : (f : ℕ → Option ℕ) (steps v : ℕ) → f v ≡ None → end_by f steps v ≡ v
+end_none f zero v e = refl
+end_none f (suc steps) v e = ap (λ o. option_map_or (end_by f steps) o v) e
+
+-- ---- chains, head by head
+pub chain_is : (log : Log) (x h : ℕ) (view : ChainView) → view ≡ record { head = h; tail = end_by (next log x) log.nodes h; readers = readers log x (end_by (next log x) log.nodes h) } → view ≡ chain_from log x h
+chain_is log x h view e =
+    let chain : ℕ → ChainView = λ t. record { head = h; tail = t; readers = readers log x t } in
+    e ∙ ap chain (end_is log x log.nodes h)
+
+pub head_more : (log : Log) (x : ℕ) (front : List ℕ) (v : ℕ) (views : List ChainView) → reads_nothing log x v ≡ true → views ≡ map (chain_from log x) (filter (reads_nothing log x) front) → views ++ chain_from log x v ∷ [] ≡ map (chain_from log x) (filter (reads_nothing log x) (front ++ v ∷ []))
+head_more log x front v views t e =
+    ap (λ l. l ++ chain_from log x v ∷ []) e
+    ∙ sym (map-append (chain_from log x) (filter (reads_nothing log x) front) (v ∷ []))
+    ∙ ap (map (chain_from log x)) (ap (λ b. filter (reads_nothing log x) front ++ cond b (v ∷ []) []) (sym t) ∙ sym (filter-append (reads_nothing log x) front (v ∷ [])))
+
+pub head_passed : (log : Log) (x : ℕ) (front : List ℕ) (v : ℕ) (views : List ChainView) → reads_nothing log x v ≡ false → views ≡ map (chain_from log x) (filter (reads_nothing log x) front) → views ≡ map (chain_from log x) (filter (reads_nothing log x) (front ++ v ∷ []))
+head_passed log x front v views t e =
+    e ∙ ap (map (chain_from log x)) (sym (append-nil (filter (reads_nothing log x) front)) ∙ ap (λ b. filter (reads_nothing log x) front ++ cond b (v ∷ []) []) (sym t) ∙ sym (filter-append (reads_nothing log x) front (v ∷ [])))

@@ -1,0 +1,9 @@
+pub mod Searched
+pub mod Sources
+pub mod Pushes
+pub mod Gathered
+pub mod Nexts
+pub mod Heads
+pub mod Inside
+pub mod Backwards
+pub mod Holding

@@ -1,0 +1,7 @@
+use Rattle.std.proofs.Common.{ℕ, All}
+use Rattle.serializability.specs.Log.{Log}
+use Rattle.write_chains.specs.Walks.{IsOpen, AreOpen}
+use Rattle.write_chains.proofs.closed.mark.Given as goal
+
+abbrev pub invariant-loop-node : goal.invariant-loop-node
+invariant-loop-node l = (log : Log) (x : ℕ) → AreOpen log x l.initial.marks → All (IsOpen log x) l.nodes → AreOpen log x l.marks
