@@ -40,6 +40,19 @@ def operations(committed, long_keys):
         yield 'commit'
 
 
+def choices():
+    """400 transactions in 64 sessions that write x, half of them also y: 99,700 choices between chains, some of them forced."""
+    for t in range(400):
+        if t == 0 or t * 64 // 400 != (t - 1) * 64 // 400:
+            yield 'session %d' % (t * 64 // 400 + 1)
+        yield 'begin'
+        yield 'w x %d' % (t + 1)
+        if t < 200:
+            yield 'w y %d' % (t + 1001)
+        yield 'commit'
+
+
+write('choices_400.log', choices())
 write('bipaths_40.log', bipaths(40))
 write('bipaths_41.log', bipaths(41))
 write('operations_100.log', operations(100, True))

@@ -188,6 +188,74 @@ class History:
             clauses.append([number[i, j], number[j, k], -number[i, k]])
         return len(pairs), clauses
 
+    # ---- chains and pruning
+
+    def writes(self, node, key):
+        return self.last_write(self.ops[node], key) is not None
+
+    def readers(self, node, key):
+        return [r for r in self.nodes if self.source(r, key) == node]
+
+    def next_writer(self, node, key):
+        return next((v for v in self.readers(node, key) if self.writes(v, key)), None)
+
+    def tail(self, head, key):
+        for _ in self.nodes:
+            behind = self.next_writer(head, key)
+            if behind is None:
+                break
+            head = behind
+        return head
+
+    def chain_first(self, a, b, key):
+        last = self.tail(a, key)
+        return [(r, b) for r in self.readers(last, key)] or [(last, b)]
+
+    def closes(self, key):
+        """Whether a chain of the key closes on itself: a writer that is come to from itself."""
+        for writer in self.nodes:
+            at = writer
+            for _ in self.nodes:
+                at = self.next_writer(at, key) if self.writes(writer, key) else None
+                if at is None:
+                    break
+                if at == writer:
+                    return True
+        return False
+
+    def chain_polygraph(self):
+        """The known edges and the choices of the chains."""
+        known, choices = set(self.arcs()), []
+        for key in self.keys:
+            for w in range(self.n + 1):
+                behind = self.next_writer(w, key)
+                known |= {(r, behind) for r in self.readers(w, key) if behind not in (None, r)}
+            heads = [v for v in self.nodes if self.writes(v, key) and self.source(v, key) is None]
+            for h in heads:
+                known |= set(self.chain_first(0, h, key))
+            choices += [(self.chain_first(a, b, key), self.chain_first(b, a, key)) for a, b in itertools.combinations(heads, 2)]
+        return known, choices
+
+    def pruning(self):
+        """('dead', None), or ('open', the forced sides): the least set that has the other side of each refuted one."""
+        known, choices = self.chain_polygraph()
+        forced = set()
+        while True:
+            edges = set(known)
+            for c, s in forced:
+                edges |= set(choices[c][s - 1])
+            reach = {(u, v) for u, v in edges}
+            while True:
+                more = {(u, w) for u, v in reach for x, w in edges if x == v} - reach
+                if not more:
+                    break
+                reach |= more
+            found = {(c, 2 if s == 1 else 1) for c in range(len(choices)) for s in (1, 2)
+                     if any((v, u) in reach for u, v in choices[c][s - 1])}
+            if found <= forced:
+                return ('dead', None) if any((v, v) in reach for v in range(self.n + 1)) else ('open', forced)
+            forced |= found
+
     def is_serial(self, order):
         if sorted(order) != list(self.nodes):
             return False

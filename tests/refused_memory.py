@@ -1,9 +1,12 @@
 #!/usr/bin/env python3
-"""refused_memory.py PROGRAM: each allocation of each command is refused in turn.
+"""refused_memory.py PROGRAM GRAPHS: each allocation of each command is refused in turn.
 
 The program runs with the Nth request for memory refused, for N = 1, 2, .. until it makes fewer. Each such run must either
 say `out of memory` with status 4 and write nothing, or do what it does with ample memory. Needs a C compiler, for a small
-library that stands before the allocator of the C library. Last line: 'refused memory: N passed, M failed'."""
+library that stands before the allocator of the C library.
+
+GRAPHS is the program that times the crates of graphs. Of it each run must end by itself, and must not count other choices
+than it does with ample memory. Last line: 'refused memory: N passed, M failed'."""
 import os, shutil, subprocess, sys, tempfile
 
 SHIM = r'''
@@ -30,7 +33,7 @@ MOST = 2000
 
 
 def main():
-    program = os.path.abspath(sys.argv[1])
+    program, graphs = map(os.path.abspath, sys.argv[1:3])
     compiler = shutil.which('cc') or shutil.which('clang') or shutil.which('gcc')
     if not compiler:
         print('refused memory: cannot be tried, there is no C compiler here')
@@ -66,6 +69,22 @@ def main():
             if refusals == 0:
                 failed += 1
                 print('FAILED %s: no refusal was told' % words[0])
+        for words in (['log', paths['log']], ['dense']):
+            counts, ended = None, 0
+            for n in range(MOST):
+                place = dict(os.environ, LD_PRELOAD=paths['shim.so'], REFUSED=str(n))
+                ran = subprocess.run([graphs, *words], stdin=subprocess.DEVNULL, stdout=subprocess.PIPE, stderr=subprocess.PIPE, env=place, timeout=60)
+                got = [line for line in ran.stdout.decode().split('\n') if line.startswith('choices') or line.startswith('workers')]
+                if n == 0:
+                    counts = got
+                elif ran.returncode in (0, 1) and all(line in counts for line in got):
+                    passed += 1
+                    ended = 0 if (ran.returncode, got) != (0, counts) else ended + 1
+                    if ended > 50:
+                        break
+                else:
+                    failed += 1
+                    print('FAILED graphs %s with request %d refused: %r' % (words[0], n, (ran.returncode, got)))
     print('refused memory: %d passed, %d failed' % (passed, failed))
     sys.exit(1 if failed else 0)
 

@@ -11,7 +11,7 @@ use Rattle.std.specs.Prelude.{length}
 use Rattle.log_definitions.specs.Numbers.{log_of}
 use Rattle.order_cnf.specs.declared.fault.CnfFault.{CnfFault}
 use Rattle.order_cnf.specs.declared.fault.CnfFault.TheVariants.{TooManyForPlain, TooManyChoices}
-use Rattle.order_cnf.specs.Limits.{choices_fault, size_fault}
+use Rattle.order_cnf.specs.Limits.{choices_fault, size_fault, IsFault}
 use Rattle.cobra_cli.specs.Commands.{fault_where, formula_fault}
 
 -- one piece more, behind those so far
@@ -30,3 +30,7 @@ choices_refused ss e none h =
           ∙ ap (λ o. fault_where o log) none
           ∙ ap (λ o. option_or o (size_fault (plain log))) h
     ]
+
+pub choices_told : (ss : List ClientSession) (e : CnfFault) → anomaly_of (log_of ss) ≡ None → IsFault e (choices_fault (log_of ss)) → IsFault e (formula_fault ss)
+choices_told ss e none (inl m) = inl m
+choices_told ss e none (inr h) = inr (choices_refused ss e none h)

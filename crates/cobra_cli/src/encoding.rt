@@ -1,7 +1,7 @@
 //! From a log to the text of its formula.
 
-ghost use Rattle.std.specs.Prelude.{◌≡◌, IfOk, IfErr, OnOk};
-ghost use Rattle.log_definitions.specs.Numbers.{IsWellFormedList, plain_answer};
+ghost use Rattle.std.specs.Prelude.{◌≡◌, ◌≤◌, IfOk, IfErr, OnOk};
+ghost use Rattle.log_definitions.specs.Numbers.{log_of, IsWellFormedList, plain_answer};
 ghost use Rattle.order_cnf.specs.Data.{cnf_of};
 ghost use Rattle.order_cnf.specs.Limits.{IsFault};
 ghost use Rattle.cobra_cli.specs.Commands.{formula_fault, HoldsOf, IsEncoded, IsEncodeFault, OrLogFault};
@@ -26,6 +26,7 @@ pub fn formula_of(alloc: Global, history: &History) -> Result<Formula, CnfFault>
     ensures formula { IfOk result (λ f. cnf_of f ≡ plain_answer history.now) }
     ensures fault { IfErr result (λ e. IsFault e (formula_fault history.now)) }
     ensures well_formed { IsWellFormedList history.now }
+    ensures few { OnOk result ((log_of history.now).nodes ≤ 100) }
 {
     if history.committed() > MAX_PLAIN_NODES {
         return Err(CnfFault::TooManyForPlain);

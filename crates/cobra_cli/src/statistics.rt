@@ -1,8 +1,11 @@
 //! How large a log and its formula are.
 
-ghost use Rattle.std.specs.Prelude.{◌≡◌, ◌++◌, ◌∷◌, [], codes, decimal, IfOk, IfErr, OnOk};
+ghost use Rattle.std.specs.Prelude.{◌≡◌, ◌≤◌, ◌++◌, ◌∷◌, [], length, codes, decimal, IfOk, IfErr, OnOk};
 ghost use Rattle.serializability.specs.Anomalies.{anomaly_of};
+ghost use Rattle.serializability.specs.Polygraph as spec;
+ghost use Rattle.serializability.specs.Reads.{IsClean};
 ghost use Rattle.log_definitions.specs.Numbers.{log_of, IsWellFormedList};
+ghost use Rattle.order_cnf.specs.Limits.{choices_fault, IsFault};
 ghost use Rattle.cobra_cli.specs.Commands.{HoldsOf, IsFormulaRefusal, IsStatsFault, IsStatsWritten, OrLogFault};
 ghost use Rattle.cobra_cli.specs.Failures.{failures_after};
 ghost use Rattle.cobra_cli.specs.Statistics.{count_line, read_number, anomaly_number, choices_line, counts_text, stats_text};
@@ -16,7 +19,8 @@ use desk::gate::Gate;
 use dimacs::{Sink, write_all};
 use history::{Anomaly, History, ReadAnomaly};
 use itoa::Buffer;
-use order_cnf::bipath_count;
+use order_cnf::CnfFault;
+use polygraph::bipaths;
 use std::alloc::{AllocError, Global};
 use std::sync::Wait;
 use std::thread::Threads;
@@ -83,8 +87,25 @@ fn put_counts(out: &mut Vec<u8>, history: &History) -> Result<(), AllocError>
     Ok(())
 }
 
+/// The number of choices of a clean history of at most 100 committed transactions.
+fn choice_count(alloc: Global, history: &History) -> Result<usize, CnfFault>
+    requires clean { IsClean (log_of history.now) }
+    requires few { (log_of history.now).nodes ≤ 100 }
+    ensures count { IfOk result (λ count. count ≡ length (spec.bipaths (log_of history.now))) }
+    ensures fault { IfErr result (λ e. IsFault e (choices_fault (log_of history.now))) }
+{
+    let polygraph = bipaths(alloc, history)?;
+    Ok(polygraph.choices().len())
+}
+
 /// Appends the line of the anomaly, or of the number of choices where there is none.
-fn put_choices(out: &mut Vec<u8>, history: &History, anomaly: Option<Anomaly>) -> Result<(), Fault>
+fn put_choices(
+    out: &mut Vec<u8>,
+    alloc: Global,
+    history: &History,
+    anomaly: Option<Anomaly>,
+) -> Result<(), Fault>
+    requires few { (log_of history.now).nodes ≤ 100 }
     requires anomaly { anomaly ≡ anomaly_of (log_of history.now) }
     requires well_formed { IsWellFormedList history.now }
     ensures line { OnOk result (out.new.items
@@ -94,7 +115,7 @@ fn put_choices(out: &mut Vec<u8>, history: &History, anomaly: Option<Anomaly>) -
     match anomaly {
         Some(anomaly) => put_anomaly(out, anomaly)?,
         None => {
-            let choices = bipath_count(history)?;
+            let choices = choice_count(alloc, history)?;
             put_count(out, b"choices", choices)?;
         }
     }
@@ -111,7 +132,7 @@ fn stats_text(alloc: Global, history: &History) -> Result<Vec<u8>, Fault>
     let mut out = Vec::new(alloc);
     put_counts(&mut out, history)?;
     let anomaly = classify(alloc, history)?;
-    put_choices(&mut out, history, anomaly)?;
+    put_choices(&mut out, alloc, history, anomaly)?;
     put_count(&mut out, b"variables", formula.vars())?;
     put_count(&mut out, b"clauses", formula.count())?;
     Ok(out)

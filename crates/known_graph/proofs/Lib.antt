@@ -9,4 +9,6 @@ pub mod Searched
 pub mod Walked
 pub mod ReadSources
 pub mod ArcSets
+pub mod Rests
+pub mod Rows
 pub mod TwoTransactions

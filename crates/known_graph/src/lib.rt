@@ -4,6 +4,7 @@
 
 mod arcs;
 pub mod bits;
+mod edge_list;
 mod graph;
 pub mod laws;
 mod node;

@@ -4,6 +4,7 @@ use super::*;
 use crate::bits::has_bit;
 use crate::node::node;
 use history::History;
+use reach_laws::Edge;
 use serializability::NodeIx;
 use session_log::{Key, Op, Outcome, Session, Txn};
 use std::alloc::Global;
@@ -111,6 +112,13 @@ fn session_against_its_read(rt: HostRuntime) -> Result<(), Fail> {
             assert_eq!(rt; known.has_edge(node(u), node(v)), arc, "{u} {v}");
         }
     }
+    let arcs = [
+        Edge::new(node(0), node(1)),
+        Edge::new(node(0), node(2)),
+        Edge::new(node(1), node(2)),
+        Edge::new(node(2), node(1)),
+    ];
+    assert_eq!(rt; known.edges(alloc)?.as_slice(), arcs.as_slice());
     assert_eq!(rt; cycle(alloc, &known)?.as_slice(), [1, 2, 1].as_slice());
     assert_eq!(rt; walk(alloc, &known, 0, 2)?.as_slice(), [0, 2].as_slice());
     assert_eq!(rt; walk(alloc, &known, 2, 0)?.as_slice(), [].as_slice());

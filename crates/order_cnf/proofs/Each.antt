@@ -1,8 +1,6 @@
 -- What holds of each element of a list, by its place.
-use Rattle.std.proofs.Common.{◌≡◌, ℕ, zero, suc, ◌+◌, ◌<◌, List, [], ◌∷◌, length, get_or, take, sym, subst, arith}
+use Rattle.std.proofs.Common.{◌≡◌, ℕ, zero, suc, ◌+◌, ◌<◌, List, [], ◌∷◌, length, get_or, take, subst, arith}
 use Rattle.std.specs.List.{AllByRecursion}
-use Rattle.std.specs.Prelude.{map}
-use Rattle.serializability.proofs.Places.{each_of_map}
 
 pub each_at : {X : Type 0} (P : X → Type 0) (xs : List X) → AllByRecursion P xs → (k : ℕ) (d : X) → k < length xs → P (get_or xs k d)
 each_at P [] h k d lt = absurd (omega arith)
@@ -17,7 +15,3 @@ further P (x ∷ xs) (suc k) d lt h p = (h.0, further P xs k d (omega arith) h.1
 pub each_further : {X : Type 0} (P : X → Type 0) (xs : List X) (k : ℕ) (d : X) → k < length xs → AllByRecursion P (take k xs) → P (get_or xs k d) → AllByRecursion P (take (k + 1) xs)
 each_further P xs k d lt h p =
     let e : suc k ≡ k + 1 = omega arith in subst (λ n. AllByRecursion P (take n xs)) e (further P xs k d lt h p)
-
--- the same of an item read from the list, where P holds of what each item stands for
-pub each_item : {X Y : Type 0} (P : Y → Type 0) (f : X → Y) (xs : List X) → AllByRecursion P (map f xs) → (k : ℕ) (x : X) → k < length xs → x ≡ get_or xs k x → P (f x)
-each_item P f xs h k x lt is = subst (λ y. P (f y)) (sym is) (each_at (λ y. P (f y)) xs (each_of_map P f xs h) k x lt)

@@ -1,13 +1,12 @@
 -- Which limit is passed first.
-use Rattle.std.proofs.Common.{◌≡◌, ◌<◌, ◌≤◌, length, Some}
-use Rattle.std.proofs.lemmas.Bool.{lt-ltb, le-ltb}
+use Rattle.std.proofs.Common.{◌≡◌, ◌≤◌, length, None}
+use Rattle.std.proofs.lemmas.Bool.{le-ltb}
 use Rattle.serializability.specs.Log.{Log}
 use Rattle.serializability.specs.Polygraph.{bipaths}
-use Rattle.order_cnf.specs.declared.fault.CnfFault.TheVariants.{TooManyChoices}
 use Rattle.order_cnf.specs.Limits.{choices_fault}
 
-pub too_many_choices : (log : Log) → log.nodes ≤ 100 → 100000 < length (bipaths log) → choices_fault log ≡ Some TooManyChoices
-too_many_choices log few many =
+pub few_choices : (log : Log) → log.nodes ≤ 100 → length (bipaths log) ≤ 100000 → choices_fault log ≡ None
+few_choices log few fits =
     let n = le-ltb 100 log.nodes few in
-    let m = lt-ltb 100000 (length (bipaths log)) many in
+    let m = le-ltb 100000 (length (bipaths log)) fits in
     rw (n, m)

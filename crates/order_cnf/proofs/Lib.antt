@@ -3,9 +3,6 @@ pub mod Each
 pub mod Satisfying
 pub mod Counts
 pub mod Rests
-pub mod Sources
-pub mod Arcs
 pub mod Triples
-pub mod Marks
 pub mod Faults
 pub mod PlainFormula

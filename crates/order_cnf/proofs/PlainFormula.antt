@@ -1,14 +1,14 @@
 -- The plain formula of a clean log is a formula: its literals are in range, its clauses short, and what satisfies it an order.
-use Rattle.std.proofs.Common.{◌≡◌, None, inl, inr, refl, ap, ◌∙◌, ℕ, ◌+◌, ◌<◌, ◌≤◌, List, [], ◌∷◌, ◌++◌, length, sym, subst, arith}
+use Rattle.std.proofs.Common.{◌≡◌, inl, inr, refl, ap, ◌∙◌, ℕ, ◌+◌, ◌<◌, ◌≤◌, List, [], ◌∷◌, ◌++◌, length, sym, subst, arith}
 use Rattle.std.specs.List.{AllByRecursion}
 use Rattle.std.specs.Prelude.{map}
 use Rattle.std.specs.Option.{option_or}
 use Rattle.std.proofs.lemmas.Bool.{cases_order, lt-ltb, le-ltb}
-use Rattle.std.proofs.lemmas.List.{length-map}
+use Rattle.std.proofs.lemmas.List.{length-map, length-append}
 use Rattle.serializability.specs.declared.literal.Literal.{Literal}
 use Rattle.serializability.specs.Log.{Log}
 use Rattle.serializability.specs.Reads.{IsClean}
-use Rattle.serializability.specs.Polygraph.{Edge, Choice, arcs, bipaths}
+use Rattle.serializability.specs.Polygraph.{Edge, Choice, Polygraph, arcs, bipaths, bipath_polygraph}
 use Rattle.serializability.specs.Pairs.{edge_literal, triples_of, triple_clauses, order_clauses}
 use Rattle.serializability.specs.Plain.{nothing_known, plain_nodes, plain_pairs, literals_of, plain, plain_of}
 use Rattle.serializability.specs.Formula.{IsInRange, HasShortClauses}
@@ -18,22 +18,27 @@ use Rattle.serializability.proofs.Serial.{each_from_arcs, each_from_bipaths, arc
 use Rattle.serializability.proofs.Made.{each_triple_from}
 use Rattle.serializability.proofs.PlainLaws.{plain_is_order}
 use Rattle.order_cnf.specs.Clauses.{IsWithin}
-use Rattle.order_cnf.specs.declared.arc.Arc.{Arc}
-use Rattle.order_cnf.specs.declared.bipath.Bipath.{Bipath}
-use Rattle.order_cnf.specs.Edges.{edge_of, choice_of, polygraph, Joins, JoinsBoth}
-use Rattle.order_cnf.specs.Limits.{choices_fault, size_fault, plain_fault}
+use Rattle.polygraph.specs.Polygraphs.{Joins}
+use Rattle.order_cnf.specs.Bipaths.{IsSingle, IsBipath, HasPlain}
+use Rattle.order_cnf.specs.Limits.{size_fault, plain_fault}
+use Rattle.order_cnf.specs.Data.{all_free}
+use Rattle.order_cnf.proofs.Faults.{few_choices}
 use Rattle.order_cnf.proofs.PairPlaces.{pair_within}
 
 -- ---- edges of different nodes
 pub arcs_joined : (log : Log) → IsClean log → AllByRecursion (Joins log.nodes) (arcs log)
 arcs_joined log clean = each_from_arcs log (Joins log.nodes) (λ u v hu hv t. record { from = hu; to = hv; apart = arc_apart log clean u v hv t })
 
-pub bipaths_joined : (log : Log) → IsClean log → AllByRecursion (JoinsBoth log.nodes) (bipaths log)
-bipaths_joined log clean = each_from_bipaths log (JoinsBoth log.nodes) (λ q x w v lo hi key from vlo vhi t.
-    let rival = rival_is log x w q v t in (
-      record { from = vhi; to = source_within log clean q x w lo hi from; apart = rival.1 },
-      (record { from = hi; to = vhi; apart = λ e. rival.2 (sym e) }, tt),
-    ))
+single : (n : ℕ) (e : Edge) → Joins n e → IsSingle n (e ∷ [])
+single n e j = record { edge = e; alone = refl; joins = j }
+
+pub are_bipaths : (log : Log) → IsClean log → AllByRecursion (IsBipath log.nodes) (bipaths log)
+are_bipaths log clean = each_from_bipaths log (IsBipath log.nodes) (λ q x w v lo hi key from vlo vhi t.
+    let rival = rival_is log x w q v t in
+    record {
+      first = single log.nodes (v, w) (record { from = vhi; to = source_within log clean q x w lo hi from; apart = rival.1 });
+      second = single log.nodes (q, v) (record { from = hi; to = vhi; apart = λ e. rival.2 (sym e) });
+    })
 
 -- ---- their literals are in range
 pub literal_within : (n : ℕ) (e : Edge) → Joins n e → IsWithin (length (plain_pairs n)) (edge_literal (plain_pairs n) e.0 e.1)
@@ -114,33 +119,46 @@ plain_is_formula log clean few size = record {
   orders = plain_is_order log;
 }
 
--- ---- the code's arcs and bipaths make it
-pub record Made (log : Log) (n : ℕ) (a : List Arc) (b : List Bipath) : Type 0 where
-  pub nodes : n ≡ log.nodes
-  pub arcs : map edge_of a ≡ arcs log
-  pub bipaths : map choice_of b ≡ bipaths log
-
-pub made : {log : Log} {n : ℕ} {a arcs' : List Arc} {b bipaths' : List Bipath} → n ≡ log.nodes → a ≡ arcs' → map edge_of arcs' ≡ arcs log → b ≡ bipaths' → map choice_of bipaths' ≡ bipaths log → Made log n a b
-made nodes a_is a_made b_is b_made = record { nodes = nodes; arcs = ap (map edge_of) a_is ∙ a_made; bipaths = ap (map choice_of) b_is ∙ b_made }
-
-pub made_plain : (log : Log) (n : ℕ) (a : List Arc) (b : List Bipath) → Made log n a b → plain_of (polygraph n a b) ≡ plain log
+-- ---- the polygraph of a log has it
+has_plain : (log : Log) → IsClean log → log.nodes ≤ 400 → HasPlain (bipath_polygraph log)
 unfolding plain
-made_plain log n a b m =
-    ap (λ k. plain_of record { nodes = k; known = map edge_of a; choices = map choice_of b }) m.nodes
-    ∙ ap (λ l. plain_of record { nodes = log.nodes; known = l; choices = map choice_of b }) m.arcs
-    ∙ ap (λ l. plain_of record { nodes = log.nodes; known = arcs log; choices = l }) m.bipaths
+has_plain log clean few = record {
+  few = few;
+  joined = arcs_joined log clean;
+  bipaths = are_bipaths log clean;
+  sound = plain_is_formula log clean few;
+}
 
-pub made_joined : (log : Log) → IsClean log → (n : ℕ) (a : List Arc) (b : List Bipath) → Made log n a b → AllByRecursion (Joins n) (map edge_of a) × AllByRecursion (JoinsBoth n) (map choice_of b)
-made_joined log clean n a b m = (
-  subst (λ k. AllByRecursion (Joins k) (map edge_of a)) (sym m.nodes) (subst (AllByRecursion (Joins log.nodes)) (sym m.arcs) (arcs_joined log clean)),
-  subst (λ k. AllByRecursion (JoinsBoth k) (map choice_of b)) (sym m.nodes) (subst (AllByRecursion (JoinsBoth log.nodes)) (sym m.bipaths) (bipaths_joined log clean)),
-)
+pub made_plain : (log : Log) (p : Polygraph) → IsClean log → log.nodes ≤ 400 → p ≡ bipath_polygraph log → HasPlain p
+made_plain log p clean few same = subst HasPlain (sym same) (has_plain log clean few)
 
-pub made_sound : (log : Log) → IsClean log → (n : ℕ) (a : List Arc) (b : List Bipath) → Made log n a b → n ≤ 400 → length (plain_of (polygraph n a b)).clauses ≤ 20000000 → IsFormula (plain_of (polygraph n a b))
-made_sound log clean n a b m few size =
-    let same = made_plain log n a b m in
-    subst IsFormula (sym same) (plain_is_formula log clean (omega (arith, m.nodes, few)) (subst (λ f. length f.clauses ≤ 20000000) same size))
+pub plain_same : (log : Log) (p : Polygraph) → p ≡ bipath_polygraph log → plain_of p ≡ plain log
+unfolding plain
+plain_same log p same = ap plain_of same
 
-pub made_fault : (log : Log) (n : ℕ) (a : List Arc) (b : List Bipath) → Made log n a b → choices_fault log ≡ None → size_fault (plain_of (polygraph n a b)) ≡ plain_fault log
-made_fault log n a b m none =
-    ap size_fault (made_plain log n a b m) ∙ sym (ap (λ o. option_or o (size_fault (plain log))) none)
+-- ---- clauses that are made one kind after another
+pub made : (p : Polygraph) (n : ℕ) (edges : List Edge) (choices : List Choice) (units pairs all : List (List Literal)) → n ≡ p.nodes → edges ≡ p.known → choices ≡ p.choices
+    → units ≡ map (λ (e : Edge). literals_of n (e ∷ [])) edges → pairs ≡ units ++ map (λ (c : Choice). literals_of n (c.one ++ c.two)) choices → all ≡ pairs ++ order_clauses nothing_known (plain_nodes n)
+    → all_free n all ≡ plain_of p
+made p n edges choices units pairs all count known chosen a b c =
+    let of : ℕ → List Edge → List Choice → List (List Literal) = λ k es cs. (map (λ (e : Edge). literals_of k (e ∷ [])) es ++ map (λ (c : Choice). literals_of k (c.one ++ c.two)) cs) ++ order_clauses nothing_known (plain_nodes k) in
+    let made_of : all ≡ of n edges choices = c ∙ ap (λ l. l ++ order_clauses nothing_known (plain_nodes n)) (b ∙ ap (λ l. l ++ map (λ (c : Choice). literals_of n (c.one ++ c.two)) choices) a) in
+    ap (all_free n) made_of ∙ ap (λ k. all_free k (of k edges choices)) count ∙ ap (λ es. all_free p.nodes (of p.nodes es choices)) known ∙ ap (λ cs. all_free p.nodes (of p.nodes p.known cs)) chosen
+
+pub made_sound : (p : Polygraph) (n : ℕ) (all : List (List Literal)) → HasPlain p → all_free n all ≡ plain_of p → length all ≤ 20000000 → IsFormula (all_free n all)
+made_sound p n all h same few = subst IsFormula (sym same) (h.sound (subst (λ f. length f.clauses ≤ 20000000) same few))
+
+pub made_count : (n : ℕ) (edges : List Edge) (choices : List Choice) (units pairs all : List (List Literal))
+    → units ≡ map (λ (e : Edge). literals_of n (e ∷ [])) edges → pairs ≡ units ++ map (λ (c : Choice). literals_of n (c.one ++ c.two)) choices → all ≡ pairs ++ order_clauses nothing_known (plain_nodes n)
+    → length all ≡ length edges + length choices + length (order_clauses nothing_known (plain_nodes n))
+made_count n edges choices units pairs all a b c =
+    let ones = length-map edges (λ (e : Edge). literals_of n (e ∷ [])) in
+    let twos = length-map choices (λ (c : Choice). literals_of n (c.one ++ c.two)) in
+    let last = length-append pairs (order_clauses nothing_known (plain_nodes n)) in
+    let front = length-append units (map (λ (c : Choice). literals_of n (c.one ++ c.two)) choices) in
+    omega (arith, ap length a, ap length b, ap length c, ones, twos, last, front)
+
+-- ---- its faults
+pub size_is : (log : Log) (p : Polygraph) → p ≡ bipath_polygraph log → log.nodes ≤ 100 → length (bipaths log) ≤ 100000 → size_fault (plain_of p) ≡ plain_fault log
+size_is log p same few fits =
+    ap size_fault (plain_same log p same) ∙ sym (ap (λ o. option_or o (size_fault (plain log))) (few_choices log few fits))

@@ -1,6 +1,5 @@
 pub mod Clauses
 pub mod Data
 pub mod Held
-pub mod Edges
+pub mod Bipaths
 pub mod Limits
-pub mod Marks

@@ -5,6 +5,8 @@ use Rattle.serializability.specs.Log.{Log}
 use Rattle.serializability.specs.Polygraph.{bipaths}
 use Rattle.serializability.specs.Formula.{Cnf}
 use Rattle.serializability.specs.Plain.{plain}
+use Rattle.polygraph.specs.declared.fault.PolyFault.{PolyFault}
+use Rattle.polygraph.specs.declared.fault.PolyFault.TheVariants as poly
 use Rattle.order_cnf.specs.declared.fault.CnfFault.{CnfFault}
 use Rattle.order_cnf.specs.declared.fault.CnfFault.TheVariants.{TooManyForPlain, TooManyChoices, FormulaTooLarge, Memory}
 
@@ -25,3 +27,8 @@ plain_fault log = option_or (choices_fault log) (size_fault (plain log))
 -- a call fails by this fault, or for want of memory
 abbrev pub IsFault : CnfFault → Option CnfFault → Type 0
 IsFault e fault = (e ≡ Memory) ⊎ (fault ≡ Some e)
+
+-- what the refusal of a polygraph is told as
+abbrev pub fault_of : PolyFault → CnfFault
+fault_of poly.TooManyChoices = TooManyChoices
+fault_of poly.Memory = Memory

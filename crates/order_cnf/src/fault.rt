@@ -2,6 +2,7 @@
 
 ghost use Rattle.std.specs.Prelude.{◌≡◌};
 
+use polygraph::PolyFault;
 use std::alloc::{AllocError, AllocFailed};
 
 /// Why there is no formula.
@@ -34,5 +35,18 @@ impl<T: Drop> From<AllocFailed<T>> for CnfFault {
 
     fn from(_refused: AllocFailed<T>) -> CnfFault {
         CnfFault::Memory
+    }
+}
+
+impl From<PolyFault> for CnfFault {
+    ghost use Rattle.order_cnf.specs.Limits.{fault_of};
+
+    ghost from_gives = { λ f e. e ≡ fault_of f };
+
+    fn from(refused: PolyFault) -> CnfFault {
+        match refused {
+            PolyFault::TooManyChoices => CnfFault::TooManyChoices,
+            PolyFault::Memory => CnfFault::Memory,
+        }
     }
 }

@@ -2,18 +2,14 @@
 //! the plain formula of a history, and a formula that nothing satisfies.
 #![tactic(auto)]
 
-mod arc;
-mod bipath;
 mod clause;
 mod fault;
 mod formula;
 mod pair;
 mod plain;
-mod reads;
 mod triple;
 
-pub use bipath::{MAX_CHOICES, MAX_PLAIN_NODES, bipath_count};
 pub use clause::Clause;
 pub use fault::CnfFault;
 pub use formula::{Clauses, Formula, contradiction};
-pub use plain::plain_formula;
+pub use plain::{MAX_PLAIN_NODES, plain_formula};

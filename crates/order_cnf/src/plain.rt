@@ -3,82 +3,97 @@
 ghost use Rattle.std.specs.Prelude.{◌≡◌, ◌≤◌, ◌++◌, ◌∷◌, [], length, map, None, IfOk, IfErr, OnOk};
 ghost use Rattle.std.specs.List.{AllByRecursion};
 ghost use Rattle.serializability.specs.Reads.{IsClean};
-ghost use Rattle.serializability.specs.Decoded.{IsFormula};
-ghost use Rattle.serializability.specs.Plain.{literals_of, plain, plain_of};
+ghost use Rattle.serializability.specs.Pairs as spec;
+ghost use Rattle.serializability.specs.Plain.{literals_of, plain, plain_of, plain_pairs};
 ghost use Rattle.log_definitions.specs.Numbers.{log_of};
+ghost use Rattle.polygraph.specs.Polygraphs.{Joins};
+ghost use Rattle.order_cnf.specs.Bipaths.{HasPlain, IsBipath, IsSingle};
 ghost use Rattle.order_cnf.specs.Clauses.{literals};
 ghost use Rattle.order_cnf.specs.Data.{cnf_of};
-ghost use Rattle.order_cnf.specs.Edges.{edge_of, choice_of, polygraph, Joins, JoinsBoth};
 ghost use Rattle.order_cnf.specs.Limits.{plain_fault, size_fault, IsFault};
 
-use crate::arc::{Arc, arcs_of};
-use crate::bipath::{Bipath, bipaths_of};
 use crate::clause::Clause;
 use crate::fault::CnfFault;
 use crate::formula::Formula;
 use crate::pair::edge_literal;
 use crate::triple::{add_triples, triple_clause_count};
 use history::History;
+use polygraph::{Choice, Polygraph, bipaths};
+use reach_laws::Edge;
+use serializability::Literal;
 use std::alloc::Global;
+
+/// The greatest number of committed transactions for a plain formula.
+pub const MAX_PLAIN_NODES: usize = 100;
 
 // The greatest number of clauses.
 const MAX_CLAUSES: usize = 20_000_000;
 
-// Adds the clause of each arc.
-fn add_arcs(clauses: &mut Vec<Clause>, nodes: usize, arcs: &[Arc]) -> Result<(), CnfFault>
+// The literal that the edge leads to a later node.
+fn literal_of(nodes: usize, edge: Edge) -> Literal
     requires few { nodes ≤ 400 }
-    requires joined { AllByRecursion (Joins nodes) (map edge_of arcs.now) }
+    requires joined { Joins nodes edge }
+    ensures value { result ≡ spec.edge_literal (plain_pairs nodes) edge.0 edge.1 }
+{
+    edge_literal(nodes, edge.source(), edge.target())
+}
+
+// The literal that the edge of this side does.
+fn side_literal(nodes: usize, side: &[Edge]) -> Literal
+    requires few { nodes ≤ 400 }
+    requires single { IsSingle nodes side.now }
+    ensures value { result ∷ [] ≡ literals_of nodes side.now }
+{
+    literal_of(nodes, side[0])
+}
+
+// Adds the clause of each arc.
+fn add_arcs(clauses: &mut Vec<Clause>, nodes: usize, arcs: &[Edge]) -> Result<(), CnfFault>
+    requires few { nodes ≤ 400 }
+    requires joined { AllByRecursion (Joins nodes) arcs.now }
     ensures ok { OnOk result (map literals clauses.new.items ≡ map literals clauses.old.items
-        ++ map (λ e. literals_of nodes (e ∷ [])) (map edge_of arcs.now)) }
+        ++ map (λ e. literals_of nodes (e ∷ [])) arcs.now) }
     ensures fault { IfErr result (λ e. e ≡ CnfFault.Memory) }
 {
     for arc in arcs {
-        clauses.push(Clause::Unit(edge_literal(nodes, arc.from, arc.to)))?;
+        clauses.push(Clause::Unit(literal_of(nodes, *arc)))?;
     }
     Ok(())
 }
 
 // Adds the clause of each bipath.
-fn add_bipaths(clauses: &mut Vec<Clause>, nodes: usize, bipaths: &[Bipath]) -> Result<(), CnfFault>
+fn add_bipaths(clauses: &mut Vec<Clause>, nodes: usize, bipaths: &[Choice]) -> Result<(), CnfFault>
     requires few { nodes ≤ 400 }
-    requires joined { AllByRecursion (JoinsBoth nodes) (map choice_of bipaths.now) }
+    requires bipaths { AllByRecursion (IsBipath nodes) bipaths.now }
     ensures ok { OnOk result (map literals clauses.new.items ≡ map literals clauses.old.items
-        ++ map (λ c. literals_of nodes (c.one ++ c.two)) (map choice_of bipaths.now)) }
+        ++ map (λ c. literals_of nodes (c.one ++ c.two)) bipaths.now) }
     ensures fault { IfErr result (λ e. e ≡ CnfFault.Memory) }
 {
     for bipath in bipaths {
         clauses.push(Clause::Pair(
-            edge_literal(nodes, bipath.rival, bipath.source),
-            edge_literal(nodes, bipath.reader, bipath.rival),
+            side_literal(nodes, bipath.one()),
+            side_literal(nodes, bipath.two()),
         ))?;
     }
     Ok(())
 }
 
-// The formula of a polygraph, where it is one.
-fn formula_of(
-    alloc: Global,
-    nodes: usize,
-    arcs: &[Arc],
-    bipaths: &[Bipath],
-) -> Result<Formula, CnfFault>
-    requires few { nodes ≤ 400 }
-    requires arcs { AllByRecursion (Joins nodes) (map edge_of arcs.now) }
-    requires bipaths { AllByRecursion (JoinsBoth nodes) (map choice_of bipaths.now) }
-    requires sound { length (plain_of (polygraph nodes arcs.now bipaths.now)).clauses ≤ 20000000 →
-        IsFormula (plain_of (polygraph nodes arcs.now bipaths.now)) }
-    ensures formula { IfOk result (λ f. cnf_of f ≡ plain_of (polygraph nodes arcs.now bipaths.now)) }
-    ensures fits { IfOk result (λ _.
-        size_fault (plain_of (polygraph nodes arcs.now bipaths.now)) ≡ None) }
-    ensures fault { IfErr result (λ e.
-        IsFault e (size_fault (plain_of (polygraph nodes arcs.now bipaths.now)))) }
+// The formula of a polygraph of bipaths, where it is one.
+fn formula_of(alloc: Global, polygraph: &Polygraph) -> Result<Formula, CnfFault>
+    requires plain { HasPlain polygraph.now }
+    ensures formula { IfOk result (λ f. cnf_of f ≡ plain_of polygraph.now) }
+    ensures fits { IfOk result (λ _. size_fault (plain_of polygraph.now) ≡ None) }
+    ensures fault { IfErr result (λ e. IsFault e (size_fault (plain_of polygraph.now))) }
 {
+    let nodes = polygraph.nodes();
+    let arcs = polygraph.known().edges(alloc)?;
+    let bipaths = polygraph.choices();
     let count = arcs.len() + bipaths.len() + triple_clause_count(nodes);
     if count > MAX_CLAUSES {
         return Err(CnfFault::FormulaTooLarge);
     }
     let mut clauses = Vec::with_capacity(alloc, count)?;
-    add_arcs(&mut clauses, nodes, arcs)?;
+    add_arcs(&mut clauses, nodes, &arcs)?;
     add_bipaths(&mut clauses, nodes, bipaths)?;
     add_triples(&mut clauses, nodes)?;
     Ok(Formula::of_clauses(nodes, clauses))
@@ -96,7 +111,9 @@ pub fn plain_formula(alloc: Global, history: &History) -> Result<Formula, CnfFau
     ensures fits { IfOk result (λ _. plain_fault (log_of history.now) ≡ None) }
     ensures fault { IfErr result (λ e. IsFault e (plain_fault (log_of history.now))) }
 {
-    let bipaths = bipaths_of(alloc, history)?;
-    let arcs = arcs_of(alloc, history)?;
-    formula_of(alloc, history.committed(), &arcs, &bipaths)
+    if history.committed() > MAX_PLAIN_NODES {
+        return Err(CnfFault::TooManyForPlain);
+    }
+    let polygraph = bipaths(alloc, history)?;
+    formula_of(alloc, &polygraph)
 }

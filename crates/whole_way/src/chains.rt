@@ -6,6 +6,7 @@ use desk::gate::OpenGate;
 use desk::seat_no::Workers;
 use headline::laws::anomalies_decide;
 use history::History;
+use known_graph::Known;
 use serializability::NodeIx;
 use std::alloc::{AllocError, Global};
 use std::process::Abort;
@@ -135,5 +136,45 @@ fn a_reader_inside_the_initial_chain(rt: HostRuntime) -> Result<(), Fail> {
     let inner = chains.inner_edges();
     assert_eq!(rt; inner.len(), 1);
     assert_eq!(rt; (inner[0].from.get(), inner[0].to.get()), (3, 2));
+    Ok(())
+}
+
+/// A cycle of a history's arcs, and one of the arcs and the inner edges; nothing where the history has an anomaly, or a chain
+/// closes on itself.
+fn cycles(
+    alloc: Global,
+    history: &History,
+) -> Result<Option<(Option<Vec<NodeIx>>, Option<Vec<NodeIx>>)>, AllocError> {
+    let _nodes = history.committed();
+    if classify(alloc, history)?.is_some() {
+        return Ok(None);
+    }
+    anomalies_decide();
+    let mut known = Known::of(alloc, history)?;
+    let of_arcs = known.find_cycle(alloc)?;
+    let Ok(found) = chains(alloc, history)? else {
+        return Ok(None);
+    };
+    for edge in found.inner_edges() {
+        if edge.from.get() <= known.nodes() && edge.to.get() <= known.nodes() {
+            known.add_edge(edge.from, edge.to);
+        }
+    }
+    Ok(Some((of_arcs, known.find_cycle(alloc)?)))
+}
+
+const WRITE_SKEW: &[u8] = b"session 1\nbegin\nr x 0\nr y 0\nw x 1\ncommit\n\
+session 2\nbegin\nr x 0\nr y 0\nw y 2\ncommit\n";
+
+#[test]
+fn inner_edges_close_a_cycle(rt: HostRuntime) -> Result<(), Fail> {
+    let history = history_of(&rt, rt.alloc(), WRITE_SKEW);
+    let (of_arcs, of_both) = cycles(rt.alloc(), &history)?.expect(
+        &rt,
+        "no anomaly, and no closed chain",
+    );
+    assert!(rt; of_arcs.is_none());
+    let line = numbers(rt.alloc(), &of_both.expect(&rt, "a cycle"))?;
+    assert_eq!(rt; line.as_slice(), [1, 2, 1].as_slice());
     Ok(())
 }

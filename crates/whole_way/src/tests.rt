@@ -403,3 +403,37 @@ fn what_is_printed_is_read_back(rt: HostRuntime) -> Result<(), Fail> {
     assert_eq!(rt; printed.as_slice(), TWO_WRITERS.as_bytes());
     Ok(())
 }
+
+/// 50 sessions, each with a transaction that writes so many keys and one that reads these writes.
+fn many_bipaths(alloc: Global, keys: usize) -> Result<String, Fail> {
+    let mut log = String::new(alloc);
+    for session in 1..51usize {
+        log.push_str(&format!(in alloc; "session {session}\nbegin\n")?)?;
+        for key in 0..keys {
+            log.push_str(&format!(in alloc; "w k{key} {session}{key:03}\n")?)?;
+        }
+        log.push_str("commit\nbegin\n")?;
+        for key in 0..keys {
+            log.push_str(&format!(in alloc; "r k{key} {session}{key:03}\n")?)?;
+        }
+        log.push_str("commit\n")?;
+    }
+    Ok(log)
+}
+
+#[test]
+fn choices_at_the_limit(rt: HostRuntime) -> Result<(), Fail> {
+    let options = options(&rt);
+    let log = many_bipaths(rt.alloc(), 40)?;
+    let (code, printed) = told(&rt, rt.alloc(), &options, Command::Stats, &log)?;
+    assert_eq!(rt; code, 0);
+    assert_eq!(rt;
+        printed.as_slice(),
+        b"sessions 50\ncommitted 100\naborted 0\nkeys 40\noperations 4000\nchoices 98000\nvariables 5050\nclauses 431450\n".as_slice()
+    );
+    let log = many_bipaths(rt.alloc(), 41)?;
+    let (code, printed) = told(&rt, rt.alloc(), &options, Command::Encode, &log)?;
+    assert_eq!(rt; code, 2);
+    assert_eq!(rt; printed.as_slice(), b"refused: G1".as_slice());
+    Ok(())
+}

@@ -1,0 +1,295 @@
+//! Times the crates of graphs, for `bench/graphs.sh`: `graph_bench dense` takes a graph of 400 nodes with an edge from each
+//! node to each greater one, `graph_bench log FILE` the history of a log, and `graph_bench prune FILE` lists what pruning keeps.
+#![tactic(auto)]
+
+ghost use Rattle.serializability.specs.Reads.{IsClean};
+ghost use Rattle.log_definitions.specs.Numbers.{log_of};
+
+use anomalies::classify;
+use coalesce::coalesce;
+use cobra_cli::{CountedRead, read_all, read_log};
+use desk::gate::OpenGate;
+use desk::seat_no::Workers;
+use history::History;
+use known_graph::Known;
+use polygraph::bipaths;
+use prune_ledger::{Ledger, Pruned, prune};
+use pruning_laws::Side;
+use reach_rows::Rows;
+use serializability::{MAX_NODES, NodeIx};
+use session_log::MAX_LOG_BYTES;
+use std::alloc::Global;
+use std::io::Print;
+use std::rt::Runtime;
+use std::sync::Wait;
+use std::thread::Threads;
+use std::time::{Clock, Instant};
+use std::{env, fs, io};
+use write_chains::chains;
+
+/// Prints how long something took.
+fn told<R: Print + Clock>(rt: &R, what: &str, start: Instant) -> io::Result<()> {
+    let micros = start.elapsed(rt)?.as_micros();
+    println!(rt; "{what}: {micros} us")
+}
+
+fn add(known: &mut Known, u: usize, v: usize) {
+    if let (Some(u), Some(v)) = (NodeIx::new(u), NodeIx::new(v)) {
+        if u.get() <= known.nodes() && v.get() <= known.nodes() {
+            known.add_edge(u, v);
+        }
+    }
+}
+
+/// A graph with an edge from each node to each greater one.
+fn dense(alloc: Global) -> io::Result<Known> {
+    let mut known = Known::new(alloc, MAX_NODES)?;
+    for u in 1..MAX_NODES + 1 {
+        for v in u + 1..MAX_NODES + 1 {
+            add(&mut known, u, v);
+        }
+    }
+    Ok(known)
+}
+
+fn time_graph<R: Runtime + Threads + Wait + Sync>(rt: &R, alloc: Global) -> io::Result<()> {
+    let known = dense(alloc)?;
+    let start = Instant::now(rt)?;
+    let _ = known.find_cycle(alloc)?;
+    told(rt, "find_cycle, none there", start)?;
+    let start = Instant::now(rt)?;
+    let rows = Rows::plain(alloc, &known)?;
+    told(rt, "rows, plain", start)?;
+    for count in [1u8, 2, 4] {
+        if let Some(workers) = Workers::new(count) {
+            let start = Instant::now(rt)?;
+            let _ = Rows::compute(rt, alloc, &known, workers, &OpenGate)?;
+            println!(rt; "workers: {count}")?;
+            told(rt, "rows, computed", start)?;
+        }
+    }
+    let start = Instant::now(rt)?;
+    let copy = rows.copy(alloc)?;
+    let _ = copy.cyclic();
+    told(rt, "rows, copied", start)
+}
+
+fn time_bipaths<R: Print + Clock>(rt: &R, alloc: Global, history: &History) -> io::Result<()>
+    requires clean { IsClean (log_of history.now) }
+{
+    let start = Instant::now(rt)?;
+    match bipaths(alloc, history) {
+        Ok(found) => {
+            let count = found.choices().len();
+            println!(rt; "choices: {count}")?;
+        }
+        Err(_) => println!(rt; "no bipaths within the limits")?,
+    }
+    told(rt, "bipaths", start)
+}
+
+fn time_chains<R: Print + Clock>(rt: &R, alloc: Global, history: &History) -> io::Result<()>
+    requires clean { IsClean (log_of history.now) }
+{
+    let start = Instant::now(rt)?;
+    let known = Known::of(alloc, history)?;
+    told(rt, "arcs", start)?;
+    let start = Instant::now(rt)?;
+    let Ok(found) = chains(alloc, history)? else {
+        return println!(rt; "a chain closes on itself");
+    };
+    told(rt, "chains", start)?;
+    let start = Instant::now(rt)?;
+    match coalesce(alloc, history, &found, known) {
+        Ok(poly) => {
+            let count = poly.choices().len();
+            println!(rt; "choices: {count}")?;
+        }
+        Err(_) => println!(rt; "no coalesced choices within the limits")?,
+    }
+    told(rt, "coalesce", start)
+}
+
+/// What pruning by so many workers leaves of the chain polygraph; nothing where there is none.
+fn pruned<R: Threads + Wait + Clock + Sync>(
+    rt: &R,
+    alloc: Global,
+    history: &History,
+    workers: Workers,
+) -> io::Result<Option<Pruned>>
+    requires clean { IsClean (log_of history.now) }
+{
+    let known = Known::of(alloc, history)?;
+    let Ok(found) = chains(alloc, history)? else {
+        return Ok(None);
+    };
+    let Ok(poly) = coalesce(alloc, history, &found, known) else {
+        return Ok(None);
+    };
+    Ok(Some(prune(rt, alloc, poly, workers, &OpenGate)?))
+}
+
+fn time_pruning<R: Print + Threads + Wait + Clock + Sync>(
+    rt: &R,
+    alloc: Global,
+    history: &History,
+    count: u8,
+) -> io::Result<()>
+    requires clean { IsClean (log_of history.now) }
+{
+    let Some(workers) = Workers::new(count) else {
+        return Ok(());
+    };
+    let start = Instant::now(rt)?;
+    let Some(found) = pruned(rt, alloc, history, workers)? else {
+        return println!(rt; "not pruned");
+    };
+    println!(rt; "workers: {count}")?;
+    tell_pruned(rt, found)?;
+    told(rt, "arcs, chains, coalesce and prune", start)
+}
+
+/// Prints how much pruning keeps and leaves.
+fn tell_pruned<R: Print>(rt: &R, found: Pruned) -> io::Result<()> {
+    match found {
+        Pruned::Open(reduced) => {
+            let open = reduced.poly().choices().len();
+            let kept = reduced.ledger().entries.len();
+            println!(rt; "open: {open}, kept: {kept}")
+        }
+        Pruned::Dead(_ledger) => println!(rt; "dead"),
+    }
+}
+
+/// Prints what pruning keeps: the number of a choice, and which side of it.
+fn list_ledger<R: Print>(rt: &R, ledger: &Ledger) -> io::Result<()> {
+    for entry in &ledger.entries {
+        let number = entry.post.choice.get();
+        let side = match entry.post.side {
+            Side::One => 2,
+            Side::Two => 1,
+        };
+        println!(rt; "kept {number} {side}")?;
+    }
+    Ok(())
+}
+
+fn list_pruning<R: Print + Threads + Wait + Clock + Sync>(
+    rt: &R,
+    alloc: Global,
+    history: &History,
+    count: u8,
+) -> io::Result<()>
+    requires clean { IsClean (log_of history.now) }
+{
+    let Some(workers) = Workers::new(count) else {
+        return Ok(());
+    };
+    println!(rt; "workers {count}")?;
+    let Some(found) = pruned(rt, alloc, history, workers)? else {
+        return println!(rt; "not pruned");
+    };
+    match found {
+        Pruned::Open(reduced) => {
+            list_ledger(rt, reduced.ledger())?;
+            let open = reduced.poly().choices().len();
+            println!(rt; "open {open}")
+        }
+        Pruned::Dead(_ledger) => println!(rt; "dead"),
+    }
+}
+
+/// Times the bipaths, the chains and pruning of a clean history.
+fn time_each<R: Print + Threads + Wait + Clock + Sync>(
+    rt: &R,
+    alloc: Global,
+    history: &History,
+) -> io::Result<()>
+    requires clean { IsClean (log_of history.now) }
+{
+    time_bipaths(rt, alloc, history)?;
+    time_chains(rt, alloc, history)?;
+    time_pruning(rt, alloc, history, 1)?;
+    time_pruning(rt, alloc, history, 2)?;
+    time_pruning(rt, alloc, history, 4)
+}
+
+/// Lists what pruning keeps with 1, 2 and 16 workers.
+fn list_with_each<R: Print + Threads + Wait + Clock + Sync>(
+    rt: &R,
+    alloc: Global,
+    history: &History,
+) -> io::Result<()>
+    requires clean { IsClean (log_of history.now) }
+{
+    list_pruning(rt, alloc, history, 1)?;
+    list_pruning(rt, alloc, history, 2)?;
+    list_pruning(rt, alloc, history, 16)
+}
+
+fn with_clean<R: Print + Threads + Wait + Clock + Sync>(
+    rt: &R,
+    alloc: Global,
+    history: &History,
+    timed: bool,
+) -> io::Result<()>
+    requires clean { IsClean (log_of history.now) }
+{
+    if timed {
+        time_each(rt, alloc, history)
+    } else {
+        list_with_each(rt, alloc, history)
+    }
+}
+
+fn with_history<R: Print + Threads + Wait + Clock + Sync>(
+    rt: &R,
+    alloc: Global,
+    history: &History,
+    timed: bool,
+) -> io::Result<()> {
+    if history.committed() > MAX_NODES {
+        return Ok(());
+    }
+    match classify(alloc, history)? {
+        Some(_) => println!(rt; "the history has an anomaly"),
+        None => with_clean(rt, alloc, history, timed),
+    }
+}
+
+fn time_log<R: Runtime + Threads + Wait + Sync>(
+    rt: &R,
+    alloc: Global,
+    path: &str,
+    timed: bool,
+) -> io::Result<()> {
+    let mut source = CountedRead {
+        reader: fs::open(rt, path)?,
+        failures: 0,
+    };
+    let Ok(log) = read_all(alloc, &mut source, MAX_LOG_BYTES) else {
+        return println!(rt; "the log cannot be read");
+    };
+    let Some(workers) = Workers::new(4) else {
+        return Ok(());
+    };
+    let start = Instant::now(rt)?;
+    let Ok(history) = read_log(rt, alloc, &log, workers, &OpenGate) else {
+        return println!(rt; "the log is refused");
+    };
+    if timed {
+        told(rt, "log read", start)?;
+    }
+    with_history(rt, alloc, &history, timed)
+}
+
+fn main(rt: HostRuntime) -> io::Result<()> {
+    let words: Vec<String> = env::args(&rt)?.collect(rt.alloc())?;
+    match words.get(1) {
+        None => Ok(()),
+        Some(word) => match words.get(2) {
+            Some(path) => time_log(&rt, rt.alloc(), path, word.as_str() == "log"),
+            None => time_graph(&rt, rt.alloc()),
+        },
+    }
+}

@@ -1,0 +1,9 @@
+pub mod Edges
+pub mod Marks
+pub mod Sides
+pub mod Grown
+pub mod Turns
+pub mod Flags
+pub mod Finals
+pub mod Held
+pub mod Seats

@@ -1,0 +1,178 @@
+-- Calls of a round, joined.
+use Rattle.std.proofs.Common.{◌≡◌, ◌⊎◌, ℕ, zero, suc, ◌<◌, ◌≤◌, List, [], ◌∷◌, ◌++◌, length, get_or, refl, sym, ap, ◌∙◌, subst, inl, inr, arith}
+use Rattle.std.specs.Prelude.{slice_index_or, slice_get, Option, Some, None, MatchOption}
+use Rattle.std.specs.List.{Contains, AllByRecursion}
+use Rattle.serializability.proofs.Places.{each_from_append}
+use Rattle.serializability.specs.Polygraph.{Edge, Choice, Polygraph}
+use Rattle.pruning_laws.specs.declared.side.Side.{Side}
+use Rattle.pruning_laws.specs.declared.side.Side.TheVariants.{One, Two}
+use Rattle.reach_laws.specs.Reach.{Reaches}
+use Rattle.pruning_laws.specs.Forced.{IsRefuted, edges_of}
+use Rattle.reach_laws.proofs.Walks.{Contains-here, Contains-further, each_contained}
+use Rattle.reach_laws.specs.Reach.{Graph}
+use Rattle.reach_rows.specs.ReachRows.{AreRowsOf}
+use Rattle.polygraph.specs.Polygraphs.{Joins, IsPolygraph}
+use Rattle.prune_ledger.proofs.Marks.{side_joins}
+use Rattle.prune_ledger.specs.Posted.{Posted}
+use Rattle.prune_ledger.specs.Rounds.{Refutes, HasPost, EachHandled, Handled, PostedOf, Settled, Turned, IsOpenIn}
+use Rattle.prune_ledger.specs.declared.parts.Event.{Event}
+use Rattle.prune_ledger.specs.declared.parts.Event.TheVariants.{Take, Post, Pass, Release}
+use Rattle.prune_ledger.specs.declared.parts.Reply.{Reply}
+use Rattle.prune_ledger.specs.declared.parts.Reply.TheVariants.{Judge}
+
+some-inj : {A : Type 0} (x y : A) → Some x ≡ Some y → x ≡ y
+some-inj x y e = cc
+
+abbrev Calls : Type 0
+Calls = List (Event × Reply)
+
+pub nil_right : {X : Type 0} (xs : List X) → xs ≡ xs ++ []
+nil_right [] = refl
+nil_right (x ∷ xs) = ap (λ l. x ∷ l) (nil_right xs)
+
+joined : {X : Type 0} (a b c : List X) → (a ++ b) ++ c ≡ a ++ (b ++ c)
+joined [] b c = refl
+joined (x ∷ a) b c = ap (λ l. x ∷ l) (joined a b c)
+
+left_at : (xs ys : List ℕ) (c k : ℕ) → k < length xs → slice_index_or xs k c ≡ c → Contains (xs ++ ys) c
+left_at [] ys c k lt e = absurd (omega arith)
+left_at (x ∷ xs) ys c zero lt e = subst (Contains (x ∷ (xs ++ ys))) e (Contains-here x (xs ++ ys))
+left_at (x ∷ xs) ys c (suc k) lt e = Contains-further x c (xs ++ ys) (left_at xs ys c k (omega arith) e)
+
+contains_left : (xs ys : List ℕ) (c : ℕ) → Contains xs c → Contains (xs ++ ys) c
+contains_left xs ys c h = left_at xs ys c h.0 h.1 h.2
+
+contains_last : (xs : List ℕ) (c : ℕ) → Contains (xs ++ c ∷ []) c
+contains_last [] c = Contains-here c []
+contains_last (x ∷ xs) c = Contains-further x c (xs ++ c ∷ []) (contains_last xs c)
+
+post_left : (c : ℕ) (xs ys : Calls) → HasPost c xs → HasPost c (xs ++ ys)
+post_left c [] ys h = absurd h
+post_left c (x ∷ xs) ys h = elim h [ inl a ↦ inl a | inr b ↦ inr (post_left c xs ys b) ]
+
+handled_append : (passed : List ℕ) (xs ys : Calls) → EachHandled passed xs → EachHandled passed ys → EachHandled passed (xs ++ ys)
+handled_append passed [] ys h k = k
+handled_append passed (x ∷ xs) ys h k = ((λ c e. elim (h.0 c e) [ inl a ↦ inl a | inr b ↦ inr (post_left c xs ys b) ]), handled_append passed xs ys h.1 k)
+
+handled_longer : (passed more : List ℕ) (xs : Calls) → EachHandled passed xs → EachHandled (passed ++ more) xs
+handled_longer passed more [] h = tt
+handled_longer passed more (x ∷ xs) h = ((λ c e. elim (h.0 c e) [ inl a ↦ inl (contains_left passed more c a) | inr b ↦ inr b ]), handled_longer passed more xs h.1)
+
+pub handled_none : (passed : List ℕ) (a : Calls) → Handled passed a a
+handled_none passed a = record { calls = []; same = nil_right a; each = tt }
+
+pub handled_turn : (passed listed : List ℕ) (a b n : Calls) → Handled passed a b → Turned passed listed b n → Handled listed a n
+handled_turn passed listed a b n h t = record {
+  calls = h.calls ++ t.handled.calls;
+  same = t.handled.same ∙ ap (λ l. l ++ t.handled.calls) h.same ∙ joined a h.calls t.handled.calls;
+  each = handled_append listed h.calls t.handled.calls
+      (subst (λ l. EachHandled l h.calls) (sym t.longer) (handled_longer passed t.more h.calls h.each)) t.handled.each;
+}
+
+pub turned_stop : (passed : List ℕ) (b n : Calls) (r : Reply) → ((c : ℕ) → r ≡ Judge c → ⊥) → n ≡ b ++ (Take, r) ∷ [] → Turned passed passed b n
+turned_stop passed b n r none e = record {
+  handled = record { calls = (Take, r) ∷ []; same = e; each = ((λ c h. absurd (none c h)), tt) };
+  more = [];
+  longer = nil_right passed;
+}
+
+pub handled_last : (passed : List ℕ) (a b n : Calls) (r : Reply) → Handled passed a b → n ≡ b ++ (Release, r) ∷ [] → Handled passed a n
+handled_last passed a b n r h e = record {
+  calls = h.calls ++ (Release, r) ∷ [];
+  same = e ∙ ap (λ l. l ++ (Release, r) ∷ []) h.same ∙ joined a h.calls ((Release, r) ∷ []);
+  each = handled_append passed h.calls ((Release, r) ∷ []) h.each ((λ d k. absurd k), tt);
+}
+
+judge-inj : (c d : ℕ) → Judge c ≡ Judge d → c ≡ d
+judge-inj c d e = cc
+
+pub turned_settled : (c : ℕ) (passed listed : List ℕ) (b m n : Calls) (r : Reply) → r ≡ Judge c → m ≡ b ++ (Take, r) ∷ [] → Settled c passed listed m n → Turned passed listed b n
+turned_settled c passed listed b m n r is e s = record {
+  handled = record {
+    calls = (Take, r) ∷ s.calls;
+    same = s.same ∙ ap (λ l. l ++ s.calls) e ∙ joined b ((Take, r) ∷ []) s.calls;
+    each = ((λ d h. subst (λ k. Contains listed k ⊎ HasPost k s.calls) (judge-inj c d (sym is ∙ h)) s.its), s.each);
+  };
+  more = s.more;
+  longer = s.longer;
+}
+
+pub settled_pass : (c : ℕ) (passed listed : List ℕ) (b n : Calls) (r : Reply) → listed ≡ passed ++ c ∷ [] → n ≡ b ++ (Pass c, r) ∷ [] → Settled c passed listed b n
+settled_pass c passed listed b n r l e = record {
+  calls = (Pass c, r) ∷ [];
+  same = e;
+  each = ((λ d h. absurd h), tt);
+  its = inl (subst (λ k. Contains k c) (sym l) (contains_last passed c));
+  more = c ∷ [];
+  longer = l;
+}
+
+pub posted_by : (c : ℕ) (b n : Calls) (q : Posted) (r : Reply) → q.choice ≡ c → n ≡ b ++ (Post q, r) ∷ [] → PostedOf c b n
+posted_by c b n q r is e = record { post = q; reply = r; same = e; its = is }
+
+pub settled_one : (c : ℕ) (passed : List ℕ) (b n : Calls) → PostedOf c b n → Settled c passed passed b n
+settled_one c passed b n p = record {
+  calls = (Post p.post, p.reply) ∷ [];
+  same = p.same;
+  each = ((λ d h. absurd h), tt);
+  its = inr (inl p.its);
+  more = [];
+  longer = nil_right passed;
+}
+
+pub settled_two : (c : ℕ) (passed : List ℕ) (b m n : Calls) → PostedOf c b m → PostedOf c m n → Settled c passed passed b n
+settled_two c passed b m n p q = record {
+  calls = (Post p.post, p.reply) ∷ (Post q.post, q.reply) ∷ [];
+  same = q.same ∙ ap (λ l. l ++ (Post q.post, q.reply) ∷ []) p.same ∙ joined b ((Post p.post, p.reply) ∷ []) ((Post q.post, q.reply) ∷ []);
+  each = ((λ d h. absurd h), ((λ d h. absurd h), tt));
+  its = inr (inl p.its);
+  more = [];
+  longer = nil_right passed;
+}
+
+-- ---- no edge of the side goes against a walk
+abbrev pub Free : List Edge → Edge → Type 0
+Free edges e = Reaches edges e.1 e.0 → ⊥
+
+pub free_push : (edges : List Edge) (xs : List Edge) (e : Edge) → AllByRecursion (Free edges) xs → (Reaches edges e.1 e.0 → ⊥) → AllByRecursion (Free edges) (xs ++ e ∷ [])
+free_push edges xs e a f = each_from_append (Free edges) xs (e ∷ []) a (f, tt)
+
+pub not_refuted : (edges side : List Edge) → AllByRecursion (Free edges) side → IsRefuted edges side → ⊥
+not_refuted edges side a r = each_contained (Free edges) side (r.0, r.1.0) a r.1.1.0 r.1.1.1
+
+-- ---- the list of open choices
+pub open_pushed : (edges : List Edge) (choices : List Choice) (c : ℕ) (passed listed : List ℕ) → AllByRecursion (IsOpenIn edges choices) passed → IsOpenIn edges choices c
+    → (listed ≡ passed) ⊎ (listed ≡ passed ++ c ∷ []) → AllByRecursion (IsOpenIn edges choices) listed
+open_pushed edges choices c passed listed a f e = elim e [
+  | inl same ↦ subst (AllByRecursion (IsOpenIn edges choices)) (sym same) a
+  | inr longer ↦ subst (AllByRecursion (IsOpenIn edges choices)) (sym longer) (each_from_append (IsOpenIn edges choices) passed (c ∷ []) a (f, tt))
+]
+
+pub open_none : (edges : List Edge) (choices : List Choice) (c : ℕ) → slice_get choices c ≡ None → IsOpenIn edges choices c
+open_none edges choices c none h at = absurd (let e : None ≡ Some h = sym none ∙ at in cc)
+
+pub open_here : (edges : List Edge) (choices : List Choice) (c : ℕ) (h : Choice) → slice_get choices c ≡ Some h → (IsRefuted edges h.one → ⊥) → (IsRefuted edges h.two → ⊥) → IsOpenIn edges choices c
+open_here edges choices c h at one two k here One r = one (subst (λ (g : Choice). IsRefuted edges g.one) (some-inj k h (sym here ∙ at)) r)
+open_here edges choices c h at one two k here Two r = two (subst (λ (g : Choice). IsRefuted edges g.two) (some-inj k h (sym here ∙ at)) r)
+
+-- an edge of a side joins nodes of the graph
+pub edge_joins : (p : Polygraph) (n : ℕ) (c : ℕ) (h : Choice) (side : Side) (e : Edge) → IsPolygraph p → n ≡ p.nodes → slice_get p.choices c ≡ Some h → Contains (edges_of h side) e → (e.1 ≤ n) × (e.0 ≤ n)
+edge_joins p n c h side e whole same at within =
+    let j = each_contained (Joins p.nodes) (edges_of h side) e (side_joins p.nodes p.choices c h side whole.joined at) within in
+    let f = j.from in let t = j.to in (omega (arith, t, same), omega (arith, f, same))
+
+-- ---- judging
+pub not_refuted_by : (rows graph : Graph) (side : List Edge) → AreRowsOf rows graph → AllByRecursion (λ (e : Edge). Contains rows.edges (e.1, e.0) → ⊥) side → IsRefuted graph.edges side → ⊥
+not_refuted_by rows graph side is a r = each_contained (λ (e : Edge). Contains rows.edges (e.1, e.0) → ⊥) side (r.0, r.1.0) a r.1.1.0 ((is.reach r.1.0 r.0).1 r.1.1.1)
+
+pub refutes_by : (graph : Graph) (side : List Edge) (k : ℕ) (e : Edge) (u v : ℕ) → k < length side → e ≡ get_or side k e → u ≡ e.1 → v ≡ e.0 → Reaches graph.edges u v → Refutes graph.edges side e
+refutes_by graph side k e u v lt is p q r = record {
+  within = (k, lt, sym is);
+  back = subst (λ (x : Edge). Reaches graph.edges x.1 x.0) (λ i. (q i, p i)) r;
+}
+
+pub judged_some : (edges side : List Edge) (o : Option Edge) (e : Edge) → o ≡ Some e → MatchOption o (¬ IsRefuted edges side) (Refutes edges side) → Refutes edges side e
+judged_some edges side o e is m = subst (λ (x : Option Edge). MatchOption x (¬ IsRefuted edges side) (Refutes edges side)) is m
+
+pub judged_none : (edges side : List Edge) (o : Option Edge) → o ≡ None → MatchOption o (¬ IsRefuted edges side) (Refutes edges side) → ¬ IsRefuted edges side
+judged_none edges side o is m = subst (λ (x : Option Edge). MatchOption x (¬ IsRefuted edges side) (Refutes edges side)) is m

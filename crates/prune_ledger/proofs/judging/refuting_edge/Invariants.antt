@@ -1,0 +1,7 @@
+use Rattle.std.proofs.Common.{take}
+use Rattle.std.specs.List.{AllByRecursion, Contains}
+use Rattle.serializability.specs.Polygraph.{Edge}
+use Rattle.prune_ledger.proofs.judging.refuting_edge.Given as goal
+
+abbrev pub invariant-loop-edge : goal.invariant-loop-edge
+invariant-loop-edge l = AllByRecursion (λ (e : Edge). Contains l.rows.edges (e.1, e.0) → ⊥) (take l.edge-index l.side)

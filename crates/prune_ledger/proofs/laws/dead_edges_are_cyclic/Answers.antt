@@ -1,0 +1,6 @@
+use Rattle.std.proofs.Common.{[]}
+use Rattle.prune_ledger.proofs.Grown.{ran, grown_opening}
+use Rattle.prune_ledger.proofs.laws.dead_edges_are_cyclic.Goals as goal
+
+pub returns : goal.returns
+returns c = λ p whole start o history legal. (ran p whole [] start (grown_opening p whole start o) history legal).grown.dead

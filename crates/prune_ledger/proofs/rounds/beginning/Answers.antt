@@ -1,0 +1,14 @@
+use Rattle.std.proofs.Common.{◌∙◌, List, sym, subst}
+use Rattle.prune_ledger.specs.Opening.{opening_state}
+use Rattle.prune_ledger.specs.Pruned.{IsProgress}
+use Rattle.prune_ledger.specs.declared.ledger.LedgerEntry.{LedgerEntry}
+use Rattle.prune_ledger.proofs.Finals.{progress_first}
+use Rattle.prune_ledger.proofs.rounds.beginning.Goals as goal
+
+pub returns : goal.returns
+returns c =
+    let hs = c.in_ok-choices.ensures ∙ c.choices.ensures.choices in
+    let gs = c.in_ok-known.ensures.same ∙ c.known.ensures in
+    subst (λ (es : List LedgerEntry). IsProgress c.args.polygraph.now es c.in_ok-opening.field-0) (sym c.new.ensures.items)
+    (progress_first c.args.polygraph.now (record { choices = c.nodes-nodes.ensures.polygraph; known = c.nodes-nodes.ensures.known }) c.in_ok-opening.field-0
+    (c.in_ok-opening.ensures ∙ (λ i. opening_state (hs i) (gs i))))

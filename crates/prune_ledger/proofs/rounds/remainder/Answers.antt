@@ -1,0 +1,15 @@
+use Rattle.std.proofs.Common.{◌∙◌, sym, subst, refl}
+use Rattle.prune_ledger.specs.Pruned.{IsReduced, IsRemainder, unrefused}
+use Rattle.prune_ledger.proofs.Finals.{poly_with, reduced_last, is_remainder}
+use Rattle.prune_ledger.proofs.rounds.remainder.Goals as goal
+
+pub new-requires-clause-reduced : goal.new-requires-clause-reduced
+new-requires-clause-reduced c =
+    let is = c.new-poly.ensures ∙ poly_with c.args.known c.in_ok-choices.choices.items (unrefused c.args.machine.marks c.args.machine.choices) c.in_ok-choices.ensures.choices in
+    subst IsReduced (sym is) (reduced_last c.args.polygraph.now c.args.entries.items c.args.machine c.args.known c.args.rows c.args.passed.now c.args.known.nodes c.requires.last)
+
+pub returns : goal.returns
+returns c =
+    let is = c.new-poly.ensures ∙ poly_with c.args.known c.in_ok-choices.choices.items (unrefused c.args.machine.marks c.args.machine.choices) c.in_ok-choices.ensures.choices in
+    subst (IsRemainder c.args.polygraph.now) (sym c.new.ensures)
+    (is_remainder c.args.polygraph.now c.args.machine c.args.known c.args.rows c.args.passed.now c.new-poly.result _ c.requires.last is tt refl)

@@ -1,0 +1,11 @@
+pub mod Posted
+pub mod State
+pub mod Steps
+pub mod Kept
+pub mod Opening
+pub mod Ledger
+pub mod Runs
+pub mod Rounds
+pub mod Pruned
+pub mod Outcome
+pub mod Tested

@@ -1,0 +1,72 @@
+-- What a worker's round does.
+use Rattle.std.specs.Prelude.{◌≡◌, ◌⊎◌, ℕ, List, [], ◌∷◌, ◌++◌, slice_get, Some}
+use Rattle.std.specs.List.{Contains}
+use Rattle.serializability.specs.Polygraph.{Edge, Choice}
+use Rattle.reach_laws.specs.Reach.{Reaches}
+use Rattle.pruning_laws.specs.declared.side.Side.{Side}
+use Rattle.pruning_laws.specs.Forced.{IsRefuted, edges_of}
+use Rattle.prune_ledger.specs.Posted.{Posted}
+use Rattle.prune_ledger.specs.declared.parts.Event.{Event}
+use Rattle.prune_ledger.specs.declared.parts.Event.TheVariants.{Take, Post, Pass, Release}
+use Rattle.prune_ledger.specs.declared.parts.Reply.{Reply}
+use Rattle.prune_ledger.specs.declared.parts.Reply.TheVariants.{Judge}
+
+-- an edge of the side that goes against a walk
+pub record Refutes (edges side : List Edge) (e : Edge) : Type 0 where
+  pub within : Contains side e
+  pub back : Reaches edges e.1 e.0
+
+abbrev pub IsPostOf : ℕ → Event → Type 0
+IsPostOf c Take = ⊥
+IsPostOf c (Post q) = q.choice ≡ c
+IsPostOf c (Pass d) = ⊥
+IsPostOf c Release = ⊥
+
+-- one of these calls posts a side of the choice
+abbrev pub HasPost : ℕ → List (Event × Reply) → Type 0
+HasPost c [] = ⊥
+HasPost c (x ∷ xs) = IsPostOf c x.0 ⊎ HasPost c xs
+
+-- the call handed out this choice
+abbrev pub Hands : ℕ → Event → Reply → Type 0
+Hands c Take r = r ≡ Judge c
+Hands c (Post q) r = ⊥
+Hands c (Pass d) r = ⊥
+Hands c Release r = ⊥
+
+-- each choice that was handed out is in the list, or a later call posts a side of it
+abbrev pub EachHandled : List ℕ → List (Event × Reply) → Type 0
+EachHandled passed [] = Unit {0}
+EachHandled passed (x ∷ xs) = ((c : ℕ) → Hands c x.0 x.1 → Contains passed c ⊎ HasPost c xs) × EachHandled passed xs
+
+-- the calls between the two are handled
+pub record Handled (passed : List ℕ) (before now : List (Event × Reply)) : Type 0 where
+  pub calls : List (Event × Reply)
+  pub same : now ≡ before ++ calls
+  pub each : EachHandled passed calls
+
+-- one call more, which posts a side of the choice
+pub record PostedOf (choice : ℕ) (before now : List (Event × Reply)) : Type 0 where
+  pub post : Posted
+  pub reply : Reply
+  pub same : now ≡ before ++ (Post post, reply) ∷ []
+  pub its : post.choice ≡ choice
+
+-- the calls between the two settle the choice: it is in the list, or one of them posts a side of it
+pub record Settled (choice : ℕ) (passed : List ℕ) (listed : List ℕ) (before now : List (Event × Reply)) : Type 0 where
+  pub calls : List (Event × Reply)
+  pub same : now ≡ before ++ calls
+  pub each : EachHandled listed calls
+  pub its : Contains listed choice ⊎ HasPost choice calls
+  pub more : List ℕ
+  pub longer : listed ≡ passed ++ more
+
+-- a turn: the calls between the two are handled, and the list is longer
+pub record Turned (passed listed : List ℕ) (before now : List (Event × Reply)) : Type 0 where
+  pub handled : Handled listed before now
+  pub more : List ℕ
+  pub longer : listed ≡ passed ++ more
+
+-- neither side of the choice is refuted; one that is not there counts as one without edges
+abbrev pub IsOpenIn : List Edge → List Choice → ℕ → Type 0
+IsOpenIn edges choices c = (h : Choice) → slice_get choices c ≡ Some h → (side : Side) → IsRefuted edges (edges_of h side) → ⊥

@@ -1,0 +1,116 @@
+-- The written step.
+use Rattle.std.specs.Prelude.{ℕ, ◌+◌, ◌==◌, ◌&&◌, ◌||◌, not, nat_lt, List, [], ◌∷◌, ◌++◌, Bool, true, false, Option, Some, None, if◌then◌else◌, length, drop, slice_get, slice_set, slice_index}
+use Rattle.std.specs.Option.{option_map_or}
+use Rattle.std.specs.List.{list_any, filter}
+use Rattle.serializability.specs.Polygraph.{Edge}
+use Rattle.reach_laws.specs.Reach.{Graph}
+use Rattle.pruning_laws.specs.declared.side.Side.{Side}
+use Rattle.pruning_laws.specs.declared.side.Side.TheVariants.{One, Two}
+use Rattle.pruning_laws.specs.Forced.{edges_of, other}
+use Rattle.known_graph.specs.Pairs.{all_pairs}
+use Rattle.prune_ledger.specs.Posted.{Posted}
+use Rattle.prune_ledger.specs.State.{State}
+use Rattle.prune_ledger.specs.declared.parts.Mark.{Mark}
+use Rattle.prune_ledger.specs.declared.parts.Event.{Event}
+use Rattle.prune_ledger.specs.declared.parts.Event.TheVariants.{Take, Post, Pass, Release}
+use Rattle.prune_ledger.specs.declared.parts.Reply.{Reply}
+use Rattle.prune_ledger.specs.declared.parts.Reply.TheVariants.{Judge, NoneLeft, Entered, AlreadyIn, BadWalk, Noted, Released, Dead}
+
+abbrev pub has_edge : List Edge → Edge → Bool
+has_edge edges e = list_any (λ x. (x.0 == e.0) && (x.1 == e.1)) edges
+
+-- from u each step to these nodes is an edge, and the last node is v
+abbrev pub leads : List Edge → ℕ → List ℕ → ℕ → Bool
+leads edges u [] v = u == v
+leads edges u (w ∷ ws) v = has_edge edges (u, w) && leads edges w ws v
+
+-- whether these are the nodes of a walk from u to v, both included: at least two, and each step is an edge
+abbrev pub is_line : List Edge → ℕ → List ℕ → ℕ → Bool
+is_line edges u line v = nat_lt 1 (length line) && ((slice_index line 0 == u) && leads edges u (drop 1 line) v)
+
+-- those of the pairs of nodes 0 to n that are among these edges, by the first node and then the second
+unfoldable pub listed : ℕ → List Edge → List Edge
+listed n edges = filter (has_edge edges) (all_pairs n)
+
+-- the graph with these edges more
+abbrev pub with_edges : Graph → List Edge → Graph
+with_edges g more = record { nodes = g.nodes; edges = listed g.nodes (g.edges ++ more) }
+
+abbrev pub refuses : Mark → Side → Bool
+refuses m One = m.one
+refuses m Two = m.two
+
+abbrev pub refusing : Mark → Side → Mark
+refusing m One = record m { one = true }
+refusing m Two = record m { two = true }
+
+-- neither side is refused, and the choice was not handed out
+abbrev pub is_free : Mark → Bool
+is_free m = not (m.one || m.two) && not m.handed
+
+-- the least free choice, where these are numbered from k
+abbrev pub free_from : ℕ → List Mark → Option ℕ
+free_from k [] = None
+free_from k (m ∷ ms) = if is_free m then Some k else free_from (k + 1) ms
+
+abbrev pub is_refused : State → ℕ → Side → Bool
+is_refused s c side = option_map_or (λ m. refuses m side) (slice_get s.marks c) false
+
+abbrev pub side_at : State → ℕ → Side → List Edge
+side_at s c side = option_map_or (λ h. edges_of h side) (slice_get s.choices c) []
+
+abbrev pub is_choice : State → ℕ → Bool
+is_choice s c = option_map_or (λ h. true) (slice_get s.choices c) false
+
+-- the edge is in the side, and the walk leads back over edges of the state
+abbrev pub is_against : State → Posted → Bool
+is_against s q = has_edge (side_at s q.choice q.side) q.edge && is_line s.graph.edges q.edge.1 q.walk q.edge.0
+
+abbrev pub post_reply : State → Posted → Reply
+post_reply s q = if is_choice s q.choice then (if is_refused s q.choice q.side then AlreadyIn else (if is_against s q then Entered else BadWalk)) else BadWalk
+
+abbrev pub is_entered : Reply → Bool
+is_entered Entered = true
+is_entered (Judge c) = false
+is_entered NoneLeft = false
+is_entered AlreadyIn = false
+is_entered BadWalk = false
+is_entered Noted = false
+is_entered Released = false
+is_entered Dead = false
+
+abbrev pub refused_mark : State → ℕ → Side → List Mark
+refused_mark s c side = option_map_or (λ m. slice_set s.marks c (refusing m side)) (slice_get s.marks c) s.marks
+
+-- the side is refused, and the other side's edges are added
+abbrev pub refused : State → ℕ → Side → State
+refused s c side = record { choices = s.choices; graph = with_edges s.graph (side_at s c (other side)); marks = refused_mark s c side; dead = is_refused s c (other side) }
+
+abbrev pub hand_out : Mark → Mark
+hand_out m = record m { handed = true }
+
+abbrev pub handed_mark : List Mark → ℕ → List Mark
+handed_mark marks c = option_map_or (λ m. slice_set marks c (hand_out m)) (slice_get marks c) marks
+
+abbrev pub take_reply : Option ℕ → Reply
+take_reply None = NoneLeft
+take_reply (Some c) = Judge c
+
+abbrev pub taken : State → Option ℕ → State
+taken s None = s
+taken s (Some c) = record s { marks = handed_mark s.marks c }
+
+abbrev pub posted : State → Posted → State
+posted s q = if is_entered (post_reply s q) then refused s q.choice q.side else s
+
+abbrev pub next_of : State → ℕ → Event → State
+next_of s seat Take = if s.dead then s else taken s (free_from 0 s.marks)
+next_of s seat (Post q) = if s.dead then s else posted s q
+next_of s seat (Pass c) = s
+next_of s seat Release = s
+
+abbrev pub reply_of : State → ℕ → Event → Reply
+reply_of s seat Take = if s.dead then Dead else take_reply (free_from 0 s.marks)
+reply_of s seat (Post q) = if s.dead then Dead else post_reply s q
+reply_of s seat (Pass c) = if s.dead then Dead else Noted
+reply_of s seat Release = Released

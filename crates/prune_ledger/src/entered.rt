@@ -1,0 +1,63 @@
+//! The entries of a round.
+
+ghost use Rattle.std.specs.Prelude.{◌≡◌, ◌++◌, IfOk};
+ghost use Rattle.std.specs.Option.{option_to_list};
+ghost use Rattle.prune_ledger.specs.Steps.{is_entered};
+ghost use Rattle.prune_ledger.specs.Runs.{posts_of, ledger_of};
+ghost use Rattle.prune_ledger.specs.Pruned.{posts_in};
+
+use crate::ledger::LedgerEntry;
+use crate::parts::{Event, Reply};
+use desk::history::Entry;
+use std::alloc::AllocError;
+
+/// The entries, with the posts that a history entered behind them.
+pub fn with_entered(
+    entries: Vec<LedgerEntry>,
+    history: Vec<Entry<Event, Reply>>,
+) -> Result<Vec<LedgerEntry>, AllocError>
+    ensures { IfOk result (λ v.
+        posts_in v.items ≡ posts_in entries.items ++ ledger_of history.items) }
+{
+    let mut all = entries;
+    for step in history {
+        if let Some(entry) = entered(step) {
+            all.push(entry)?;
+        }
+    }
+    Ok(all)
+}
+
+// The entry of a step, where it is a post that was entered.
+fn entered(step: Entry<Event, Reply>) -> Option<LedgerEntry>
+    ensures { posts_in (option_to_list result) ≡ posts_of step.event step.reply }
+{
+    let Entry { seat, event, reply } = step;
+    match event {
+        Event::Post(post) => {
+            if is_entered(reply) {
+                Some(LedgerEntry { seat, post })
+            } else {
+                None
+            }
+        }
+        Event::Take => None,
+        Event::Pass(_) => None,
+        Event::Release => None,
+    }
+}
+
+fn is_entered(reply: Reply) -> bool
+    ensures { result ≡ is_entered reply }
+{
+    match reply {
+        Reply::Entered => true,
+        Reply::Judge(_) => false,
+        Reply::NoneLeft => false,
+        Reply::AlreadyIn => false,
+        Reply::BadWalk => false,
+        Reply::Noted => false,
+        Reply::Released => false,
+        Reply::Dead => false,
+    }
+}

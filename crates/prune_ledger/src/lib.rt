@@ -1,0 +1,25 @@
+//! Pruning a polygraph: rounds in which workers refute sides of choices by walks, a machine that keeps
+//! the other sides, and the ledger of what was kept and why.
+#![tactic(auto)]
+
+mod checking;
+mod copies;
+mod crew;
+mod entered;
+mod judging;
+pub mod laws;
+mod ledger;
+pub mod machine;
+pub mod parts;
+mod remains;
+mod round;
+mod rounds;
+mod rules;
+#[cfg(test)]
+mod tests;
+
+pub use checking::check_ledger;
+pub use judging::{Verdict, judge};
+pub use ledger::{Ledger, LedgerEntry};
+pub use remains::{Pruned, Reduced};
+pub use rounds::prune;

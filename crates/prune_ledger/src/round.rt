@@ -1,0 +1,247 @@
+//! A worker's round: it takes, judges by the rows with which the round began, and posts or passes.
+
+ghost use Rattle.std.specs.Prelude.{◌≡◌, ◌⊎◌, ℕ, ◌≤◌, IfOk, IfSome, IfNone, [], ◌++◌, ◌∷◌};
+ghost use Rattle.std.specs.List.{AllByRecursion};
+ghost use Rattle.reach_laws.specs.Reach.{Reaches};
+ghost use Rattle.reach_rows.specs.ReachRows.{AreRowsOf};
+ghost use Rattle.prune_ledger.specs.declared.parts.Reply.TheVariants.{Judge};
+ghost use Rattle.prune_ledger.specs.Rounds.{Handled, PostedOf, Settled, Turned, IsOpenIn};
+
+use crate::judging::judge;
+use crate::machine::PruneMachine;
+use crate::parts::{Event, Refutation, Reply};
+use desk::desk::Desk;
+use desk::gate::Gate;
+use desk::naming::Naming;
+use desk::seat::{Left, Seat};
+use known_graph::Known;
+use polygraph::{ChoiceIx, Polygraph};
+use pruning_laws::Side;
+use reach_laws::Edge;
+use reach_rows::Rows;
+use std::alloc::{AllocError, Global};
+use std::sync::Wait;
+use std::time::Clock;
+
+// A call, of which at a refusal the event is let go.
+fn send<J: Naming, R: Wait>(
+    rt: &R,
+    desk: &Desk<PruneMachine, J>,
+    seat: &mut Seat<PruneMachine, J>,
+    event: Event,
+) -> Result<Reply, AllocError>
+    ensures number { seat.new.0 ≡ seat.old.0 }
+    ensures ok { IfOk result (λ r. seat.new.1 ≡ seat.old.1 ++ (event, r) ∷ []) }
+{
+    match desk.call(rt, seat, event) {
+        Ok(reply) => Ok(reply),
+        Err((event, refused)) => {
+            drop(event);
+            Err(refused)
+        }
+    }
+}
+
+// Posts a side with a walk against its edge.
+fn post_side<J: Naming, R: Wait>(
+    rt: &R,
+    alloc: Global,
+    desk: &Desk<PruneMachine, J>,
+    seat: &mut Seat<PruneMachine, J>,
+    known: &Known,
+    choice: ChoiceIx,
+    side: Side,
+    edge: Edge,
+) -> Result<(), AllocError>
+    requires nodes { (edge.1 ≤ known.now.nodes) × (edge.0 ≤ known.now.nodes) }
+    requires back { Reaches known.now.edges edge.1 edge.0 }
+    ensures number { seat.new.0 ≡ seat.old.0 }
+    ensures posted { IfOk result (λ _. PostedOf choice seat.old.1 seat.new.1) }
+{
+    let Some(walk) = known.walk(alloc, edge.target(), edge.source())? else {
+        unreachable!()
+    };
+    let post = Event::Post(Refutation {
+        choice,
+        side,
+        edge,
+        walk,
+    });
+    send(rt, desk, seat, post)?;
+    Ok(())
+}
+
+// Notes a choice of which neither side is refuted.
+fn pass_on<J: Naming, R: Wait>(
+    rt: &R,
+    desk: &Desk<PruneMachine, J>,
+    seat: &mut Seat<PruneMachine, J>,
+    choice: ChoiceIx,
+    passed: &mut Vec<ChoiceIx>,
+) -> Result<(), AllocError>
+    ensures number { seat.new.0 ≡ seat.old.0 }
+    ensures settled { IfOk result (λ _. Settled choice passed.old.items passed.new.items seat.old.1 seat.new.1) }
+    ensures list { (passed.new.items ≡ passed.old.items) ⊎ (passed.new.items ≡ passed.old.items ++ choice ∷ []) }
+{
+    passed.push(choice)?;
+    send(rt, desk, seat, Event::Pass(choice))?;
+    Ok(())
+}
+
+// Posts each side that is refuted, and passes the choice where none is.
+fn settle<J: Naming, R: Wait>(
+    rt: &R,
+    alloc: Global,
+    desk: &Desk<PruneMachine, J>,
+    seat: &mut Seat<PruneMachine, J>,
+    polygraph: &Polygraph,
+    known: &Known,
+    rows: &Rows,
+    choice: ChoiceIx,
+    passed: &mut Vec<ChoiceIx>,
+) -> Result<(), AllocError>
+    requires nodes { known.now.nodes ≡ polygraph.now.nodes }
+    requires rows { AreRowsOf rows.now known.now }
+    requires each { AllByRecursion (IsOpenIn known.now.edges polygraph.now.choices) passed.old.items }
+    ensures number { seat.new.0 ≡ seat.old.0 }
+    ensures settled { IfOk result (λ _. Settled choice passed.old.items passed.new.items seat.old.1 seat.new.1) }
+    ensures each { AllByRecursion (IsOpenIn known.now.edges polygraph.now.choices) passed.new.items }
+{
+    let _nodes = polygraph.nodes();
+    let Some(sides) = polygraph.choice(choice) else {
+        pass_on(rt, desk, seat, choice, passed)?;
+        return Ok(());
+    };
+    let verdict = judge(rows, sides);
+    if let Some(edge) = verdict.one {
+        post_side(rt, alloc, desk, seat, known, choice, Side::One, edge)?;
+        if let Some(other) = verdict.two {
+            post_side(rt, alloc, desk, seat, known, choice, Side::Two, other)?;
+        }
+        return Ok(());
+    }
+    if let Some(edge) = verdict.two {
+        post_side(rt, alloc, desk, seat, known, choice, Side::Two, edge)?;
+        return Ok(());
+    }
+    pass_on(rt, desk, seat, choice, passed)?;
+    Ok(())
+}
+
+// The choice that is to be judged.
+fn handed(reply: Reply) -> Option<ChoiceIx>
+    ensures some { IfSome result (λ c. reply ≡ Judge c) }
+    ensures none { IfNone result ((c : ℕ) → reply ≡ Judge c → ⊥) }
+{
+    match reply {
+        Reply::Judge(choice) => Some(choice),
+        Reply::NoneLeft => None,
+        Reply::Entered => None,
+        Reply::AlreadyIn => None,
+        Reply::BadWalk => None,
+        Reply::Noted => None,
+        Reply::Released => None,
+        Reply::Dead => None,
+    }
+}
+
+// Takes a choice and settles it. It answers whether there may be another.
+fn turn<J: Naming, R: Wait>(
+    rt: &R,
+    alloc: Global,
+    desk: &Desk<PruneMachine, J>,
+    seat: &mut Seat<PruneMachine, J>,
+    polygraph: &Polygraph,
+    known: &Known,
+    rows: &Rows,
+    passed: &mut Vec<ChoiceIx>,
+) -> Result<bool, AllocError>
+    requires nodes { known.now.nodes ≡ polygraph.now.nodes }
+    requires rows { AreRowsOf rows.now known.now }
+    requires each { AllByRecursion (IsOpenIn known.now.edges polygraph.now.choices) passed.old.items }
+    ensures number { seat.new.0 ≡ seat.old.0 }
+    ensures turned { IfOk result (λ _. Turned passed.old.items passed.new.items seat.old.1 seat.new.1) }
+    ensures each { AllByRecursion (IsOpenIn known.now.edges polygraph.now.choices) passed.new.items }
+{
+    let reply = send(rt, desk, seat, Event::Take)?;
+    let Some(choice) = handed(reply) else {
+        return Ok(false);
+    };
+    settle(
+        rt, alloc, desk, seat, polygraph, known, rows, choice, passed,
+    )?;
+    Ok(true)
+}
+
+// Turns until no choice is left.
+fn turns<J: Naming, G: Gate, R: Wait + Clock>(
+    rt: &R,
+    alloc: Global,
+    desk: &Desk<PruneMachine, J>,
+    seat: &mut Seat<PruneMachine, J>,
+    polygraph: &Polygraph,
+    known: &Known,
+    rows: &Rows,
+    gate: &G,
+    passed: &mut Vec<ChoiceIx>,
+) -> Result<(), AllocError>
+    requires nodes { known.now.nodes ≡ polygraph.now.nodes }
+    requires rows { AreRowsOf rows.now known.now }
+    requires none { passed.old.items ≡ [] }
+    ensures number { seat.new.0 ≡ seat.old.0 }
+    ensures handled { IfOk result (λ _. Handled passed.new.items seat.old.1 seat.new.1) }
+    ensures each { AllByRecursion (IsOpenIn known.now.edges polygraph.now.choices) passed.new.items }
+{
+    for number in 0..u64::MAX {
+        gate.pass(rt, seat.number(), number);
+        if !turn(rt, alloc, desk, seat, polygraph, known, rows, passed)? {
+            return Ok(());
+        }
+    }
+    Ok(())
+}
+
+/// A round of one seat: it takes choices, judges each by the rows with which the round began, posts each
+/// refuted side with a walk, and passes the choices of which no side is refuted, until no choice is left
+/// or the machine is dead; then it leaves. The gate is passed before each turn, with the turns counted
+/// from 0.
+///
+/// It answers with the choices that it passed. At `Err` memory was refused to it, and it has left too.
+pub fn work<J: Naming, G: Gate, R: Wait + Clock>(
+    rt: &R,
+    alloc: Global,
+    desk: &Desk<PruneMachine, J>,
+    seat: Seat<PruneMachine, J>,
+    polygraph: &Polygraph,
+    known: &Known,
+    rows: &Rows,
+    gate: &G,
+) -> (Left<PruneMachine, J>, Result<Vec<ChoiceIx>, AllocError>)
+    requires nodes { known.now.nodes ≡ polygraph.now.nodes }
+    requires rows { AreRowsOf rows.now known.now }
+    ensures number { result.0.0 ≡ seat.0 }
+
+    // Each choice that the seat was handed stands in the list, or in a later post of the seat.
+    ensures handled { IfOk result.1 (λ passed. Handled passed.items seat.1 result.0.1) }
+    ensures each { IfOk result.1 (λ passed.
+        AllByRecursion (IsOpenIn known.now.edges polygraph.now.choices) passed.items) }
+{
+    let mut seat = seat;
+    let mut passed = Vec::new(alloc);
+    let done = turns(
+        rt,
+        alloc,
+        desk,
+        &mut seat,
+        polygraph,
+        known,
+        rows,
+        gate,
+        &mut passed,
+    );
+    let (_, left) = desk.leave(rt, seat, Event::Release);
+    match done {
+        Ok(()) => (left, Ok(passed)),
+        Err(refused) => (left, Err(refused)),
+    }
+}

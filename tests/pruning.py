@@ -1,0 +1,68 @@
+#!/usr/bin/env python3
+"""pruning.py GRAPHS: what pruning keeps of small logs, with 1, 2 and 16 workers, is what the definition says.
+
+GRAPHS is the program of crates/graph_bench. For each of a few thousand made logs without an anomaly the kept sides must be the
+forced set, as a plain, slow program finds it, and a polygraph is told to be dead exactly where its forced edges have a cycle.
+Last line: 'pruning: N passed, M failed'."""
+import concurrent.futures, os, subprocess, sys, tempfile
+
+HERE = os.path.dirname(os.path.abspath(__file__))
+sys.path.insert(0, HERE)
+import generate, reference
+
+MADE = 6000
+
+
+def wanted(text):
+    history = reference.History(reference.read_log(text))
+    if history.anomaly():
+        return None
+    if any(history.closes(key) for key in history.keys):
+        return ['not pruned']
+    outcome, forced = history.pruning()
+    if outcome == 'dead':
+        return ['dead']
+    choices = history.chain_polygraph()[1]
+    left = len(choices) - len({c for c, _ in forced})
+    return sorted('kept %d %d' % side for side in forced) + ['open %d' % left]
+
+
+def judged(program, folder, seed):
+    text = generate.small_log(seed)
+    right = wanted(text)
+    if right is None:
+        return None, ''
+    path = os.path.join(folder, str(seed))
+    with open(path, 'wb') as log:
+        log.write(text)
+    ran = subprocess.run([program, 'prune', path], stdin=subprocess.DEVNULL, stdout=subprocess.PIPE, timeout=60)
+    os.remove(path)
+    parts, got = [], []
+    for line in ran.stdout.decode().split('\n')[:-1]:
+        if line.startswith('workers'):
+            parts.append([])
+        else:
+            parts[-1].append(line)
+    holds = ran.returncode == 0 and [sorted(part[:-1]) + part[-1:] for part in parts] == [right] * 3
+    return holds, 'made log %d: %r, wanted %r' % (seed, parts, right)
+
+
+def main():
+    program = os.path.abspath(sys.argv[1])
+    passed, failed, kept = 0, 0, 0
+    with tempfile.TemporaryDirectory() as folder, concurrent.futures.ThreadPoolExecutor() as pool:
+        for holds, what in pool.map(lambda seed: judged(program, folder, seed), range(MADE)):
+            if holds is None:
+                continue
+            if holds:
+                passed += 1
+                kept += 'kept' in what
+            else:
+                failed += 1
+                print('FAILED', what)
+    print('pruning: %d of these keep some side' % kept)
+    print('pruning: %d passed, %d failed' % (passed, failed))
+    sys.exit(1 if failed or not kept else 0)
+
+
+main()
