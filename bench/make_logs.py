@@ -52,7 +52,42 @@ def choices():
         yield 'commit'
 
 
+def writers(count):
+    """Each of these transactions writes x in a session of its own, in 60 sessions at the most: all choices between two sessions stay open."""
+    for t in range(count):
+        if t < 60:
+            yield 'session %d' % (t + 1)
+            for place in range(t, count, 60):
+                yield 'begin'
+                yield 'w x %d' % (place + 1)
+                yield 'commit'
+
+
+def forks(count):
+    """Two versions each of x and y, and readers of all four pairs of them: no order. Before these stand open choices of other keys,
+    one each, so that a search that takes the first open choice decides them first."""
+    session = 0
+    lines = []
+    for k in range(count):
+        for w in range(2):
+            lines.append(['w k%d %d' % (k, 1000 + 2 * k + w)])
+    lines += [['w x 1'], ['w x 2'], ['w y 3'], ['w y 4']]
+    lines += [['r x %d' % x, 'r y %d' % y] for x in (1, 2) for y in (3, 4)]
+    for ops in lines:
+        session += 1
+        yield 'session %d' % session
+        yield 'begin'
+        yield from ops
+        yield 'commit'
+
+
 write('choices_400.log', choices())
+write('writers_25.log', writers(25))
+write('writers_100.log', writers(100))
+write('writers_400.log', writers(400))
+write('forks_0.log', forks(0))
+write('forks_5.log', forks(5))
+write('forks_20.log', forks(20))
 write('bipaths_40.log', bipaths(40))
 write('bipaths_41.log', bipaths(41))
 write('operations_100.log', operations(100, True))

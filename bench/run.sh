@@ -1,12 +1,8 @@
 #!/usr/bin/env bash
 # Times the built program on logs at the limits, beside `cat` of the same bytes: bench/run.sh [PROGRAM]
 set -eu
-top=$(cd "$(dirname "${BASH_SOURCE[0]}")/.." && pwd)
+. "$(dirname "${BASH_SOURCE[0]}")/logs.sh"
 program=${1:-$top/crates/cobra_poly/out/cobra_poly}
-folder=$(mktemp -d)
-trap 'rm -rf "$folder"' EXIT
-python3 "$top/bench/make_logs.py" "$folder"
-echo "machine: $(nproc) processors, $(date -u +%F)"
 measure() { # name, file, command..
     local name=$1 file=$2
     shift 2

@@ -256,6 +256,47 @@ class History:
                 return ('dead', None) if any((v, v) in reach for v in range(self.n + 1)) else ('open', forced)
             forced |= found
 
+    # ---- verdicts
+
+    def name(self, node):
+        return '%d.%d' % self.names[node]
+
+    def first_cycle(self, edges):
+        """The cycle that is printed: from the least node on a cycle, with the fewest edges, the lexicographically least; or None."""
+        behind = {u: sorted(v for x, v in edges if x == u) for u in range(self.n + 1)}
+        for start in range(self.n + 1):
+            ways, seen = [[start]], set()
+            while ways:
+                longer = []
+                for way in ways:
+                    for v in behind[way[-1]]:
+                        if v == start:
+                            return way + [start]
+                        if v not in seen:
+                            seen.add(v)
+                            longer.append(way + [v])
+                ways = longer
+        return None
+
+    def anomaly_text(self, anomaly):
+        if anomaly[0] == 'A7':
+            _, key, source, first, second = anomaly
+            return 'A7 lost update of %s from %s by %s and %s' % (self.keys[key], self.name(source), self.name(first), self.name(second))
+        words = dict(A1='unknown read', A2='aborted read', A3='intermediate read', A4='own write missed', A5='future read', A6='split read')
+        return '%s %s at %s op %d' % (anomaly[0], words[anomaly[0]], self.name(anomaly[1]), anomaly[2])
+
+    def known_verdict(self):
+        """What `check` says before it searches, or None where it has to."""
+        anomaly = self.anomaly()
+        if anomaly:
+            return 'not serializable: %s\n' % self.anomaly_text(anomaly)
+        cycle = self.first_cycle(self.arcs()) or self.first_cycle(self.chain_polygraph()[0])
+        if cycle:
+            return 'not serializable: A8 cycle of known edges\ncycle %s\n' % ' '.join(map(self.name, cycle))
+        if self.pruning()[0] == 'dead':
+            return 'not serializable: A9 pruning ends in a cycle\n'
+        return None
+
     def is_serial(self, order):
         if sorted(order) != list(self.nodes):
             return False
@@ -273,6 +314,27 @@ class History:
 
     def serial_orders(self):
         return [order for order in itertools.permutations(self.nodes) if self.is_serial(list(order))]
+
+    def has_serial_order(self):
+        """Whether some order is serial: all orders, each followed up to its first read that is not met."""
+        def goes_on(store, left):
+            if not left:
+                return True
+            for v in left:
+                if any(u < v and self.names[u][0] == self.names[v][0] for u in left):
+                    continue
+                after = dict(store)
+                for kind, key, wid in self.ops[v]:
+                    if kind == 'w':
+                        after[key] = wid
+                    elif after.get(key, 0) != wid:
+                        break
+                else:
+                    if goes_on(after, left - {v}):
+                        return True
+            return False
+
+        return goes_on({}, frozenset(self.nodes))
 
 
 def plain_text(text):

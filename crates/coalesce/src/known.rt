@@ -4,23 +4,24 @@ ghost use Rattle.std.specs.Prelude.{◌≡◌, ◌++◌, map};
 ghost use Rattle.std.specs.List.{AllByRecursion, flat_map};
 ghost use Rattle.chain_laws.specs.Chains.{edges_to, inner_edges, initial_first};
 ghost use Rattle.log_definitions.specs.Numbers.{log_of};
-ghost use Rattle.write_chains.specs.Views.{chain_view, edge_of};
+ghost use Rattle.write_chains.specs.Views.{chain_view};
 ghost use Rattle.polygraph.specs.Polygraphs.{Joins};
 ghost use Rattle.coalesce.specs.Between.{before};
 ghost use Rattle.coalesce.specs.Added.{IsWith};
 
 use known_graph::Known;
+use reach_laws::Edge;
 use serializability::NodeIx;
-use write_chains::{Chain, Chains, Edge};
+use write_chains::{Chain, Chains};
 
 // Adds these edges.
 fn add_edges(known: &mut Known, edges: &[Edge])
-    requires joined { AllByRecursion (Joins known.old.nodes) (map edge_of edges.now) }
-    ensures edges { IsWith known.old.edges (map edge_of edges.now) known.new.edges }
+    requires joined { AllByRecursion (Joins known.old.nodes) edges.now }
+    ensures edges { IsWith known.old.edges edges.now known.new.edges }
     ensures nodes { known.new.nodes ≡ known.old.nodes }
 {
-    for edge in edges {
-        known.add_edge(edge.from, edge.to);
+    for &edge in edges {
+        known.add_edge(edge.source(), edge.target());
     }
 }
 

@@ -3,3 +3,4 @@ pub mod Logs
 pub mod Named
 pub mod Answering
 pub mod Counting
+pub mod Told

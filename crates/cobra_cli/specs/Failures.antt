@@ -2,7 +2,7 @@
 use Rattle.std.specs.Prelude.{ℕ, Result, Ok, Err}
 use Rattle.dimacs.specs.Sinks.{one_more}
 use Rattle.cobra_cli.specs.declared.status.Status.{Status}
-use Rattle.cobra_cli.specs.declared.status.Status.TheVariants.{Done, Unknown}
+use Rattle.cobra_cli.specs.declared.status.Status.TheVariants.{Done, NotSerializable, Unknown}
 use Rattle.cobra_cli.specs.declared.fault.Fault.{Fault}
 use Rattle.cobra_cli.specs.declared.fault.Fault.TheVariants.{Device}
 
@@ -14,4 +14,5 @@ failures_after before (Err _) = before
 
 abbrev pub code_of : Status → ℕ
 code_of Done = 0
+code_of NotSerializable = 1
 code_of Unknown = 3

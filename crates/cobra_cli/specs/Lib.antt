@@ -2,3 +2,5 @@ pub mod Sources
 pub mod Commands
 pub mod Failures
 pub mod Statistics
+pub mod Verdicts
+pub mod Checked

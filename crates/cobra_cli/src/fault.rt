@@ -6,6 +6,7 @@ ghost use Rattle.cobra_cli.specs.declared.fault.Fault.TheVariants as fault;
 use dimacs::{AnswerFault, WriteFault};
 use order_cnf::CnfFault;
 use order_text::OrderFault;
+use polygraph::PolyFault;
 use session_log::LogFault;
 use std::alloc::AllocError;
 use std::fmt;
@@ -78,6 +79,19 @@ impl From<CnfFault> for Fault {
 
     fn from(refused: CnfFault) -> Fault {
         Fault::Formula(refused)
+    }
+}
+
+impl From<PolyFault> for Fault {
+    ghost use Rattle.cobra_cli.specs.Checked.{poly_refusal};
+
+    ghost from_gives = { λ f e. e ≡ poly_refusal f };
+
+    fn from(refused: PolyFault) -> Fault {
+        match refused {
+            PolyFault::TooManyChoices => Fault::Formula(CnfFault::TooManyChoices),
+            PolyFault::Memory => Fault::Memory,
+        }
     }
 }
 

@@ -3,6 +3,7 @@
 ghost use Rattle.std.specs.Prelude.{◌≡◌};
 ghost use Rattle.cobra_cli.specs.Failures.{code_of};
 
+use branch_search::Budget;
 use desk::seat_no::Workers;
 
 /// How a command that is not refused ends.
@@ -10,6 +11,8 @@ use desk::seat_no::Workers;
 pub enum Status {
     /// It did what was asked.
     Done,
+    /// No serial order exists.
+    NotSerializable,
     /// The answer leaves open whether a serial order exists.
     Unknown,
 }
@@ -21,9 +24,21 @@ impl Status {
     {
         match self {
             Status::Done => 0,
+            Status::NotSerializable => 1,
             Status::Unknown => 3,
         }
     }
+}
+
+/// How a search picks the choice that it decides next.
+#[derive(Clone, Copy, Debug, PartialEq, Eq)]
+pub enum StrategyName {
+    /// The first that is open.
+    First,
+    /// The first open one of those with the most edges.
+    Most,
+    /// The first open one of those with the least edges.
+    Least,
 }
 
 /// What may be asked of a command beside its input.
@@ -31,6 +46,10 @@ impl Status {
 pub struct Options {
     /// The plain formula was asked for. It is the only one so far, and is taken with or without this.
     pub plain: bool,
-    /// How many workers read the log.
+    /// How many workers read the log, prune and search.
     pub workers: Workers,
+    /// How a search picks choices.
+    pub strategy: StrategyName,
+    /// How many cubes a search may close.
+    pub budget: Budget,
 }

@@ -4,10 +4,10 @@
 ghost use Rattle.std.specs.Prelude.{◌<◌, ◌^◌};
 
 use cobra_cli::{
-    CountedRead, Fault, Line, Options, ReadFault, Status, decode, encode, exit_status, read_all,
-    stats, verify,
+    CountedRead, Fault, Line, Options, ReadFault, Status, StrategyName, check, decode, encode,
+    exit_status, read_all, stats, verify,
 };
-use cobra_words::{Command, Request, Words, words_of};
+use cobra_words::{Command, Request, StrategyWord, Words, words_of};
 use desk::gate::OpenGate;
 use dimacs::{Counted, MAX_ANSWER_BYTES};
 use order_text::MAX_ORDER_BYTES;
@@ -83,6 +83,15 @@ fn read_log_bytes<R: Files, I: Read + Drop>(
     }
 }
 
+/// The strategy of a word.
+fn strategy_of(word: StrategyWord) -> StrategyName {
+    match word {
+        StrategyWord::First => StrategyName::First,
+        StrategyWord::Most => StrategyName::Most,
+        StrategyWord::Least => StrategyName::Least,
+    }
+}
+
 /// Runs a command on what was read: first the log, then the answer or the order.
 fn run<R: Runtime + Threads + Wait + Sync, I: Read + Drop, W: Write + Drop>(
     rt: &R,
@@ -95,10 +104,13 @@ fn run<R: Runtime + Threads + Wait + Sync, I: Read + Drop, W: Write + Drop>(
     let options = Options {
         plain: request.plain,
         workers: request.workers,
+        strategy: strategy_of(request.strategy),
+        budget: request.budget,
     };
     let mut sink = Counted::new(output);
     let ended = match request.command {
         Command::Encode => encode(rt, alloc, &log, &options, &OpenGate, &mut sink),
+        Command::Check => check(rt, alloc, &log, &options, &OpenGate, &mut sink),
         Command::Stats => stats(rt, alloc, &log, &options, &OpenGate, &mut sink),
         Command::Decode { model } => {
             let answer = read_file(rt, alloc, model, MAX_ANSWER_BYTES)?;

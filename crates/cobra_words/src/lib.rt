@@ -3,7 +3,7 @@
 
 mod words;
 
-pub use words::{Command, Request, Words, words_of};
+pub use words::{Command, Request, StrategyWord, Words, words_of};
 
 #[cfg(test)]
 mod tests;

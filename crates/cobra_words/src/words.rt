@@ -1,7 +1,9 @@
 //! What the words of a call ask for, read by `clap`.
 
+use clap::builder::ValueParser;
 use clap::error::ErrorKind;
 use clap::{Arg, ArgAction, ArgMatches, Error};
+use cube_machine::Budget;
 use desk::seat_no::Workers;
 use std::alloc::{AllocError, Global};
 
@@ -12,10 +14,20 @@ pub enum Command<'a> {
     Encode,
     /// Turn a solver's answer, in this file, into a serial order.
     Decode { model: &'a str },
+    /// Decide whether some serial order explains the log.
+    Check,
     /// Check the order in this file.
     Verify { order: &'a str },
     /// Write how large the log and its formula are.
     Stats,
+}
+
+/// How a search is to pick the choice that it decides next.
+#[derive(Clone, Copy, Debug, PartialEq, Eq)]
+pub enum StrategyWord {
+    First,
+    Most,
+    Least,
 }
 
 /// A call of the program.
@@ -25,6 +37,9 @@ pub struct Request<'a> {
     /// The plain formula was asked for.
     pub plain: bool,
     pub workers: Workers,
+    pub strategy: StrategyWord,
+    /// How many cubes a search may close.
+    pub budget: Budget,
     /// The file of the log, or standard input.
     pub log: Option<&'a str>,
 }
@@ -38,6 +53,12 @@ pub enum Words<'a> {
 
 /// How many workers take part where the words do not say.
 const DEFAULT_WORKERS: &str = "4";
+
+/// How many cubes a search may close where the words do not say.
+const DEFAULT_BUDGET: &str = "10000";
+
+/// The words for strategies.
+const STRATEGIES: [&str; 3] = ["first", "most", "least"];
 
 fn log_file<'a>(alloc: Global) -> Arg<'a> {
     Arg::new(alloc, "FILE").help("The log; standard input where absent")
@@ -58,6 +79,28 @@ fn plain<'a>(alloc: Global) -> Arg<'a> {
         .long("plain")
         .help("Use the plain formula, of at most 100 transactions")
         .action(ArgAction::SetTrue)
+}
+
+fn strategy<'a>(alloc: Global) -> Arg<'a> {
+    Arg::new(alloc, "strategy")
+        .long("strategy")
+        .value_name("NAME")
+        .help(
+            "Which choice a search decides next: the first, or one with the most or the least edges",
+        )
+        .action(ArgAction::Set)
+        .value_parser(ValueParser::Names(&STRATEGIES))
+        .default_value("first")
+}
+
+fn budget<'a>(alloc: Global) -> Arg<'a> {
+    Arg::new(alloc, "budget")
+        .long("budget")
+        .value_name("N")
+        .help("How many cubes a search may close, 1 to 1000000")
+        .action(ArgAction::Set)
+        .value_parser(clap::value_parser!(u32).range(1..=1_000_000))
+        .default_value(DEFAULT_BUDGET)
 }
 
 fn required_file<'a>(alloc: Global, name: &'a str, help: &'a str) -> Arg<'a> {
@@ -86,6 +129,15 @@ fn decode<'a>(alloc: Global) -> Result<clap::Command<'a>, AllocError> {
         .arg(log_file(alloc))
 }
 
+fn check<'a>(alloc: Global) -> Result<clap::Command<'a>, AllocError> {
+    clap::Command::new(alloc, "check")
+        .about("Decide whether some serial order explains a log")
+        .arg(strategy(alloc))?
+        .arg(budget(alloc))?
+        .arg(workers(alloc))?
+        .arg(log_file(alloc))
+}
+
 fn verify<'a>(alloc: Global) -> Result<clap::Command<'a>, AllocError> {
     clap::Command::new(alloc, "verify")
         .about("Check that an order is a serial order of a log")
@@ -109,8 +161,18 @@ fn program<'a>(alloc: Global) -> Result<clap::Command<'a>, AllocError> {
         .subcommand_required(true)
         .subcommand(encode(alloc)?)?
         .subcommand(decode(alloc)?)?
+        .subcommand(check(alloc)?)?
         .subcommand(verify(alloc)?)?
         .subcommand(stats(alloc)?)
+}
+
+/// The strategy of a word; any word but the other two stands for the default.
+fn strategy_of(word: &str) -> StrategyWord {
+    match word {
+        "most" => StrategyWord::Most,
+        "least" => StrategyWord::Least,
+        _ => StrategyWord::First,
+    }
 }
 
 fn command_of<'a>(name: &str, matches: &ArgMatches<'a>) -> Option<Command<'a>> {
@@ -119,6 +181,7 @@ fn command_of<'a>(name: &str, matches: &ArgMatches<'a>) -> Option<Command<'a>> {
         "decode" => Some(Command::Decode {
             model: matches.get_str("model")?,
         }),
+        "check" => Some(Command::Check),
         "verify" => Some(Command::Verify {
             order: matches.get_str("order")?,
         }),
@@ -130,10 +193,14 @@ fn command_of<'a>(name: &str, matches: &ArgMatches<'a>) -> Option<Command<'a>> {
 fn request_of<'a>(name: &str, matches: &ArgMatches<'a>) -> Option<Request<'a>> {
     let command = command_of(name, matches)?;
     let number = matches.get_one::<u8>("workers").unwrap_or(4);
+    let budget = matches.get_one::<u32>("budget").unwrap_or(10_000);
+    let strategy = matches.get_str("strategy").unwrap_or("first");
     Some(Request {
         command,
         plain: matches.get_flag("plain"),
         workers: Workers::new(number)?,
+        strategy: strategy_of(strategy),
+        budget: Budget::new(budget as usize)?,
         log: matches.get_str("FILE"),
     })
 }

@@ -1,5 +1,5 @@
-//! Times the crates of graphs, for `bench/graphs.sh`: `graph_bench dense` takes a graph of 400 nodes with an edge from each
-//! node to each greater one, `graph_bench log FILE` the history of a log, and `graph_bench prune FILE` lists what pruning keeps.
+//! Times the crates of graphs, for `bench/graphs.sh`: `graph_bench made` takes graphs of 400 nodes, dense and
+//! sparse ones, `graph_bench log FILE` the history of a log, and `graph_bench prune FILE` lists what pruning keeps.
 #![tactic(auto)]
 
 ghost use Rattle.serializability.specs.Reads.{IsClean};
@@ -52,18 +52,90 @@ fn dense(alloc: Global) -> io::Result<Known> {
     Ok(known)
 }
 
-fn time_graph<R: Runtime + Threads + Wait + Sync>(rt: &R, alloc: Global) -> io::Result<()> {
-    let known = dense(alloc)?;
+/// A graph with an edge from each node but node 0 to each other one.
+fn complete(alloc: Global) -> io::Result<Known> {
+    let mut known = dense(alloc)?;
+    for u in 1..MAX_NODES + 1 {
+        for v in 1..u {
+            add(&mut known, u, v);
+        }
+    }
+    Ok(known)
+}
+
+/// A graph with edges from each node to the next one, and to those 7 and 50 behind it.
+fn sparse(alloc: Global) -> io::Result<Known> {
+    let mut known = Known::new(alloc, MAX_NODES)?;
+    for u in 1..MAX_NODES + 1 {
+        for step in [1, 7, 50] {
+            add(&mut known, u, u + step);
+        }
+    }
+    Ok(known)
+}
+
+/// A graph with edges from each node to the one before it, and to those 7 and 50 before it.
+fn sparse_backwards(alloc: Global) -> io::Result<Known> {
+    let mut known = Known::new(alloc, MAX_NODES)?;
+    for u in 1..MAX_NODES + 1 {
+        for step in [1, 7, 50] {
+            add(&mut known, u + step, u);
+        }
+    }
+    Ok(known)
+}
+
+/// The same graph with an edge from the last node to the one before it.
+fn with_a_late_cycle(mut known: Known) -> Known {
+    add(&mut known, MAX_NODES, MAX_NODES - 1);
+    known
+}
+
+fn time_cycle<R: Print + Clock>(rt: &R, alloc: Global, known: &Known) -> io::Result<()> {
     let start = Instant::now(rt)?;
-    let _ = known.find_cycle(alloc)?;
-    told(rt, "find_cycle, none there", start)?;
+    let found = known.find_cycle(alloc)?;
+    let what = if found.is_some() {
+        "find_cycle, one there"
+    } else {
+        "find_cycle, none there"
+    };
+    told(rt, what, start)
+}
+
+fn time_walk<R: Print + Clock>(
+    rt: &R,
+    alloc: Global,
+    known: &Known,
+    ends: (usize, usize),
+) -> io::Result<()> {
+    let (Some(u), Some(v)) = (NodeIx::new(ends.0), NodeIx::new(ends.1)) else {
+        return Ok(());
+    };
+    if u.get() > known.nodes() || v.get() > known.nodes() {
+        return Ok(());
+    }
     let start = Instant::now(rt)?;
-    let rows = Rows::plain(alloc, &known)?;
+    let found = known.walk(alloc, u, v)?;
+    let what = if found.is_some() {
+        "walk, one there"
+    } else {
+        "walk, none there"
+    };
+    told(rt, what, start)
+}
+
+fn time_rows<R: Runtime + Threads + Wait + Sync>(
+    rt: &R,
+    alloc: Global,
+    known: &Known,
+) -> io::Result<()> {
+    let start = Instant::now(rt)?;
+    let rows = Rows::plain(alloc, known)?;
     told(rt, "rows, plain", start)?;
     for count in [1u8, 2, 4] {
         if let Some(workers) = Workers::new(count) {
             let start = Instant::now(rt)?;
-            let _ = Rows::compute(rt, alloc, &known, workers, &OpenGate)?;
+            let _ = Rows::compute(rt, alloc, known, workers, &OpenGate)?;
             println!(rt; "workers: {count}")?;
             told(rt, "rows, computed", start)?;
         }
@@ -72,6 +144,32 @@ fn time_graph<R: Runtime + Threads + Wait + Sync>(rt: &R, alloc: Global) -> io::
     let copy = rows.copy(alloc)?;
     let _ = copy.cyclic();
     told(rt, "rows, copied", start)
+}
+
+fn time_graph<R: Runtime + Threads + Wait + Sync>(
+    rt: &R,
+    alloc: Global,
+    what: &str,
+    known: &Known,
+) -> io::Result<()> {
+    println!(rt; "{what}:")?;
+    time_cycle(rt, alloc, known)?;
+    time_walk(rt, alloc, known, (1, MAX_NODES))?;
+    time_walk(rt, alloc, known, (2, 1))?;
+    time_rows(rt, alloc, known)
+}
+
+fn time_graphs<R: Runtime + Threads + Wait + Sync>(rt: &R, alloc: Global) -> io::Result<()> {
+    let known = dense(alloc)?;
+    time_graph(rt, alloc, "each to each greater one", &known)?;
+    time_graph(rt, alloc, "each to each other one", &complete(alloc)?)?;
+    time_graph(rt, alloc, "three edges from each", &sparse(alloc)?)?;
+    println!(rt; "three edges from each, backwards:")?;
+    time_cycle(rt, alloc, &sparse_backwards(alloc)?)?;
+    println!(rt; "each to each greater one, and a late cycle:")?;
+    time_cycle(rt, alloc, &with_a_late_cycle(known))?;
+    println!(rt; "three edges from each, and a late cycle:")?;
+    time_cycle(rt, alloc, &with_a_late_cycle(sparse(alloc)?))
 }
 
 fn time_bipaths<R: Print + Clock>(rt: &R, alloc: Global, history: &History) -> io::Result<()>
@@ -289,7 +387,7 @@ fn main(rt: HostRuntime) -> io::Result<()> {
         None => Ok(()),
         Some(word) => match words.get(2) {
             Some(path) => time_log(&rt, rt.alloc(), path, word.as_str() == "log"),
-            None => time_graph(&rt, rt.alloc()),
+            None => time_graphs(&rt, rt.alloc()),
         },
     }
 }

@@ -1,6 +1,9 @@
 pub mod Bools
 pub mod Listed
 pub mod Words
+pub mod Joined
+pub mod Opened
+pub mod Grouped
 pub mod Edges
 pub mod Fresh
 pub mod Lines
@@ -12,3 +15,4 @@ pub mod ArcSets
 pub mod Rests
 pub mod Rows
 pub mod TwoTransactions
+pub mod Tested

@@ -3,3 +3,5 @@ pub mod Pairs
 pub mod Held
 pub mod Graphs
 pub mod Tree
+pub mod Tests
+pub mod Groups

@@ -1,7 +1,10 @@
 //! Sets of numbers as bits, in words of 64.
 
-ghost use Rattle.std.specs.Prelude.{◌≡◌, ℕ, ◌+◌, ◌/◌, ◌^◌, ◌<◌, ◌≤◌, ◌==◌, ◌&&◌, ◌||◌, nat_lt, nat_le, length};
+ghost use Rattle.std.specs.Prelude.{◌≡◌, ◌↔◌, ℕ, ◌+◌, ◌/◌, ◌^◌, ◌<◌, ◌≤◌, ◌==◌, ◌&&◌, ◌||◌, true, false, nat_lt, nat_le, length, IsTrue, IfSome, IfNone};
 ghost use Rattle.known_graph.specs.Bits.{bit_of, row_len};
+
+/// A bit for each of nodes 0 to 400.
+pub type NodeBits = [u64; 7];
 
 /// How many words hold a bit for each of nodes 0 to n.
 pub fn row_len(nodes: usize) -> usize
@@ -41,4 +44,40 @@ pub(crate) fn set_bits_to(words: &mut [u64], last: usize)
     for number in 1..last + 1 {
         set_bit(words, number);
     }
+}
+
+/// Sets the bits that are set in other words, of which there are at most as many.
+pub fn join_words(words: &mut [u64], more: &[u64])
+    requires len { length more.now ≤ length words.old }
+    ensures bits { (k : ℕ) → bit_of words.new k ≡ (bit_of words.old k || bit_of more.now k) }
+    ensures len { length words.new ≡ length words.old }
+{
+    for i in 0..more.len() {
+        words[i] |= more[i];
+    }
+}
+
+/// A number whose bit is set in the first words and not in others, at least as many, where there is one.
+pub fn first_open(words: &[u64], done: &[u64]) -> Option<usize>
+    requires len { length words.now ≤ length done.now }
+    requires few { length words.now < 2 ^ 32 }
+    ensures found { IfSome result (λ k. (bit_of words.now k ≡ true) × (bit_of done.now k ≡ false)) }
+    ensures none { IfNone result ((k : ℕ) → bit_of words.now k ≡ true → bit_of done.now k ≡ true) }
+{
+    for i in 0..words.len() {
+        let open = words[i] & !done[i];
+        if open != 0 {
+            return Some(i * 64 + open.trailing_zeros() as usize);
+        }
+    }
+    None
+}
+
+/// Whether each bit that is set in the first words is set in others, at least as many.
+pub fn is_within(words: &[u64], all: &[u64]) -> bool
+    requires len { length words.now ≤ length all.now }
+    requires few { length words.now < 2 ^ 32 }
+    ensures within { IsTrue result → (k : ℕ) → bit_of words.now k ≡ true → bit_of all.now k ≡ true }
+{
+    first_open(words, all).is_none()
 }

@@ -6,6 +6,7 @@ ghost use Rattle.serializability.specs.Polygraph.{Edge};
 ghost use Rattle.known_graph.specs.Bits.{bit_of, row_len};
 ghost use Rattle.known_graph.specs.Graphs.{IsKnownGraph};
 ghost use Rattle.known_graph.specs.Held.{bit_place};
+ghost use Rattle.known_graph.specs.Tests.{has_edge};
 
 use crate::bits::{has_bit, row_len, set_bit, set_bits_to};
 use serializability::NodeIx;
@@ -69,6 +70,7 @@ impl Known {
     /// Whether an edge leads from u to v; none does at a node above n.
     pub fn has_edge(&self, u: NodeIx, v: NodeIx) -> bool
         ensures edge { IsTrue result ↔ Contains self.now.edges (u, v) }
+        ensures test { result ≡ has_edge self.now.edges (u, v) }
     {
         u.get() <= self.nodes && has_bit(self.row_words(u), v.get())
     }
@@ -104,5 +106,13 @@ impl Known {
             nodes: self.nodes,
             words: Vec::from_slice(alloc, &self.words)?,
         })
+    }
+
+    /// Makes this the graph of the nodes and edges of another one. It takes no memory.
+    pub fn copy_from(&mut self, other: &Known)
+        requires nodes { self.old.nodes ≡ other.now.nodes }
+        ensures same { self.new ≡ other.now }
+    {
+        self.words.as_mut_slice().copy_from_slice(&other.words);
     }
 }

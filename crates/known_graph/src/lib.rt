@@ -6,6 +6,7 @@ mod arcs;
 pub mod bits;
 mod edge_list;
 mod graph;
+mod groups;
 pub mod laws;
 mod node;
 mod reached;

@@ -241,3 +241,62 @@ fn cycle_and_walks_by_the_rule(rt: HostRuntime) -> Result<(), Fail> {
     }
     Ok(())
 }
+
+// A graph of 70 nodes with 60 edges more, from a fixed sequence of numbers.
+fn scattered(alloc: Global, number: &mut u32) -> Result<Known, Fail> {
+    let mut known = Known::new(alloc, 70)?;
+    for _ in 0..60 {
+        *number = number.wrapping_mul(1_664_525).wrapping_add(1_013_904_223);
+        let (u, v) = (*number >> 8 & 63, *number >> 16 & 63);
+        add(&mut known, u as usize + 1, v as usize + 1)?;
+    }
+    Ok(known)
+}
+
+// The walk from the first node that reaches itself.
+fn first_cycle(alloc: Global, known: &Known) -> Result<Vec<usize>, Fail> {
+    for v in 0..71 {
+        let line = walk(alloc, known, v, v)?;
+        if !line.is_empty() {
+            return Ok(line);
+        }
+    }
+    Ok(Vec::new(alloc))
+}
+
+// The least node that lies on a cycle is the first from which a walk leads back.
+#[test]
+fn cycles_of_larger_graphs(rt: HostRuntime) -> Result<(), Fail> {
+    let alloc = rt.alloc();
+    let mut number = 1;
+    let (mut some, mut none) = (false, false);
+    for _ in 0..60 {
+        let known = scattered(alloc, &mut number)?;
+        let first = first_cycle(alloc, &known)?;
+        assert_eq!(rt; cycle(alloc, &known)?.as_slice(), first.as_slice());
+        some = some || !first.is_empty();
+        none = none || first.is_empty();
+    }
+    assert!(rt; some && none);
+    Ok(())
+}
+
+// Edges from each node to each greater one, and one edge back at the end.
+#[test]
+fn late_cycle(rt: HostRuntime) -> Result<(), Fail> {
+    let alloc = rt.alloc();
+    let mut known = Known::new(alloc, 100)?;
+    for u in 1..101 {
+        for v in u + 1..101 {
+            add(&mut known, u, v)?;
+        }
+    }
+    assert_eq!(rt; cycle(alloc, &known)?.as_slice(), [].as_slice());
+    add(&mut known, 100, 98)?;
+    assert_eq!(rt; cycle(alloc, &known)?.as_slice(), [98, 100, 98].as_slice());
+    add(&mut known, 70, 70)?;
+    assert_eq!(rt; cycle(alloc, &known)?.as_slice(), [70, 70].as_slice());
+    add(&mut known, 3, 0)?;
+    assert_eq!(rt; cycle(alloc, &known)?.as_slice(), [0, 3, 0].as_slice());
+    Ok(())
+}

@@ -9,7 +9,7 @@ mod fault;
 mod fits;
 mod index;
 mod node;
-mod places;
+pub mod places;
 mod polygraph;
 
 pub use bipath::bipaths;

@@ -23,7 +23,8 @@ use Rattle.desk.specs.History.{IsLegal, replay}
 use Rattle.prune_ledger.specs.Posted.{Posted}
 use Rattle.prune_ledger.specs.State.{State}
 use Rattle.prune_ledger.specs.Opening.{no_mark, opening_state, given_back, reopened_state}
-use Rattle.prune_ledger.specs.Steps.{has_edge, is_line, listed, with_edges, refuses, refusing, is_free, free_from, is_refused, side_at, is_choice, is_against, post_reply, is_entered, refused_mark, refused, hand_out, taken, posted, next_of, reply_of}
+use Rattle.known_graph.specs.Tests.{has_edge, is_line}
+use Rattle.prune_ledger.specs.Steps.{listed, with_edges, refuses, refusing, is_free, free_from, is_refused, side_at, is_choice, is_against, post_reply, is_entered, refused_mark, refused, hand_out, taken, posted, next_of, reply_of}
 use Rattle.prune_ledger.specs.Ledger.{side_of, kept_side, kept_after, edges_after, IsShown, AreShown}
 use Rattle.prune_ledger.specs.Runs.{IsWhole, IsOpening, KeepsForced, EachKeepsForced, posts_of, ledger_of, Grown}
 use Rattle.prune_ledger.specs.declared.parts.Mark.{Mark}
@@ -31,7 +32,8 @@ use Rattle.prune_ledger.specs.declared.parts.Event.{Event}
 use Rattle.prune_ledger.specs.declared.parts.Event.TheVariants.{Take, Post, Pass, Release}
 use Rattle.prune_ledger.specs.declared.parts.Reply.{Reply}
 use Rattle.prune_ledger.specs.declared.parts.Reply.TheVariants.{Judge, NoneLeft, Entered, AlreadyIn, BadWalk, Noted, Released, Dead}
-use Rattle.prune_ledger.proofs.Edges.{edge_in, in_listed, in_of_listed, walk_of}
+use Rattle.known_graph.proofs.Tested.{edge_in, walk_of}
+use Rattle.prune_ledger.proofs.Edges.{in_listed, in_of_listed}
 use Rattle.prune_ledger.proofs.Marks.{some-inj, get_set, side_joins, marks_opening}
 use Rattle.prune_ledger.proofs.Sides.{other_other, same_is, ChoiceAt, choice_of_edge, side_is, numbered_first, known_with, side_with, more_kept, new_chosen, new_kept, kept_cases, no_kept}
 

@@ -9,12 +9,12 @@ use Rattle.known_graph.proofs.Listed.{In, In-from_Contains}
 use Rattle.pruning_laws.specs.Forced.{other}
 use Rattle.pruning_laws.specs.Ledger.{Entry as Kept, sides_in}
 use Rattle.prune_ledger.specs.Posted.{Posted}
-use Rattle.prune_ledger.specs.Steps.{has_edge, leads, is_line}
+use Rattle.known_graph.specs.Tests.{has_edge, leads, is_line}
 use Rattle.prune_ledger.specs.Ledger.{side_of, kept_side, kept_after, edges_after, IsShown, AreShown}
 use Rattle.prune_ledger.specs.Tested.{is_of, is_held, leads_by, is_line_by, is_shown_by, are_shown_by, is_cycle_by}
 use Rattle.prune_ledger.specs.Pruned.{posts_in, kept_by}
 use Rattle.prune_ledger.specs.declared.ledger.LedgerEntry.{LedgerEntry}
-use Rattle.prune_ledger.proofs.Edges.{same_bool, edge_in, has_in, has_contained, walk_of, line_of}
+use Rattle.known_graph.proofs.Tested.{same_bool, edge_in, has_in, has_contained, walk_of, line_of}
 use Rattle.prune_ledger.proofs.Sides.{known_with, more_kept, new_kept, kept_cases, no_kept}
 use Rattle.prune_ledger.proofs.Grown.{kept_append}
 

@@ -1,13 +1,14 @@
 -- The written step.
-use Rattle.std.specs.Prelude.{ℕ, ◌+◌, ◌==◌, ◌&&◌, ◌||◌, not, nat_lt, List, [], ◌∷◌, ◌++◌, Bool, true, false, Option, Some, None, if◌then◌else◌, length, drop, slice_get, slice_set, slice_index}
+use Rattle.std.specs.Prelude.{ℕ, ◌+◌, ◌&&◌, ◌||◌, not, List, [], ◌∷◌, ◌++◌, Bool, true, false, Option, Some, None, if◌then◌else◌, slice_get, slice_set}
 use Rattle.std.specs.Option.{option_map_or}
-use Rattle.std.specs.List.{list_any, filter}
+use Rattle.std.specs.List.{filter}
 use Rattle.serializability.specs.Polygraph.{Edge}
 use Rattle.reach_laws.specs.Reach.{Graph}
 use Rattle.pruning_laws.specs.declared.side.Side.{Side}
 use Rattle.pruning_laws.specs.declared.side.Side.TheVariants.{One, Two}
 use Rattle.pruning_laws.specs.Forced.{edges_of, other}
 use Rattle.known_graph.specs.Pairs.{all_pairs}
+use Rattle.known_graph.specs.Tests.{has_edge, is_line}
 use Rattle.prune_ledger.specs.Posted.{Posted}
 use Rattle.prune_ledger.specs.State.{State}
 use Rattle.prune_ledger.specs.declared.parts.Mark.{Mark}
@@ -15,18 +16,6 @@ use Rattle.prune_ledger.specs.declared.parts.Event.{Event}
 use Rattle.prune_ledger.specs.declared.parts.Event.TheVariants.{Take, Post, Pass, Release}
 use Rattle.prune_ledger.specs.declared.parts.Reply.{Reply}
 use Rattle.prune_ledger.specs.declared.parts.Reply.TheVariants.{Judge, NoneLeft, Entered, AlreadyIn, BadWalk, Noted, Released, Dead}
-
-abbrev pub has_edge : List Edge → Edge → Bool
-has_edge edges e = list_any (λ x. (x.0 == e.0) && (x.1 == e.1)) edges
-
--- from u each step to these nodes is an edge, and the last node is v
-abbrev pub leads : List Edge → ℕ → List ℕ → ℕ → Bool
-leads edges u [] v = u == v
-leads edges u (w ∷ ws) v = has_edge edges (u, w) && leads edges w ws v
-
--- whether these are the nodes of a walk from u to v, both included: at least two, and each step is an edge
-abbrev pub is_line : List Edge → ℕ → List ℕ → ℕ → Bool
-is_line edges u line v = nat_lt 1 (length line) && ((slice_index line 0 == u) && leads edges u (drop 1 line) v)
 
 -- those of the pairs of nodes 0 to n that are among these edges, by the first node and then the second
 unfoldable pub listed : ℕ → List Edge → List Edge

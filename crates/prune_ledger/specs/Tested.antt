@@ -4,7 +4,7 @@ use Rattle.std.specs.List.{list_any}
 use Rattle.serializability.specs.Polygraph.{Edge, Polygraph}
 use Rattle.pruning_laws.specs.Forced.{other}
 use Rattle.prune_ledger.specs.Posted.{Posted}
-use Rattle.prune_ledger.specs.Steps.{has_edge}
+use Rattle.known_graph.specs.Tests.{has_edge}
 use Rattle.prune_ledger.specs.Ledger.{side_of}
 use Rattle.prune_ledger.specs.declared.ledger.LedgerEntry.{LedgerEntry}
 

@@ -2,13 +2,13 @@
 
 ghost use Rattle.std.specs.Prelude.{◌≡◌, ◌↔◌, ◌<◌, ◌&&◌, [], IsTrue, length};
 ghost use Rattle.std.specs.List.{list_any};
-ghost use Rattle.prune_ledger.specs.Steps.{has_edge};
+ghost use Rattle.known_graph.specs.Tests.{has_edge};
 ghost use Rattle.prune_ledger.specs.Ledger.{side_of};
 ghost use Rattle.prune_ledger.specs.Tested.{is_of, is_held, leads_by, is_line_by, is_shown_by, are_shown_by, is_cycle_by};
 ghost use Rattle.prune_ledger.specs.Pruned.{IsLedgerOf};
 
 use crate::ledger::{Ledger, LedgerEntry};
-use crate::machine::{has_edge, is_known, other_side};
+use crate::machine::{has_edge, other_side};
 use crate::parts::Refutation;
 use polygraph::{ChoiceIx, Polygraph};
 use pruning_laws::Side;
@@ -103,7 +103,7 @@ fn leads(
 fn is_held(polygraph: &Polygraph, entries: &[LedgerEntry], u: NodeIx, v: NodeIx) -> bool
     ensures { result ≡ is_held polygraph.now entries.now (u, v) }
 {
-    is_known(polygraph.known(), u, v) || is_kept(polygraph, entries, Edge::new(u, v))
+    polygraph.known().has_edge(u, v) || is_kept(polygraph, entries, Edge::new(u, v))
 }
 
 fn is_kept(polygraph: &Polygraph, entries: &[LedgerEntry], edge: Edge) -> bool

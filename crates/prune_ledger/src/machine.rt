@@ -4,7 +4,8 @@ ghost use Rattle.std.specs.Prelude.{◌≡◌, ℕ, ◌+◌, ◌<◌, ◌≤◌,
 ghost use Rattle.std.specs.List.{AllByRecursion};
 ghost use Rattle.pruning_laws.specs.Forced.{edges_of, other};
 ghost use Rattle.polygraph.specs.Polygraphs.{Joins, JoinsBoth};
-ghost use Rattle.prune_ledger.specs.Steps.{has_edge, leads, is_line, with_edges, is_refused, post_reply, refused, refuses, free_from, take_reply, taken, posted, refusing, is_free, hand_out};
+ghost use Rattle.known_graph.specs.Tests.{has_edge};
+ghost use Rattle.prune_ledger.specs.Steps.{with_edges, is_refused, post_reply, refused, refuses, free_from, take_reply, taken, posted, refusing, is_free, hand_out};
 ghost use Rattle.prune_ledger.specs.Kept.{IsPast};
 ghost use Rattle.prune_ledger.specs.Opening.{no_mark, opening_state, given_back, reopened_state};
 ghost use Rattle.prune_ledger.specs.Pruned.{unrefused, AreSettled};
@@ -91,34 +92,6 @@ pub(crate) fn has_edge(edges: &[Edge], edge: Edge) -> bool
     edges
         .iter()
         .any(|e| e.source().get() == u && e.target().get() == v)
-}
-
-// Whether the graph has the edge.
-pub(crate) fn is_known(graph: &Known, u: NodeIx, v: NodeIx) -> bool
-    ensures { result ≡ has_edge graph.now.edges (u, v) }
-{
-    graph.has_edge(u, v)
-}
-
-// Whether each step from a node on along these is an edge of the graph, and the last one is the end.
-fn leads(graph: &Known, from: NodeIx, steps: &[NodeIx], to: NodeIx) -> bool
-    ensures { result ≡ leads graph.now.edges from steps.now to }
-{
-    let mut at = from;
-    for &node in steps {
-        if !is_known(graph, at, node) {
-            return false;
-        }
-        at = node;
-    }
-    at.get() == to.get()
-}
-
-// Whether these are the nodes of a walk, both ends included.
-fn is_line(graph: &Known, from: NodeIx, line: &[NodeIx], to: NodeIx) -> bool
-    ensures { result ≡ is_line graph.now.edges from line.now to }
-{
-    1 < line.len() && line[0].get() == from.get() && leads(graph, from, &line[1..], to)
 }
 
 // The least free choice, where none before the cursor is free.
@@ -339,12 +312,9 @@ impl PruneMachine {
         }
         let choice = &self.choices[number];
         if has_edge(choice.edges(post.side), post.edge)
-            && is_line(
-                &self.graph,
-                post.edge.target(),
-                &post.walk,
-                post.edge.source(),
-            )
+            && self
+                .graph
+                .is_line(post.edge.target(), &post.walk, post.edge.source())
         {
             Reply::Entered
         } else {

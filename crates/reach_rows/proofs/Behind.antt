@@ -1,14 +1,15 @@
 -- Rows of several nodes, one behind the other.
-use Rattle.std.proofs.Common.{◌≡◌, ◌↔◌, ℕ, ◌+◌, ◌-◌, ◌*◌, ◌/◌, ◌%◌, ◌<◌, ◌≤◌, Bool, true, eqb, List, [], ◌∷◌, ◌++◌, length, get_or, refl, sym, ap, ◌∙◌, subst, inl, inr, arith, length-append}
+use Rattle.std.proofs.Common.{◌≡◌, ◌↔◌, ℕ, ◌+◌, ◌-◌, ◌*◌, ◌/◌, ◌%◌, ◌<◌, ◌≤◌, Bool, true, eqb, List, [], ◌∷◌, ◌++◌, length, get_or, take, refl, sym, ap, ◌∙◌, subst, inl, inr, arith, length-append}
 use Rattle.std.specs.List.{Contains}
 use Rattle.std.specs.Int.{bit_at}
-use Rattle.std.proofs.lemmas.Bool.{cases_lt}
-use Rattle.std.proofs.lemmas.List.{get_or_append_left, get_or-append-add}
+use Rattle.std.proofs.lemmas.Bool.{cases_lt, false≢true}
+use Rattle.std.proofs.lemmas.List.{get_or_append_left, get_or-append-add, get_or-take, length-take-le}
 use Rattle.std.proofs.lemmas.Nat.{div_below, mul-add-lt}
 use Rattle.reach_laws.specs.Reach.{Graph, Walk, Reaches}
 use Rattle.known_graph.specs.Bits.{bit_of, row_len}
 use Rattle.known_graph.specs.Graphs.{IsKnownGraph}
 use Rattle.known_graph.specs.Held.{is_marked, marked_graph, bit_place}
+use Rattle.known_graph.proofs.Words.{bit_of-past}
 use Rattle.known_graph.proofs.Edges.{nodes_within_row, edge_of_Contains, Contains-of_edge}
 use Rattle.reach_rows.specs.ReachRows.{AreRowsOf}
 use Rattle.reach_rows.specs.Sources.{IsReachRow, AreReachRows}
@@ -62,6 +63,27 @@ rows_one graph u row h =
           (iff_along (bit_of row ((x - u) * (row_len n * 64) + v)) (bit_of row v) (Reaches graph.edges u v) (ap (bit_of row) place) (h.reach v)));
     }
 
+-- a walk joins nodes of the graph
+pub walk_nodes : (graph : Graph) → IsKnownGraph graph → (ws : List ℕ) (u v : ℕ) → Walk graph.edges u ws v → (u ≤ graph.nodes) × (v ≤ graph.nodes)
+walk_nodes graph known [] u v w = known.joined (u, v) w
+walk_nodes graph known (x ∷ ws) u v w = ((known.joined (u, x) w.0).0, (walk_nodes graph known ws x v w.1).1)
+
+-- a row of a node, cut to the words of nodes
+pub rows_cut : (graph : Graph) (u : ℕ) (row : List ℕ) → IsKnownGraph graph → row_len graph.nodes ≤ length row → ((v : ℕ) → ((bit_of row v ≡ true) ↔ Reaches graph.edges u v)) → IsReachRow graph u (take (row_len graph.nodes) row)
+unfolding bit_of
+rows_cut graph u row known long reach = record {
+  len = length-take-le (row_len graph.nodes) row long;
+  reach = λ v. elim (cases_lt (v / 64) (row_len graph.nodes)) [
+    | inl within ↦
+        let same : bit_of (take (row_len graph.nodes) row) v ≡ bit_of row v = ap (λ w. eqb (bit_at w (v % 64)) 1) (get_or-take (row_len graph.nodes) row (v / 64) 0 within) in
+        iff_along (bit_of (take (row_len graph.nodes) row) v) (bit_of row v) (Reaches graph.edges u v) same (reach v)
+    | inr past ↦ (
+      λ t. absurd (false≢true (sym (bit_of-past (take (row_len graph.nodes) row) v (omega (arith, past, length-take-le (row_len graph.nodes) row long))) ∙ t)),
+      λ r. absurd (omega (arith, past, word_within graph.nodes v (walk_nodes graph known r.0 u v r.1).1)),
+    )
+  ];
+}
+
 pub rows_joined : (graph : Graph) (a b c : ℕ) (xs ys : List ℕ) → a ≤ b → b ≤ c → AreReachRows graph a b xs → AreReachRows graph b c ys → AreReachRows graph a c (xs ++ ys)
 rows_joined graph a b c xs ys ab bc p q =
     let n = graph.nodes in
@@ -79,10 +101,6 @@ rows_joined graph a b c xs ys ab bc p q =
       ];
     }
 
-pub row_len_few : (n : ℕ) → n ≤ 400 → row_len n ≤ 401
-unfolding row_len
-row_len_few n h = omega arith
-
 -- the bit of a pair of nodes, as code finds it, is its edge
 pub set_edge : (n : ℕ) (words held : List ℕ) (place u v : ℕ) (b : Bool) → u ≤ n → v ≤ n → held ≡ words → place ≡ bit_place n u v → b ≡ bit_of held place → ((b ≡ true) ↔ Contains (marked_graph n words).edges (u, v))
 unfolding is_marked
@@ -91,11 +109,6 @@ set_edge n words held place u v b hu hv same at is =
       λ t. Contains-of_edge n words u v (record { from = hu; to = hv; marked = sym e ∙ t }),
       λ c. e ∙ (edge_of_Contains n words u v c).marked,
     )
-
--- a walk joins nodes of the graph
-pub walk_nodes : (graph : Graph) → IsKnownGraph graph → (ws : List ℕ) (u v : ℕ) → Walk graph.edges u ws v → (u ≤ graph.nodes) × (v ≤ graph.nodes)
-walk_nodes graph known [] u v w = known.joined (u, v) w
-walk_nodes graph known (x ∷ ws) u v w = ((known.joined (u, x) w.0).0, (walk_nodes graph known ws x v w.1).1)
 
 pub rows_all : (graph : Graph) (words : List ℕ) → IsKnownGraph graph → AreReachRows graph 0 (graph.nodes + 1) words → AreRowsOf (marked_graph graph.nodes words) graph
 unfolding marked_graph

@@ -1,5 +1,4 @@
 pub mod Joined
-pub mod Opened
 pub mod Spreading
 pub mod Behind
 pub mod Growing

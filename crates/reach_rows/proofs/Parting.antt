@@ -1,30 +1,51 @@
 -- The sources of workers.
-use Rattle.std.proofs.Common.{◌≡◌, ℕ, ◌+◌, ◌*◌, ◌/◌, ◌<◌, ◌≤◌, ap, ◌∙◌, arith}
-use Rattle.std.proofs.lemmas.Nat.{div-add-mod', div_below, div-mul-add, le-div, mul-le}
-use Rattle.reach_rows.specs.Parts.{part_start}
+use Rattle.std.proofs.Common.{◌≡◌, ℕ, ◌+◌, ◌-◌, ◌<◌, ◌≤◌, List, [], ◌∷◌, ◌++◌, length, get_or, sym, ap, ◌∙◌, subst, zero, suc, inl, inr, arith, refl}
+use Rattle.std.proofs.lemmas.Bool.{cases_lt}
+use Rattle.std.proofs.lemmas.List.{get_or_append_left, get_or-append-add, length_push}
+use Rattle.reach_rows.specs.Parts.{ArePartStarts}
 
-pub part_none : (sources workers : ℕ) → 0 < workers → part_start sources workers 0 ≡ 0
-unfolding part_start
-part_none sources workers some =
-    let none : sources * 0 ≡ 0 = omega arith in
-    ap (λ k. k / workers) none ∙ (let small = div_below 0 workers 1 some (omega arith) in omega (arith, small))
+-- one start alone
+pub starts_one : (starts : List ℕ) → starts ≡ 0 ∷ [] → ArePartStarts 0 starts
+starts_one starts e = subst (ArePartStarts 0) (sym e) (record {
+  some = omega arith;
+  first = refl;
+  last = refl;
+  forth = λ i h. absurd (omega arith);
+})
 
-pub part_all : (sources workers : ℕ) → 0 < workers → part_start sources workers workers ≡ sources
-unfolding part_start
-part_all sources workers some =
-    let whole : sources * workers ≡ sources * workers + 0 = omega arith in
-    ap (λ k. k / workers) whole ∙ div-mul-add sources workers 0 some
+-- one more
+front : (starts : List ℕ) (next i : ℕ) → i < length starts → get_or (starts ++ next ∷ []) i 0 ≡ get_or starts i 0
+front starts next i h = get_or_append_left starts (next ∷ []) 0 i h
 
-pub part_forth : (sources workers i : ℕ) → 0 < workers → part_start sources workers i ≤ part_start sources workers (i + 1)
-unfolding part_start
-part_forth sources workers i some =
-    let more : sources * (i + 1) ≡ sources * i + sources = omega arith in
-    le-div (sources * i / workers) (sources * (i + 1)) workers some (omega (arith, more, div-add-mod' (sources * i) workers))
+back : (starts : List ℕ) (next i : ℕ) → i ≡ length starts → get_or (starts ++ next ∷ []) i 0 ≡ next
+back starts next i e = let at : i ≡ length starts + 0 = omega (arith, e) in ap (λ k. get_or (starts ++ next ∷ []) k 0) at ∙ get_or-append-add starts (next ∷ []) 0 0
 
-pub part_within : (sources workers i : ℕ) → 0 < workers → i ≤ workers → part_start sources workers i ≤ sources
-unfolding part_start
-part_within sources workers i some le =
-    let most = mul-le sources i sources workers (omega arith) le in
-    let room : (sources + 1) * workers ≡ sources * workers + workers = omega arith in
-    let small = div_below (sources * i) workers (sources + 1) some (omega (arith, most, room)) in
-    omega (arith, small)
+pub starts_more : (sources next : ℕ) (starts new : List ℕ) → ArePartStarts sources starts → sources ≤ next → new ≡ starts ++ next ∷ [] → ArePartStarts next new
+starts_more sources next starts new h up e = subst (ArePartStarts next) (sym e) (
+    let one = length_push starts next in
+    record {
+      some = omega (arith, one);
+      first = front starts next 0 h.some ∙ h.first;
+      last = back starts next (length (starts ++ next ∷ []) - 1) (omega (arith, one));
+      forth = λ i lt. elim (cases_lt (i + 1) (length starts)) [
+        | inl old ↦ omega (arith, front starts next i (omega (arith, old)), front starts next (i + 1) old, h.forth i old)
+        | inr new ↦
+            (let here : i ≡ length starts - 1 = omega (arith, new, lt, one, h.some) in
+            let low : get_or (starts ++ next ∷ []) i 0 ≡ sources = front starts next i (omega (arith, here, h.some)) ∙ ap (λ k. get_or starts k 0) here ∙ h.last in
+            omega (arith, low, up, back starts next (i + 1) (omega (arith, here, h.some))))
+      ];
+    }
+    )
+
+-- each start is within the sources
+starts_up : (sources : ℕ) (starts : List ℕ) → ArePartStarts sources starts → (i k : ℕ) → i + k < length starts → get_or starts i 0 ≤ get_or starts (i + k) 0
+starts_up sources starts h i zero lt = let same : i + 0 ≡ i = omega arith in omega (arith, ap (λ j. get_or starts j 0) same)
+starts_up sources starts h i (suc k) lt =
+    let next : i + suc k ≡ i + k + 1 = omega arith in
+    omega (arith, ap (λ j. get_or starts j 0) next, starts_up sources starts h i k (omega (arith, lt)), h.forth (i + k) (omega (arith, lt)))
+
+pub starts_within : (sources : ℕ) (starts : List ℕ) → ArePartStarts sources starts → (i : ℕ) → i < length starts → get_or starts i 0 ≤ sources
+starts_within sources starts h i lt =
+    let k = length starts - 1 - i in
+    let end : i + k ≡ length starts - 1 = omega (arith, lt) in
+    omega (arith, starts_up sources starts h i k (omega (arith, lt)), ap (λ j. get_or starts j 0) end, h.last)

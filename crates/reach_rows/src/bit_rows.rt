@@ -60,16 +60,16 @@ impl Rows {
         let nodes = known.nodes();
         let mut words = Vec::with_capacity(alloc, (nodes + 1) * row_len(nodes))?;
         for source in 0..nodes + 1 {
-            add_source(alloc, known, node(source), &mut words)?;
+            add_source(known, node(source), &mut words)?;
         }
         Ok(Rows { nodes, words })
     }
 
     /// The rows of a graph, computed by so many workers in threads of their own.
     ///
-    /// Each worker has consecutive nodes, from which it finds what they reach, and passes the gate before
-    /// each, with its turns counted from 0; one that has none passes it once. Seats are 1 to the number of
-    /// workers.
+    /// Each worker has consecutive nodes, with about as many edges as those of each other one. It finds what
+    /// they reach, and passes the gate before each, with its turns counted from 0; one that has none passes
+    /// it once. Seats are 1 to the number of workers.
     pub fn compute<R: Threads + Wait + Clock + Sync, G: Gate>(
         rt: &R,
         alloc: Global,
@@ -148,6 +148,14 @@ impl Rows {
             nodes: self.nodes,
             words: Vec::from_slice(alloc, &self.words)?,
         })
+    }
+
+    /// Makes these the rows of the same graph as others. It takes no memory.
+    pub fn copy_from(&mut self, other: &Rows)
+        requires nodes { self.old.nodes ≡ other.now.nodes }
+        ensures same { self.new ≡ other.now }
+    {
+        self.words.as_mut_slice().copy_from_slice(&other.words);
     }
 }
 

@@ -6,7 +6,7 @@ use serializability::NodeIx;
 use std::alloc::Global;
 use std::process::Abort;
 use std::sync::Wait;
-use std::sync::atomic::{AtomicBool, Ordering};
+use std::sync::atomic::{AtomicBool, AtomicUsize, Ordering};
 use std::test::*;
 use std::thread;
 use std::thread::Threads;
@@ -169,5 +169,46 @@ fn two_workers_meet(rt: HostRuntime) -> Result<(), Fail> {
         assert!(rt; !gate.missed.load(Ordering::SeqCst));
         see_rows(&rt, alloc, rows);
     }
+    Ok(())
+}
+
+// How often each of two seats passes.
+#[derive(Drop)]
+struct Counted {
+    first: AtomicUsize,
+    second: AtomicUsize,
+}
+
+impl Gate for Counted {
+    fn pass<R: Wait + Clock>(&self, _rt: &R, seat: SeatNo, _turn: u64) {
+        let passes = if seat.get() == 1 {
+            &self.first
+        } else {
+            &self.second
+        };
+        passes.fetch_add(1, Ordering::SeqCst);
+    }
+}
+
+// With an edge from each node to each greater one, node 0 has work 401, and node u has 401 - u: in all 80,601.
+// Nodes 0 to 117 have 40,415 of it, the last of them the 40,300th.
+#[test]
+fn two_workers_have_half_the_work_each(rt: HostRuntime) -> Result<(), Fail> {
+    let alloc = rt.alloc();
+    let mut known = Known::new(alloc, 400)?;
+    for u in 1..401 {
+        for v in u + 1..401 {
+            join_known(&rt, &mut known, u, v);
+        }
+    }
+    let gate = Counted {
+        first: AtomicUsize::new(0),
+        second: AtomicUsize::new(0),
+    };
+    let rows = Rows::compute(&rt, alloc, &known, workers(&rt, 2), &gate)?;
+    assert_eq!(rt; gate.first.load(Ordering::SeqCst), 118);
+    assert_eq!(rt; gate.second.load(Ordering::SeqCst), 283);
+    assert!(rt; rows.reaches(node(&rt, 1), node(&rt, 400)));
+    assert!(rt; !rows.reaches(node(&rt, 400), node(&rt, 1)));
     Ok(())
 }

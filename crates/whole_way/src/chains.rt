@@ -135,7 +135,7 @@ fn a_reader_inside_the_initial_chain(rt: HostRuntime) -> Result<(), Fail> {
     assert_eq!(rt; initial.as_slice(), [2].as_slice());
     let inner = chains.inner_edges();
     assert_eq!(rt; inner.len(), 1);
-    assert_eq!(rt; (inner[0].from.get(), inner[0].to.get()), (3, 2));
+    assert_eq!(rt; (inner[0].source().get(), inner[0].target().get()), (3, 2));
     Ok(())
 }
 
@@ -156,8 +156,8 @@ fn cycles(
         return Ok(None);
     };
     for edge in found.inner_edges() {
-        if edge.from.get() <= known.nodes() && edge.to.get() <= known.nodes() {
-            known.add_edge(edge.from, edge.to);
+        if edge.source().get() <= known.nodes() && edge.target().get() <= known.nodes() {
+            known.add_edge(edge.source(), edge.target());
         }
     }
     Ok(Some((of_arcs, known.find_cycle(alloc)?)))

@@ -1,9 +1,10 @@
 use crate::tape::Tape;
 use anomalies::classify;
 use cobra_cli::{
-    CountedRead, Fault, Line, Options, Status, decode, encode, exit_status, read_all, read_log,
-    stats, verify,
+    CountedRead, Fault, Line, Options, Status, StrategyName, decode, encode, exit_status, read_all,
+    read_log, stats, verify,
 };
+use cube_machine::Budget;
 use desk::gate::OpenGate;
 use desk::seat_no::Workers;
 use dimacs::Counted;
@@ -29,6 +30,8 @@ fn options(rt: &impl Abort) -> Options {
     Options {
         plain: true,
         workers: Workers::new(4).expect(rt, "four workers are few"),
+        strategy: StrategyName::First,
+        budget: Budget::new(10_000).expect(rt, "a budget"),
     }
 }
 

@@ -6,7 +6,7 @@ use Rattle.serializability.specs.Polygraph.{all_keys}
 use Rattle.log_definitions.specs.Numbers.{log_of}
 use Rattle.chain_laws.specs.Chains.{NoneCloses, readers, inner_edges}
 use Rattle.write_chains.specs.Lists.{pairs, unless_empty}
-use Rattle.write_chains.specs.Views.{ChainView, chain_view, chain_from, chains_in, group_view, edge_of}
+use Rattle.write_chains.specs.Views.{ChainView, chain_view, chain_from, chains_in, group_view}
 use Rattle.write_chains.specs.declared.chain.KeyChains.{KeyChains}
 use Rattle.write_chains.specs.declared.all.Chains.TheInside.{Inside}
 
@@ -33,4 +33,4 @@ sessions_of c = c.history.now
 pub record AreChains (c : Inside) : Type 0 where
   pub none_closes : (x : ℕ) → NoneCloses (log_of (sessions_of c)) x
   pub keys : map key_view c.keys.items ≡ map (key_in (log_of (sessions_of c))) (all_keys (log_of (sessions_of c)))
-  pub inner : map edge_of c.inner.items ≡ inner_edges (log_of (sessions_of c))
+  pub inner : c.inner.items ≡ inner_edges (log_of (sessions_of c))

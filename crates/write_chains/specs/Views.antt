@@ -6,7 +6,6 @@ use Rattle.serializability.specs.Polygraph as graph
 use Rattle.chain_laws.specs.Chains.{readers, next, tail, heads}
 use Rattle.write_chains.specs.declared.chain.Chain.{Chain}
 use Rattle.write_chains.specs.declared.groups.Group.{Group}
-use Rattle.write_chains.specs.declared.inner.Edge.{Edge}
 use Rattle.write_chains.specs.declared.links.Links.{Links}
 use Rattle.write_chains.specs.Lists.{AreLists, IsTable}
 
@@ -26,9 +25,6 @@ chain_from log x h = record { head = h; tail = tail log x h; readers = readers l
 -- by head, the chains of the key that do not begin with node 0
 abbrev pub chains_in : Log → ℕ → List ChainView
 chains_in log x = map (chain_from log x) (heads log x)
-
-abbrev pub edge_of : Edge → graph.Edge
-edge_of e = (e.from, e.to)
 
 abbrev pub group_view : Group → ℕ × List ℕ
 group_view g = (g.source, g.readers.items)

@@ -6,14 +6,15 @@ ghost use Rattle.chain_laws.specs.Chains as spec;
 ghost use Rattle.log_definitions.specs.Numbers.{log_of};
 ghost use Rattle.write_chains.specs.Lists.{AreLists};
 ghost use Rattle.write_chains.specs.Readings.{readings_in};
-ghost use Rattle.write_chains.specs.Views.{chain_view, chain_from, chains_in, edge_of};
+ghost use Rattle.write_chains.specs.Views.{chain_view, chain_from, chains_in};
 
 use crate::chain::{Chain, KeyChains, key_chains};
 use crate::groups::readers_in;
-use crate::inner::{Edge, add_inner_edges};
+use crate::inner::add_inner_edges;
 use crate::links::links_of;
 use crate::readings::Reading;
 use history::History;
+use reach_laws::Edge;
 use serializability::NodeIx;
 use std::alloc::{AllocError, Global};
 use std::marker::Model;
@@ -103,7 +104,7 @@ impl<'a> Chains<'a> {
 
     /// The inner edges of all chains: from each reader of a writer to the writer behind it, by key, writer and reader.
     pub fn inner_edges(&self) -> &[Edge]
-        ensures edges { map edge_of result.now ≡ spec.inner_edges (log_of self.now) }
+        ensures edges { result.now ≡ spec.inner_edges (log_of self.now) }
     {
         &self.inner
     }

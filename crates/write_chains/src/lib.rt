@@ -16,4 +16,3 @@ mod source;
 pub use all::Chains;
 pub use build::chains;
 pub use chain::Chain;
-pub use inner::Edge;

@@ -1,11 +1,9 @@
 use Rattle.std.proofs.Common.{◌≡◌, take}
-use Rattle.std.specs.Prelude.{map}
-use Rattle.write_chains.specs.Views.{edge_of}
 use Rattle.coalesce.specs.Added.{IsWith}
 use Rattle.coalesce.proofs.known.add_edges.Given as goal
 
 abbrev pub invariant-loop-edge : goal.invariant-loop-edge
 invariant-loop-edge l = record {
-  edges : IsWith l.initial.known.edges (map edge_of (take l.edge-index l.edges)) l.known.edges;
+  edges : IsWith l.initial.known.edges (take l.edge-index l.edges) l.known.edges;
   nodes : l.known.nodes ≡ l.initial.known.nodes;
 }

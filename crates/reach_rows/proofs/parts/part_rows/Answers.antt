@@ -1,37 +1,33 @@
-use Rattle.std.proofs.Common.{◌≡◌, ◌≤◌, ◌<◌, ◌+◌, ℕ, ap, ◌∙◌, subst, arith}
-use Rattle.reach_rows.specs.Parts.{part_start}
+use Rattle.std.proofs.Common.{◌≡◌, ◌≤◌, ◌+◌, ◌-◌, get_or, ap, subst, arith}
+use Rattle.std.proofs.lemmas.Nat.{mul-le}
+use Rattle.known_graph.specs.Bits.{row_len}
+use Rattle.known_graph.proofs.Grouped.{row_len_small}
 use Rattle.reach_rows.specs.Sources.{AreReachRows}
-use Rattle.reach_rows.proofs.Parting.{part_within, part_forth}
+use Rattle.reach_rows.proofs.Parting.{starts_within}
 use Rattle.reach_rows.proofs.parts.part_rows.Goals as goal
 
--- where a part begins, with the graph's own numbers
-start_is : (sources nodes count workers worker start : ℕ) → sources ≡ nodes → count ≡ workers → start ≡ part_start (sources + 1) count worker → start ≡ part_start (nodes + 1) workers worker
-start_is sources nodes count workers worker start e f is = is ∙ ap (λ k. part_start (k + 1) count worker) e ∙ ap (λ k. part_start (nodes + 1) k worker) f
+pub overflow_mul-last : goal.overflow_mul-last
+overflow_mul-last g c =
+    let graph = c.args.known.now in
+    let starts = c.args.starts.now in
+    let last = starts_within (graph.nodes + 1) starts c.requires.starts (c.args.worker + 1) (omega (arith, c.requires.worker.1)) in
+    let few : get_or starts (c.args.worker + 1) 0 - get_or starts c.args.worker 0 ≤ 401 = omega (arith, last, c.nodes.ensures.graph.few) in
+    let small : c.row_len.result ≤ 7 = omega (arith, c.row_len.ensures.value, ap row_len c.nodes.ensures.count, row_len_small graph.nodes c.nodes.ensures.graph.few) in
+    omega (arith, mul-le (get_or starts (c.args.worker + 1) 0 - get_or starts c.args.worker 0) c.row_len.result 401 7 few small)
 
 pub node-requires : goal.node-requires
 node-requires g c =
-    let last = part_within (c.nodes-sources.result + 1) c.from-count.result (c.args.worker + 1) (omega (arith, c.from-count.ensures, c.get.ensures.value, c.get.ensures.range.0)) (omega (arith, c.requires, c.from-count.ensures, c.get.ensures.value)) in
-    record { few = omega (arith, last, c.part_start-last.ensures, c.loop-source-test.true, c.nodes-sources.ensures.few) }
+    let last = starts_within (c.args.known.now.nodes + 1) c.args.starts.now c.requires.starts (c.args.worker + 1) (omega (arith, c.requires.worker.1)) in
+    record { few = omega (arith, last, c.loop-source-test.true, c.nodes.ensures.graph.few) }
 
 pub add_source-requires : goal.add_source-requires
 add_source-requires g c =
-    let last = part_within (c.nodes-sources.result + 1) c.from-count.result (c.args.worker + 1) (omega (arith, c.from-count.ensures, c.get.ensures.value, c.get.ensures.range.0)) (omega (arith, c.requires, c.from-count.ensures, c.get.ensures.value)) in
-    record { node = omega (arith, last, c.part_start-last.ensures, c.loop-source-test.true, c.nodes-sources.ensures.count, c.node.ensures.value) }
+    let last = starts_within (c.args.known.now.nodes + 1) c.args.starts.now c.requires.starts (c.args.worker + 1) (omega (arith, c.requires.worker.1)) in
+    record { node = omega (arith, last, c.loop-source-test.true, c.node.ensures.value) }
 
 pub returns : goal.returns
 returns g c =
-    let graph = c.args.known.now in
-    let sources = c.nodes-sources.result in
-    let count = c.from-count.result in
-    let workers = c.args.workers in
-    let worker = c.args.worker in
-    let held = c.from-count.ensures ∙ c.get.ensures.value in
-    let some : 0 < count = omega (arith, held, c.get.ensures.range.0) in
-    let first = start_is sources graph.nodes count workers worker c.part_start-first.result c.nodes-sources.ensures.count held c.part_start-first.ensures in
-    let last = start_is sources graph.nodes count workers (worker + 1) c.part_start-last.result c.nodes-sources.ensures.count held c.part_start-last.ensures in
-    let forth : c.part_start-first.result ≤ c.part_start-last.result = omega (arith, part_forth (sources + 1) count worker some, c.part_start-first.ensures, c.part_start-last.ensures) in
-    let end : c.loop-source.source ≡ c.part_start-last.result = omega (arith, c.loop-source.auto.source-end forth, c.loop-source-test.false) in
-    record {
-      part = subst (λ a. AreReachRows graph a (part_start (graph.nodes + 1) workers (worker + 1)) c.loop-source.words.items) first
-          (subst (λ b. AreReachRows graph c.part_start-first.result b c.loop-source.words.items) (end ∙ last) c.loop-source.invariant);
-    }
+    let starts = c.args.starts.now in
+    let forth = c.requires.starts.forth c.args.worker (omega (arith, c.requires.worker.1)) in
+    let end : c.loop-source.source ≡ get_or starts (c.args.worker + 1) 0 = omega (arith, c.loop-source.auto.source-end forth, c.loop-source-test.false) in
+    record { part = subst (λ b. AreReachRows c.args.known.now (get_or starts c.args.worker 0) b c.loop-source.words.items) end c.loop-source.invariant }

@@ -1,7 +1,22 @@
-use Rattle.std.proofs.Common.{◌+◌, ◌++◌, sym, ap, ◌∙◌, subst, arith}
+use Rattle.std.proofs.Common.{◌≡◌, ◌≤◌, ℕ, ◌+◌, ◌++◌, length, take, sym, ap, ◌∙◌, subst, arith}
+use Rattle.std.proofs.lemmas.List.{length-take-le}
+use Rattle.known_graph.specs.Bits.{row_len}
+use Rattle.known_graph.proofs.Grouped.{row_len_small}
 use Rattle.reach_rows.specs.Sources.{AreReachRows}
-use Rattle.reach_rows.proofs.Behind.{rows_one, rows_joined}
+use Rattle.reach_rows.proofs.Behind.{rows_one, rows_cut, rows_joined}
 use Rattle.reach_rows.proofs.source.add_source.Goals as goal
+
+-- the words of a row of the graph are among those of the array
+row_fits : (n count held : ℕ) → n ≤ 400 → count ≡ row_len n → held ≡ 7 → count ≤ held
+row_fits n count held few is seven = omega (arith, row_len_small n few, is, seven)
+
+pub slice_bounds-row-end : goal.slice_bounds-row-end
+slice_bounds-row-end c = row_fits c.args.known.now.nodes c.row_len.result (length c.reach_row-row.result) c.nodes.ensures.graph.few (c.row_len.ensures.value ∙ ap row_len c.nodes.ensures.count) c.reach_row-row.ensures.len
+
+pub slice_bounds-extend_from_slice-end : goal.slice_bounds-extend_from_slice-end
+slice_bounds-extend_from_slice-end c =
+    sym (length-take-le c.row_len.result c.reach_row-row.result
+    (row_fits c.args.known.now.nodes c.row_len.result (length c.reach_row-row.result) c.nodes.ensures.graph.few (c.row_len.ensures.value ∙ ap row_len c.nodes.ensures.count) c.reach_row-row.ensures.len))
 
 pub returns : goal.returns
 returns c = record {
@@ -9,7 +24,11 @@ returns c = record {
       (let graph = c.args.known.now in
       let u = c.args.source in
       let old = c.args.words.now.items in
-      let items = c.in_ok-extend_from_slice.ensures.items ∙ ap (λ row. old ++ row) c.deref.ensures.value in
+      let row = c.reach_row-row.result in
+      let count : c.row_len.result ≡ row_len graph.nodes = c.row_len.ensures.value ∙ ap row_len c.nodes.ensures.count in
+      let part = take (row_len graph.nodes) row in
+      let long = row_fits graph.nodes (row_len graph.nodes) (length row) c.nodes.ensures.graph.few (sym count ∙ count) c.reach_row-row.ensures.len in
+      let items = c.in_ok-extend_from_slice.ensures.items ∙ ap (λ k. old ++ take k row) count in
       subst (AreReachRows graph first (u + 1)) (sym items)
-      (rows_joined graph first u (u + 1) old c.in_ok-row.row.items le (omega arith) before (rows_one graph u c.in_ok-row.row.items c.in_ok-row.ensures.row)));
+      (rows_joined graph first u (u + 1) old part le (omega arith) before (rows_one graph u part (rows_cut graph u row c.nodes.ensures.graph long c.reach_row-row.ensures.reach))));
 }

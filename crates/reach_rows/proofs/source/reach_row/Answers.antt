@@ -1,31 +1,29 @@
-use Rattle.std.proofs.Common.{◌≡◌, ◌≤◌, ℕ, true, false, length, drop, sym, ap, ◌∙◌, subst}
-use Rattle.std.proofs.lemmas.List.{take_at}
+use Rattle.std.proofs.Common.{◌≡◌, ◌||◌, ◌↔◌, ℕ, true, sym, ap, ◌∙◌, arith}
+use Rattle.std.specs.List.{Contains}
 use Rattle.known_graph.specs.Bits.{bit_of}
-use Rattle.reach_rows.specs.Sources.{Spreads, IsReachRow}
-use Rattle.reach_rows.proofs.Opened.{no_bit}
+use Rattle.known_graph.proofs.Words.{bit_of-zeros}
+use Rattle.known_graph.proofs.Grouped.{row_len_small}
 use Rattle.reach_rows.proofs.Spreading.{spread_row}
 use Rattle.reach_rows.proofs.source.reach_row.Goals as goal
 
-pub spread-requires-clause-none_done : goal.spread-requires-clause-none_done
-spread-requires-clause-none_done c =
-    let items = c.as_mut_slice-2.ensures.value ∙ c.in_ok-done.ensures.items_if_clones_equal (λ y e. e) in
-    subst (λ ws. (k : ℕ) → bit_of ws k ≡ false) (sym items) (no_bit c.len.result)
+pub join_words-requires : goal.join_words-requires
+join_words-requires c = record { len = omega (arith, c.row_words.ensures.len, row_len_small c.args.known.now.nodes c.nodes-nodes.ensures.graph.few) }
+
+pub spread-requires-clause-row : goal.spread-requires-clause-row
+spread-requires-clause-row c = omega (arith, c.join_words.ensures.len, row_len_small c.args.known.now.nodes c.nodes-nodes.ensures.graph.few)
 
 pub spread-requires-clause-nodes : goal.spread-requires-clause-nodes
-spread-requires-clause-nodes c =
-    let items = c.as_mut_slice.ensures.value ∙ c.in_ok-row.ensures.items in
-    subst (λ ws. (k : ℕ) → bit_of ws k ≡ true → k ≤ c.args.known.now.nodes) (sym items) (λ k t. (c.nodes-nodes.ensures.graph.joined (c.args.source, k) ((c.row_words.ensures.edges k).0 t)).1)
+spread-requires-clause-nodes c k t =
+    let row = c.row_words.result.now in
+    let same : bit_of c.join_words.new.words k ≡ bit_of row k = c.join_words.ensures.bits k ∙ ap (λ b. b || bit_of row k) (bit_of-zeros 7 k) in
+    (c.nodes-nodes.ensures.graph.joined (c.args.source, k) ((c.row_words.ensures.edges k).0 (sym same ∙ t))).1
 
-pub returns : goal.returns
-returns c =
-    let new = c.spread.new.row in
+pub returns-clause-reach : goal.returns-clause-reach
+returns-clause-reach c =
+    let row = c.row_words.result.now in
     let graph = c.args.known.now in
-    let first = c.row_words.result.now in
-    let items = c.as_mut_slice.ensures.value ∙ c.in_ok-row.ensures.items in
-    let spreads : Spreads graph.edges first new = subst (λ ws. Spreads graph.edges ws new) items c.spread.ensures.spread in
-    let taken = take_at new (drop (length new) c.in_ok-row.row.items) c.in_ok-row.row.len (c.spread.ensures.len ∙ c.as_mut_slice.ensures.len) in
-    let row : IsReachRow graph c.args.source new = record {
-      len = c.spread.ensures.len ∙ ap length items ∙ c.row_words.ensures.len;
-      reach = spread_row graph.edges first new c.args.source c.row_words.ensures.edges spreads;
-    } in
-    record { row = subst (IsReachRow graph c.args.source) (sym taken) row }
+    let first = c.join_words.new.words in
+    let same : (k : ℕ) → bit_of first k ≡ bit_of row k = λ k. c.join_words.ensures.bits k ∙ ap (λ b. b || bit_of row k) (bit_of-zeros 7 k) in
+    let starts : (v : ℕ) → ((bit_of first v ≡ true) ↔ Contains graph.edges (c.args.source, v)) =
+    λ v. (λ t. (c.row_words.ensures.edges v).0 (sym (same v) ∙ t), λ e. same v ∙ (c.row_words.ensures.edges v).1 e) in
+    spread_row graph.edges first c.spread.new.row c.args.source starts c.spread.ensures.spread

@@ -1,20 +1,29 @@
-use Rattle.std.proofs.Common.{◌≡◌, ◌+◌, ◌↔◌, ℕ, true, eqb, ◌∙◌, subst, arith}
+use Rattle.std.proofs.Common.{◌≡◌, replicate, ◌+◌, ◌↔◌, ℕ, true, eqb, ◌∙◌, subst, arith}
 use Rattle.std.specs.List.{Contains}
 use Rattle.std.proofs.lemmas.Bool.{or_left, or_right}
 use Rattle.std.proofs.Common.{eq-eqb, refl}
 use Rattle.known_graph.specs.Bits.{bit_of}
-use Rattle.reach_rows.proofs.Opened.{left_falls}
-use Rattle.reach_rows.proofs.Behind.{row_len_few, word_within}
-use Rattle.reach_rows.proofs.Spreading.{IsSpreadStep, spreading_more}
+use Rattle.known_graph.proofs.Opened.{left_falls}
+use Rattle.known_graph.proofs.Grouped.{row_len_small}
+use Rattle.known_graph.proofs.Words.{bit_of-zeros}
+use Rattle.reach_rows.proofs.Behind.{word_within}
+use Rattle.reach_rows.proofs.Spreading.{IsSpreadStep, spreading_none, spreading_more}
 use Rattle.reach_rows.proofs.source.spread.Goals as goal
 
+pub loop-number-init : goal.loop-number-init
+loop-number-init c = spreading_none c.args.known.now c.args.row.now (replicate 7 0) (bit_of-zeros 7) c.requires.nodes
+
+pub first_open-requires-clause-len : goal.first_open-requires-clause-len
+first_open-requires-clause-len c = omega (arith, c.loop-number.auto.row, c.requires.few)
+
 pub first_open-requires-clause-few : goal.first_open-requires-clause-few
-first_open-requires-clause-few c = omega (arith, row_len_few c.args.known.now.nodes (omega arith))
+first_open-requires-clause-few c = omega (arith, c.loop-number.auto.row, c.requires.few)
 
 pub set_bit-requires : goal.set_bit-requires
 set_bit-requires c =
+    let n = c.args.known.now.nodes in
     let here = c.loop-number.invariant.nodes c.in-Some.number c.in-Some.ensures.found.0 in
-    record { within = omega (arith, word_within c.args.known.now.nodes c.in-Some.number here) }
+    record { within = omega (arith, word_within n c.in-Some.number here, row_len_small n c.nodes-nodes.ensures.graph.few) }
 
 pub loop-number-smaller : goal.loop-number-smaller
 loop-number-smaller c =
@@ -33,11 +42,11 @@ loop-number-preserved c =
     let graph = c.args.known.now in
     let k = c.in-Some.number in
     let more = c.row_words.result.now in
-    let step : IsSpreadStep graph k c.loop-number.row c.loop-number.done more c.join_words.new.row c.set_bit.new.words = record {
+    let step : IsSpreadStep graph k c.loop-number.row c.loop-number.done more c.join_words.new.words c.set_bit.new.words = record {
       here = c.in-Some.ensures.found.0;
       clear = c.in-Some.ensures.found.1;
       row_bits = c.join_words.ensures.bits;
       done_bits = c.set_bit.ensures.bits;
       edges = subst (λ u. (v : ℕ) → ((bit_of more v ≡ true) ↔ Contains graph.edges (u, v))) c.node.ensures.value c.row_words.ensures.edges;
     } in
-    spreading_more graph c.args.row.now c.loop-number.row c.loop-number.done more c.join_words.new.row c.set_bit.new.words k c.nodes-nodes.ensures.graph c.loop-number.invariant step
+    spreading_more graph c.args.row.now c.loop-number.row c.loop-number.done more c.join_words.new.words c.set_bit.new.words k c.nodes-nodes.ensures.graph c.loop-number.invariant step

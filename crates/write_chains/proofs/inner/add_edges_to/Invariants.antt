@@ -1,7 +1,6 @@
 use Rattle.std.proofs.Common.{◌≡◌, ◌++◌, Some, take}
-use Rattle.std.specs.Prelude.{map}
-use Rattle.write_chains.specs.Views.{edge_of, edges_before}
+use Rattle.write_chains.specs.Views.{edges_before}
 use Rattle.write_chains.proofs.inner.add_edges_to.Given as goal
 
 abbrev pub invariant-loop-reader : goal.invariant-loop-reader
-invariant-loop-reader l = map edge_of l.edges.items ≡ map edge_of l.initial.edges.items ++ edges_before (take l.reader-index l.readers) (Some l.writer)
+invariant-loop-reader l = l.edges.items ≡ l.initial.edges.items ++ edges_before (take l.reader-index l.readers) (Some l.writer)

@@ -1,10 +1,9 @@
 use Rattle.std.proofs.Common.{◌≡◌, ℕ, ◌+◌, ◌++◌, List, Option}
-use Rattle.std.specs.Prelude.{map}
 use Rattle.std.specs.List.{flat_map, range_with_len}
 use Rattle.write_chains.specs.Lists.{AreLists, IsTable}
-use Rattle.write_chains.specs.Views.{edge_of, edges_before}
+use Rattle.write_chains.specs.Views.{edges_before}
 use Rattle.write_chains.proofs.inner.add_inner_edges.Given as goal
 
 abbrev pub invariant-loop-node : goal.invariant-loop-node
 invariant-loop-node l = (n : ℕ) (f : ℕ → Option ℕ) (g : ℕ → List ℕ) → IsTable n f l.links.next.items → AreLists (n + 1) g l.links.readers.items
-    → map edge_of l.edges.items ≡ map edge_of l.initial.edges.items ++ flat_map (λ w. edges_before (g w) (f w)) (range_with_len 0 l.node)
+    → l.edges.items ≡ l.initial.edges.items ++ flat_map (λ w. edges_before (g w) (f w)) (range_with_len 0 l.node)

@@ -1,7 +1,5 @@
-use Rattle.std.specs.Prelude.{map}
 use Rattle.log_definitions.specs.Numbers.{log_of}
 use Rattle.chain_laws.specs.Chains.{next, readers}
-use Rattle.write_chains.specs.Views.{edge_of}
 use Rattle.write_chains.specs.Held.{key_view, key_in}
 use Rattle.write_chains.proofs.Nexts.{fit}
 use Rattle.write_chains.proofs.Inside.{inner_further, mapped_further}
@@ -17,6 +15,6 @@ loop-key-preserved c =
     let links = c.in_ok-links.ensures.links in
     record {
       keys = mapped_further (key_in log) key_view x c.loop-key.keys.items c.push.new.self.items c.in_ok-key_chains.field-0 c.loop-key.invariant.keys c.in_ok-push.ensures.items c.in_ok-key_chains.ensures.chains;
-      inner = inner_further log x (map edge_of c.loop-key.inner.items) (map edge_of c.add_inner_edges.new.edges.items) c.loop-key.invariant.inner
+      inner = inner_further log x c.loop-key.inner.items c.add_inner_edges.new.edges.items c.loop-key.invariant.inner
           (c.in_ok-add_inner_edges.ensures.edges log.nodes (next log x) (readers log x) links.next links.readers);
     }

@@ -2,7 +2,6 @@ use Rattle.std.proofs.Common.{◌≡◌}
 use Rattle.std.specs.Prelude.{map}
 use Rattle.std.specs.List.{flat_map, range_with_len}
 use Rattle.log_definitions.specs.Numbers.{log_of}
-use Rattle.write_chains.specs.Views.{edge_of}
 use Rattle.write_chains.specs.Held.{key_view, key_in}
 use Rattle.write_chains.proofs.Inside.{inner_of}
 use Rattle.write_chains.proofs.all.Chains.of.Given as goal
@@ -10,5 +9,5 @@ use Rattle.write_chains.proofs.all.Chains.of.Given as goal
 abbrev pub invariant-loop-key : goal.invariant-loop-key
 invariant-loop-key l = record {
   keys : map key_view l.keys.items ≡ map (key_in (log_of l.history)) (range_with_len 0 l.key);
-  inner : map edge_of l.inner.items ≡ flat_map (inner_of (log_of l.history)) (range_with_len 0 l.key);
+  inner : l.inner.items ≡ flat_map (inner_of (log_of l.history)) (range_with_len 0 l.key);
 }

@@ -1,0 +1,13 @@
+use Rattle.std.proofs.Common.{◌≡◌, ℕ, length}
+use Rattle.serializability.specs.Polygraph.{Polygraph}
+use Rattle.desk.specs.History.{IsLegal, replay}
+use Rattle.cube_laws.specs.State.{opening_state}
+use Rattle.cube_laws.specs.Steps.{next_of, reply_of}
+use Rattle.branch_search.proofs.Planted.{Standing}
+use Rattle.branch_search.proofs.growing.tree_of.Given as goal
+
+abbrev pub invariant-loop-step : goal.invariant-loop-step
+invariant-loop-step l =
+    (length l.held ≡ 17)
+    × ((p : Polygraph) (budget : ℕ) → IsLegal next_of reply_of (opening_state p budget) l.fn.steps.items
+    → Standing p (replay next_of (opening_state p budget) l.fn.steps.items) l.nodes.items l.held l.step-iterator.rest.items)

@@ -1,0 +1,5 @@
+use Rattle.std.proofs.Common.{◌≡◌}
+use Rattle.branch_search.proofs.retrace.retrace.Given as goal
+
+abbrev pub invariant-loop : goal.invariant-loop
+invariant-loop l = l.view.polygraph ≡ l.fn.view.polygraph

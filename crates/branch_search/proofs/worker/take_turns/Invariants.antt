@@ -1,0 +1,5 @@
+use Rattle.std.proofs.Common.{◌≡◌}
+use Rattle.branch_search.proofs.worker.take_turns.Given as goal
+
+abbrev pub invariant-loop : goal.invariant-loop
+invariant-loop g l = (l.seat.0 ≡ l.fn.seat.0) × (l.view.polygraph ≡ l.reduced.poly)

@@ -1,0 +1,4 @@
+pub mod Answers
+pub mod Growing
+pub mod Seats
+pub mod Trees

@@ -1,0 +1,18 @@
+//! What a search answers.
+
+use crate::tree::Tree;
+use history::Order;
+
+/// What a search answers.
+#[derive(Drop)]
+pub enum Answer {
+    /// This order is serial.
+    Yes(Order),
+    /// There is no serial order: every cube of this tree is refuted.
+    No(Tree),
+    /// The budget was spent before the search came to an end.
+    Unknown {
+        /// How many nodes of the tree were closed.
+        closed: usize,
+    },
+}

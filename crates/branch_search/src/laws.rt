@@ -1,0 +1,3 @@
+//! A worker's decision.
+
+pub use branching::laws::turn;

@@ -1,0 +1,24 @@
+//! A search for a serial order: workers split, refute and solve the cubes of a polygraph.
+//!
+//! The workers sit at a desk whose machine keeps the tree of cubes. A worker takes a cube, refutes it where
+//! its edges have a cycle, solves it where no choice is left, and else splits it by the strategy. When all
+//! have left, the answer is read from the machine and its history.
+#![tactic(auto)]
+
+mod answer;
+mod crew;
+mod growing;
+pub mod laws;
+mod reading;
+mod retrace;
+mod searching;
+#[cfg(test)]
+mod tests;
+mod tree;
+mod worker;
+
+pub use answer::Answer;
+pub use branching::{Alternate, ByWords, CubeView, FirstOpen, LeastEdges, MostEdges, Strategy};
+pub use cube_machine::Budget;
+pub use searching::search;
+pub use tree::{Decision, Growth, Tree, TreeNode};

@@ -1,0 +1,90 @@
+//! The answer of a search, read from the machine and its history.
+
+ghost use Rattle.std.specs.Prelude.{◌≡◌, ◌↔◌, ℕ, List, Some, IfOk, IfSome};
+ghost use Rattle.serializability.specs.Polygraph.{Polygraph, Fits};
+ghost use Rattle.log_definitions.specs.Serial.{IsSerialOrder};
+ghost use Rattle.desk.specs.History.{IsReached};
+ghost use Rattle.cube_laws.specs.State.{opening_state};
+ghost use Rattle.cube_laws.specs.Steps.{next_of, reply_of};
+ghost use Rattle.cube_laws.specs.Runs.{EachSolvesRightly};
+ghost use Rattle.cube_laws.specs.declared.parts.Event.TheVariants as event;
+ghost use Rattle.cube_laws.specs.declared.parts.Reply.TheVariants as reply;
+ghost use Rattle.branch_search.specs.Answers.{SaysYes, SaysNo, ShowsNo, SaysUnknown};
+
+use crate::answer::Answer;
+use crate::growing::tree_of;
+use cube_laws::laws::{no_order_fits_where_every_cube_is_refuted, solving_orders_fit};
+use cube_laws::{Event, NodeLine, Reply};
+use cube_machine::{Budget, CubeMachine};
+use desk::desk::Closed;
+use desk::history::Entry;
+use history::{History, Order};
+use prune_ledger::Reduced;
+use std::alloc::{AllocError, Global};
+
+/// What a closed desk has to say: the order that solved a node; that every cube is refuted, with the tree; or
+/// that the budget is spent. At `Err` the search did not come to an end, or there is no memory for the tree.
+pub fn read_answer(
+    alloc: Global,
+    history: &History,
+    reduced: &Reduced,
+    budget: Budget,
+    closed: Closed<CubeMachine<'_>>,
+) -> Result<Answer, AllocError>
+    requires its { (order : List ℕ) →
+        (Fits reduced.now.poly order ↔ IsSerialOrder history.now order) }
+    requires reached { IsReached next_of reply_of (Some (opening_state reduced.now.poly budget))
+        closed.history.items closed.machine }
+    ensures yes { IfOk result (SaysYes history.now) }
+    ensures no { IfOk result (SaysNo history.now) }
+    ensures tree { IfOk result (ShowsNo reduced.now.poly) }
+    ensures unknown { IfOk result (SaysUnknown budget) }
+{
+    solving_orders_fit();
+    no_order_fits_where_every_cube_is_refuted();
+    let Closed {
+        machine,
+        history: steps,
+    } = closed;
+    let closed = machine.closed();
+    if machine.is_exhausted() {
+        return Ok(Answer::No(tree_of(alloc, steps, closed)?));
+    }
+    if let Some(line) = solving_line(steps) {
+        return Ok(Answer::Yes(Order::from_nodes(line.into_nodes())));
+    }
+    if closed == budget.get() {
+        return Ok(Answer::Unknown { closed });
+    }
+    Err(AllocError)
+}
+
+// The order that solved a node.
+fn solving_line(steps: Vec<Entry<Event, Reply>>) -> Option<NodeLine>
+    ensures { (p : Polygraph) → EachSolvesRightly p steps.items → IfSome result (Fits p) }
+{
+    for step in steps {
+        if let Some(line) = solved_in(step) {
+            return Some(line);
+        }
+    }
+    None
+}
+
+// The order by which a step solved a node.
+fn solved_in(step: Entry<Event, Reply>) -> Option<NodeLine>
+    ensures { IfSome result (λ line. (step.event ≡ event.Solve line) × (step.reply ≡ reply.Solved)) }
+{
+    let Entry {
+        seat: _,
+        event,
+        reply,
+    } = step;
+    match event {
+        Event::Solve(line) => match reply {
+            Reply::Solved => Some(line),
+            _ => None,
+        },
+        _ => None,
+    }
+}

@@ -1,0 +1,50 @@
+//! The search.
+
+ghost use Rattle.std.specs.Prelude.{◌≡◌, ◌↔◌, ℕ, List, IfOk};
+ghost use Rattle.serializability.specs.Polygraph.{Fits};
+ghost use Rattle.log_definitions.specs.Serial.{IsSerialOrder};
+ghost use Rattle.branch_search.specs.Answers.{SaysYes, SaysNo, ShowsNo, SaysUnknown};
+
+use crate::answer::Answer;
+use crate::crew::run;
+use crate::reading::read_answer;
+use branching::Strategy;
+use cube_machine::{Budget, CubeMachine, Row};
+use desk::gate::Gate;
+use desk::opened::Opened;
+use desk::seat_no::Workers;
+use history::History;
+use prune_ledger::Reduced;
+use std::alloc::{AllocError, Global};
+use std::marker::Brand;
+use std::sync::Wait;
+use std::thread::Threads;
+use std::time::Clock;
+
+/// Searches a serial order of a history, whose polygraph was pruned to this one, with so many workers, each
+/// of which passes the gate before its turns, which count from 0.
+///
+/// At `Err` memory was refused to the calling thread, or to each worker before the search was finished.
+pub fn search<S: Strategy, G: Gate, R: Threads + Wait + Clock + Sync>(
+    rt: &R,
+    alloc: Global,
+    history: &History,
+    reduced: &Reduced,
+    strategy: &S,
+    workers: Workers,
+    budget: Budget,
+    gate: &G,
+) -> Result<Answer, AllocError>
+    requires its { (order : List ℕ) →
+        (Fits reduced.now.poly order ↔ IsSerialOrder history.now order) }
+    ensures yes { IfOk result (SaysYes history.now) }
+    ensures no { IfOk result (SaysNo history.now) }
+    ensures tree { IfOk result (ShowsNo reduced.now.poly) }
+    ensures unknown { IfOk result (SaysUnknown budget) }
+{
+    let row = Row::new(alloc, budget)?;
+    let machine = CubeMachine::opening(alloc, reduced.poly(), budget, &row)?;
+    let opened = Opened::new(alloc, machine, workers)?;
+    let closed = run::<_, Brand, _, _>(rt, alloc, opened, reduced, &row, strategy, gate)?;
+    read_answer(alloc, history, reduced, budget, closed)
+}

@@ -1,0 +1,232 @@
+//! What one thread does.
+
+ghost use Rattle.std.specs.Prelude.{◌≡◌};
+
+use crate::retrace::{extend, retrace};
+use branching::laws::turn;
+use branching::{CubeView, Strategy};
+use cube_laws::{Event, Reply};
+use cube_machine::{CubeMachine, Row};
+use desk::desk::Desk;
+use desk::gate::Gate;
+use desk::naming::Naming;
+use desk::seat::{Left, Seat};
+use polygraph::ChoiceIx;
+use prune_ledger::Reduced;
+use pruning_laws::Side;
+use std::alloc::{AllocError, Global};
+use std::sync::Wait;
+use std::time::Clock;
+
+/// What a worker has: its seat, and what it is lent.
+#[derive(Drop)]
+pub struct Job<'b, 'a, S: Strategy, J: Naming, G: Gate> {
+    pub alloc: Global,
+    pub desk: &'b Desk<CubeMachine<'a>, J>,
+    pub seat: Seat<CubeMachine<'a>, J>,
+    pub reduced: &'b Reduced,
+    pub row: &'b Row,
+    pub strategy: &'b S,
+    pub gate: &'b G,
+}
+
+// A node whose cube the worker knows: it decides one choice more than the cube that the worker has just
+// split.
+#[derive(Clone, Copy)]
+struct Child {
+    node: usize,
+    choice: ChoiceIx,
+    side: Side,
+}
+
+// The cube that a worker asks for.
+#[derive(Clone, Copy)]
+enum Request {
+    Any,
+    Own(Child),
+}
+
+/// Takes cubes and refutes, solves or splits them, until the search is finished or memory is wanting, and
+/// leaves.
+pub fn work<'b, 'a, S: Strategy, J: Naming, G: Gate, R: Wait + Clock>(
+    rt: &R,
+    job: Job<'b, 'a, S, J, G>,
+) -> Left<CubeMachine<'a>, J>
+    ensures { result.0 ≡ job.entry.seat.0 }
+{
+    let Job {
+        alloc,
+        desk,
+        mut seat,
+        reduced,
+        row,
+        strategy,
+        gate,
+    } = job;
+    let _ = take_turns(rt, alloc, desk, &mut seat, reduced, row, strategy, gate);
+    let (_, left) = desk.leave(rt, seat, Event::Release);
+    left
+}
+
+// Turns until the search is finished.
+fn take_turns<'a, S: Strategy, J: Naming, G: Gate, R: Wait + Clock>(
+    rt: &R,
+    alloc: Global,
+    desk: &Desk<CubeMachine<'a>, J>,
+    seat: &mut Seat<CubeMachine<'a>, J>,
+    reduced: &Reduced,
+    row: &Row,
+    strategy: &S,
+    gate: &G,
+) -> Result<(), AllocError>
+    ensures number { seat.new.0 ≡ seat.old.0 }
+{
+    let mut view = CubeView::new(alloc, reduced)?;
+    let mut request = Request::Any;
+    let mut number: u64 = 0;
+    for _ in rt.forever() {
+        gate.pass(rt, seat.number(), number);
+        let next = take_turn(
+            rt, alloc, desk, seat, reduced, row, strategy, &mut view, request,
+        )?;
+        let Some(another) = next else {
+            return Ok(());
+        };
+        request = another;
+        number = number.saturating_add(1);
+    }
+    unreachable!()
+}
+
+// Asks for a cube, and refutes, solves or splits it. It answers what to ask for next, and nothing where the
+// search is finished.
+fn take_turn<'a, S: Strategy, J: Naming, R: Wait>(
+    rt: &R,
+    alloc: Global,
+    desk: &Desk<CubeMachine<'a>, J>,
+    seat: &mut Seat<CubeMachine<'a>, J>,
+    reduced: &Reduced,
+    row: &Row,
+    strategy: &S,
+    view: &mut CubeView<'_>,
+    request: Request,
+) -> Result<Option<Request>, AllocError>
+    requires polygraph { view.old.polygraph ≡ reduced.now.poly }
+    ensures number { seat.new.0 ≡ seat.old.0 }
+    ensures polygraph { view.new.polygraph ≡ view.old.polygraph }
+{
+    let reply = send(rt, desk, seat, event_of(&request))?;
+    match reply {
+        Reply::Finished => Ok(None),
+        Reply::NotOpen | Reply::NoneNow => Ok(Some(Request::Any)),
+        Reply::Cube(node) => {
+            if see(view, row, &request, node) {
+                settle(rt, alloc, desk, seat, reduced, strategy, view)
+            } else {
+                give_back(rt, desk, seat)
+            }
+        }
+        _ => give_back(rt, desk, seat),
+    }
+}
+
+fn event_of(request: &Request) -> Event {
+    match request {
+        Request::Any => Event::TakeAny,
+        Request::Own(child) => Event::Claim(child.node),
+    }
+}
+
+// Makes the view that of the cube that was given; `false` where it cannot.
+fn see(view: &mut CubeView<'_>, row: &Row, request: &Request, node: usize) -> bool
+    ensures polygraph { view.new.polygraph ≡ view.old.polygraph }
+{
+    match request {
+        Request::Any => retrace(view, row, node),
+        Request::Own(child) => extend(view, child.choice, child.side),
+    }
+}
+
+// Refutes, solves or splits the cube that the seat holds.
+fn settle<'a, S: Strategy, J: Naming, R: Wait>(
+    rt: &R,
+    alloc: Global,
+    desk: &Desk<CubeMachine<'a>, J>,
+    seat: &mut Seat<CubeMachine<'a>, J>,
+    reduced: &Reduced,
+    strategy: &S,
+    view: &CubeView<'_>,
+) -> Result<Option<Request>, AllocError>
+    requires polygraph { view.now.polygraph ≡ reduced.now.poly }
+    ensures number { seat.new.0 ≡ seat.old.0 }
+{
+    let event = turn(alloc, reduced, view, strategy)?;
+    let choice = split_by(&event);
+    let reply = send(rt, desk, seat, event)?;
+    match reply {
+        Reply::Finished => Ok(None),
+        Reply::Closed | Reply::Solved => Ok(Some(Request::Any)),
+        Reply::Children(one, two) => Ok(Some(first_child(strategy, view, choice, one, two))),
+        _ => give_back(rt, desk, seat),
+    }
+}
+
+// The choice by which an event splits a cube.
+fn split_by(event: &Event) -> Option<ChoiceIx> {
+    match event {
+        Event::Split(choice) => Some(*choice),
+        _ => None,
+    }
+}
+
+// The child that is to be seen first, of the two that a split made.
+fn first_child<S: Strategy>(
+    strategy: &S,
+    view: &CubeView<'_>,
+    choice: Option<ChoiceIx>,
+    one: usize,
+    two: usize,
+) -> Request {
+    let Some(choice) = choice else {
+        return Request::Any;
+    };
+    if choice.get() >= view.count() {
+        return Request::Any;
+    }
+    let side = strategy.first_side(view, choice);
+    let node = match side {
+        Side::One => one,
+        Side::Two => two,
+    };
+    Request::Own(Child { node, choice, side })
+}
+
+// Gives back the cube that the seat holds, if any, and asks for another.
+fn give_back<'a, J: Naming, R: Wait>(
+    rt: &R,
+    desk: &Desk<CubeMachine<'a>, J>,
+    seat: &mut Seat<CubeMachine<'a>, J>,
+) -> Result<Option<Request>, AllocError>
+    ensures number { seat.new.0 ≡ seat.old.0 }
+{
+    send(rt, desk, seat, Event::Release)?;
+    Ok(Some(Request::Any))
+}
+
+// A call, of which at a refusal the event is let go.
+fn send<'a, J: Naming, R: Wait>(
+    rt: &R,
+    desk: &Desk<CubeMachine<'a>, J>,
+    seat: &mut Seat<CubeMachine<'a>, J>,
+    event: Event,
+) -> Result<Reply, AllocError>
+    ensures number { seat.new.0 ≡ seat.old.0 }
+{
+    match desk.call(rt, seat, event) {
+        Ok(reply) => Ok(reply),
+        Err((event, refused)) => {
+            drop(event);
+            Err(refused)
+        }
+    }
+}

@@ -1,0 +1,7 @@
+pub mod NextBits
+pub mod Opens
+pub mod Views
+pub mod Ordered
+pub mod Worded
+pub mod Turned
+pub mod Meant

@@ -1,0 +1,10 @@
+use Rattle.std.proofs.Common.{◌≡◌, ◌+◌, ◌≤◌, not, take}
+use Rattle.std.specs.List.{count_by, range_with_len}
+use Rattle.known_graph.specs.Tests.{has_edge}
+use Rattle.branching.proofs.order.unreached.Given as goal
+
+abbrev pub invariant-loop-number : goal.invariant-loop-number
+invariant-loop-number l = record {
+  so_far : l.count ≡ count_by (λ v. not (has_edge l.rows.edges (l.node, v))) (take l.number (range_with_len 0 (l.rows.nodes + 1)));
+  few : l.count ≤ l.number;
+}

@@ -1,0 +1,23 @@
+use Rattle.std.proofs.Common.{◌<◌, length, ap, ◌∙◌, arith}
+use Rattle.serializability.specs.Polygraph.{Polygraph}
+use Rattle.branching.specs.Held.{view_of}
+use Rattle.branching.proofs.Opens.{open_within}
+use Rattle.branching.proofs.Views.{choice_read, open_in_view, held_decided, sided_decided}
+use Rattle.branching.proofs.view.CubeView.decide.Goals as goal
+
+pub invariant_of-self : goal.invariant_of-self
+invariant_of-self c =
+    let p = c.self.inside.reduced.now.poly in
+    let v = view_of c.self.inside in
+    let number = c.args.choice in
+    let free = open_in_view v c.args.self.now number c.self.view_is c.requires.open in
+    let lt = open_within v.sides number free in
+    let sided = c.self.invariant.view.sided in
+    let within : number < length p.choices = omega (arith, lt, sided) in
+    let at = choice_read c.choices-choices.result.now p.choices c.get.result number c.index-choices-get.result (c.choices-choices.ensures.choices ∙ ap (λ (q : Polygraph). q.choices) c.poly.ensures.poly) c.get.ensures.value within c.index-choices-get.is in
+    record {
+      sized = c.self.invariant.sized;
+      view = record { sided = sided_decided c.self.inside.sides c.decide.new.self number (length p.choices) c.args.side c.decide.ensures.decided sided; whole = c.self.invariant.view.whole };
+      graph = held_decided v number c.args.side c.decide.new.self c.index-choices-get.result c.self.inside.graph c.add_edges.new.graph c.edges-edges.result.now c.decide.ensures.decided at free c.edges-edges.ensures c.self.invariant.graph c.add_edges.ensures.edges;
+      rows = c.add_edges.ensures.rows;
+    }

@@ -1,0 +1,20 @@
+use Rattle.std.proofs.Common.{◌≡◌, List, None, length, map, replicate, ap, ◌∙◌, subst}
+use Rattle.serializability.specs.Polygraph.{Choice, Polygraph}
+use Rattle.known_graph.specs.Graphs.{IsKnownGraph}
+use Rattle.polygraph.specs.Polygraphs.{IsPolygraph}
+use Rattle.branching.specs.Picks.{size_of}
+use Rattle.branching.proofs.Views.{graph_of, held_opened, rows_opened, sided_opened}
+use Rattle.branching.proofs.view.CubeView.new.Goals as goal
+
+pub invariant_of-result : goal.invariant_of-result
+invariant_of-result c =
+    let p = c.args.reduced.now.poly in
+    let same = c.poly-poly.ensures.poly in
+    let sides = c.in_ok-open.ensures.open ∙ ap (λ (l : List Choice). replicate (length l) None) (c.choices-2.ensures.choices ∙ ap (λ (q : Polygraph). q.choices) same) in
+    let graph : c.in_ok-copy.field-0 ≡ graph_of p = c.in_ok-copy.ensures.same ∙ c.known.ensures ∙ ap graph_of same in
+    record {
+      view = record { sided = sided_opened p c.in_ok-open.field-0 sides; whole = record { choices = subst IsPolygraph same c.nodes-nodes.ensures.polygraph; known = subst (λ (q : Polygraph). IsKnownGraph (graph_of q)) same c.nodes-nodes.ensures.known } };
+      sized = c.in_ok-edge_counts.ensures.counts ∙ ap (map size_of) (c.choices.ensures.choices ∙ ap (λ (q : Polygraph). q.choices) same);
+      graph = held_opened p c.in_ok-open.field-0 c.in_ok-copy.field-0 sides graph;
+      rows = rows_opened p c.args.reduced.now.rows c.in_ok-copy-2.field-0 c.in_ok-copy.field-0 (c.in_ok-copy-2.ensures.same ∙ c.rows.ensures.rows) graph c.rows.ensures.reach;
+    }

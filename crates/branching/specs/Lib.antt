@@ -1,0 +1,11 @@
+pub mod Bits
+pub mod View
+pub mod Picks
+pub mod Opens
+pub mod Picked
+pub mod Meant
+pub mod Sides
+pub mod Grown
+pub mod Held
+pub mod Orders
+pub mod Turns

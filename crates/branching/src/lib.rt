@@ -1,0 +1,23 @@
+//! Branching on the open choices of a polygraph: what a strategy sees of a cube, the strategies, and what
+//! a worker does with the cube that it holds.
+#![tactic(auto)]
+
+mod alternate;
+mod bits;
+mod by_size;
+mod by_words;
+mod first_open;
+pub mod laws;
+mod order;
+mod sides;
+mod strategy;
+#[cfg(test)]
+mod tests;
+mod view;
+
+pub use alternate::Alternate;
+pub use by_size::{LeastEdges, MostEdges};
+pub use by_words::ByWords;
+pub use first_open::FirstOpen;
+pub use strategy::Strategy;
+pub use view::CubeView;

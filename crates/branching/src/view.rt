@@ -1,0 +1,179 @@
+//! What a strategy sees of a cube.
+
+ghost use Rattle.std.specs.Prelude.{◌≡◌, ℕ, ◌+◌, ◌<◌, ◌≤◌, [], ◌∷◌, true, Some, MatchOption, IfSome, IfOk, length, map, slice_get};
+ghost use Rattle.std.specs.List.{AllByRecursion};
+ghost use Rattle.polygraph.specs.Polygraphs.{Joins};
+ghost use Rattle.reach_rows.specs.ReachRows.{AreRowsOf};
+ghost use Rattle.branching.specs.View.{is_open_in, depth_of, graph_in, opened, decided};
+ghost use Rattle.branching.specs.Picks.{size_of, edge_count};
+ghost use Rattle.branching.specs.Opens.{open_past};
+ghost use Rattle.branching.specs.Grown.{AddsEdges};
+ghost use Rattle.branching.specs.Held.{IsView, AreEdgesOf};
+
+use crate::sides::Sides;
+use known_graph::Known;
+use polygraph::{Choice, ChoiceIx};
+use prune_ledger::Reduced;
+use pruning_laws::Side;
+use reach_laws::Edge;
+use reach_rows::Rows;
+use std::alloc::{AllocError, Global};
+use std::marker::Model;
+
+/// What a strategy sees of a cube: the choices of a polygraph, and of each the side that is decided, or
+/// none where it is open.
+///
+/// It keeps up the known edges with those of the decided sides, and which node reaches which by them.
+#[derive(Drop)]
+pub struct CubeView<'a> {
+    reduced: &'a Reduced,
+    sizes: Vec<usize>,
+    sides: Sides,
+    graph: Known,
+    rows: Rows,
+}
+
+impl<'a> Model for CubeView<'a> {
+    ghost use Rattle.branching.specs.View.{View};
+    ghost use Rattle.branching.specs.Held.{view_of, IsHeld};
+
+    ghost Value = { View };
+
+    ghost view = { view_of };
+
+    ghost invariant = { IsHeld };
+}
+
+impl<'a> CubeView<'a> {
+    /// The view of the cube in which no choice is decided.
+    pub fn new(alloc: Global, reduced: &'a Reduced) -> Result<CubeView<'a>, AllocError>
+        ensures opened { IfOk result (λ view. view ≡ opened reduced.now.poly) }
+    {
+        let poly = reduced.poly();
+        let _nodes = poly.nodes();
+        Ok(CubeView {
+            reduced,
+            sizes: edge_counts(alloc, poly.choices())?,
+            sides: Sides::open(alloc, poly.choices().len())?,
+            graph: poly.known().copy(alloc)?,
+            rows: reduced.rows().copy(alloc)?,
+        })
+    }
+
+    /// Opens each choice again. It takes no memory.
+    pub fn restart(&mut self)
+        ensures opened { self.new ≡ opened self.old.polygraph }
+    {
+        let reduced = self.reduced;
+        self.sides.reopen();
+        self.graph.copy_from(reduced.poly().known());
+        self.rows.copy_from(reduced.rows());
+    }
+
+    /// Decides an open choice. It takes no memory.
+    pub fn decide(&mut self, choice: ChoiceIx, side: Side)
+        requires open { is_open_in self.old choice ≡ true }
+        ensures decided { self.new ≡ decided self.old choice side }
+    {
+        let choices = self.reduced.poly().choices();
+        let edges = choices[choice.get()].edges(side);
+        add_edges(&mut self.graph, &mut self.rows, edges);
+        self.sides.decide(choice, side);
+    }
+
+    /// How many choices are decided.
+    pub fn depth(&self) -> usize
+        ensures depth { result ≡ depth_of self.now }
+        ensures within { result ≤ length self.now.sides }
+    {
+        self.sides.decided()
+    }
+
+    /// How many choices there are.
+    pub fn count(&self) -> usize
+        ensures count { result ≡ length self.now.polygraph.choices }
+        ensures few { result ≤ 100000 }
+        ensures view { IsView self.now }
+    {
+        self.sides.count()
+    }
+
+    /// Whether there is such a choice and it is open.
+    pub fn is_open(&self, choice: ChoiceIx) -> bool
+        ensures open { result ≡ is_open_in self.now choice }
+    {
+        self.sides.is_open(choice)
+    }
+
+    /// A choice by its number.
+    pub fn choice(&self, choice: ChoiceIx) -> &Choice
+        requires choice { choice < length self.now.polygraph.choices }
+        ensures choice { slice_get self.now.polygraph.choices choice ≡ Some result.now }
+    {
+        &self.reduced.poly().choices()[choice.get()]
+    }
+
+    /// The side that is decided of a choice, or none where it is open.
+    pub fn side_of(&self, choice: ChoiceIx) -> Option<Side>
+        requires choice { choice < length self.now.polygraph.choices }
+        ensures side { slice_get self.now.sides choice ≡ Some result }
+    {
+        self.sides.side_of(choice)
+    }
+
+    /// The open choice of least number from a number on.
+    pub(crate) fn next_open(&self, from: usize) -> Option<ChoiceIx>
+        ensures next { MatchOption result (open_past self.now.sides from ≡ [])
+            (λ c. open_past self.now.sides from ≡ c ∷ open_past self.now.sides (c + 1)) }
+        ensures within { IfSome result (λ c. (from ≤ c) × (c < length self.now.polygraph.choices)
+            × (is_open_in self.now c ≡ true)) }
+    {
+        self.sides.next_open(from)
+    }
+
+    /// How many edges both sides of a choice have together.
+    pub(crate) fn edge_count(&self, choice: ChoiceIx) -> usize
+        requires choice { choice < length self.now.polygraph.choices }
+        ensures count { result ≡ edge_count self.now.polygraph.choices choice }
+    {
+        self.sizes[choice.get()]
+    }
+
+    /// The known edges with those of the decided sides.
+    pub(crate) fn graph(&self) -> &Known
+        ensures edges { AreEdgesOf self.now result.now }
+    {
+        &self.graph
+    }
+
+    /// Which node reaches which by these edges.
+    pub(crate) fn rows(&self) -> &Rows
+        ensures rows { AreRowsOf result.now (graph_in self.now) }
+        ensures view { IsView self.now }
+    {
+        &self.rows
+    }
+}
+
+// How many edges both sides of each choice have together.
+fn edge_counts(alloc: Global, choices: &[Choice]) -> Result<Vec<usize>, AllocError>
+    ensures counts { IfOk result (λ counts. counts.items ≡ map size_of choices.now) }
+{
+    choices
+        .iter()
+        .map(|choice| choice.one().len() + choice.two().len())
+        .collect(alloc)
+}
+
+// Adds these edges to a graph, and to its rows.
+fn add_edges(graph: &mut Known, rows: &mut Rows, edges: &[Edge])
+    requires joined { AllByRecursion (Joins graph.old.nodes) edges.now }
+    requires rows { AreRowsOf rows.old graph.old }
+    ensures edges { AddsEdges graph.old graph.new edges.now }
+    ensures rows { AreRowsOf rows.new graph.new }
+{
+    for &edge in edges {
+        graph.add_edge(edge.source(), edge.target());
+        rows.add_edge(edge.source(), edge.target());
+    }
+}

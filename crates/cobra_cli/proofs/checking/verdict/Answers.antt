@@ -1,0 +1,31 @@
+use Rattle.std.proofs.Common.{sym, ap, ◌∙◌}
+use Rattle.cobra_cli.specs.Verdicts.{cycle_text}
+use Rattle.cobra_cli.specs.Checked.{by_anomaly, by_cycle, by_pruning}
+use Rattle.cobra_cli.proofs.checking.verdict.Goals as goal
+
+pub returns-in-Anomalous-clause-verdict : goal.returns-in-Anomalous-clause-verdict
+returns-in-Anomalous-clause-verdict g c =
+    let reported = rw c.in-Anomalous.is at c.in_ok-anomaly.ensures.anomaly in
+    record {
+      none = rw c.in-Anomalous.is at c.in_ok-anomaly.ensures.reduction;
+      reason = by_anomaly c.in-Anomalous.anomaly (sym reported) c.in_ok-anomaly_text-in-Anomalous.ensures.text;
+    }
+
+pub returns-in-Cyclic-clause-verdict : goal.returns-in-Cyclic-clause-verdict
+returns-in-Cyclic-clause-verdict g c =
+    let reported = rw c.in-Cyclic.is at c.in_ok-anomaly.ensures.anomaly in
+    let cyclic = rw c.in-Cyclic.is at c.in_ok-anomaly.ensures.reduction in
+    record {
+      none = cyclic.orders;
+      reason = by_cycle (sym reported) c.in-Cyclic.line.items cyclic.cycle
+          (c.in_ok-cycle_text-in-Cyclic.ensures.text ∙ ap (cycle_text c.args.history.now) c.deref.ensures.value);
+    }
+
+pub returns-in-Dead-clause-verdict : goal.returns-in-Dead-clause-verdict
+returns-in-Dead-clause-verdict g c =
+    let reported = rw c.in-Dead.is at c.in_ok-anomaly.ensures.anomaly in
+    let history = rw c.in-Dead.is at c.in_ok-anomaly.ensures.reduction in
+    record {
+      none = history.orders;
+      reason = by_pruning (sym reported) history.poly history.chained history.acyclic history.dead.dead c.in_ok-from_slice-in-Dead.ensures.items;
+    }

@@ -1,0 +1,6 @@
+pub mod Nodes
+pub mod Ways
+pub mod Grown
+pub mod Fits
+pub mod Alive
+pub mod Closings

@@ -1,0 +1,4 @@
+pub mod Cubes
+pub mod State
+pub mod Steps
+pub mod Runs

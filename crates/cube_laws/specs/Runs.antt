@@ -1,0 +1,53 @@
+-- What holds of every list of steps of the machine.
+use Rattle.std.specs.Prelude.{◌≡◌, ℕ, List, [], ◌∷◌, ◌++◌, Option, None, Some, Bool, true, false, if◌then◌else◌}
+use Rattle.std.specs.List.{AllByRecursion}
+use Rattle.serializability.specs.Polygraph.{Polygraph, Fits}
+use Rattle.desk.specs.declared.history.Entry.{Entry}
+use Rattle.cube_laws.specs.State.{State}
+use Rattle.cube_laws.specs.Steps.{next_of, node_held}
+use Rattle.cube_laws.specs.declared.parts.Event.{Event}
+use Rattle.cube_laws.specs.declared.parts.Event.TheVariants.{Claim, TakeAny, Split, Refute, Solve, Release}
+use Rattle.cube_laws.specs.declared.parts.Reply.{Reply}
+use Rattle.cube_laws.specs.declared.parts.Reply.TheVariants.{Finished, HasCube, NotOpen, NoneNow, Cube as Given, NoCube, BadChoice, Children, BadCycle, Closed, BadOrder, Solved, Released}
+
+-- an order that solved a node fits the polygraph
+abbrev pub SolvesRightly : Polygraph → Event → Reply → Type 0
+SolvesRightly p (Claim id) r = Unit {0}
+SolvesRightly p TakeAny r = Unit {0}
+SolvesRightly p (Split c) r = Unit {0}
+SolvesRightly p (Refute line) r = Unit {0}
+SolvesRightly p (Solve order) r = r ≡ Solved → Fits p order
+SolvesRightly p Release r = Unit {0}
+
+abbrev pub EachSolvesRightly : Polygraph → List (Entry Event Reply) → Type 0
+EachSolvesRightly p history = AllByRecursion (λ x. SolvesRightly p x.event x.reply) history
+
+-- whether a reply says that a node was closed: split, refuted or solved
+abbrev pub is_closing : Reply → Bool
+is_closing Finished = false
+is_closing HasCube = false
+is_closing NotOpen = false
+is_closing NoneNow = false
+is_closing (Given id) = false
+is_closing NoCube = false
+is_closing BadChoice = false
+is_closing (Children a b) = true
+is_closing BadCycle = false
+is_closing Closed = true
+is_closing BadOrder = false
+is_closing Solved = true
+is_closing Released = false
+
+-- the node that a seat held, as a list
+abbrev pub as_list : Option ℕ → List ℕ
+as_list None = []
+as_list (Some id) = id ∷ []
+
+-- the nodes that the steps of a history closed, in order: at each closing step the one that its seat held
+abbrev pub closings : State → List (Entry Event Reply) → List ℕ
+closings s [] = []
+closings s (x ∷ xs) = (if is_closing x.reply then as_list (node_held s x.seat) else []) ++ closings (next_of s x.seat x.event) xs
+
+-- a reply that takes the search on: the node is split, refuted or solved
+abbrev pub TakesOn : Reply → Type 0
+TakesOn r = is_closing r ≡ true

@@ -1,0 +1,43 @@
+//! Lists of nodes.
+
+ghost use Rattle.std.specs.Prelude.{◌≡◌};
+
+use serializability::NodeIx;
+use std::marker::Model;
+
+/// The nodes of a cycle or of an order, one after the other.
+#[derive(Debug, Drop)]
+pub struct NodeLine {
+    nodes: Vec<NodeIx>,
+}
+
+impl Model for NodeLine {
+    ghost use Rattle.std.specs.Prelude.{List, ℕ};
+
+    ghost Value = { List ℕ };
+
+    ghost view = { λ line. line.nodes.items };
+}
+
+impl NodeLine {
+    /// The line of these nodes.
+    pub fn from_nodes(nodes: Vec<NodeIx>) -> NodeLine
+        ensures line { result ≡ nodes.items }
+    {
+        NodeLine { nodes }
+    }
+
+    /// The nodes.
+    pub fn nodes(&self) -> &[NodeIx]
+        ensures nodes { result.now ≡ self.now }
+    {
+        &self.nodes
+    }
+
+    /// The nodes, given back.
+    pub fn into_nodes(self) -> Vec<NodeIx>
+        ensures nodes { result.items ≡ self }
+    {
+        self.nodes
+    }
+}

@@ -1,0 +1,6 @@
+use Rattle.std.proofs.Common.{sym}
+use Rattle.cube_machine.proofs.Splits.{held_within}
+use Rattle.cube_machine.proofs.machine.CubeMachine.split.Goals as goal
+
+pub can_split-requires : goal.can_split-requires
+can_split-requires c = record { within = rw (← c.self.view_is) (held_within c.self.inside.tree.nodes c.args.seat c.in-Some.id (sym c.in-Some.ensures.held)) }

@@ -1,0 +1,6 @@
+pub mod Growth
+pub mod Ways
+pub mod Kept
+pub mod Sides
+pub mod Machines
+pub mod Words

@@ -1,0 +1,26 @@
+//! The machine of the search for an order that fits a polygraph: the tree of cubes that workers claim,
+//! split, refute and solve, in memory that is taken when the search begins.
+//!
+//! A cube is a list of decided choices, each with its side. Contracts see the machine as the state of
+//! the written step. The tree in memory keeps of each node its parent and the one choice that led to it
+//! from there, so a cube is the way up; and it keeps which nodes are open and which one each seat
+//! holds, so that no step looks through the tree.
+#![tactic(auto)]
+
+mod budget;
+mod machine;
+mod node;
+mod order;
+mod origin;
+mod row;
+mod rules;
+mod sides;
+mod tree;
+
+pub use budget::{Budget, MAX_BUDGET};
+pub use machine::CubeMachine;
+pub use origin::Origin;
+pub use row::Row;
+
+#[cfg(test)]
+mod tests;

@@ -1,0 +1,292 @@
+//! The machine of the search.
+
+ghost use Rattle.std.specs.Prelude.{◌≡◌, ℕ, ◌+◌, ◌<◌, ◌^◌, true, false, length, slice_get, Some, IfOk};
+ghost use Rattle.std.specs.Option.{option_map};
+ghost use Rattle.cube_laws.specs.State.{opening_state};
+ghost use Rattle.cube_laws.specs.Steps.{has_solved, is_finished, is_exhausted, node_held, last_open, claim_reply, any_reply, split_reply, refute_reply, solve_reply, claimed, taken, held_where, split_where, refuted_where, solved_where, opened_at, can_split, cube_at, is_cycle, is_solution, waits_of};
+ghost use Rattle.cube_laws.specs.Cubes.{edges_under};
+ghost use Rattle.cube_laws.specs.declared.parts.Event.TheVariants.{TakeAny};
+ghost use Rattle.cube_laws.specs.declared.parts.Reply.TheVariants.{Released};
+ghost use Rattle.cube_machine.specs.Ways.{IsWay};
+
+use crate::budget::Budget;
+use crate::order::{decides_all, fits_graph};
+use crate::origin::Origin;
+use crate::row::Row;
+use crate::sides::{fill, is_cycle, is_decided};
+use crate::tree::Tree;
+use cube_laws::{Mark, Reply};
+use desk::seat_no::SeatNo;
+use known_graph::Known;
+use polygraph::{ChoiceIx, Polygraph};
+use pruning_laws::Side;
+use serializability::NodeIx;
+use std::alloc::{AllocError, Global};
+use std::marker::Model;
+
+/// The machine of the search. Contracts see the polygraph, the nodes of the tree with their cubes, how
+/// many of them are closed, and the budget.
+#[derive(Drop)]
+pub struct CubeMachine<'a> {
+    polygraph: &'a Polygraph,
+    row: &'a Row,
+    tree: Tree,
+    closed: usize,
+    budget: Budget,
+    // The edges of the cube that is tested.
+    graph: Known,
+    // Which choices that cube decides.
+    decided: Vec<bool>,
+}
+
+impl<'a> Model for CubeMachine<'a> {
+    ghost use Rattle.cube_laws.specs.State.{State};
+    ghost use Rattle.cube_machine.specs.Machines.{IsMachine};
+
+    ghost Value = { State };
+
+    ghost view = { λ m. record { polygraph = m.polygraph.now; nodes = m.tree.nodes; closed = m.closed; budget = m.budget } };
+
+    ghost invariant = { λ m. IsMachine m.polygraph.now m.tree m.closed m.budget m.graph m.decided.items };
+}
+
+impl<'a> CubeMachine<'a> {
+    /// The opening state: node 0 alone, open, with no choice decided. All memory is taken here.
+    pub fn opening(
+        alloc: Global,
+        polygraph: &'a Polygraph,
+        budget: Budget,
+        row: &'a Row,
+    ) -> Result<CubeMachine<'a>, AllocError>
+        ensures opening { IfOk result (λ m. m ≡ opening_state polygraph.now budget) }
+    {
+        let tree = Tree::root(alloc, 2 * budget.get() + 1)?;
+        let graph = polygraph.known().copy(alloc)?;
+        let decided = vec![in alloc; false; polygraph.choices().len()]?;
+        Ok(CubeMachine {
+            polygraph,
+            row,
+            tree,
+            closed: 0,
+            budget,
+            graph,
+            decided,
+        })
+    }
+
+    /// Whether a node is solved.
+    pub fn is_solved(&self) -> bool
+        ensures solved { result ≡ has_solved self.now.nodes }
+    {
+        self.tree.has_solved()
+    }
+
+    /// Whether no node is solved, open or held, so that every cube is split or refuted.
+    pub fn is_exhausted(&self) -> bool
+        ensures exhausted { result ≡ is_exhausted self.now }
+    {
+        !self.tree.has_solved() && !self.tree.has_live()
+    }
+
+    /// How many nodes are closed.
+    pub fn closed(&self) -> usize
+        ensures closed { result ≡ self.now.closed }
+    {
+        self.closed
+    }
+
+    /// The number of nodes.
+    pub fn node_count(&self) -> usize
+        ensures count { result ≡ length self.now.nodes }
+    {
+        self.tree.len()
+    }
+
+    /// How a node was led to, which is `None` for node 0.
+    pub fn origin(&self, id: usize) -> Option<Origin>
+        requires within { id < length self.now.nodes }
+        ensures way { IsWay self.now.nodes id result }
+    {
+        self.tree.origin(id)
+    }
+
+    /// What is noted of a node.
+    pub fn mark(&self, id: usize) -> Mark
+        requires within { id < length self.now.nodes }
+        ensures mark { option_map (λ x. x.mark) (slice_get self.now.nodes id) ≡ Some result }
+    {
+        self.tree.mark(id)
+    }
+
+    /// Whether the search is finished: a node is solved, the budget is spent, or no node is open or held.
+    pub fn is_finished(&self) -> bool
+        ensures finished { result ≡ is_finished self.now }
+    {
+        self.tree.has_solved() || self.closed == self.budget.get() || !self.tree.has_live()
+    }
+
+    // The cube of this node, from now on held.
+    pub(crate) fn claim(&mut self, seat: SeatNo, id: usize) -> Reply
+        ensures reply { result ≡ claim_reply self.old id (node_held self.old seat) }
+        ensures state { self.new ≡ held_where self.old seat (claimed self.old id (node_held self.old seat)) }
+    {
+        if self.tree.held(seat).is_some() {
+            return Reply::HasCube;
+        }
+        if !self.tree.is_open(id) {
+            return Reply::NotOpen;
+        }
+        self.tree.hold(seat, id);
+        Reply::Cube(id)
+    }
+
+    // The open cube of greatest number, from now on held.
+    pub(crate) fn take_any(&mut self, seat: SeatNo) -> Reply
+        ensures reply { result ≡ any_reply (node_held self.old seat) (last_open self.old) }
+        ensures state { self.new ≡ held_where self.old seat (taken (node_held self.old seat) (last_open self.old)) }
+    {
+        if self.tree.held(seat).is_some() {
+            return Reply::HasCube;
+        }
+        let Some(id) = self.tree.last_open() else {
+            return Reply::NoneNow;
+        };
+        self.tree.hold(seat, id);
+        Reply::Cube(id)
+    }
+
+    // Splits the cube that the seat holds.
+    pub(crate) fn split(&mut self, seat: SeatNo, choice: ChoiceIx) -> Reply
+        requires going { is_finished self.old ≡ false }
+        ensures reply { result ≡ split_reply self.old choice (node_held self.old seat) }
+        ensures state { self.new ≡ split_where self.old choice (node_held self.old seat) }
+    {
+        let Some(id) = self.tree.held(seat) else {
+            return Reply::NoCube;
+        };
+        if !self.can_split(id, choice) {
+            return Reply::BadChoice;
+        }
+        let first = self.tree.len();
+        self.tree.split(seat, id, choice);
+        self.closed += 1;
+        note_children(self.row, id, choice, first);
+        Reply::Children(first, first + 1)
+    }
+
+    // Whether there is such a choice, and the cube of a node leaves it open.
+    fn can_split(&self, id: usize, choice: ChoiceIx) -> bool
+        requires within { id < length self.now.nodes }
+        ensures { result ≡ can_split self.now (cube_at self.now id) choice }
+    {
+        choice.get() < self.polygraph.choices().len() && !is_decided(&self.tree, id, choice)
+    }
+
+    // Refutes the cube that the seat holds.
+    pub(crate) fn refute(&mut self, seat: SeatNo, line: &[NodeIx]) -> Reply
+        requires going { is_finished self.old ≡ false }
+        ensures reply { result ≡ refute_reply self.old line.now (node_held self.old seat) }
+        ensures state { self.new ≡ refuted_where self.old line.now (node_held self.old seat) }
+    {
+        let Some(id) = self.tree.held(seat) else {
+            return Reply::NoCube;
+        };
+        if !self.is_cycle_at(id, line) {
+            return Reply::BadCycle;
+        }
+        self.tree.close(seat, id, Mark::Refuted);
+        self.closed += 1;
+        Reply::Closed
+    }
+
+    // Whether these are the nodes of a cycle in the edges of a node's cube.
+    fn is_cycle_at(&mut self, id: usize, line: &[NodeIx]) -> bool
+        requires within { id < length self.old.nodes }
+        ensures cycle { result ≡ is_cycle (edges_under self.old.polygraph (cube_at self.old id)) line.now }
+        ensures same { self.new ≡ self.old }
+    {
+        fill(&mut self.graph, self.polygraph, &self.tree, id);
+        is_cycle(&self.graph, line)
+    }
+
+    // Solves the cube that the seat holds.
+    pub(crate) fn solve(&mut self, seat: SeatNo, order: &[NodeIx]) -> Reply
+        requires going { is_finished self.old ≡ false }
+        ensures reply { result ≡ solve_reply self.old order.now (node_held self.old seat) }
+        ensures state { self.new ≡ solved_where self.old order.now (node_held self.old seat) }
+    {
+        let Some(id) = self.tree.held(seat) else {
+            return Reply::NoCube;
+        };
+        if !self.is_solution_at(id, order) {
+            return Reply::BadOrder;
+        }
+        self.tree.close(seat, id, Mark::Solved);
+        self.closed += 1;
+        Reply::Solved
+    }
+
+    // Whether the cube of a node leaves no choice open, and the order lists the nodes once and keeps its
+    // edges.
+    fn is_solution_at(&mut self, id: usize, order: &[NodeIx]) -> bool
+        requires within { id < length self.old.nodes }
+        ensures solution { result ≡ is_solution self.old.polygraph (cube_at self.old id) order.now }
+        ensures same { self.new ≡ self.old }
+    {
+        if !decides_all(self.decided.as_mut_slice(), &self.tree, id) {
+            return false;
+        }
+        fill(&mut self.graph, self.polygraph, &self.tree, id);
+        fits_graph(&self.graph, order)
+    }
+
+    // Opens the node that the seat holds, if any.
+    pub(crate) fn release(&mut self, seat: SeatNo) -> Reply
+        ensures reply { result ≡ Released }
+        ensures state { self.new ≡ opened_at self.old (node_held self.old seat) }
+    {
+        if let Some(id) = self.tree.held(seat) {
+            self.tree.reopen(seat, id);
+        }
+        Reply::Released
+    }
+
+    // Whether a request for any cube waits.
+    #[tactic(auto, unfolding(cube_laws::specs::Steps::waits_of))]
+    pub(crate) fn waits_for_any(&self, seat: SeatNo) -> bool
+        ensures { result ≡ waits_of self.now seat TakeAny }
+    {
+        if self.is_finished() {
+            return false;
+        }
+        if self.tree.held(seat).is_some() {
+            return false;
+        }
+        if self.tree.last_open().is_some() {
+            return false;
+        }
+        self.tree.has_held()
+    }
+}
+
+// Notes how both children of a node were led to.
+fn note_children(row: &Row, parent: usize, choice: ChoiceIx, first: usize)
+    requires few { first + 1 < 2 ^ 64 }
+{
+    row.note(
+        first,
+        Origin {
+            parent,
+            choice,
+            side: Side::One,
+        },
+    );
+    row.note(
+        first + 1,
+        Origin {
+            parent,
+            choice,
+            side: Side::Two,
+        },
+    );
+}

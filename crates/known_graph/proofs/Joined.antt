@@ -1,0 +1,57 @@
+-- Bits of words that are joined.
+use Rattle.std.proofs.Common.{◌≡◌, ◌≢◌, ◌⊎◌, ℕ, ◌+◌, ◌/◌, ◌%◌, ◌<◌, ◌≤◌, max, Bool, true, false, eqb, ◌||◌, List, length, get_or, set, refl, sym, ap, ◌∙◌, inl, inr, arith, get_or-set_same, get_or-set_other}
+use Rattle.std.specs.Prelude.{bit_or}
+use Rattle.std.specs.Int.{bit_at}
+use Rattle.std.proofs.lemmas.Bool.{cases_eq, cases_lt}
+use Rattle.std.proofs.lemmas.Nat.Bits.{bit_at_or, bit_at-lt}
+use Rattle.known_graph.specs.Bits.{bit_of}
+use Rattle.known_graph.proofs.Words.{bit_of-past}
+
+-- ---- one bit
+two : (p : ℕ) → p < 2 → (p ≡ 0) ⊎ (p ≡ 1)
+two p h = elim (cases_eq p 0) [ inl e ↦ inl e | inr n ↦ inr (omega (arith, n)) ]
+
+or_at : (p q a b : ℕ) → p ≡ a → q ≡ b → eqb (max a b) 1 ≡ (eqb a 1 || eqb b 1) → eqb (max p q) 1 ≡ (eqb p 1 || eqb q 1)
+or_at p q a b e f h = ap (λ x. eqb (max x q) 1) e ∙ ap (λ y. eqb (max a y) 1) f ∙ h ∙ ap (λ y. eqb a 1 || eqb y 1) (sym f) ∙ ap (λ x. eqb x 1 || eqb q 1) (sym e)
+
+or_bit : (p q : ℕ) → p < 2 → q < 2 → eqb (max p q) 1 ≡ (eqb p 1 || eqb q 1)
+or_bit p q hp hq = elim (two p hp) [
+  | inl e ↦ elim (two q hq) [ inl f ↦ or_at p q 0 0 e f refl | inr f ↦ or_at p q 0 1 e f refl ]
+  | inr e ↦ elim (two q hq) [ inl f ↦ or_at p q 1 0 e f refl | inr f ↦ or_at p q 1 1 e f refl ]
+]
+
+pub joined_bit : (x y b : ℕ) → eqb (bit_at (bit_or x y) b) 1 ≡ (eqb (bit_at x b) 1 || eqb (bit_at y b) 1)
+joined_bit x y b = ap (λ n. eqb n 1) (bit_at_or x y b) ∙ or_bit (bit_at x b) (bit_at y b) (bit_at-lt x b) (bit_at-lt y b)
+
+pub or_none : (a b : Bool) → b ≡ false → a ≡ (a || b)
+or_none true b e = refl
+or_none false b e = sym e
+
+-- ---- the first words are joined with others
+pub record IsJoinedTo (old more new : List ℕ) (i : ℕ) : Type 0 where
+  pub joined : (j : ℕ) → j < i → get_or new j 0 ≡ bit_or (get_or old j 0) (get_or more j 0)
+  pub rest : (j : ℕ) → i ≤ j → get_or new j 0 ≡ get_or old j 0
+
+pub joined_none : (old more : List ℕ) → IsJoinedTo old more old 0
+joined_none old more = record { joined = λ j h. absurd (omega arith); rest = λ j h. refl }
+
+pub joined_more : (old more new : List ℕ) (i : ℕ) → IsJoinedTo old more new i → i < length new → IsJoinedTo old more (set new i (bit_or (get_or new i 0) (get_or more i 0))) (i + 1)
+joined_more old more new i h lt =
+    let word = bit_or (get_or new i 0) (get_or more i 0) in
+    record {
+      joined = λ j le. elim (cases_eq j i) [
+        | inl e ↦
+            ap (λ k. get_or (set new i word) k 0) e ∙ get_or-set_same new i word 0 lt
+            ∙ ap (λ x. bit_or x (get_or more i 0)) (h.rest i (omega arith))
+            ∙ ap (λ k. bit_or (get_or old k 0) (get_or more k 0)) (sym e)
+        | inr ne ↦ get_or-set_other new i j word 0 ne ∙ h.joined j (omega (arith, ne))
+      ];
+      rest = λ j le. (let ne : j ≢ i = omega arith in get_or-set_other new i j word 0 ne ∙ h.rest j (omega arith));
+    }
+
+pub joined_bits : (old more new : List ℕ) (i : ℕ) → length more ≤ i → IsJoinedTo old more new i → (k : ℕ) → bit_of new k ≡ (bit_of old k || bit_of more k)
+unfolding bit_of
+joined_bits old more new i all h k = elim (cases_lt (k / 64) i) [
+  | inl lt ↦ ap (λ w. eqb (bit_at w (k % 64)) 1) (h.joined (k / 64) lt) ∙ joined_bit (get_or old (k / 64) 0) (get_or more (k / 64) 0) (k % 64)
+  | inr ge ↦ ap (λ w. eqb (bit_at w (k % 64)) 1) (h.rest (k / 64) ge) ∙ or_none (bit_of old k) (bit_of more k) (bit_of-past more k (omega arith))
+]

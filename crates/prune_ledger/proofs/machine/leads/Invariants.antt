@@ -1,6 +1,0 @@
-use Rattle.std.proofs.Common.{◌≡◌, drop}
-use Rattle.prune_ledger.specs.Steps.{leads}
-use Rattle.prune_ledger.proofs.machine.leads.Given as goal
-
-abbrev pub invariant-loop-node : goal.invariant-loop-node
-invariant-loop-node l = leads l.graph.edges l.at (drop l.node-index l.steps) l.to ≡ leads l.graph.edges l.fn.from l.steps l.to

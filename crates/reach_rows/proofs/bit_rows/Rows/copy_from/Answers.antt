@@ -1,0 +1,32 @@
+use Rattle.std.proofs.Common.{◌≡◌, ℕ, ◌+◌, ◌*◌, List, length, drop, sym, ap, ◌∙◌, subst}
+use Rattle.std.proofs.lemmas.List.{take_at}
+use Rattle.known_graph.specs.Bits.{row_len}
+use Rattle.known_graph.specs.Held.{marked_graph}
+use Rattle.reach_rows.specs.Held.{AreBits}
+use Rattle.known_graph.proofs.Edges.{marked_nodes}
+use Rattle.reach_rows.proofs.bit_rows.Rows.copy_from.Goals as goal
+
+pub copy_from_slice-requires : goal.copy_from_slice-requires
+copy_from_slice-requires c =
+    let mine = c.self.inside in
+    let theirs = c.other.inside in
+    let same : mine.nodes ≡ theirs.nodes = sym (marked_nodes mine.nodes mine.words.items) ∙ ap (λ g. g.nodes) c.self.view_is ∙ c.requires.nodes ∙ sym (ap (λ g. g.nodes) c.other.view_is) ∙ marked_nodes theirs.nodes theirs.words.items in
+    ap (λ (l : List ℕ). length l) c.as_mut_slice.ensures.value ∙ c.self.invariant.places ∙ ap (λ n. (n + 1) * row_len n) same ∙ sym c.other.invariant.places ∙ sym (ap (λ (l : List ℕ). length l) c.deref.ensures.value)
+
+pub invariant_of-self : goal.invariant_of-self
+invariant_of-self c =
+    let mine = c.self.inside in
+    let theirs = c.other.inside in
+    let new = c.copy_from_slice.new.self in
+    let same : mine.nodes ≡ theirs.nodes = sym (marked_nodes mine.nodes mine.words.items) ∙ ap (λ g. g.nodes) c.self.view_is ∙ c.requires.nodes ∙ sym (ap (λ g. g.nodes) c.other.view_is) ∙ marked_nodes theirs.nodes theirs.words.items in
+    let taken = take_at new (drop (length new) mine.words.items) mine.words.len (c.copy_from_slice.ensures.len ∙ c.as_mut_slice.ensures.len) in
+    subst (AreBits mine.nodes) (sym taken) (subst (λ n. AreBits n new) (sym same) (subst (AreBits theirs.nodes) (sym (c.copy_from_slice.ensures.after ∙ c.deref.ensures.value)) c.other.invariant))
+
+pub returns : goal.returns
+returns c =
+    let mine = c.self.inside in
+    let theirs = c.other.inside in
+    let new = c.copy_from_slice.new.self in
+    let same : mine.nodes ≡ theirs.nodes = sym (marked_nodes mine.nodes mine.words.items) ∙ ap (λ g. g.nodes) c.self.view_is ∙ c.requires.nodes ∙ sym (ap (λ g. g.nodes) c.other.view_is) ∙ marked_nodes theirs.nodes theirs.words.items in
+    let taken = take_at new (drop (length new) mine.words.items) mine.words.len (c.copy_from_slice.ensures.len ∙ c.as_mut_slice.ensures.len) in
+    record { same = ap (marked_graph mine.nodes) (taken ∙ c.copy_from_slice.ensures.after ∙ c.deref.ensures.value) ∙ ap (λ n. marked_graph n theirs.words.items) same ∙ c.other.view_is }

@@ -1,0 +1,27 @@
+-- The polygraph of a history's chains, and its serial orders.
+use Rattle.std.specs.Prelude.{◌≡◌, ◌↔◌, ◌⊎◌, ℕ, List}
+use Rattle.std.specs.List.{Contains}
+use Rattle.session_log.specs.Text.{ClientSession}
+use Rattle.serializability.specs.Log.{Log}
+use Rattle.serializability.specs.Polygraph.{Edge, Polygraph, Fits, arcs}
+use Rattle.reach_laws.specs.Reach.{IsCyclic, IsCycle}
+use Rattle.chain_laws.specs.Chains.{chain_polygraph, chain_choices}
+use Rattle.log_definitions.specs.Serial.{IsSerialOrder}
+
+-- the polygraph of the log's chains: of the known edges the set counts
+pub record IsChained (log : Log) (p : Polygraph) : Type 0 where
+  pub nodes : p.nodes ≡ log.nodes
+  pub known : (e : Edge) → (Contains p.known e ↔ Contains (chain_polygraph log).known e)
+  pub choices : p.choices ≡ chain_choices log
+
+-- the orders that fit the polygraph are the serial orders of the sessions
+pub record HasItsOrders (ss : List ClientSession) (p : Polygraph) : Type 0 where
+  pub each : (order : List ℕ) → (IsSerialOrder ss order ↔ Fits p order)
+
+-- no order is a serial order of the sessions
+pub record HasNoSerialOrder (ss : List ClientSession) : Type 0 where
+  pub none : (order : List ℕ) → IsSerialOrder ss order → ⊥
+
+-- a cycle of the arcs or, where these have none, of all known edges of the chains
+abbrev pub IsKnownCycle : Log → List ℕ → Type 0
+IsKnownCycle log line = IsCycle (arcs log) line ⊎ ((IsCyclic (arcs log) → ⊥) × IsCycle (chain_polygraph log).known line)

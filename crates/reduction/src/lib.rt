@@ -1,0 +1,12 @@
+//! From a history to what a search has to look at: its anomaly, a cycle of what is known of it, the ledger of a
+//! dead polygraph, or what pruning leaves of the polygraph of its chains.
+#![tactic(auto)]
+
+mod outcome;
+mod steps;
+
+pub use outcome::Reduction;
+pub use steps::reduce;
+
+#[cfg(test)]
+mod tests;

@@ -1,0 +1,96 @@
+#!/usr/bin/env python3
+"""verdicts.py PROGRAM: what `check` says of small logs, against all orders and against the plain, slow reference beside this file.
+
+Each log of examples/ and a few thousand made ones go through `check` with each strategy and with 1 and 4 workers. An anomaly, a
+cycle and its place must be the reference's, to the byte; `serializable` must come with an order that explains every read, and only
+where there is one; where every cube is refuted no order may be serial. Logs of many open choices that a search has to go through
+are made besides, and some are searched with too small a budget. Last line: 'verdicts: N passed, M failed'."""
+import concurrent.futures, glob, os, random, subprocess, sys
+
+HERE = os.path.dirname(os.path.abspath(__file__))
+sys.path.insert(0, HERE)
+import generate, reference
+
+MADE, SEARCHED = 2500, 600
+WAYS = [(strategy, workers) for strategy in ('first', 'most', 'least') for workers in ('1', '4')]
+
+
+def searched_log(seed):
+    """Writers of two keys in sessions of their own, and readers of both: most choices stay open, and many of these have no order."""
+    r = random.Random(seed)
+    writers = [('x', 1), ('x', 2), ('y', 3), ('y', 4)] + [('x', 5)] * r.randint(0, 1)
+    pairs = [(x, y) for x in (1, 2) for y in (3, 4)]
+    if r.random() < 0.5:
+        pairs = r.sample(pairs, r.randint(1, 3)) + [(r.choice([1, 2, 0]), r.choice([3, 4]))]
+    transactions = [[('w', key, wid)] for key, wid in writers] + [[('r', 'x', x), ('r', 'y', y)] for x, y in pairs]
+    r.shuffle(transactions)
+    return generate.text_of([(number, [(ops, True)]) for number, ops in enumerate(transactions, 1)])
+
+
+def call(program, text, *words):
+    ran = subprocess.run([program, 'check', *words], input=text, stdout=subprocess.PIPE, stderr=subprocess.PIPE, timeout=120)
+    return ran.returncode, ran.stdout.decode(), ran.stderr.decode()
+
+
+def fault_in(history, explained, known, answer):
+    """What is wrong with an answer of `check`, or None."""
+    status, said, error = answer
+    if error:
+        return 'says on standard error %r' % error
+    if known is not None:
+        return None if (status, said) == (1, known) and not explained else 'wanted %r, and there is %s order' % (known, 'an' if explained else 'no')
+    if not explained:
+        return None if (status, said) == (3, 'undecided: every cube is refuted\n') else 'there is no order'
+    first, *lines = said.split('\n')
+    if status != 0 or first != 'serializable' or lines[-1:] != ['']:
+        return 'there is an order'
+    names = [tuple(map(int, line.split())) for line in lines[:-1]]
+    if any(name not in history.names for name in names):
+        return 'no such transaction'
+    return None if history.is_serial([history.names.index(name) for name in names]) else 'the order is not serial'
+
+
+def judged(program, name, text):
+    try:
+        history = reference.History(reference.read_log(text))
+    except reference.Refused as refused:
+        answer = call(program, text)
+        wanted = (2, '', 'refused: %s\n' % refused)
+        return 'refused', [None if answer == wanted else '%s: %r, wanted %r' % (name, answer, wanted)]
+    explained, known = history.has_serial_order(), history.known_verdict()
+    found = []
+    for strategy, workers in WAYS:
+        answer = call(program, text, '--strategy', strategy, '--workers', workers)
+        fault = fault_in(history, explained, known, answer)
+        found.append(fault and '%s, %s, %s workers: %s: %r' % (name, strategy, workers, fault, answer))
+    if known is None and len(history.chain_polygraph()[1]) > len(history.pruning()[1]):
+        answer = call(program, text, '--budget', '1')
+        found.append(None if answer == (3, 'unknown: 1 closed\n', '') else '%s, budget 1: %r' % (name, answer))
+    return ('found' if explained else 'refuted') if known is None else known.split()[2], found
+
+
+def main():
+    program = os.path.abspath(sys.argv[1])
+    logs = [('made log %d' % seed, generate.small_log(seed)) for seed in range(MADE)]
+    logs += [('searched log %d' % seed, searched_log(seed)) for seed in range(SEARCHED)]
+    for path in sorted(glob.glob(os.path.join(HERE, '..', 'examples', '*.log'))):
+        with open(path, 'rb') as log:
+            text = log.read()
+        if text.count(b'commit\n') <= 9:
+            logs.append((os.path.basename(path), text))
+    passed, failed, kinds = 0, 0, {}
+    with concurrent.futures.ThreadPoolExecutor() as pool:
+        for kind, found in pool.map(lambda log: judged(program, *log), logs):
+            kinds[kind] = kinds.get(kind, 0) + 1
+            for fault in found:
+                if fault:
+                    failed += 1
+                    print('FAILED', fault)
+                else:
+                    passed += 1
+    print('verdicts: %s' % ', '.join('%s %d' % kind for kind in sorted(kinds.items())))
+    print('verdicts: %d passed, %d failed' % (passed, failed))
+    sys.exit(1 if failed or not kinds.get('refuted') or not kinds.get('found') else 0)
+
+
+main()
