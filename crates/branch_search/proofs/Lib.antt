@@ -1,4 +1,3 @@
-pub mod Numbered
 pub mod Places
 pub mod Grown
 pub mod Lists

@@ -1,4 +1,3 @@
 pub mod Answers
 pub mod Growing
-pub mod Seats
 pub mod Trees

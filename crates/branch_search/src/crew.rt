@@ -2,9 +2,8 @@
 
 ghost use Rattle.std.specs.Prelude.{◌≡◌, ℕ, ◌<◌, Some, IfOk, length, slice_index_or};
 ghost use Rattle.desk.specs.History.{IsReached};
-ghost use Rattle.desk.specs.Seats.{AreFresh};
+ghost use Rattle.desk.specs.Seats.{AreFresh, AreNumbered};
 ghost use Rattle.cube_laws.specs.Steps.{next_of, reply_of};
-ghost use Rattle.branch_search.specs.Seats.{AreNumbered};
 
 use crate::worker::{Job, work};
 use branching::Strategy;

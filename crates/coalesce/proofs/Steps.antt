@@ -37,13 +37,6 @@ pub so_far_le : {X : Type 0} (f : ℕ → List X) (k n : ℕ) → k ≤ n → le
 so_far_le f k n h = let e : k + (n - k) ≡ n = omega arith in subst (λ m. length (so_far f k) ≤ length (so_far f m)) e (so_far_up f k (n - k))
 
 -- ---- of what a list's items stand for
-pub mapped_more : {X Y Z : Type 0} (g : X → Y) (f : Y → Z) (xs : List X) (i : ℕ) (x : X) → i < length xs → x ≡ get_or xs i x → map f (map g (take (i + 1) xs)) ≡ map f (map g (take i xs)) ++ f (g x) ∷ []
-mapped_more g f xs i x lt is =
-    ap (λ l. map f (map g l)) (take_more xs i x lt)
-    ∙ ap (map f) (map-append g (take i xs) (get_or xs i x ∷ []))
-    ∙ map-append f (map g (take i xs)) (g (get_or xs i x) ∷ [])
-    ∙ ap (λ y. map f (map g (take i xs)) ++ f (g y) ∷ []) (sym is)
-
 pub flat_more : {X Y Z : Type 0} (g : X → Y) (f : Y → List Z) (xs : List X) (i : ℕ) (x : X) → i < length xs → x ≡ get_or xs i x → flat_map f (map g (take (i + 1) xs)) ≡ flat_map f (map g (take i xs)) ++ f (g x)
 flat_more g f xs i x lt is =
     ap (λ l. flat_map f (map g l)) (take_more xs i x lt)

@@ -1,4 +1,5 @@
 pub mod Legal
+pub mod Numbered
 pub mod Seating
 pub mod Steps
 pub mod Tied

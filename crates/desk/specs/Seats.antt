@@ -21,3 +21,7 @@ IsLeastMissing seats n = (has_seat n seats ≡ false) × ((k : ℕ) → 0 < k �
 -- seats from 1 on, in order, with no call
 abbrev pub AreFresh : {C : Type 0} → List (ℕ × List C) → Type 0
 AreFresh {C} seats = (k : ℕ) (x : ℕ × List C) → slice_get seats k ≡ Some x → x ≡ (k + 1, [])
+
+-- the numbers of these are 1, 2 and so on
+abbrev pub AreNumbered : {X : Type 0} → (X → ℕ) → List X → Type 0
+AreNumbered {X} number xs = (k : ℕ) (x : X) → slice_get xs k ≡ Some x → number x ≡ k + 1

@@ -1,4 +1,3 @@
 pub mod Places
 pub mod Legal
 pub mod Reading
-pub mod Numbered

@@ -1,4 +1,3 @@
 pub mod Pieces
 pub mod Steps
 pub mod Kept
-pub mod Seats

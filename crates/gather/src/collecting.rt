@@ -10,8 +10,7 @@ ghost use Rattle.gather.specs.declared.parts.Event.TheVariants as event;
 ghost use Rattle.gather.specs.declared.parts.Reply.TheVariants as reply;
 ghost use Rattle.gather.specs.Pieces.{reading_fault};
 ghost use Rattle.gather.specs.Steps.{opening_state, next_of, reply_of};
-ghost use Rattle.desk.specs.Seats.{AreFresh};
-ghost use Rattle.gather.specs.Seats.{AreNumbered};
+ghost use Rattle.desk.specs.Seats.{AreFresh, AreNumbered};
 ghost use Rattle.gather.specs.Kept.{AreKept, ArePieces, nothing_found};
 
 use crate::machine::GatherMachine;

@@ -1,6 +1,6 @@
 //! Sets of numbers as bits, in words of 64.
 
-ghost use Rattle.std.specs.Prelude.{◌≡◌, ◌↔◌, ℕ, ◌+◌, ◌/◌, ◌^◌, ◌<◌, ◌≤◌, ◌==◌, ◌&&◌, ◌||◌, true, false, nat_lt, nat_le, length, IsTrue, IfSome, IfNone};
+ghost use Rattle.std.specs.Prelude.{◌≡◌, ◌↔◌, ℕ, ◌+◌, ◌/◌, ◌^◌, ◌<◌, ◌≤◌, ◌==◌, ◌&&◌, ◌||◌, true, false, not, nat_lt, nat_le, length, IsTrue, IfSome, IfNone};
 ghost use Rattle.known_graph.specs.Bits.{bit_of, row_len};
 
 /// A bit for each of nodes 0 to 400.
@@ -78,6 +78,7 @@ pub fn is_within(words: &[u64], all: &[u64]) -> bool
     requires len { length words.now ≤ length all.now }
     requires few { length words.now < 2 ^ 32 }
     ensures within { IsTrue result → (k : ℕ) → bit_of words.now k ≡ true → bit_of all.now k ≡ true }
+    ensures outside { IsTrue (not result) → (k : ℕ) × (bit_of words.now k ≡ true) × (bit_of all.now k ≡ false) }
 {
     first_open(words, all).is_none()
 }

@@ -36,8 +36,8 @@ fn keeps_each(places: &Places, choices: &[Choice]) -> bool
     choices.iter().all(|choice| keeps_one(places, choice))
 }
 
-// Whether each known edge leads to a later place.
-fn keeps_known(places: &Places, known: &Known) -> bool
+/// Whether each known edge leads to a later place. It takes no memory.
+pub fn keeps_known(places: &Places, known: &Known) -> bool
     ensures { IsTrue result ↔ AreKept places.now.places known.now }
 {
     let end = known.nodes() + 1;

@@ -16,7 +16,7 @@ pub use bipath::bipaths;
 pub use choice::Choice;
 pub use edges::Edges;
 pub use fault::PolyFault;
-pub use fits::order_fits;
+pub use fits::{keeps_known, order_fits};
 pub use index::{ChoiceIx, MAX_CHOICES};
 pub use polygraph::Polygraph;
 

@@ -1,6 +1,6 @@
 use Rattle.std.proofs.Common.{◌∙◌, ◌+◌, length, sym, ap}
 use Rattle.gather.proofs.Places.{next_at, seen_more, same_length}
-use Rattle.gather.proofs.Numbered.{numbered_push, fresh_number}
+use Rattle.desk.proofs.Numbered.{numbered_push, fresh_number}
 use Rattle.gather.proofs.collecting.jobs_of.Goals as goal
 
 pub loop-seat-preserved : goal.loop-seat-preserved

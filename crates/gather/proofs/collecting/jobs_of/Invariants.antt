@@ -1,5 +1,5 @@
 use Rattle.std.proofs.Common.{◌≡◌, ◌++◌, length}
-use Rattle.gather.specs.Seats.{AreNumbered}
+use Rattle.desk.specs.Seats.{AreNumbered}
 use Rattle.gather.proofs.collecting.jobs_of.Given as goal
 
 abbrev pub invariant-loop-seat : goal.invariant-loop-seat

@@ -1,5 +1,5 @@
 use Rattle.std.proofs.Common.{length, ap, arith}
-use Rattle.gather.proofs.Numbered.{closes, numbered_as}
+use Rattle.desk.proofs.Numbered.{closes, numbered_as}
 use Rattle.gather.proofs.collecting.run.Goals as goal
 
 pub unwrap-closed-requires : goal.unwrap-closed-requires

@@ -4,9 +4,8 @@ use Rattle.std.specs.Prelude.{slice_get, slice_index_or, IfErr}
 use Rattle.std.specs.Result.{IsOk}
 use Rattle.std.proofs.lemmas.Bool.{eq-eqb}
 use Rattle.std.proofs.lemmas.Option.{slice_get_within, get_or_from_slice_get}
-use Rattle.desk.specs.Seats.{has_seat, AreFresh, HasSeatsTo, IsLeastMissing, IsSeat}
+use Rattle.desk.specs.Seats.{has_seat, AreFresh, AreNumbered, HasSeatsTo, IsLeastMissing, IsSeat}
 use Rattle.desk.proofs.Seating.{snoc_get}
-use Rattle.branch_search.specs.Seats.{AreNumbered}
 
 module _ {X : Type 0} (number : X → ℕ) where
   pub numbered_push : (xs now : List X) (x : X) → now ≡ xs ++ x ∷ [] → AreNumbered number xs → number x ≡ length xs + 1 → AreNumbered number now
