@@ -13,7 +13,7 @@ PY
 }
 echo "graphs of 400 nodes:"
 run made
-for log in bipaths_40 bipaths_41 choices_400 operations_400; do
+for log in bipaths_40 bipaths_41 choices_400 one_session_400 operations_400; do
     echo "$log:"
     run log "$folder/$log.log"
 done

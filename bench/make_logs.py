@@ -52,6 +52,15 @@ def choices():
         yield 'commit'
 
 
+def one_session(count):
+    """These transactions write x one after the other in one session: each choice between two of them is forced."""
+    yield 'session 1'
+    for t in range(count):
+        yield 'begin'
+        yield 'w x %d' % (t + 1)
+        yield 'commit'
+
+
 def writers(count):
     """Each of these transactions writes x in a session of its own, in 60 sessions at the most: all choices between two sessions stay open."""
     for t in range(count):
@@ -82,6 +91,7 @@ def forks(count):
 
 
 write('choices_400.log', choices())
+write('one_session_400.log', one_session(400))
 write('writers_25.log', writers(25))
 write('writers_100.log', writers(100))
 write('writers_400.log', writers(400))

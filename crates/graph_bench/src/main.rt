@@ -12,8 +12,8 @@ use desk::gate::OpenGate;
 use desk::seat_no::Workers;
 use history::History;
 use known_graph::Known;
-use polygraph::bipaths;
-use prune_ledger::{Ledger, Pruned, prune};
+use polygraph::{Polygraph, bipaths};
+use prune_ledger::{Ledger, Pruned, check_ledger, prune};
 use pruning_laws::Side;
 use reach_rows::Rows;
 use serializability::{MAX_NODES, NodeIx};
@@ -208,6 +208,17 @@ fn time_chains<R: Print + Clock>(rt: &R, alloc: Global, history: &History) -> io
     told(rt, "coalesce", start)
 }
 
+/// The chain polygraph; nothing where there is none.
+fn chain_polygraph(alloc: Global, history: &History) -> io::Result<Option<Polygraph>>
+    requires clean { IsClean (log_of history.now) }
+{
+    let known = Known::of(alloc, history)?;
+    let Ok(found) = chains(alloc, history)? else {
+        return Ok(None);
+    };
+    Ok(coalesce(alloc, history, &found, known).ok())
+}
+
 /// What pruning by so many workers leaves of the chain polygraph; nothing where there is none.
 fn pruned<R: Threads + Wait + Clock + Sync>(
     rt: &R,
@@ -217,14 +228,10 @@ fn pruned<R: Threads + Wait + Clock + Sync>(
 ) -> io::Result<Option<Pruned>>
     requires clean { IsClean (log_of history.now) }
 {
-    let known = Known::of(alloc, history)?;
-    let Ok(found) = chains(alloc, history)? else {
-        return Ok(None);
-    };
-    let Ok(poly) = coalesce(alloc, history, &found, known) else {
-        return Ok(None);
-    };
-    Ok(Some(prune(rt, alloc, poly, workers, &OpenGate)?))
+    match chain_polygraph(alloc, history)? {
+        Some(poly) => Ok(Some(prune(rt, alloc, poly, workers, &OpenGate)?)),
+        None => Ok(None),
+    }
 }
 
 fn time_pruning<R: Print + Threads + Wait + Clock + Sync>(
@@ -297,6 +304,37 @@ fn list_pruning<R: Print + Threads + Wait + Clock + Sync>(
     }
 }
 
+/// The ledger of what pruning keeps.
+fn ledger_of(found: &Pruned) -> &Ledger {
+    match found {
+        Pruned::Open(reduced) => reduced.ledger(),
+        Pruned::Dead(ledger) => ledger,
+    }
+}
+
+/// Times the check of what pruning by one worker keeps.
+fn time_ledger<R: Print + Threads + Wait + Clock + Sync>(
+    rt: &R,
+    alloc: Global,
+    history: &History,
+) -> io::Result<()>
+    requires clean { IsClean (log_of history.now) }
+{
+    let Some(whole) = chain_polygraph(alloc, history)? else {
+        return Ok(());
+    };
+    let Some(worker) = Workers::new(1) else {
+        return Ok(());
+    };
+    let Some(found) = pruned(rt, alloc, history, worker)? else {
+        return Ok(());
+    };
+    let start = Instant::now(rt)?;
+    let valid = check_ledger(&whole, ledger_of(&found));
+    println!(rt; "ledger valid: {valid}")?;
+    told(rt, "check_ledger", start)
+}
+
 /// Times the bipaths, the chains and pruning of a clean history.
 fn time_each<R: Print + Threads + Wait + Clock + Sync>(
     rt: &R,
@@ -309,7 +347,8 @@ fn time_each<R: Print + Threads + Wait + Clock + Sync>(
     time_chains(rt, alloc, history)?;
     time_pruning(rt, alloc, history, 1)?;
     time_pruning(rt, alloc, history, 2)?;
-    time_pruning(rt, alloc, history, 4)
+    time_pruning(rt, alloc, history, 4)?;
+    time_ledger(rt, alloc, history)
 }
 
 /// Lists what pruning keeps with 1, 2 and 16 workers.

@@ -7,3 +7,4 @@ pub mod Flags
 pub mod Finals
 pub mod Held
 pub mod Seats
+pub mod KeptBits

@@ -9,3 +9,4 @@ pub mod Rounds
 pub mod Pruned
 pub mod Outcome
 pub mod Tested
+pub mod KeptEdges

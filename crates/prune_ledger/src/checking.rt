@@ -1,12 +1,16 @@
 //! Checks of ledgers.
 
-ghost use Rattle.std.specs.Prelude.{◌≡◌, ◌↔◌, ◌<◌, ◌&&◌, [], IsTrue, length};
-ghost use Rattle.std.specs.List.{list_any};
+ghost use Rattle.std.specs.Prelude.{◌≡◌, ◌↔◌, ◌<◌, ◌&&◌, ◌++◌, [], List, IsTrue, length};
+ghost use Rattle.serializability.specs.Polygraph.{Edge};
+ghost use Rattle.pruning_laws.specs.Forced.{other};
 ghost use Rattle.known_graph.specs.Tests.{has_edge};
 ghost use Rattle.prune_ledger.specs.Ledger.{side_of};
-ghost use Rattle.prune_ledger.specs.Tested.{is_of, is_held, leads_by, is_line_by, is_shown_by, are_shown_by, is_cycle_by};
+ghost use Rattle.prune_ledger.specs.Tested.{is_held, leads_by, is_line_by, is_shown_by, are_shown_by, is_cycle_by};
 ghost use Rattle.prune_ledger.specs.Pruned.{IsLedgerOf};
+ghost use Rattle.prune_ledger.specs.KeptEdges.{edges_kept, HasEdges};
+ghost use Rattle.prune_ledger.specs.declared.ledger.LedgerEntry.{LedgerEntry};
 
+use crate::kept::KeptEdges;
 use crate::ledger::{Ledger, LedgerEntry};
 use crate::machine::{has_edge, other_side};
 use crate::parts::Refutation;
@@ -17,43 +21,59 @@ use serializability::NodeIx;
 
 /// Whether a ledger is valid: each entry's edge is in its refused side, and its walk leads against the
 /// edge over the known edges and the sides that earlier entries keep; a cycle, where one is given, is one
-/// in the known edges and the sides that all entries keep. It takes no memory.
+/// in the known edges and the sides that all entries keep. It takes no memory. What the entries so far keep
+/// is held as bits, so that each step of a walk is looked up once, however long the ledger is.
 pub fn check_ledger(polygraph: &Polygraph, ledger: &Ledger) -> bool
     ensures { IsTrue result ↔ IsLedgerOf polygraph.now ledger.now }
 {
-    if !are_shown(polygraph, &ledger.entries) {
+    let mut kept = KeptEdges::none();
+    if !are_shown(polygraph, &mut kept, &ledger.entries) {
         return false;
     }
     match &ledger.cycle {
-        Some(line) => is_cycle(polygraph, &ledger.entries, line),
+        Some(line) => is_cycle(polygraph, &kept, line),
         None => true,
     }
 }
 
-// Whether each entry is shown by those before it.
-fn are_shown(polygraph: &Polygraph, entries: &[LedgerEntry]) -> bool
-    ensures { result ≡ are_shown_by polygraph.now [] entries.now }
+// Whether each entry is shown by those before it. The edges that each keeps are added once it is tested.
+fn are_shown(polygraph: &Polygraph, kept: &mut KeptEdges, entries: &[LedgerEntry]) -> bool
+    requires empty { HasEdges kept.old [] }
+    ensures shown { result ≡ are_shown_by polygraph.now [] entries.now }
+    ensures kept { IsTrue result → HasEdges kept.new (edges_kept polygraph.now entries.now) }
 {
-    for k in 0..entries.len() {
-        if !is_shown(polygraph, &entries[..k], &entries[k].post) {
+    for entry in entries {
+        if !is_shown(polygraph, kept, &entry.post) {
             return false;
         }
+        add_kept(polygraph, kept, &entry.post);
     }
     true
 }
 
 // Whether the edge is in the refused side, and the walk leads against it.
-fn is_shown(polygraph: &Polygraph, earlier: &[LedgerEntry], post: &Refutation) -> bool
-    ensures { result ≡ is_shown_by polygraph.now earlier.now post.now }
+fn is_shown(polygraph: &Polygraph, kept: &KeptEdges, post: &Refutation) -> bool
+    ensures { (entries : List LedgerEntry) → HasEdges kept.now (edges_kept polygraph.now entries) →
+        result ≡ is_shown_by polygraph.now entries post.now }
 {
     is_in(polygraph, post.choice, post.side, post.edge)
         && is_line(
             polygraph,
-            earlier,
+            kept,
             post.edge.target(),
             &post.walk,
             post.edge.source(),
         )
+}
+
+// Adds the edges of the side that the post keeps, where there is such a choice.
+fn add_kept(polygraph: &Polygraph, kept: &mut KeptEdges, post: &Refutation)
+    ensures { (before : List Edge) → HasEdges kept.old before →
+        HasEdges kept.new (before ++ side_of polygraph.now.choices post.now.choice (other post.now.side)) }
+{
+    if let Some(sides) = polygraph.choice(post.choice) {
+        kept.add_all(sides.edges(other_side(post.side)));
+    }
 }
 
 // Whether the edge is in a side of a choice.
@@ -69,29 +89,31 @@ fn is_in(polygraph: &Polygraph, choice: ChoiceIx, side: Side, edge: Edge) -> boo
 // Whether these are the nodes of a walk, both ends included.
 fn is_line(
     polygraph: &Polygraph,
-    entries: &[LedgerEntry],
+    kept: &KeptEdges,
     from: NodeIx,
     line: &[NodeIx],
     to: NodeIx,
 ) -> bool
-    ensures { result ≡ is_line_by polygraph.now entries.now from line.now to }
+    ensures { (entries : List LedgerEntry) → HasEdges kept.now (edges_kept polygraph.now entries) →
+        result ≡ is_line_by polygraph.now entries from line.now to }
 {
-    1 < line.len() && line[0].get() == from.get() && leads(polygraph, entries, from, &line[1..], to)
+    1 < line.len() && line[0].get() == from.get() && leads(polygraph, kept, from, &line[1..], to)
 }
 
 // Whether each step from a node on along these is held, and the last one is the end.
 fn leads(
     polygraph: &Polygraph,
-    entries: &[LedgerEntry],
+    kept: &KeptEdges,
     from: NodeIx,
     steps: &[NodeIx],
     to: NodeIx,
 ) -> bool
-    ensures { result ≡ leads_by polygraph.now entries.now from steps.now to }
+    ensures { (entries : List LedgerEntry) → HasEdges kept.now (edges_kept polygraph.now entries) →
+        result ≡ leads_by polygraph.now entries from steps.now to }
 {
     let mut at = from;
     for &node in steps {
-        if !is_held(polygraph, entries, at, node) {
+        if !is_held(polygraph, kept, at, node) {
             return false;
         }
         at = node;
@@ -100,36 +122,20 @@ fn leads(
 }
 
 // Whether the edge is known, or of a side that an entry keeps.
-fn is_held(polygraph: &Polygraph, entries: &[LedgerEntry], u: NodeIx, v: NodeIx) -> bool
-    ensures { result ≡ is_held polygraph.now entries.now (u, v) }
+fn is_held(polygraph: &Polygraph, kept: &KeptEdges, u: NodeIx, v: NodeIx) -> bool
+    ensures { (entries : List LedgerEntry) → HasEdges kept.now (edges_kept polygraph.now entries) →
+        result ≡ is_held polygraph.now entries (u, v) }
 {
-    polygraph.known().has_edge(u, v) || is_kept(polygraph, entries, Edge::new(u, v))
-}
-
-fn is_kept(polygraph: &Polygraph, entries: &[LedgerEntry], edge: Edge) -> bool
-    ensures { result ≡ list_any (λ x. is_of polygraph.now edge x.post) entries.now }
-{
-    for entry in entries {
-        if keeps(polygraph, &entry.post, edge) {
-            return true;
-        }
-    }
-    false
-}
-
-// Whether the edge is of the side that the post keeps.
-fn keeps(polygraph: &Polygraph, post: &Refutation, edge: Edge) -> bool
-    ensures { result ≡ is_of polygraph.now edge post.now }
-{
-    is_in(polygraph, post.choice, other_side(post.side), edge)
+    polygraph.known().has_edge(u, v) || kept.has(u, v)
 }
 
 // Whether the nodes are a cycle.
-fn is_cycle(polygraph: &Polygraph, entries: &[LedgerEntry], line: &[NodeIx]) -> bool
-    ensures { result ≡ is_cycle_by polygraph.now entries.now line.now }
+fn is_cycle(polygraph: &Polygraph, kept: &KeptEdges, line: &[NodeIx]) -> bool
+    ensures { (entries : List LedgerEntry) → HasEdges kept.now (edges_kept polygraph.now entries) →
+        result ≡ is_cycle_by polygraph.now entries line.now }
 {
     if line.is_empty() {
         return false;
     }
-    is_line(polygraph, entries, line[0], line, line[0])
+    is_line(polygraph, kept, line[0], line, line[0])
 }

@@ -7,6 +7,7 @@ mod copies;
 mod crew;
 mod entered;
 mod judging;
+mod kept;
 pub mod laws;
 mod ledger;
 pub mod machine;

@@ -1,6 +1,10 @@
 use Rattle.std.proofs.Common.{◌≡◌, [], take, drop}
 use Rattle.prune_ledger.specs.Tested.{are_shown_by}
+use Rattle.prune_ledger.specs.KeptEdges.{edges_kept, HasEdges}
 use Rattle.prune_ledger.proofs.checking.are_shown.Given as goal
 
-abbrev pub invariant-loop-k : goal.invariant-loop-k
-invariant-loop-k l = are_shown_by l.polygraph (take l.k l.entries) (drop l.k l.entries) ≡ are_shown_by l.polygraph [] l.entries
+abbrev pub invariant-loop-entry : goal.invariant-loop-entry
+invariant-loop-entry l = record {
+  shown : are_shown_by l.polygraph (take l.entry-index l.entries) (drop l.entry-index l.entries) ≡ are_shown_by l.polygraph [] l.entries;
+  kept : HasEdges l.kept (edges_kept l.polygraph (take l.entry-index l.entries));
+}
