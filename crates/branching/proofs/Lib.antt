@@ -1,3 +1,4 @@
+pub mod Counted
 pub mod NextBits
 pub mod Opens
 pub mod Views

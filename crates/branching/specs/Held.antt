@@ -30,6 +30,6 @@ view_of k = record { polygraph = k.reduced.now.poly; sides = k.sides }
 
 pub record IsHeld (k : Inside) : Type 0 where
   pub view : IsView (view_of k)
-  pub sized : k.sizes.items ≡ map size_of k.reduced.now.poly.choices
+  pub counted : k.counts ≡ map size_of k.reduced.now.poly.choices
   pub graph : AreEdgesOf (view_of k) k.graph
   pub rows : AreRowsOf k.rows k.graph

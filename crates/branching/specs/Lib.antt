@@ -9,3 +9,4 @@ pub mod Grown
 pub mod Held
 pub mod Orders
 pub mod Turns
+pub mod Counts

@@ -16,15 +16,15 @@ not_some : {A : Type 0} (x : A) → Some x ≡ None → ⊥
 not_some x e = absurd (cc)
 
 -- ---- the listed ones are open
-abbrev Listed : List ℕ → ℕ → Type 0
+abbrev pub Listed : List ℕ → ℕ → Type 0
 Listed cs c = (r : ℕ) × (slice_get cs r ≡ Some c)
 
-record IsFound (sides : List (Option Side)) (k c : ℕ) : Type 0 where
-  place : ℕ
-  whole : k + place ≡ c
-  free : is_open_at sides place ≡ true
+pub record IsFound (sides : List (Option Side)) (k c : ℕ) : Type 0 where
+  pub place : ℕ
+  pub whole : k + place ≡ c
+  pub free : is_open_at sides place ≡ true
 
-found_listed : (sides : List (Option Side)) (k r c : ℕ) → slice_get (open_from k sides) r ≡ Some c → IsFound sides k c
+pub found_listed : (sides : List (Option Side)) (k r c : ℕ) → slice_get (open_from k sides) r ≡ Some c → IsFound sides k c
 found_listed [] k r c e = absurd (cc)
 found_listed (None ∷ xs) k zero c e = let same = some-inj k c e in record { place = 0; whole = omega (arith, same); free = refl }
 found_listed (None ∷ xs) k (suc r) c e = let f = found_listed xs (k + 1) r c e in let w = f.whole in record { place = suc f.place; whole = omega (arith, w); free = f.free }

@@ -31,7 +31,10 @@ impl Strategy for MostEdges {
     fn pick(&self, view: &CubeView<'_>) -> Option<ChoiceIx> {
         let mut best = view.next_open(0)?;
         let mut from = best.get() + 1;
-        while let Some(choice) = view.next_open(from) {
+        while view.edge_count(best) < view.most_edges() {
+            let Some(choice) = view.next_open(from) else {
+                break;
+            };
             if view.edge_count(best) < view.edge_count(choice) {
                 best = choice;
             }
@@ -59,10 +62,14 @@ impl Strategy for LeastEdges {
 
     ghost first_of = { λ _ _ _. One };
 
+    #[tactic(auto, using(crate::proofs::Counted::least_found))]
     fn pick(&self, view: &CubeView<'_>) -> Option<ChoiceIx> {
         let mut best = view.next_open(0)?;
         let mut from = best.get() + 1;
-        while let Some(choice) = view.next_open(from) {
+        while view.fewest_edges() < view.edge_count(best) {
+            let Some(choice) = view.next_open(from) else {
+                break;
+            };
             if view.edge_count(choice) < view.edge_count(best) {
                 best = choice;
             }

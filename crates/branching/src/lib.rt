@@ -6,6 +6,7 @@ mod alternate;
 mod bits;
 mod by_size;
 mod by_words;
+mod counts;
 mod first_open;
 pub mod laws;
 mod order;

@@ -1,15 +1,16 @@
 //! What a strategy sees of a cube.
 
-ghost use Rattle.std.specs.Prelude.{◌≡◌, ℕ, ◌+◌, ◌<◌, ◌≤◌, [], ◌∷◌, true, Some, MatchOption, IfSome, IfOk, length, map, slice_get};
+ghost use Rattle.std.specs.Prelude.{◌≡◌, ℕ, ◌+◌, ◌<◌, ◌≤◌, [], ◌∷◌, true, Some, MatchOption, IfSome, IfOk, length, slice_get};
 ghost use Rattle.std.specs.List.{AllByRecursion};
 ghost use Rattle.polygraph.specs.Polygraphs.{Joins};
 ghost use Rattle.reach_rows.specs.ReachRows.{AreRowsOf};
 ghost use Rattle.branching.specs.View.{is_open_in, depth_of, graph_in, opened, decided};
-ghost use Rattle.branching.specs.Picks.{size_of, edge_count};
+ghost use Rattle.branching.specs.Picks.{edge_count};
 ghost use Rattle.branching.specs.Opens.{open_past};
 ghost use Rattle.branching.specs.Grown.{AddsEdges};
 ghost use Rattle.branching.specs.Held.{IsView, AreEdgesOf};
 
+use crate::counts::EdgeCounts;
 use crate::sides::Sides;
 use known_graph::Known;
 use polygraph::{Choice, ChoiceIx};
@@ -27,7 +28,7 @@ use std::marker::Model;
 #[derive(Drop)]
 pub struct CubeView<'a> {
     reduced: &'a Reduced,
-    sizes: Vec<usize>,
+    counts: EdgeCounts,
     sides: Sides,
     graph: Known,
     rows: Rows,
@@ -53,7 +54,7 @@ impl<'a> CubeView<'a> {
         let _nodes = poly.nodes();
         Ok(CubeView {
             reduced,
-            sizes: edge_counts(alloc, poly.choices())?,
+            counts: EdgeCounts::new(alloc, poly.choices())?,
             sides: Sides::open(alloc, poly.choices().len())?,
             graph: poly.known().copy(alloc)?,
             rows: reduced.rows().copy(alloc)?,
@@ -136,7 +137,23 @@ impl<'a> CubeView<'a> {
         requires choice { choice < length self.now.polygraph.choices }
         ensures count { result ≡ edge_count self.now.polygraph.choices choice }
     {
-        self.sizes[choice.get()]
+        self.counts.of(choice.get())
+    }
+
+    /// A number of edges that no choice has fewer of, both sides together.
+    pub(crate) fn fewest_edges(&self) -> usize
+        ensures fewest { (c : ℕ) → c < length self.now.polygraph.choices →
+            result ≤ edge_count self.now.polygraph.choices c }
+        ensures view { IsView self.now }
+    {
+        self.counts.fewest()
+    }
+
+    /// A number of edges that no choice has more of, both sides together.
+    pub(crate) fn most_edges(&self) -> usize
+        ensures most { (c : ℕ) → edge_count self.now.polygraph.choices c ≤ result }
+    {
+        self.counts.most()
     }
 
     /// The known edges with those of the decided sides.
@@ -153,16 +170,6 @@ impl<'a> CubeView<'a> {
     {
         &self.rows
     }
-}
-
-// How many edges both sides of each choice have together.
-fn edge_counts(alloc: Global, choices: &[Choice]) -> Result<Vec<usize>, AllocError>
-    ensures counts { IfOk result (λ counts. counts.items ≡ map size_of choices.now) }
-{
-    choices
-        .iter()
-        .map(|choice| choice.one().len() + choice.two().len())
-        .collect(alloc)
 }
 
 // Adds these edges to a graph, and to its rows.

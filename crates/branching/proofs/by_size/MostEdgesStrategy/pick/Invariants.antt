@@ -3,11 +3,11 @@ use Rattle.branching.specs.Picks.{edge_count, or_more, first_greatest, most_edge
 use Rattle.branching.specs.Opens.{open_past}
 use Rattle.branching.proofs.by_size.MostEdgesStrategy.pick.Given as goal
 
-abbrev pub invariant-loop-choice : goal.invariant-loop-choice
-invariant-loop-choice l = record {
+abbrev pub invariant-loop-from : goal.invariant-loop-from
+invariant-loop-from l = record {
   within : l.best < length l.view.polygraph.choices;
   all : most_edges l.view ≡ or_more (edge_count l.view.polygraph.choices) l.best (first_greatest (edge_count l.view.polygraph.choices) (open_past l.view.sides l.from));
 }
 
-abbrev pub decreases-loop-choice : goal.decreases-loop-choice
-decreases-loop-choice l = length l.view.polygraph.choices - l.from
+abbrev pub decreases-loop-from : goal.decreases-loop-from
+decreases-loop-from l = length l.view.polygraph.choices - l.from

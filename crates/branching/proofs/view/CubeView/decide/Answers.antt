@@ -16,7 +16,7 @@ invariant_of-self c =
     let within : number < length p.choices = omega (arith, lt, sided) in
     let at = choice_read c.choices-choices.result.now p.choices c.get.result number c.index-choices-get.result (c.choices-choices.ensures.choices ∙ ap (λ (q : Polygraph). q.choices) c.poly.ensures.poly) c.get.ensures.value within c.index-choices-get.is in
     record {
-      sized = c.self.invariant.sized;
+      counted = c.self.invariant.counted;
       view = record { sided = sided_decided c.self.inside.sides c.decide.new.self number (length p.choices) c.args.side c.decide.ensures.decided sided; whole = c.self.invariant.view.whole };
       graph = held_decided v number c.args.side c.decide.new.self c.index-choices-get.result c.self.inside.graph c.add_edges.new.graph c.edges-edges.result.now c.decide.ensures.decided at free c.edges-edges.ensures c.self.invariant.graph c.add_edges.ensures.edges;
       rows = c.add_edges.ensures.rows;

@@ -14,7 +14,7 @@ invariant_of-result c =
     let graph : c.in_ok-copy.field-0 ≡ graph_of p = c.in_ok-copy.ensures.same ∙ c.known.ensures ∙ ap graph_of same in
     record {
       view = record { sided = sided_opened p c.in_ok-open.field-0 sides; whole = record { choices = subst IsPolygraph same c.nodes-nodes.ensures.polygraph; known = subst (λ (q : Polygraph). IsKnownGraph (graph_of q)) same c.nodes-nodes.ensures.known } };
-      sized = c.in_ok-edge_counts.ensures.counts ∙ ap (map size_of) (c.choices.ensures.choices ∙ ap (λ (q : Polygraph). q.choices) same);
+      counted = c.in_ok-new.ensures.counts ∙ ap (map size_of) (c.choices.ensures.choices ∙ ap (λ (q : Polygraph). q.choices) same);
       graph = held_opened p c.in_ok-open.field-0 c.in_ok-copy.field-0 sides graph;
       rows = rows_opened p c.args.reduced.now.rows c.in_ok-copy-2.field-0 c.in_ok-copy.field-0 (c.in_ok-copy-2.ensures.same ∙ c.rows.ensures.rows) graph c.rows.ensures.reach;
     }
