@@ -6,3 +6,5 @@ pub mod Trees
 pub mod Edges
 pub mod Orders
 pub mod Splits
+pub mod Noted
+pub mod Kept

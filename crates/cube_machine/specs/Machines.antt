@@ -1,14 +1,18 @@
 -- What the type of the machine keeps.
-use Rattle.std.specs.Prelude.{◌≡◌, ℕ, ◌+◌, ◌*◌, ◌≤◌, Bool, List, length}
+use Rattle.std.specs.Prelude.{◌≡◌, ℕ, ◌+◌, ◌*◌, ◌≤◌, List, length}
 use Rattle.serializability.specs.Polygraph.{Polygraph}
 use Rattle.reach_laws.specs.Reach.{Graph}
 use Rattle.cube_machine.specs.Growth.{Growth}
+use Rattle.cube_machine.specs.Noted.{AreNoted}
+use Rattle.cube_machine.specs.declared.decided.Decided.{Decided}
 
--- There is room for the nodes that the budget allows, the graph is one of the polygraph's nodes, and there is a place for each choice.
-pub record IsMachine (p : Polygraph) (tree : Growth) (closed budget : ℕ) (graph : Graph) (decided : List Bool) : Type 0 where
+-- There is room for the nodes that the budget allows, the graph is one of the polygraph's nodes, and of each seat's cube it is
+-- noted what it decides.
+pub record IsMachine (p : Polygraph) (tree : Growth) (closed budget : ℕ) (graph : Graph) (table : List Decided) : Type 0 where
   pub small : length tree.nodes ≤ 2 * closed + 1
   pub roomy : 2 * budget + 1 ≤ tree.room
   pub counted : closed ≤ budget
   pub few : budget ≤ 1000000
   pub alike : graph.nodes ≡ p.nodes
-  pub wide : length decided ≡ length p.choices
+  pub seats : length table ≡ 17
+  pub noted : AreNoted tree.nodes (length p.choices) table

@@ -3,11 +3,12 @@
 //!
 //! A cube is a list of decided choices, each with its side. Contracts see the machine as the state of
 //! the written step. The tree in memory keeps of each node its parent and the one choice that led to it
-//! from there, so a cube is the way up; and it keeps which nodes are open and which one each seat
-//! holds, so that no step looks through the tree.
+//! from there, so a cube is the way up; and it keeps which nodes are open, which one each seat holds and
+//! what the last cube of each seat decides, so that a step down the tree looks at one node.
 #![tactic(auto)]
 
 mod budget;
+mod decided;
 mod machine;
 mod node;
 mod order;

@@ -1,20 +1,22 @@
 //! The machine of the search.
 
-ghost use Rattle.std.specs.Prelude.{◌≡◌, ℕ, ◌+◌, ◌<◌, ◌^◌, true, false, length, slice_get, Some, IfOk};
+ghost use Rattle.std.specs.Prelude.{◌≡◌, ℕ, ◌+◌, ◌<◌, ◌^◌, true, false, ◌∷◌, [], length, slice_get, Some, IfOk};
 ghost use Rattle.std.specs.Option.{option_map};
-ghost use Rattle.cube_laws.specs.State.{opening_state};
-ghost use Rattle.cube_laws.specs.Steps.{has_solved, is_finished, is_exhausted, node_held, last_open, claim_reply, any_reply, split_reply, refute_reply, solve_reply, claimed, taken, held_where, split_where, refuted_where, solved_where, opened_at, can_split, cube_at, is_cycle, is_solution, waits_of};
+ghost use Rattle.cube_laws.specs.State.{opening_state, root};
+ghost use Rattle.cube_laws.specs.Steps.{has_solved, is_finished, is_exhausted, node_held, last_open, claim_reply, any_reply, split_reply, refute_reply, solve_reply, claimed, taken, held_where, split_where, refuted_where, solved_where, opened_at, can_split, cube_at, is_cycle, decides_all, is_solution, waits_of};
 ghost use Rattle.cube_laws.specs.Cubes.{edges_under};
 ghost use Rattle.cube_laws.specs.declared.parts.Event.TheVariants.{TakeAny};
 ghost use Rattle.cube_laws.specs.declared.parts.Reply.TheVariants.{Released};
 ghost use Rattle.cube_machine.specs.Ways.{IsWay};
+ghost use Rattle.cube_machine.specs.Noted.{AreNoted};
 
 use crate::budget::Budget;
-use crate::order::{decides_all, fits_graph};
+use crate::decided::Decided;
+use crate::order::fits_graph;
 use crate::origin::Origin;
 use crate::row::Row;
-use crate::sides::{fill, is_cycle, is_decided};
-use crate::tree::Tree;
+use crate::sides::{fill, is_cycle};
+use crate::tree::{SEAT_SLOTS, Tree};
 use cube_laws::{Mark, Reply};
 use desk::seat_no::SeatNo;
 use known_graph::Known;
@@ -35,8 +37,8 @@ pub struct CubeMachine<'a> {
     budget: Budget,
     // The edges of the cube that is tested.
     graph: Known,
-    // Which choices that cube decides.
-    decided: Vec<bool>,
+    // Of each seat which choices its cube decides.
+    decided: Vec<Decided>,
 }
 
 impl<'a> Model for CubeMachine<'a> {
@@ -62,7 +64,7 @@ impl<'a> CubeMachine<'a> {
     {
         let tree = Tree::root(alloc, 2 * budget.get() + 1)?;
         let graph = polygraph.known().copy(alloc)?;
-        let decided = vec![in alloc; false; polygraph.choices().len()]?;
+        let decided = decided_of_seats(alloc, polygraph.choices().len())?;
         Ok(CubeMachine {
             polygraph,
             row,
@@ -164,7 +166,7 @@ impl<'a> CubeMachine<'a> {
         let Some(id) = self.tree.held(seat) else {
             return Reply::NoCube;
         };
-        if !self.can_split(id, choice) {
+        if !self.can_split(seat, id, choice) {
             return Reply::BadChoice;
         }
         let first = self.tree.len();
@@ -174,12 +176,19 @@ impl<'a> CubeMachine<'a> {
         Reply::Children(first, first + 1)
     }
 
-    // Whether there is such a choice, and the cube of a node leaves it open.
-    fn can_split(&self, id: usize, choice: ChoiceIx) -> bool
-        requires within { id < length self.now.nodes }
-        ensures { result ≡ can_split self.now (cube_at self.now id) choice }
+    // Whether there is such a choice, and the cube of a node that the seat holds leaves it open.
+    fn can_split(&mut self, seat: SeatNo, id: usize, choice: ChoiceIx) -> bool
+        requires within { id < length self.old.nodes }
+        ensures split { result ≡ can_split self.old (cube_at self.old id) choice }
+        ensures same { self.new ≡ self.old }
     {
-        choice.get() < self.polygraph.choices().len() && !is_decided(&self.tree, id, choice)
+        let number = choice.get();
+        if number >= self.polygraph.choices().len() {
+            return false;
+        }
+        let decided = &mut self.decided[usize::from(seat.get())];
+        decided.go_to(&self.tree, id);
+        !decided.flags[number]
     }
 
     // Refutes the cube that the seat holds.
@@ -218,7 +227,7 @@ impl<'a> CubeMachine<'a> {
         let Some(id) = self.tree.held(seat) else {
             return Reply::NoCube;
         };
-        if !self.is_solution_at(id, order) {
+        if !self.is_solution_at(seat, id, order) {
             return Reply::BadOrder;
         }
         self.tree.close(seat, id, Mark::Solved);
@@ -226,18 +235,29 @@ impl<'a> CubeMachine<'a> {
         Reply::Solved
     }
 
-    // Whether the cube of a node leaves no choice open, and the order lists the nodes once and keeps its
-    // edges.
-    fn is_solution_at(&mut self, id: usize, order: &[NodeIx]) -> bool
+    // Whether the cube of a node that the seat holds leaves no choice open, and the order lists the nodes once
+    // and keeps its edges.
+    fn is_solution_at(&mut self, seat: SeatNo, id: usize, order: &[NodeIx]) -> bool
         requires within { id < length self.old.nodes }
         ensures solution { result ≡ is_solution self.old.polygraph (cube_at self.old id) order.now }
         ensures same { self.new ≡ self.old }
     {
-        if !decides_all(self.decided.as_mut_slice(), &self.tree, id) {
+        if !self.decides_all(seat, id) {
             return false;
         }
         fill(&mut self.graph, self.polygraph, &self.tree, id);
         fits_graph(&self.graph, order)
+    }
+
+    // Whether the cube of a node that the seat holds leaves no choice open.
+    fn decides_all(&mut self, seat: SeatNo, id: usize) -> bool
+        requires within { id < length self.old.nodes }
+        ensures all { result ≡ decides_all self.old.polygraph (cube_at self.old id) }
+        ensures same { self.new ≡ self.old }
+    {
+        let decided = &mut self.decided[usize::from(seat.get())];
+        decided.go_to(&self.tree, id);
+        decided.all()
     }
 
     // Opens the node that the seat holds, if any.
@@ -267,6 +287,18 @@ impl<'a> CubeMachine<'a> {
         }
         self.tree.has_held()
     }
+}
+
+// Of each number of a seat that node 0 decides none of so many choices.
+fn decided_of_seats(alloc: Global, count: usize) -> Result<Vec<Decided>, AllocError>
+    ensures seats { IfOk result (λ table. length table.items ≡ 17) }
+    ensures noted { IfOk result (λ table. AreNoted (root ∷ []) count table.items) }
+{
+    let mut table = Vec::with_capacity(alloc, SEAT_SLOTS)?;
+    for _ in 0..SEAT_SLOTS {
+        table.push(Decided::none(alloc, count)?)?;
+    }
+    Ok(table)
 }
 
 // Notes how both children of a node were led to.

@@ -5,7 +5,7 @@ ghost use Rattle.std.specs.List.{AllByRecursion};
 ghost use Rattle.serializability.specs.Polygraph.{Edge};
 ghost use Rattle.polygraph.specs.Polygraphs.{Joins};
 ghost use Rattle.known_graph.specs.Tests.{has_edge};
-ghost use Rattle.cube_laws.specs.Cubes.{edges_under, is_decided};
+ghost use Rattle.cube_laws.specs.Cubes.{edges_under};
 ghost use Rattle.cube_laws.specs.Steps.{is_cycle};
 ghost use Rattle.cube_machine.specs.Ways.{cube_in};
 ghost use Rattle.cube_machine.specs.Sides.{side_in, HasEdges};
@@ -16,21 +16,6 @@ use polygraph::{ChoiceIx, Polygraph};
 use pruning_laws::Side;
 use reach_laws::Edge;
 use serializability::NodeIx;
-
-/// Whether the choice is decided in the cube of a node.
-pub fn is_decided(tree: &Tree, id: usize, choice: ChoiceIx) -> bool
-    requires within { id < length tree.now.nodes }
-    ensures { result ≡ is_decided (cube_in tree.now.nodes id) choice }
-{
-    let mut at = id;
-    while let Some(origin) = tree.origin(at) {
-        if origin.choice.get() == choice.get() {
-            return true;
-        }
-        at = origin.parent;
-    }
-    false
-}
 
 /// Makes a graph that of the known edges and of the sides that the cube of a node decides. It takes no
 /// memory.

@@ -19,8 +19,8 @@ use pruning_laws::Side;
 use std::alloc::{AllocError, Global};
 use std::marker::Model;
 
-// One slot for each number of a seat, 1 to 16; the first one, number 0, stays empty.
-const SEAT_SLOTS: usize = 17;
+/// One slot for each number of a seat, 1 to 16; the first one, number 0, stays empty.
+pub const SEAT_SLOTS: usize = 17;
 
 /// The nodes of the tree, by their numbers. Contracts see the nodes with their cubes, and for how many
 /// there is room.

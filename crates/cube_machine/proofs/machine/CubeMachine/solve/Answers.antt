@@ -1,6 +1,16 @@
-use Rattle.std.proofs.Common.{sym}
+use Rattle.std.proofs.Common.{◌≡◌, ◌∙◌, false, sym, subst}
+use Rattle.cube_laws.specs.State.{State}
+use Rattle.cube_laws.specs.Steps.{is_finished}
+use Rattle.cube_laws.specs.declared.parts.Mark.TheVariants.{Solved}
 use Rattle.cube_machine.proofs.Splits.{held_within}
+use Rattle.cube_machine.proofs.Kept.{kept_closed}
 use Rattle.cube_machine.proofs.machine.CubeMachine.solve.Goals as goal
 
 pub is_solution_at-requires : goal.is_solution_at-requires
 is_solution_at-requires c = record { within = rw (← c.self.view_is) (held_within c.self.inside.tree.nodes c.args.seat c.in-Some.id (sym c.in-Some.ensures.held)) }
+
+pub invariant_of-self : goal.invariant_of-self
+invariant_of-self c =
+    let m = c.self-2.inside in
+    let going = subst (λ (s : State). is_finished s ≡ false) (sym (c.self-2.view_is ∙ c.is_solution_at.ensures.same)) c.requires.going in
+    kept_closed m.polygraph.now m.tree c.close.new.self m.closed m.budget m.graph m.decided.items c.in-Some.id Solved c.self-2.invariant going c.close.ensures.nodes c.close.ensures.room

@@ -1,0 +1,20 @@
+use Rattle.std.proofs.Common.{◌≡◌, ◌+◌, Some, ◌∙◌, sym, ap, arith}
+use Rattle.std.specs.List.{list_all, range_with_len}
+use Rattle.cube_laws.specs.Cubes.{is_decided}
+use Rattle.cube_machine.specs.Ways.{cube_in}
+use Rattle.cube_machine.proofs.Lists.{get_some}
+use Rattle.cube_machine.proofs.Orders.{all_noted}
+use Rattle.cube_machine.proofs.machine.CubeMachine.decides_all.Goals as goal
+
+pub returns-clause-all : goal.returns-clause-all
+returns-clause-all c =
+    let i = c.self.inside in let nodes = i.tree.nodes in let table = i.decided.items in
+    let k = c.from.result in let old = c.index_mut-decided.result.now in let now = c.go_to.new.self in
+    let t = is_decided (cube_in nodes c.args.id) in
+    let seats = c.self.invariant.seats in let r = c.get.ensures.range in let f = c.from.ensures in
+    let at = get_some table k old (omega (arith, seats, r, f)) ∙ ap (λ d. Some d) (sym c.index_mut-decided.ensures.value) in
+    let n = c.go_to.ensures.count ∙ c.self.invariant.noted.wide k old at in
+    rw (← c.self.view_is)
+    (c.all.ensures
+    ∙ all_noted t 0 now.flags.items (λ v lt. (let z : v ≡ 0 + v = omega arith in c.go_to.ensures.noted.each v lt ∙ ap (λ id. is_decided (cube_in nodes id) v) c.go_to.ensures.node ∙ ap t z))
+    ∙ ap (λ m. list_all t (range_with_len 0 m)) n)
