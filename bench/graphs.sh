@@ -11,8 +11,30 @@ subprocess.run(sys.argv[1:], check=True)
 print('peak: %d MiB' % (resource.getrusage(resource.RUSAGE_CHILDREN).ru_maxrss // 1024))
 PY
 }
-echo "graphs of 400 nodes:"
-run made
+run_often() { # how often, words of the program: of each line with a time the least and the middle one of all runs
+    python3 - "$1" "$program" "${@:2}" <<'PY'
+import re, subprocess, sys
+times = {}
+for _ in range(int(sys.argv[1])):
+    graph, workers = '', ''
+    for line in subprocess.run(sys.argv[2:], check=True, stdout=subprocess.PIPE).stdout.decode().splitlines():
+        timed = re.fullmatch(r'(.*): (\d+) us', line)
+        if timed:
+            times.setdefault((graph, timed[1], workers), []).append(int(timed[2]))
+        workers = line if line.startswith('workers') else ''
+        if line.endswith(':'):
+            graph = line
+last = ''
+for (graph, what, workers), all_times in times.items():
+    if graph != last:
+        print(graph)
+        last = graph
+    all_times.sort()
+    print('  %-40s least %5d us, middle %5d us' % (what + (', ' + workers if workers else ''), all_times[0], all_times[len(all_times) // 2]))
+PY
+}
+echo "graphs of 400 nodes, each in 40 runs:"
+run_often 40 made
 for log in bipaths_40 bipaths_41 choices_400 one_session_400 operations_400; do
     echo "$log:"
     run log "$folder/$log.log"
