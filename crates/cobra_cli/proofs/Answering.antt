@@ -1,8 +1,8 @@
--- The order of an assignment, and how its refusals are those of an answer.
-use Rattle.std.proofs.Common.{◌≡◌, ℕ, ◌<◌, ◌≤◌, Bool, List, length, take, Option, Result, Ok, Err, sym, subst}
-use Rattle.std.specs.Prelude.{IfErr}
+-- The order of an assignment, and a command from what it says of sessions.
+use Rattle.std.proofs.Common.{◌≡◌, ℕ, ◌<◌, ◌≤◌, Bool, List, length, Option, None, Some, Result, Ok, Err, refl, sym, subst}
+use Rattle.std.specs.Prelude.{IfOk, IfErr, OnOk}
 use Rattle.std.specs.List.{All}
-use Rattle.std.specs.Io.KnownBytes.{Appends}
+use Rattle.std.specs.Io.KnownBytes.{Appends, Keeps}
 use Rattle.std.proofs.lemmas.List.FromFn.{length-map-range_with_len}
 use Rattle.session_log.specs.Text.{ClientSession}
 use Rattle.serializability.specs.Formula.{Cnf, Satisfies}
@@ -10,67 +10,96 @@ use Rattle.serializability.specs.Decoded.{before, IsDecoded}
 use Rattle.log_definitions.specs.WellFormed.{IsWellFormed}
 use Rattle.log_definitions.specs.Serial.{IsSerialOrder}
 use Rattle.log_definitions.specs.Numbers.{IsWellFormedList, log_of, plain_answer}
-use Rattle.headline.proofs.Answered.{answer_serial}
+use Rattle.headline.proofs.Answered.{answer_where_serial, answer_serial, answer_decodes}
 use Rattle.dimacs.specs.Answer as answer
 use Rattle.dimacs.specs.Words.{Item}
+use Rattle.dimacs.specs.Text.{text_of}
+use Rattle.dimacs.specs.declared.status.Status as dimacs
 use Rattle.order_text.specs.Text.{order_text}
+use Rattle.prune_ledger.specs.Pruned.{Remainder}
+use Rattle.reduction.specs.Outcome.{IsOpenHistory}
+use Rattle.cobra_cli.specs.declared.status.Status.{Status}
+use Rattle.cobra_cli.specs.declared.status.Status.TheVariants.{Done}
 use Rattle.cobra_cli.specs.declared.fault.Fault.{Fault}
 use Rattle.cobra_cli.specs.declared.fault.Fault.TheVariants as fault
-use Rattle.cobra_cli.specs.Commands.{IsCutShort, IsOrderWritten, IsOrderFault, at_order, named_by, IsDecodeFault, OrLogFault}
+use Rattle.cobra_cli.specs.Answers.{IsTold, IsCutAt, IsRefused, by_device}
+use Rattle.cobra_cli.specs.Formulas.{IsFormulaOf}
+use Rattle.cobra_cli.specs.Commands.{IsHeadline, IsEncoding, IsAnswerTo, named_by, IsOrderText, IsDecoding}
+use Rattle.cobra_cli.specs.Checked.{IsLetThrough, IsVerdict}
 
 pub serial_of : (ss : List ClientSession) → IsWellFormedList ss → (f : Cnf) (values : List Bool) (order : List ℕ) → f ≡ plain_answer ss → Satisfies values f → IsDecoded f.nodes (before f values) order → IsSerialOrder ss order
 serial_of ss h f values order e =
     let P : Cnf → Type 0 = λ g. Satisfies values g → IsDecoded g.nodes (before g values) order → IsSerialOrder ss order in
     subst P (sym e) (λ s d. answer_serial ss h values s order d)
 
+pub headline_of : (ss : List ClientSession) → IsWellFormedList ss → (f : Cnf) → f ≡ plain_answer ss → IsHeadline ss f
+headline_of ss h f e = subst (λ (g : Cnf). IsHeadline ss g) (sym e) (record {
+  satisfied_where_serial = answer_where_serial ss h;
+  serial_where_satisfied = λ values s. (let d = answer_decodes ss h values s in (d.0, answer_serial ss h values s d.0 d.1));
+})
+
 pub nodes_of_serial : (ss : List ClientSession) (order : List ℕ) → IsSerialOrder ss order → All (λ v. (0 < v) × (v ≤ (log_of ss).nodes)) order
 unfolding log_of
 nodes_of_serial ss order s = s.once.only
 
-pub order_written : (old new : Option (List ℕ)) (ss : List ClientSession) → IsWellFormedList ss → (f : Cnf) (values : List Bool) (order text : List ℕ) → f ≡ plain_answer ss → Satisfies values f → IsDecoded f.nodes (before f values) order → text ≡ order_text ss order → Appends old new text → IsOrderWritten old new values ss
-order_written old new ss h f values order text e sat d t a = record {
-  satisfies = subst (λ (g : Cnf). Satisfies values g) e sat;
-  order = order;
-  decoded = subst (λ (g : Cnf). IsDecoded g.nodes (before g values) order) e d;
-  serial = serial_of ss h f values order e sat d;
-  text = subst (λ (s : List ℕ). Appends old new s) t a;
-}
-
-pub cut_short : (old new : Option (List ℕ)) (text whole : List ℕ) (written : ℕ) → text ≡ whole → (written ≤ length text) × Appends old new (take written text) → IsCutShort whole old new written
-cut_short old new text whole written e h = subst (λ (s : List ℕ). IsCutShort s old new written) e (record { within = h.0; front = h.1 })
-
 pub assignment_long : (vars : ℕ) (items : List Item) → length (answer.assignment vars items) ≡ vars
 assignment_long vars items = length-map-range_with_len _ 1 vars
 
--- a refused order is a refused answer
-refused_by : (old new : Option (List ℕ)) (given : List ℕ) (ss : List ClientSession) (f : Fault) → IsOrderFault old new (named_by given ss) f ss → IsDecodeFault old new given f ss
-refused_by old new given ss (fault.Log f) h = h
-refused_by old new given ss (fault.Formula f) h = absurd h.0
-refused_by old new given ss (fault.Answer f) h = absurd h.0
-refused_by old new given ss (fault.NotAModel k) h = h
-refused_by old new given ss (fault.Order f) h = h
-refused_by old new given ss fault.NotAPermutation h = h
-refused_by old new given ss (fault.SessionOrder s p) h = h
-refused_by old new given ss (fault.ReadMismatch s p o) h = h
-refused_by old new given ss (fault.Device w) h = at_order h.0 h.1 h.2
-refused_by old new given ss fault.Memory h = h
+-- ---- a command, from what it says of a log's sessions
+pub told_all : (Says : List ClientSession → Status → List ℕ → Type 0) (log : List ℕ) (ss : List ClientSession) (old new : Option (List ℕ)) (status : Status) (text : List ℕ) (r : Result Status Fault) → IsWellFormed log ss → Says ss status text → IfOk r (λ s. s ≡ status) → OnOk r (Appends old new text) → IfOk r (IsTold Says log old new)
+told_all Says log ss old new status text (Ok s) w says e told = record {
+  sessions = ss;
+  well_formed = w;
+  text = text;
+  says = subst (λ t. Says ss t text) (sym e) says;
+  told = told;
+}
+told_all Says log ss old new status text (Err f) w says e told = tt
 
-pub refused_answer : {X : Type 0} (old new : Option (List ℕ)) (values : List Bool) (given : List ℕ) (ss : List ClientSession) (r : Result X Fault) → values ≡ named_by given ss → IfErr r (λ f. IsOrderFault old new values f ss) → IfErr r (λ f. IsDecodeFault old new given f ss)
-refused_answer old new values given ss (Ok x) e h = tt
-refused_answer old new values given ss (Err f) e h = refused_by old new given ss f (subst (λ (v : List Bool). IsOrderFault old new v f ss) e h)
+cut_at : (Says : List ClientSession → Status → List ℕ → Type 0) (Refuses : Fault → List ClientSession → Type 0) (log : List ℕ) (ss : List ClientSession) (old new : Option (List ℕ)) (status : Status) (text : List ℕ) (f : Fault) → IsWellFormed log ss → Says ss status text → IsCutAt old new text f → IsRefused Says Refuses log old new f
+cut_at Says Refuses log ss old new status text (fault.Log f) w says cut = absurd cut
+cut_at Says Refuses log ss old new status text (fault.Formula f) w says cut = absurd cut
+cut_at Says Refuses log ss old new status text (fault.Answer f) w says cut = absurd cut
+cut_at Says Refuses log ss old new status text (fault.NotAModel k) w says cut = absurd cut
+cut_at Says Refuses log ss old new status text (fault.Order f) w says cut = absurd cut
+cut_at Says Refuses log ss old new status text fault.NotAPermutation w says cut = absurd cut
+cut_at Says Refuses log ss old new status text (fault.SessionOrder s p) w says cut = absurd cut
+cut_at Says Refuses log ss old new status text (fault.ReadMismatch s p o) w says cut = absurd cut
+cut_at Says Refuses log ss old new status text (fault.Device written) w says cut =
+    by_device written (record { sessions = ss; well_formed = w; status = status; text = text; says = says; cut = cut })
+cut_at Says Refuses log ss old new status text fault.Memory w says cut = absurd cut
 
-one_of : (log : List ℕ) (old new : Option (List ℕ)) (given : List ℕ) (ss : List ClientSession) → IsWellFormed log ss → (f : Fault) → IsDecodeFault old new given f ss → OrLogFault log old new (IsDecodeFault old new given) f
-one_of log old new given ss w (fault.Log f) h = absurd h.0
-one_of log old new given ss w (fault.Formula f) h = record { sessions = ss; well_formed = w; holds = h }
-one_of log old new given ss w (fault.Answer f) h = record { sessions = ss; well_formed = w; holds = h }
-one_of log old new given ss w (fault.NotAModel k) h = record { sessions = ss; well_formed = w; holds = h }
-one_of log old new given ss w (fault.Order f) h = record { sessions = ss; well_formed = w; holds = h }
-one_of log old new given ss w fault.NotAPermutation h = record { sessions = ss; well_formed = w; holds = h }
-one_of log old new given ss w (fault.SessionOrder s p) h = record { sessions = ss; well_formed = w; holds = h }
-one_of log old new given ss w (fault.ReadMismatch s p o) h = record { sessions = ss; well_formed = w; holds = h }
-one_of log old new given ss w (fault.Device n) h = record { sessions = ss; well_formed = w; holds = h }
-one_of log old new given ss w fault.Memory h = record { sessions = ss; well_formed = w; holds = h }
+pub cut_all : (Says : List ClientSession → Status → List ℕ → Type 0) (Refuses : Fault → List ClientSession → Type 0) (log : List ℕ) (ss : List ClientSession) (old new : Option (List ℕ)) (status : Status) (text : List ℕ) (r : Result Status Fault) → IsWellFormed log ss → Says ss status text → IfErr r (IsCutAt old new text) → IfErr r (IsRefused Says Refuses log old new)
+cut_all Says Refuses log ss old new status text (Ok s) w says cut = tt
+cut_all Says Refuses log ss old new status text (Err f) w says cut = cut_at Says Refuses log ss old new status text f w says cut
 
-pub refused_log : {X : Type 0} (log : List ℕ) (old new : Option (List ℕ)) (given : List ℕ) (ss : List ClientSession) → IsWellFormed log ss → (r : Result X Fault) → IfErr r (λ f. IsDecodeFault old new given f ss) → IfErr r (OrLogFault log old new (IsDecodeFault old new given))
-refused_log log old new given ss w (Ok x) h = tt
-refused_log log old new given ss w (Err f) h = one_of log old new given ss w f h
+pub keeps : (b : Option (List ℕ)) → Keeps b b
+keeps None = tt
+keeps (Some xs) = refl
+
+-- ---- encode and decode
+pub encoding_of : (plain : Bool) (ss : List ClientSession) → IsWellFormedList ss → (f : Cnf) → IsFormulaOf plain ss f → IsEncoding plain ss Done (text_of f)
+encoding_of plain ss h f b = record { formula = f; belongs = b; headline = headline_of ss h f b.formula; ends = refl; told = refl }
+
+pub answer_to : (plain : Bool) (given : List ℕ) (ss : List ClientSession) (f : Cnf) (vars : ℕ) (claimed : dimacs.Status) → vars ≡ f.variables → IsFormulaOf plain ss f → answer.answer_fault vars given ≡ None → answer.status_of given ≡ Some claimed → IsAnswerTo plain given ss claimed f
+answer_to plain given ss f vars claimed e b accepted claims =
+    record { belongs = b; accepted = subst (λ n. answer.answer_fault n given ≡ None) e accepted; claims = claims }
+
+pub order_text_of : (given : List ℕ) (ss : List ClientSession) → IsWellFormedList ss → (f : Cnf) → f ≡ plain_answer ss → (values : List Bool) → values ≡ named_by given f → Satisfies values f → (order : List ℕ) → IsDecoded f.nodes (before f values) order → (text : List ℕ) → text ≡ order_text ss order → IsOrderText given ss f text
+order_text_of given ss h f e values named sat order d text told = record {
+  satisfies = subst (λ (v : List Bool). Satisfies v f) named sat;
+  order = order;
+  decoded = subst (λ (v : List Bool). IsDecoded f.nodes (before f v) order) named d;
+  serial = serial_of ss h f values order e sat d;
+  told = told;
+}
+
+pub decoding_is : (plain : Bool) (given : List ℕ) (ss : List ClientSession) (status said : Status) (text told : List ℕ) → status ≡ said → text ≡ told → IsDecoding plain given ss said told → IsDecoding plain given ss status text
+decoding_is plain given ss status said text told e t h = subst (λ (s : Status). IsDecoding plain given ss s text) (sym e) (subst (λ (l : List ℕ). IsDecoding plain given ss said l) (sym t) h)
+
+-- ---- check
+pub verdict_is : (budget : ℕ) (ss : List ClientSession) (status said : Status) (text told : List ℕ) → status ≡ said → text ≡ told → IsVerdict budget ss said told → IsVerdict budget ss status text
+verdict_is budget ss status said text told e t h = subst (λ (s : Status). IsVerdict budget ss s text) (sym e) (subst (λ (l : List ℕ). IsVerdict budget ss said l) (sym t) h)
+
+pub let_through : (ss : List ClientSession) (r : Remainder) → IsOpenHistory ss r → IsLetThrough ss
+let_through ss r h = record { polygraph = h.poly; unpruned = h.unpruned; alive = h.left.alive }

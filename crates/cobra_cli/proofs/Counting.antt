@@ -12,7 +12,7 @@ use Rattle.log_definitions.specs.Numbers.{log_of}
 use Rattle.order_cnf.specs.declared.fault.CnfFault.{CnfFault}
 use Rattle.order_cnf.specs.declared.fault.CnfFault.TheVariants.{TooManyForPlain, TooManyChoices}
 use Rattle.order_cnf.specs.Limits.{choices_fault, size_fault, IsFault}
-use Rattle.cobra_cli.specs.Commands.{fault_where, formula_fault}
+use Rattle.cobra_cli.specs.Formulas.{fault_where, formula_fault}
 
 -- one piece more, behind those so far
 pub joined : (o x y a b : List ℕ) → x ≡ o ++ a → y ≡ x ++ b → y ≡ o ++ (a ++ b)

@@ -4,7 +4,11 @@ use Rattle.dimacs.specs.Sinks.{one_more}
 use Rattle.cobra_cli.specs.declared.status.Status.{Status}
 use Rattle.cobra_cli.specs.declared.status.Status.TheVariants.{Done, NotSerializable, Unknown}
 use Rattle.cobra_cli.specs.declared.fault.Fault.{Fault}
-use Rattle.cobra_cli.specs.declared.fault.Fault.TheVariants.{Device}
+use Rattle.cobra_cli.specs.declared.fault.Fault.TheVariants.{Device, Memory}
+use Rattle.cobra_cli.specs.declared.source.ReadFault.{ReadFault}
+use Rattle.cobra_cli.specs.declared.source.ReadFault.TheVariants as read
+use Rattle.cobra_cli.specs.declared.stop.Stop.{Stop}
+use Rattle.cobra_cli.specs.declared.stop.Stop.TheVariants.{Refused, Input}
 
 -- the sink failed in this call exactly where it is refused for that
 abbrev pub failures_after : ℕ → Result Status Fault → ℕ
@@ -16,3 +20,8 @@ abbrev pub code_of : Status → ℕ
 code_of Done = 0
 code_of NotSerializable = 1
 code_of Unknown = 3
+
+-- how a source that was not read to its end stops the program
+abbrev pub read_stop : ReadFault → Stop
+read_stop read.Device = Input
+read_stop read.Memory = Refused Memory

@@ -1,4 +1,4 @@
--- The text of a log's counts, and of its plain formula's.
+-- The text of a log's counts, and of those of its formula.
 use Rattle.std.specs.Prelude.{ℕ, List, [], ◌∷◌, ◌++◌, length, codes, decimal, Option, None, Some}
 use Rattle.session_log.specs.Text.{ClientSession}
 use Rattle.serializability.specs.declared.anomaly.Anomaly.{Anomaly}
@@ -7,10 +7,11 @@ use Rattle.serializability.specs.declared.anomaly.ReadAnomaly.{ReadAnomaly}
 use Rattle.serializability.specs.declared.anomaly.ReadAnomaly.TheVariants as read
 use Rattle.serializability.specs.Log.{Log}
 use Rattle.serializability.specs.Polygraph.{bipaths}
+use Rattle.serializability.specs.Formula.{Cnf}
 use Rattle.serializability.specs.Anomalies.{anomaly_of}
 use Rattle.log_definitions.specs.WellFormed.{ops_in, keys_in}
 use Rattle.log_definitions.specs.Serial.{committed_in}
-use Rattle.log_definitions.specs.Numbers.{log_of, aborted_in, plain_answer}
+use Rattle.log_definitions.specs.Numbers.{log_of, aborted_in}
 
 -- a word, a space and a number
 abbrev pub count_line : List ℕ → ℕ → List ℕ
@@ -42,9 +43,9 @@ counts_text ss =
     ++ count_line (codes "keys") (length (keys_in ss))
     ++ count_line (codes "operations") (length (ops_in ss))
 
-unfoldable pub stats_text : List ClientSession → List ℕ
-stats_text ss =
+unfoldable pub stats_text : List ClientSession → Cnf → List ℕ
+stats_text ss f =
     counts_text ss
     ++ choices_line (anomaly_of (log_of ss)) (log_of ss)
-    ++ count_line (codes "variables") (plain_answer ss).variables
-    ++ count_line (codes "clauses") (length (plain_answer ss).clauses)
+    ++ count_line (codes "variables") f.variables
+    ++ count_line (codes "clauses") (length f.clauses)

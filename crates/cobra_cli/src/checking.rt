@@ -3,17 +3,18 @@
 ghost use Rattle.std.specs.Prelude.{◌≡◌, IfOk, IfErr};
 ghost use Rattle.reduction.specs.Chained.{HasItsOrders};
 ghost use Rattle.branch_search.specs.Answers.{SaysYes, SaysNo, SaysUnknown};
-ghost use Rattle.cobra_cli.specs.Commands.{HoldsOf, OrLogFault};
-ghost use Rattle.cobra_cli.specs.Checked.{IsVerdict, IsUndecided, IsChecked, IsCheckFault};
+ghost use Rattle.cobra_cli.specs.Answers.{IsTold, IsRefused};
+ghost use Rattle.cobra_cli.specs.Checked.{IsLetThrough, IsVerdict, IsUndecided};
 ghost use Rattle.cobra_cli.specs.Failures.{failures_after};
 
 use crate::fault::Fault;
 use crate::reading::read_log;
+use crate::reply::{Reply, tell};
 use crate::status::{Options, Status, StrategyName};
 use crate::verdict::{anomaly_text, cycle_text, serial_text, spent_text};
 use branch_search::{Answer, FirstOpen, LeastEdges, MostEdges, search};
 use desk::gate::Gate;
-use dimacs::{Sink, write_all};
+use dimacs::Sink;
 use history::History;
 use prune_ledger::Reduced;
 use reduction::{Reduction, reduce};
@@ -27,13 +28,6 @@ const DEAD: &[u8] = b"not serializable: A9 pruning ends in a cycle\n";
 
 /// What is written where a search refuted every cube, as long as nothing checks its tree.
 const REFUTED: &[u8] = b"undecided: every cube is refuted\n";
-
-/// How a check ends, and what it has to write.
-#[derive(Drop)]
-struct Conclusion {
-    status: Status,
-    text: Vec<u8>,
-}
 
 /// Searches what pruning left, by the strategy of this name.
 fn searched<G: Gate, R: Threads + Wait + Clock + Sync>(
@@ -71,7 +65,7 @@ fn searched<G: Gate, R: Threads + Wait + Clock + Sync>(
     }
 }
 
-/// What a search found.
+/// What is to be said of what a search found.
 fn search_verdict<G: Gate, R: Threads + Wait + Clock + Sync>(
     rt: &R,
     alloc: Global,
@@ -79,76 +73,51 @@ fn search_verdict<G: Gate, R: Threads + Wait + Clock + Sync>(
     reduced: &Reduced,
     options: &Options,
     gate: &G,
-) -> Result<Conclusion, AllocError>
+) -> Result<Reply, AllocError>
+    requires through { IsLetThrough history.now }
     requires orders { HasItsOrders history.now reduced.now.poly }
     ensures verdict { IfOk result (λ v.
         IsVerdict options.now.budget history.now v.status v.text.items) }
 {
     match searched(rt, alloc, history, reduced, options, gate)? {
-        Answer::Yes(order) => Ok(Conclusion {
+        Answer::Yes(order) => Ok(Reply {
             status: Status::Done,
             text: serial_text(alloc, history, &order)?,
         }),
-        Answer::No(_) => Ok(Conclusion {
-            status: Status::Unknown,
-            text: Vec::from_slice(alloc, REFUTED)?,
-        }),
-        Answer::Unknown { closed } => Ok(Conclusion {
+        Answer::No(_) => Ok(Reply::fixed(alloc, Status::Unknown, REFUTED)?),
+        Answer::Unknown { closed } => Ok(Reply {
             status: Status::Unknown,
             text: spent_text(alloc, closed)?,
         }),
     }
 }
 
-/// What a check of a history has to write.
+/// What is to be said of a history.
 fn verdict<G: Gate, R: Threads + Wait + Clock + Sync>(
     rt: &R,
     alloc: Global,
     history: &History,
     options: &Options,
     gate: &G,
-) -> Result<Conclusion, Fault>
+) -> Result<Reply, Fault>
     ensures verdict { IfOk result (λ v.
         IsVerdict options.now.budget history.now v.status v.text.items) }
-    ensures refused { IfErr result (IsUndecided history.now) }
+    ensures refused { IfErr result (λ f. IsUndecided f history.now) }
 {
     match reduce(rt, alloc, history, options.workers, gate)? {
-        Reduction::Anomalous(anomaly) => Ok(Conclusion {
+        Reduction::Anomalous(anomaly) => Ok(Reply {
             status: Status::NotSerializable,
             text: anomaly_text(alloc, history, anomaly)?,
         }),
-        Reduction::Cyclic(line) => Ok(Conclusion {
+        Reduction::Cyclic(line) => Ok(Reply {
             status: Status::NotSerializable,
             text: cycle_text(alloc, history, &line)?,
         }),
-        Reduction::Dead(_) => Ok(Conclusion {
-            status: Status::NotSerializable,
-            text: Vec::from_slice(alloc, DEAD)?,
-        }),
+        Reduction::Dead(_) => Ok(Reply::fixed(alloc, Status::NotSerializable, DEAD)?),
         Reduction::Open(reduced) => Ok(search_verdict(
             rt, alloc, history, &reduced, options, gate,
         )?),
     }
-}
-
-/// Writes whether some serial order explains a history.
-fn check_history<R: Threads + Wait + Clock + Sync, G: Gate, W: Sink>(
-    rt: &R,
-    alloc: Global,
-    history: &History,
-    options: &Options,
-    gate: &G,
-    sink: &mut W,
-) -> Result<Status, Fault>
-    ensures checked { IfOk result (λ status.
-        IsChecked options.now.budget (W.bytes sink.old) (W.bytes sink.new) status history.now) }
-    ensures refused { IfErr result (λ f.
-        IsCheckFault options.now.budget (W.bytes sink.old) (W.bytes sink.new) f history.now) }
-    ensures count { W.failures sink.new ≡ failures_after (W.failures sink.old) result }
-{
-    let Conclusion { status, text } = verdict(rt, alloc, history, options, gate)?;
-    write_all(sink, &text)?;
-    Ok(status)
 }
 
 /// Writes whether some serial order explains a log: `serializable` and such an order; or `not serializable` and why, by an
@@ -166,12 +135,13 @@ pub fn check<R: Threads + Wait + Clock + Sync, G: Gate, W: Sink>(
     gate: &G,
     sink: &mut W,
 ) -> Result<Status, Fault>
-    ensures checked { IfOk result (λ status. HoldsOf log.now
-        (IsChecked options.now.budget (W.bytes sink.old) (W.bytes sink.new) status)) }
-    ensures refused { IfErr result (OrLogFault log.now (W.bytes sink.old) (W.bytes sink.new)
-        (IsCheckFault options.now.budget (W.bytes sink.old) (W.bytes sink.new))) }
+    ensures told { IfOk result (IsTold (IsVerdict options.now.budget)
+        log.now (W.bytes sink.old) (W.bytes sink.new)) }
+    ensures refused { IfErr result (IsRefused (IsVerdict options.now.budget) IsUndecided
+        log.now (W.bytes sink.old) (W.bytes sink.new)) }
     ensures count { W.failures sink.new ≡ failures_after (W.failures sink.old) result }
 {
     let history = read_log(rt, alloc, log, options.workers, gate)?;
-    check_history(rt, alloc, &history, options, gate, sink)
+    let reply = verdict(rt, alloc, &history, options, gate)?;
+    tell(sink, &reply)
 }

@@ -3,18 +3,21 @@
 ghost use Rattle.std.specs.Prelude.{◌≡◌, length, IfOk, IfErr, OnOk};
 ghost use Rattle.serializability.specs.Formula.{Satisfies};
 ghost use Rattle.serializability.specs.Decoded.{before, IsDecoded};
-ghost use Rattle.log_definitions.specs.Numbers.{IsWellFormedList, plain_answer};
+ghost use Rattle.log_definitions.specs.Numbers.{IsWellFormedList};
+ghost use Rattle.dimacs.specs.declared.status.Status.TheVariants.{Satisfiable};
 ghost use Rattle.order_cnf.specs.Data.{cnf_of};
-ghost use Rattle.cobra_cli.specs.Commands.{HoldsOf, IsAssignmentRefused, IsOrderWritten, IsOrderFault, IsDecodedAnswer, IsDecodeFault, OrLogFault};
+ghost use Rattle.cobra_cli.specs.Answers.{IsTold, IsRefused};
+ghost use Rattle.cobra_cli.specs.Commands.{named_by, IsAnswerTo, IsAssignmentRefused, IsDecoding, IsNotDecoded, IsOrderText};
 ghost use Rattle.cobra_cli.specs.Failures.{failures_after};
 
-use crate::encoding::formula_of;
 use crate::fault::Fault;
+use crate::formula::formula_of;
 use crate::reading::read_log;
+use crate::reply::{Reply, tell};
 use crate::status::{Options, Status};
 use decode_order::{DecodeFault, positions};
 use desk::gate::Gate;
-use dimacs::{Sink, SolverAnswer, read_answer, write_all};
+use dimacs::{Sink, SolverAnswer, read_answer};
 use history::{History, Order};
 use order_cnf::Formula;
 use order_text::print_order;
@@ -38,54 +41,51 @@ fn order_of(alloc: Global, formula: &Formula, values: &[bool]) -> Result<Order, 
     }
 }
 
-/// Writes the order that an assignment stands for.
-fn write_order<W: Sink>(
+/// The text of the order that an answer's assignment stands for.
+fn order_reply(
     alloc: Global,
     history: &History,
     formula: &Formula,
+    answer: &[u8],
+    options: &Options,
     values: &[bool],
-    sink: &mut W,
-) -> Result<Status, Fault>
-    requires each_variable { length values.now ≡ formula.now.variables }
-    requires formula { cnf_of formula.now ≡ plain_answer history.now }
+) -> Result<Reply, Fault>
+    requires names { IsAnswerTo options.now.plain answer.now history.now Satisfiable (cnf_of formula.now) }
+    requires named { values.now ≡ named_by answer.now (cnf_of formula.now) }
     requires well_formed { IsWellFormedList history.now }
-    ensures order { OnOk result
-        (IsOrderWritten (W.bytes sink.old) (W.bytes sink.new) values.now history.now) }
-    ensures status { IfOk result (λ status. status ≡ Status.Done) }
-    ensures refused { IfErr result (λ f.
-        IsOrderFault (W.bytes sink.old) (W.bytes sink.new) values.now f history.now) }
-    ensures count { W.failures sink.new ≡ failures_after (W.failures sink.old) result }
+    ensures decoded { IfOk result (λ r.
+        IsDecoding options.now.plain answer.now history.now r.status r.text.items) }
+    ensures refused { IfErr result (λ f. IsNotDecoded options.now.plain answer.now f history.now) }
 {
     let order = order_of(alloc, formula, values)?;
-    let text = print_order(alloc, history, &order)?;
-    write_all(sink, &text)?;
-    Ok(Status::Done)
+    Ok(Reply {
+        status: Status::Done,
+        text: print_order(alloc, history, &order)?,
+    })
 }
 
-/// Writes what an answer says of a history.
-fn decode_history<W: Sink>(
+/// What an answer says of a history.
+fn decoded(
     alloc: Global,
     history: &History,
     answer: &[u8],
-    sink: &mut W,
-) -> Result<Status, Fault>
-    ensures decoded { IfOk result (λ status.
-        IsDecodedAnswer (W.bytes sink.old) (W.bytes sink.new) answer.now status history.now) }
-    ensures refused { IfErr result (λ f.
-        IsDecodeFault (W.bytes sink.old) (W.bytes sink.new) answer.now f history.now) }
-    ensures count { W.failures sink.new ≡ failures_after (W.failures sink.old) result }
+    options: &Options,
+) -> Result<Reply, Fault>
+    ensures decoded { IfOk result (λ r.
+        IsDecoding options.now.plain answer.now history.now r.status r.text.items) }
+    ensures refused { IfErr result (λ f. IsNotDecoded options.now.plain answer.now f history.now) }
 {
-    let formula = formula_of(alloc, history)?;
+    let formula = formula_of(alloc, history, options)?;
     match read_answer(alloc, answer, formula.vars())? {
-        SolverAnswer::Model(values) => write_order(alloc, history, &formula, &values, sink),
-        SolverAnswer::Unsatisfiable => {
-            write_all(sink, b"unsatisfiable claimed, not checked\n")?;
-            Ok(Status::Unknown)
+        SolverAnswer::Model(values) => {
+            order_reply(alloc, history, &formula, answer, options, &values)
         }
-        SolverAnswer::Unknown => {
-            write_all(sink, b"unknown\n")?;
-            Ok(Status::Unknown)
-        }
+        SolverAnswer::Unsatisfiable => Ok(Reply::fixed(
+            alloc,
+            Status::Unknown,
+            b"unsatisfiable claimed, not checked\n",
+        )?),
+        SolverAnswer::Unknown => Ok(Reply::fixed(alloc, Status::Unknown, b"unknown\n")?),
     }
 }
 
@@ -104,12 +104,13 @@ pub fn decode<R: Threads + Wait + Clock + Sync, G: Gate, W: Sink>(
     gate: &G,
     sink: &mut W,
 ) -> Result<Status, Fault>
-    ensures decoded { IfOk result (λ status. HoldsOf log.now
-        (IsDecodedAnswer (W.bytes sink.old) (W.bytes sink.new) answer.now status)) }
-    ensures refused { IfErr result (OrLogFault log.now (W.bytes sink.old) (W.bytes sink.new)
-        (IsDecodeFault (W.bytes sink.old) (W.bytes sink.new) answer.now)) }
+    ensures told { IfOk result (IsTold (IsDecoding options.now.plain answer.now)
+        log.now (W.bytes sink.old) (W.bytes sink.new)) }
+    ensures refused { IfErr result (IsRefused (IsDecoding options.now.plain answer.now)
+        (IsNotDecoded options.now.plain answer.now) log.now (W.bytes sink.old) (W.bytes sink.new)) }
     ensures count { W.failures sink.new ≡ failures_after (W.failures sink.old) result }
 {
     let history = read_log(rt, alloc, log, options.workers, gate)?;
-    decode_history(alloc, &history, answer, sink)
+    let reply = decoded(alloc, &history, answer, options)?;
+    tell(sink, &reply)
 }

@@ -1,52 +1,35 @@
 //! From a log to the text of its formula.
 
-ghost use Rattle.std.specs.Prelude.{◌≡◌, ◌≤◌, IfOk, IfErr, OnOk};
-ghost use Rattle.log_definitions.specs.Numbers.{log_of, IsWellFormedList, plain_answer};
+ghost use Rattle.std.specs.Prelude.{◌≡◌, IfOk, IfErr, OnOk};
+ghost use Rattle.std.specs.Io.KnownBytes.{Appends};
+ghost use Rattle.dimacs.specs.Text.{text_of};
 ghost use Rattle.order_cnf.specs.Data.{cnf_of};
-ghost use Rattle.order_cnf.specs.Limits.{IsFault};
-ghost use Rattle.cobra_cli.specs.Commands.{formula_fault, HoldsOf, IsEncoded, IsEncodeFault, OrLogFault};
+ghost use Rattle.cobra_cli.specs.Answers.{IsTold, IsRefused, IsCutAt};
+ghost use Rattle.cobra_cli.specs.Commands.{IsEncoding, HasNoFormula};
 ghost use Rattle.cobra_cli.specs.Failures.{failures_after};
 
 use crate::fault::Fault;
+use crate::formula::formula_of;
 use crate::reading::read_log;
 use crate::status::{Options, Status};
-use anomalies::classify;
 use desk::gate::Gate;
 use dimacs::{Sink, write_formula};
-use history::History;
-use order_cnf::{CnfFault, Formula, MAX_PLAIN_NODES, contradiction, plain_formula};
+use order_cnf::Formula;
 use std::alloc::Global;
 use std::sync::Wait;
 use std::thread::Threads;
 use std::time::Clock;
 
-/// The formula of a history: the plain one where no anomaly stands, and else the contradiction.
-#[tactic(auto, unfolding(crate::specs::Commands::formula_fault, log_definitions::specs::Numbers::plain_answer))]
-pub fn formula_of(alloc: Global, history: &History) -> Result<Formula, CnfFault>
-    ensures formula { IfOk result (λ f. cnf_of f ≡ plain_answer history.now) }
-    ensures fault { IfErr result (λ e. IsFault e (formula_fault history.now)) }
-    ensures well_formed { IsWellFormedList history.now }
-    ensures few { OnOk result ((log_of history.now).nodes ≤ 100) }
-{
-    if history.committed() > MAX_PLAIN_NODES {
-        return Err(CnfFault::TooManyForPlain);
-    }
-    match classify(alloc, history)? {
-        Some(_) => contradiction(alloc),
-        None => plain_formula(alloc, history),
-    }
-}
-
-/// Writes the formula of a history.
-fn encode_history<W: Sink>(alloc: Global, history: &History, sink: &mut W) -> Result<Status, Fault>
-    ensures encoded { OnOk result (IsEncoded (W.bytes sink.old) (W.bytes sink.new) history.now) }
+/// Puts the text of a formula into a sink.
+fn tell_formula<W: Sink>(sink: &mut W, formula: &Formula) -> Result<Status, Fault>
     ensures status { IfOk result (λ status. status ≡ Status.Done) }
-    ensures refused { IfErr result (λ f.
-        IsEncodeFault (W.bytes sink.old) (W.bytes sink.new) f history.now) }
+    ensures told { OnOk result
+        (Appends (W.bytes sink.old) (W.bytes sink.new) (text_of (cnf_of formula.now))) }
+    ensures cut { IfErr result
+        (IsCutAt (W.bytes sink.old) (W.bytes sink.new) (text_of (cnf_of formula.now))) }
     ensures count { W.failures sink.new ≡ failures_after (W.failures sink.old) result }
 {
-    let formula = formula_of(alloc, history)?;
-    write_formula(sink, &formula)?;
+    write_formula(sink, formula)?;
     Ok(Status::Done)
 }
 
@@ -54,8 +37,8 @@ fn encode_history<W: Sink>(alloc: Global, history: &History, sink: &mut W) -> Re
 /// satisfies it exactly where some serial order of the committed transactions explains every read.
 ///
 /// # Errors
-/// The log's first fault; G2 above 100 committed transactions; G1 above 100,000 bipaths; the sink's failure, with how much
-/// of the text went out; want of memory. At each but the sink's nothing was written.
+/// The log's first fault; G2 above 100 committed transactions; G1 above 100,000 bipaths; G3 above 20,000,000 clauses; the
+/// sink's failure, with how much of the text went out; want of memory. At each but the sink's nothing was written.
 pub fn encode<R: Threads + Wait + Clock + Sync, G: Gate, W: Sink>(
     rt: &R,
     alloc: Global,
@@ -64,13 +47,13 @@ pub fn encode<R: Threads + Wait + Clock + Sync, G: Gate, W: Sink>(
     gate: &G,
     sink: &mut W,
 ) -> Result<Status, Fault>
-    ensures encoded { OnOk result
-        (HoldsOf log.now (IsEncoded (W.bytes sink.old) (W.bytes sink.new))) }
-    ensures status { IfOk result (λ status. status ≡ Status.Done) }
-    ensures refused { IfErr result (OrLogFault log.now (W.bytes sink.old) (W.bytes sink.new)
-        (IsEncodeFault (W.bytes sink.old) (W.bytes sink.new))) }
+    ensures told { IfOk result (IsTold (IsEncoding options.now.plain)
+        log.now (W.bytes sink.old) (W.bytes sink.new)) }
+    ensures refused { IfErr result (IsRefused (IsEncoding options.now.plain) (HasNoFormula options.now.plain)
+        log.now (W.bytes sink.old) (W.bytes sink.new)) }
     ensures count { W.failures sink.new ≡ failures_after (W.failures sink.old) result }
 {
     let history = read_log(rt, alloc, log, options.workers, gate)?;
-    encode_history(alloc, &history, sink)
+    let formula = formula_of(alloc, &history, options)?;
+    tell_formula(sink, &formula)
 }

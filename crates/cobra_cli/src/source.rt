@@ -1,8 +1,8 @@
 //! Where bytes come from.
 
-ghost use Rattle.std.specs.Prelude.{◌≡◌, ℕ, ◌+◌, ◌^◌, ◌<◌, ◌≤◌, if◌then◌else◌, List, Option, length, vec_len, is_err, IfOk, IfErr, OnOk, OnErr, IsErrOf};
+ghost use Rattle.std.specs.Prelude.{◌≡◌, ℕ, ◌+◌, ◌^◌, ◌<◌, ◌≤◌, if◌then◌else◌, List, Option, length, vec_len, is_err, true, IfOk, IfErr, OnOk, OnErr, IsErrOf};
 ghost use Rattle.std.specs.Io.KnownBytes.{ReadConsumes};
-ghost use Rattle.dimacs.specs.Sinks.{one_more};
+ghost use Rattle.dimacs.specs.Sinks.{most_failures, one_more};
 ghost use Rattle.cobra_cli.specs.Sources.{TakesPiece, IsReadWhole, IsReadInPart};
 ghost use Rattle.cobra_cli.specs.declared.source.ReadFault.TheVariants as fault;
 
@@ -18,7 +18,7 @@ pub trait Source {
     /// The bytes that are left, where they are known.
     ghost rest: { Self → Option (List ℕ) };
 
-    /// How many calls failed, at most 2^64 - 1.
+    /// How many calls failed. Once this is at its greatest value, 2^64 - 1, every call fails.
     ghost failures: { Self → ℕ };
 
     /// Gets some bytes into the front of a buffer. None for a buffer that has room is the end of input.
@@ -26,7 +26,8 @@ pub trait Source {
         ensures bound { IfOk result (λ n. n ≤ length buffer.new) }
         ensures bytes { ReadConsumes (rest self.old) (rest self.new) result buffer.new }
         ensures count { failures self.new
-            ≡ (if is_err result then one_more (failures self.old) else failures self.old) };
+            ≡ (if is_err result then one_more (failures self.old) else failures self.old) }
+        ensures spent { failures self.old ≡ most_failures → is_err result ≡ true };
 }
 
 /// Any reader as a source, with a count of its failures. Once the count is at its greatest value, each call fails.

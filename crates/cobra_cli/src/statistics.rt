@@ -6,17 +6,19 @@ ghost use Rattle.serializability.specs.Polygraph as spec;
 ghost use Rattle.serializability.specs.Reads.{IsClean};
 ghost use Rattle.log_definitions.specs.Numbers.{log_of, IsWellFormedList};
 ghost use Rattle.order_cnf.specs.Limits.{choices_fault, IsFault};
-ghost use Rattle.cobra_cli.specs.Commands.{HoldsOf, IsFormulaRefusal, IsStatsFault, IsStatsWritten, OrLogFault};
+ghost use Rattle.cobra_cli.specs.Answers.{IsTold, IsRefused};
+ghost use Rattle.cobra_cli.specs.Commands.{HasNoFormula, IsCounting};
 ghost use Rattle.cobra_cli.specs.Failures.{failures_after};
-ghost use Rattle.cobra_cli.specs.Statistics.{count_line, read_number, anomaly_number, choices_line, counts_text, stats_text};
+ghost use Rattle.cobra_cli.specs.Statistics.{count_line, read_number, anomaly_number, choices_line, counts_text};
 
-use crate::encoding::formula_of;
 use crate::fault::Fault;
+use crate::formula::formula_of;
 use crate::reading::read_log;
+use crate::reply::{Reply, tell};
 use crate::status::{Options, Status};
 use anomalies::classify;
 use desk::gate::Gate;
-use dimacs::{Sink, write_all};
+use dimacs::Sink;
 use history::{Anomaly, History, ReadAnomaly};
 use itoa::Buffer;
 use order_cnf::CnfFault;
@@ -104,14 +106,16 @@ fn put_choices(
     alloc: Global,
     history: &History,
     anomaly: Option<Anomaly>,
+    options: &Options,
 ) -> Result<(), Fault>
     requires few { (log_of history.now).nodes ≤ 100 }
     requires anomaly { anomaly ≡ anomaly_of (log_of history.now) }
     requires well_formed { IsWellFormedList history.now }
     ensures line { OnOk result (out.new.items
         ≡ out.old.items ++ choices_line anomaly (log_of history.now)) }
-    ensures refused { IfErr result (IsFormulaRefusal history.now) }
+    ensures refused { IfErr result (λ f. HasNoFormula options.now.plain f history.now) }
 {
+    let _asked = options.plain;
     match anomaly {
         Some(anomaly) => put_anomaly(out, anomaly)?,
         None => {
@@ -122,34 +126,24 @@ fn put_choices(
     Ok(())
 }
 
-/// The text of the counts of a history and of its formula.
+/// What is to be said of the counts of a history and of its formula.
 #[tactic(auto, unfolding(crate::specs::Statistics::stats_text))]
-fn stats_text(alloc: Global, history: &History) -> Result<Vec<u8>, Fault>
-    ensures text { IfOk result (λ text. text.items ≡ stats_text history.now) }
-    ensures refused { IfErr result (IsFormulaRefusal history.now) }
+fn counted(alloc: Global, history: &History, options: &Options) -> Result<Reply, Fault>
+    ensures counted { IfOk result (λ r.
+        IsCounting options.now.plain history.now r.status r.text.items) }
+    ensures refused { IfErr result (λ f. HasNoFormula options.now.plain f history.now) }
 {
-    let formula = formula_of(alloc, history)?;
-    let mut out = Vec::new(alloc);
-    put_counts(&mut out, history)?;
+    let formula = formula_of(alloc, history, options)?;
+    let mut text = Vec::new(alloc);
+    put_counts(&mut text, history)?;
     let anomaly = classify(alloc, history)?;
-    put_choices(&mut out, alloc, history, anomaly)?;
-    put_count(&mut out, b"variables", formula.vars())?;
-    put_count(&mut out, b"clauses", formula.count())?;
-    Ok(out)
-}
-
-/// Writes the counts of a history.
-fn write_stats<W: Sink>(alloc: Global, history: &History, sink: &mut W) -> Result<Status, Fault>
-    ensures written { OnOk result
-        (IsStatsWritten (W.bytes sink.old) (W.bytes sink.new) history.now) }
-    ensures status { IfOk result (λ status. status ≡ Status.Done) }
-    ensures refused { IfErr result (λ f.
-        IsStatsFault (W.bytes sink.old) (W.bytes sink.new) f history.now) }
-    ensures count { W.failures sink.new ≡ failures_after (W.failures sink.old) result }
-{
-    let text = stats_text(alloc, history)?;
-    write_all(sink, &text)?;
-    Ok(Status::Done)
+    put_choices(&mut text, alloc, history, anomaly, options)?;
+    put_count(&mut text, b"variables", formula.vars())?;
+    put_count(&mut text, b"clauses", formula.count())?;
+    Ok(Reply {
+        status: Status::Done,
+        text,
+    })
 }
 
 /// Writes how many sessions, committed and aborted transactions, keys and operations a log has, and then its anomaly or the
@@ -165,13 +159,13 @@ pub fn stats<R: Threads + Wait + Clock + Sync, G: Gate, W: Sink>(
     gate: &G,
     sink: &mut W,
 ) -> Result<Status, Fault>
-    ensures written { OnOk result
-        (HoldsOf log.now (IsStatsWritten (W.bytes sink.old) (W.bytes sink.new))) }
-    ensures status { IfOk result (λ status. status ≡ Status.Done) }
-    ensures refused { IfErr result (OrLogFault log.now (W.bytes sink.old) (W.bytes sink.new)
-        (IsStatsFault (W.bytes sink.old) (W.bytes sink.new))) }
+    ensures told { IfOk result (IsTold (IsCounting options.now.plain)
+        log.now (W.bytes sink.old) (W.bytes sink.new)) }
+    ensures refused { IfErr result (IsRefused (IsCounting options.now.plain) (HasNoFormula options.now.plain)
+        log.now (W.bytes sink.old) (W.bytes sink.new)) }
     ensures count { W.failures sink.new ≡ failures_after (W.failures sink.old) result }
 {
     let history = read_log(rt, alloc, log, options.workers, gate)?;
-    write_stats(alloc, &history, sink)
+    let reply = counted(alloc, &history, options)?;
+    tell(sink, &reply)
 }

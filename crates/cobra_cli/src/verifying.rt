@@ -5,15 +5,17 @@ ghost use Rattle.std.specs.List.{All};
 ghost use Rattle.serializability.specs.Replay.{IsSerial};
 ghost use Rattle.log_definitions.specs.Numbers.{log_of};
 ghost use Rattle.decode_order.specs.Replaying.{replay_fault, IsReplayFault};
-ghost use Rattle.cobra_cli.specs.Commands.{HoldsOf, IsRefusal, IsVerified, IsVerifyFault, OrLogFault};
+ghost use Rattle.cobra_cli.specs.Answers.{IsTold, IsRefused};
+ghost use Rattle.cobra_cli.specs.Commands.{IsRefusal, IsVerified, IsNotVerified};
 ghost use Rattle.cobra_cli.specs.Failures.{failures_after};
 
 use crate::fault::Fault;
 use crate::reading::read_log;
+use crate::reply::{Reply, tell};
 use crate::status::{Options, Status};
 use decode_order::{ReplayFault, replay};
 use desk::gate::Gate;
-use dimacs::{Sink, write_all};
+use dimacs::Sink;
 use history::{History, Order};
 use order_text::read_order;
 use std::alloc::Global;
@@ -60,24 +62,14 @@ fn replayed(alloc: Global, history: &History, order: &Order) -> Result<(), Fault
     }
 }
 
-/// Checks an order file against a history.
-fn verify_history<W: Sink>(
-    alloc: Global,
-    history: &History,
-    text: &[u8],
-    sink: &mut W,
-) -> Result<Status, Fault>
-    ensures verified { OnOk result
-        (IsVerified (W.bytes sink.old) (W.bytes sink.new) text.now history.now) }
-    ensures status { IfOk result (λ status. status ≡ Status.Done) }
-    ensures refused { IfErr result (λ f.
-        IsVerifyFault (W.bytes sink.old) (W.bytes sink.new) text.now f history.now) }
-    ensures count { W.failures sink.new ≡ failures_after (W.failures sink.old) result }
+/// What is to be said of an order file.
+fn verified(alloc: Global, history: &History, order: &[u8]) -> Result<Reply, Fault>
+    ensures verified { IfOk result (λ r. IsVerified order.now history.now r.status r.text.items) }
+    ensures refused { IfErr result (λ f. IsNotVerified order.now f history.now) }
 {
-    let order = read_order(alloc, text, history)?;
-    replayed(alloc, history, &order)?;
-    write_all(sink, b"accepted\n")?;
-    Ok(Status::Done)
+    let listed = read_order(alloc, order, history)?;
+    replayed(alloc, history, &listed)?;
+    Ok(Reply::fixed(alloc, Status::Done, b"accepted\n")?)
 }
 
 /// Writes `accepted` exactly where an order file lists a serial order of the log.
@@ -94,13 +86,13 @@ pub fn verify<R: Threads + Wait + Clock + Sync, G: Gate, W: Sink>(
     gate: &G,
     sink: &mut W,
 ) -> Result<Status, Fault>
-    ensures verified { OnOk result
-        (HoldsOf log.now (IsVerified (W.bytes sink.old) (W.bytes sink.new) order.now)) }
-    ensures status { IfOk result (λ status. status ≡ Status.Done) }
-    ensures refused { IfErr result (OrLogFault log.now (W.bytes sink.old) (W.bytes sink.new)
-        (IsVerifyFault (W.bytes sink.old) (W.bytes sink.new) order.now)) }
+    ensures told { IfOk result (IsTold (IsVerified order.now)
+        log.now (W.bytes sink.old) (W.bytes sink.new)) }
+    ensures refused { IfErr result (IsRefused (IsVerified order.now) (IsNotVerified order.now)
+        log.now (W.bytes sink.old) (W.bytes sink.new)) }
     ensures count { W.failures sink.new ≡ failures_after (W.failures sink.old) result }
 {
     let history = read_log(rt, alloc, log, options.workers, gate)?;
-    verify_history(alloc, &history, order, sink)
+    let reply = verified(alloc, &history, order)?;
+    tell(sink, &reply)
 }

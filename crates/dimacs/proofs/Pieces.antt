@@ -1,5 +1,5 @@
 -- Known bytes that grow piece by piece.
-use Rattle.std.proofs.Common.{◌≡◌, ℕ, zero, suc, ◌+◌, ◌-◌, ◌≤◌, List, ◌++◌, length, take, drop, Option, None, Some, Result, Ok, Err, refl, sym, ap, ◌∙◌, subst, arith, cond, append_assoc, take-add, take_all, drop-drop, length-drop}
+use Rattle.std.proofs.Common.{◌≡◌, ℕ, zero, suc, ◌+◌, ◌-◌, ◌<◌, ◌≤◌, List, ◌++◌, length, take, drop, Option, None, Some, Result, Ok, Err, refl, sym, ap, ◌∙◌, subst, arith, cond, append_assoc, take-add, take_all, drop-drop, length-drop}
 use Rattle.std.specs.Prelude.{IsErrAnd, IfErr}
 use Rattle.std.proofs.lemmas.Result.{err_from_is_err_and}
 use Rattle.std.specs.Io.KnownBytes.{Appends}
@@ -32,10 +32,10 @@ not_refused zero piece count more old ne e = absurd (ne refl)
 not_refused (suc n) piece count more old ne e = e
 
 -- ---- a whole text
-pub fault_is : (old new : Option (List ℕ)) (text : List ℕ) (e : WriteFault) (r : Result (Unit {0}) WriteFault) → IsErrAnd r (λ y. y ≡ e) → WritesFrom old new 0 text (Err e) → IfErr r (λ f. (f.written ≤ length text) × Appends old new (take f.written text))
+pub fault_is : (old new : Option (List ℕ)) (text : List ℕ) (e : WriteFault) (r : Result (Unit {0}) WriteFault) → IsErrAnd r (λ y. y ≡ e) → WritesFrom old new 0 text (Err e) → IfErr r (λ f. (f.written < length text) × Appends old new (take f.written text))
 fault_is old new text e r is h =
     let x = err_from_is_err_and r is in
-    let P : WriteFault → Type 0 = λ f. (f.written ≤ length text) × Appends old new (take f.written text) in
+    let P : WriteFault → Type 0 = λ f. (f.written < length text) × Appends old new (take f.written text) in
     let n : e.written - 0 ≡ e.written = omega arith in
     let here : P e = (omega (arith, h.err.1), subst (λ k. Appends old new (take k text)) n h.err.2) in
     let there : P x.0 = subst P (sym x.2) here in

@@ -1,8 +1,8 @@
 //! Where bytes go.
 
-ghost use Rattle.std.specs.Prelude.{◌≡◌, ℕ, ◌+◌, ◌^◌, ◌<◌, ◌≤◌, if◌then◌else◌, List, Option, length, take, is_ok, IfOk, IfErr, OnOk};
+ghost use Rattle.std.specs.Prelude.{◌≡◌, ℕ, ◌+◌, ◌^◌, ◌<◌, ◌≤◌, if◌then◌else◌, List, Option, length, take, is_ok, true, IfOk, IfErr, OnOk};
 ghost use Rattle.std.specs.Io.KnownBytes.{Appends, WriteAppends};
-ghost use Rattle.dimacs.specs.Sinks.{one_more, is_refused, WritesFrom};
+ghost use Rattle.dimacs.specs.Sinks.{most_failures, one_more, is_refused, WritesFrom};
 
 use crate::fault::{SinkFailed, WriteFault};
 use std::io::Write;
@@ -12,7 +12,7 @@ pub trait Sink {
     /// The bytes so far, where the sink tells them.
     ghost bytes: { Self → Option (List ℕ) };
 
-    /// How many calls failed.
+    /// How many calls failed. Once this is at its greatest value, 2^64 - 1, every call fails.
     ghost failures: { Self → ℕ };
 
     /// Takes some of a piece from its front, and answers how many bytes. To take none of a piece
@@ -22,7 +22,8 @@ pub trait Sink {
         ensures bytes { WriteAppends (bytes self.old) (bytes self.new) result piece.now }
         ensures count { failures self.new ≡
             (if is_refused result piece.now
-            then one_more (failures self.old) else failures self.old) };
+            then one_more (failures self.old) else failures self.old) }
+        ensures spent { failures self.old ≡ most_failures → is_refused result piece.now ≡ true };
 }
 
 /// Any writer as a sink. Once the count of failures is at its greatest value, every `put` fails.
@@ -94,10 +95,10 @@ pub(crate) fn put_all<W: Sink>(sink: &mut W, written: u64, piece: &[u8]) -> Resu
     Ok(out)
 }
 
-/// Writes a whole text. Where the sink fails, exactly the first `written` bytes went out.
+/// Writes a whole text. Where the sink fails, exactly the first `written` bytes went out, and not all.
 pub fn write_all<W: Sink>(sink: &mut W, text: &[u8]) -> Result<(), WriteFault>
     ensures ok { OnOk result (Appends (W.bytes sink.old) (W.bytes sink.new) text.now) }
-    ensures err { IfErr result (λ e. (e.written ≤ length text.now) ×
+    ensures err { IfErr result (λ e. (e.written < length text.now) ×
         Appends (W.bytes sink.old) (W.bytes sink.new) (take e.written text.now)) }
     ensures count { W.failures sink.new ≡
         (if is_ok result then W.failures sink.old else one_more (W.failures sink.old)) }

@@ -13,11 +13,11 @@ use crate::sink::{Sink, put_all};
 use order_cnf::Formula;
 
 /// Writes the DIMACS text of a formula, and takes no memory. It fails only where the sink does, and
-/// then exactly the first `written` bytes of the text went out.
+/// then exactly the first `written` bytes of the text went out, and not all.
 pub fn write_formula<W: Sink>(sink: &mut W, formula: &Formula) -> Result<(), WriteFault>
     ensures ok { OnOk result
         (Appends (W.bytes sink.old) (W.bytes sink.new) (text_of (cnf_of formula.now))) }
-    ensures err { IfErr result (λ e. (e.written ≤ length (text_of (cnf_of formula.now))) ×
+    ensures err { IfErr result (λ e. (e.written < length (text_of (cnf_of formula.now))) ×
         Appends (W.bytes sink.old) (W.bytes sink.new)
         (take e.written (text_of (cnf_of formula.now)))) }
     ensures count { W.failures sink.new ≡

@@ -1,9 +1,10 @@
 -- What each answer of the steps rests on.
-use Rattle.std.proofs.Common.{◌≡◌, ◌↔◌, ℕ, ◌≤◌, List, [], ◌∷◌, ◌++◌, None, Result, Ok, Err, IfOk, subst, sym, inl, inr}
+use Rattle.std.proofs.Common.{◌≡◌, ◌↔◌, ℕ, ◌≤◌, List, [], ◌∷◌, ◌++◌, length, None, Result, Ok, Err, IfOk, subst, sym, inl, inr}
 use Rattle.std.proofs.lemmas.List.Elements.{All-nil, All-cons}
 use Rattle.std.specs.List.{All, Contains}
 use Rattle.session_log.specs.Text.{ClientSession}
 use Rattle.serializability.specs.Reads.{IsClean}
+use Rattle.serializability.specs.Log.{Log}
 use Rattle.serializability.specs.Polygraph.{Edge, Polygraph, Fits, bipath_polygraph, arcs}
 use Rattle.serializability.proofs.Serial.{serial_fits, fitting_serial}
 use Rattle.serializability.specs.Anomalies.{anomaly_of}
@@ -18,7 +19,7 @@ use Rattle.polygraph.specs.declared.fault.PolyFault.{PolyFault}
 use Rattle.polygraph.specs.declared.fault.PolyFault.TheVariants.{TooManyChoices, Memory}
 use Rattle.prune_ledger.specs.declared.ledger.Ledger.{Ledger}
 use Rattle.prune_ledger.specs.Pruned.{Remainder, IsDeadBy, IsRemainder}
-use Rattle.reduction.specs.Chained.{IsChained, HasItsOrders}
+use Rattle.reduction.specs.Chained.{IsChained, HasItsOrders, IsCoalesced, IsUnpruned}
 use Rattle.reduction.specs.Outcome.{IsCyclicHistory, IsDeadHistory, IsOpenHistory, IsReduceFault}
 
 -- a cycle listed is a cycle
@@ -71,27 +72,33 @@ cyclic_by_arcs ss clean g e k line c =
       };
     }
 
-pub cyclic_by_known : (ss : List ClientSession) (p : Polygraph) → IsChained (log_of ss) p → HasItsOrders ss p → (IsCyclic (arcs (log_of ss)) → ⊥) → IsKnownGraph (record { nodes = p.nodes; edges = p.known }) → (line : List ℕ) → IsCycle p.known line → IsCyclicHistory ss line
-cyclic_by_known ss p chained its acyclic k line c = record {
-  cycle = inr (acyclic, cycle_among p.known (chain_polygraph (log_of ss)).known (λ e. (chained.known e).0) line c);
+pub cyclic_by_known : (ss : List ClientSession) (p : Polygraph) → IsChained (log_of ss) p → HasItsOrders ss p → IsCoalesced (log_of ss) → IsKnownGraph (record { nodes = p.nodes; edges = p.known }) → (line : List ℕ) → IsCycle p.known line → IsCyclicHistory ss line
+cyclic_by_known ss p chained its coalesced k line c = record {
+  cycle = inr (coalesced, cycle_among p.known (chain_polygraph (log_of ss)).known (λ e. (chained.known e).0) line c);
   within = subst (λ n. All (λ v. v ≤ n) line) chained.nodes (cycle_within (record { nodes = p.nodes; edges = p.known }) k line c);
   orders = record { none = λ order s. no_cycle_kept order p.known ((its.each order).0 s).known (cyclic p.known line c) };
 }
 
+-- ---- the polygraph of the chains
+pub coalesced_log : (log : Log) → anomaly_of log ≡ None → (IsCyclic (arcs log) → ⊥) → length (chain_choices log) ≤ 100000 → IsCoalesced log
+coalesced_log log none acyclic few = record { anomaly = none; acyclic = acyclic; few = few }
+
+pub unpruned_polygraph : (log : Log) (p : Polygraph) → IsCoalesced log → IsChained log p → (IsCyclic p.known → ⊥) → IsUnpruned log p
+unpruned_polygraph log p coalesced chained acyclic = record { coalesced = coalesced; chained = chained; acyclic = acyclic }
+
 -- ---- what pruning gives
-pub dead_history : (ss : List ClientSession) (p : Polygraph) (ledger : Ledger) → IsChained (log_of ss) p → HasItsOrders ss p → (IsCyclic p.known → ⊥) → IsDeadBy p ledger → IsDeadHistory ss ledger
-dead_history ss p ledger chained its acyclic dead = record {
+pub dead_history : (ss : List ClientSession) (p : Polygraph) (ledger : Ledger) → IsUnpruned (log_of ss) p → HasItsOrders ss p → IsDeadBy p ledger → IsDeadHistory ss ledger
+dead_history ss p ledger unpruned its dead = record {
   poly = p;
-  chained = chained;
-  acyclic = acyclic;
+  unpruned = unpruned;
   dead = dead;
   orders = record { none = λ order s. dead.orders order ((its.each order).0 s) };
 }
 
-pub open_history : (ss : List ClientSession) (p : Polygraph) (reduced : Remainder) → IsChained (log_of ss) p → HasItsOrders ss p → IsRemainder p reduced → IsOpenHistory ss reduced
-open_history ss p reduced chained its left = record {
+pub open_history : (ss : List ClientSession) (p : Polygraph) (reduced : Remainder) → IsUnpruned (log_of ss) p → HasItsOrders ss p → IsRemainder p reduced → IsOpenHistory ss reduced
+open_history ss p reduced unpruned its left = record {
   poly = p;
-  chained = chained;
+  unpruned = unpruned;
   left = left;
   orders = record {
     each = λ order. (

@@ -1,7 +1,8 @@
 -- The polygraph of a history's chains, and its serial orders.
-use Rattle.std.specs.Prelude.{◌≡◌, ◌↔◌, ◌⊎◌, ℕ, List}
+use Rattle.std.specs.Prelude.{◌≡◌, ◌↔◌, ◌⊎◌, ℕ, ◌≤◌, List, length, None}
 use Rattle.std.specs.List.{Contains}
 use Rattle.session_log.specs.Text.{ClientSession}
+use Rattle.serializability.specs.Anomalies.{anomaly_of}
 use Rattle.serializability.specs.Log.{Log}
 use Rattle.serializability.specs.Polygraph.{Edge, Polygraph, Fits, arcs}
 use Rattle.reach_laws.specs.Reach.{IsCyclic, IsCycle}
@@ -22,6 +23,18 @@ pub record HasItsOrders (ss : List ClientSession) (p : Polygraph) : Type 0 where
 pub record HasNoSerialOrder (ss : List ClientSession) : Type 0 where
   pub none : (order : List ℕ) → IsSerialOrder ss order → ⊥
 
+-- neither an anomaly stands nor have the arcs a cycle, and there are at most 100,000 choices between chains
+pub record IsCoalesced (log : Log) : Type 0 where
+  pub anomaly : anomaly_of log ≡ None
+  pub acyclic : IsCyclic (arcs log) → ⊥
+  pub few : length (chain_choices log) ≤ 100000
+
+-- of such a log this is the polygraph of its chains, whose known edges have no cycle
+pub record IsUnpruned (log : Log) (p : Polygraph) : Type 0 where
+  pub coalesced : IsCoalesced log
+  pub chained : IsChained log p
+  pub acyclic : IsCyclic p.known → ⊥
+
 -- a cycle of the arcs or, where these have none, of all known edges of the chains
 abbrev pub IsKnownCycle : Log → List ℕ → Type 0
-IsKnownCycle log line = IsCycle (arcs log) line ⊎ ((IsCyclic (arcs log) → ⊥) × IsCycle (chain_polygraph log).known line)
+IsKnownCycle log line = IsCycle (arcs log) line ⊎ (IsCoalesced log × IsCycle (chain_polygraph log).known line)

@@ -14,7 +14,7 @@ use Rattle.prune_ledger.specs.declared.ledger.Ledger.{Ledger}
 use Rattle.prune_ledger.specs.Pruned.{Remainder, IsDeadBy, IsRemainder}
 use Rattle.reduction.specs.declared.outcome.Reduction.{Reduction}
 use Rattle.reduction.specs.declared.outcome.Reduction.TheVariants.{Anomalous, Cyclic, Dead, Open}
-use Rattle.reduction.specs.Chained.{IsChained, HasItsOrders, HasNoSerialOrder, IsKnownCycle}
+use Rattle.reduction.specs.Chained.{HasItsOrders, HasNoSerialOrder, IsUnpruned, IsKnownCycle}
 
 -- the anomaly that is reported, where there is one
 abbrev pub anomaly_in : Reduction → Option Anomaly
@@ -32,15 +32,14 @@ pub record IsCyclicHistory (ss : List ClientSession) (line : List ℕ) : Type 0 
 -- the known edges of the chains have no cycle, and the ledger shows that the polygraph of the chains is dead
 pub record IsDeadHistory (ss : List ClientSession) (ledger : Ledger) : Type 0 where
   pub poly : Polygraph
-  pub chained : IsChained (log_of ss) poly
-  pub acyclic : IsCyclic poly.known → ⊥
+  pub unpruned : IsUnpruned (log_of ss) poly
   pub dead : IsDeadBy poly ledger
   pub orders : HasNoSerialOrder ss
 
 -- this is what pruning leaves of the polygraph of the chains, and the orders that fit it are the serial ones
 pub record IsOpenHistory (ss : List ClientSession) (reduced : Remainder) : Type 0 where
   pub poly : Polygraph
-  pub chained : IsChained (log_of ss) poly
+  pub unpruned : IsUnpruned (log_of ss) poly
   pub left : IsRemainder poly reduced
   pub orders : HasItsOrders ss reduced.poly
 

@@ -1,6 +1,6 @@
 //! The steps before a search.
 
-ghost use Rattle.std.specs.Prelude.{◌≡◌, None, IfOk, IfErr};
+ghost use Rattle.std.specs.Prelude.{◌≡◌, ◌≤◌, length, None, IfOk, IfErr, OnOk};
 ghost use Rattle.serializability.specs.Reads.{IsClean};
 ghost use Rattle.serializability.specs.Anomalies.{anomaly_of};
 ghost use Rattle.reach_laws.specs.Reach.{IsCyclic};
@@ -33,6 +33,7 @@ fn chained(alloc: Global, history: &History, arcs: Known) -> Result<Polygraph, P
     requires acyclic { ¬ IsCyclic arcs.edges }
     ensures chained { IfOk result (IsChained (log_of history.now)) }
     ensures orders { IfOk result (HasItsOrders history.now) }
+    ensures few { OnOk result (length (chain_choices (log_of history.now)) ≤ 100000) }
     ensures fault { IfErr result (IsPolyFault (chain_choices (log_of history.now))) }
 {
     match chains(alloc, history)? {

@@ -1,12 +1,13 @@
 use crate::tape::Tape;
-use cobra_cli::{Fault, Line, Options, Status, StrategyName, check, exit_status};
+use cobra_cli::{Fault, Options, Status, Stop, StrategyName, check};
 use cube_machine::Budget;
-use desk::gate::OpenGate;
-use desk::seat_no::Workers;
+use desk::gate::{Gate, OpenGate};
+use desk::seat_no::{SeatNo, Workers};
 use dimacs::Counted;
 use std::alloc::{AllocError, Global};
 use std::process::Abort;
 use std::sync::Wait;
+use std::sync::atomic::{AtomicU64, Ordering};
 use std::test::Fail;
 use std::thread::Threads;
 use std::time::Clock;
@@ -35,6 +36,13 @@ const EACH_PAIR_READ: &str = "session 1\nbegin\nw x 1\ncommit\nsession 2\nbegin\
     session 3\nbegin\nw y 3\ncommit\nsession 4\nbegin\nw y 4\ncommit\n\
     session 5\nbegin\nr x 1\nr y 3\ncommit\nsession 6\nbegin\nr x 1\nr y 4\ncommit\n\
     session 7\nbegin\nr x 2\nr y 3\ncommit\nsession 8\nbegin\nr x 2\nr y 4\ncommit\n";
+
+// With a budget of seven cubes a search finds an order by the choices with the most edges, and none by those with the least.
+const BY_SIZES: &str = "session 1\nbegin\nw y 1\ncommit\nsession 2\nbegin\nw x 2\ncommit\n\
+    session 3\nbegin\nr x 2\nr y 1\ncommit\nsession 4\nbegin\nr y 1\nr x 2\ncommit\n\
+    session 5\nbegin\nw x 3\ncommit\nsession 6\nbegin\nw x 4\ncommit\n\
+    session 7\nbegin\nr y 1\nr x 4\ncommit\nsession 8\nbegin\nw y 5\ncommit\n\
+    session 9\nbegin\nr x 3\nr y 5\ncommit\n";
 
 fn options(rt: &impl Abort, workers: u8, strategy: StrategyName, budget: usize) -> Options {
     Options {
@@ -74,11 +82,8 @@ fn told<R: Threads + Wait + Clock + Sync>(
     match result {
         Ok(status) => Ok((status.code(), taken)),
         Err(fault) => {
-            let line = Line(&fault);
-            Ok((
-                exit_status(&fault),
-                format!(in alloc; "{line}")?.into_bytes(),
-            ))
+            let stop = Stop::from(fault);
+            Ok((stop.code(), format!(in alloc; "{stop}")?.into_bytes()))
         }
     }
 }
@@ -135,6 +140,78 @@ fn output_that_fails(rt: HostRuntime) {
     let (result, taken) = ended(&rt, rt.alloc(), &options, LOST_UPDATE, 4, 2);
     assert!(rt; result == Err(Fault::Device { written: 8 }));
     assert_eq!(rt; taken.as_slice(), b"not seri".as_slice());
+}
+
+// Counts how often it is passed.
+#[derive(Drop)]
+struct Counting {
+    passed: AtomicU64,
+}
+
+impl Gate for Counting {
+    fn pass<R: Wait + Clock>(&self, _rt: &R, _seat: SeatNo, _turn: u64) {
+        self.passed.fetch_add(1, Ordering::SeqCst);
+    }
+}
+
+// One pass for each block of the log and one that finds none left, by the gate that the caller gave.
+#[test]
+fn the_callers_gate_is_passed(rt: HostRuntime) {
+    let gate = Counting {
+        passed: AtomicU64::new(0),
+    };
+    let options = options(&rt, 1, StrategyName::First, 10_000);
+    let mut sink = Counted::new(Tape {
+        taken: Vec::new(rt.alloc()),
+        most: 1 << 20,
+        good: 1 << 20,
+    });
+    let log = LOST_UPDATE.as_bytes();
+    let result = check(&rt, rt.alloc(), log, &options, &gate, &mut sink);
+    assert!(rt; result == Ok(Status::NotSerializable));
+    assert_eq!(rt; gate.passed.load(Ordering::SeqCst), 3);
+}
+
+// By which choice and which side a search goes on, with one worker, shows in what it prints.
+#[test]
+fn by_strategy(rt: HostRuntime) -> Result<(), Fail> {
+    for (strategy, log, budget, status, text) in [
+        (
+            StrategyName::First,
+            TWO_WRITERS,
+            2,
+            0,
+            "serializable\n1 1\n3 1\n2 1\n",
+        ),
+        (
+            StrategyName::Most,
+            TWO_WRITERS,
+            2,
+            0,
+            "serializable\n1 1\n3 1\n2 1\n",
+        ),
+        (
+            StrategyName::Least,
+            TWO_WRITERS,
+            2,
+            0,
+            "serializable\n1 1\n3 1\n2 1\n",
+        ),
+        (
+            StrategyName::Most,
+            BY_SIZES,
+            7,
+            0,
+            "serializable\n1 1\n2 1\n3 1\n4 1\n6 1\n7 1\n5 1\n8 1\n9 1\n",
+        ),
+        (StrategyName::Least, BY_SIZES, 7, 3, "unknown: 7 closed\n"),
+    ] {
+        let options = options(&rt, 1, strategy, budget);
+        let (code, printed) = told(&rt, rt.alloc(), &options, log)?;
+        assert_eq!(rt; code, status, "{text:?}");
+        assert_eq!(rt; printed.as_slice(), text.as_bytes());
+    }
+    Ok(())
 }
 
 #[test]

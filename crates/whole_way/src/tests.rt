@@ -1,8 +1,8 @@
 use crate::tape::Tape;
 use anomalies::classify;
 use cobra_cli::{
-    CountedRead, Fault, Line, Options, Status, StrategyName, decode, encode, exit_status, read_all,
-    read_log, stats, verify,
+    CountedRead, Fault, Options, Status, Stop, StrategyName, decode, encode, read_all, read_log,
+    stats, verify,
 };
 use cube_machine::Budget;
 use desk::gate::OpenGate;
@@ -89,11 +89,8 @@ fn told<R: Threads + Wait + Clock + Sync>(
     match result {
         Ok(status) => Ok((status.code(), taken)),
         Err(fault) => {
-            let line = Line(&fault);
-            Ok((
-                exit_status(&fault),
-                format!(in alloc; "{line}")?.into_bytes(),
-            ))
+            let stop = Stop::from(fault);
+            Ok((stop.code(), format!(in alloc; "{stop}")?.into_bytes()))
         }
     }
 }

@@ -1,6 +1,8 @@
-use Rattle.std.proofs.Common.{sym, ap, ◌∙◌}
-use Rattle.cobra_cli.specs.Verdicts.{cycle_text}
+use Rattle.std.proofs.Common.{refl, sym, ap, ◌∙◌}
+use Rattle.cobra_cli.specs.Verdicts.{cycle_text, dead_text}
+use Rattle.cobra_cli.specs.declared.status.Status.TheVariants.{NotSerializable}
 use Rattle.cobra_cli.specs.Checked.{by_anomaly, by_cycle, by_pruning}
+use Rattle.cobra_cli.proofs.Answering.{verdict_is}
 use Rattle.cobra_cli.proofs.checking.verdict.Goals as goal
 
 pub returns-in-Anomalous-clause-verdict : goal.returns-in-Anomalous-clause-verdict
@@ -23,9 +25,6 @@ returns-in-Cyclic-clause-verdict g c =
 
 pub returns-in-Dead-clause-verdict : goal.returns-in-Dead-clause-verdict
 returns-in-Dead-clause-verdict g c =
-    let reported = rw c.in-Dead.is at c.in_ok-anomaly.ensures.anomaly in
     let history = rw c.in-Dead.is at c.in_ok-anomaly.ensures.reduction in
-    record {
-      none = history.orders;
-      reason = by_pruning (sym reported) history.poly history.chained history.acyclic history.dead.dead c.in_ok-from_slice-in-Dead.ensures.items;
-    }
+    verdict_is c.args.options.now.budget c.args.history.now _ NotSerializable _ dead_text c.in_ok-fixed-in-Dead.ensures.status c.in_ok-fixed-in-Dead.ensures.text
+    (record { none = history.orders; reason = by_pruning history.poly history.unpruned history.dead.dead refl })

@@ -1,7 +1,25 @@
-use Rattle.cobra_cli.proofs.Answering.{refused_log}
+use Rattle.std.proofs.lemmas.Result.{err_from_is_err_and}
+use Rattle.cobra_cli.specs.Commands.{IsDecoding, IsNotDecoded}
+use Rattle.cobra_cli.specs.Answers.{by_log, by_command}
+use Rattle.cobra_cli.proofs.Answering.{told_all, cut_all, keeps}
 use Rattle.cobra_cli.proofs.decoding.decode.Goals as goal
+
+pub returns-in_err-history-clause-refused : goal.returns-in_err-history-clause-refused
+returns-in_err-history-clause-refused g c =
+    let p = err_from_is_err_and c.from_residual.result c.from_residual.ensures.1 in
+    rw (p.1, p.2) (by_log c.in_err-history.field-0.0 c.in_err-history.ensures.refused (keeps _))
+
+pub returns-in_err-reply-clause-refused : goal.returns-in_err-reply-clause-refused
+returns-in_err-reply-clause-refused g c =
+    let p = err_from_is_err_and c.from_residual-in_err-reply.result c.from_residual-in_err-reply.ensures.1 in
+    rw (p.1, p.2) (by_command c.in_err-reply.field-0.0 c.in_ok-history.history c.in_ok-history.ensures.accepted c.in_err-reply.ensures.refused (keeps _))
+
+pub returns-clause-told : goal.returns-clause-told
+returns-clause-told g c =
+    told_all (IsDecoding c.args.options.now.plain c.args.answer.now) c.args.log.now c.in_ok-history.history _ _ c.in_ok-reply.reply.status c.in_ok-reply.reply.text.items c.tell.result
+    c.in_ok-history.ensures.accepted c.in_ok-reply.ensures.decoded c.tell.ensures.status c.tell.ensures.told
 
 pub returns-clause-refused : goal.returns-clause-refused
 returns-clause-refused g c =
-    refused_log c.args.log.now (g.W.Sink.bytes c.args.sink.now) (g.W.Sink.bytes c.decode_history.new.sink) c.args.answer.now _
-    c.in_ok-history.ensures.accepted c.decode_history.result c.decode_history.ensures.refused
+    cut_all (IsDecoding c.args.options.now.plain c.args.answer.now) (IsNotDecoded c.args.options.now.plain c.args.answer.now) c.args.log.now c.in_ok-history.history _ _ c.in_ok-reply.reply.status c.in_ok-reply.reply.text.items c.tell.result
+    c.in_ok-history.ensures.accepted c.in_ok-reply.ensures.decoded c.tell.ensures.cut
