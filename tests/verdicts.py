@@ -12,7 +12,9 @@ sys.path.insert(0, HERE)
 import generate, reference
 
 MADE, SEARCHED = 2500, 600
-WAYS = [(strategy, workers) for strategy in ('first', 'most', 'least') for workers in ('1', '4')]
+WAYS = [(strategy, workers) for strategy in ('first', 'most', 'least', 'forced') for workers in ('1', '4')] + [('forced', '16')]
+# Of these logs `first` leaves each unknown at the budget that is taken where none is said, and `forced` finds an order.
+BLIND = (1, 2, 4, 6)
 
 
 def searched_log(seed):
@@ -23,6 +25,20 @@ def searched_log(seed):
     if r.random() < 0.5:
         pairs = r.sample(pairs, r.randint(1, 3)) + [(r.choice([1, 2, 0]), r.choice([3, 4]))]
     transactions = [[('w', key, wid)] for key, wid in writers] + [[('r', 'x', x), ('r', 'y', y)] for x, y in pairs]
+    r.shuffle(transactions)
+    return generate.text_of([(number, [(ops, True)]) for number, ops in enumerate(transactions, 1)])
+
+
+def blind_log(seed):
+    """Two dozen blind writers of two keys, and readers of both, each transaction in a session of its own: serializable as it was made."""
+    r = random.Random(seed)
+    store, transactions = {'x': 0, 'y': 0}, []
+    for wid in range(1, 25):
+        key = r.choice('xy')
+        store[key] = wid
+        transactions.append([('w', key, wid)])
+        for _ in range(r.randint(0, 2)):
+            transactions.append([('r', key, store[key]) for key in r.sample('xy', 2)])
     r.shuffle(transactions)
     return generate.text_of([(number, [(ops, True)]) for number, ops in enumerate(transactions, 1)])
 
@@ -40,7 +56,12 @@ def fault_in(history, explained, known, answer):
     if known is not None:
         return None if (status, said) == (1, known) and not explained else 'wanted %r, and there is %s order' % (known, 'an' if explained else 'no')
     if not explained:
-        return None if (status, said) == (3, 'undecided: every cube is refuted\n') else 'there is no order'
+        return None if (status, said) == (1, 'not serializable: every cube is refuted\n') else 'there is no order'
+    return fault_in_order(history, status, said)
+
+
+def fault_in_order(history, status, said):
+    """What is wrong with an answer that is to be a serial order, or None."""
     first, *lines = said.split('\n')
     if status != 0 or first != 'serializable' or lines[-1:] != ['']:
         return 'there is an order'
@@ -69,6 +90,18 @@ def judged(program, name, text):
     return ('found' if explained else 'refuted') if known is None else known.split()[2], found
 
 
+def judged_blind(program, seed):
+    text = blind_log(seed)
+    history = reference.History(reference.read_log(text))
+    left = call(program, text, '--strategy', 'first', '--workers', '1')
+    found = [None if left == (3, 'unknown: 10000 closed\n', '') else 'blind log %d, first: %r' % (seed, left)]
+    for workers in ('1', '4', '16'):
+        status, said, _ = call(program, text, '--strategy', 'forced', '--workers', workers)
+        fault = fault_in_order(history, status, said)
+        found.append(fault and 'blind log %d, forced, %s workers: %s' % (seed, workers, fault))
+    return 'blind', found
+
+
 def main():
     program = os.path.abspath(sys.argv[1])
     logs = [('made log %d' % seed, generate.small_log(seed)) for seed in range(MADE)]
@@ -80,7 +113,8 @@ def main():
             logs.append((os.path.basename(path), text))
     passed, failed, kinds = 0, 0, {}
     with concurrent.futures.ThreadPoolExecutor() as pool:
-        for kind, found in pool.map(lambda log: judged(program, *log), logs):
+        jobs = [(judged_blind, seed) for seed in BLIND] + [(judged, *log) for log in logs]
+        for kind, found in pool.map(lambda job: job[0](program, *job[1:]), jobs):
             kinds[kind] = kinds.get(kind, 0) + 1
             for fault in found:
                 if fault:

@@ -18,7 +18,9 @@ mod tree;
 mod worker;
 
 pub use answer::Answer;
-pub use branching::{Alternate, ByWords, CubeView, FirstOpen, LeastEdges, MostEdges, Strategy};
+pub use branching::{
+    Alternate, ByWords, CubeView, FirstOpen, Forced, LeastEdges, MostEdges, Strategy,
+};
 pub use cube_machine::Budget;
 pub use searching::search;
 pub use tree::{Decision, Growth, Tree, TreeNode};

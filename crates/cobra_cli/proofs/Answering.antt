@@ -18,6 +18,8 @@ use Rattle.dimacs.specs.declared.status.Status as dimacs
 use Rattle.order_text.specs.Text.{order_text}
 use Rattle.prune_ledger.specs.Pruned.{Remainder}
 use Rattle.reduction.specs.Outcome.{IsOpenHistory}
+use Rattle.branch_search.specs.Answers.{EndsRun}
+use Rattle.branch_search.specs.declared.answer.Answer.{Answer}
 use Rattle.cobra_cli.specs.declared.status.Status.{Status}
 use Rattle.cobra_cli.specs.declared.status.Status.TheVariants.{Done}
 use Rattle.cobra_cli.specs.declared.fault.Fault.{Fault}
@@ -25,7 +27,7 @@ use Rattle.cobra_cli.specs.declared.fault.Fault.TheVariants as fault
 use Rattle.cobra_cli.specs.Answers.{IsTold, IsCutAt, IsRefused, by_device}
 use Rattle.cobra_cli.specs.Formulas.{IsFormulaOf}
 use Rattle.cobra_cli.specs.Commands.{IsHeadline, IsEncoding, IsAnswerTo, named_by, IsOrderText, IsDecoding}
-use Rattle.cobra_cli.specs.Checked.{IsLetThrough, IsVerdict}
+use Rattle.cobra_cli.specs.Checked.{IsSearched, IsVerdict}
 
 pub serial_of : (ss : List ClientSession) → IsWellFormedList ss → (f : Cnf) (values : List Bool) (order : List ℕ) → f ≡ plain_answer ss → Satisfies values f → IsDecoded f.nodes (before f values) order → IsSerialOrder ss order
 serial_of ss h f values order e =
@@ -101,5 +103,5 @@ decoding_is plain given ss status said text told e t h = subst (λ (s : Status).
 pub verdict_is : (budget : ℕ) (ss : List ClientSession) (status said : Status) (text told : List ℕ) → status ≡ said → text ≡ told → IsVerdict budget ss said told → IsVerdict budget ss status text
 verdict_is budget ss status said text told e t h = subst (λ (s : Status). IsVerdict budget ss s text) (sym e) (subst (λ (l : List ℕ). IsVerdict budget ss said l) (sym t) h)
 
-pub let_through : (ss : List ClientSession) (r : Remainder) → IsOpenHistory ss r → IsLetThrough ss
-let_through ss r h = record { polygraph = h.poly; unpruned = h.unpruned; alive = h.left.alive }
+pub searched_so : (budget : ℕ) (ss : List ClientSession) (r : Remainder) (a : Answer) → IsOpenHistory ss r → EndsRun r.poly budget a → IsSearched budget ss a
+searched_so budget ss r a h ran = record { left = r; history = h; ran = ran }

@@ -24,7 +24,7 @@ use Rattle.cobra_cli.specs.declared.status.Status.TheVariants.{Done, Unknown}
 use Rattle.cobra_cli.specs.declared.fault.Fault.{Fault}
 use Rattle.cobra_cli.specs.declared.fault.Fault.TheVariants as fault
 
--- the sessions have no formula, for this reason
+-- the sessions have no formula, with `--plain` or without it, for this reason
 abbrev pub HasNoFormula : Bool → Fault → List ClientSession → Type 0
 HasNoFormula plain (fault.Formula e) ss = IsFormulaFault plain ss e
 HasNoFormula plain fault.Memory ss = Unit {0}

@@ -52,7 +52,7 @@ abbrev pub serial_text : List ClientSession → List ℕ → List ℕ
 serial_text ss order = codes "serializable\n" ++ order_text ss order
 
 abbrev pub refuted_text : List ℕ
-refuted_text = codes "undecided: every cube is refuted\n"
+refuted_text = codes "not serializable: every cube is refuted\n"
 
 abbrev pub spent_text : ℕ → List ℕ
 spent_text closed = codes "unknown: " ++ decimal closed ++ codes " closed\n"

@@ -2,9 +2,12 @@
 
 ghost use Rattle.std.specs.Prelude.{◌≡◌, IfOk, IfErr};
 ghost use Rattle.reduction.specs.Chained.{HasItsOrders};
-ghost use Rattle.branch_search.specs.Answers.{SaysYes, SaysNo, SaysUnknown};
+ghost use Rattle.reduction.specs.Outcome.{IsOpenHistory};
+ghost use Rattle.branch_search.specs.Answers.{SaysYes, SaysNo, ShowsNo, SaysUnknown, EndsRun};
+ghost use Rattle.branch_search.specs.Trees.{IsRefutationTree};
+ghost use Rattle.cobra_cli.specs.Verdicts.{refuted_text};
 ghost use Rattle.cobra_cli.specs.Answers.{IsTold, IsRefused};
-ghost use Rattle.cobra_cli.specs.Checked.{IsLetThrough, IsVerdict, IsUndecided};
+ghost use Rattle.cobra_cli.specs.Checked.{IsVerdict, IsUndecided};
 ghost use Rattle.cobra_cli.specs.Failures.{failures_after};
 
 use crate::fault::Fault;
@@ -12,7 +15,7 @@ use crate::reading::read_log;
 use crate::reply::{Reply, tell};
 use crate::status::{Options, Status, StrategyName};
 use crate::verdict::{anomaly_text, cycle_text, serial_text, spent_text};
-use branch_search::{Answer, FirstOpen, LeastEdges, MostEdges, search};
+use branch_search::{Answer, FirstOpen, Forced, LeastEdges, MostEdges, Tree, check_tree, search};
 use desk::gate::Gate;
 use dimacs::Sink;
 use history::History;
@@ -26,8 +29,8 @@ use std::time::Clock;
 /// What is written where pruning ends in a cycle.
 const DEAD: &[u8] = b"not serializable: A9 pruning ends in a cycle\n";
 
-/// What is written where a search refuted every cube, as long as nothing checks its tree.
-const REFUTED: &[u8] = b"undecided: every cube is refuted\n";
+/// What is written where a search refuted every cube.
+const REFUTED: &[u8] = b"not serializable: every cube is refuted\n";
 
 /// Searches what pruning left, by the strategy of this name.
 fn searched<G: Gate, R: Threads + Wait + Clock + Sync>(
@@ -41,7 +44,9 @@ fn searched<G: Gate, R: Threads + Wait + Clock + Sync>(
     requires orders { HasItsOrders history.now reduced.now.poly }
     ensures yes { IfOk result (SaysYes history.now) }
     ensures no { IfOk result (SaysNo history.now) }
+    ensures tree { IfOk result (ShowsNo reduced.now.poly) }
     ensures unknown { IfOk result (SaysUnknown options.now.budget) }
+    ensures ran { IfOk result (EndsRun reduced.now.poly options.now.budget) }
 {
     let workers = options.workers;
     let budget = options.budget;
@@ -62,7 +67,20 @@ fn searched<G: Gate, R: Threads + Wait + Clock + Sync>(
             budget,
             gate,
         ),
+        StrategyName::Forced => search(rt, alloc, history, reduced, &Forced, workers, budget, gate),
     }
+}
+
+/// What is to be said where a search refuted every cube, whose tree is checked by itself before that is told.
+fn refuted(alloc: Global, reduced: &Reduced, tree: &Tree) -> Result<Reply, AllocError>
+    requires refutes { IsRefutationTree reduced.now.poly tree.now }
+    ensures status { IfOk result (λ r. r.status ≡ Status.NotSerializable) }
+    ensures text { IfOk result (λ r. r.text.items ≡ refuted_text) }
+{
+    if !check_tree(reduced.poly(), tree) {
+        unreachable!()
+    }
+    Reply::fixed(alloc, Status::NotSerializable, REFUTED)
 }
 
 /// What is to be said of what a search found.
@@ -74,8 +92,7 @@ fn search_verdict<G: Gate, R: Threads + Wait + Clock + Sync>(
     options: &Options,
     gate: &G,
 ) -> Result<Reply, AllocError>
-    requires through { IsLetThrough history.now }
-    requires orders { HasItsOrders history.now reduced.now.poly }
+    requires left { IsOpenHistory history.now reduced.now }
     ensures verdict { IfOk result (λ v.
         IsVerdict options.now.budget history.now v.status v.text.items) }
 {
@@ -84,7 +101,7 @@ fn search_verdict<G: Gate, R: Threads + Wait + Clock + Sync>(
             status: Status::Done,
             text: serial_text(alloc, history, &order)?,
         }),
-        Answer::No(_) => Ok(Reply::fixed(alloc, Status::Unknown, REFUTED)?),
+        Answer::No(tree) => Ok(refuted(alloc, reduced, &tree)?),
         Answer::Unknown { closed } => Ok(Reply {
             status: Status::Unknown,
             text: spent_text(alloc, closed)?,
@@ -121,8 +138,8 @@ fn verdict<G: Gate, R: Threads + Wait + Clock + Sync>(
 }
 
 /// Writes whether some serial order explains a log: `serializable` and such an order; or `not serializable` and why, by an
-/// anomaly, a cycle of known edges, or that pruning ends in one; or, where the search of what is left finds neither,
-/// that every cube is refuted, or how many cubes it closed.
+/// anomaly, a cycle of known edges, that pruning ends in one, or that the search of what is left refuted every cube, by a
+/// tree that was checked; or `unknown`, and how many cubes it closed, where its budget was spent before.
 ///
 /// # Errors
 /// The log's first fault; G1 above 100,000 choices between chains; the sink's failure, with how much of the text went

@@ -39,6 +39,8 @@ pub enum StrategyName {
     Most,
     /// The first open one of those with the least edges.
     Least,
+    /// The first open one of which a side is refuted; where there is none, as `Most`.
+    Forced,
 }
 
 /// What may be asked of a command beside its input.

@@ -4,51 +4,24 @@
 ghost use Rattle.std.specs.Prelude.{◌<◌, ◌^◌};
 
 use cobra_cli::{
-    CountedRead, Fault, Line, Options, ReadFault, Status, StrategyName, check, decode, encode,
-    exit_status, read_all, stats, verify,
+    CountedRead, Fault, Options, Status, Stop, StrategyName, check, decode, encode, read_all,
+    stats, verify,
 };
 use cobra_words::{Command, Request, StrategyWord, Words, words_of};
 use desk::gate::OpenGate;
 use dimacs::{Counted, MAX_ANSWER_BYTES};
 use order_text::MAX_ORDER_BYTES;
 use session_log::MAX_LOG_BYTES;
-use std::alloc::{AllocError, Global};
-use std::io::{Eprint, Read, Write};
+use std::alloc::Global;
+use std::io::{Eprint, ErrorKind, Read, Write};
 use std::process::ExitCode;
 use std::rt::{Files, Runtime};
 use std::sync::Wait;
 use std::thread::Threads;
 use std::{env, fs};
 
-/// The exit statuses that no command decides.
+/// The exit status of words that are no call.
 const USAGE: u8 = 2;
-
-const OUT_OF_MEMORY: u8 = 4;
-
-const DEVICE_FAILED: u8 = 5;
-
-/// Why a call ends before its command, or after it.
-enum Stop {
-    Refused(Fault),
-    Memory,
-    Input,
-    Output,
-}
-
-impl From<AllocError> for Stop {
-    fn from(_refused: AllocError) -> Stop {
-        Stop::Memory
-    }
-}
-
-impl From<ReadFault> for Stop {
-    fn from(fault: ReadFault) -> Stop {
-        match fault {
-            ReadFault::Device => Stop::Input,
-            ReadFault::Memory => Stop::Memory,
-        }
-    }
-}
 
 /// Reads a file, up to one byte more than the limit.
 fn read_file<R: Files>(rt: &R, alloc: Global, path: &str, limit: usize) -> Result<Vec<u8>, Stop>
@@ -89,6 +62,7 @@ fn strategy_of(word: StrategyWord) -> StrategyName {
         StrategyWord::First => StrategyName::First,
         StrategyWord::Most => StrategyName::Most,
         StrategyWord::Least => StrategyName::Least,
+        StrategyWord::Forced => StrategyName::Forced,
     }
 }
 
@@ -126,30 +100,21 @@ fn run<R: Runtime + Threads + Wait + Sync, I: Read + Drop, W: Write + Drop>(
             Ok(()) => Ok(status),
             Err(_) => Err(Stop::Output),
         },
-        Err(fault) => Err(Stop::Refused(fault)),
+        Err(fault) => Err(fault.into()),
     }
 }
 
-/// Says why a call ended early, and gives its exit status.
+/// Says why a call ended without an answer, and gives its exit status.
 fn report<R: Eprint>(rt: &R, stop: Stop) -> u8 {
-    match stop {
-        Stop::Refused(fault) => {
-            let line = Line(&fault);
-            let _ = eprintln!(rt; "{line}");
-            exit_status(&fault)
-        }
-        Stop::Memory => {
-            let _ = eprintln!(rt; "out of memory");
-            OUT_OF_MEMORY
-        }
-        Stop::Input => {
-            let _ = eprintln!(rt; "device failed: input");
-            DEVICE_FAILED
-        }
-        Stop::Output => {
-            let _ = eprintln!(rt; "device failed: output");
-            DEVICE_FAILED
-        }
+    let _ = eprintln!(rt; "{stop}");
+    stop.code()
+}
+
+/// Why the words of a call cannot be had.
+fn words_fault(kind: ErrorKind) -> Stop {
+    match kind {
+        ErrorKind::OutOfMemory => Stop::Refused(Fault::Memory),
+        _ => Stop::Words,
     }
 }
 
@@ -160,10 +125,10 @@ fn answer<R: Runtime + AllocGlobal + Threads + Wait + Sync, I: Read + Drop, W: W
     input: I,
     output: W,
 ) -> Result<u8, Stop> {
-    let Ok(words) = env::args(rt) else {
-        return Err(Stop::Memory);
+    let words: Vec<String> = match env::args(rt) {
+        Ok(words) => words.collect(alloc)?,
+        Err(error) => return Err(words_fault(error.kind())),
     };
-    let words: Vec<String> = words.collect(alloc)?;
     match words_of(alloc, &words)? {
         Some(Words::Request(request)) => Ok(run(rt, alloc, request, input, output)?.code()),
         Some(Words::Shown(text)) => {

@@ -1,7 +1,7 @@
-use Rattle.cobra_cli.specs.declared.status.Status.TheVariants.{Unknown}
+use Rattle.branch_search.specs.declared.answer.Answer.TheVariants.{Yes, No, Unknown}
+use Rattle.cobra_cli.specs.Checked.{by_search}
 use Rattle.cobra_cli.specs.Verdicts.{refuted_text}
-use Rattle.cobra_cli.specs.Checked.{refuted, spent}
-use Rattle.cobra_cli.proofs.Answering.{nodes_of_serial, verdict_is}
+use Rattle.cobra_cli.proofs.Answering.{nodes_of_serial, searched_so, verdict_is}
 use Rattle.cobra_cli.proofs.checking.search_verdict.Goals as goal
 
 pub serial_text-requires : goal.serial_text-requires
