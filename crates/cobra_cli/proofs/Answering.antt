@@ -19,7 +19,11 @@ use Rattle.order_text.specs.Text.{order_text}
 use Rattle.prune_ledger.specs.Pruned.{Remainder}
 use Rattle.reduction.specs.Outcome.{IsOpenHistory}
 use Rattle.branch_search.specs.Answers.{EndsRun}
+use Rattle.branch_search.specs.Trees.{IsRefutationTree}
+use Rattle.branch_search.specs.declared.tree.TreeNode.{TreeNode}
 use Rattle.branch_search.specs.declared.answer.Answer.{Answer}
+use Rattle.branch_search.specs.declared.answer.Answer.TheVariants as search
+use Rattle.cobra_cli.specs.Verdicts.{spent_text}
 use Rattle.cobra_cli.specs.declared.status.Status.{Status}
 use Rattle.cobra_cli.specs.declared.status.Status.TheVariants.{Done}
 use Rattle.cobra_cli.specs.declared.fault.Fault.{Fault}
@@ -27,7 +31,7 @@ use Rattle.cobra_cli.specs.declared.fault.Fault.TheVariants as fault
 use Rattle.cobra_cli.specs.Answers.{IsTold, IsCutAt, IsRefused, by_device}
 use Rattle.cobra_cli.specs.Formulas.{IsFormulaOf}
 use Rattle.cobra_cli.specs.Commands.{IsHeadline, IsEncoding, IsAnswerTo, named_by, IsOrderText, IsDecoding}
-use Rattle.cobra_cli.specs.Checked.{IsSearched, IsVerdict}
+use Rattle.cobra_cli.specs.Checked.{IsSearched, IsRefutedBy, IsSpentText, IsVerdict}
 
 pub serial_of : (ss : List ClientSession) → IsWellFormedList ss → (f : Cnf) (values : List Bool) (order : List ℕ) → f ≡ plain_answer ss → Satisfies values f → IsDecoded f.nodes (before f values) order → IsSerialOrder ss order
 serial_of ss h f values order e =
@@ -105,3 +109,12 @@ verdict_is budget ss status said text told e t h = subst (λ (s : Status). IsVer
 
 pub searched_so : (budget : ℕ) (ss : List ClientSession) (r : Remainder) (a : Answer) → IsOpenHistory ss r → EndsRun r.poly budget a → IsSearched budget ss a
 searched_so budget ss r a h ran = record { left = r; history = h; ran = ran }
+
+pub spent_so : (budget closed : ℕ) (ss : List ClientSession) (r : Remainder) (text : List ℕ) → closed ≡ budget → IsOpenHistory ss r → EndsRun r.poly budget (search.Unknown closed) → text ≡ spent_text closed → IsSpentText budget ss text
+spent_so budget closed ss r text e h ran told = record {
+  searched = searched_so budget ss r (search.Unknown budget) h (subst (λ (n : ℕ). EndsRun r.poly budget (search.Unknown n)) e ran);
+  told = subst (λ (n : ℕ). text ≡ spent_text n) e told;
+}
+
+pub refuted_so : (budget : ℕ) (ss : List ClientSession) (r : Remainder) (tree : List TreeNode) → IsOpenHistory ss r → EndsRun r.poly budget (search.No tree) → IsRefutationTree r.poly tree → IsRefutedBy budget ss tree
+refuted_so budget ss r tree h ran t = record { searched = record { left = r; history = h; ran = ran }; refutes = t }
