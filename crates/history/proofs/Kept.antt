@@ -36,14 +36,14 @@ module _ (h : Inside) (k : IsHistory h) where
       let e = log_nodes its ∙ sym (length-map (committed_in its) (numbered_node [])) ∙ ap length (sym (nodes_in [] its)) ∙ committed_placed [] (placed_in its) ∙ ap (count_by is_committed) (txns_placed its) in
       omega (arith, e, (keeps_limits its k.sound.sessions).committed)
 
-  pub keys_kept : length h.keys.items ≡ (log_of (sessions_of h)).keys
+  pub keys_kept : length h.keys.keys ≡ (log_of (sessions_of h)).keys
   keys_kept = ap length k.keys ∙ sym (log_keys its)
 
   pub keys_few : (log_of (sessions_of h)).keys ≤ 10000
   keys_few = omega (arith, log_keys its, (keeps_limits its k.sound.sessions).keys)
 
-  pub key_kept : (x : ℕ) (key : List ℕ) → x < (log_of (sessions_of h)).keys → key ≡ get_or h.keys.items x key → slice_get (keys_in (sessions_of h)) x ≡ Some key
-  key_kept x key lt e = ap (λ ks. slice_get ks x) (sym k.keys) ∙ slice_get_read h.keys.items (length h.keys.items) x key refl (omega (arith, keys_kept)) e
+  pub key_kept : (x : ℕ) (key : List ℕ) → slice_get h.keys.keys x ≡ Some key → slice_get (keys_in (sessions_of h)) x ≡ Some key
+  key_kept x key e = ap (λ ks. slice_get ks x) (sym k.keys) ∙ e
 
   pub row_kept : (x : ℕ) (row : Row) → x < (log_of (sessions_of h)).keys → row ≡ get_or h.rows.items x row → row_view row ≡ row_in (log_of (sessions_of h)) x
   row_kept x row lt e =

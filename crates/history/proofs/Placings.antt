@@ -3,7 +3,7 @@ use Rattle.std.proofs.Common.{◌≡◌, ℕ, zero, suc, ◌+◌, ◌<◌, ◌�
 use Rattle.std.specs.List.{flat_map, filter, list_any, enumerate_from, AllByRecursion}
 use Rattle.std.specs.Option.{option_map_or}
 use Rattle.std.specs.Str.{bytes_eq}
-use Rattle.std.proofs.lemmas.Bool.{false≢true, eq-eqb, ne_eqb}
+use Rattle.std.proofs.lemmas.Bool.{eq-eqb, ne_eqb}
 use Rattle.std.proofs.lemmas.List.{map-append}
 use Rattle.std.proofs.lemmas.List.Sums.{sum_by-cons}
 use Rattle.session_log.specs.Text.{ClientSession, Transaction}
@@ -12,11 +12,11 @@ use Rattle.session_log.specs.declared.session.Op.TheVariants as op
 use Rattle.serializability.specs.declared.event.Event.{Event}
 use Rattle.log_definitions.specs.WellFormed.{first_seen, key_of, keys_in, txns_in, is_committed}
 use Rattle.log_definitions.specs.Serial.{Committed, committed_of, committed_in}
-use Rattle.log_definitions.specs.Numbers.{number_in, events_of}
+use Rattle.log_definitions.specs.Numbers.{events_of}
 use Rattle.history.specs.Taken.{Placed, placed_from, placed_in, NumberedNode, nodes_among, numbered_from, keys_among}
 use Rattle.history.specs.Rows.{event_key}
 use Rattle.history.specs.Held.{numbered_node}
-use Rattle.history.proofs.Seen.{seen_here, seen_stays}
+use Rattle.history.proofs.Seen.{number_below, seen_here, seen_stays}
 
 -- ---- nodes
 
@@ -151,14 +151,6 @@ module _ (keys : List (List ℕ)) (test : List Event → Bool) where
       go false e f = ap (λ c. test (events_of keys t.2.ops) || c) f
 
 -- ---- keys have numbers below their count
-
-pub number_below : (keys : List (List ℕ)) (key : List ℕ) → list_any (bytes_eq key) keys ≡ true → number_in keys key < length keys
-number_below [] key h = absurd (false≢true h)
-number_below (k ∷ keys) key h = go (bytes_eq key k) (number_below keys key) h
-  where
-    go : (b : Bool) → (list_any (bytes_eq key) keys ≡ true → number_in keys key < length keys) → (b || list_any (bytes_eq key) keys) ≡ true → cond (not b) (1 + number_in keys key) 0 < suc (length keys)
-    go true ih e = omega arith
-    go false ih e = let less = ih e in omega (arith, less)
 
 -- each of these keys is seen
 pub seen_all : (xs ks : List (List ℕ)) → AllByRecursion (λ k. list_any (bytes_eq k) (first_seen xs ks) ≡ true) ks

@@ -1,10 +1,11 @@
 -- Keys in the order of their first appearance, and their numbers, which later keys leave alone.
-use Rattle.std.proofs.Common.{◌≡◌, ℕ, suc, ◌<◌, take, get_or, ◌+◌, Bool, true, false, not, ◌||◌, cond, List, [], ◌∷◌, ◌++◌, length, map, Option, Some, None, refl, sym, ap, ◌∙◌, arith}
+use Rattle.std.proofs.Common.{append_assoc, append-nil, ◌≡◌, ◌⊎◌, inl, inr, ℕ, zero, suc, slice_get, subst, ◌<◌, take, get_or, ◌+◌, Bool, true, false, not, ◌||◌, cond, List, [], ◌∷◌, ◌++◌, length, map, Option, Some, None, refl, sym, ap, ◌∙◌, arith}
 use Rattle.std.specs.List.{list_any}
 use Rattle.std.specs.Str.{bytes_eq}
 use Rattle.std.specs.Ordering.{nat_cmp}
 use Rattle.std.specs.Cmp.Lexicographic.{slice_cmp, texts_ties}
-use Rattle.std.specs.BTreeMap.{is_at}
+use Rattle.std.specs.Map.{lookup}
+use Rattle.std.specs.BTreeMap.{BTreeMap, get, is_at}
 use Rattle.std.proofs.lemmas.Bool.{false≢true, cond-true, cond-false, both_ways, or_right, or_left}
 use Rattle.std.proofs.lemmas.List.Folds.{list_any-append}
 use Rattle.std.proofs.lemmas.List.{take_more, map-append}
@@ -13,7 +14,7 @@ use Rattle.std.proofs.lemmas.Slice.Eq.{bytes_eq-Decides}
 use Rattle.log_definitions.specs.WellFormed.{first_seen, key_of}
 use Rattle.log_definitions.specs.Numbers.{number_in, event_of, events_of}
 use Rattle.session_log.specs.declared.session.Op.{Op}
-use Rattle.history.specs.Numbering.{number_among}
+use Rattle.history.specs.Numbering.{number_among, KeepsPlaces}
 
 pub seen_append : (s a b : List (List ℕ)) → first_seen s (a ++ b) ≡ first_seen (first_seen s a) b
 seen_append s [] b = refl
@@ -23,13 +24,25 @@ same_key : (k : List ℕ) → bytes_eq k k ≡ true
 same_key k = (bytes_eq-Decides k k).1 refl
 
 -- a key that is listed keeps its number
-number_push : (q y : List ℕ) (xs : List (List ℕ)) → list_any (bytes_eq q) xs ≡ true → number_in (xs ++ y ∷ []) q ≡ number_in xs q
-number_push q y [] h = absurd (false≢true h)
-number_push q y (x ∷ xs) h = go (bytes_eq q x) (number_push q y xs) h
+number_append : (q : List ℕ) (xs ys : List (List ℕ)) → list_any (bytes_eq q) xs ≡ true → number_in (xs ++ ys) q ≡ number_in xs q
+number_append q [] ys h = absurd (false≢true h)
+number_append q (x ∷ xs) ys h = go (bytes_eq q x) (number_append q xs ys) h
   where
     go : (b : Bool) {r : Bool} {m n : ℕ} → (r ≡ true → m ≡ n) → (b || r) ≡ true → cond (not b) (1 + m) 0 ≡ cond (not b) (1 + n) 0
     go true f e = refl
     go false f e = ap (λ k. 1 + k) (f e)
+
+number_push : (q y : List ℕ) (xs : List (List ℕ)) → list_any (bytes_eq q) xs ≡ true → number_in (xs ++ y ∷ []) q ≡ number_in xs q
+number_push q y xs h = number_append q xs (y ∷ []) h
+
+-- and one below their count
+pub number_below : (keys : List (List ℕ)) (key : List ℕ) → list_any (bytes_eq key) keys ≡ true → number_in keys key < length keys
+number_below [] key h = absurd (false≢true h)
+number_below (k ∷ keys) key h = go (bytes_eq key k) (number_below keys key) h
+  where
+    go : (b : Bool) → (list_any (bytes_eq key) keys ≡ true → number_in keys key < length keys) → (b || list_any (bytes_eq key) keys) ≡ true → cond (not b) (1 + number_in keys key) 0 < suc (length keys)
+    go true ih e = omega arith
+    go false ih e = let less = ih e in omega (arith, less)
 
 -- a key that is not listed would be behind them
 number_new : (q y : List ℕ) (xs : List (List ℕ)) → list_any (bytes_eq q) xs ≡ false → bytes_eq q y ≡ true → number_in (xs ++ y ∷ []) q ≡ length xs
@@ -156,3 +169,78 @@ seen_stays (k ∷ later) xs q h = go (list_any (bytes_eq k) xs) (seen_stays late
     go : (b : Bool) → list_any (bytes_eq q) (first_seen xs later) ≡ true → list_any (bytes_eq q) (first_seen (xs ++ k ∷ []) later) ≡ true → list_any (bytes_eq q) (first_seen (cond b xs (xs ++ k ∷ [])) later) ≡ true
     go true stay grow = stay
     go false stay grow = grow
+
+-- ---- each key at its number
+
+pub none_found : (m : BTreeMap (List ℕ) ℕ) (xs : List (List ℕ)) → m.entries ≡ [] → xs ≡ [] → (key : List ℕ) → get (slice_cmp nat_cmp) m key ≡ number_among xs key
+none_found m xs e f key = ap (lookup (is_at (slice_cmp nat_cmp key))) e ∙ sym (ap (λ ks. number_among ks key) f)
+
+-- a key that stands at a place is listed
+pub listed_at : (xs : List (List ℕ)) (i : ℕ) (q : List ℕ) → slice_get xs i ≡ Some q → list_any (bytes_eq q) xs ≡ true
+listed_at [] i q e = cc
+listed_at (x ∷ xs) zero q e = ap (λ b. b || list_any (bytes_eq q) xs) ((bytes_eq-Decides q x).1 (same_here e))
+  where
+    same_here : Some x ≡ Some q → q ≡ x
+    same_here f = cc
+listed_at (x ∷ xs) (suc i) q e = or_right (bytes_eq q x) (list_any (bytes_eq q) xs) (listed_at xs i q e)
+
+pub no_places : (xs : List (List ℕ)) → xs ≡ [] → KeepsPlaces xs
+no_places xs e = record { own = λ i q at. absurd (none (sym (ap (λ ys. slice_get ys i) e) ∙ at)) }
+  where
+    none : {q : List ℕ} → None ≡ Some q → ⊥
+    none f = cc
+
+-- with a key behind them
+at_push : (xs : List (List ℕ)) (k : List ℕ) (i : ℕ) (q : List ℕ) → slice_get (xs ++ k ∷ []) i ≡ Some q → (slice_get xs i ≡ Some q) ⊎ ((i ≡ length xs) × (q ≡ k))
+at_push [] k zero q e = inr (refl, cc)
+at_push [] k (suc i) q e = cc
+at_push (x ∷ xs) k zero q e = inl e
+at_push (x ∷ xs) k (suc i) q e = go (at_push xs k i q e)
+  where
+    go : (slice_get xs i ≡ Some q) ⊎ ((i ≡ length xs) × (q ≡ k)) → (slice_get xs i ≡ Some q) ⊎ ((suc i ≡ suc (length xs)) × (q ≡ k))
+    go (inl p) = inl p
+    go (inr p) = inr (ap (λ n. suc n) p.0, p.1)
+
+places_more : (xs : List (List ℕ)) (k : List ℕ) → list_any (bytes_eq k) xs ≡ false → KeepsPlaces xs → KeepsPlaces (xs ++ k ∷ [])
+places_more xs k new h = record { own = λ i q at. go i q (at_push xs k i q at) }
+  where
+    go : (i : ℕ) (q : List ℕ) → (slice_get xs i ≡ Some q) ⊎ ((i ≡ length xs) × (q ≡ k)) → number_in (xs ++ k ∷ []) q ≡ i
+    go i q (inl p) = number_push q k xs (listed_at xs i q p) ∙ h.own i q p
+    go i q (inr p) = number_new q k xs (ap (λ y. list_any (bytes_eq y) xs) p.1 ∙ new) (ap (λ y. bytes_eq y k) p.1 ∙ same_key k) ∙ sym p.0
+
+pub places_pushed : (xs ys : List (List ℕ)) (k j : List ℕ) → list_any (bytes_eq k) xs ≡ false → ys ≡ xs ++ j ∷ [] → j ≡ k → KeepsPlaces xs → KeepsPlaces ys
+places_pushed xs ys k j new e same h = subst KeepsPlaces (sym (e ∙ ap (λ y. xs ++ y ∷ []) same)) (places_more xs k new h)
+
+pub places_seen : (ks xs : List (List ℕ)) → KeepsPlaces xs → KeepsPlaces (first_seen xs ks)
+places_seen [] xs h = h
+places_seen (k ∷ ks) xs h = go (list_any (bytes_eq k) xs) refl (places_seen ks xs h) (λ new. places_seen ks (xs ++ k ∷ []) (places_more xs k new h))
+  where
+    go : (b : Bool) → list_any (bytes_eq k) xs ≡ b → KeepsPlaces (first_seen xs ks) → (list_any (bytes_eq k) xs ≡ false → KeepsPlaces (first_seen (xs ++ k ∷ []) ks)) → KeepsPlaces (first_seen (cond b xs (xs ++ k ∷ [])) ks)
+    go true e stay grow = stay
+    go false e stay grow = grow e
+
+-- such keys are all new when they are seen in turn
+at_length : (xs : List (List ℕ)) (k : List ℕ) (ys : List (List ℕ)) → slice_get (xs ++ k ∷ ys) (length xs) ≡ Some k
+at_length [] k ys = refl
+at_length (x ∷ xs) k ys = at_length xs k ys
+
+new_at : (xs : List (List ℕ)) (k : List ℕ) (ys : List (List ℕ)) → KeepsPlaces (xs ++ k ∷ ys) → list_any (bytes_eq k) xs ≡ false
+new_at xs k ys h = go (list_any (bytes_eq k) xs) refl
+  where
+    go : (b : Bool) → list_any (bytes_eq k) xs ≡ b → b ≡ false
+    go false e = refl
+    go true e =
+        let own = h.own (length xs) k (at_length xs k ys) in
+        let same = number_append k xs (k ∷ ys) e in
+        let less = number_below xs k e in
+        absurd (omega (arith, own, same, less))
+
+seen_from : (xs ys : List (List ℕ)) → KeepsPlaces (xs ++ ys) → first_seen xs ys ≡ xs ++ ys
+seen_from xs [] h = sym (append-nil xs)
+seen_from xs (k ∷ ys) h =
+    ap (λ ks. first_seen ks ys) (cond-false (list_any (bytes_eq k) xs) xs (xs ++ k ∷ []) (new_at xs k ys h))
+    ∙ seen_from (xs ++ k ∷ []) ys (subst KeepsPlaces (sym (append_assoc xs (k ∷ []) ys)) h)
+    ∙ append_assoc xs (k ∷ []) ys
+
+pub seen_again : (xs : List (List ℕ)) → KeepsPlaces xs → first_seen [] xs ≡ xs
+seen_again xs h = seen_from [] xs h

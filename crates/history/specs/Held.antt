@@ -43,7 +43,7 @@ sessions_of h = map view h.sessions.items
 -- the sessions are those of a well-formed log, and the tables are theirs
 pub record IsHistory (h : Inside) : Type 0 where
   pub sound : IsWellFormedList (sessions_of h)
-  pub keys : h.keys.items ≡ keys_in (sessions_of h)
+  pub keys : h.keys.keys ≡ keys_in (sessions_of h)
   pub nodes : map node_view h.nodes.items ≡ map (numbered_node (keys_in (sessions_of h))) (committed_in (sessions_of h))
   pub names : (session place : ℕ) → get name_cmp h.names (session, place) ≡ node_named (sessions_of h) session place
   pub rows : AreRows (log_of (sessions_of h)).keys (row_in (log_of (sessions_of h))) h.rows.items

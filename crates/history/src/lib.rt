@@ -3,6 +3,7 @@
 #![tactic(auto)]
 
 mod count;
+mod key_set;
 mod log;
 mod names;
 mod nodes;

@@ -12,12 +12,14 @@ ghost use Rattle.history.specs.Writes.{IsUnwritten, IsWrite};
 ghost use Rattle.history.specs.Tables.{sources_of, writers_in, name_in, node_named};
 
 use crate::count::{Counts, committed_count, counts_of, operation_count};
+use crate::key_set::indexed;
 use crate::names::{Name, names_of};
 use crate::nodes::{Node, Transactions};
 use crate::reads::{ReadFrom, reads_of};
 use crate::rows::{Row, rows_of};
 use crate::scan::session_twice;
 use crate::writes::{Writes, Written};
+use indexmap::IndexSet;
 use serializability::{Event, MAX_NODES, NodeIx};
 use session_log::{Key, Limit, LogFault, Session};
 use std::alloc::{AllocError, Global};
@@ -34,7 +36,8 @@ pub const MAX_KEYS: usize = 10_000;
 #[derive(Drop)]
 pub struct History {
     sessions: Vec<Session>,
-    keys: Vec<Key>,
+    /// A key's number is its index.
+    keys: IndexSet<Key>,
     nodes: Vec<Node>,
     names: BTreeMap<(usize, usize), NodeIx>,
     rows: Vec<Row>,
@@ -91,9 +94,10 @@ impl History {
         let names = names_of(alloc, &nodes)?;
         let rows = rows_of(alloc, numbers.len(), &nodes)?;
         let reads = reads_of(alloc, nodes.len(), &rows, &writes)?;
+        let keys = indexed(alloc, numbers.into_texts())?;
         Ok(History {
             sessions,
-            keys: numbers.into_texts(),
+            keys,
             nodes,
             names,
             rows,

@@ -39,15 +39,15 @@ impl Transactions {
     ghost use Rattle.history.specs.Taken.{Takes, IsStart, HoldsAll, placed_in, placed_from};
 
     /// No transactions.
-    pub fn new(alloc: Global) -> Transactions
-        ensures start { IsStart result }
-        ensures finds { FindsEach result.numbers }
+    pub fn new(alloc: Global) -> Result<Transactions, AllocError>
+        ensures start { IfOk result IsStart }
+        ensures finds { IfOk result (λ all. FindsEach all.numbers) }
     {
-        Transactions {
-            numbers: Numbers::new(alloc),
+        Ok(Transactions {
+            numbers: Numbers::new(alloc)?,
             nodes: Vec::new(alloc),
             writes: Writes::new(alloc),
-        }
+        })
     }
 
     /// Takes the next transaction, which stands at this place of its session.
@@ -108,7 +108,7 @@ impl Transactions {
         ensures { IfOk result (λ all. HoldsAll all (log_lines (map view sessions.now))
             (placed_in (map view sessions.now))) }
     {
-        let mut all = Transactions::new(alloc);
+        let mut all = Transactions::new(alloc)?;
         for session in sessions {
             all.add_session(alloc, session)?;
         }

@@ -1,6 +1,6 @@
 //! Keys as numbers.
 
-ghost use Rattle.std.specs.Prelude.{◌≡◌, ℕ, List, [], ◌∷◌, map, length, OnOk, IfOk};
+ghost use Rattle.std.specs.Prelude.{◌≡◌, ℕ, ◌<◌, List, [], ◌∷◌, map, length, slice_get, Some, IsTrue, OnOk, IfOk};
 ghost use Rattle.log_definitions.specs.WellFormed.{first_seen, key_of};
 ghost use Rattle.log_definitions.specs.Numbers.{number_in, event_of, events_of};
 
@@ -8,27 +8,34 @@ use serializability::Event;
 use session_log::{Key, Op};
 use std::alloc::{AllocError, Global};
 use std::collections::BTreeMap;
+use std::hash::{FoldHasher, Hasher};
 
-/// The keys that have been seen, in the order of their first appearance. They are found by comparison, so that no choice of
-/// keys makes the search long.
+/// How many marks there are.
+const MARKS: usize = 65_536;
+
+/// The keys that have been seen, in the order of their first appearance. A key is tried first at the number that the last key of
+/// its mark had, and else found by comparison, so that no choice of keys makes the search long.
 #[derive(Drop)]
 pub struct Numbers {
     texts: Vec<Key>,
     numbers: BTreeMap<Key, usize>,
+    /// By mark, the number that the last key of this mark had.
+    recent: Vec<usize>,
 }
 
 impl Numbers {
     ghost use Rattle.history.specs.Numbering.{FindsEach};
 
     /// No keys.
-    pub fn new(alloc: Global) -> Numbers
-        ensures empty { result.texts.items ≡ [] }
-        ensures finds { FindsEach result }
+    pub fn new(alloc: Global) -> Result<Numbers, AllocError>
+        ensures empty { IfOk result (λ numbers. numbers.texts.items ≡ []) }
+        ensures finds { IfOk result FindsEach }
     {
-        Numbers {
+        Ok(Numbers {
             texts: Vec::new(alloc),
             numbers: BTreeMap::new(alloc),
-        }
+            recent: vec![in alloc; 0; MARKS]?,
+        })
     }
 
     /// How many keys there are.
@@ -45,8 +52,37 @@ impl Numbers {
         self.texts
     }
 
+    /// Whether this is the number of the key.
+    fn has(&self, number: usize, key: &Key) -> bool
+        ensures { IsTrue result → slice_get self.now.texts.items number ≡ Some key.now }
+    {
+        match self.texts.get(number) {
+            Some(text) => text == key,
+            None => false,
+        }
+    }
+
     /// The number of a key, which is added where it is new.
     fn number(&mut self, alloc: Global, key: &Key) -> Result<usize, AllocError>
+        requires { FindsEach self.old }
+        ensures finds { OnOk result (FindsEach self.new) }
+        ensures keys { OnOk result
+            (self.new.texts.items ≡ first_seen self.old.texts.items (key.now ∷ [])) }
+        ensures number { IfOk result (λ n. (later : List (List ℕ)) →
+            n ≡ number_in (first_seen self.new.texts.items later) key.now) }
+    {
+        let mark = mark_of(key);
+        let guess = self.recent[mark];
+        if self.has(guess, key) {
+            return Ok(guess);
+        }
+        let number = self.search(alloc, key)?;
+        self.recent[mark] = number;
+        Ok(number)
+    }
+
+    /// The number of a key, found by comparison; a new key is added.
+    fn search(&mut self, alloc: Global, key: &Key) -> Result<usize, AllocError>
         requires { FindsEach self.old }
         ensures finds { OnOk result (FindsEach self.new) }
         ensures keys { OnOk result
@@ -99,4 +135,13 @@ impl Numbers {
         }
         Ok(events)
     }
+}
+
+/// A number that equal keys share, and most others do not.
+fn mark_of(key: &Key) -> usize
+    ensures { result < 65536 }
+{
+    let mut hasher = FoldHasher::default();
+    hasher.write(key.as_bytes());
+    hasher.finish() as usize % MARKS
 }

@@ -8,12 +8,11 @@ pub index-requires : goal.index-requires
 index-requires c =
     let n = keys_kept c.self.inside c.self.invariant in
     let same = ap (λ ss. (log_of ss).keys) c.self.view_is in
-    omega (arith, n, same, c.requires, c.self.inside.keys.ok.0)
+    omega (arith, n, same, c.requires)
 
 pub returns : goal.returns
 returns c = record {
   text =
-      let same = ap (λ ss. (log_of ss).keys) c.self.view_is in
       ap (λ ss. slice_get (keys_in ss) c.args.key) (sym c.self.view_is)
-      ∙ key_kept c.self.inside c.self.invariant c.args.key c.index.result.now (omega (arith, same, c.requires)) c.index.ensures;
+      ∙ key_kept c.self.inside c.self.invariant c.args.key c.index.result.now c.index.ensures;
 }

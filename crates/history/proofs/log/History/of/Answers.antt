@@ -1,4 +1,4 @@
-use Rattle.std.proofs.Common.{◌<◌, ℕ, List, ap, sym, ◌∙◌, arith, length, map, subst, All}
+use Rattle.std.proofs.Common.{[], refl, ◌<◌, ℕ, List, ap, sym, ◌∙◌, arith, length, map, subst, All}
 use Rattle.session_log.specs.Text.{view}
 use Rattle.history.specs.Rows.{event_key}
 use Rattle.history.specs.Taken.{placed_in}
@@ -9,6 +9,9 @@ use Rattle.session_log.specs.declared.session.Session.{Session}
 use Rattle.history.proofs.Tabled.{events_within, named_node, keys_held, nodes_held, committed_held, writes_held, rows_held, readers_held, reads_held}
 use Rattle.history.specs.Naming.{node_among}
 use Rattle.history.proofs.Limits.{keeps_limits}
+use Rattle.history.specs.Numbering.{KeepsPlaces}
+use Rattle.history.specs.Taken.{keys_among}
+use Rattle.history.proofs.Seen.{no_places, places_seen}
 use Rattle.history.proofs.log.History.of.Goals as goal
 
 pub names_of-requires : goal.names_of-requires
@@ -36,6 +39,11 @@ reads_of-requires c =
     let rows = rows_held ss all c.requires.holds c.len.result c.deref-3.result.now c.in_ok-rows.rows.items c.len.ensures c.deref-3.ensures.value c.in_ok-rows.ensures in
     readers_held ss all c.requires.holds c.len-2.result c.in_ok-rows.rows.items c.deref-4.result.now (c.len-2.ensures ∙ all.nodes.ok.0) c.deref-4.ensures.value rows
 
+pub indexed-requires : goal.indexed-requires
+indexed-requires c =
+    let ss = map view c.args.sessions.items in
+    subst KeepsPlaces (sym (c.into_texts.ensures ∙ c.requires.holds.keys)) (places_seen (keys_among (placed_in ss)) [] (no_places [] refl))
+
 pub invariant_of-result : goal.invariant_of-result
 invariant_of-result c =
     let ss = map view c.args.sessions.items in
@@ -43,7 +51,7 @@ invariant_of-result c =
     let rows_are = rows_held ss all c.requires.holds c.len.result c.deref-3.result.now c.in_ok-rows.rows.items c.len.ensures c.deref-3.ensures.value c.in_ok-rows.ensures in
     record {
       sound = c.requires.sound;
-      keys = c.into_texts.ensures ∙ keys_held ss all c.requires.holds;
+      keys = c.in_ok-keys.ensures ∙ c.into_texts.ensures ∙ keys_held ss all c.requires.holds;
       nodes = nodes_held ss all c.requires.holds;
       names = λ session place. c.in_ok-names.ensures session place ∙ ap (node_among session place 1) c.deref-2.ensures.value ∙ named_node ss session place all.nodes.items (nodes_held ss all c.requires.holds);
       rows = rows_are;

@@ -26,4 +26,4 @@ pub returns : goal.returns
 returns c =
     let P : List Session → Type 0 = λ ss. HoldsAll c.loop-session.all (log_lines (map view ss)) (placed_in (map view ss)) in
     subst P (take_all c.loop-session.session-index c.args.sessions.now c.loop-session-test.false)
-    (all_taken _ c.loop-session.all _ _ c.new-all.ensures.start c.loop-session.invariant.taken)
+    (all_taken _ c.loop-session.all _ _ c.in_ok-all.ensures.start c.loop-session.invariant.taken)
