@@ -13,7 +13,7 @@ use dimacs::{Counted, MAX_ANSWER_BYTES};
 use order_text::MAX_ORDER_BYTES;
 use session_log::MAX_LOG_BYTES;
 use std::alloc::{AllocError, Global};
-use std::io::{Eprint, Read, Write};
+use std::io::{Eprint, ErrorKind, Read, Write};
 use std::process::ExitCode;
 use std::rt::{Files, Runtime};
 use std::sync::Wait;
@@ -30,6 +30,8 @@ const DEVICE_FAILED: u8 = 5;
 /// Why a call ends before its command, or after it.
 enum Stop {
     Refused(Fault),
+    /// A word of the call is no text.
+    Words,
     Memory,
     Input,
     Output,
@@ -138,6 +140,10 @@ fn report<R: Eprint>(rt: &R, stop: Stop) -> u8 {
             let _ = eprintln!(rt; "{line}");
             exit_status(&fault)
         }
+        Stop::Words => {
+            let _ = eprintln!(rt; "error: invalid UTF-8 was detected in one or more arguments");
+            USAGE
+        }
         Stop::Memory => {
             let _ = eprintln!(rt; "out of memory");
             OUT_OF_MEMORY
@@ -153,6 +159,14 @@ fn report<R: Eprint>(rt: &R, stop: Stop) -> u8 {
     }
 }
 
+/// Why the words of a call cannot be had.
+fn words_fault(kind: ErrorKind) -> Stop {
+    match kind {
+        ErrorKind::OutOfMemory => Stop::Memory,
+        _ => Stop::Words,
+    }
+}
+
 /// Does what the words of the call ask for, and gives the exit status.
 fn answer<R: Runtime + AllocGlobal + Threads + Wait + Sync, I: Read + Drop, W: Write + Drop>(
     rt: &R,
@@ -160,10 +174,10 @@ fn answer<R: Runtime + AllocGlobal + Threads + Wait + Sync, I: Read + Drop, W: W
     input: I,
     output: W,
 ) -> Result<u8, Stop> {
-    let Ok(words) = env::args(rt) else {
-        return Err(Stop::Memory);
+    let words: Vec<String> = match env::args(rt) {
+        Ok(words) => words.collect(alloc)?,
+        Err(error) => return Err(words_fault(error.kind())),
     };
-    let words: Vec<String> = words.collect(alloc)?;
     match words_of(alloc, &words)? {
         Some(Words::Request(request)) => Ok(run(rt, alloc, request, input, output)?.code()),
         Some(Words::Shown(text)) => {

@@ -62,6 +62,79 @@ fn helped_words(rt: HostRuntime) -> Result<(), Fail> {
     Ok(())
 }
 
+/// The text of help or version that these words ask for.
+fn text_of(rt: &impl Abort, alloc: Global, line: &str) -> Result<String, Fail> {
+    let words = words(alloc, line)?;
+    match words_of(alloc, words.as_slice())? {
+        Some(Words::Shown(error)) => Ok(format!(in alloc; "{error}")?),
+        _ => {
+            assert!(rt; false, "{line} is a call");
+            Ok(String::new(alloc))
+        }
+    }
+}
+
+#[test]
+fn texts_of_help(rt: HostRuntime) -> Result<(), Fail> {
+    for (line, part) in [
+        ("cobra_poly --version", "cobra_poly 0.1.0\n"),
+        (
+            "cobra_poly encode --help",
+            "  0  the formula; the contradiction",
+        ),
+        (
+            "cobra_poly decode --help",
+            "  3  unsatisfiable claimed, not checked; or unknown\n",
+        ),
+        ("cobra_poly check --help", "  1  not serializable: and why"),
+        (
+            "cobra_poly check --help",
+            "--budget <N>       How many cubes a search may close, 1 to 1000000 [default: 10000]\n",
+        ),
+        ("cobra_poly verify --help", "  0  accepted\n"),
+        (
+            "cobra_poly stats --help",
+            "How many workers take part, 1 to 16 [default: 4]\n",
+        ),
+    ] {
+        let text = text_of(&rt, rt.alloc(), line)?;
+        assert!(rt; text.contains(part), "{line}: {text}");
+    }
+    Ok(())
+}
+
+/// Whether a call reads the log from this file, or from standard input where it has no name.
+fn is_log(request: &Request<'_>, file: &str) -> bool {
+    match request.log {
+        Some(log) => log == file,
+        None => file.is_empty(),
+    }
+}
+
+/// The same of words, which is false where they are no call.
+fn is_log_by(alloc: Global, line: &str, file: &str) -> Result<bool, Fail> {
+    let words = words(alloc, line)?;
+    match words_of(alloc, words.as_slice())? {
+        Some(Words::Request(request)) => Ok(is_log(&request, file)),
+        Some(Words::Shown(_text)) => Ok(false),
+        None => Ok(false),
+    }
+}
+
+#[test]
+fn files_of_logs(rt: HostRuntime) -> Result<(), Fail> {
+    for (line, file) in [
+        ("cobra_poly check", ""),
+        ("cobra_poly check -", ""),
+        ("cobra_poly decode --model - -", ""),
+        ("cobra_poly check ./-", "./-"),
+        ("cobra_poly verify --order order log", "log"),
+    ] {
+        assert!(rt; is_log_by(rt.alloc(), line, file)?, "{line}");
+    }
+    Ok(())
+}
+
 /// The strategy and the budget of a call, where it is one of `check`.
 fn asked(request: Request<'_>) -> Option<(StrategyWord, usize)> {
     match request.command {

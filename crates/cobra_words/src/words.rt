@@ -57,18 +57,69 @@ const DEFAULT_WORKERS: &str = "4";
 /// How many cubes a search may close where the words do not say.
 const DEFAULT_BUDGET: &str = "10000";
 
+/// The version that `--version` prints.
+const VERSION: &str = "0.1.0";
+
+/// The name of a log that stands for standard input.
+const STANDARD_INPUT: &str = "-";
+
+/// What `encode` answers, by exit status.
+const ANSWERS_OF_ENCODE: &str = "\
+Answers, by exit status:
+  0  the formula; the contradiction, p cnf 1 2, where an anomaly stands
+  2  refused: and the fault of the log, L1 to L7, or of its formula, G1 to G3; or usage
+  4  out of memory
+  5  device failed: input or output";
+
+/// What `decode` answers, by exit status.
+const ANSWERS_OF_DECODE: &str = "\
+Answers, by exit status:
+  0  the order, a line SESSION PLACE for each transaction
+  2  refused: and a fault as of encode, or of the answer, M1 to M8, or E1 and the first clause
+     that the assignment makes false; or usage
+  3  unsatisfiable claimed, not checked; or unknown
+  4  out of memory
+  5  device failed: input or output";
+
+/// What `check` answers, by exit status.
+const ANSWERS_OF_CHECK: &str = "\
+Answers, by exit status:
+  0  serializable, then the order, a line SESSION PLACE for each transaction
+  1  not serializable: and why, with a code A1 to A9 where it has one
+  2  refused: and the fault of the log, L1 to L7, or G1, more than 100000 choices; or usage
+  3  not decided, and why: unknown where the budget is spent
+  4  out of memory
+  5  device failed: input or output";
+
+/// What `verify` answers, by exit status.
+const ANSWERS_OF_VERIFY: &str = "\
+Answers, by exit status:
+  0  accepted
+  2  refused: and the fault of the log, L1 to L7, or of the order, O1 to O3 and P1 to P3; or usage
+  4  out of memory
+  5  device failed: input or output";
+
+/// What `stats` answers, by exit status.
+const ANSWERS_OF_STATS: &str = "\
+Answers, by exit status:
+  0  a line each of a word and a number: sessions, committed, aborted, keys, operations; choices,
+     those of the formula, or the anomaly; variables, clauses
+  2  refused: and the fault of the log, L1 to L7, or of its formula, G1 to G3; or usage
+  4  out of memory
+  5  device failed: input or output";
+
 /// The words for strategies.
 const STRATEGIES: [&str; 3] = ["first", "most", "least"];
 
 fn log_file<'a>(alloc: Global) -> Arg<'a> {
-    Arg::new(alloc, "FILE").help("The log; standard input where absent")
+    Arg::new(alloc, "FILE").help("The log; standard input where it is - or absent")
 }
 
 fn workers<'a>(alloc: Global) -> Arg<'a> {
     Arg::new(alloc, "workers")
         .long("workers")
         .value_name("N")
-        .help("How many workers take part")
+        .help("How many workers take part, 1 to 16")
         .action(ArgAction::Set)
         .value_parser(clap::value_parser!(u8).range(1..=16))
         .default_value(DEFAULT_WORKERS)
@@ -115,6 +166,7 @@ fn required_file<'a>(alloc: Global, name: &'a str, help: &'a str) -> Arg<'a> {
 fn encode<'a>(alloc: Global) -> Result<clap::Command<'a>, AllocError> {
     clap::Command::new(alloc, "encode")
         .about("Write the formula of a log as DIMACS text")
+        .after_help(ANSWERS_OF_ENCODE)
         .arg(plain(alloc))?
         .arg(workers(alloc))?
         .arg(log_file(alloc))
@@ -123,6 +175,7 @@ fn encode<'a>(alloc: Global) -> Result<clap::Command<'a>, AllocError> {
 fn decode<'a>(alloc: Global) -> Result<clap::Command<'a>, AllocError> {
     clap::Command::new(alloc, "decode")
         .about("Turn a solver's answer into a serial order")
+        .after_help(ANSWERS_OF_DECODE)
         .arg(required_file(alloc, "model", "The solver's answer"))?
         .arg(plain(alloc))?
         .arg(workers(alloc))?
@@ -132,6 +185,7 @@ fn decode<'a>(alloc: Global) -> Result<clap::Command<'a>, AllocError> {
 fn check<'a>(alloc: Global) -> Result<clap::Command<'a>, AllocError> {
     clap::Command::new(alloc, "check")
         .about("Decide whether some serial order explains a log")
+        .after_help(ANSWERS_OF_CHECK)
         .arg(strategy(alloc))?
         .arg(budget(alloc))?
         .arg(workers(alloc))?
@@ -141,6 +195,7 @@ fn check<'a>(alloc: Global) -> Result<clap::Command<'a>, AllocError> {
 fn verify<'a>(alloc: Global) -> Result<clap::Command<'a>, AllocError> {
     clap::Command::new(alloc, "verify")
         .about("Check that an order is a serial order of a log")
+        .after_help(ANSWERS_OF_VERIFY)
         .arg(required_file(alloc, "order", "The order"))?
         .arg(log_file(alloc))
 }
@@ -148,6 +203,7 @@ fn verify<'a>(alloc: Global) -> Result<clap::Command<'a>, AllocError> {
 fn stats<'a>(alloc: Global) -> Result<clap::Command<'a>, AllocError> {
     clap::Command::new(alloc, "stats")
         .about("Write how large a log and its formula are")
+        .after_help(ANSWERS_OF_STATS)
         .arg(plain(alloc))?
         .arg(workers(alloc))?
         .arg(log_file(alloc))
@@ -158,12 +214,21 @@ fn program<'a>(alloc: Global) -> Result<clap::Command<'a>, AllocError> {
         .about(
             "Decides by a formula whether some serial order explains what the clients of a store saw",
         )
+        .version(VERSION)
         .subcommand_required(true)
         .subcommand(encode(alloc)?)?
         .subcommand(decode(alloc)?)?
         .subcommand(check(alloc)?)?
         .subcommand(verify(alloc)?)?
         .subcommand(stats(alloc)?)
+}
+
+/// The file that holds the log, and nothing for standard input.
+fn log_of<'a>(matches: &ArgMatches<'a>) -> Option<&'a str> {
+    match matches.get_str("FILE") {
+        Some(STANDARD_INPUT) => None,
+        file => file,
+    }
 }
 
 /// The strategy of a word; any word but the other two stands for the default.
@@ -201,7 +266,7 @@ fn request_of<'a>(name: &str, matches: &ArgMatches<'a>) -> Option<Request<'a>> {
         workers: Workers::new(number)?,
         strategy: strategy_of(strategy),
         budget: Budget::new(budget as usize)?,
-        log: matches.get_str("FILE"),
+        log: log_of(matches),
     })
 }
 
