@@ -7,8 +7,8 @@ solver's answer goes back into `decode`; each order that comes out must be accep
 UNSATISFIABLE, no order of the at most seven transactions may be serial. Ten thousand small logs, most of them damaged, go
 through `stats`, whose refusals and counts must be the reference's.
 
-Solvers are installed by Debian's package names where they are lacking. Where none can be had, a small solver of this file's
-own takes their place, and the output says so. Last line: 'solvers: N passed, M failed'."""
+The solvers are those that are installed, which .ci/install_solvers sees to. Where there is none, a small solver of this file's own
+takes their place, and the output says so. Last line: 'solvers: N passed, M failed'."""
 import glob, os, shutil, subprocess, sys, tempfile, concurrent.futures
 
 HERE = os.path.dirname(os.path.abspath(__file__))
@@ -20,19 +20,8 @@ MADE, DAMAGED = 300, 10000
 
 
 def installed():
-    """The solvers that can be run here, installing what is lacking."""
-    lacking = [package for package, words in SOLVERS.items() if not shutil.which(words[0])]
-    if lacking:
-        for words in (['apt-get', 'update'], ['apt-get', 'install', '-y', '--no-install-recommends'] + lacking):
-            try:
-                subprocess.run(words, stdin=subprocess.DEVNULL, stdout=subprocess.DEVNULL, stderr=subprocess.DEVNULL, timeout=600)
-            except (OSError, subprocess.TimeoutExpired):
-                pass
-    found = {package: words for package, words in SOLVERS.items() if shutil.which(words[0])}
-    for package in SOLVERS:
-        if package not in found:
-            print('note: the solver %s cannot be had here, and is left out' % package)
-    return found
+    """The solvers that can be run here."""
+    return {package: words for package, words in SOLVERS.items() if shutil.which(words[0])}
 
 
 def own_answer(text):

@@ -103,16 +103,19 @@ fn texts_of_help(rt: HostRuntime) -> Result<(), Fail> {
     Ok(())
 }
 
-/// Whether a call reads the log from this file, or from standard input where it is nothing.
-fn is_log(request: Request<'_>, file: Option<&str>) -> bool {
-    request.log == file
+/// Whether a call reads the log from this file, or from standard input where it has no name.
+fn is_log(request: &Request<'_>, file: &str) -> bool {
+    match request.log {
+        Some(log) => log == file,
+        None => file.is_empty(),
+    }
 }
 
 /// The same of words, which is false where they are no call.
-fn is_log_by(alloc: Global, line: &str, file: Option<&str>) -> Result<bool, Fail> {
+fn is_log_by(alloc: Global, line: &str, file: &str) -> Result<bool, Fail> {
     let words = words(alloc, line)?;
     match words_of(alloc, words.as_slice())? {
-        Some(Words::Request(request)) => Ok(is_log(request, file)),
+        Some(Words::Request(request)) => Ok(is_log(&request, file)),
         Some(Words::Shown(_text)) => Ok(false),
         None => Ok(false),
     }
@@ -121,11 +124,11 @@ fn is_log_by(alloc: Global, line: &str, file: Option<&str>) -> Result<bool, Fail
 #[test]
 fn files_of_logs(rt: HostRuntime) -> Result<(), Fail> {
     for (line, file) in [
-        ("cobra_poly check", None),
-        ("cobra_poly check -", None),
-        ("cobra_poly decode --model - -", None),
-        ("cobra_poly check ./-", Some("./-")),
-        ("cobra_poly verify --order order log", Some("log")),
+        ("cobra_poly check", ""),
+        ("cobra_poly check -", ""),
+        ("cobra_poly decode --model - -", ""),
+        ("cobra_poly check ./-", "./-"),
+        ("cobra_poly verify --order order log", "log"),
     ] {
         assert!(rt; is_log_by(rt.alloc(), line, file)?, "{line}");
     }
