@@ -1,4 +1,3 @@
 pub mod Answers
-pub mod Checks
 pub mod Growing
 pub mod Trees

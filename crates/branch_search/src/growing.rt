@@ -113,17 +113,7 @@ fn close(
 {
     match event {
         Event::Split(choice) => {
-            let first = nodes.len();
-            let second = first + 1;
-            set_growth(
-                nodes,
-                number,
-                Growth::Inner {
-                    choice,
-                    first,
-                    second,
-                },
-            );
+            set_growth(nodes, number, Growth::Inner(choice));
             nodes.push(child(alloc, number, choice, Side::One))?;
             nodes.push(child(alloc, number, choice, Side::Two))?;
             Ok(())

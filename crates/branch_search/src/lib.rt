@@ -6,7 +6,6 @@
 #![tactic(auto)]
 
 mod answer;
-mod checking;
 mod crew;
 mod growing;
 pub mod laws;
@@ -19,8 +18,7 @@ mod tree;
 mod worker;
 
 pub use answer::Answer;
-pub use branching::{Alternate, ByWords, CubeView, FirstOpen, Forced, LeastEdges, MostEdges, Strategy};
-pub use checking::check_tree;
+pub use branching::{Alternate, ByWords, CubeView, FirstOpen, LeastEdges, MostEdges, Strategy};
 pub use cube_machine::Budget;
 pub use searching::search;
 pub use tree::{Decision, Growth, Tree, TreeNode};

@@ -19,14 +19,8 @@ pub struct Decision {
 pub enum Growth {
     /// It is refuted by this cycle, its first node repeated last.
     Leaf(NodeLine),
-    /// It is split by a choice. Its children are these nodes.
-    Inner {
-        choice: ChoiceIx,
-        /// The child by side one.
-        first: usize,
-        /// The child by side two.
-        second: usize,
-    },
+    /// It is split by this choice.
+    Inner(ChoiceIx),
 }
 
 /// A node of a tree.

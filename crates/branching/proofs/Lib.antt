@@ -6,4 +6,3 @@ pub mod Ordered
 pub mod Worded
 pub mod Turned
 pub mod Meant
-pub mod Refuting

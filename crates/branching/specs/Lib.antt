@@ -2,10 +2,8 @@ pub mod Bits
 pub mod View
 pub mod Picks
 pub mod Opens
-pub mod Refuted
 pub mod Picked
 pub mod Meant
-pub mod Forced
 pub mod Sides
 pub mod Grown
 pub mod Held

@@ -1,13 +1,11 @@
 //! What a strategy sees of a cube.
 
-ghost use Rattle.std.specs.Prelude.{◌≡◌, ℕ, ◌+◌, ◌<◌, ◌≤◌, [], ◌∷◌, true, Some, MatchOption, IfSome, IfOk, is_some, length, slice_get};
+ghost use Rattle.std.specs.Prelude.{◌≡◌, ℕ, ◌+◌, ◌<◌, ◌≤◌, [], ◌∷◌, true, Some, MatchOption, IfSome, IfOk, length, slice_get};
 ghost use Rattle.std.specs.List.{AllByRecursion};
-ghost use Rattle.pruning_laws.specs.declared.side.Side.TheVariants.{One, Two};
 ghost use Rattle.polygraph.specs.Polygraphs.{Joins};
 ghost use Rattle.reach_rows.specs.ReachRows.{AreRowsOf};
 ghost use Rattle.branching.specs.View.{is_open_in, depth_of, graph_in, opened, decided};
 ghost use Rattle.branching.specs.Picks.{edge_count};
-ghost use Rattle.branching.specs.Refuted.{is_refuted_in, is_forced_in};
 ghost use Rattle.branching.specs.Opens.{open_past};
 ghost use Rattle.branching.specs.Grown.{AddsEdges};
 ghost use Rattle.branching.specs.Held.{IsView, AreEdgesOf};
@@ -16,7 +14,7 @@ use crate::counts::EdgeCounts;
 use crate::sides::Sides;
 use known_graph::Known;
 use polygraph::{Choice, ChoiceIx};
-use prune_ledger::{Reduced, Verdict, judge};
+use prune_ledger::Reduced;
 use pruning_laws::Side;
 use reach_laws::Edge;
 use reach_rows::Rows;
@@ -140,36 +138,6 @@ impl<'a> CubeView<'a> {
         ensures count { result ≡ edge_count self.now.polygraph.choices choice }
     {
         self.counts.of(choice.get())
-    }
-
-    /// Whether a side of a choice is refuted by the known edges and those of the decided sides.
-    pub(crate) fn is_refuted(&self, choice: ChoiceIx, side: Side) -> bool
-        requires choice { choice < length self.now.sides }
-        ensures refuted { result ≡ is_refuted_in self.now choice side }
-    {
-        let verdict = self.verdict(choice);
-        match side {
-            Side::One => verdict.one.is_some(),
-            Side::Two => verdict.two.is_some(),
-        }
-    }
-
-    /// Whether a side of a choice is refuted, whichever.
-    pub(crate) fn is_forced(&self, choice: ChoiceIx) -> bool
-        requires choice { choice < length self.now.sides }
-        ensures forced { result ≡ is_forced_in self.now choice }
-    {
-        let verdict = self.verdict(choice);
-        verdict.one.is_some() || verdict.two.is_some()
-    }
-
-    // What refutes the sides of a choice.
-    fn verdict(&self, choice: ChoiceIx) -> Verdict
-        requires choice { choice < length self.now.sides }
-        ensures one { is_some result.one ≡ is_refuted_in self.now choice One }
-        ensures two { is_some result.two ≡ is_refuted_in self.now choice Two }
-    {
-        judge(&self.rows, &self.reduced.poly().choices()[choice.get()])
     }
 
     /// A number of edges that no choice has fewer of, both sides together.
