@@ -2,7 +2,8 @@
 """refused_memory.py PROGRAM GRAPHS: each allocation of each command is refused in turn.
 
 The program runs with the Nth request for memory refused, for N = 1, 2, .. until it makes fewer. Each such run must either
-say `out of memory` with status 4 and write nothing, or do what it does with ample memory. Needs a C compiler, for a small
+say `out of memory` with status 4 and write nothing, or do what it does with ample memory. Where two workers search a log of which
+each cube is refuted, a refusal to one of them must at least once leave the answer to the other. Needs a C compiler, for a small
 library that stands before the allocator of the C library.
 
 GRAPHS is the program that times the crates of graphs. Of it each run must end by itself, and must not count other choices
@@ -13,12 +14,17 @@ SHIM = r'''
 #define _GNU_SOURCE
 #include <dlfcn.h>
 #include <errno.h>
+#include <fcntl.h>
 #include <stdlib.h>
+#include <unistd.h>
 static long left = -1;
 static void *refused(void) { errno = ENOMEM; return 0; }
 static int refuses(void) {
     if (left < 0) { char *n = getenv("REFUSED"); left = n ? atol(n) : 0; }
-    return left > 0 && --left == 0;
+    if (left <= 0 || --left > 0) return 0;
+    int told = open(getenv("TOLD"), O_CREAT | O_WRONLY, 0600);
+    if (told >= 0) close(told);
+    return 1;
 }
 void *malloc(size_t n) { static void *(*real)(size_t); if (!real) real = dlsym(RTLD_NEXT, "malloc"); return refuses() ? refused() : real(n); }
 void *realloc(void *p, size_t n) { static void *(*real)(void *, size_t); if (!real) real = dlsym(RTLD_NEXT, "realloc"); return refuses() ? refused() : real(p, n); }
@@ -42,7 +48,7 @@ def main():
         return
     passed, failed = 0, 0
     with tempfile.TemporaryDirectory() as folder:
-        paths = {name: os.path.join(folder, name) for name in ('log', 'answer', 'order', 'shim.c', 'shim.so')}
+        paths = {name: os.path.join(folder, name) for name in ('log', 'answer', 'order', 'shim.c', 'shim.so', 'told')}
         for name, data in (('log', LOG), ('answer', ANSWER), ('order', ORDER), ('shim.c', SHIM.encode())):
             with open(paths[name], 'wb') as out:
                 out.write(data)
@@ -53,16 +59,20 @@ def main():
         calls += [['check', '--workers', count, log] for count in ('1', '2')
                   for log in [paths['log']] + [os.path.join(examples, name) for name in ('crossed_readers.log', 'forced_choices.log', 'forced_cycle.log', 'write_skew.log', 'lost_update.log')]]
         for words in calls:
-            wanted, refusals = None, 0
+            wanted, refusals, left_to_another = None, 0, 0
             for n in range(MOST):
-                place = dict(os.environ, LD_PRELOAD=paths['shim.so'], REFUSED=str(n))
+                place = dict(os.environ, LD_PRELOAD=paths['shim.so'], REFUSED=str(n), TOLD=paths['told'])
                 ran = subprocess.run([program, *words], stdin=subprocess.DEVNULL, stdout=subprocess.PIPE, stderr=subprocess.PIPE, env=place, timeout=60)
                 got = (ran.returncode, ran.stdout, ran.stderr)
+                refused = os.path.exists(paths['told'])
+                if refused:
+                    os.remove(paths['told'])
                 if n == 0:
                     wanted = got
                     continue
                 if got == wanted or (words[0] == 'check' and got in BOTH):
                     passed += 1
+                    left_to_another += refused
                     if n > refusals + 50:
                         break
                 elif got == (4, b'', b'out of memory\n'):
@@ -75,10 +85,13 @@ def main():
             if refusals == 0:
                 failed += 1
                 print('FAILED %s: no refusal was told' % words[0])
+            if words[:3] == ['check', '--workers', '2'] and words[-1].endswith('crossed_readers.log') and not left_to_another:
+                failed += 1
+                print('FAILED check: no refusal to one worker left the answer to the other')
         for words in (['log', paths['log']], ['made']):
             counts, ended = None, 0
             for n in range(MOST):
-                place = dict(os.environ, LD_PRELOAD=paths['shim.so'], REFUSED=str(n))
+                place = dict(os.environ, LD_PRELOAD=paths['shim.so'], REFUSED=str(n), TOLD=paths['told'])
                 ran = subprocess.run([graphs, *words], stdin=subprocess.DEVNULL, stdout=subprocess.PIPE, stderr=subprocess.PIPE, env=place, timeout=60)
                 got = [line for line in ran.stdout.decode().split('\n') if line.startswith('choices') or line.startswith('workers')]
                 if n == 0:

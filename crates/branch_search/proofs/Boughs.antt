@@ -45,11 +45,11 @@ pub record IsChildAt (ps : List ℕ) (ds : List (Option Decision)) (i c : ℕ) (
   pub decision : slice_get ds j ≡ Some (Some (record { choice = c; side = side }))
 
 pub record HasChildren (p : Polygraph) (cs : List Cube) (ps : List ℕ) (ds : List (Option Decision)) (gs : List Growth) (i c : ℕ) : Type 0 where
-  pub growth : slice_get gs i ≡ Some (Inner c)
   pub choice : c < length p.choices
   pub undecided : is_decided (slice_index_or cs i []) c ≡ false
   pub first : ℕ
   pub second : ℕ
+  pub growth : slice_get gs i ≡ Some (Inner c first second)
   pub one : IsChildAt ps ds i c One first
   pub two : IsChildAt ps ds i c Two second
   pub only : (j : ℕ) → 0 < j → slice_get ps j ≡ Some i → (j ≡ first) ⊎ (j ≡ second)
@@ -124,7 +124,7 @@ module _ (p : Polygraph) (cs : List Cube) (ms : List Mark) (ps : List ℕ) (ds :
     leaf_there i ne h = record { line = h.line; here = set_apart gs id i (Leaf line) (Leaf h.line) ne h.here; cycle = h.cycle }
 
     split_there : (i c : ℕ) → (i ≡ id → ⊥) → HasChildren p cs ps ds gs i c → HasChildren p cs ps ds (slice_set gs id (Leaf line)) i c
-    split_there i c ne h = record { growth = set_apart gs id i (Leaf line) (Inner c) ne h.growth; choice = h.choice; undecided = h.undecided; first = h.first; second = h.second; one = h.one; two = h.two; only = h.only }
+    split_there i c ne h = record { choice = h.choice; undecided = h.undecided; first = h.first; second = h.second; growth = set_apart gs id i (Leaf line) (Inner c h.first h.second) ne h.growth; one = h.one; two = h.two; only = h.only }
 
     pub grown_refuted : IsGrown p cs (slice_set ms id Refuted) ps ds (slice_set gs id (Leaf line))
     grown_refuted = record {
@@ -140,7 +140,7 @@ module _ (p : Polygraph) (cs : List Cube) (ms : List Mark) (ps : List ℕ) (ds :
     }
 
   -- ---- split
-  module _ (c : ℕ) (choice : c < length p.choices) (undecided : is_decided (slice_index_or cs id []) c ≡ false) (one two : Cube) where
+  module _ (c : ℕ) (choice : c < length p.choices) (undecided : is_decided (slice_index_or cs id []) c ≡ false) (one two : Cube) (n : ℕ) (size : n ≡ length ms) where
     abbrev new_cs : List Cube
     new_cs = cs ++ one ∷ two ∷ []
 
@@ -157,7 +157,7 @@ module _ (p : Polygraph) (cs : List Cube) (ms : List Mark) (ps : List ℕ) (ds :
     new_ds = ds ++ by One ∷ by Two ∷ []
 
     abbrev grown_gs : List Growth
-    grown_gs = slice_set gs id (Inner c) ++ bud ∷ bud ∷ []
+    grown_gs = slice_set gs id (Inner c n (n + 1)) ++ bud ∷ bud ∷ []
 
     in_ms : id < length ms
     in_ms = within ms id old here
@@ -188,7 +188,7 @@ module _ (p : Polygraph) (cs : List Cube) (ms : List Mark) (ps : List ℕ) (ds :
     same_cube i lt = or_left cs (one ∷ two ∷ []) i [] (let n = g.cubes in omega (arith, lt, n))
 
     growth_there : (i : ℕ) (x : Growth) → (i ≡ id → ⊥) → slice_get gs i ≡ Some x → slice_get grown_gs i ≡ Some x
-    growth_there i x ne e = append_left (slice_set gs id (Inner c)) (bud ∷ bud ∷ []) i x (set_apart gs id i (Inner c) x ne e)
+    growth_there i x ne e = append_left (slice_set gs id (Inner c n (n + 1))) (bud ∷ bud ∷ []) i x (set_apart gs id i (Inner c n (n + 1)) x ne e)
 
     new_leaf : (i : ℕ) → (i ≡ id → ⊥) → i < length ms → HasCycle p cs gs i → HasCycle p new_cs grown_gs i
     new_leaf i ne lt h = record { line = h.line; here = growth_there i (Leaf h.line) ne h.here; cycle = ap (λ k. is_cycle (edges_under p k) h.line) (same_cube i lt) ∙ h.cycle }
@@ -210,22 +210,22 @@ module _ (p : Polygraph) (cs : List Cube) (ms : List Mark) (ps : List ℕ) (ds :
 
     old_children : (i d : ℕ) → (i ≡ id → ⊥) → i < length ms → HasChildren p cs ps ds gs i d → HasChildren p new_cs new_ps new_ds grown_gs i d
     old_children i d ne lt h = record {
-      growth = growth_there i (Inner d) ne h.growth;
       choice = h.choice;
       undecided = ap (λ k. is_decided k d) (same_cube i lt) ∙ h.undecided;
       first = h.first;
       second = h.second;
+      growth = growth_there i (Inner d h.first h.second) ne h.growth;
       one = child_there i d One h.first h.one;
       two = child_there i d Two h.second h.two;
       only = only_there i h.first h.second ne h.only;
     }
 
-    nth : (k j : ℕ) → j ≡ length ps + k → slice_get (id ∷ id ∷ []) k ≡ Some id → (j ≡ length ms) ⊎ (j ≡ length ms + 1)
-    nth zero j e at = inl (let n = g.parents in omega (arith, e, n))
-    nth (suc zero) j e at = inr (let n = g.parents in omega (arith, e, n))
+    nth : (k j : ℕ) → j ≡ length ps + k → slice_get (id ∷ id ∷ []) k ≡ Some id → (j ≡ n) ⊎ (j ≡ n + 1)
+    nth zero j e at = inl (let m = g.parents in omega (arith, e, m, size))
+    nth (suc zero) j e at = inr (let m = g.parents in omega (arith, e, m, size))
     nth (suc (suc k)) j e at = absurd (cc)
 
-    new_only : (j : ℕ) → 0 < j → slice_get new_ps j ≡ Some id → (j ≡ length ms) ⊎ (j ≡ length ms + 1)
+    new_only : (j : ℕ) → 0 < j → slice_get new_ps j ≡ Some id → (j ≡ n) ⊎ (j ≡ n + 1)
     new_only j lt e = elim (append_cases ps (id ∷ id ∷ []) j id e) [
       | inl a ↦ (let u = g.below j id lt a in absurd (apart id u.choice u.split refl))
       | inr b ↦ nth b.0 j b.1 b.2
@@ -233,13 +233,13 @@ module _ (p : Polygraph) (cs : List Cube) (ms : List Mark) (ps : List ℕ) (ds :
 
     new_children : HasChildren p new_cs new_ps new_ds grown_gs id c
     new_children = record {
-      growth = append_left (slice_set gs id (Inner c)) (bud ∷ bud ∷ []) id (Inner c) (set_here gs id (Inner c) (let m = in_ms in let n = g.growths in omega (arith, m, n)));
       choice = choice;
       undecided = ap (λ k. is_decided k c) (same_cube id in_ms) ∙ undecided;
-      first = length ms;
-      second = length ms + 1;
-      one = record { later = in_ms; parent = append_at ps (id ∷ id ∷ []) (length ms) 0 (let n = g.parents in omega (arith, n)); decision = append_at ds (by One ∷ by Two ∷ []) (length ms) 0 (let n = g.decisions in omega (arith, n)) };
-      two = record { later = (let m = in_ms in omega (arith, m)); parent = append_at ps (id ∷ id ∷ []) (length ms + 1) 1 (let n = g.parents in omega (arith, n)); decision = append_at ds (by One ∷ by Two ∷ []) (length ms + 1) 1 (let n = g.decisions in omega (arith, n)) };
+      first = n;
+      second = n + 1;
+      growth = append_left (slice_set gs id (Inner c n (n + 1))) (bud ∷ bud ∷ []) id (Inner c n (n + 1)) (set_here gs id (Inner c n (n + 1)) (let m = in_ms in let l = g.growths in omega (arith, m, l)));
+      one = record { later = (let m = in_ms in omega (arith, m, size)); parent = append_at ps (id ∷ id ∷ []) n 0 (let l = g.parents in omega (arith, l, size)); decision = append_at ds (by One ∷ by Two ∷ []) n 0 (let l = g.decisions in omega (arith, l, size)) };
+      two = record { later = (let m = in_ms in omega (arith, m, size)); parent = append_at ps (id ∷ id ∷ []) (n + 1) 1 (let l = g.parents in omega (arith, l, size)); decision = append_at ds (by One ∷ by Two ∷ []) (n + 1) 1 (let l = g.decisions in omega (arith, l, size)) };
       only = new_only;
     }
 
@@ -255,15 +255,15 @@ module _ (p : Polygraph) (cs : List Cube) (ms : List Mark) (ps : List ℕ) (ds :
       | inr b ↦ absurd (is_open b.0 (Divided d) b.2 (live_open.not_divided d))
     ]
 
-    length_new : (n : ℕ) → n ≡ length ms → n + 2 ≡ length new_ms
-    length_new n e = let a = length_append (slice_set ms id (Divided c)) (Open ∷ Open ∷ []) in let b = set_length ms id (Divided c) in omega (arith, a, b, e)
+    length_new : (k : ℕ) → k ≡ length ms → k + 2 ≡ length new_ms
+    length_new k e = let a = length_append (slice_set ms id (Divided c)) (Open ∷ Open ∷ []) in let b = set_length ms id (Divided c) in omega (arith, a, b, e)
 
     pub grown_split : IsGrown p new_cs new_ms new_ps new_ds grown_gs
     grown_split = record {
       cubes = length_append cs (one ∷ two ∷ []) ∙ length_new (length cs) g.cubes;
       parents = length_append ps (id ∷ id ∷ []) ∙ length_new (length ps) g.parents;
       decisions = length_append ds (by One ∷ by Two ∷ []) ∙ length_new (length ds) g.decisions;
-      growths = length_append (slice_set gs id (Inner c)) (bud ∷ bud ∷ []) ∙ length_new (length (slice_set gs id (Inner c))) (set_length gs id (Inner c) ∙ g.growths);
+      growths = length_append (slice_set gs id (Inner c n (n + 1))) (bud ∷ bud ∷ []) ∙ length_new (length (slice_set gs id (Inner c n (n + 1)))) (set_length gs id (Inner c n (n + 1)) ∙ g.growths);
       root_parent = append_left ps (id ∷ id ∷ []) 0 0 g.root_parent;
       root_decision = append_left ds (by One ∷ by Two ∷ []) 0 None g.root_decision;
       below = new_below;

@@ -1,8 +1,12 @@
 pub mod Places
 pub mod Grown
 pub mod Lists
+pub mod Growths
 pub mod Boughs
 pub mod Seated
 pub mod Cubed
 pub mod Planted
 pub mod Linked
+pub mod Upward
+pub mod Checked
+pub mod Ends

@@ -23,7 +23,8 @@ use Rattle.branch_search.specs.declared.tree.Growth.TheVariants.{Leaf, Inner}
 use Rattle.branch_search.specs.declared.tree.TreeNode.{TreeNode}
 use Rattle.branch_search.specs.Growing.{held_after, bud, sprout, with_growth, grown}
 use Rattle.branch_search.specs.Trees.{cubes_after, cube_of, IsChild, IsSplit, IsBelow, IsRoot, IsRefutationTree}
-use Rattle.branch_search.proofs.Lists.{some_is, within, there, map_some, some_map, map_append, or_map, any_false, or_set_here, or_set_apart, or_replicate}
+use Rattle.branch_search.proofs.Lists.{some_is, within, there, map_some, some_map, map_length, map_append, or_map, any_false, or_set_here, or_set_apart, or_replicate}
+use Rattle.branch_search.proofs.Growths.{leaf_is, choice_is, first_is, second_is, leaf_or_inner}
 use Rattle.branch_search.proofs.Boughs.{IsLive, live_open, live_held, live_ended, IsChildAt, HasChildren, IsGrown, grown_first, grown_marked, grown_refuted, grown_split}
 use Rattle.branch_search.proofs.Seated.{marks_of, cubes_in, marks_with, cubes_with, held_is, last_is_open, claimed_is_open, Tied, Others, tied_same, tied_given, tied_left, tied_more}
 use Rattle.branch_search.proofs.Cubed.{parents_of, decisions_of, growths_of, growths_with, parents_with, decisions_with, cubes_same, cubes_append, cubes_split}
@@ -158,7 +159,7 @@ module _ (p : Polygraph) (s : State) (nodes : List TreeNode) (h now : ℕ → Op
   refute line r false (Some id) is e here = refute_where line id r (is_cycle (edges_under s.polygraph (cube_at s id)) line) refl (sym is) e here
 
   -- split
-  split_tree : (c id : ℕ) → h seat ≡ Some id → now seat ≡ None → can_split s (cube_at s id) c ≡ true → IsTree p (split_at s id c) (with_growth nodes id (Inner c) ++ sprout id c One ∷ sprout id c Two ∷ []) now
+  split_tree : (c id : ℕ) → h seat ≡ Some id → now seat ≡ None → can_split s (cube_at s id) c ≡ true → IsTree p (split_at s id c) (with_growth nodes id (Inner c (length nodes) (length nodes + 1)) ++ sprout id c One ∷ sprout id c Two ∷ []) now
   split_tree c id held none can =
       let at = mark_of id held in
       let n = state_node id (Held seat) at in
@@ -166,24 +167,25 @@ module _ (p : Polygraph) (s : State) (nodes : List TreeNode) (h now : ℕ → Op
       let one : Cube = (c, One) ∷ cube_at s id in
       let two : Cube = (c, Two) ∷ cube_at s id in
       let two_nodes : List Node = record { parent = id; cube = one; mark = Open } ∷ record { parent = id; cube = two; mark = Open } ∷ [] in
-      let old = with_growth nodes id (Inner c) in
+      let grown_so = Inner c (length nodes) (length nodes + 1) in
+      let old = with_growth nodes id grown_so in
       let sprouts = sprout id c One ∷ sprout id c Two ∷ [] in
       let ms = map_append (λ (y : Node). y.mark) (with_mark s.nodes id (Divided c)) two_nodes ∙ ap (λ l. l ++ Open ∷ Open ∷ []) (marks_with s.nodes id (Divided c) n.0 n.1) in
       let cs = map_append (λ (y : Node). y.cube) (with_mark s.nodes id (Divided c)) two_nodes ∙ ap (λ l. l ++ one ∷ two ∷ []) (cubes_with s.nodes id (Divided c) n.0 n.1) in
-      let ps = map_append (λ (y : TreeNode). y.parent) old sprouts ∙ ap (λ l. l ++ id ∷ id ∷ []) (parents_with nodes id (Inner c) x.0 x.1) in
-      let ds = map_append (λ (y : TreeNode). y.decision) old sprouts ∙ ap (λ l. l ++ Some (record { choice = c; side = One }) ∷ Some (record { choice = c; side = Two }) ∷ []) (decisions_with nodes id (Inner c) x.0 x.1) in
-      let gs = map_append (λ (y : TreeNode). y.growth) old sprouts ∙ ap (λ l. l ++ bud ∷ bud ∷ []) (growths_with nodes id (Inner c) x.0 x.1) in
+      let ps = map_append (λ (y : TreeNode). y.parent) old sprouts ∙ ap (λ l. l ++ id ∷ id ∷ []) (parents_with nodes id grown_so x.0 x.1) in
+      let ds = map_append (λ (y : TreeNode). y.decision) old sprouts ∙ ap (λ l. l ++ Some (record { choice = c; side = One }) ∷ Some (record { choice = c; side = Two }) ∷ []) (decisions_with nodes id grown_so x.0 x.1) in
+      let gs = map_append (λ (y : TreeNode). y.growth) old sprouts ∙ ap (λ l. l ++ bud ∷ bud ∷ []) (growths_with nodes id grown_so x.0 x.1) in
       let both = and_parts (is_choice s c) (not (is_decided (cube_at s id) c)) can in
       let choice : c < length p.choices = subst (λ (z : Polygraph). c < length z.choices) t.poly (ltb-true c (length s.polygraph.choices) both.0) in
       let undecided : is_decided (slice_index_or (cubes_in s.nodes) id []) c ≡ false = ap (λ (k : Cube). is_decided k c) (sym (cube_is id)) ∙ not-true (is_decided (cube_at s id) c) both.1 in
       let lt = within (marks_of s.nodes) id (Held seat) at in
       let many = t.boughs.cubes in
-      let after : cubes_after [] old ≡ cubes_in s.nodes = cubes_same [] old nodes (parents_with nodes id (Inner c) x.0 x.1) (decisions_with nodes id (Inner c) x.0 x.1) ∙ sym t.cubes in
+      let after : cubes_after [] old ≡ cubes_in s.nodes = cubes_same [] old nodes (parents_with nodes id grown_so x.0 x.1) (decisions_with nodes id grown_so x.0 x.1) ∙ sym t.cubes in
       record {
         poly = t.poly;
         cubes = cs ∙ sym (cubes_append [] old sprouts ∙ ap (λ (l : List Cube). cubes_after l sprouts) after ∙ cubes_split (cubes_in s.nodes) id c (cube_at s id) (omega (arith, lt, many)) (sym (cube_is id)));
         boughs = subst (λ (z : List Cube × List Mark × List ℕ × List (Option Decision) × List Growth). IsGrown p z.0 z.1 z.2 z.3 z.4) (λ i. (sym cs i, sym ms i, sym ps i, sym ds i, sym gs i))
-            (grown_split p (cubes_in s.nodes) (marks_of s.nodes) (parents_of nodes) (decisions_of nodes) (growths_of nodes) id (Held seat) at (live_held seat) t.boughs c choice undecided one two);
+            (grown_split p (cubes_in s.nodes) (marks_of s.nodes) (parents_of nodes) (decisions_of nodes) (growths_of nodes) id (Held seat) at (live_held seat) t.boughs c choice undecided one two (length nodes) (sym (map_length (λ (y : TreeNode). y.growth) nodes) ∙ t.boughs.growths));
         tied = subst (λ l. Tied l now) (sym ms)
             (tied_more (slice_set (marks_of s.nodes) id (Divided c)) now (tied_left (marks_of s.nodes) h now seat id (Divided c) low t.tied others held (not_held (Divided c) (inr (inr (inr (c, refl))))) none));
       }
@@ -268,15 +270,6 @@ all_done s ex i m at =
     (any_false (λ (x : Node). is_solved x.mark) s.nodes i n.0 (not-true (has_solved s.nodes) parts.0) n.1)
     (any_false (λ (x : Node). is_open x.mark || is_held x.mark) s.nodes i n.0 (not-true (has_live s.nodes) parts.1) n.1))
 
-leaf_is : (a b : List ℕ) → Leaf a ≡ Leaf b → a ≡ b
-leaf_is a b e = cc
-
-inner_is : (a b : ℕ) → Inner a ≡ Inner b → a ≡ b
-inner_is a b e = cc
-
-leaf_or_inner : (a : List ℕ) (b : ℕ) → Leaf a ≡ Inner b → ⊥
-leaf_or_inner a b e = cc
-
 module _ (p : Polygraph) (s : State) (nodes : List TreeNode) (h : ℕ → Option ℕ) (t : IsTree p s nodes h) (ex : is_exhausted s ≡ true) where
   mark_at : (i : ℕ) (x : TreeNode) → slice_get nodes i ≡ Some x → (m : Mark) × (slice_get (marks_of s.nodes) i ≡ Some m)
   mark_at i x e =
@@ -302,35 +295,37 @@ module _ (p : Polygraph) (s : State) (nodes : List TreeNode) (h : ℕ → Option
             let same : line ≡ k.line = leaf_is line k.line (sym f ∙ growth_is i x (Leaf k.line) e k.here) in
             let cube = cube_same i in
             ap (λ (z : Cube × List ℕ). is_cycle (edges_under p z.0) z.1) (λ j. (sym cube j, same j)) ∙ k.cycle)
-        | inr b ↦ (let k = t.boughs.inner i b.0 (m.1 ∙ ap Some b.1) in absurd (leaf_or_inner line b.0 (sym f ∙ growth_is i x (Inner b.0) e k.growth)))
+        | inr b ↦ (let k = t.boughs.inner i b.0 (m.1 ∙ ap Some b.1) in absurd (leaf_or_inner line b.0 k.first k.second (sym f ∙ growth_is i x (Inner b.0 k.first k.second) e k.growth)))
       ]
 
-  split_of : (i c : ℕ) → HasChildren p (cubes_in s.nodes) (parents_of nodes) (decisions_of nodes) (growths_of nodes) i c → IsSplit p nodes i c
+  split_of : (i c : ℕ) (k : HasChildren p (cubes_in s.nodes) (parents_of nodes) (decisions_of nodes) (growths_of nodes) i c) → IsSplit p nodes i c k.first k.second
   split_of i c k = record {
     choice = k.choice;
     undecided = ap (λ (z : Cube). is_decided z c) (sym (cube_same i)) ∙ k.undecided;
-    first = k.first;
-    second = k.second;
     one = child_of i c One k.first k.one;
     two = child_of i c Two k.second k.two;
     only = λ j x lt e same. k.only j lt (map_some (λ (y : TreeNode). y.parent) nodes j x e ∙ ap Some same);
   }
 
-  inner_at : (i : ℕ) (x : TreeNode) (c : ℕ) → slice_get nodes i ≡ Some x → x.growth ≡ Inner c → IsSplit p nodes i c
-  inner_at i x c e f =
+  inner_at : (i : ℕ) (x : TreeNode) (c first second : ℕ) → slice_get nodes i ≡ Some x → x.growth ≡ Inner c first second → IsSplit p nodes i c first second
+  inner_at i x c first second e f =
       let m = mark_at i x e in
       elim (all_done s ex i m.0 m.1) [
-        | inl a ↦ (let k = t.boughs.leaves i (m.1 ∙ ap Some a) in absurd (leaf_or_inner k.line c (sym (growth_is i x (Leaf k.line) e k.here) ∙ f)))
+        | inl a ↦ (let k = t.boughs.leaves i (m.1 ∙ ap Some a) in absurd (leaf_or_inner k.line c first second (sym (growth_is i x (Leaf k.line) e k.here) ∙ f)))
         | inr b ↦ (let k = t.boughs.inner i b.0 (m.1 ∙ ap Some b.1) in
-            subst (IsSplit p nodes i) (inner_is b.0 c (sym (growth_is i x (Inner b.0) e k.growth) ∙ f)) (split_of i b.0 k))
+            let same = sym (growth_is i x (Inner b.0 k.first k.second) e k.growth) ∙ f in
+            let one = choice_is b.0 c k.first k.second first second same in
+            let two = first_is b.0 c k.first k.second first second same in
+            let three = second_is b.0 c k.first k.second first second same in
+            subst (λ (z : ℕ × ℕ × ℕ). IsSplit p nodes i z.0 z.1 z.2) (λ j. (one j, two j, three j)) (split_of i b.0 k))
       ]
 
   below_at : (i : ℕ) (x : TreeNode) → 0 < i → slice_get nodes i ≡ Some x → IsBelow nodes i x
   below_at i x lt e =
       let u = t.boughs.below i x.parent lt (map_some (λ (y : TreeNode). y.parent) nodes i x e) in
       let k = t.boughs.inner x.parent u.choice u.split in
-      let n = some_map (λ (y : TreeNode). y.growth) nodes x.parent (Inner u.choice) k.growth in
-      record { before = u.before; parent = n.0; here = n.1; choice = u.choice; split = n.2 }
+      let n = some_map (λ (y : TreeNode). y.growth) nodes x.parent (Inner u.choice k.first k.second) k.growth in
+      record { before = u.before; parent = n.0; here = n.1; choice = u.choice; first = k.first; second = k.second; split = n.2 }
 
   root_at : IsRoot nodes
   root_at =

@@ -1,8 +1,14 @@
 -- What the answers of a search say.
-use Rattle.std.specs.Prelude.{◌≡◌, ℕ, List}
+use Rattle.std.specs.Prelude.{◌≡◌, ℕ, List, true, false}
+use Rattle.desk.specs.declared.history.Entry.{Entry}
+use Rattle.desk.specs.History.{IsLegal, replay}
 use Rattle.session_log.specs.Text.{ClientSession}
 use Rattle.log_definitions.specs.Serial.{IsSerialOrder}
 use Rattle.serializability.specs.Polygraph.{Polygraph}
+use Rattle.cube_laws.specs.State.{State, opening_state}
+use Rattle.cube_laws.specs.Steps.{has_solved, has_live, is_exhausted, next_of, reply_of}
+use Rattle.cube_laws.specs.declared.parts.Event.{Event}
+use Rattle.cube_laws.specs.declared.parts.Reply.{Reply}
 use Rattle.branch_search.specs.Trees.{IsRefutationTree}
 use Rattle.branch_search.specs.declared.answer.Answer.{Answer}
 use Rattle.branch_search.specs.declared.answer.Answer.TheVariants.{Yes, No, Unknown}
@@ -30,3 +36,29 @@ abbrev pub SaysUnknown : ℕ → Answer → Type 0
 SaysUnknown budget (Yes order) = Unit {0}
 SaysUnknown budget (No tree) = Unit {0}
 SaysUnknown budget (Unknown closed) = closed ≡ budget
+
+-- the answer is yes or no
+abbrev pub IsSettled : Answer → Type 0
+IsSettled (Yes order) = Unit {0}
+IsSettled (No tree) = Unit {0}
+IsSettled (Unknown closed) = ⊥
+
+-- as many nodes are closed as may be, none is solved, and one is open or held
+pub record IsSpent (s : State) (closed : ℕ) : Type 0 where
+  pub count : s.closed ≡ closed
+  pub spent : s.closed ≡ s.budget
+  pub unsolved : has_solved s.nodes ≡ false
+  pub live : has_live s.nodes ≡ true
+
+-- the answer says how this state stands: yes where a node is solved; no where none is solved, open or held; else unknown, where the
+-- budget is spent
+abbrev pub IsReadFrom : State → Answer → Type 0
+IsReadFrom s (Yes order) = has_solved s.nodes ≡ true
+IsReadFrom s (No tree) = is_exhausted s ≡ true
+IsReadFrom s (Unknown closed) = IsSpent s closed
+
+-- steps from node 0 alone lead to a state of which the answer says how it stands
+pub record EndsRun (p : Polygraph) (budget : ℕ) (answer : Answer) : Type 0 where
+  pub steps : List (Entry Event Reply)
+  pub legal : IsLegal next_of reply_of (opening_state p budget) steps
+  pub read : IsReadFrom (replay next_of (opening_state p budget) steps) answer

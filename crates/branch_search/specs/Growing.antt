@@ -1,5 +1,5 @@
 -- How a tree grows by the steps of a search.
-use Rattle.std.specs.Prelude.{ℕ, List, [], ◌∷◌, ◌++◌, Option, Some, None, if◌then◌else◌, slice_get, slice_set}
+use Rattle.std.specs.Prelude.{ℕ, ◌+◌, List, [], ◌∷◌, ◌++◌, Option, Some, None, if◌then◌else◌, length, slice_get, slice_set}
 use Rattle.std.specs.Option.{option_map_or}
 use Rattle.pruning_laws.specs.declared.side.Side.{Side}
 use Rattle.pruning_laws.specs.declared.side.Side.TheVariants.{One, Two}
@@ -42,7 +42,7 @@ with_growth nodes id growth = option_map_or (λ x. slice_set nodes id (record x 
 abbrev pub closed_with : List TreeNode → ℕ → Event → List TreeNode
 closed_with nodes id (Claim other) = nodes
 closed_with nodes id TakeAny = nodes
-closed_with nodes id (Split c) = with_growth nodes id (Inner c) ++ sprout id c One ∷ sprout id c Two ∷ []
+closed_with nodes id (Split c) = with_growth nodes id (Inner c (length nodes) (length nodes + 1)) ++ sprout id c One ∷ sprout id c Two ∷ []
 closed_with nodes id (Refute line) = with_growth nodes id (Leaf line)
 closed_with nodes id (Solve order) = nodes
 closed_with nodes id Release = nodes

@@ -30,12 +30,10 @@ pub record IsChild (nodes : List TreeNode) (i c : ℕ) (side : Side) (j : ℕ) :
   pub parent : node.parent ≡ i
   pub decision : node.decision ≡ Some (record { choice = c; side = side })
 
--- the choice is one that the cube of node i leaves open, and the node has two children, for the two sides of the choice
-pub record IsSplit (p : Polygraph) (nodes : List TreeNode) (i c : ℕ) : Type 0 where
+-- the choice is one that the cube of node i leaves open, and the node has these two children, for the two sides of the choice
+pub record IsSplit (p : Polygraph) (nodes : List TreeNode) (i c first second : ℕ) : Type 0 where
   pub choice : c < length p.choices
   pub undecided : is_decided (cube_of nodes i) c ≡ false
-  pub first : ℕ
-  pub second : ℕ
   pub one : IsChild nodes i c One first
   pub two : IsChild nodes i c Two second
   pub only : (j : ℕ) (x : TreeNode) → 0 < j → slice_get nodes j ≡ Some x → x.parent ≡ i → (j ≡ first) ⊎ (j ≡ second)
@@ -46,7 +44,9 @@ pub record IsBelow (nodes : List TreeNode) (i : ℕ) (x : TreeNode) : Type 0 whe
   pub parent : TreeNode
   pub here : slice_get nodes x.parent ≡ Some parent
   pub choice : ℕ
-  pub split : parent.growth ≡ Inner choice
+  pub first : ℕ
+  pub second : ℕ
+  pub split : parent.growth ≡ Inner choice first second
 
 -- the first node, which decides nothing
 pub record IsRoot (nodes : List TreeNode) : Type 0 where
@@ -62,4 +62,4 @@ pub record IsRefutationTree (p : Polygraph) (nodes : List TreeNode) : Type 0 whe
   pub root : IsRoot nodes
   pub below : (i : ℕ) (x : TreeNode) → 0 < i → slice_get nodes i ≡ Some x → IsBelow nodes i x
   pub leaves : (i : ℕ) (x : TreeNode) (line : List ℕ) → slice_get nodes i ≡ Some x → x.growth ≡ Leaf line → is_cycle (edges_under p (cube_of nodes i)) line ≡ true
-  pub inner : (i : ℕ) (x : TreeNode) (c : ℕ) → slice_get nodes i ≡ Some x → x.growth ≡ Inner c → IsSplit p nodes i c
+  pub inner : (i : ℕ) (x : TreeNode) (c first second : ℕ) → slice_get nodes i ≡ Some x → x.growth ≡ Inner c first second → IsSplit p nodes i c first second

@@ -58,7 +58,8 @@ fn work_all<
     thread::map_vec(rt, jobs, &|job| work(rt, job))
 }
 
-fn jobs_of<'b, 'a, S: Strategy, J: Naming, G: Gate>(
+/// A job for each seat, with what its worker is lent.
+pub fn jobs_of<'b, 'a, S: Strategy, J: Naming, G: Gate>(
     alloc: Global,
     desk: &'b Desk<CubeMachine<'a>, J>,
     seats: Vec<Seat<CubeMachine<'a>, J>>,

@@ -113,7 +113,17 @@ fn close(
 {
     match event {
         Event::Split(choice) => {
-            set_growth(nodes, number, Growth::Inner(choice));
+            let first = nodes.len();
+            let second = first + 1;
+            set_growth(
+                nodes,
+                number,
+                Growth::Inner {
+                    choice,
+                    first,
+                    second,
+                },
+            );
             nodes.push(child(alloc, number, choice, Side::One))?;
             nodes.push(child(alloc, number, choice, Side::Two))?;
             Ok(())

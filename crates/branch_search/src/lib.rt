@@ -6,6 +6,7 @@
 #![tactic(auto)]
 
 mod answer;
+mod checking;
 mod crew;
 mod growing;
 pub mod laws;
@@ -19,6 +20,7 @@ mod worker;
 
 pub use answer::Answer;
 pub use branching::{Alternate, ByWords, CubeView, FirstOpen, LeastEdges, MostEdges, Strategy};
+pub use checking::check_tree;
 pub use cube_machine::Budget;
 pub use searching::search;
 pub use tree::{Decision, Growth, Tree, TreeNode};

@@ -1,19 +1,23 @@
 //! The answer of a search, read from the machine and its history.
 
-ghost use Rattle.std.specs.Prelude.{◌≡◌, ◌↔◌, ℕ, List, Some, IfOk, IfSome};
+ghost use Rattle.std.specs.Prelude.{◌≡◌, ◌↔◌, ℕ, ◌+◌, ◌-◌, ◌^◌, ◌≤◌, List, length, Some, IfOk, IfSome, is_some};
+ghost use Rattle.std.specs.List.{list_any};
 ghost use Rattle.serializability.specs.Polygraph.{Polygraph, Fits};
 ghost use Rattle.log_definitions.specs.Serial.{IsSerialOrder};
 ghost use Rattle.desk.specs.History.{IsReached};
 ghost use Rattle.cube_laws.specs.State.{opening_state};
 ghost use Rattle.cube_laws.specs.Steps.{next_of, reply_of};
-ghost use Rattle.cube_laws.specs.Runs.{EachSolvesRightly};
+ghost use Rattle.cube_laws.specs.Runs.{EachSolvesRightly, solves};
 ghost use Rattle.cube_laws.specs.declared.parts.Event.TheVariants as event;
 ghost use Rattle.cube_laws.specs.declared.parts.Reply.TheVariants as reply;
-ghost use Rattle.branch_search.specs.Answers.{SaysYes, SaysNo, ShowsNo, SaysUnknown};
+ghost use Rattle.branch_search.specs.Answers.{SaysYes, SaysNo, ShowsNo, SaysUnknown, IsSettled, IsReadFrom};
 
 use crate::answer::Answer;
 use crate::growing::tree_of;
-use cube_laws::laws::{no_order_fits_where_every_cube_is_refuted, solving_orders_fit};
+use cube_laws::laws::{
+    large_budgets_are_not_spent, no_order_fits_where_every_cube_is_refuted,
+    solved_nodes_were_solved, solving_orders_fit,
+};
 use cube_laws::{Event, NodeLine, Reply};
 use cube_machine::{Budget, CubeMachine};
 use desk::desk::Closed;
@@ -23,7 +27,7 @@ use prune_ledger::Reduced;
 use std::alloc::{AllocError, Global};
 
 /// What a closed desk has to say: the order that solved a node; that every cube is refuted, with the tree; or
-/// that the budget is spent. At `Err` the search did not come to an end, or there is no memory for the tree.
+/// that the budget is spent while a cube is open or held. At `Err` the search did not come to an end, or there is no memory for the tree.
 pub fn read_answer(
     alloc: Global,
     history: &History,
@@ -39,8 +43,12 @@ pub fn read_answer(
     ensures no { IfOk result (SaysNo history.now) }
     ensures tree { IfOk result (ShowsNo reduced.now.poly) }
     ensures unknown { IfOk result (SaysUnknown budget) }
+    ensures bound { 2 ^ (length reduced.now.poly.choices + 1) - 1 ≤ budget → IfOk result IsSettled }
+    ensures read { IfOk result (IsReadFrom closed.entry.machine) }
 {
     solving_orders_fit();
+    solved_nodes_were_solved();
+    large_budgets_are_not_spent();
     no_order_fits_where_every_cube_is_refuted();
     let Closed {
         machine,
@@ -61,7 +69,8 @@ pub fn read_answer(
 
 // The order that solved a node.
 fn solving_line(steps: Vec<Entry<Event, Reply>>) -> Option<NodeLine>
-    ensures { (p : Polygraph) → EachSolvesRightly p steps.items → IfSome result (Fits p) }
+    ensures fits { (p : Polygraph) → EachSolvesRightly p steps.items → IfSome result (Fits p) }
+    ensures found { is_some result ≡ list_any (λ x. solves x.event x.reply) steps.items }
 {
     for step in steps {
         if let Some(line) = solved_in(step) {
@@ -73,7 +82,8 @@ fn solving_line(steps: Vec<Entry<Event, Reply>>) -> Option<NodeLine>
 
 // The order by which a step solved a node.
 fn solved_in(step: Entry<Event, Reply>) -> Option<NodeLine>
-    ensures { IfSome result (λ line. (step.event ≡ event.Solve line) × (step.reply ≡ reply.Solved)) }
+    ensures line { IfSome result (λ line. (step.event ≡ event.Solve line) × (step.reply ≡ reply.Solved)) }
+    ensures found { is_some result ≡ solves step.event step.reply }
 {
     let Entry {
         seat: _,

@@ -1,9 +1,9 @@
 //! The search.
 
-ghost use Rattle.std.specs.Prelude.{◌≡◌, ◌↔◌, ℕ, List, IfOk};
+ghost use Rattle.std.specs.Prelude.{◌≡◌, ◌↔◌, ℕ, ◌+◌, ◌-◌, ◌^◌, ◌≤◌, List, length, IfOk};
 ghost use Rattle.serializability.specs.Polygraph.{Fits};
 ghost use Rattle.log_definitions.specs.Serial.{IsSerialOrder};
-ghost use Rattle.branch_search.specs.Answers.{SaysYes, SaysNo, ShowsNo, SaysUnknown};
+ghost use Rattle.branch_search.specs.Answers.{SaysYes, SaysNo, ShowsNo, SaysUnknown, IsSettled, EndsRun};
 
 use crate::answer::Answer;
 use crate::crew::run;
@@ -41,6 +41,12 @@ pub fn search<S: Strategy, G: Gate, R: Threads + Wait + Clock + Sync>(
     ensures no { IfOk result (SaysNo history.now) }
     ensures tree { IfOk result (ShowsNo reduced.now.poly) }
     ensures unknown { IfOk result (SaysUnknown budget) }
+
+    // With m open choices a budget of 2^(m+1) - 1 is enough.
+    ensures bound { 2 ^ (length reduced.now.poly.choices + 1) - 1 ≤ budget → IfOk result IsSettled }
+
+    // The answer says how the last state of a run of the machine stands.
+    ensures ran { IfOk result (EndsRun reduced.now.poly budget) }
 {
     let row = Row::new(alloc, budget)?;
     let machine = CubeMachine::opening(alloc, reduced.poly(), budget, &row)?;

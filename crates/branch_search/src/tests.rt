@@ -8,10 +8,19 @@ ghost use Rattle.log_definitions.specs.Numbers.{log_of};
 ghost use Rattle.log_definitions.specs.Serial.{IsSerialOrder};
 
 use super::*;
+use crate::crew::jobs_of;
+use crate::growing::tree_of;
+use crate::worker::{Job, work};
 use anomalies::classify;
 use coalesce::coalesce;
+use cube_laws::{Event, NodeLine};
+use cube_machine::{CubeMachine, Row};
 use decode_order::replay;
+use desk::desk::Desk;
 use desk::gate::{Gate, OpenGate};
+use desk::naming::Naming;
+use desk::opened::Opened;
+use desk::seat::{Left, Seat};
 use desk::seat_no::{SeatNo, Workers};
 use history::{History, Order};
 use known_graph::Known;
@@ -19,7 +28,8 @@ use polygraph::ChoiceIx;
 use prune_ledger::{Pruned, Reduced, prune};
 use pruning_laws::Side;
 use session_log::{Block, LogFault, Session, cut, parse_block};
-use std::alloc::Global;
+use std::alloc::{AllocError, Global};
+use std::marker::Brand;
 use std::process::Abort;
 use std::sync::Wait;
 use std::sync::atomic::{AtomicBool, AtomicU64, Ordering};
@@ -144,7 +154,7 @@ fn leaf_count(tree: &Tree) -> usize {
         .iter()
         .filter(|node| match &node.growth {
             Growth::Leaf(line) => line.nodes().len() > 1,
-            Growth::Inner(_) => false,
+            Growth::Inner { .. } => false,
         })
         .count()
 }
@@ -182,6 +192,9 @@ fn see_refuted<S: Strategy, R: Threads + Wait + Clock + Abort + Sync>(
         let tree = tree_in(answer).ok_or("not refuted")?;
         assert_eq!(rt; tree.nodes().len(), 7);
         assert_eq!(rt; leaf_count(&tree), 4);
+        let history = read(alloc, EIGHT.as_bytes())?;
+        let reduced = reduced_of(rt, alloc, &history)?;
+        assert!(rt; check_tree(reduced.poly(), &tree));
         let again = Tree::from_nodes(tree.into_nodes());
         assert_eq!(rt; leaf_count(&again), 4);
     }
@@ -194,6 +207,76 @@ fn seven_nodes_refute_every_cube(rt: HostRuntime) -> Result<(), Fail> {
     see_refuted(&rt, alloc, &FirstOpen)?;
     see_refuted(&rt, alloc, &MostEdges)?;
     see_refuted(&rt, alloc, &LeastEdges)?;
+    Ok(())
+}
+
+// What is changed in a tree, at its last node or the two last, which are leaves.
+#[derive(Clone, Copy)]
+enum Change {
+    AnotherLeafsCycle,
+    LeafRemoved,
+    SideChanged,
+    NoNodes,
+}
+
+fn alter(alloc: Global, nodes: &mut Vec<TreeNode>, change: Change) -> Result<(), Fail> {
+    let mut last = nodes.pop().ok_or("a node")?;
+    match change {
+        Change::AnotherLeafsCycle => {
+            let other = nodes.last().ok_or("a node")?;
+            if let Growth::Leaf(line) = &other.growth {
+                last.growth = Growth::Leaf(NodeLine::from_nodes(line.nodes().to_vec(alloc)?));
+            }
+            nodes.push(last)?;
+        }
+        Change::LeafRemoved => (),
+        Change::SideChanged => {
+            let decision = last.decision.ok_or("a decision")?;
+            last.decision = Some(Decision {
+                choice: decision.choice,
+                side: Side::One,
+            });
+            nodes.push(last)?;
+        }
+        Change::NoNodes => nodes.clear(),
+    }
+    Ok(())
+}
+
+#[test]
+fn changed_trees_show_nothing(rt: HostRuntime) -> Result<(), Fail> {
+    let alloc = rt.alloc();
+    let history = read(alloc, EIGHT.as_bytes())?;
+    let reduced = reduced_of(&rt, alloc, &history)?;
+    for how in [
+        Change::AnotherLeafsCycle,
+        Change::LeafRemoved,
+        Change::SideChanged,
+        Change::NoNodes,
+    ] {
+        let answer = answer_of(&rt, alloc, EIGHT, &FirstOpen, 1, 7, &OpenGate)?;
+        let mut nodes = tree_in(answer).ok_or("not refuted")?.into_nodes();
+        alter(alloc, &mut nodes, how)?;
+        assert!(rt; !check_tree(reduced.poly(), &Tree::from_nodes(nodes)));
+    }
+    Ok(())
+}
+
+// The step that spends the budget solves.
+#[test]
+fn a_cube_is_solved_as_the_budget_is_spent(rt: HostRuntime) -> Result<(), Fail> {
+    assert!(rt; is_replayed(&rt, rt.alloc(), READER_OF_ONE, &FirstOpen, 1, 2)?);
+    Ok(())
+}
+
+// Side one of the choice, by which the reader stands before the second writer, is searched first.
+#[test]
+fn first_sides_come_first(rt: HostRuntime) -> Result<(), Fail> {
+    let alloc = rt.alloc();
+    let answer = answer_of(&rt, alloc, READER_OF_ONE, &FirstOpen, 1, 3, &OpenGate)?;
+    let order = order_in(answer).ok_or("no order")?;
+    let numbers = order.nodes().iter().map(|node| node.get());
+    assert!(rt; numbers.eq([1, 3, 2]));
     Ok(())
 }
 
@@ -363,5 +446,110 @@ fn two_workers_pick_at_once(rt: HostRuntime) -> Result<(), Fail> {
     let answer = answer_of(&rt, rt.alloc(), EIGHT, &strategy, 2, 7, &OpenGate)?;
     assert!(rt; tree_in(answer).is_some());
     assert!(rt; !strategy.missed.load(Ordering::SeqCst));
+    Ok(())
+}
+
+// Holds seat 2 at its turn 0 until seat 1 has a cube.
+#[derive(Drop)]
+struct Leaving {
+    taken: AtomicBool,
+    missed: AtomicBool,
+}
+
+impl Gate for Leaving {
+    fn pass<R: Wait + Clock>(&self, rt: &R, _seat: SeatNo, turn: u64) {
+        if turn == 0 {
+            self.wait(rt);
+        }
+    }
+}
+
+impl Leaving {
+    // Looks at most 10,000 times, a millisecond apart.
+    fn wait<R: Clock>(&self, rt: &R) {
+        for _ in 0..10_000 {
+            if self.taken.load(Ordering::SeqCst) {
+                return;
+            }
+            thread::sleep(rt, Duration::from_millis(1));
+        }
+        self.missed.store(true, Ordering::SeqCst);
+    }
+}
+
+// Seat 1 takes a cube, and leaves a little later with it in hand. Seat 2 works, and has to wait at first.
+fn leave_or_work<'b, 'a, J: Naming, R: Wait + Clock>(
+    rt: &R,
+    job: Job<'b, 'a, FirstOpen, J, Leaving>,
+) -> Left<CubeMachine<'a>, J> {
+    if job.seat.number().get() == 2 {
+        return work(rt, job);
+    }
+    let Job {
+        alloc: _,
+        desk,
+        mut seat,
+        reduced: _,
+        row: _,
+        strategy: _,
+        gate,
+    } = job;
+    let taken = desk.call(rt, &mut seat, Event::TakeAny).is_ok();
+    gate.taken.store(taken, Ordering::SeqCst);
+    let _ = thread::sleep(rt, Duration::from_millis(50));
+    let (_, left) = desk.leave(rt, seat, Event::Release);
+    left
+}
+
+fn leave_and_work<'b, 'a, J: Naming + Send + Sync, R: Threads + Wait + Clock + Sync>(
+    rt: &R,
+    jobs: Vec<Job<'b, 'a, FirstOpen, J, Leaving>>,
+) -> Result<Vec<Left<CubeMachine<'a>, J>>, AllocError> {
+    thread::map_vec(rt, jobs, &|job| leave_or_work(rt, job))
+}
+
+fn search_after_a_leave<'a, J: Naming + Send + Sync, R: Threads + Wait + Clock + Abort + Sync>(
+    rt: &R,
+    alloc: Global,
+    opened: Opened<CubeMachine<'a>>,
+    reduced: &Reduced,
+    row: &Row,
+    gate: &Leaving,
+)
+    requires names { J.names ≡ opened.1 }
+    requires desk { J.desk ≡ opened.2 }
+{
+    let (desk, seats) = Desk::<CubeMachine<'a>, J>::open(alloc, opened).expect(rt, "memory");
+    let jobs = jobs_of(alloc, &desk, seats, reduced, row, &FirstOpen, gate).expect(rt, "memory");
+    let lefts = leave_and_work(rt, jobs).expect(rt, "memory");
+    let closed = desk.close(lefts).ok().expect(rt, "all have left");
+    assert!(rt; closed.machine.is_exhausted());
+    assert_eq!(rt; closed.machine.closed(), 7);
+    let first = closed
+        .history
+        .iter()
+        .filter(|entry| entry.seat.get() == 1)
+        .count();
+    assert_eq!(rt; first, 2);
+    let tree = tree_of(alloc, closed.history, 7).expect(rt, "memory");
+    assert!(rt; check_tree(reduced.poly(), &tree));
+}
+
+#[test]
+fn a_seat_leaves_with_a_cube_in_hand(rt: HostRuntime) -> Result<(), Fail> {
+    let alloc = rt.alloc();
+    let history = read(alloc, EIGHT.as_bytes())?;
+    let reduced = reduced_of(&rt, alloc, &history)?;
+    let budget = Budget::new(7).ok_or("a budget")?;
+    let row = Row::new(alloc, budget)?;
+    let machine = CubeMachine::opening(alloc, reduced.poly(), budget, &row)?;
+    let two = Workers::new(2).ok_or("workers")?;
+    let opened = Opened::new(alloc, machine, two)?;
+    let gate = Leaving {
+        taken: AtomicBool::new(false),
+        missed: AtomicBool::new(false),
+    };
+    search_after_a_leave::<Brand, _>(&rt, alloc, opened, &reduced, &row, &gate);
+    assert!(rt; !gate.missed.load(Ordering::SeqCst));
     Ok(())
 }

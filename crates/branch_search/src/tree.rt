@@ -19,8 +19,14 @@ pub struct Decision {
 pub enum Growth {
     /// It is refuted by this cycle, its first node repeated last.
     Leaf(NodeLine),
-    /// It is split by this choice.
-    Inner(ChoiceIx),
+    /// It is split by a choice. Its children are these nodes.
+    Inner {
+        choice: ChoiceIx,
+        /// The child by side one.
+        first: usize,
+        /// The child by side two.
+        second: usize,
+    },
 }
 
 /// A node of a tree.

@@ -57,7 +57,7 @@ alive_set p order nodes a id x mark e why = elim (cases_eq a.id id) [
 ]
 
 -- a cube of which the edges have a cycle is kept by no order
-no_cycle : (p : Polygraph) (order : List ℕ) → Fits p order → (cube : Cube) (line : List ℕ) → is_cycle (edges_under p cube) line ≡ true → KeepsCube p order cube → ⊥
+pub no_cycle : (p : Polygraph) (order : List ℕ) → Fits p order → (cube : Cube) (line : List ℕ) → is_cycle (edges_under p cube) line ≡ true → KeepsCube p order cube → ⊥
 no_cycle p order f cube line t k =
     let v = slice_index line 0 in
     let w = walk_of (edges_under p cube) line v v t in

@@ -28,14 +28,14 @@ is_shut (Divided c) = true
 is_shut Refuted = true
 is_shut Ended = true
 
-open_not_shut : (m : Mark) → is_open m ≡ true → is_shut m ≡ false
+pub open_not_shut : (m : Mark) → is_open m ≡ true → is_shut m ≡ false
 open_not_shut Open t = refl
 open_not_shut (Held seat) t = refl
 open_not_shut (Divided c) t = absurd (false≢true t)
 open_not_shut Refuted t = absurd (false≢true t)
 open_not_shut Ended t = absurd (false≢true t)
 
-held_not_shut : (seat : ℕ) (m : Mark) → is_held_by seat m ≡ true → is_shut m ≡ false
+pub held_not_shut : (seat : ℕ) (m : Mark) → is_held_by seat m ≡ true → is_shut m ≡ false
 held_not_shut seat Open t = refl
 held_not_shut seat (Held other) t = refl
 held_not_shut seat (Divided c) t = absurd (false≢true t)

@@ -21,13 +21,13 @@ use Rattle.cube_laws.specs.Steps.{decides_all, lists_once, keeps_edges, is_solut
 use Rattle.cube_laws.proofs.Nodes.{none-some, some-inj, one_value, each_indexed}
 
 -- ---- sides
-same_is : (a b : Side) → same_side a b ≡ true → a ≡ b
+pub same_is : (a b : Side) → same_side a b ≡ true → a ≡ b
 same_is One One t = refl
 same_is One Two t = absurd (false≢true t)
 same_is Two One t = absurd (false≢true t)
 same_is Two Two t = refl
 
-same_itself : (a : Side) → same_side a a ≡ true
+pub same_itself : (a : Side) → same_side a a ≡ true
 same_itself One = refl
 same_itself Two = refl
 

@@ -4,3 +4,4 @@ pub mod Grown
 pub mod Fits
 pub mod Alive
 pub mod Closings
+pub mod Counted

@@ -38,6 +38,31 @@ is_closing BadOrder = false
 is_closing Solved = true
 is_closing Released = false
 
+-- whether a reply says that a node was solved
+abbrev pub is_solving : Reply → Bool
+is_solving Finished = false
+is_solving HasCube = false
+is_solving NotOpen = false
+is_solving NoneNow = false
+is_solving (Given id) = false
+is_solving NoCube = false
+is_solving BadChoice = false
+is_solving (Children a b) = false
+is_solving BadCycle = false
+is_solving Closed = false
+is_solving BadOrder = false
+is_solving Solved = true
+is_solving Released = false
+
+-- whether a step solved a node
+abbrev pub solves : Event → Reply → Bool
+solves (Claim id) r = false
+solves TakeAny r = false
+solves (Split c) r = false
+solves (Refute line) r = false
+solves (Solve order) r = is_solving r
+solves Release r = false
+
 -- the node that a seat held, as a list
 abbrev pub as_list : Option ℕ → List ℕ
 as_list None = []

@@ -1,14 +1,14 @@
 //! Laws of every list of steps of the machine, each the contract of a function that does nothing.
 
-ghost use Rattle.std.specs.Prelude.{◌≡◌, ℕ, ◌+◌, ◌*◌, ◌^◌, ◌≤◌, List, length, true};
-ghost use Rattle.std.specs.List.{IsDistinct};
+ghost use Rattle.std.specs.Prelude.{◌≡◌, ℕ, ◌+◌, ◌-◌, ◌*◌, ◌^◌, ◌<◌, ◌≤◌, List, length, true};
+ghost use Rattle.std.specs.List.{IsDistinct, list_any};
 ghost use Rattle.std.specs.Bool.{nat_eq};
 ghost use Rattle.serializability.specs.Polygraph.{Polygraph, Fits};
 ghost use Rattle.desk.specs.declared.history.Entry.{Entry};
 ghost use Rattle.desk.specs.History.{IsLegal, replay};
 ghost use Rattle.cube_laws.specs.State.{State, opening_state};
-ghost use Rattle.cube_laws.specs.Steps.{next_of, reply_of, is_finished, is_exhausted};
-ghost use Rattle.cube_laws.specs.Runs.{EachSolvesRightly, closings};
+ghost use Rattle.cube_laws.specs.Steps.{next_of, reply_of, has_solved, has_live, is_finished, is_exhausted};
+ghost use Rattle.cube_laws.specs.Runs.{EachSolvesRightly, solves, closings};
 ghost use Rattle.cube_laws.specs.declared.parts.Event.{Event};
 ghost use Rattle.cube_laws.specs.declared.parts.Reply.{Reply};
 
@@ -47,6 +47,24 @@ pub fn trees_are_small()
         IsLegal next_of reply_of (opening_state p budget) history →
         length (replay next_of (opening_state p budget) history).nodes
         ≤ 2 * (replay next_of (opening_state p budget) history).closed + 1 }
+{}
+
+/// With m choices and a budget of at least 2^(m+1) - 1 the closed nodes are fewer than the budget after every
+/// list of steps that leaves a node open or held.
+pub fn large_budgets_are_not_spent()
+    ensures { (p : Polygraph) (budget : ℕ) (history : List (Entry Event Reply)) →
+        IsLegal next_of reply_of (opening_state p budget) history →
+        2 ^ (length p.choices + 1) - 1 ≤ budget →
+        has_live (replay next_of (opening_state p budget) history).nodes ≡ true →
+        (replay next_of (opening_state p budget) history).closed < budget }
+{}
+
+/// After every list of steps a node is solved exactly where one of the steps solved it.
+pub fn solved_nodes_were_solved()
+    ensures { (p : Polygraph) (budget : ℕ) (history : List (Entry Event Reply)) →
+        IsLegal next_of reply_of (opening_state p budget) history →
+        has_solved (replay next_of (opening_state p budget) history).nodes
+        ≡ list_any (λ x. solves x.event x.reply) history }
 {}
 
 /// Where after a list of steps no node is solved, open or held, every cube is refuted, and no order fits.
