@@ -1,8 +1,9 @@
 //! What one thread does.
 
-ghost use Rattle.std.specs.Prelude.{◌≡◌};
+ghost use Rattle.std.specs.Prelude.{◌≡◌, IfOk};
+ghost use Rattle.std.specs.List.{All};
 
-use crate::retrace::{extend, retrace};
+use crate::retrace::{Step, Trail, go_down, retrace};
 use branching::laws::turn;
 use branching::{CubeView, Strategy};
 use cube_laws::{Event, Reply};
@@ -30,20 +31,12 @@ pub struct Job<'b, 'a, S: Strategy, J: Naming, G: Gate> {
     pub gate: &'b G,
 }
 
-// A node whose cube the worker knows: it decides one choice more than the cube that the worker has just
-// split.
-#[derive(Clone, Copy)]
-struct Child {
-    node: usize,
-    choice: ChoiceIx,
-    side: Side,
-}
-
-// The cube that a worker asks for.
+// The cube that a worker asks for: any, or that of a node which decides one choice more than the cube that the
+// worker has just split.
 #[derive(Clone, Copy)]
 enum Request {
     Any,
-    Own(Child),
+    Own(Step),
 }
 
 /// Takes cubes and refutes, solves or splits them, until the search is finished or memory is wanting, and
@@ -82,12 +75,13 @@ fn take_turns<'a, S: Strategy, J: Naming, G: Gate, R: Wait + Clock>(
     ensures number { seat.new.0 ≡ seat.old.0 }
 {
     let mut view = CubeView::new(alloc, reduced)?;
+    let mut trail = Trail::new(alloc);
     let mut request = Request::Any;
     let mut number: u64 = 0;
     for _ in rt.forever() {
         gate.pass(rt, seat.number(), number);
         let next = take_turn(
-            rt, alloc, desk, seat, reduced, row, strategy, &mut view, request,
+            rt, alloc, desk, seat, reduced, row, strategy, &mut trail, &mut view, request,
         )?;
         let Some(another) = next else {
             return Ok(());
@@ -100,7 +94,7 @@ fn take_turns<'a, S: Strategy, J: Naming, G: Gate, R: Wait + Clock>(
 
 // Asks for a cube, and refutes, solves or splits it. It answers what to ask for next, and nothing where the
 // search is finished.
-fn take_turn<'a, S: Strategy, J: Naming, R: Wait>(
+fn take_turn<'a, 'v, S: Strategy, J: Naming, R: Wait>(
     rt: &R,
     alloc: Global,
     desk: &Desk<CubeMachine<'a>, J>,
@@ -108,19 +102,22 @@ fn take_turn<'a, S: Strategy, J: Naming, R: Wait>(
     reduced: &Reduced,
     row: &Row,
     strategy: &S,
-    view: &mut CubeView<'_>,
+    trail: &mut Trail<'v>,
+    view: &mut CubeView<'v>,
     request: Request,
 ) -> Result<Option<Request>, AllocError>
     requires polygraph { view.old.polygraph ≡ reduced.now.poly }
+    requires kept { All (λ k. k.view.polygraph ≡ view.old.polygraph) trail.old.kept.items }
     ensures number { seat.new.0 ≡ seat.old.0 }
     ensures polygraph { view.new.polygraph ≡ view.old.polygraph }
+    ensures kept { IfOk result (λ _. All (λ k. k.view.polygraph ≡ view.new.polygraph) trail.new.kept.items) }
 {
     let reply = send(rt, desk, seat, event_of(&request))?;
     match reply {
         Reply::Finished => Ok(None),
         Reply::NotOpen | Reply::NoneNow => Ok(Some(Request::Any)),
         Reply::Cube(node) => {
-            if see(view, row, &request, node) {
+            if see(alloc, trail, view, row, &request, node)? {
                 settle(rt, alloc, desk, seat, reduced, strategy, view)
             } else {
                 give_back(rt, desk, seat)
@@ -138,12 +135,21 @@ fn event_of(request: &Request) -> Event {
 }
 
 // Makes the view that of the cube that was given; `false` where it cannot.
-fn see(view: &mut CubeView<'_>, row: &Row, request: &Request, node: usize) -> bool
+fn see<'v>(
+    alloc: Global,
+    trail: &mut Trail<'v>,
+    view: &mut CubeView<'v>,
+    row: &Row,
+    request: &Request,
+    node: usize,
+) -> Result<bool, AllocError>
+    requires kept { All (λ k. k.view.polygraph ≡ view.old.polygraph) trail.old.kept.items }
+    ensures kept { IfOk result (λ _. All (λ k. k.view.polygraph ≡ view.new.polygraph) trail.new.kept.items) }
     ensures polygraph { view.new.polygraph ≡ view.old.polygraph }
 {
     match request {
-        Request::Any => retrace(view, row, node),
-        Request::Own(child) => extend(view, child.choice, child.side),
+        Request::Any => retrace(alloc, trail, view, row, node),
+        Request::Own(child) => go_down(alloc, trail, view, *child),
     }
 }
 
@@ -198,7 +204,7 @@ fn first_child<S: Strategy>(
         Side::One => one,
         Side::Two => two,
     };
-    Request::Own(Child { node, choice, side })
+    Request::Own(Step { node, choice, side })
 }
 
 // Gives back the cube that the seat holds, if any, and asks for another.

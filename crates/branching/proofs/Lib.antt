@@ -6,3 +6,4 @@ pub mod Ordered
 pub mod Worded
 pub mod Turned
 pub mod Meant
+pub mod Refuting

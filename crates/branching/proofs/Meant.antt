@@ -21,10 +21,10 @@ open_has (Some s ∷ xs) k zero t = absurd (false≢true t)
 open_has (None ∷ xs) k (suc i) t = let e : k + 1 + i ≡ k + suc i = omega arith in inr (subst (λ n. Has n (open_from (k + 1) xs)) e (open_has xs (k + 1) i t))
 open_has (Some s ∷ xs) k (suc i) t = let e : k + 1 + i ≡ k + suc i = omega arith in subst (λ n. Has n (open_from (k + 1) xs)) e (open_has xs (k + 1) i t)
 
-listed_in : (v : View) (d : ℕ) → is_open_in v d ≡ true → Has d (open_choices v)
+pub listed_in : (v : View) (d : ℕ) → is_open_in v d ≡ true → Has d (open_choices v)
 listed_in v d t = let e : 0 + d ≡ d = omega arith in subst (λ n. Has n (open_choices v)) e (open_has v.sides 0 d t)
 
-open_above : (sides : List (Option Side)) (k d : ℕ) → Has d (open_from k sides) → k ≤ d
+pub open_above : (sides : List (Option Side)) (k d : ℕ) → Has d (open_from k sides) → k ≤ d
 open_above [] k d h = absurd h
 open_above (None ∷ xs) k d (inl e) = omega (arith, e)
 open_above (None ∷ xs) k d (inr h) = omega (arith, open_above xs (k + 1) d h)

@@ -2,11 +2,14 @@ pub mod Bits
 pub mod View
 pub mod Picks
 pub mod Opens
+pub mod Refuted
 pub mod Picked
 pub mod Meant
+pub mod Forced
 pub mod Sides
 pub mod Grown
 pub mod Held
+pub mod Saved
 pub mod Orders
 pub mod Turns
 pub mod Counts

@@ -1,6 +1,8 @@
 -- What the strategies pick is open, and they pick where some choice is open.
 use Rattle.std.proofs.Common.{◌≡◌, ◌⊎◌, ℕ, zero, suc, ◌+◌, ◌<◌, ◌≤◌, ◌%◌, Bool, true, false, cond, List, [], ◌∷◌, length, get_or, Option, Some, None, refl, sym, ap, ◌∙◌, inl, inr, arith}
 use Rattle.std.specs.Prelude.{nat_lt, slice_get, if◌then◌else◌}
+use Rattle.std.specs.Option.{option_or}
+use Rattle.std.specs.List.{filter}
 use Rattle.std.proofs.lemmas.Bool.{cases_lt, lt-ltb, le-ltb, cond-true, cond-false}
 use Rattle.std.proofs.lemmas.Nat.{mod_below}
 use Rattle.std.proofs.lemmas.Option.{slice_get-get_or}
@@ -8,6 +10,7 @@ use Rattle.pruning_laws.specs.declared.side.Side.{Side}
 use Rattle.branching.specs.View.{View, is_open_in}
 use Rattle.branching.specs.Picks.{open_from, open_choices, first_open, edge_count, or_more, first_greatest, or_fewer, first_least, most_edges, least_edges, word_at, by_words, is_even_depth}
 use Rattle.branching.specs.Opens.{is_open_at}
+use Rattle.branching.specs.Refuted.{is_forced_in, first_forced, forced_or_most}
 
 some-inj : {A : Type 0} (x y : A) → Some x ≡ Some y → x ≡ y
 some-inj x y e = cc
@@ -103,6 +106,29 @@ least_is_open v c e = listed_open v c (least_listed (edge_count v.polygraph.choi
 
 pub least_where_open : (v : View) → least_edges v ≡ None → (c : ℕ) → is_open_in v c ≡ false
 least_where_open v e c = none_listed v.sides 0 (least_none (edge_count v.polygraph.choices) (open_choices v) e) c
+
+-- ---- the first that passes a test
+head_of : (x c : ℕ) (b : Bool) (rest cs : List ℕ) → slice_get (cond b (x ∷ rest) rest) 0 ≡ Some c → (slice_get rest 0 ≡ Some c → Listed cs c) → Listed (x ∷ cs) c
+head_of x c true rest cs e h = (0, e)
+head_of x c false rest cs e h = let l = h e in (suc l.0, l.1)
+
+pub passed_listed : (p : ℕ → Bool) (cs : List ℕ) (c : ℕ) → slice_get (filter p cs) 0 ≡ Some c → Listed cs c
+passed_listed p [] c e = absurd (cc)
+passed_listed p (x ∷ xs) c e = head_of x c (p x) (filter p xs) xs e (passed_listed p xs c)
+
+forced_from : (v : View) (c : ℕ) (o : Option ℕ) → option_or o (most_edges v) ≡ Some c → ((d : ℕ) → o ≡ Some d → Listed (open_choices v) d) → is_open_in v c ≡ true
+forced_from v c None e h = most_is_open v c e
+forced_from v c (Some d) e h = listed_open v c (h c e)
+
+pub forced_is_open : (v : View) (c : ℕ) → forced_or_most v ≡ Some c → is_open_in v c ≡ true
+forced_is_open v c e = forced_from v c (first_forced v) e (passed_listed (is_forced_in v) (open_choices v))
+
+none_most : (v : View) (o : Option ℕ) → option_or o (most_edges v) ≡ None → most_edges v ≡ None
+none_most v None e = e
+none_most v (Some d) e = absurd (not_some d e)
+
+pub forced_where_open : (v : View) → forced_or_most v ≡ None → (c : ℕ) → is_open_in v c ≡ false
+forced_where_open v e c = most_where_open v (none_most v (first_forced v) e) c
 
 -- ---- a rank
 ranked_none : (cs : List ℕ) (w : ℕ) → slice_get cs (w % length cs) ≡ None → slice_get cs 0 ≡ None

@@ -55,6 +55,27 @@ impl Sides {
         self.decided = 0;
     }
 
+    /// The same sides.
+    pub fn copy(&self, alloc: Global) -> Result<Sides, AllocError>
+        ensures same { IfOk result (λ sides. sides ≡ self.now) }
+    {
+        Ok(Sides {
+            sides: Vec::from_slice(alloc, &self.sides)?,
+            open: Vec::from_slice(alloc, &self.open)?,
+            decided: self.decided,
+        })
+    }
+
+    /// Makes these the same as others. It takes no memory.
+    pub fn copy_from(&mut self, other: &Sides)
+        requires count { length self.old ≡ length other.now }
+        ensures same { self.new ≡ other.now }
+    {
+        self.sides.as_mut_slice().copy_from_slice(&other.sides);
+        self.open.as_mut_slice().copy_from_slice(&other.open);
+        self.decided = other.decided;
+    }
+
     /// Decides an open choice. It takes no memory.
     pub fn decide(&mut self, choice: ChoiceIx, side: Side)
         requires open { is_open_at self.old choice ≡ true }

@@ -2,8 +2,11 @@ ghost use Rattle.std.specs.Prelude.{◌≡◌, ◌≤◌, ◌≢◌};
 ghost use Rattle.std.specs.List.{AllByRecursion};
 ghost use Rattle.polygraph.specs.Polygraphs.{Joins};
 
-use crate::laws::{least_edges_are_fewest, most_edges_are_most, turn};
-use crate::{Alternate, ByWords, CubeView, FirstOpen, LeastEdges, MostEdges, Strategy};
+use crate::laws::{
+    forced_choices_come_first, least_edges_are_fewest, most_edges_are_most,
+    refuted_sides_come_last, turn,
+};
+use crate::{Alternate, ByWords, CubeView, FirstOpen, Forced, LeastEdges, MostEdges, Strategy};
 use cube_laws::{Event, NodeLine};
 use desk::gate::OpenGate;
 use desk::seat_no::Workers;
@@ -215,6 +218,47 @@ fn choices_of_different_sizes(rt: HostRuntime) -> Result<(), Fail> {
     Ok(())
 }
 
+// Six nodes and choices of one edge a side between nodes 1 and 2, 2 and 3, 1 and 3, 3 and 1 again, and one of
+// more edges between 4, 5 and 6.
+fn six_nodes(rt: &impl Abort, alloc: Global) -> Polygraph {
+    let known = known(rt, alloc, 6, &[]);
+    let zero = Choice::new(single(rt, 6, (1, 2)), single(rt, 6, (2, 1)));
+    let one = Choice::new(single(rt, 6, (2, 3)), single(rt, 6, (3, 2)));
+    let two = Choice::new(single(rt, 6, (1, 3)), single(rt, 6, (3, 1)));
+    let three = Choice::new(single(rt, 6, (3, 1)), single(rt, 6, (1, 3)));
+    let four = Choice::new(double(rt, alloc, 6, (4, 5), (4, 6)), single(rt, 6, (5, 4)));
+    Polygraph::new(
+        known,
+        vec![in alloc; zero, one, two, three, four].expect(rt, "memory"),
+    )
+}
+
+#[test]
+fn forced_choices_are_picked_first(rt: HostRuntime) -> Result<(), Fail> {
+    let rt = &rt;
+    let alloc = rt.alloc();
+    let reduced = reduced(rt, alloc, six_nodes(rt, alloc));
+    let mut view = CubeView::new(alloc, &reduced)?;
+    see(rt, &view, &Forced, 4, Side::One);
+    decide(rt, &mut view, 1, Side::One);
+    see(rt, &view, &Forced, 4, Side::One);
+    decide(rt, &mut view, 0, Side::One);
+    see(rt, &view, &Forced, 2, Side::One);
+    let saved = view.save(alloc)?;
+    decide(rt, &mut view, 2, Side::One);
+    see(rt, &view, &Forced, 3, Side::Two);
+    decide(rt, &mut view, 3, Side::Two);
+    see(rt, &view, &Forced, 4, Side::One);
+    decide(rt, &mut view, 4, Side::Two);
+    see_none(rt, &view, &Forced);
+    view.restore(&saved);
+    assert_eq!(rt; view.depth(), 2);
+    see(rt, &view, &Forced, 2, Side::One);
+    forced_choices_come_first();
+    refuted_sides_come_last();
+    Ok(())
+}
+
 #[test]
 fn a_turn_splits_and_refutes(rt: HostRuntime) -> Result<(), Fail> {
     let rt = &rt;
@@ -294,6 +338,7 @@ fn words_of_the_strategies(rt: HostRuntime) {
     assert_eq!(rt; <FirstOpen as Strategy>::NAME, "first");
     assert_eq!(rt; <MostEdges as Strategy>::NAME, "most");
     assert_eq!(rt; <LeastEdges as Strategy>::NAME, "least");
+    assert_eq!(rt; <Forced as Strategy>::NAME, "forced");
     assert_eq!(rt; <ByWords as Strategy>::NAME, "words");
     assert_eq!(rt;
         <Alternate<FirstOpen, MostEdges> as Strategy>::NAME,

@@ -1,11 +1,13 @@
 //! What a strategy sees of a cube.
 
-ghost use Rattle.std.specs.Prelude.{◌≡◌, ℕ, ◌+◌, ◌<◌, ◌≤◌, [], ◌∷◌, true, Some, MatchOption, IfSome, IfOk, length, slice_get};
+ghost use Rattle.std.specs.Prelude.{◌≡◌, ℕ, ◌+◌, ◌<◌, ◌≤◌, [], ◌∷◌, true, Some, MatchOption, IfSome, IfOk, is_some, length, slice_get};
 ghost use Rattle.std.specs.List.{AllByRecursion};
+ghost use Rattle.pruning_laws.specs.declared.side.Side.TheVariants.{One, Two};
 ghost use Rattle.polygraph.specs.Polygraphs.{Joins};
 ghost use Rattle.reach_rows.specs.ReachRows.{AreRowsOf};
 ghost use Rattle.branching.specs.View.{is_open_in, depth_of, graph_in, opened, decided};
 ghost use Rattle.branching.specs.Picks.{edge_count};
+ghost use Rattle.branching.specs.Refuted.{is_refuted_in, is_forced_in};
 ghost use Rattle.branching.specs.Opens.{open_past};
 ghost use Rattle.branching.specs.Grown.{AddsEdges};
 ghost use Rattle.branching.specs.Held.{IsView, AreEdgesOf};
@@ -14,7 +16,7 @@ use crate::counts::EdgeCounts;
 use crate::sides::Sides;
 use known_graph::Known;
 use polygraph::{Choice, ChoiceIx};
-use prune_ledger::Reduced;
+use prune_ledger::{Reduced, Verdict, judge};
 use pruning_laws::Side;
 use reach_laws::Edge;
 use reach_rows::Rows;
@@ -45,6 +47,26 @@ impl<'a> Model for CubeView<'a> {
     ghost invariant = { IsHeld };
 }
 
+/// What a view saw of a cube, so that a view can go back to it. Contracts see that view.
+#[derive(Drop)]
+pub struct SavedView<'a> {
+    reduced: &'a Reduced,
+    sides: Sides,
+    graph: Known,
+    rows: Rows,
+}
+
+impl<'a> Model for SavedView<'a> {
+    ghost use Rattle.branching.specs.View.{View};
+    ghost use Rattle.branching.specs.Saved.{saved_view, IsSaved};
+
+    ghost Value = { View };
+
+    ghost view = { saved_view };
+
+    ghost invariant = { IsSaved };
+}
+
 impl<'a> CubeView<'a> {
     /// The view of the cube in which no choice is decided.
     pub fn new(alloc: Global, reduced: &'a Reduced) -> Result<CubeView<'a>, AllocError>
@@ -69,6 +91,28 @@ impl<'a> CubeView<'a> {
         self.sides.reopen();
         self.graph.copy_from(reduced.poly().known());
         self.rows.copy_from(reduced.rows());
+    }
+
+    /// What is seen now, to go back to.
+    pub fn save(&self, alloc: Global) -> Result<SavedView<'a>, AllocError>
+        ensures saved { IfOk result (λ saved. saved ≡ self.now) }
+    {
+        Ok(SavedView {
+            reduced: self.reduced,
+            sides: self.sides.copy(alloc)?,
+            graph: self.graph.copy(alloc)?,
+            rows: self.rows.copy(alloc)?,
+        })
+    }
+
+    /// Goes back to what a view of the same polygraph saw. It takes no memory.
+    pub fn restore(&mut self, saved: &SavedView<'_>)
+        requires polygraph { saved.now.polygraph ≡ self.old.polygraph }
+        ensures restored { self.new ≡ saved.now }
+    {
+        self.sides.copy_from(&saved.sides);
+        self.graph.copy_from(&saved.graph);
+        self.rows.copy_from(&saved.rows);
     }
 
     /// Decides an open choice. It takes no memory.
@@ -138,6 +182,36 @@ impl<'a> CubeView<'a> {
         ensures count { result ≡ edge_count self.now.polygraph.choices choice }
     {
         self.counts.of(choice.get())
+    }
+
+    /// Whether a side of a choice is refuted by the known edges and those of the decided sides.
+    pub(crate) fn is_refuted(&self, choice: ChoiceIx, side: Side) -> bool
+        requires choice { choice < length self.now.sides }
+        ensures refuted { result ≡ is_refuted_in self.now choice side }
+    {
+        let verdict = self.verdict(choice);
+        match side {
+            Side::One => verdict.one.is_some(),
+            Side::Two => verdict.two.is_some(),
+        }
+    }
+
+    /// Whether a side of a choice is refuted, whichever.
+    pub(crate) fn is_forced(&self, choice: ChoiceIx) -> bool
+        requires choice { choice < length self.now.sides }
+        ensures forced { result ≡ is_forced_in self.now choice }
+    {
+        let verdict = self.verdict(choice);
+        verdict.one.is_some() || verdict.two.is_some()
+    }
+
+    // What refutes the sides of a choice.
+    fn verdict(&self, choice: ChoiceIx) -> Verdict
+        requires choice { choice < length self.now.sides }
+        ensures one { is_some result.one ≡ is_refuted_in self.now choice One }
+        ensures two { is_some result.two ≡ is_refuted_in self.now choice Two }
+    {
+        judge(&self.rows, &self.reduced.poly().choices()[choice.get()])
     }
 
     /// A number of edges that no choice has fewer of, both sides together.

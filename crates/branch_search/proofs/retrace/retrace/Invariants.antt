@@ -1,5 +1,6 @@
 use Rattle.std.proofs.Common.{◌≡◌}
+use Rattle.std.specs.List.{All}
 use Rattle.branch_search.proofs.retrace.retrace.Given as goal
 
 abbrev pub invariant-loop : goal.invariant-loop
-invariant-loop l = l.view.polygraph ≡ l.fn.view.polygraph
+invariant-loop l = (l.view.polygraph ≡ l.fn.view.polygraph) × All (λ k. k.view.polygraph ≡ l.view.polygraph) l.trail.kept.items

@@ -1,5 +1,6 @@
 use Rattle.std.proofs.Common.{◌≡◌}
+use Rattle.std.specs.List.{All}
 use Rattle.branch_search.proofs.worker.take_turns.Given as goal
 
 abbrev pub invariant-loop : goal.invariant-loop
-invariant-loop g l = (l.seat.0 ≡ l.fn.seat.0) × (l.view.polygraph ≡ l.reduced.poly)
+invariant-loop g l = (l.seat.0 ≡ l.fn.seat.0) × (l.view.polygraph ≡ l.reduced.poly) × All (λ k. k.view.polygraph ≡ l.view.polygraph) l.trail.kept.items

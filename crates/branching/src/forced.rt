@@ -1,0 +1,60 @@
+//! A choice that the edges decide, before any other.
+
+ghost use Rattle.std.specs.Prelude.{◌≡◌};
+ghost use Rattle.branching.specs.Refuted.{first_forced, forced_or_most, side_left};
+
+use crate::by_size::MostEdges;
+use crate::strategy::Strategy;
+use crate::view::CubeView;
+use polygraph::ChoiceIx;
+use pruning_laws::Side;
+
+/// Picks the open choice of least number of which a side is refuted, that is, has an edge whose target
+/// reaches its source by the known edges and those of the decided sides; where there is none, the choice
+/// that `MostEdges` picks. It searches side two first where side one is refuted, else side one.
+#[derive(Clone, Copy, Debug)]
+pub struct Forced;
+
+impl Strategy for Forced {
+    ghost use Rattle.branching.specs.Picked.{forced_is_open, forced_where_open};
+
+    const NAME: &'static str = "forced";
+
+    ghost picks = { λ _ v. forced_or_most v };
+
+    ghost first_of = { λ _ v c. side_left v c };
+
+    fn pick(&self, view: &CubeView<'_>) -> Option<ChoiceIx> {
+        match first_forced(view) {
+            Some(choice) => Some(choice),
+            None => MostEdges.pick(view),
+        }
+    }
+
+    fn first_side(&self, view: &CubeView<'_>, choice: ChoiceIx) -> Side {
+        if view.is_refuted(choice, Side::One) {
+            Side::Two
+        } else {
+            Side::One
+        }
+    }
+
+    ghost picks_open = { λ _ v c e. forced_is_open v c e };
+
+    ghost picks_some = { λ _ v e c. forced_where_open v e c };
+}
+
+// The open choice of least number of which a side is refuted.
+#[tactic(auto, using(crate::proofs::Opens::open_within))]
+fn first_forced(view: &CubeView<'_>) -> Option<ChoiceIx>
+    ensures choice { result ≡ first_forced view.now }
+{
+    let mut from = 0;
+    while let Some(choice) = view.next_open(from) {
+        if view.is_forced(choice) {
+            return Some(choice);
+        }
+        from = choice.get() + 1;
+    }
+    None
+}
