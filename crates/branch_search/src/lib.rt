@@ -19,7 +19,9 @@ mod tree;
 mod worker;
 
 pub use answer::Answer;
-pub use branching::{Alternate, ByWords, CubeView, FirstOpen, LeastEdges, MostEdges, Strategy};
+pub use branching::{
+    Alternate, ByWords, CubeView, FirstOpen, Forced, LeastEdges, MostEdges, Strategy,
+};
 pub use checking::check_tree;
 pub use cube_machine::Budget;
 pub use searching::search;
