@@ -14,6 +14,7 @@ use crate::row::UnnamedSeat;
 use crate::seat::{Left, Seat};
 use crate::seat_no::{SeatNo, Workers};
 use std::alloc::{AllocError, Global};
+use std::hint::spin_loop;
 use std::marker::{Model, PhantomData};
 use std::sync::{Condvar, Mutex, MutexGuard, Wait};
 
@@ -51,6 +52,16 @@ pub struct NotAll<M: Machine, J: Naming> {
     pub missing: SeatNo,
     pub desk: Desk<M, J>,
     pub lefts: Vec<Left<M, J>>,
+}
+
+// How often a thread looks whether the lock is free before it sleeps.
+const LOOKS: u32 = 16;
+
+// A rest of 2^looks turns, and of no more than 1,024.
+fn rest(looks: u32) {
+    for _ in 0..1u32 << looks.min(10) {
+        spin_loop();
+    }
 }
 
 impl<M: Machine, J: Naming> Desk<M, J> {
@@ -119,11 +130,20 @@ impl<M: Machine, J: Naming> Desk<M, J> {
     ) -> MutexGuard<'_, Guarded<M, J>>
         ensures { M.waits_at (mutex_guard_value result).0 seat event.now ≡ false }
     {
-        self.changed.wait_while(
-            rt,
-            self.guarded.lock(rt),
-            |guarded| guarded.waits(seat, event),
-        )
+        self.changed
+            .wait_while(rt, self.locked(rt), |guarded| guarded.waits(seat, event))
+    }
+
+    // The lock. A thread that finds it held looks again after rests, each twice as long as the one before, and
+    // sleeps only after the last: a step takes less time than putting a thread to sleep and waking it.
+    fn locked<R: Wait>(&self, rt: &R) -> MutexGuard<'_, Guarded<M, J>> {
+        for looks in 0..LOOKS {
+            if let Some(guard) = self.guarded.try_lock() {
+                return guard;
+            }
+            rest(looks);
+        }
+        self.guarded.lock(rt)
     }
 
     /// The seat's last call. It does not wait for the machine, and takes no memory.
@@ -141,7 +161,7 @@ impl<M: Machine, J: Naming> Desk<M, J> {
             mut receipt,
             desk: _,
         } = seat;
-        let mut guarded = self.guarded.lock(rt);
+        let mut guarded = self.locked(rt);
         let reply = guarded.leave(number, &mut receipt, event);
         self.changed.notify_all();
         (

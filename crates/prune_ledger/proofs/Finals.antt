@@ -33,7 +33,7 @@ use Rattle.prune_ledger.specs.declared.parts.Event.{Event}
 use Rattle.prune_ledger.specs.declared.parts.Reply.{Reply}
 use Rattle.known_graph.proofs.Tested.{same_bool}
 use Rattle.prune_ledger.proofs.Sides.{side_is, side_with}
-use Rattle.prune_ledger.proofs.Grown.{some_mark, walk_in, reaches_in, grown_opening, opens, grown_reopened, ran, kept_append, shown_append}
+use Rattle.prune_ledger.proofs.Grown.{some_mark, walk_in, reaches_in, grown_opening, opens, grown_reopened, ran, kept_append, shown_append, refuted_in}
 
 -- ---- the sides that are kept at the end are closed
 flag_at : (flags : List Bool) (k : ℕ) → k < length flags → (f : Bool) × (slice_get flags k ≡ Some f)
@@ -61,10 +61,7 @@ one_refused p kept s g c h at acyclic One Two t r = absurd (not_both p kept c h 
 one_refused p kept s g c h at acyclic Two One t r = absurd (not_both p kept c h One at acyclic (g.marks c Two t) r)
 one_refused p kept s g c h at acyclic Two Two t r = g.marks c Two t
 
-refuted_in : (edges more side : List Edge) → ((e : Edge) → Contains edges e → Contains more e) → IsRefuted edges side → IsRefuted more side
-refuted_in edges more side sub r = (r.0, (r.1.0, (r.1.1.0, reaches_in edges more sub r.1.0 r.0 r.1.1.1)))
-
-acyclic_after : (p : Polygraph) (entries : List LedgerEntry) (graph : Graph) → IsGraphOf p entries graph → (IsCyclic graph.edges → ⊥) → IsCyclic (edges_after p (kept_by entries)) → ⊥
+acyclic_after : (p : Polygraph) (entries : List LedgerEntry) (graph : Graph) → IsGraphOf p (kept_by entries) graph → (IsCyclic graph.edges → ⊥) → IsCyclic (edges_after p (kept_by entries)) → ⊥
 acyclic_after p entries graph g acyclic c = acyclic (c.0, reaches_in (edges_after p (kept_by entries)) graph.edges g.to c.0 c.0 c.1)
 
 closed_at : (p : Polygraph) (entries : List LedgerEntry) (s : State) (graph rows : Graph) (flags : List Bool) → IsLast p entries s graph rows flags → (c : ℕ) (h : Choice) → slice_get p.choices c ≡ Some h → (w : Side) → IsRefuted (edges_after p (kept_by entries)) (edges_of h w) → sides_in (kept_by entries) c (other w) ≡ true
@@ -171,17 +168,14 @@ is_remainder p s graph rows flags poly ledger l is cycle none =
     }
 
 -- ---- a ledger with a cycle
-pub is_dead_by : (p : Polygraph) (entries : List LedgerEntry) (graph : Graph) → AreShown p [] (posts_in entries) → IsLedger p (kept_by entries) → IsGraphOf p entries graph → IsCyclic graph.edges
+pub is_dead_by : (p : Polygraph) (entries : List LedgerEntry) (graph : Graph) → AreShown p [] (posts_in entries) → IsLedger p (kept_by entries) → IsGraphOf p (kept_by entries) graph → IsCyclic graph.edges
     → IsDead p
 is_dead_by p entries graph shown l g cyclic = ledger_dead p (kept_by entries) l (cyclic.0, reaches_in graph.edges (edges_after p (kept_by entries)) g.from cyclic.0 cyclic.0 cyclic.1)
 
-pub cycle_in : (p : Polygraph) (entries : List LedgerEntry) (graph : Graph) → IsGraphOf p entries graph → (line : List ℕ) → IsCycle graph.edges line → IsCycle (edges_after p (kept_by entries)) line
+pub cycle_in : (p : Polygraph) (entries : List LedgerEntry) (graph : Graph) → IsGraphOf p (kept_by entries) graph → (line : List ℕ) → IsCycle graph.edges line → IsCycle (edges_after p (kept_by entries)) line
 cycle_in p entries graph g line c = (c.0, record { inner = c.1.inner; shape = c.1.shape; steps = walk_in graph.edges (edges_after p (kept_by entries)) g.from c.1.inner c.0 c.0 c.1.steps })
 
 -- ---- rounds
-pub graph_of_grown : (p : Polygraph) (entries : List LedgerEntry) (s : State) → IsProgress p entries s → IsGraphOf p entries s.graph
-graph_of_grown p entries s i = record { nodes = i.grown.nodes; from = i.grown.from; to = i.grown.to }
-
 some-state : (x y : State) → Some x ≡ Some y → x ≡ y
 some-state x y e = cc
 
@@ -214,6 +208,10 @@ no_right : (xs : List Posted) → xs ++ [] ≡ xs
 no_right [] = refl
 no_right (x ∷ xs) = ap (λ l. x ∷ l) (no_right xs)
 
+pub no_fewer : (entries next : List LedgerEntry) (posts : List Posted) → posts_in next ≡ posts_in entries ++ posts → length entries ≤ length next
+no_fewer entries next posts more =
+    let a = ap length more in let b = length_joined (posts_in entries) posts in let d = length_posts entries in let e = length_posts next in omega (arith, a, b, d, e)
+
 -- where no entry came, the sides kept are the same
 pub same_kept : (entries next : List LedgerEntry) (posts : List Posted) → posts_in next ≡ posts_in entries ++ posts → length next ≤ length entries → kept_by entries ≡ kept_by next
 same_kept entries next posts more le =
@@ -221,7 +219,7 @@ same_kept entries next posts more le =
     let none = nothing posts (omega (arith, a, b, d, e, le)) in
     ap (kept_after []) (sym (more ∙ ap (λ l. posts_in entries ++ l) none ∙ no_right (posts_in entries)))
 
-pub graph_same : (p : Polygraph) (entries next : List LedgerEntry) (graph : Graph) → kept_by entries ≡ kept_by next → IsGraphOf p entries graph → IsGraphOf p next graph
+pub graph_same : (p : Polygraph) (entries next : List LedgerEntry) (graph : Graph) → kept_by entries ≡ kept_by next → IsGraphOf p (kept_by entries) graph → IsGraphOf p (kept_by next) graph
 graph_same p entries next graph e g = record {
   nodes = g.nodes;
   from = subst (λ (k : List Kept). (x : Edge) → Contains graph.edges x → Contains (edges_after p k) x) e g.from;

@@ -69,6 +69,9 @@ pub reaches_in : (edges more : List Edge) → ((e : Edge) → Contains edges e �
 reaches_in edges more sub u v r = (r.0, walk_in edges more sub r.0 u v r.1)
 
 -- ---- the graph with edges more is one of known edges
+pub refuted_in : (edges more side : List Edge) → ((e : Edge) → Contains edges e → Contains more e) → IsRefuted edges side → IsRefuted more side
+refuted_in edges more side sub r = (r.0, (r.1.0, (r.1.1.0, reaches_in edges more sub r.1.0 r.0 r.1.1.1)))
+
 pub known_more : (g : Graph) (more : List Edge) → IsKnownGraph g → IsKnownGraph (with_edges g more)
 unfolding listed
 known_more g more k = record {

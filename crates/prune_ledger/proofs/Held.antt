@@ -74,7 +74,7 @@ of_shown p entries q s =
     (has_contained (side_of p.choices q.choice q.side) q.edge s.within)
     (line_is p entries q.walk q.edge.1 q.edge.0 ∙ line_of (edges_after p (kept_by entries)) q.walk q.edge.1 q.edge.0 s.walk)
 
-posts_append : (xs ys : List LedgerEntry) → posts_in (xs ++ ys) ≡ posts_in xs ++ posts_in ys
+pub posts_append : (xs ys : List LedgerEntry) → posts_in (xs ++ ys) ≡ posts_in xs ++ posts_in ys
 posts_append [] ys = refl
 posts_append (x ∷ xs) ys = ap (λ l. x.post ∷ l) (posts_append xs ys)
 

@@ -8,3 +8,4 @@ pub mod Finals
 pub mod Held
 pub mod Seats
 pub mod KeptBits
+pub mod KeptUp

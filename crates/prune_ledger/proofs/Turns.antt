@@ -11,8 +11,8 @@ use Rattle.pruning_laws.specs.Forced.{IsRefuted, edges_of}
 use Rattle.reach_laws.proofs.Walks.{Contains-here, Contains-further, each_contained}
 use Rattle.reach_laws.specs.Reach.{Graph}
 use Rattle.reach_rows.specs.ReachRows.{AreRowsOf}
-use Rattle.polygraph.specs.Polygraphs.{Joins, IsPolygraph}
-use Rattle.prune_ledger.proofs.Marks.{side_joins}
+use Rattle.polygraph.specs.Polygraphs.{Joins, JoinsBoth, IsPolygraph}
+use Rattle.prune_ledger.proofs.Marks.{side_joins, contained_at}
 use Rattle.prune_ledger.specs.Posted.{Posted}
 use Rattle.prune_ledger.specs.Rounds.{Refutes, HasPost, EachHandled, Handled, PostedOf, Settled, Turned, IsOpenIn}
 use Rattle.prune_ledger.specs.declared.parts.Event.{Event}
@@ -160,6 +160,10 @@ pub edge_joins : (p : Polygraph) (n : ℕ) (c : ℕ) (h : Choice) (side : Side) 
 edge_joins p n c h side e whole same at within =
     let j = each_contained (Joins p.nodes) (edges_of h side) e (side_joins p.nodes p.choices c h side whole.joined at) within in
     let f = j.from in let t = j.to in (omega (arith, t, same), omega (arith, f, same))
+
+-- each edge of a choice does
+pub choice_joins : (p : Polygraph) (n c : ℕ) (h : Choice) → IsPolygraph p → n ≡ p.nodes → slice_get p.choices c ≡ Some h → JoinsBoth n h
+choice_joins p n c h whole same at = subst (λ m. JoinsBoth m h) (sym same) (each_contained (JoinsBoth p.nodes) p.choices h whole.joined (contained_at p.choices c h at))
 
 -- ---- judging
 pub not_refuted_by : (rows graph : Graph) (side : List Edge) → AreRowsOf rows graph → AllByRecursion (λ (e : Edge). Contains rows.edges (e.1, e.0) → ⊥) side → IsRefuted graph.edges side → ⊥

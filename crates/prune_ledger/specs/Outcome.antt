@@ -1,6 +1,6 @@
 -- What a call of `prune` gives.
 use Rattle.serializability.specs.Polygraph.{Polygraph}
-use Rattle.prune_ledger.specs.Pruned.{IsRemainder, IsDeadBy, IsProgress}
+use Rattle.prune_ledger.specs.Pruned.{IsRemainder, IsDeadBy, IsProgress, IsGraphOf, kept_by}
 use Rattle.prune_ledger.specs.declared.remains.Pruned.{Pruned}
 use Rattle.prune_ledger.specs.declared.remains.Pruned.TheVariants.{Dead, Open}
 use Rattle.prune_ledger.specs.declared.rounds.Stage.{Stage}
@@ -12,5 +12,5 @@ IsPruning p (Open reduced) = IsRemainder p reduced
 
 -- a round led on, or to the end
 abbrev pub IsStage : Polygraph → Stage → Type 0
-IsStage p (More progress) = IsProgress p progress.entries.items progress.machine
+IsStage p (More progress) = IsProgress p progress.entries.items progress.machine × IsGraphOf p (kept_by progress.entries.items) progress.own
 IsStage p (Done pruned) = IsPruning p pruned

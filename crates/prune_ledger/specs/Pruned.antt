@@ -65,11 +65,11 @@ pub record IsProgress (p : Polygraph) (entries : List LedgerEntry) (s : State) :
   pub grown : Grown p (kept_by entries) s
   pub shown : AreShown p [] (posts_in entries)
 
--- the graph has the known edges and those of the sides that the entries keep
-pub record IsGraphOf (p : Polygraph) (entries : List LedgerEntry) (graph : Graph) : Type 0 where
+-- the graph has the known edges and those of these kept sides
+pub record IsGraphOf (p : Polygraph) (kept : List Entry) (graph : Graph) : Type 0 where
   pub nodes : graph.nodes ≡ p.nodes
-  pub from : (e : Edge) → Contains graph.edges e → Contains (edges_after p (kept_by entries)) e
-  pub to : (e : Edge) → Contains (edges_after p (kept_by entries)) e → Contains graph.edges e
+  pub from : (e : Edge) → Contains graph.edges e → Contains (edges_after p kept) e
+  pub to : (e : Edge) → Contains (edges_after p kept) e → Contains graph.edges e
 
 -- the choices of which neither side is refused
 abbrev pub unrefused : List Mark → List Choice → List Choice
@@ -88,7 +88,7 @@ pub record AreSettled (marks : List Mark) (flags : List Bool) : Type 0 where
 -- nothing is left to refute: the graph has no cycle, and each choice has a refused side or was passed
 pub record IsLast (p : Polygraph) (entries : List LedgerEntry) (s : State) (graph rows : Graph) (flags : List Bool) : Type 0 where
   pub progress : IsProgress p entries s
-  pub graph_of : IsGraphOf p entries graph
+  pub graph_of : IsGraphOf p (kept_by entries) graph
   pub acyclic : IsCyclic graph.edges → ⊥
   pub rows_of : AreRowsOf rows graph
   pub flagged : length flags ≡ length p.choices

@@ -1,15 +1,15 @@
 -- What a worker's round does.
-use Rattle.std.specs.Prelude.{◌≡◌, ◌⊎◌, ℕ, List, [], ◌∷◌, ◌++◌, slice_get, Some}
+use Rattle.std.specs.Prelude.{◌≡◌, ◌⊎◌, ◌↔◌, ℕ, List, [], ◌∷◌, ◌++◌, slice_get, Some}
 use Rattle.std.specs.List.{Contains}
 use Rattle.serializability.specs.Polygraph.{Edge, Choice}
-use Rattle.reach_laws.specs.Reach.{Reaches}
+use Rattle.reach_laws.specs.Reach.{Graph, Reaches}
 use Rattle.pruning_laws.specs.declared.side.Side.{Side}
-use Rattle.pruning_laws.specs.Forced.{IsRefuted, edges_of}
+use Rattle.pruning_laws.specs.Forced.{IsRefuted, edges_of, other}
 use Rattle.prune_ledger.specs.Posted.{Posted}
 use Rattle.prune_ledger.specs.declared.parts.Event.{Event}
 use Rattle.prune_ledger.specs.declared.parts.Event.TheVariants.{Take, Post, Pass, Release}
 use Rattle.prune_ledger.specs.declared.parts.Reply.{Reply}
-use Rattle.prune_ledger.specs.declared.parts.Reply.TheVariants.{Judge}
+use Rattle.prune_ledger.specs.declared.parts.Reply.TheVariants.{Judge, Entered}
 
 -- an edge of the side that goes against a walk
 pub record Refutes (edges side : List Edge) (e : Edge) : Type 0 where
@@ -51,6 +51,28 @@ pub record PostedOf (choice : ℕ) (before now : List (Event × Reply)) : Type 0
   pub reply : Reply
   pub same : now ≡ before ++ (Post post, reply) ∷ []
   pub its : post.choice ≡ choice
+
+-- the same nodes, and these edges more
+pub record AddsEdges (old new : Graph) (more : List Edge) : Type 0 where
+  pub nodes : new.nodes ≡ old.nodes
+  pub edges : (e : Edge) → (Contains new.edges e ↔ (Contains old.edges e ⊎ Contains more e))
+
+-- the same nodes, and no edge less
+pub record Extends (old new : Graph) : Type 0 where
+  pub nodes : new.nodes ≡ old.nodes
+  pub edges : (e : Edge) → Contains old.edges e → Contains new.edges e
+
+-- where the post of a side was entered, the edges of the other side are added, and else nothing changes
+pub record IsKeptUp (h : Choice) (side : Side) (reply : Reply) (old new : Graph) : Type 0 where
+  pub entered : reply ≡ Entered → AddsEdges old new (edges_of h (other side))
+  pub same : (reply ≡ Entered → ⊥) → new ≡ old
+
+-- one call more; by its reply the graph is kept up, as by the post of a side
+pub record KeepsUp (h : Choice) (side : Side) (before now : List (Event × Reply)) (old new : Graph) : Type 0 where
+  pub event : Event
+  pub reply : Reply
+  pub same : now ≡ before ++ (event, reply) ∷ []
+  pub graph : IsKeptUp h side reply old new
 
 -- the calls between the two settle the choice: it is in the list, or one of them posts a side of it
 pub record Settled (choice : ℕ) (passed : List ℕ) (listed : List ℕ) (before now : List (Event × Reply)) : Type 0 where

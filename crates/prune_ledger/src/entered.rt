@@ -47,7 +47,8 @@ fn entered(step: Entry<Event, Reply>) -> Option<LedgerEntry>
     }
 }
 
-fn is_entered(reply: Reply) -> bool
+/// Whether a post was entered.
+pub(crate) fn is_entered(reply: Reply) -> bool
     ensures { result ≡ is_entered reply }
 {
     match reply {

@@ -15,6 +15,7 @@ pub mod parts;
 mod remains;
 mod round;
 mod rounds;
+mod rowed;
 mod rules;
 #[cfg(test)]
 mod tests;

@@ -183,7 +183,7 @@ fn open_choices(
     requires { length marks.now ≡ length choices.items }
     ensures { IfOk result (λ v. v.items ≡ unrefused marks.now choices.items) }
 {
-    let mut open = Vec::new(alloc);
+    let mut open = Vec::with_capacity(alloc, choices.len())?;
     let mut number = 0;
     for choice in choices {
         let refused = has_refused(marks[number]);

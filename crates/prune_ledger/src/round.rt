@@ -1,21 +1,25 @@
-//! A worker's round: it takes, judges by the rows with which the round began, and posts or passes.
+//! A worker's round: it takes, judges, and posts or passes. It judges by the rows with which the round began and
+//! the sides that its own posts have kept since.
 
 ghost use Rattle.std.specs.Prelude.{◌≡◌, ◌⊎◌, ℕ, ◌≤◌, IfOk, IfSome, IfNone, [], ◌++◌, ◌∷◌};
 ghost use Rattle.std.specs.List.{AllByRecursion};
-ghost use Rattle.reach_laws.specs.Reach.{Reaches};
+ghost use Rattle.reach_laws.specs.Reach.{Graph, Reaches};
+ghost use Rattle.polygraph.specs.Polygraphs.{JoinsBoth};
 ghost use Rattle.reach_rows.specs.ReachRows.{AreRowsOf};
 ghost use Rattle.prune_ledger.specs.declared.parts.Reply.TheVariants.{Judge};
-ghost use Rattle.prune_ledger.specs.Rounds.{Handled, PostedOf, Settled, Turned, IsOpenIn};
+ghost use Rattle.prune_ledger.specs.Rounds.{Handled, PostedOf, Settled, Turned, IsOpenIn, Extends, IsKeptUp, KeepsUp};
 
+use crate::entered::is_entered;
 use crate::judging::judge;
-use crate::machine::PruneMachine;
+use crate::machine::{PruneMachine, other_side};
 use crate::parts::{Event, Refutation, Reply};
+use crate::rowed::RowedGraph;
 use desk::desk::Desk;
 use desk::gate::Gate;
 use desk::naming::Naming;
 use desk::seat::{Left, Seat};
 use known_graph::Known;
-use polygraph::{ChoiceIx, Polygraph};
+use polygraph::{Choice, ChoiceIx, Polygraph};
 use pruning_laws::Side;
 use reach_laws::Edge;
 use reach_rows::Rows;
@@ -42,23 +46,38 @@ fn send<J: Naming, R: Wait>(
     }
 }
 
-// Posts a side with a walk against its edge.
+// Adds the edges that the post of a side keeps, where it was entered.
+fn keep_up(own: &mut RowedGraph, sides: &Choice, refused: Side, reply: Reply)
+    requires joined { JoinsBoth own.old.nodes sides.now }
+    ensures kept { IsKeptUp sides.now refused reply own.old own.new }
+    ensures more { Extends own.old own.new }
+{
+    if is_entered(reply) {
+        own.add_all(sides.edges(other_side(refused)));
+    }
+}
+
+// Posts a side with a walk against its edge, and keeps the worker's graph up with what the machine keeps.
 fn post_side<J: Naming, R: Wait>(
     rt: &R,
     alloc: Global,
     desk: &Desk<PruneMachine, J>,
     seat: &mut Seat<PruneMachine, J>,
-    known: &Known,
+    own: &mut RowedGraph,
     choice: ChoiceIx,
+    sides: &Choice,
     side: Side,
     edge: Edge,
 ) -> Result<(), AllocError>
-    requires nodes { (edge.1 ≤ known.now.nodes) × (edge.0 ≤ known.now.nodes) }
-    requires back { Reaches known.now.edges edge.1 edge.0 }
+    requires nodes { (edge.1 ≤ own.old.nodes) × (edge.0 ≤ own.old.nodes) }
+    requires back { Reaches own.old.edges edge.1 edge.0 }
+    requires joined { JoinsBoth own.old.nodes sides.now }
     ensures number { seat.new.0 ≡ seat.old.0 }
     ensures posted { IfOk result (λ _. PostedOf choice seat.old.1 seat.new.1) }
+    ensures kept { IfOk result (λ _. KeepsUp sides.now side seat.old.1 seat.new.1 own.old own.new) }
+    ensures more { IfOk result (λ _. Extends own.old own.new) }
 {
-    let Some(walk) = known.walk(alloc, edge.target(), edge.source())? else {
+    let Some(walk) = own.graph().walk(alloc, edge.target(), edge.source())? else {
         unreachable!()
     };
     let post = Event::Post(Refutation {
@@ -67,7 +86,8 @@ fn post_side<J: Naming, R: Wait>(
         edge,
         walk,
     });
-    send(rt, desk, seat, post)?;
+    let reply = send(rt, desk, seat, post)?;
+    keep_up(own, sides, side, reply);
     Ok(())
 }
 
@@ -95,33 +115,33 @@ fn settle<J: Naming, R: Wait>(
     desk: &Desk<PruneMachine, J>,
     seat: &mut Seat<PruneMachine, J>,
     polygraph: &Polygraph,
-    known: &Known,
-    rows: &Rows,
+    own: &mut RowedGraph,
     choice: ChoiceIx,
     passed: &mut Vec<ChoiceIx>,
 ) -> Result<(), AllocError>
-    requires nodes { known.now.nodes ≡ polygraph.now.nodes }
-    requires rows { AreRowsOf rows.now known.now }
-    requires each { AllByRecursion (IsOpenIn known.now.edges polygraph.now.choices) passed.old.items }
+    requires nodes { own.old.nodes ≡ polygraph.now.nodes }
     ensures number { seat.new.0 ≡ seat.old.0 }
     ensures settled { IfOk result (λ _. Settled choice passed.old.items passed.new.items seat.old.1 seat.new.1) }
-    ensures each { AllByRecursion (IsOpenIn known.now.edges polygraph.now.choices) passed.new.items }
+    ensures more { IfOk result (λ _. Extends own.old own.new) }
+    ensures each { (given : Graph) → Extends given own.old →
+        AllByRecursion (IsOpenIn given.edges polygraph.now.choices) passed.old.items →
+        AllByRecursion (IsOpenIn given.edges polygraph.now.choices) passed.new.items }
 {
     let _nodes = polygraph.nodes();
     let Some(sides) = polygraph.choice(choice) else {
         pass_on(rt, desk, seat, choice, passed)?;
         return Ok(());
     };
-    let verdict = judge(rows, sides);
+    let verdict = judge(own.rows(), sides);
     if let Some(edge) = verdict.one {
-        post_side(rt, alloc, desk, seat, known, choice, Side::One, edge)?;
+        post_side(rt, alloc, desk, seat, own, choice, sides, Side::One, edge)?;
         if let Some(other) = verdict.two {
-            post_side(rt, alloc, desk, seat, known, choice, Side::Two, other)?;
+            post_side(rt, alloc, desk, seat, own, choice, sides, Side::Two, other)?;
         }
         return Ok(());
     }
     if let Some(edge) = verdict.two {
-        post_side(rt, alloc, desk, seat, known, choice, Side::Two, edge)?;
+        post_side(rt, alloc, desk, seat, own, choice, sides, Side::Two, edge)?;
         return Ok(());
     }
     pass_on(rt, desk, seat, choice, passed)?;
@@ -152,28 +172,26 @@ fn turn<J: Naming, R: Wait>(
     desk: &Desk<PruneMachine, J>,
     seat: &mut Seat<PruneMachine, J>,
     polygraph: &Polygraph,
-    known: &Known,
-    rows: &Rows,
+    own: &mut RowedGraph,
     passed: &mut Vec<ChoiceIx>,
 ) -> Result<bool, AllocError>
-    requires nodes { known.now.nodes ≡ polygraph.now.nodes }
-    requires rows { AreRowsOf rows.now known.now }
-    requires each { AllByRecursion (IsOpenIn known.now.edges polygraph.now.choices) passed.old.items }
+    requires nodes { own.old.nodes ≡ polygraph.now.nodes }
     ensures number { seat.new.0 ≡ seat.old.0 }
     ensures turned { IfOk result (λ _. Turned passed.old.items passed.new.items seat.old.1 seat.new.1) }
-    ensures each { AllByRecursion (IsOpenIn known.now.edges polygraph.now.choices) passed.new.items }
+    ensures more { IfOk result (λ _. Extends own.old own.new) }
+    ensures each { (given : Graph) → Extends given own.old →
+        AllByRecursion (IsOpenIn given.edges polygraph.now.choices) passed.old.items →
+        AllByRecursion (IsOpenIn given.edges polygraph.now.choices) passed.new.items }
 {
     let reply = send(rt, desk, seat, Event::Take)?;
     let Some(choice) = handed(reply) else {
         return Ok(false);
     };
-    settle(
-        rt, alloc, desk, seat, polygraph, known, rows, choice, passed,
-    )?;
+    settle(rt, alloc, desk, seat, polygraph, own, choice, passed)?;
     Ok(true)
 }
 
-// Turns until no choice is left.
+// Turns until no choice is left, by a copy of the graph and of its rows.
 fn turns<J: Naming, G: Gate, R: Wait + Clock>(
     rt: &R,
     alloc: Global,
@@ -192,19 +210,21 @@ fn turns<J: Naming, G: Gate, R: Wait + Clock>(
     ensures handled { IfOk result (λ _. Handled passed.new.items seat.old.1 seat.new.1) }
     ensures each { AllByRecursion (IsOpenIn known.now.edges polygraph.now.choices) passed.new.items }
 {
+    let mut own = RowedGraph::copy_of(alloc, known, rows)?;
     for number in 0..u64::MAX {
         gate.pass(rt, seat.number(), number);
-        if !turn(rt, alloc, desk, seat, polygraph, known, rows, passed)? {
+        if !turn(rt, alloc, desk, seat, polygraph, &mut own, passed)? {
             return Ok(());
         }
     }
     Ok(())
 }
 
-/// A round of one seat: it takes choices, judges each by the rows with which the round began, posts each
-/// refuted side with a walk, and passes the choices of which no side is refuted, until no choice is left
-/// or the machine is dead; then it leaves. The gate is passed before each turn, with the turns counted
-/// from 0.
+/// A round of one seat: it takes choices, judges each, posts each refuted side with a walk, and passes the
+/// choices of which no side is refuted, until no choice is left or the machine is dead; then it leaves. It
+/// judges, and makes walks, by copies of the graph and rows with which the round began, to which it adds the
+/// edges of each side that a post of its own kept. The gate is passed before each turn, with the turns
+/// counted from 0.
 ///
 /// It answers with the choices that it passed. At `Err` memory was refused to it, and it has left too.
 pub fn work<J: Naming, G: Gate, R: Wait + Clock>(

@@ -1,10 +1,10 @@
 //! Rounds of pruning.
 
-ghost use Rattle.std.specs.Prelude.{◌≡◌, [], IfOk};
+ghost use Rattle.std.specs.Prelude.{◌≡◌, List, [], ◌∷◌, IfOk};
 ghost use Rattle.reach_laws.specs.Reach.{IsCyclic};
 ghost use Rattle.prune_ledger.specs.Runs.{IsWhole};
-ghost use Rattle.pruning_laws.specs.Ledger.{IsLedger};
-ghost use Rattle.prune_ledger.specs.Ledger.{AreShown};
+ghost use Rattle.pruning_laws.specs.Ledger.{Entry as Kept, IsLedger};
+ghost use Rattle.prune_ledger.specs.Ledger.{AreShown, kept_after, kept_side};
 ghost use Rattle.prune_ledger.specs.Pruned.{posts_in, kept_by, IsProgress, IsGraphOf, IsLast, IsRemainder, IsDeadBy};
 ghost use Rattle.prune_ledger.specs.Outcome.{IsStage, IsPruning};
 
@@ -12,8 +12,10 @@ use crate::copies::copy_choices;
 use crate::crew::{Round, round_of};
 use crate::entered::with_entered;
 use crate::ledger::{Ledger, LedgerEntry};
-use crate::machine::PruneMachine;
+use crate::machine::{PruneMachine, other_side};
+use crate::parts::Refutation;
 use crate::remains::{Pruned, Reduced};
+use crate::rowed::RowedGraph;
 use desk::desk::Closed;
 use desk::gate::{Gate, OpenGate};
 use desk::opened::Opened;
@@ -27,11 +29,12 @@ use std::sync::Wait;
 use std::thread::Threads;
 use std::time::Clock;
 
-/// The machine between two rounds, and the entries so far.
+/// Between two rounds the machine, the entries so far, and the known edges with those that the entries keep.
 #[derive(Drop)]
 pub struct Progress {
     pub machine: PruneMachine,
     pub entries: Vec<LedgerEntry>,
+    pub own: RowedGraph,
 }
 
 /// Where a round led.
@@ -54,7 +57,7 @@ pub fn prune<G: Gate, R: Threads + Wait + Clock + Sync>(
 ) -> Result<Pruned, AllocError>
     ensures { IfOk result (IsPruning polygraph) }
 {
-    let mut progress = beginning(alloc, &polygraph)?;
+    let mut progress = beginning(rt, alloc, &polygraph, workers)?;
     for _ in rt.forever() {
         match next_stage(rt, alloc, &polygraph, progress, workers, gate)? {
             Stage::More(more) => progress = more,
@@ -65,15 +68,23 @@ pub fn prune<G: Gate, R: Threads + Wait + Clock + Sync>(
 }
 
 // Nothing is kept yet.
-fn beginning(alloc: Global, polygraph: &Polygraph) -> Result<Progress, AllocError>
-    ensures { IfOk result (λ r. IsProgress polygraph.now r.entries.items r.machine) }
+fn beginning<R: Threads + Wait + Clock + Sync>(
+    rt: &R,
+    alloc: Global,
+    polygraph: &Polygraph,
+    workers: Workers,
+) -> Result<Progress, AllocError>
+    ensures machine { IfOk result (λ r. IsProgress polygraph.now r.entries.items r.machine) }
+    ensures graph { IfOk result (λ r. IsGraphOf polygraph.now (kept_by r.entries.items) r.own) }
 {
     let _nodes = polygraph.nodes();
     let choices = copy_choices(alloc, polygraph.choices())?;
     let known = polygraph.known().copy(alloc)?;
+    let rows = Rows::compute(rt, alloc, polygraph.known(), workers, &OpenGate)?;
     Ok(Progress {
         machine: PruneMachine::opening(alloc, choices, known)?,
         entries: Vec::new(alloc),
+        own: RowedGraph::new(polygraph.known().copy(alloc)?, rows),
     })
 }
 
@@ -86,29 +97,69 @@ fn next_stage<G: Gate, R: Threads + Wait + Clock + Sync>(
     workers: Workers,
     gate: &G,
 ) -> Result<Stage, AllocError>
-    requires { IsProgress polygraph.now progress.entries.items progress.machine }
+    requires machine { IsProgress polygraph.now progress.entries.items progress.machine }
+    requires graph { IsGraphOf polygraph.now (kept_by progress.entries.items) progress.own }
     ensures { IfOk result (IsStage polygraph.now) }
 {
     let _nodes = polygraph.nodes();
-    let Progress { machine, entries } = progress;
-    let known = machine.graph().copy(alloc)?;
-    let rows = Rows::compute(rt, alloc, &known, workers, &OpenGate)?;
-    if rows.cyclic() {
-        let ledger = with_cycle(alloc, polygraph, &known, entries)?;
+    let Progress {
+        machine,
+        entries,
+        mut own,
+    } = progress;
+    if own.rows().cyclic() {
+        let ledger = with_cycle(alloc, polygraph, own.graph(), entries)?;
         return Ok(Stage::Done(Pruned::Dead(ledger)));
     }
     let before = entries.len();
     let opened = Opened::new(alloc, machine.reopened(), workers)?;
     let Round { closed, passed } = round_of::<Brand, _, _>(
-        rt, alloc, opened, polygraph, &known, &rows, gate,
+        rt,
+        alloc,
+        opened,
+        polygraph,
+        own.graph(),
+        own.rows(),
+        gate,
     )?;
     let Closed { machine, history } = closed;
     let entries = with_entered(entries, history)?;
     if entries.len() > before || !machine.is_settled(&passed) {
-        return Ok(Stage::More(Progress { machine, entries }));
+        let (_, entered) = entries.split_at(before);
+        keep_all(&mut own, polygraph, entered);
+        return Ok(Stage::More(Progress {
+            machine,
+            entries,
+            own,
+        }));
     }
+    let (known, rows) = own.into_parts();
     let reduced = remainder(alloc, polygraph, machine, known, rows, entries, &passed)?;
     Ok(Stage::Done(Pruned::Open(reduced)))
+}
+
+// Adds the edges of the sides that these entries keep.
+fn keep_all(own: &mut RowedGraph, polygraph: &Polygraph, entries: &[LedgerEntry])
+    requires nodes { own.old.nodes ≡ polygraph.now.nodes }
+    ensures kept { (earlier : List Kept) → IsGraphOf polygraph.now earlier own.old →
+        IsGraphOf polygraph.now (kept_after earlier (posts_in entries.now)) own.new }
+{
+    for entry in entries {
+        keep(own, polygraph, &entry.post);
+    }
+}
+
+// Adds the edges of the side that a post keeps.
+fn keep(own: &mut RowedGraph, polygraph: &Polygraph, post: &Refutation)
+    requires nodes { own.old.nodes ≡ polygraph.now.nodes }
+    ensures kept { (earlier : List Kept) → IsGraphOf polygraph.now earlier own.old →
+        IsGraphOf polygraph.now (kept_side post.now ∷ earlier) own.new }
+    ensures nodes { own.new.nodes ≡ own.old.nodes }
+{
+    let _nodes = polygraph.nodes();
+    if let Some(sides) = polygraph.choice(post.choice) {
+        own.add_all(sides.edges(other_side(post.side)));
+    }
 }
 
 // The ledger of a graph that has a cycle.
@@ -120,7 +171,7 @@ fn with_cycle(
 ) -> Result<Ledger, AllocError>
     requires shown { AreShown polygraph.now [] (posts_in entries.items) }
     requires ledger { IsLedger polygraph.now (kept_by entries.items) }
-    requires graph { IsGraphOf polygraph.now entries.items known.now }
+    requires graph { IsGraphOf polygraph.now (kept_by entries.items) known.now }
     requires cyclic { IsCyclic known.now.edges }
     ensures { IfOk result (IsDeadBy polygraph.now) }
 {

@@ -174,6 +174,15 @@ fn ledger_of(rt: &impl Abort, pruned: Pruned, open: bool) -> Ledger {
     }
 }
 
+// The choice of each entry, and whether its side one is refused.
+fn see_refused(rt: &impl Abort, ledger: &Ledger, wanted: &[(usize, bool)]) {
+    assert_eq!(rt; ledger.entries.len(), wanted.len());
+    for (entry, want) in ledger.entries.iter().zip(wanted) {
+        assert_eq!(rt; entry.post.choice.get(), want.0);
+        assert_eq!(rt; entry.post.side == Side::One, want.1);
+    }
+}
+
 // Whether the ledger is valid, and is not once its first walk is reversed.
 fn see_ledger(rt: &impl Abort, polygraph: &Polygraph, ledger: Ledger) {
     assert!(rt; check_ledger(polygraph, &ledger));
@@ -188,7 +197,7 @@ fn workers(rt: &impl Abort, count: u8) -> Workers {
 }
 
 #[test]
-fn four_rounds_keep_three_sides(rt: HostRuntime) -> Result<(), Fail> {
+fn two_rounds_keep_three_sides(rt: HostRuntime) -> Result<(), Fail> {
     let alloc = rt.alloc();
     let gate = Counting {
         rounds: AtomicU64::new(0),
@@ -196,8 +205,8 @@ fn four_rounds_keep_three_sides(rt: HostRuntime) -> Result<(), Fail> {
     let all = polygraph(&rt, alloc, false);
     let pruned = prune(&rt, alloc, all, workers(&rt, 1), &gate)?;
     let ledger = ledger_of(&rt, pruned, true);
-    assert_eq!(rt; gate.rounds.load(Ordering::SeqCst), 4);
-    assert_eq!(rt; ledger.entries.len(), 3);
+    assert_eq!(rt; gate.rounds.load(Ordering::SeqCst), 2);
+    see_refused(&rt, &ledger, &[(0, false), (1, true), (2, true)]);
     assert!(rt; ledger.cycle.is_none());
     see_ledger(&rt, &polygraph(&rt, alloc, false), ledger);
     laws::opening_state_is_opening();
@@ -311,18 +320,25 @@ fn work_together<J: Naming + Send + Sync, R: Threads + Wait + Clock + Abort + Sy
     requires rows { AreRowsOf rows.now known.now }
 {
     let (desk, seats) = Desk::<PruneMachine, J>::open(alloc, opened).expect(rt, "memory");
-    let desk = &desk;
+    let table = &desk;
     let done = thread::map_vec(
         rt,
         seats,
         &|seat|
             requires { (known.now.nodes ≡ polygraph.now.nodes) × AreRowsOf rows.now known.now }
-        { work(rt, alloc, desk, seat, polygraph, known, rows, &OpenGate) },
+        { work(rt, alloc, table, seat, polygraph, known, rows, &OpenGate) },
     )
     .expect(rt, "memory");
     let mut passed: usize = 0;
-    for (_left, list) in done {
+    let mut lefts = Vec::new(alloc);
+    for (left, list) in done {
         passed = passed.wrapping_add(list.expect(rt, "memory").len());
+        lefts.push(left).expect(rt, "memory");
     }
-    assert_eq!(rt; passed, 2);
+    let closed = desk.close(lefts).ok().expect(rt, "each seat has left");
+    let entered = closed
+        .history
+        .iter()
+        .filter(|step| step.reply == Reply::Entered);
+    assert_eq!(rt; passed.wrapping_add(entered.count()), 3);
 }
