@@ -168,6 +168,11 @@ fn words_of_check(rt: HostRuntime) -> Result<(), Fail> {
             1_000_000,
         ),
         (
+            "cobra_poly check --strategy forced",
+            StrategyWord::Forced,
+            10_000,
+        ),
+        (
             "cobra_poly check --strategy first",
             StrategyWord::First,
             10_000,

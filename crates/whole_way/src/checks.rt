@@ -216,13 +216,23 @@ fn by_strategy(rt: HostRuntime) -> Result<(), Fail> {
 
 #[test]
 fn searched(rt: HostRuntime) -> Result<(), Fail> {
-    for strategy in [StrategyName::First, StrategyName::Most, StrategyName::Least] {
+    for strategy in [
+        StrategyName::First,
+        StrategyName::Most,
+        StrategyName::Least,
+        StrategyName::Forced,
+    ] {
         for (log, budget, status, text) in [
             ("", 1, 0, "serializable\n"),
             (SETTLED, 1, 0, "serializable\n1 1\n2 1\n3 1\n4 1\n1 2\n"),
             (TWO_WRITERS, 1, 3, "unknown: 1 closed\n"),
             (EACH_PAIR_READ, 6, 3, "unknown: 6 closed\n"),
-            (EACH_PAIR_READ, 7, 3, "undecided: every cube is refuted\n"),
+            (
+                EACH_PAIR_READ,
+                7,
+                1,
+                "not serializable: every cube is refuted\n",
+            ),
         ] {
             let options = options(&rt, 4, strategy, budget);
             let (code, printed) = told(&rt, rt.alloc(), &options, log)?;
