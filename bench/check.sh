@@ -23,7 +23,7 @@ def measure(log, strategy, workers, budget):
 
 
 for log, budget in (('writers_25', 10000), ('writers_100', 10000), ('forks_0', 10000), ('forks_5', 10000), ('forks_20', 10000), ('operations_400', 10000), ('writers_400', 100000), ('choices_400', 10000), ('choices_400', 100000)):
-    for strategy in ('first', 'most', 'least'):
+    for strategy in ('first', 'most', 'least', 'forced'):
         for workers in (1, 4) if strategy == 'first' else (1,):
             measure(log, strategy, workers, budget)
 PY
