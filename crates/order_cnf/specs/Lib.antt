@@ -3,3 +3,4 @@ pub mod Data
 pub mod Held
 pub mod Bipaths
 pub mod Limits
+pub mod Left

@@ -7,9 +7,11 @@ mod fault;
 mod formula;
 mod pair;
 mod plain;
+mod reduced;
 mod triple;
 
 pub use clause::Clause;
 pub use fault::CnfFault;
 pub use formula::{Clauses, Formula, contradiction};
+pub use reduced::reduced_formula;
 pub use plain::{MAX_PLAIN_NODES, plain_formula};

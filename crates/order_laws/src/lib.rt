@@ -1,0 +1,6 @@
+//! The reduced formula of a polygraph that is pruned, and its laws: its satisfying assignments stand for the orders that fit.
+//!
+//! The definitions stand in `specs/`. The laws that join them are contracts of functions that do nothing.
+#![tactic(auto)]
+
+pub mod laws;
