@@ -1,8 +1,12 @@
 pub mod PairPlaces
-pub mod Each
-pub mod Satisfying
 pub mod Counts
-pub mod Rests
-pub mod Triples
+pub mod Each
 pub mod Faults
+pub mod Terms
+pub mod Walks
+pub mod Numbered
+pub mod Parts
+pub mod Passed
+pub mod Wholes
+pub mod Rests
 pub mod PlainFormula

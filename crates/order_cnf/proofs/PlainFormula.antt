@@ -21,7 +21,6 @@ use Rattle.order_cnf.specs.Clauses.{IsWithin}
 use Rattle.polygraph.specs.Polygraphs.{Joins}
 use Rattle.order_cnf.specs.Bipaths.{IsSingle, IsBipath, HasPlain}
 use Rattle.order_cnf.specs.Limits.{size_fault, plain_fault}
-use Rattle.order_cnf.specs.Data.{all_free}
 use Rattle.order_cnf.proofs.Faults.{few_choices}
 use Rattle.order_cnf.proofs.PairPlaces.{pair_within}
 
@@ -135,28 +134,6 @@ made_plain log p clean few same = subst HasPlain (sym same) (has_plain log clean
 pub plain_same : (log : Log) (p : Polygraph) → p ≡ bipath_polygraph log → plain_of p ≡ plain log
 unfolding plain
 plain_same log p same = ap plain_of same
-
--- ---- clauses that are made one kind after another
-pub made : (p : Polygraph) (n : ℕ) (edges : List Edge) (choices : List Choice) (units pairs all : List (List Literal)) → n ≡ p.nodes → edges ≡ p.known → choices ≡ p.choices
-    → units ≡ map (λ (e : Edge). literals_of n (e ∷ [])) edges → pairs ≡ units ++ map (λ (c : Choice). literals_of n (c.one ++ c.two)) choices → all ≡ pairs ++ order_clauses nothing_known (plain_nodes n)
-    → all_free n all ≡ plain_of p
-made p n edges choices units pairs all count known chosen a b c =
-    let of : ℕ → List Edge → List Choice → List (List Literal) = λ k es cs. (map (λ (e : Edge). literals_of k (e ∷ [])) es ++ map (λ (c : Choice). literals_of k (c.one ++ c.two)) cs) ++ order_clauses nothing_known (plain_nodes k) in
-    let made_of : all ≡ of n edges choices = c ∙ ap (λ l. l ++ order_clauses nothing_known (plain_nodes n)) (b ∙ ap (λ l. l ++ map (λ (c : Choice). literals_of n (c.one ++ c.two)) choices) a) in
-    ap (all_free n) made_of ∙ ap (λ k. all_free k (of k edges choices)) count ∙ ap (λ es. all_free p.nodes (of p.nodes es choices)) known ∙ ap (λ cs. all_free p.nodes (of p.nodes p.known cs)) chosen
-
-pub made_sound : (p : Polygraph) (n : ℕ) (all : List (List Literal)) → HasPlain p → all_free n all ≡ plain_of p → length all ≤ 20000000 → IsFormula (all_free n all)
-made_sound p n all h same few = subst IsFormula (sym same) (h.sound (subst (λ f. length f.clauses ≤ 20000000) same few))
-
-pub made_count : (n : ℕ) (edges : List Edge) (choices : List Choice) (units pairs all : List (List Literal))
-    → units ≡ map (λ (e : Edge). literals_of n (e ∷ [])) edges → pairs ≡ units ++ map (λ (c : Choice). literals_of n (c.one ++ c.two)) choices → all ≡ pairs ++ order_clauses nothing_known (plain_nodes n)
-    → length all ≡ length edges + length choices + length (order_clauses nothing_known (plain_nodes n))
-made_count n edges choices units pairs all a b c =
-    let ones = length-map edges (λ (e : Edge). literals_of n (e ∷ [])) in
-    let twos = length-map choices (λ (c : Choice). literals_of n (c.one ++ c.two)) in
-    let last = length-append pairs (order_clauses nothing_known (plain_nodes n)) in
-    let front = length-append units (map (λ (c : Choice). literals_of n (c.one ++ c.two)) choices) in
-    omega (arith, ap length a, ap length b, ap length c, ones, twos, last, front)
 
 -- ---- its faults
 pub size_is : (log : Log) (p : Polygraph) → p ≡ bipath_polygraph log → log.nodes ≤ 100 → length (bipaths log) ≤ 100000 → size_fault (plain_of p) ≡ plain_fault log

@@ -1,25 +1,77 @@
--- A list that is made piece by piece, with what is left of it.
-use Rattle.std.proofs.Common.{◌≡◌, ℕ, suc, ◌+◌, ◌-◌, ◌<◌, List, ◌∷◌, ◌++◌, sym, ap, ◌∙◌, arith, append_assoc}
-use Rattle.std.specs.List.{range_with_len}
+-- What is known of a polygraph that is left open, by its rows.
+use Rattle.std.proofs.Common.{◌≡◌, ◌≢◌, refl, sym, ap, ◌∙◌, subst, ℕ, ◌+◌, ◌*◌, ◌<◌, ◌≤◌, Bool, true, false, List, [], ◌∷◌, ◌++◌, length, arith}
+use Rattle.std.specs.List.{AllByRecursion, Contains}
+use Rattle.std.proofs.lemmas.List.{length-append}
+use Rattle.serializability.specs.Polygraph.{Edge, Choice, Polygraph}
+use Rattle.serializability.specs.Pairs.{Known, free_pairs}
+use Rattle.serializability.proofs.Places.{each_from_append}
+use Rattle.reach_laws.specs.Reach.{Graph, IsCyclic}
+use Rattle.reach_laws.proofs.Walks.{each_contained, each_from_contained}
+use Rattle.pruning_laws.specs.declared.side.Side.{Side}
+use Rattle.pruning_laws.specs.declared.side.Side.TheVariants.{One, Two}
+use Rattle.pruning_laws.specs.Forced.{IsRefuted, edges_of}
+use Rattle.known_graph.specs.Graphs.{IsKnownGraph}
+use Rattle.known_graph.proofs.Tested.{edge_in, has_contained}
+use Rattle.reach_rows.specs.ReachRows.{AreRowsOf}
+use Rattle.polygraph.specs.Polygraphs.{Joins, JoinsBoth, IsPolygraph}
+use Rattle.prune_ledger.specs.Pruned.{IsReduced}
+use Rattle.order_laws.specs.Reduced.{IsReach, order_nodes}
+use Rattle.order_laws.specs.Proper.{IsProper}
+use Rattle.order_laws.proofs.Reached.{reach_known, not_back, initial_known, same_pairs}
+use Rattle.order_cnf.specs.Data.{is_listed}
+use Rattle.order_cnf.specs.Tables.{Relation, known_in, pairs_in, IsStrict}
+use Rattle.order_cnf.specs.Streams.{IsUnturned}
+use Rattle.order_cnf.proofs.Wholes.{edges_in, counts_in}
 
--- the numbers from k up to the end
-abbrev pub up_to : ℕ → ℕ → List ℕ
-up_to k end = range_with_len k (end - k)
+-- a polygraph with the rows of its known edges
+pub record IsRest (p : Polygraph) (reach : Graph) : Type 0 where
+  pub graph : IsKnownGraph (record { nodes = p.nodes; edges = p.known })
+  pub polygraph : IsPolygraph p
+  pub reduced : IsReduced p
+  pub rows : AreRowsOf reach (record { nodes = p.nodes; edges = p.known })
 
-pub up_to_first : (k end : ℕ) → k < end → up_to k end ≡ k ∷ up_to (k + 1) end
-up_to_first k end h = let e : end - k ≡ suc (end - (k + 1)) = omega arith in ap (range_with_len k) e
+pub is_reach : (p : Polygraph) (rows : Graph) → IsRest p rows → IsReach p.known (is_listed rows.edges)
+is_reach p rows k = record { each = λ u v. (λ t. (k.rows.reach u v).0 (edge_in rows.edges (u, v) t), λ r. has_contained rows.edges (u, v) ((k.rows.reach u v).1 r)) }
 
--- of what is left, a piece comes first
-pub record Split {X : Type 0} (left piece rest : List X) : Type 0 where
-  pub parts : left ≡ piece ++ rest
+pub is_proper : (p : Polygraph) (rows : Graph) → IsRest p rows → IsProper p
+is_proper p rows k = record {
+  initial = k.graph.initial;
+  joined = k.graph.joined;
+  sides = k.polygraph.joined;
+  acyclic = k.reduced.acyclic;
+  unrefuted = k.reduced.unrefuted;
+}
 
-pub piece_more : {X : Type 0} {left piece rest : List X} → Split left piece rest → (now next total : List X) → now ++ left ≡ total → next ≡ now ++ piece → next ++ rest ≡ total
-piece_more {X} {left} {piece} {rest} s now next total h e =
-    ap (λ l. l ++ rest) e ∙ append_assoc now piece rest ∙ ap (λ l. now ++ l) (sym s.parts) ∙ h
+pub is_strict : (p : Polygraph) (rows : Graph) → IsRest p rows → IsStrict (is_listed rows.edges)
+is_strict p rows k =
+    let known = reach_known p.known (is_listed rows.edges) (is_reach p rows k) k.reduced.acyclic in
+    record { irreflexive = known.irreflexive; transitive = known.transitive }
 
-pub piece_begun : {X : Type 0} {left piece rest : List X} → Split left piece rest → (now total : List X) → now ++ left ≡ total → now ++ (piece ++ rest) ≡ total
-piece_begun s now total h = ap (λ l. now ++ l) (sym s.parts) ∙ h
+pub later_pairs : (p : Polygraph) (rows : Graph) (r : Relation) → IsRest p rows → r.nodes ≡ p.nodes → r.known ≡ rows.edges → pairs_in r ≡ free_pairs (known_in r) (order_nodes p.nodes)
+later_pairs p rows r k nodes known =
+    let initial = initial_known p (is_proper p rows k) (is_listed rows.edges) (is_reach p rows k) in
+    ap (λ n. pairs_in (record { nodes = n; known = r.known })) nodes
+    ∙ same_pairs p.nodes (known_in r) (subst (λ es. (v : ℕ) → 0 < v → v ≤ p.nodes → is_listed es 0 v ≡ true) (sym known) initial)
 
--- the same, where others come behind
-pub before : {X : Type 0} {left piece rest : List X} (others : List X) → Split left piece rest → Split (left ++ others) piece (rest ++ others)
-before {X} {left} {piece} {rest} others s = record { parts = ap (λ l. l ++ others) s.parts ∙ append_assoc piece rest others }
+side_unturned : (n : ℕ) (edges : List Edge) (known : Known) (r : Relation) → IsReach edges known → known_in r ≡ known → r.nodes ≡ n → (side : List Edge) → AllByRecursion (Joins n) side → (IsRefuted edges side → ⊥) → AllByRecursion (IsUnturned r) side
+side_unturned n edges known r reach same nodes side joins unrefuted =
+    each_from_contained (IsUnturned r) side (λ e c. record {
+      joins = subst (λ m. Joins m e) (sym nodes) (each_contained (Joins n) side e joins c);
+      open_to = ap (λ (f : Known). f e.1 e.0) same ∙ not_back edges known reach side unrefuted e c;
+    })
+
+pub unturned : (edges : List Edge) (known : Known) (r : Relation) (n : ℕ) (hs : List Choice) → IsReach edges known → known_in r ≡ known → r.nodes ≡ n → AllByRecursion (JoinsBoth n) hs
+    → AllByRecursion (λ h. (side : Side) → IsRefuted edges (edges_of h side) → ⊥) hs → AllByRecursion (IsUnturned r) (edges_in hs)
+unturned edges known r n [] reach same nodes joins unrefuted = tt
+unturned edges known r n (h ∷ hs) reach same nodes joins unrefuted =
+    each_from_append (IsUnturned r) (h.one ++ h.two) (edges_in hs)
+    (each_from_append (IsUnturned r) h.one h.two (side_unturned n edges known r reach same nodes h.one joins.0.first (unrefuted.0 One)) (side_unturned n edges known r reach same nodes h.two joins.0.second (unrefuted.0 Two)))
+    (unturned edges known r n hs reach same nodes joins.1 unrefuted.1)
+
+pub all_unturned : (p : Polygraph) (rows : Graph) (r : Relation) → IsRest p rows → r.nodes ≡ p.nodes → r.known ≡ rows.edges → AllByRecursion (IsUnturned r) (edges_in p.choices)
+all_unturned p rows r k nodes known =
+    unturned p.known (is_listed rows.edges) r p.nodes p.choices (is_reach p rows k) (ap is_listed known) nodes k.polygraph.joined k.reduced.unrefuted
+
+pub two_each : (hs : List Choice) → length (counts_in hs) ≡ 2 * length hs
+two_each [] = omega arith
+two_each (h ∷ hs) = omega (arith, two_each hs)

@@ -25,7 +25,3 @@ pub record IsFirstFalse (values : List Bool) (clauses : List (List Literal)) (k 
   pub counted : (0 < k) × (k ≤ length clauses)
   pub earlier : AllByRecursion (λ c. clause_true values c ≡ true) (take (k - 1) clauses)
   pub here : clause_true values (slice_index_or clauses (k - 1) []) ≡ false
-
--- the formula of these clauses in which each pair of nodes 0 to n has a variable
-abbrev pub all_free : ℕ → List (List Literal) → Cnf
-all_free n clauses = record { nodes = n; known = nothing_known; variables = length (plain_pairs n); clauses = clauses }

@@ -1,17 +1,16 @@
--- A formula that holds its clauses in a vector.
-use Rattle.std.specs.Prelude.{◌≤◌, [], length, map}
+-- A formula that makes its clauses when they are asked for.
+use Rattle.std.specs.Prelude.{◌≡◌, ◌≤◌, length}
 use Rattle.serializability.specs.Decoded.{IsFormula}
-use Rattle.serializability.specs.Plain.{plain_pairs}
-use Rattle.order_cnf.specs.Clauses.{literals}
 use Rattle.order_cnf.specs.Data.{FormulaData, cnf_of}
+use Rattle.order_cnf.specs.Tables.{pairs_in}
+use Rattle.order_cnf.specs.Shapes.{data_with, cnf_with}
 use Rattle.order_cnf.specs.declared.formula.Formula.TheInside.{Inside}
 
--- of no pair it is known which comes first
 abbrev pub data_of : Inside → FormulaData
-data_of f = record { nodes = f.nodes; known = []; variables = f.variables; clauses = map literals f.clauses.items }
+data_of f = data_with f.layout f.variables
 
--- a formula, in which each pair of nodes has a variable
 pub record IsHeld (f : Inside) : Type 0 where
-  pub formula : IsFormula (cnf_of (data_of f))
-  pub numbered : length (plain_pairs f.nodes) ≤ f.variables
+  pub formula : IsFormula (cnf_with f.layout f.variables)
+  pub numbered : length (pairs_in f.layout.relation) ≤ f.variables
   pub few_variables : f.variables ≤ 180200
+  pub counted : f.count ≡ length f.layout.clauses

@@ -1,5 +1,10 @@
 pub mod Clauses
 pub mod Data
+pub mod Tables
+pub mod Streams
+pub mod Cursors
+pub mod Layouts
+pub mod Shapes
 pub mod Held
 pub mod Bipaths
 pub mod Limits

@@ -1,29 +1,34 @@
 //! Formulas, and the assignments that satisfy them.
 
-ghost use Rattle.std.specs.Prelude.{◌≡◌, ◌↔◌, ◌≤◌, length, map, IsOk, IfOk, IfErr};
-ghost use Rattle.std.specs.Iterator.{YieldsFirstBy, item_count};
+ghost use Rattle.std.specs.Prelude.{◌≡◌, ◌↔◌, ◌≤◌, length, None, IsOk, IfOk, IfErr};
 ghost use Rattle.serializability.specs.Formula.{Satisfies, IsInRange};
 ghost use Rattle.serializability.specs.Decoded.{before, IsFormula};
 ghost use Rattle.serializability.specs.Plain as spec;
-ghost use Rattle.order_cnf.specs.Clauses.{literals};
-ghost use Rattle.order_cnf.specs.Data.{all_free, cnf_of, IsFirstFalse};
+ghost use Rattle.order_cnf.specs.Data.{cnf_of, IsFirstFalse};
+ghost use Rattle.order_cnf.specs.Limits.{size_fault};
+ghost use Rattle.order_cnf.specs.Shapes.{data_with, cnf_with};
+ghost use Rattle.order_cnf.specs.Tables.{pairs_in};
 
-use crate::clause::{Clause, clause_is_true, literal_is_true};
+use crate::clause::clause_is_true;
 use crate::fault::CnfFault;
-use crate::pair::{edge_literal, pair_count};
+use crate::layout::{Clauses, Layout};
+use crate::relation::Relation;
 use serializability::{Literal, NodeIx};
 use std::alloc::Global;
 use std::marker::Model;
 
-/// A formula over the order of nodes 0 to n, in clauses of one to three literals.
+// The greatest number of clauses.
+const MAX_CLAUSES: usize = 20_000_000;
+
+/// A formula over the order of nodes 0 to n, in clauses of one to three literals, each of which is made when it is asked for.
 ///
 /// It has at most 400 nodes and 20,000,000 clauses, and each assignment that satisfies it stands for
 /// an order of the nodes.
 #[derive(Drop)]
 pub struct Formula {
-    nodes: usize,
+    layout: Layout,
     variables: u32,
-    clauses: Vec<Clause>,
+    count: usize,
 }
 
 impl Model for Formula {
@@ -39,17 +44,23 @@ impl Model for Formula {
 }
 
 impl Formula {
-    /// A formula of these clauses, in which each pair of nodes has a variable.
-    pub(crate) fn of_clauses(nodes: usize, clauses: Vec<Clause>) -> Formula
-        requires few { nodes ≤ 400 }
-        requires sound { IsFormula (all_free nodes (map literals clauses.items)) }
-        ensures formula { cnf_of result ≡ all_free nodes (map literals clauses.items) }
+    /// The formula of these clauses and so many variables, where there are at most 20,000,000 clauses.
+    pub(crate) fn of(layout: Layout, variables: u32) -> Result<Formula, CnfFault>
+        requires sound { length layout.clauses ≤ 20000000 → IsFormula (cnf_with layout variables) }
+        requires numbered { length (pairs_in layout.relation) ≤ variables }
+        requires few { variables ≤ 180200 }
+        ensures formula { IfOk result (λ f. f ≡ data_with layout variables) }
+        ensures fits { IfOk result (λ _. size_fault (cnf_with layout variables) ≡ None) }
+        ensures fault { IfErr result (λ e. size_fault (cnf_with layout variables) ≡ Some e) }
     {
-        Formula {
-            nodes,
-            variables: pair_count(nodes),
-            clauses,
-        }
+        let Some(count) = layout.count(MAX_CLAUSES) else {
+            return Err(CnfFault::FormulaTooLarge);
+        };
+        Ok(Formula {
+            layout,
+            variables,
+            count,
+        })
     }
 
     /// The number of nodes, n, beside node 0.
@@ -58,7 +69,8 @@ impl Formula {
         ensures few { result ≤ 400 }
         ensures sound { IsFormula (cnf_of self.now) }
     {
-        self.nodes
+        let _variables = self.variables;
+        self.layout.relation().nodes()
     }
 
     /// The number of variables, which are numbered from 1.
@@ -74,7 +86,7 @@ impl Formula {
         ensures count { result ≡ length self.now.clauses }
         ensures few { result ≤ 20000000 }
     {
-        self.clauses.len()
+        self.count
     }
 
     /// The clauses, in order.
@@ -82,9 +94,7 @@ impl Formula {
         ensures items { result ≡ self.now.clauses }
         ensures in_range { IsInRange (cnf_of self.now) }
     {
-        Clauses {
-            rest: self.clauses.as_slice(),
-        }
+        self.layout.clauses()
     }
 
     /// Tests an assignment, a value for each variable. The error is the number of the first clause
@@ -94,9 +104,12 @@ impl Formula {
         ensures satisfied { IsOk result ↔ Satisfies values.now (cnf_of self.now) }
         ensures first_false { IfErr result (IsFirstFalse values.now self.now.clauses) }
     {
-        for (index, clause) in self.clauses.iter().enumerate() {
-            if !clause_is_true(values, *clause) {
-                return Err(index + 1);
+        let _most = self.count();
+        let mut number = 0;
+        for clause in self.clauses() {
+            number += 1;
+            if !clause_is_true(values, clause) {
+                return Err(number);
             }
         }
         Ok(())
@@ -108,37 +121,9 @@ impl Formula {
         requires nodes { (u ≤ self.now.nodes) × (v ≤ self.now.nodes) }
         ensures value { result ≡ before (cnf_of self.now) values.now u v }
     {
-        u != v && literal_is_true(values, edge_literal(self.nodes, u, v))
-    }
-}
-
-/// What is left of the clauses of a formula.
-#[derive(Drop)]
-pub struct Clauses<'a> {
-    rest: &'a [Clause],
-}
-
-impl<'a> Model for Clauses<'a> {
-    ghost use Rattle.std.specs.Prelude.{List, map};
-    ghost use Rattle.serializability.specs.declared.literal.Literal.{Literal};
-    ghost use Rattle.order_cnf.specs.Clauses.{literals};
-
-    ghost Value = { List (List Literal) };
-
-    ghost view = { λ c. map literals c.rest.now };
-}
-
-impl<'a> Iterator for Clauses<'a> {
-    type Item = Clause;
-
-    ghost next_gives = { YieldsFirstBy literals (λ rest. rest) };
-
-    ghost remaining = { item_count (λ rest. rest) };
-
-    fn next(&mut self) -> Option<Clause> {
-        let (first, rest) = self.rest.split_first()?;
-        self.rest = rest;
-        Some(*first)
+        self.layout
+            .relation()
+            .stands_before(values, u.get(), v.get())
     }
 }
 
@@ -147,15 +132,22 @@ pub fn contradiction(alloc: Global) -> Result<Formula, CnfFault>
     ensures formula { IfOk result (λ f. cnf_of f ≡ spec.contradiction) }
     ensures fault { IfErr result (λ e. e ≡ CnfFault.Memory) }
 {
-    let unit = |positive| {
-        Clause::Unit(Literal {
-            variable: 1,
-            positive,
-        })
+    let literal = Literal {
+        variable: 1,
+        positive: true,
     };
-    Ok(Formula {
-        nodes: 0,
-        variables: 1,
-        clauses: vec![in alloc; unit(true), unit(false)]?,
-    })
+    let negated = Literal {
+        variable: 1,
+        positive: false,
+    };
+    let units = vec![in alloc; literal, negated]?;
+    let layout = Layout::new(
+        Relation::unknown(alloc, 0)?,
+        0,
+        units,
+        Vec::new(alloc),
+        Vec::new(alloc),
+        Vec::new(alloc),
+    );
+    Formula::of(layout, 1)
 }

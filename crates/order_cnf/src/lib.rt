@@ -1,17 +1,22 @@
 //! Formulas in conjunctive normal form whose satisfying assignments are orders of a history's nodes:
-//! the plain formula of a history, and a formula that nothing satisfies.
+//! the plain formula of a history, the reduced formula of what pruning leaves, and a formula that nothing satisfies.
+//! A formula keeps no clause: each is made when it is asked for.
 #![tactic(auto)]
 
 mod clause;
 mod fault;
 mod formula;
-mod pair;
+mod layout;
 mod plain;
 mod reduced;
-mod triple;
+mod relation;
+mod sides;
+mod term;
+mod triples;
 
 pub use clause::Clause;
 pub use fault::CnfFault;
-pub use formula::{Clauses, Formula, contradiction};
-pub use reduced::reduced_formula;
+pub use formula::{Formula, contradiction};
+pub use layout::Clauses;
 pub use plain::{MAX_PLAIN_NODES, plain_formula};
+pub use reduced::reduced_formula;

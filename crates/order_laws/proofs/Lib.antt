@@ -1,1 +1,6 @@
-
+pub mod Reached
+pub mod Satisfied
+pub mod Assigned
+pub mod Clauses
+pub mod Same
+pub mod Left

@@ -1,23 +1,55 @@
-use Rattle.std.proofs.Common.{◌++◌, ◌∷◌, [], ◌∙◌, ap, length, arith}
-use Rattle.std.specs.Prelude.{map}
-use Rattle.serializability.specs.Plain.{literals_of}
-use Rattle.order_cnf.specs.Clauses.{literals}
-use Rattle.order_cnf.proofs.PlainFormula.{made, made_sound, made_count}
+use Rattle.std.proofs.Common.{◌≡◌, ◌≤◌, ℕ, List, [], None, Some, sym, ap, ◌∙◌, subst, refl, inr, arith, length}
+use Rattle.std.specs.Prelude.{IfOk, IfErr}
+use Rattle.std.specs.List.{AllByRecursion}
+use Rattle.std.proofs.lemmas.Result.{IfOk-weaker, IfErr-weaker}
+use Rattle.serializability.specs.Decoded.{IsFormula}
+use Rattle.serializability.specs.Plain.{plain_of}
+use Rattle.order_cnf.specs.Data.{cnf_of}
+use Rattle.order_cnf.specs.Limits.{size_fault, IsFault}
+use Rattle.order_cnf.specs.Tables.{Relation}
+use Rattle.order_cnf.specs.Streams.{IsFreeBipath}
+use Rattle.order_cnf.proofs.Wholes.{plain_is, free_bipaths, no_edges}
 use Rattle.order_cnf.proofs.plain.formula_of.Goals as goal
 
-pub of_clauses-requires-clause-sound : goal.of_clauses-requires-clause-sound
-of_clauses-requires-clause-sound c =
-    let p = c.args.polygraph.now in
-    let n = c.nodes-nodes.result in
-    let edges = c.deref.result.now in
-    let choices = c.choices-bipaths.result.now in
-    let units = map literals c.add_arcs.new.clauses.items in
-    let pairs = map literals c.add_bipaths.new.clauses.items in
-    let all = map literals c.add_triples.new.clauses.items in
-    let known = c.deref.ensures.value ∙ c.in_ok-arcs.ensures.edges ∙ ap (λ g. g.edges) c.known.ensures in
-    let first = c.in_ok-add_arcs.ensures.ok ∙ ap (λ l. map literals l ++ map (λ e. literals_of n (e ∷ [])) edges) c.in_ok-clauses.ensures.items in
-    let second = c.in_ok-add_bipaths.ensures.ok in
-    let third = c.in_ok-add_triples.ensures.ok in
-    let count = made_count n edges choices units pairs all first second third in
-    made_sound p n all c.requires.plain (made p n edges choices units pairs all c.nodes-nodes.ensures.count known c.choices-bipaths.ensures.choices first second third)
-    (omega (arith, count, c.if-count-gt-MAX_CLAUSES.false, c.len.ensures, c.triple_clause_count.ensures.count, ap length c.deref.ensures.value))
+pub new-layout-requires : goal.new-layout-requires
+new-layout-requires c = record {
+  layout = record {
+    start = omega arith;
+    bipaths = subst (λ bs. AllByRecursion (IsFreeBipath c.in_ok-relation.relation) bs) (sym c.into_parts-known.ensures.choices)
+        (free_bipaths c.in_ok-relation.relation c.args.polygraph.nodes c.args.polygraph.choices (ap (λ r. r.nodes) c.in_ok-relation.ensures.relation ∙ c.nodes.ensures.count) (ap (λ r. r.known) c.in_ok-relation.ensures.relation) c.requires.plain.bipaths);
+    edges = no_edges c.in_ok-relation.relation c.new.result.items c.new.ensures.items;
+    few = omega (arith, ap length c.new-2.ensures.items);
+  };
+}
+
+pub of-requires-clause-sound : goal.of-requires-clause-sound
+of-requires-clause-sound c =
+    let of_nodes : ℕ → Relation = λ n. record { nodes = n; known = [] } in
+    let r = c.in_ok-relation.ensures.relation ∙ ap of_nodes c.nodes.ensures.count in
+    let whole = plain_is c.new-layout.result c.args.polygraph c.in_ok-relation.relation c.variables-variables.result _ _ _ _ _ r c.variables-variables.ensures.count c.in_ok-units.ensures.literals
+    (c.deref.ensures.value ∙ c.in_ok-edges.ensures.edges ∙ ap (λ g. g.edges) c.into_parts-known.ensures.known) c.into_parts-known.ensures.choices c.new.ensures.items c.new-2.ensures.items c.new-layout.ensures.value in
+    λ few. subst IsFormula (sym whole) (c.requires.plain.sound (omega (arith, few, ap (λ f. length f.clauses) whole)))
+
+pub returns-clause-formula : goal.returns-clause-formula
+returns-clause-formula c =
+    let of_nodes : ℕ → Relation = λ n. record { nodes = n; known = [] } in
+    let r = c.in_ok-relation.ensures.relation ∙ ap of_nodes c.nodes.ensures.count in
+    let whole = plain_is c.new-layout.result c.args.polygraph c.in_ok-relation.relation c.variables-variables.result _ _ _ _ _ r c.variables-variables.ensures.count c.in_ok-units.ensures.literals
+    (c.deref.ensures.value ∙ c.in_ok-edges.ensures.edges ∙ ap (λ g. g.edges) c.into_parts-known.ensures.known) c.into_parts-known.ensures.choices c.new.ensures.items c.new-2.ensures.items c.new-layout.ensures.value in
+    IfOk-weaker c.of.result _ (λ f. cnf_of f ≡ plain_of c.args.polygraph) (λ f e. ap cnf_of e ∙ whole) c.of.ensures.formula
+
+pub returns-clause-fits : goal.returns-clause-fits
+returns-clause-fits c =
+    let of_nodes : ℕ → Relation = λ n. record { nodes = n; known = [] } in
+    let r = c.in_ok-relation.ensures.relation ∙ ap of_nodes c.nodes.ensures.count in
+    let whole = plain_is c.new-layout.result c.args.polygraph c.in_ok-relation.relation c.variables-variables.result _ _ _ _ _ r c.variables-variables.ensures.count c.in_ok-units.ensures.literals
+    (c.deref.ensures.value ∙ c.in_ok-edges.ensures.edges ∙ ap (λ g. g.edges) c.into_parts-known.ensures.known) c.into_parts-known.ensures.choices c.new.ensures.items c.new-2.ensures.items c.new-layout.ensures.value in
+    subst (λ g. IfOk c.of.result (λ _. size_fault g ≡ None)) whole c.of.ensures.fits
+
+pub returns-clause-fault : goal.returns-clause-fault
+returns-clause-fault c =
+    let of_nodes : ℕ → Relation = λ n. record { nodes = n; known = [] } in
+    let r = c.in_ok-relation.ensures.relation ∙ ap of_nodes c.nodes.ensures.count in
+    let whole = plain_is c.new-layout.result c.args.polygraph c.in_ok-relation.relation c.variables-variables.result _ _ _ _ _ r c.variables-variables.ensures.count c.in_ok-units.ensures.literals
+    (c.deref.ensures.value ∙ c.in_ok-edges.ensures.edges ∙ ap (λ g. g.edges) c.into_parts-known.ensures.known) c.into_parts-known.ensures.choices c.new.ensures.items c.new-2.ensures.items c.new-layout.ensures.value in
+    IfErr-weaker c.of.result _ (λ e. IsFault e (size_fault (plain_of c.args.polygraph))) (λ e h. inr (sym (ap size_fault whole) ∙ h)) c.of.ensures.fault

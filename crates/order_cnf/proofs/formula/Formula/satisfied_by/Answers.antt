@@ -1,25 +1,28 @@
-use Rattle.std.proofs.Common.{◌≡◌, true, sym, ap, ◌∙◌, subst}
-use Rattle.std.specs.List.{AllByRecursion}
-use Rattle.std.specs.Prelude.{map}
+use Rattle.std.proofs.Common.{◌≡◌, ◌+◌, ◌≤◌, sym, ap, ◌∙◌, refl, arith, length}
 use Rattle.std.proofs.lemmas.Bool.{false≢true}
-use Rattle.serializability.specs.Formula.{clause_true}
 use Rattle.order_cnf.specs.Clauses.{literals}
-use Rattle.order_cnf.proofs.Satisfying.{clause_within, false_clause, true_so_far}
+use Rattle.order_cnf.proofs.Passed.{passed_begun, passed_number, passed_within, passed_one, passed_false, passed_all, not_all}
 use Rattle.order_cnf.proofs.formula.Formula.satisfied_by.Goals as goal
 
-pub clause_is_true-requires : goal.clause_is_true-requires
-clause_is_true-requires c = record {
-  within = clause_within _ _ c.deref-clause-items.result.now _ c.deref-clause-items.ensures.value (ap (λ f. f.variables) c.self.view_is ∙ sym c.requires.each_variable) c.self.invariant.formula.in_range c.loop-index.index _ c.loop-index-test.true;
-}
+pub loop-clause-init : goal.loop-clause-init
+loop-clause-init c =
+    passed_begun c.args.values.now c.args.self.now.variables c.args.self.now.clauses _ (c.into_iter-clause-iterator.ensures.into_iter_gives ∙ c.clauses-clause-items.ensures.items) c.requires.each_variable c.clauses-clause-items.ensures.in_range
+
+pub overflow_add-number : goal.overflow_add-number
+overflow_add-number c =
+    omega (arith, passed_number c.args.values.now c.args.self.now.clauses c.loop-clause.clause-iterator c.loop-clause.number c.loop-clause.invariant, c.count-most.ensures.few, c.count-most.ensures.count)
+
+pub returns-then-not-clause_is_true-clause-first_false : goal.returns-then-not-clause_is_true-clause-first_false
+returns-then-not-clause_is_true-clause-first_false c =
+    passed_false c.args.values.now c.args.self.now.clauses c.loop-clause.clause-iterator c.next.new.self (literals c.in-Some.clause) c.loop-clause.number c.loop-clause.invariant c.in-Some.ensures.steps (sym c.if-not-clause_is_true.ensures.value)
 
 pub returns-then-not-clause_is_true-clause-satisfied : goal.returns-then-not-clause_is_true-clause-satisfied
 returns-then-not-clause_is_true-clause-satisfied c = (
-  λ e. absurd (false≢true e),
-  λ s. false_clause c.args.values.now _ c.loop-index.index _ c.loop-index-test.true (sym c.clause_is_true.ensures.value ∙ c.if-not-clause_is_true.true)
-      (subst (λ l. AllByRecursion (λ k. clause_true c.args.values.now k ≡ true) l)
-      (ap (λ f. f.clauses) (sym c.self.view_is) ∙ ap (map literals) (sym c.deref-clause-items.ensures.value)) s.each_clause),
+  λ ok. absurd (false≢true ok),
+  λ s. absurd (
+      not_all c.args.values.now c.args.self.now.clauses c.loop-clause.clause-iterator c.next.new.self (literals c.in-Some.clause) c.loop-clause.number c.loop-clause.invariant c.in-Some.ensures.steps (sym c.if-not-clause_is_true.ensures.value) s.each_clause),
 )
 
-pub loop-index-preserved : goal.loop-index-preserved
-loop-index-preserved c =
-    true_so_far c.args.values.now _ c.loop-index.index _ c.loop-index-test.true (sym c.clause_is_true.ensures.value ∙ c.if-not-clause_is_true.false) c.loop-index.invariant
+pub loop-clause-preserved : goal.loop-clause-preserved
+loop-clause-preserved c =
+    passed_one c.args.values.now c.args.self.now.clauses c.loop-clause.clause-iterator c.next.new.self (literals c.in-Some.clause) c.loop-clause.number c.loop-clause.invariant c.in-Some.ensures.steps (sym c.if-not-clause_is_true.ensures.value)

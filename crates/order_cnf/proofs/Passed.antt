@@ -1,0 +1,69 @@
+-- The clauses that an assignment has passed.
+use Rattle.std.proofs.Common.{◌≡◌, refl, sym, ap, ◌∙◌, subst, ℕ, zero, suc, ◌+◌, ◌-◌, ◌<◌, ◌≤◌, Bool, true, false, List, [], ◌∷◌, ◌++◌, length, take, get_or, arith}
+use Rattle.std.specs.List.{AllByRecursion}
+use Rattle.std.proofs.lemmas.Bool.{false≢true}
+use Rattle.std.proofs.lemmas.List.{append_assoc, length-append}
+use Rattle.std.proofs.Math.Seq.{take-append_seam}
+use Rattle.serializability.specs.declared.literal.Literal.{Literal}
+use Rattle.serializability.specs.Formula.{clause_true}
+use Rattle.serializability.proofs.Places.{each_from_append, each_of_append}
+use Rattle.order_cnf.specs.Clauses.{IsWithin}
+use Rattle.order_cnf.specs.Data.{IsFirstFalse}
+
+abbrev Holds : List Bool → List Literal → Type 0
+Holds values c = clause_true values c ≡ true
+
+pub record IsPassed (values : List Bool) (all rest : List (List Literal)) (n : ℕ) : Type 0 where
+  pub done : List (List Literal)
+  pub split : all ≡ done ++ rest
+  pub counted : length done ≡ n
+  pub held : AllByRecursion (Holds values) done
+  pub within : AllByRecursion (AllByRecursion (IsWithin (length values))) rest
+
+pub passed_begun : (values : List Bool) (variables : ℕ) (all rest : List (List Literal)) → rest ≡ all → length values ≡ variables → AllByRecursion (AllByRecursion (IsWithin variables)) all → IsPassed values all rest 0
+passed_begun values variables all rest same count h = record {
+  done = [];
+  split = sym same;
+  counted = refl;
+  held = tt;
+  within = subst (λ l. AllByRecursion (AllByRecursion (IsWithin (length values))) l) (sym same) (subst (λ n. AllByRecursion (AllByRecursion (IsWithin n)) all) (sym count) h);
+}
+
+pub passed_number : (values : List Bool) (all rest : List (List Literal)) (n : ℕ) → IsPassed values all rest n → n + length rest ≡ length all
+passed_number values all rest n k = omega (arith, ap length k.split, length-append k.done rest, k.counted)
+
+pub passed_within : (values : List Bool) (all rest next : List (List Literal)) (c : List Literal) (n : ℕ) → IsPassed values all rest n → rest ≡ c ∷ next → AllByRecursion (IsWithin (length values)) c
+passed_within values all rest next c n k same = (subst (λ l. AllByRecursion (AllByRecursion (IsWithin (length values))) l) same k.within).0
+
+pub passed_one : (values : List Bool) (all rest next : List (List Literal)) (c : List Literal) (n : ℕ) → IsPassed values all rest n → rest ≡ c ∷ next → clause_true values c ≡ true → IsPassed values all next (n + 1)
+passed_one values all rest next c n k same t = record {
+  done = k.done ++ c ∷ [];
+  split = k.split ∙ ap (λ l. k.done ++ l) same ∙ sym (append_assoc k.done (c ∷ []) next);
+  counted = length-append k.done (c ∷ []) ∙ ap (λ m. m + 1) k.counted;
+  held = each_from_append (Holds values) k.done (c ∷ []) k.held (t, tt);
+  within = (subst (λ l. AllByRecursion (AllByRecursion (IsWithin (length values))) l) same k.within).1;
+}
+
+get_seam : (xs ys : List (List Literal)) (c : List Literal) → get_or (xs ++ c ∷ ys) (length xs) [] ≡ c
+get_seam [] ys c = refl
+get_seam (x ∷ xs) ys c = get_seam xs ys c
+
+one_back : (n : ℕ) → n + 1 - 1 ≡ n
+one_back n = omega arith
+
+pub passed_false : (values : List Bool) (all rest next : List (List Literal)) (c : List Literal) (n : ℕ) → IsPassed values all rest n → rest ≡ c ∷ next → clause_true values c ≡ false → IsFirstFalse values all (n + 1)
+passed_false values all rest next c n k same f =
+    let here : all ≡ k.done ++ c ∷ next = k.split ∙ ap (λ l. k.done ++ l) same in
+    let back : n + 1 - 1 ≡ length k.done = one_back n ∙ sym k.counted in
+    record {
+      counted = (omega arith, omega (arith, passed_number values all rest n k, ap length same));
+      earlier = subst (λ m. AllByRecursion (Holds values) (take m all)) (sym back) (subst (λ l. AllByRecursion (Holds values) (take (length k.done) l)) (sym here) (subst (AllByRecursion (Holds values)) (sym (take-append_seam k.done (c ∷ next))) k.held));
+      here = ap (λ m. clause_true values (get_or all m [])) back ∙ ap (λ l. clause_true values (get_or l (length k.done) [])) here ∙ ap (clause_true values) (get_seam k.done next c) ∙ f;
+    }
+
+pub passed_all : (values : List Bool) (all rest : List (List Literal)) (n : ℕ) → IsPassed values all rest n → rest ≡ [] → AllByRecursion (Holds values) all
+passed_all values all rest n k none = subst (AllByRecursion (Holds values)) (sym (k.split ∙ ap (λ l. k.done ++ l) none)) (each_from_append (Holds values) k.done [] k.held tt)
+
+pub not_all : (values : List Bool) (all rest next : List (List Literal)) (c : List Literal) (n : ℕ) → IsPassed values all rest n → rest ≡ c ∷ next → clause_true values c ≡ false → AllByRecursion (Holds values) all → ⊥
+not_all values all rest next c n k same f h =
+    false≢true (sym f ∙ (each_of_append (Holds values) k.done (c ∷ next) (subst (AllByRecursion (Holds values)) (k.split ∙ ap (λ l. k.done ++ l) same) h)).1.0)

@@ -1,0 +1,13 @@
+use Rattle.std.proofs.Common.{◌≡◌, ap, ◌∙◌, subst}
+use Rattle.std.specs.Prelude.{map}
+use Rattle.serializability.specs.Pairs.{edge_literal}
+use Rattle.order_cnf.specs.Tables.{pairs_in}
+use Rattle.order_cnf.proofs.Parts.{bipath_is}
+use Rattle.order_cnf.proofs.layout.bipath_clause.Goals as goal
+
+pub returns : goal.returns
+returns c = record {
+  value = bipath_is c.args.relation.now c.args.bipath.now c.side_literal.result c.side_literal-2.result
+      (c.side_literal.ensures.value ∙ ap (map (λ e. edge_literal (pairs_in c.args.relation.now) e.0 e.1)) c.one.ensures)
+      (c.side_literal-2.ensures.value ∙ ap (map (λ e. edge_literal (pairs_in c.args.relation.now) e.0 e.1)) c.two.ensures);
+}

@@ -1,0 +1,191 @@
+//! What is known of each pair of nodes: which comes first, or the variable that says it.
+
+ghost use Rattle.std.specs.Prelude.{◌≡◌, ◌≢◌, ◌<◌, ◌≤◌, [], length, if◌then◌else◌, IfOk};
+ghost use Rattle.serializability.specs.declared.literal.Literal.{Literal};
+ghost use Rattle.serializability.specs.Pairs.{is_free};
+ghost use Rattle.serializability.specs.Decoded.{is_before};
+ghost use Rattle.order_cnf.specs.Clauses.{IsWithin};
+ghost use Rattle.order_cnf.specs.Data.{is_listed};
+ghost use Rattle.order_cnf.specs.Tables.{Relation as Data, IsStrict, IsTable, known_in, pairs_in, rows_known, term_of};
+
+use crate::clause::literal_is_true;
+use crate::term::Term;
+use reach_laws::Edge;
+use reach_rows::Rows;
+use serializability::{Literal, NodeIx};
+use std::alloc::{AllocError, Global};
+use std::marker::Model;
+
+/// Nodes 0 to n, and of each pair of them which one is known to stand before the other, or the variable that says it.
+/// Variables are numbered from 1, by the first node and then the second.
+#[derive(Drop)]
+pub(crate) struct Relation {
+    nodes: usize,
+    /// Which node reaches which. Without rows of no pair it is known which comes first.
+    rows: Option<Rows>,
+    /// The variable of each pair, by row, and 0 where it has none.
+    table: Vec<u32>,
+    /// How many variables there are.
+    variables: u32,
+}
+
+impl Model for Relation {
+    ghost use Rattle.std.specs.Prelude.{◌≡◌, length};
+    ghost use Rattle.order_cnf.specs.Tables.{Relation as Data, IsTable, pairs_in, rows_known};
+
+    ghost Value = { Data };
+
+    ghost view = { λ r. record { nodes = r.nodes; known = rows_known r.rows } };
+
+    ghost invariant = { λ r. IsTable (record { nodes = r.nodes; known = rows_known r.rows }) r.table.items
+        × (r.variables ≡ length (pairs_in (record { nodes = r.nodes; known = rows_known r.rows }))) };
+}
+
+/// The node with this number.
+fn node(number: usize) -> NodeIx
+    requires few { number ≤ 400 }
+    ensures value { result ≡ number }
+{
+    NodeIx::new(number).unwrap()
+}
+
+/// Whether these rows say that u stands before v.
+fn is_known(rows: &Option<Rows>, u: usize, v: usize) -> bool
+    requires few { (u ≤ 400) × (v ≤ 400) }
+    ensures value { result ≡ is_listed (rows_known rows.now) u v }
+{
+    match rows {
+        Some(rows) => rows.reaches(node(u), node(v)),
+        None => false,
+    }
+}
+
+/// Whether these rows say nothing of the two nodes.
+fn is_free(rows: &Option<Rows>, u: usize, v: usize) -> bool
+    requires few { (u ≤ 400) × (v ≤ 400) }
+    ensures value { result ≡ is_free (is_listed (rows_known rows.now)) (u, v) }
+{
+    !is_known(rows, u, v) && !is_known(rows, v, u)
+}
+
+/// The variables of pairs of nodes 0 to n, by row, and how many they are.
+#[derive(Drop)]
+struct Numbering {
+    table: Vec<u32>,
+    variables: u32,
+}
+
+/// Numbers the pairs of which these rows say nothing.
+fn number_pairs(alloc: Global, nodes: usize, rows: &Option<Rows>) -> Result<Numbering, AllocError>
+    requires few { nodes ≤ 400 }
+    ensures table { IfOk result (λ m. (r : Data) → r ≡ record { nodes = nodes; known = rows_known rows.now } →
+        IsStrict (known_in r) → IsTable r m.table.items) }
+    ensures count { IfOk result (λ m. (r : Data) → r ≡ record { nodes = nodes; known = rows_known rows.now } →
+        m.variables ≡ length (pairs_in r)) }
+{
+    let side = nodes + 1;
+    let mut table = vec![in alloc; 0; side * side]?;
+    let mut variables = 0;
+    for low in 0..side {
+        for high in low + 1..side {
+            if is_free(rows, low, high) {
+                variables += 1;
+                table[low * side + high] = variables;
+            }
+        }
+    }
+    Ok(Numbering { table, variables })
+}
+
+impl Relation {
+    /// Of no pair of nodes 0 to n it is known which comes first.
+    pub(crate) fn unknown(alloc: Global, nodes: usize) -> Result<Relation, AllocError>
+        requires few { nodes ≤ 400 }
+        ensures relation { IfOk result (λ r. r ≡ record { nodes = nodes; known = [] }) }
+    {
+        Relation::of(alloc, nodes, None)
+    }
+
+    /// What these rows say of nodes 0 to n is known.
+    pub(crate) fn of(
+        alloc: Global,
+        nodes: usize,
+        rows: Option<Rows>,
+    ) -> Result<Relation, AllocError>
+        requires few { nodes ≤ 400 }
+        requires strict { IsStrict (is_listed (rows_known rows)) }
+        ensures relation { IfOk result (λ r. r ≡ record { nodes = nodes; known = rows_known rows }) }
+    {
+        let Numbering { table, variables } = number_pairs(alloc, nodes, &rows)?;
+        Ok(Relation {
+            nodes,
+            rows,
+            table,
+            variables,
+        })
+    }
+
+    /// The number n.
+    pub(crate) fn nodes(&self) -> usize
+        ensures count { result ≡ self.now.nodes }
+        ensures few { result ≤ 400 }
+        ensures strict { IsStrict (known_in self.now) }
+    {
+        self.nodes
+    }
+
+    /// The number of variables.
+    pub(crate) fn variables(&self) -> u32
+        ensures count { result ≡ length (pairs_in self.now) }
+        ensures few { result ≤ 80200 }
+    {
+        self.variables
+    }
+
+    /// What is said of `low` before `high` or, where not `forward`, of `high` before `low`.
+    fn term_between(&self, low: usize, high: usize, forward: bool) -> Term
+        requires within { (low < high) × (high ≤ self.now.nodes) }
+        ensures value { result ≡ (if forward then term_of self.now low high else term_of self.now high low) }
+    {
+        let variable = self.table[low * (self.nodes + 1) + high];
+        if variable != 0 {
+            Term::Open(Literal {
+                variable,
+                positive: forward,
+            })
+        } else if is_known(&self.rows, low, high) == forward {
+            Term::True
+        } else {
+            Term::False
+        }
+    }
+
+    /// What is said of u before v.
+    pub(crate) fn term(&self, u: usize, v: usize) -> Term
+        requires within { (u ≤ self.now.nodes) × (v ≤ self.now.nodes) × (u ≢ v) }
+        ensures value { result ≡ term_of self.now u v }
+        ensures literal { (l : Literal) → result ≡ Term.Open l → IsWithin (length (pairs_in self.now)) l }
+    {
+        if u < v {
+            self.term_between(u, v, true)
+        } else {
+            self.term_between(v, u, false)
+        }
+    }
+
+    /// Whether u stands before v, as it is known or as these values of the variables have it.
+    pub(crate) fn stands_before(&self, values: &[bool], u: usize, v: usize) -> bool
+        requires each_variable { length (pairs_in self.now) ≤ length values.now }
+        requires within { (u ≤ self.now.nodes) × (v ≤ self.now.nodes) }
+        ensures value { result ≡ is_before (known_in self.now) (pairs_in self.now) values.now u v }
+    {
+        if u == v {
+            return false;
+        }
+        match self.term(u, v) {
+            Term::True => true,
+            Term::False => false,
+            Term::Open(literal) => literal_is_true(values, literal),
+        }
+    }
+}
