@@ -1,14 +1,13 @@
 -- Units, bipaths and sides, one at a time.
-use Rattle.std.proofs.Common.{◌≡◌, refl, sym, ap, ◌∙◌, ℕ, zero, suc, ◌+◌, ◌-◌, ◌*◌, ◌<◌, ◌≤◌, Bool, true, false, cond, Option, None, Some, List, [], ◌∷◌, ◌++◌, length, take, drop, arith}
+use Rattle.std.proofs.Common.{◌≡◌, refl, sym, ap, ◌∙◌, ℕ, zero, suc, ◌+◌, ◌-◌, ◌<◌, Bool, true, false, cond, Option, None, Some, List, [], ◌∷◌, ◌++◌, length, take, drop, arith}
 use Rattle.std.specs.Prelude.{map, is_some, MatchOption}
 use Rattle.std.proofs.lemmas.Bool.{false≢true}
 use Rattle.std.specs.Iterator.{MakesProgress, at_most}
-use Rattle.std.specs.List.{flat_map}
 use Rattle.std.proofs.lemmas.List.{map-append, append_assoc}
 use Rattle.serializability.specs.declared.literal.Literal.{Literal}
 use Rattle.serializability.specs.Polygraph.{Edge, Choice}
 use Rattle.serializability.specs.Pairs.{Known, edge_literal}
-use Rattle.order_laws.specs.Reduced.{side_clauses, choice_clauses}
+use Rattle.order_laws.specs.Reduced.{side_clauses}
 use Rattle.order_cnf.specs.declared.clause.Clause.{Clause}
 use Rattle.order_cnf.specs.Clauses.{literals}
 use Rattle.order_cnf.specs.Tables.{Relation, known_in, pairs_in, given}

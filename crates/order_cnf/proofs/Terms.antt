@@ -1,14 +1,14 @@
 -- Clauses by what a formula says of their edges.
-use Rattle.std.proofs.Common.{◌≡◌, ◌≢◌, ◌⊎◌, inl, inr, refl, sym, ap, ◌∙◌, subst, ℕ, suc, ◌+◌, ◌<◌, ◌≤◌, ◌&&◌, ◌||◌, Bool, true, false, cond, not, eqb, ltb, List, [], ◌∷◌, ◌++◌, length, Option, arith, eq-eqb, ne_eqb}
+use Rattle.std.proofs.Common.{◌≡◌, ◌≢◌, inl, inr, refl, sym, ap, ◌∙◌, subst, ℕ, suc, ◌+◌, ◌<◌, ◌≤◌, ◌&&◌, ◌||◌, Bool, true, false, cond, not, eqb, ltb, List, [], ◌∷◌, ◌++◌, length, Option, arith, eq-eqb, ne_eqb}
 use Rattle.std.specs.Prelude.{map}
-use Rattle.std.specs.List.{filter, list_any, range_with_len}
-use Rattle.std.proofs.lemmas.Bool.{cases_Bool, cases_order, false≢true, or_parts, and_parts, not-true, not_from_false, lt-ltb, le-ltb}
+use Rattle.std.specs.List.{filter, list_any}
+use Rattle.std.proofs.lemmas.Bool.{cases_Bool, cases_order, false≢true, or_parts, and_parts, not-true, lt-ltb, le-ltb}
 use Rattle.serializability.specs.declared.literal.Literal.{Literal}
 use Rattle.serializability.specs.Polygraph.{Edge}
-use Rattle.serializability.specs.Pairs.{Known, is_free, edge_literal, edge_clause, pair_place, free_pairs}
+use Rattle.serializability.specs.Pairs.{is_free, edge_literal, edge_clause, pair_place}
 use Rattle.serializability.specs.Formula.{literal_true}
 use Rattle.serializability.specs.Decoded.{is_before}
-use Rattle.serializability.proofs.Made.{HasPair, pair_free}
+use Rattle.serializability.proofs.Made.{pair_free}
 use Rattle.order_laws.specs.Reduced.{side_clauses}
 use Rattle.order_cnf.specs.declared.clause.Clause.{Clause}
 use Rattle.order_cnf.specs.declared.term.Term.{Term}

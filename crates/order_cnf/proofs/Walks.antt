@@ -7,8 +7,7 @@ use Rattle.std.proofs.lemmas.List.{map-append, append_assoc}
 use Rattle.std.proofs.lemmas.List.Concat.{flat_map-append}
 use Rattle.serializability.specs.declared.literal.Literal.{Literal}
 use Rattle.serializability.specs.Pairs.{pairs_of, triples_of}
-use Rattle.order_cnf.specs.declared.triples.Cursor.{Cursor}
-use Rattle.order_cnf.specs.Cursors.{IsCursor, cursor_left}
+use Rattle.order_cnf.specs.Cursors.{cursor_left}
 use Rattle.order_cnf.specs.declared.clause.Clause.{Clause}
 use Rattle.order_cnf.specs.Tables.{Relation, given}
 use Rattle.order_cnf.specs.Streams.{of_three, of_two, of_one, up_to, clauses_at}

@@ -1,22 +1,20 @@
 -- The clauses of whole formulas are those of their definitions.
-use Rattle.std.proofs.Common.{◌≡◌, ◌≢◌, refl, sym, ap, ◌∙◌, subst, ℕ, suc, ◌+◌, ◌-◌, ◌*◌, ◌<◌, ◌≤◌, ◌||◌, Bool, true, false, not, List, [], ◌∷◌, ◌++◌, length, take, drop, arith}
+use Rattle.std.proofs.Common.{◌≡◌, refl, sym, ap, ◌∙◌, subst, ℕ, suc, ◌+◌, ◌-◌, ◌||◌, Bool, true, false, not, List, [], ◌∷◌, ◌++◌, length, drop, arith}
 use Rattle.std.specs.Prelude.{map, Some, is_some}
-use Rattle.std.specs.List.{flat_map, range_with_len, AllByRecursion, Contains}
+use Rattle.std.specs.List.{flat_map, range_with_len, AllByRecursion}
 use Rattle.std.proofs.lemmas.Bool.{false≢true}
-use Rattle.std.proofs.lemmas.List.{append_assoc, length-append}
+use Rattle.std.proofs.lemmas.List.{append_assoc}
 use Rattle.std.proofs.Math.Seq.{take-append_seam, drop-append_seam}
 use Rattle.serializability.specs.declared.literal.Literal.{Literal}
 use Rattle.serializability.specs.Polygraph.{Edge, Choice, Polygraph}
 use Rattle.serializability.specs.Formula.{Cnf, Satisfies, value_of}
 use Rattle.serializability.specs.Decoded.{IsFormula}
-use Rattle.serializability.specs.Pairs.{Known, free_pairs, edge_literal, triples_of, triple_clauses, order_clauses}
+use Rattle.serializability.specs.Pairs.{free_pairs, edge_literal, triples_of, triple_clauses, order_clauses}
 use Rattle.serializability.specs.Plain.{nothing_known, plain_nodes, plain_pairs, literals_of, plain_of, contradiction}
-use Rattle.polygraph.specs.Polygraphs.{JoinsBoth}
 use Rattle.order_laws.specs.Reduced.{reduced, choice_clauses, side_clauses, order_nodes}
 use Rattle.order_cnf.specs.Bipaths.{IsBipath}
-use Rattle.order_cnf.specs.Data.{is_listed}
-use Rattle.order_cnf.specs.Tables.{Relation, known_in, pairs_in, IsStrict}
-use Rattle.order_cnf.specs.Streams.{units_of, bipaths_of, of_three, up_to, sides_after, last_variable, turned, IsUnturned, IsFreeBipath}
+use Rattle.order_cnf.specs.Tables.{Relation, known_in, pairs_in}
+use Rattle.order_cnf.specs.Streams.{units_of, bipaths_of, of_three, sides_after, turned, IsUnturned, IsFreeBipath}
 use Rattle.order_cnf.specs.Layouts.{clauses_in}
 use Rattle.order_cnf.specs.declared.fault.CnfFault.{CnfFault}
 use Rattle.order_cnf.specs.Limits.{size_fault}

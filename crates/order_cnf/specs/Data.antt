@@ -4,7 +4,6 @@ use Rattle.std.specs.List.{list_any, AllByRecursion}
 use Rattle.serializability.specs.declared.literal.Literal.{Literal}
 use Rattle.serializability.specs.Pairs.{Known}
 use Rattle.serializability.specs.Formula.{Cnf, clause_true}
-use Rattle.serializability.specs.Plain.{nothing_known, plain_pairs}
 
 -- `known` lists the pairs (u, v) of which it is known that u stands before v
 pub record FormulaData : Type 0 where

@@ -1,7 +1,7 @@
 -- A formula that makes its clauses when they are asked for.
 use Rattle.std.specs.Prelude.{◌≡◌, ◌≤◌, length}
 use Rattle.serializability.specs.Decoded.{IsFormula}
-use Rattle.order_cnf.specs.Data.{FormulaData, cnf_of}
+use Rattle.order_cnf.specs.Data.{FormulaData}
 use Rattle.order_cnf.specs.Tables.{pairs_in}
 use Rattle.order_cnf.specs.Shapes.{data_with, cnf_with}
 use Rattle.order_cnf.specs.declared.formula.Formula.TheInside.{Inside}

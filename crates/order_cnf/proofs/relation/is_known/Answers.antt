@@ -1,4 +1,4 @@
-use Rattle.std.proofs.Common.{◌≡◌, sym, ap, ◌∙◌}
+use Rattle.std.proofs.Common.{sym, ap, ◌∙◌}
 use Rattle.known_graph.proofs.Tested.{known_is}
 use Rattle.order_cnf.specs.Data.{is_listed}
 use Rattle.order_cnf.specs.Tables.{rows_known}

@@ -1,4 +1,4 @@
-use Rattle.std.proofs.Common.{◌≡◌, ◌+◌, ◌*◌, ◌≤◌, ap, sym, ◌∙◌, ℕ, length, get_or, arith, refl}
+use Rattle.std.proofs.Common.{◌+◌, ◌*◌, ap, sym, ◌∙◌, ℕ, length, arith, refl}
 use Rattle.std.proofs.lemmas.List.{length-replicate}
 use Rattle.order_cnf.specs.Tables.{Relation, rows_known}
 use Rattle.order_cnf.proofs.Numbered.{number_begun, number_row, number_free, number_known, few_numbered, none_yet}

@@ -1,4 +1,3 @@
-use Rattle.std.proofs.Common.{◌≡◌}
 use Rattle.order_cnf.proofs.Terms.{triple_is}
 use Rattle.order_cnf.proofs.triples.triple_clauses.Goals as goal
 

@@ -1,7 +1,7 @@
-use Rattle.std.proofs.Common.{◌≡◌, ◌+◌, ◌≤◌, sym, ap, ◌∙◌, refl, arith, length}
+use Rattle.std.proofs.Common.{sym, ◌∙◌, arith}
 use Rattle.std.proofs.lemmas.Bool.{false≢true}
 use Rattle.order_cnf.specs.Clauses.{literals}
-use Rattle.order_cnf.proofs.Passed.{passed_begun, passed_number, passed_within, passed_one, passed_false, passed_all, not_all}
+use Rattle.order_cnf.proofs.Passed.{passed_begun, passed_number, passed_one, passed_false, not_all}
 use Rattle.order_cnf.proofs.formula.Formula.satisfied_by.Goals as goal
 
 pub loop-clause-init : goal.loop-clause-init

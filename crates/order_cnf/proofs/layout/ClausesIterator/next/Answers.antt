@@ -1,6 +1,5 @@
-use Rattle.std.proofs.Common.{◌≡◌, ◌++◌, ◌∷◌, [], ap, sym, ◌∙◌, refl, arith, length}
+use Rattle.std.proofs.Common.{sym, ◌∙◌, refl}
 use Rattle.order_cnf.specs.Clauses.{literals}
-use Rattle.order_cnf.specs.Tables.{given}
 use Rattle.order_cnf.proofs.Parts.{unit_step, bipath_step, triple_step, all_sides, last_step, progress, some_progress}
 use Rattle.order_cnf.proofs.layout.ClausesIterator.next.Goals as goal
 

@@ -1,5 +1,5 @@
-use Rattle.std.proofs.Common.{◌≡◌, ◌+◌, ◌-◌, ◌<◌, ◌≤◌, ◌++◌, ap, sym, ◌∙◌, refl, arith, length}
-use Rattle.order_cnf.specs.Streams.{IsStep, sides_left, rank_of}
+use Rattle.std.proofs.Common.{◌-◌, ◌++◌, ap, sym, ◌∙◌, arith, length}
+use Rattle.order_cnf.specs.Streams.{sides_left, rank_of}
 use Rattle.order_cnf.proofs.Parts.{nothing_left, no_sides, edge_step, side_step, no_step, some_step, kept_step, turned_rank, none_of}
 use Rattle.order_cnf.proofs.sides.Sides.next.Goals as goal
 

@@ -1,4 +1,4 @@
-use Rattle.std.proofs.Common.{◌≡◌, ℕ, ◌+◌, ◌≤◌}
+use Rattle.std.proofs.Common.{◌≡◌, ◌+◌, ◌≤◌}
 use Rattle.order_cnf.specs.Cursors.{IsCursor, cursor_left, steps_left}
 use Rattle.order_cnf.specs.Tables.{Relation}
 use Rattle.order_cnf.proofs.triples.Cursor.settle.Given as goal
