@@ -29,19 +29,21 @@ use Rattle.cobra_cli.specs.declared.status.Status.TheVariants.{Done}
 use Rattle.cobra_cli.specs.declared.fault.Fault.{Fault}
 use Rattle.cobra_cli.specs.declared.fault.Fault.TheVariants as fault
 use Rattle.cobra_cli.specs.Answers.{IsTold, IsCutAt, IsRefused, by_device}
-use Rattle.cobra_cli.specs.Formulas.{IsFormulaOf}
-use Rattle.cobra_cli.specs.Commands.{IsHeadline, IsEncoding, IsAnswerTo, named_by, IsOrderText, IsDecoding}
+use Rattle.cobra_cli.specs.declared.basis.Basis.{Basis}
+use Rattle.cobra_cli.specs.Formulas.{IsFormulaFrom, IsFormulaOf}
+use Rattle.cobra_cli.specs.Commands.{IsFaithful, IsEncoding, IsAnswerTo, named_by, IsOrderText, IsDecoding}
 use Rattle.cobra_cli.specs.Checked.{IsSearched, IsRefutedBy, IsSpentText, IsVerdict}
 
-pub serial_of : (ss : List ClientSession) → IsWellFormedList ss → (f : Cnf) (values : List Bool) (order : List ℕ) → f ≡ plain_answer ss → Satisfies values f → IsDecoded f.nodes (before f values) order → IsSerialOrder ss order
-serial_of ss h f values order e =
-    let P : Cnf → Type 0 = λ g. Satisfies values g → IsDecoded g.nodes (before g values) order → IsSerialOrder ss order in
-    subst P (sym e) (λ s d. answer_serial ss h values s order d)
+pub serial_of : (ss : List ClientSession) (f : Cnf) → IsFaithful ss f → (values : List Bool) (order : List ℕ) → Satisfies values f → IsDecoded f.nodes (before f values) order → IsSerialOrder ss order
+serial_of ss f h values order s d = h.orders values s order d
 
-pub headline_of : (ss : List ClientSession) → IsWellFormedList ss → (f : Cnf) → f ≡ plain_answer ss → IsHeadline ss f
-headline_of ss h f e = subst (λ (g : Cnf). IsHeadline ss g) (sym e) (record {
-  satisfied_where_serial = answer_where_serial ss h;
-  serial_where_satisfied = λ values s. (let d = answer_decodes ss h values s in (d.0, answer_serial ss h values s d.0 d.1));
+pub faithful_plain : (ss : List ClientSession) → IsWellFormedList ss → (f : Cnf) → f ≡ plain_answer ss → IsFaithful ss f
+faithful_plain ss h f e = subst (λ (g : Cnf). IsFaithful ss g) (sym e) (record {
+  headline = record {
+    satisfied_where_serial = answer_where_serial ss h;
+    serial_where_satisfied = λ values s. (let d = answer_decodes ss h values s in (d.0, answer_serial ss h values s d.0 d.1));
+  };
+  orders = answer_serial ss h;
 })
 
 pub nodes_of_serial : (ss : List ClientSession) (order : List ℕ) → IsSerialOrder ss order → All (λ v. (0 < v) × (v ≤ (log_of ss).nodes)) order
@@ -84,19 +86,22 @@ keeps None = tt
 keeps (Some xs) = refl
 
 -- ---- encode and decode
-pub encoding_of : (plain : Bool) (ss : List ClientSession) → IsWellFormedList ss → (f : Cnf) → IsFormulaOf plain ss f → IsEncoding plain ss Done (text_of f)
-encoding_of plain ss h f b = record { formula = f; belongs = b; headline = headline_of ss h f b.formula; ends = refl; told = refl }
+pub encoding_of : (plain : Bool) (ss : List ClientSession) (b : Basis) (f : Cnf) → IsFormulaFrom plain ss b f → IsFaithful ss f → IsEncoding plain ss Done (text_of f)
+encoding_of plain ss b f h faithful = record { formula = f; belongs = record { basis = b; made = h }; headline = faithful.headline; ends = refl; told = refl }
+
+pub belongs_so : (plain : Bool) (ss : List ClientSession) (b : Basis) (f : Cnf) → IsFormulaFrom plain ss b f → IsFormulaOf plain ss f
+belongs_so plain ss b f h = record { basis = b; made = h }
 
 pub answer_to : (plain : Bool) (given : List ℕ) (ss : List ClientSession) (f : Cnf) (vars : ℕ) (claimed : dimacs.Status) → vars ≡ f.variables → IsFormulaOf plain ss f → answer.answer_fault vars given ≡ None → answer.status_of given ≡ Some claimed → IsAnswerTo plain given ss claimed f
 answer_to plain given ss f vars claimed e b accepted claims =
     record { belongs = b; accepted = subst (λ n. answer.answer_fault n given ≡ None) e accepted; claims = claims }
 
-pub order_text_of : (given : List ℕ) (ss : List ClientSession) → IsWellFormedList ss → (f : Cnf) → f ≡ plain_answer ss → (values : List Bool) → values ≡ named_by given f → Satisfies values f → (order : List ℕ) → IsDecoded f.nodes (before f values) order → (text : List ℕ) → text ≡ order_text ss order → IsOrderText given ss f text
-order_text_of given ss h f e values named sat order d text told = record {
+pub order_text_of : (given : List ℕ) (ss : List ClientSession) (f : Cnf) → IsFaithful ss f → (values : List Bool) → values ≡ named_by given f → Satisfies values f → (order : List ℕ) → IsDecoded f.nodes (before f values) order → (text : List ℕ) → text ≡ order_text ss order → IsOrderText given ss f text
+order_text_of given ss f h values named sat order d text told = record {
   satisfies = subst (λ (v : List Bool). Satisfies v f) named sat;
   order = order;
   decoded = subst (λ (v : List Bool). IsDecoded f.nodes (before f v) order) named d;
-  serial = serial_of ss h f values order e sat d;
+  serial = serial_of ss f h values order sat d;
   told = told;
 }
 

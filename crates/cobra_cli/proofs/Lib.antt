@@ -4,3 +4,6 @@ pub mod Named
 pub mod Answering
 pub mod Counting
 pub mod Told
+pub mod SameEdges
+pub mod Reduced
+pub mod OneFormula

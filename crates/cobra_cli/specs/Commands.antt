@@ -1,5 +1,5 @@
 -- What each command says of sessions, and why it is refused.
-use Rattle.std.specs.Prelude.{◌≡◌, ℕ, List, codes, Option, None, Some, Bool}
+use Rattle.std.specs.Prelude.{◌≡◌, ℕ, List, codes, None, Some, Bool}
 use Rattle.session_log.specs.Text.{ClientSession}
 use Rattle.serializability.specs.declared.literal.Literal.{Literal}
 use Rattle.serializability.specs.Formula.{Cnf, Satisfies}
@@ -17,7 +17,8 @@ use Rattle.order_text.specs.Text.{order_text, AreNodes}
 use Rattle.order_text.specs.Faults as listing
 use Rattle.decode_order.specs.declared.fault.ReplayFault.TheVariants.{NotAPermutation, SessionOrder, ReadMismatch}
 use Rattle.decode_order.specs.Replaying.{replay_fault}
-use Rattle.cobra_cli.specs.Formulas.{IsFormulaOf, IsFormulaFault}
+use Rattle.cobra_cli.specs.declared.basis.Basis.{Basis}
+use Rattle.cobra_cli.specs.Formulas.{IsFormulaFrom, IsFormulaOf, IsFormulaFault}
 use Rattle.cobra_cli.specs.Statistics.{stats_text}
 use Rattle.cobra_cli.specs.declared.status.Status.{Status}
 use Rattle.cobra_cli.specs.declared.status.Status.TheVariants.{Done, Unknown}
@@ -36,6 +37,11 @@ HasNoFormula plain _ ss = ⊥
 pub record IsHeadline (ss : List ClientSession) (f : Cnf) : Type 0 where
   pub satisfied_where_serial : (order : List ℕ) → IsSerialOrder ss order → (values : List Bool) × Satisfies values f
   pub serial_where_satisfied : (values : List Bool) → Satisfies values f → (order : List ℕ) × IsSerialOrder ss order
+
+-- That holds of the formula, and the order that a satisfying assignment stands for is serial.
+pub record IsFaithful (ss : List ClientSession) (f : Cnf) : Type 0 where
+  pub headline : IsHeadline ss f
+  pub orders : (values : List Bool) → Satisfies values f → (order : List ℕ) → IsDecoded f.nodes (before f values) order → IsSerialOrder ss order
 
 -- the text of the formula that belongs to the sessions
 pub record IsEncoding (plain : Bool) (ss : List ClientSession) (status : Status) (text : List ℕ) : Type 0 where
@@ -141,9 +147,10 @@ IsNotVerified given f ss = IsReplayRefused given ss f
 
 -- ---- stats
 
--- the counts of the sessions and of the formula that belongs to them
+-- the counts of the sessions, of what their formula is made from, and of the formula that belongs to them
 pub record IsCounting (plain : Bool) (ss : List ClientSession) (status : Status) (text : List ℕ) : Type 0 where
+  pub basis : Basis
   pub formula : Cnf
-  pub belongs : IsFormulaOf plain ss formula
+  pub made : IsFormulaFrom plain ss basis formula
   pub ends : status ≡ Done
-  pub told : text ≡ stats_text ss formula
+  pub told : text ≡ stats_text ss basis formula

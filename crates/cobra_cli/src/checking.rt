@@ -131,7 +131,7 @@ fn verdict<G: Gate, R: Threads + Wait + Clock + Sync>(
             text: cycle_text(alloc, history, &line)?,
         }),
         Reduction::Dead(_) => Ok(Reply::fixed(alloc, Status::NotSerializable, DEAD)?),
-        Reduction::Open(reduced) => Ok(search_verdict(
+        Reduction::Open { reduced, .. } => Ok(search_verdict(
             rt, alloc, history, &reduced, options, gate,
         )?),
     }

@@ -3,11 +3,10 @@
 ghost use Rattle.std.specs.Prelude.{◌≡◌, length, IfOk, IfErr, OnOk};
 ghost use Rattle.serializability.specs.Formula.{Satisfies};
 ghost use Rattle.serializability.specs.Decoded.{before, IsDecoded};
-ghost use Rattle.log_definitions.specs.Numbers.{IsWellFormedList};
 ghost use Rattle.dimacs.specs.declared.status.Status.TheVariants.{Satisfiable};
 ghost use Rattle.order_cnf.specs.Data.{cnf_of};
 ghost use Rattle.cobra_cli.specs.Answers.{IsTold, IsRefused};
-ghost use Rattle.cobra_cli.specs.Commands.{named_by, IsAnswerTo, IsAssignmentRefused, IsDecoding, IsNotDecoded, IsOrderText};
+ghost use Rattle.cobra_cli.specs.Commands.{named_by, IsFaithful, IsAnswerTo, IsAssignmentRefused, IsDecoding, IsNotDecoded, IsOrderText};
 ghost use Rattle.cobra_cli.specs.Failures.{failures_after};
 
 use crate::fault::Fault;
@@ -52,7 +51,7 @@ fn order_reply(
 ) -> Result<Reply, Fault>
     requires names { IsAnswerTo options.now.plain answer.now history.now Satisfiable (cnf_of formula.now) }
     requires named { values.now ≡ named_by answer.now (cnf_of formula.now) }
-    requires well_formed { IsWellFormedList history.now }
+    requires faithful { IsFaithful history.now (cnf_of formula.now) }
     ensures decoded { IfOk result (λ r.
         IsDecoding options.now.plain answer.now history.now r.status r.text.items) }
     ensures refused { IfErr result (λ f. IsNotDecoded options.now.plain answer.now f history.now) }
@@ -65,20 +64,23 @@ fn order_reply(
 }
 
 /// What an answer says of a history.
-fn decoded(
+fn decoded<R: Threads + Wait + Clock + Sync, G: Gate>(
+    rt: &R,
     alloc: Global,
     history: &History,
     answer: &[u8],
     options: &Options,
+    gate: &G,
 ) -> Result<Reply, Fault>
     ensures decoded { IfOk result (λ r.
         IsDecoding options.now.plain answer.now history.now r.status r.text.items) }
     ensures refused { IfErr result (λ f. IsNotDecoded options.now.plain answer.now f history.now) }
 {
-    let formula = formula_of(alloc, history, options)?;
+    let belonging = formula_of(rt, alloc, history, options, gate)?;
+    let formula = &belonging.formula;
     match read_answer(alloc, answer, formula.vars())? {
         SolverAnswer::Model(values) => {
-            order_reply(alloc, history, &formula, answer, options, &values)
+            order_reply(alloc, history, formula, answer, options, &values)
         }
         SolverAnswer::Unsatisfiable => Ok(Reply::fixed(
             alloc,
@@ -111,6 +113,6 @@ pub fn decode<R: Threads + Wait + Clock + Sync, G: Gate, W: Sink>(
     ensures count { W.failures sink.new ≡ failures_after (W.failures sink.old) result }
 {
     let history = read_log(rt, alloc, log, options.workers, gate)?;
-    let reply = decoded(alloc, &history, answer, options)?;
+    let reply = decoded(rt, alloc, &history, answer, options, gate)?;
     tell(sink, &reply)
 }

@@ -33,12 +33,15 @@ fn tell_formula<W: Sink>(sink: &mut W, formula: &Formula) -> Result<Status, Faul
     Ok(Status::Done)
 }
 
-/// Writes the formula of a log as DIMACS text: the plain formula, or the contradiction where an anomaly stands. An assignment
-/// satisfies it exactly where some serial order of the committed transactions explains every read.
+/// Writes the formula of a log as DIMACS text: the reduced formula, or with `--plain` the plain one, and the contradiction where an
+/// anomaly stands. An assignment satisfies it exactly where some serial order of the committed transactions explains every read.
+/// The text is the same for each number of workers.
 ///
 /// # Errors
-/// The log's first fault; G2 above 100 committed transactions; G1 above 100,000 bipaths; G3 above 20,000,000 clauses; the
-/// sink's failure, with how much of the text went out; want of memory. At each but the sink's nothing was written.
+/// The log's first fault; G1 above 100,000 choices between chains, where neither an anomaly nor a cycle of the arcs was found; G3
+/// above 20,000,000 clauses; the sink's failure, with how much of the text went out; want of memory. With `--plain` G2 above 100
+/// committed transactions, before anything else of the formula, and then G1 above 100,000 bipaths. At each but the sink's
+/// nothing was written.
 pub fn encode<R: Threads + Wait + Clock + Sync, G: Gate, W: Sink>(
     rt: &R,
     alloc: Global,
@@ -54,6 +57,6 @@ pub fn encode<R: Threads + Wait + Clock + Sync, G: Gate, W: Sink>(
     ensures count { W.failures sink.new ≡ failures_after (W.failures sink.old) result }
 {
     let history = read_log(rt, alloc, log, options.workers, gate)?;
-    let formula = formula_of(alloc, &history, options)?;
-    tell_formula(sink, &formula)
+    let belonging = formula_of(rt, alloc, &history, options, gate)?;
+    tell_formula(sink, &belonging.formula)
 }

@@ -1,11 +1,13 @@
 //! The commands of the program, over bytes and sinks.
 #![tactic(auto)]
 
+mod basis;
 mod checking;
 mod decoding;
 mod encoding;
 mod fault;
 mod formula;
+pub mod laws;
 mod reading;
 mod reply;
 mod source;
@@ -15,6 +17,7 @@ mod stop;
 mod verdict;
 mod verifying;
 
+pub use basis::Basis;
 pub use checking::check;
 pub use decoding::decode;
 pub use encoding::encode;

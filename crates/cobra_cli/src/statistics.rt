@@ -1,28 +1,27 @@
 //! How large a log and its formula are.
 
-ghost use Rattle.std.specs.Prelude.{◌≡◌, ◌≤◌, ◌++◌, ◌∷◌, [], length, codes, decimal, IfOk, IfErr, OnOk};
-ghost use Rattle.serializability.specs.Anomalies.{anomaly_of};
+ghost use Rattle.std.specs.Prelude.{◌≡◌, ◌-◌, ◌≤◌, ◌++◌, ◌∷◌, [], length, codes, decimal, IfOk, IfErr, OnOk};
 ghost use Rattle.serializability.specs.Polygraph as spec;
 ghost use Rattle.serializability.specs.Reads.{IsClean};
-ghost use Rattle.log_definitions.specs.Numbers.{log_of, IsWellFormedList};
-ghost use Rattle.order_cnf.specs.Limits.{choices_fault, IsFault};
+ghost use Rattle.log_definitions.specs.Numbers.{log_of};
+ghost use Rattle.order_cnf.specs.Data.{cnf_of};
 ghost use Rattle.cobra_cli.specs.Answers.{IsTold, IsRefused};
 ghost use Rattle.cobra_cli.specs.Commands.{HasNoFormula, IsCounting};
 ghost use Rattle.cobra_cli.specs.Failures.{failures_after};
-ghost use Rattle.cobra_cli.specs.Statistics.{count_line, read_number, anomaly_number, choices_line, counts_text};
+ghost use Rattle.cobra_cli.specs.Formulas.{IsFormulaFrom};
+ghost use Rattle.cobra_cli.specs.Statistics.{count_line, basis_text, counts_text};
 
+use crate::basis::Basis;
 use crate::fault::Fault;
-use crate::formula::formula_of;
+use crate::formula::{Belonging, formula_of};
 use crate::reading::read_log;
 use crate::reply::{Reply, tell};
 use crate::status::{Options, Status};
-use anomalies::classify;
 use desk::gate::Gate;
 use dimacs::Sink;
-use history::{Anomaly, History, ReadAnomaly};
+use history::History;
 use itoa::Buffer;
-use order_cnf::CnfFault;
-use polygraph::bipaths;
+use polygraph::{PolyFault, bipaths};
 use std::alloc::{AllocError, Global};
 use std::sync::Wait;
 use std::thread::Threads;
@@ -40,38 +39,14 @@ fn put_count(out: &mut Vec<u8>, word: &[u8], count: usize) -> Result<(), AllocEr
     Ok(())
 }
 
-/// The number of an anomaly of a read.
-fn read_number(kind: ReadAnomaly) -> u8
-    ensures number { result ≡ read_number kind }
-{
-    match kind {
-        ReadAnomaly::Unknown => 1,
-        ReadAnomaly::Aborted => 2,
-        ReadAnomaly::Intermediate => 3,
-        ReadAnomaly::OwnWriteMissed => 4,
-        ReadAnomaly::Future => 5,
-        ReadAnomaly::Split => 6,
-    }
-}
-
-/// The number that an anomaly is printed with.
-fn anomaly_number(anomaly: Anomaly) -> u8
-    ensures number { result ≡ anomaly_number anomaly }
-{
-    match anomaly {
-        Anomaly::Read { kind, .. } => read_number(kind),
-        Anomaly::LostUpdate { .. } => 7,
-    }
-}
-
-/// Appends the line of an anomaly.
-fn put_anomaly(out: &mut Vec<u8>, anomaly: Anomaly) -> Result<(), AllocError>
+/// Appends the line of the anomaly that is printed with this number.
+fn put_anomaly(out: &mut Vec<u8>, number: u8) -> Result<(), AllocError>
     ensures line { OnOk result (out.new.items
-        ≡ out.old.items ++ (codes "anomaly A" ++ decimal (anomaly_number anomaly) ++ 10 ∷ [])) }
+        ≡ out.old.items ++ (codes "anomaly A" ++ decimal number ++ 10 ∷ [])) }
 {
     let mut digits = Buffer::new();
     out.extend_from_slice(b"anomaly A")?;
-    out.extend_from_slice(digits.format(anomaly_number(anomaly)).as_bytes())?;
+    out.extend_from_slice(digits.format(number).as_bytes())?;
     out.push(b'\n')?;
     Ok(())
 }
@@ -89,65 +64,90 @@ fn put_counts(out: &mut Vec<u8>, history: &History) -> Result<(), AllocError>
     Ok(())
 }
 
-/// The number of choices of a clean history of at most 100 committed transactions.
-fn choice_count(alloc: Global, history: &History) -> Result<usize, CnfFault>
+/// The number of bipaths of a clean history that has not too many.
+fn bipath_count(alloc: Global, history: &History) -> Result<usize, AllocError>
     requires clean { IsClean (log_of history.now) }
-    requires few { (log_of history.now).nodes ≤ 100 }
+    requires few { length (spec.bipaths (log_of history.now)) ≤ 100000 }
     ensures count { IfOk result (λ count. count ≡ length (spec.bipaths (log_of history.now))) }
-    ensures fault { IfErr result (λ e. IsFault e (choices_fault (log_of history.now))) }
 {
-    let polygraph = bipaths(alloc, history)?;
-    Ok(polygraph.choices().len())
+    match bipaths(alloc, history) {
+        Ok(polygraph) => Ok(polygraph.choices().len()),
+        Err(PolyFault::TooManyChoices) => unreachable!(),
+        Err(PolyFault::Memory) => Err(AllocError),
+    }
 }
 
-/// Appends the line of the anomaly, or of the number of choices where there is none.
-fn put_choices(
+/// Appends the line of the number of bipaths.
+fn put_bipaths(out: &mut Vec<u8>, alloc: Global, history: &History) -> Result<(), AllocError>
+    requires clean { IsClean (log_of history.now) }
+    requires few { length (spec.bipaths (log_of history.now)) ≤ 100000 }
+    ensures text { OnOk result (out.new.items
+        ≡ out.old.items ++ basis_text Basis.Bipaths (log_of history.now)) }
+{
+    let choices = bipath_count(alloc, history)?;
+    put_count(out, b"choices", choices)
+}
+
+/// Appends the lines of so many choices between chains, of which so many are left.
+fn put_chains(out: &mut Vec<u8>, all: usize, left: usize) -> Result<(), AllocError>
+    requires some { left ≤ all }
+    ensures text { OnOk result (out.new.items ≡ out.old.items
+        ++ (count_line (codes "choices") all ++ count_line (codes "forced") (all - left) ++ count_line (codes "open") left)) }
+{
+    put_count(out, b"choices", all)?;
+    put_count(out, b"forced", all - left)?;
+    put_count(out, b"open", left)
+}
+
+/// Appends the lines of what the formula is made from.
+fn put_basis(
     out: &mut Vec<u8>,
     alloc: Global,
     history: &History,
-    anomaly: Option<Anomaly>,
+    belonging: &Belonging,
     options: &Options,
-) -> Result<(), Fault>
-    requires few { (log_of history.now).nodes ≤ 100 }
-    requires anomaly { anomaly ≡ anomaly_of (log_of history.now) }
-    requires well_formed { IsWellFormedList history.now }
-    ensures line { OnOk result (out.new.items
-        ≡ out.old.items ++ choices_line anomaly (log_of history.now)) }
-    ensures refused { IfErr result (λ f. HasNoFormula options.now.plain f history.now) }
+) -> Result<(), AllocError>
+    requires made { IsFormulaFrom options.now.plain history.now belonging.now.basis (cnf_of belonging.now.formula) }
+    ensures text { OnOk result (out.new.items
+        ≡ out.old.items ++ basis_text belonging.now.basis (log_of history.now)) }
 {
     let _asked = options.plain;
-    match anomaly {
-        Some(anomaly) => put_anomaly(out, anomaly)?,
-        None => {
-            let choices = choice_count(alloc, history)?;
-            put_count(out, b"choices", choices)?;
-        }
+    let _nodes = history.committed();
+    match belonging.basis {
+        Basis::Anomalous(number) => put_anomaly(out, number),
+        Basis::Bipaths => put_bipaths(out, alloc, history),
+        Basis::Chains { all, left } => put_chains(out, all, left),
     }
-    Ok(())
 }
 
 /// What is to be said of the counts of a history and of its formula.
 #[tactic(auto, unfolding(crate::specs::Statistics::stats_text))]
-fn counted(alloc: Global, history: &History, options: &Options) -> Result<Reply, Fault>
+fn counted<R: Threads + Wait + Clock + Sync, G: Gate>(
+    rt: &R,
+    alloc: Global,
+    history: &History,
+    options: &Options,
+    gate: &G,
+) -> Result<Reply, Fault>
     ensures counted { IfOk result (λ r.
         IsCounting options.now.plain history.now r.status r.text.items) }
     ensures refused { IfErr result (λ f. HasNoFormula options.now.plain f history.now) }
 {
-    let formula = formula_of(alloc, history, options)?;
+    let belonging = formula_of(rt, alloc, history, options, gate)?;
     let mut text = Vec::new(alloc);
     put_counts(&mut text, history)?;
-    let anomaly = classify(alloc, history)?;
-    put_choices(&mut text, alloc, history, anomaly, options)?;
-    put_count(&mut text, b"variables", formula.vars())?;
-    put_count(&mut text, b"clauses", formula.count())?;
+    put_basis(&mut text, alloc, history, &belonging, options)?;
+    put_count(&mut text, b"variables", belonging.formula.vars())?;
+    put_count(&mut text, b"clauses", belonging.formula.count())?;
     Ok(Reply {
         status: Status::Done,
         text,
     })
 }
 
-/// Writes how many sessions, committed and aborted transactions, keys and operations a log has, and then its anomaly or the
-/// number of its choices, and the variables and clauses of its formula: a line each, of a word, a space and a number.
+/// Writes how many sessions, committed and aborted transactions, keys and operations a log has; then its anomaly, or the number of
+/// choices between chains, of those of them that pruning settled, and of those that are open, or with `--plain` the number of
+/// bipaths; and the variables and clauses of its formula: a line each, of a word, a space and a number.
 ///
 /// # Errors
 /// Those of `encode`.
@@ -166,6 +166,6 @@ pub fn stats<R: Threads + Wait + Clock + Sync, G: Gate, W: Sink>(
     ensures count { W.failures sink.new ≡ failures_after (W.failures sink.old) result }
 {
     let history = read_log(rt, alloc, log, options.workers, gate)?;
-    let reply = counted(alloc, &history, options)?;
+    let reply = counted(rt, alloc, &history, options, gate)?;
     tell(sink, &reply)
 }

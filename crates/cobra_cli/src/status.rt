@@ -46,7 +46,7 @@ pub enum StrategyName {
 /// What may be asked of a command beside its input.
 #[derive(Clone, Copy)]
 pub struct Options {
-    /// The plain formula was asked for. It is the only one so far, and is taken with or without this.
+    /// The plain formula was asked for, in place of the reduced one.
     pub plain: bool,
     /// How many workers read the log, prune and search.
     pub workers: Workers,

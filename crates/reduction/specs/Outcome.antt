@@ -21,7 +21,7 @@ abbrev pub anomaly_in : Reduction → Option Anomaly
 anomaly_in (Anomalous a) = Some a
 anomaly_in (Cyclic line) = None
 anomaly_in (Dead ledger) = None
-anomaly_in (Open reduced) = None
+anomaly_in (Open choices reduced) = None
 
 -- the line is a cycle of what is known, between nodes of the log
 pub record IsCyclicHistory (ss : List ClientSession) (line : List ℕ) : Type 0 where
@@ -43,12 +43,17 @@ pub record IsOpenHistory (ss : List ClientSession) (reduced : Remainder) : Type 
   pub left : IsRemainder poly reduced
   pub orders : HasItsOrders ss reduced.poly
 
+-- the polygraph of the chains has so many choices, and this is what pruning leaves of it
+pub record IsCountedHistory (ss : List ClientSession) (choices : ℕ) (reduced : Remainder) : Type 0 where
+  pub counted : choices ≡ length (chain_choices (log_of ss))
+  pub left : IsOpenHistory ss reduced
+
 -- of the anomaly that is reported `anomaly_in` speaks
 abbrev pub IsReduction : List ClientSession → Reduction → Type 0
 IsReduction ss (Anomalous a) = HasNoSerialOrder ss
 IsReduction ss (Cyclic line) = IsCyclicHistory ss line.items
 IsReduction ss (Dead ledger) = IsDeadHistory ss ledger
-IsReduction ss (Open reduced) = IsOpenHistory ss reduced
+IsReduction ss (Open choices reduced) = IsCountedHistory ss choices reduced
 
 -- where neither an anomaly stands nor the arcs have a cycle, there are more than 100,000 choices between chains; of want of
 -- memory nothing is said

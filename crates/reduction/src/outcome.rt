@@ -13,6 +13,7 @@ pub enum Reduction {
     Cyclic(Vec<NodeIx>),
     /// Pruning ended in a cycle, which the ledger gives (A9).
     Dead(Ledger),
-    /// What pruning leaves. The serial orders are those that fit it.
-    Open(Reduced),
+    /// What pruning leaves of the polygraph of the chains, which has so many choices. The serial orders are those
+    /// that fit it.
+    Open { choices: usize, reduced: Reduced },
 }

@@ -66,9 +66,10 @@ fn reduce_clean<G: Gate, R: Threads + Wait + Clock + Sync>(
     if let Some(cycle) = polygraph.known().find_cycle(alloc)? {
         return Ok(Reduction::Cyclic(cycle));
     }
+    let choices = polygraph.choices().len();
     match prune(rt, alloc, polygraph, workers, gate)? {
         Pruned::Dead(ledger) => Ok(Reduction::Dead(ledger)),
-        Pruned::Open(reduced) => Ok(Reduction::Open(reduced)),
+        Pruned::Open(reduced) => Ok(Reduction::Open { choices, reduced }),
     }
 }
 

@@ -77,7 +77,7 @@ fn ledger(rt: &impl Abort, reduction: Reduction) -> Ledger {
 
 fn left(rt: &impl Abort, reduction: Reduction) -> Reduced {
     match reduction {
-        Reduction::Open(reduced) => reduced,
+        Reduction::Open { reduced, .. } => reduced,
         _ => panic!(rt; "nothing left"),
     }
 }

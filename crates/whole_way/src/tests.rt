@@ -29,7 +29,15 @@ enum Command<'a> {
 fn options(rt: &impl Abort) -> Options {
     Options {
         plain: true,
-        workers: Workers::new(4).expect(rt, "four workers are few"),
+        ..reduced(rt, 4)
+    }
+}
+
+/// The options for the reduced formula, with so many workers.
+fn reduced(rt: &impl Abort, workers: u8) -> Options {
+    Options {
+        plain: false,
+        workers: Workers::new(workers).expect(rt, "workers"),
         strategy: StrategyName::First,
         budget: Budget::new(10_000).expect(rt, "a budget"),
     }
@@ -247,6 +255,200 @@ fn commands_over_logs(rt: HostRuntime) -> Result<(), Fail> {
         assert_eq!(rt; code, status, "{text:?}");
         assert_eq!(rt; printed.as_slice(), text.as_bytes());
     }
+    Ok(())
+}
+
+// Two writers of a key that nobody reads.
+const UNREAD: &str = "session 1\nbegin\nw x 1\ncommit\nsession 2\nbegin\nw x 2\ncommit\n";
+
+// Each of three choices is settled in turn.
+const SETTLED: &str = "session 1\nbegin\nw a 1\ncommit\nbegin\nw a 2\nw b 3\nw c 4\ncommit\n\
+    session 2\nbegin\nr a 1\nw b 5\ncommit\nsession 3\nbegin\nr b 5\nw c 6\ncommit\n\
+    session 4\nbegin\nr c 6\ncommit\n";
+
+// The same, where the last transaction also reads what the second one writes.
+const DEAD: &str = "session 1\nbegin\nw a 1\ncommit\nbegin\nw a 2\nw b 3\nw c 4\nw d 7\ncommit\n\
+    session 2\nbegin\nr a 1\nw b 5\ncommit\nsession 3\nbegin\nr b 5\nw c 6\ncommit\n\
+    session 4\nbegin\nr c 6\nr d 7\ncommit\n";
+
+// Two writers of each of two keys, and a reader of each pair of what they wrote.
+const EACH_PAIR_READ: &str = "session 1\nbegin\nw x 1\ncommit\nsession 2\nbegin\nw x 2\ncommit\n\
+    session 3\nbegin\nw y 3\ncommit\nsession 4\nbegin\nw y 4\ncommit\n\
+    session 5\nbegin\nr x 1\nr y 3\ncommit\nsession 6\nbegin\nr x 1\nr y 4\ncommit\n\
+    session 7\nbegin\nr x 2\nr y 3\ncommit\nsession 8\nbegin\nr x 2\nr y 4\ncommit\n";
+
+// Each transaction reads what the one before wrote.
+const ONE_CHAIN: &str = "session 1\nbegin\nr x 0\nw x 1\ncommit\nbegin\nr x 1\nw x 2\ncommit\n\
+    begin\nr x 2\nw x 3\ncommit\nbegin\nr x 3\nw x 4\ncommit\nbegin\nr x 4\nw x 5\ncommit\n";
+
+// Two chains of a key, each with a reader of its last write.
+const TWO_CHAINS: &str = "session 1\nbegin\nw x 1\ncommit\nsession 2\nbegin\nr x 1\nw x 2\ncommit\n\
+    session 3\nbegin\nw x 3\ncommit\nsession 4\nbegin\nr x 3\nw x 4\ncommit\n\
+    session 5\nbegin\nr x 2\ncommit\nsession 6\nbegin\nr x 4\ncommit\n";
+
+const TWO_CHAINS_FORMULA: &str = "p cnf 10 20\n-4 1 0\n-5 2 0\n-6 3 0\n-1 2 0\n1 7 0\n-1 3 0\n2 8 0\n-2 3 0\n\
+    -9 3 0\n-4 5 0\n4 7 0\n-4 6 0\n5 8 0\n-5 6 0\n-9 6 0\n-8 7 0\n7 9 0\n8 9 0\n-10 -7 0\n10 -3 0\n";
+
+#[test]
+fn reduced_formulas(rt: HostRuntime) -> Result<(), Fail> {
+    for (command, log, status, text) in [
+        (Command::Encode, "", 0, "p cnf 0 0\n"),
+        (Command::Decode("s SATISFIABLE\nv 0\n"), "", 0, ""),
+        (
+            Command::Encode,
+            TWO_WRITERS,
+            0,
+            "p cnf 3 3\n1 2 0\n-3 -2 0\n3 -1 0\n",
+        ),
+        (
+            Command::Decode("s SATISFIABLE\nv 1 -2 3 0\n"),
+            TWO_WRITERS,
+            0,
+            "1 1\n3 1\n2 1\n",
+        ),
+        (
+            Command::Decode("s SATISFIABLE\nv 1 3 0\n"),
+            TWO_WRITERS,
+            0,
+            "1 1\n3 1\n2 1\n",
+        ),
+        (
+            Command::Decode("v 1\r\nv -2 3 0\r\ns SATISFIABLE\r\n"),
+            TWO_WRITERS,
+            0,
+            "1 1\n3 1\n2 1\n",
+        ),
+        (
+            Command::Decode("s SATISFIABLE\nv 1 2 3 0\n"),
+            TWO_WRITERS,
+            2,
+            "refused: E1 clause 2",
+        ),
+        (
+            Command::Decode("s SATISFIABLE\nv 1 -1 0\n"),
+            TWO_WRITERS,
+            2,
+            "refused: M5 line 2",
+        ),
+        (
+            Command::Decode("s SATISFIABLE\nv 4 0\n"),
+            TWO_WRITERS,
+            2,
+            "refused: M4 line 2",
+        ),
+        (
+            Command::Decode("s SATISFIABLE\nv 1 -2 3\n"),
+            TWO_WRITERS,
+            2,
+            "refused: M6",
+        ),
+        (
+            Command::Decode("v 1 -2 3 0\n"),
+            TWO_WRITERS,
+            2,
+            "refused: M3",
+        ),
+        (
+            Command::Decode("s UNKNOWN\ns UNKNOWN\n"),
+            TWO_WRITERS,
+            2,
+            "refused: M2 line 2",
+        ),
+        (
+            Command::Decode("s UNSATISFIABLE\n"),
+            TWO_WRITERS,
+            3,
+            "unsatisfiable claimed, not checked\n",
+        ),
+        (Command::Encode, WRITE_SKEW, 0, CONTRADICTION),
+        (
+            Command::Stats,
+            WRITE_SKEW,
+            0,
+            "sessions 2\ncommitted 2\naborted 0\nkeys 2\noperations 6\nanomaly A8\nvariables 1\nclauses 2\n",
+        ),
+        (Command::Encode, LATER_WRITE_READ, 0, CONTRADICTION),
+        (Command::Encode, LOST_UPDATE, 0, CONTRADICTION),
+        (
+            Command::Stats,
+            LOST_UPDATE,
+            0,
+            "sessions 2\ncommitted 2\naborted 0\nkeys 1\noperations 4\nanomaly A7\nvariables 1\nclauses 2\n",
+        ),
+        (Command::Encode, ABORTED_WRITE, 0, "p cnf 0 0\n"),
+        (Command::Encode, ONE_CHAIN, 0, "p cnf 0 0\n"),
+        (
+            Command::Decode("s SATISFIABLE\nv 0\n"),
+            ONE_CHAIN,
+            0,
+            "1 1\n1 2\n1 3\n1 4\n1 5\n",
+        ),
+        (Command::Encode, SETTLED, 0, "p cnf 0 0\n"),
+        (
+            Command::Stats,
+            SETTLED,
+            0,
+            "sessions 4\ncommitted 5\naborted 0\nkeys 3\noperations 9\nchoices 3\nforced 3\nopen 0\nvariables 0\nclauses 0\n",
+        ),
+        (Command::Encode, DEAD, 0, CONTRADICTION),
+        (
+            Command::Stats,
+            DEAD,
+            0,
+            "sessions 4\ncommitted 5\naborted 0\nkeys 4\noperations 11\nanomaly A9\nvariables 1\nclauses 2\n",
+        ),
+        (Command::Encode, UNREAD, 0, "p cnf 2 2\n-2 1 0\n2 -1 0\n"),
+        (
+            Command::Stats,
+            EACH_PAIR_READ,
+            0,
+            "sessions 8\ncommitted 8\naborted 0\nkeys 2\noperations 12\nchoices 2\nforced 0\nopen 2\nvariables 22\nclauses 72\n",
+        ),
+    ] {
+        let (code, printed) = told(&rt, rt.alloc(), &reduced(&rt, 4), command, log)?;
+        assert_eq!(rt; code, status, "{text:?}");
+        assert_eq!(rt; printed.as_slice(), text.as_bytes());
+    }
+    Ok(())
+}
+
+#[test]
+fn each_number_of_workers(rt: HostRuntime) -> Result<(), Fail> {
+    for workers in [1, 4, 16] {
+        for (command, text) in [
+            (Command::Encode, TWO_CHAINS_FORMULA),
+            (
+                Command::Stats,
+                "sessions 6\ncommitted 6\naborted 0\nkeys 1\noperations 8\nchoices 1\nforced 0\nopen 1\nvariables 10\nclauses 20\n",
+            ),
+            (
+                Command::Decode("s SATISFIABLE\nv 1 2 3 4 5 6 -7 -8 9 10 0\n"),
+                "1 1\n2 1\n5 1\n3 1\n4 1\n6 1\n",
+            ),
+        ] {
+            let (code, printed) =
+                told(&rt, rt.alloc(), &reduced(&rt, workers), command, TWO_CHAINS)?;
+            assert_eq!(rt; code, 0, "{text:?}");
+            assert_eq!(rt; printed.as_slice(), text.as_bytes());
+        }
+    }
+    Ok(())
+}
+
+// A hundred and one transactions of a session are too many for the plain formula alone.
+#[test]
+fn the_plain_limit(rt: HostRuntime) -> Result<(), Fail> {
+    let mut log = String::new(rt.alloc());
+    log.push_str("session 1\n")?;
+    for _ in 0..101 {
+        log.push_str("begin\ncommit\n")?;
+    }
+    let (code, printed) = told(&rt, rt.alloc(), &options(&rt), Command::Encode, &log)?;
+    assert_eq!(rt; code, 2);
+    assert_eq!(rt; printed.as_slice(), b"refused: G2".as_slice());
+    let (code, printed) = told(&rt, rt.alloc(), &reduced(&rt, 4), Command::Encode, &log)?;
+    assert_eq!(rt; code, 0);
+    assert_eq!(rt; printed.as_slice(), b"p cnf 0 0\n".as_slice());
     Ok(())
 }
 

@@ -11,12 +11,12 @@ order_of-requires c = record { each_variable = ap length c.requires.named ∙ as
 pub print_order-requires : goal.print_order-requires
 print_order-requires c = record {
   nodes = nodes_of_serial c.args.history.now c.in_ok-order.order
-      (serial_of c.args.history.now c.requires.well_formed (cnf_of c.args.formula.now) c.args.values.now c.in_ok-order.order c.requires.names.belongs.formula
+      (serial_of c.args.history.now (cnf_of c.args.formula.now) c.requires.faithful c.args.values.now c.in_ok-order.order
       c.in_ok-order.ensures.satisfied c.in_ok-order.ensures.order);
 }
 
 pub returns-clause-decoded : goal.returns-clause-decoded
 returns-clause-decoded c =
     model (cnf_of c.args.formula.now) c.requires.names c.in_ok-print_order.field-0.items
-    (order_text_of c.args.answer.now c.args.history.now c.requires.well_formed (cnf_of c.args.formula.now) c.requires.names.belongs.formula c.args.values.now c.requires.named
+    (order_text_of c.args.answer.now c.args.history.now (cnf_of c.args.formula.now) c.requires.faithful c.args.values.now c.requires.named
     c.in_ok-order.ensures.satisfied c.in_ok-order.order c.in_ok-order.ensures.order c.in_ok-print_order.field-0.items c.in_ok-print_order.ensures.text)

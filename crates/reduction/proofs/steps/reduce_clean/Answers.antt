@@ -1,4 +1,4 @@
-use Rattle.std.proofs.Common.{subst, rules}
+use Rattle.std.proofs.Common.{length, ap, ◌∙◌, subst, rules}
 use Rattle.std.proofs.lemmas.Result.{err_from_is_err_and}
 use Rattle.reach_laws.specs.Reach.{Graph, IsCyclic, IsCycle}
 use Rattle.log_definitions.specs.Numbers.{log_of}
@@ -41,4 +41,7 @@ returns-in-Open-clause-reduction g c =
     let acyclic : IsCyclic c.known.result.now.edges → ⊥ = search rules in
     let coalesced = coalesced_log (log_of c.args.history.now) c.requires.none (subst (λ (known : Graph). IsCyclic known.edges → ⊥) c.in_ok-arcs.ensures.arcs arcs_acyclic) c.in_ok-polygraph.ensures.few in
     let unpruned = unpruned_polygraph (log_of c.args.history.now) c.in_ok-polygraph.polygraph coalesced c.in_ok-polygraph.ensures.chained (subst (λ (known : Graph). IsCyclic known.edges → ⊥) c.known.ensures acyclic) in
-    open_history c.args.history.now c.in_ok-polygraph.polygraph c.in-Open.reduced unpruned c.in_ok-polygraph.ensures.orders (rw c.in-Open.is at c.in_ok-ledger.ensures)
+    record {
+      counted = ap length c.choices-choices.ensures.choices ∙ ap length c.in_ok-polygraph.ensures.chained.choices;
+      left = open_history c.args.history.now c.in_ok-polygraph.polygraph c.in-Open.reduced unpruned c.in_ok-polygraph.ensures.orders (rw c.in-Open.is at c.in_ok-ledger.ensures);
+    }
