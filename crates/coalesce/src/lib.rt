@@ -6,6 +6,3 @@ mod coalesced;
 mod known;
 
 pub use coalesced::coalesce;
-
-#[cfg(test)]
-mod tests;

@@ -4,6 +4,3 @@
 mod words;
 
 pub use words::{Command, Request, StrategyWord, Words, words_of};
-
-#[cfg(test)]
-mod tests;

@@ -9,8 +9,6 @@
 pub mod laws;
 mod line;
 mod parts;
-#[cfg(test)]
-mod tests;
 
 pub use line::NodeLine;
 pub use parts::{Event, Mark, Reply};

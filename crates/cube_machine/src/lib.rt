@@ -22,6 +22,3 @@ pub use budget::{Budget, MAX_BUDGET};
 pub use machine::CubeMachine;
 pub use origin::Origin;
 pub use row::Row;
-
-#[cfg(test)]
-mod tests;

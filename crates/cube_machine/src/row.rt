@@ -55,8 +55,8 @@ impl Row {
     }
 
     /// Notes how a node was led to, where the row has a word for the node and the parent's number is below
-    /// 2^21.
-    pub(crate) fn note(&self, node: usize, origin: Origin) {
+    /// 2^21. The machine does so for each node that it makes.
+    pub fn note(&self, node: usize, origin: Origin) {
         if origin.parent >= PARENTS {
             return;
         }

@@ -80,5 +80,3 @@ pub mod opened;
 mod row;
 pub mod seat;
 pub mod seat_no;
-#[cfg(test)]
-mod tests;

@@ -29,8 +29,6 @@ mod machine;
 mod parsed;
 mod parts;
 mod rules;
-#[cfg(test)]
-mod tests;
 mod worker;
 
 pub use collecting::collect;

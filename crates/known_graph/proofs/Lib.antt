@@ -14,5 +14,4 @@ pub mod ReadSources
 pub mod ArcSets
 pub mod Rests
 pub mod Rows
-pub mod TwoTransactions
 pub mod Tested

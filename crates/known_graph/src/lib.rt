@@ -13,6 +13,3 @@ mod reached;
 mod walks;
 
 pub use graph::Known;
-
-#[cfg(test)]
-mod tests;

@@ -19,6 +19,3 @@ pub use fault::PolyFault;
 pub use fits::{keeps_known, order_fits};
 pub use index::{ChoiceIx, MAX_CHOICES};
 pub use polygraph::Polygraph;
-
-#[cfg(test)]
-mod tests;

@@ -19,6 +19,10 @@ use Rattle.prune_ledger.specs.declared.ledger.Ledger.{Ledger}
 abbrev pub posts_in : List LedgerEntry → List Posted
 posts_in entries = map (λ x. x.post) entries
 
+-- the seats that the entries name
+abbrev pub seats_in : List LedgerEntry → List ℕ
+seats_in entries = map (λ x. x.seat) entries
+
 -- the sides that the entries keep, the newest first
 abbrev pub kept_by : List LedgerEntry → List Entry
 kept_by entries = kept_after [] (posts_in entries)

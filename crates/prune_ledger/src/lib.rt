@@ -17,8 +17,6 @@ mod round;
 mod rounds;
 mod rowed;
 mod rules;
-#[cfg(test)]
-mod tests;
 
 pub use checking::check_ledger;
 pub use judging::{Verdict, judge};

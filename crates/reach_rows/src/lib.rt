@@ -13,6 +13,3 @@ mod source;
 mod words;
 
 pub use bit_rows::Rows;
-
-#[cfg(test)]
-mod tests;

@@ -9,8 +9,6 @@ mod line;
 mod parse;
 mod print;
 mod session;
-#[cfg(test)]
-mod tests;
 mod words;
 
 pub use block::{Block, MAX_LOG_BYTES, MAX_SESSIONS, cut, parse_block};

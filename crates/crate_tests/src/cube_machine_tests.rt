@@ -1,0 +1,443 @@
+ghost use Rattle.std.specs.Prelude.{◌≡◌};
+ghost use Rattle.std.specs.List.{AllByRecursion};
+ghost use Rattle.polygraph.specs.Polygraphs.{Joins, JoinsBoth};
+
+use cube_laws::{Event, Mark, NodeLine, Reply};
+use cube_machine::{Budget, CubeMachine, MAX_BUDGET, Origin, Row};
+use desk::machine::Machine;
+use desk::seat_no::SeatNo;
+use known_graph::Known;
+use polygraph::{Choice, ChoiceIx, Edges, Polygraph};
+use pruning_laws::Side;
+use reach_laws::Edge;
+use serializability::NodeIx;
+use std::alloc::Global;
+use std::process::Abort;
+use std::test::*;
+
+fn node(rt: &impl Abort, number: usize) -> NodeIx
+    ensures { result ≡ number }
+{
+    NodeIx::new(number).expect(rt, "a node")
+}
+
+fn index(rt: &impl Abort, number: usize) -> ChoiceIx {
+    ChoiceIx::new(number).expect(rt, "a choice")
+}
+
+fn budget(rt: &impl Abort, number: usize) -> Budget {
+    Budget::new(number).expect(rt, "a budget")
+}
+
+fn line(rt: &impl Abort, alloc: Global, numbers: &[usize]) -> NodeLine {
+    let mut nodes = Vec::new(alloc);
+    for &number in numbers {
+        nodes.push(node(rt, number)).expect(rt, "memory");
+    }
+    NodeLine::from_nodes(nodes)
+}
+
+fn edge(rt: &impl Abort, ends: (usize, usize)) -> Edge
+    ensures { Joins 8 result }
+{
+    assert!(rt; ends.0 <= 8 && ends.1 <= 8 && ends.0 != ends.1);
+    Edge::new(node(rt, ends.0), node(rt, ends.1))
+}
+
+// A side of two edges into one node, or out of it.
+fn side(rt: &impl Abort, alloc: Global, first: (usize, usize), second: (usize, usize)) -> Edges
+    ensures { AllByRecursion (Joins 8) result }
+{
+    let mut edges = Vec::new(alloc);
+    edges.push(edge(rt, first)).expect(rt, "memory");
+    edges.push(edge(rt, second)).expect(rt, "memory");
+    Edges::many(edges)
+}
+
+fn join(rt: &impl Abort, known: &mut Known, ends: (usize, usize)) {
+    let (u, v) = (node(rt, ends.0), node(rt, ends.1));
+    assert!(rt; u.get() <= known.nodes() && v.get() <= known.nodes());
+    known.add_edge(u, v);
+}
+
+// Eight transactions: 1 and 2 write x, 3 and 4 write y, and 5 to 8 read one of each. Each reader that
+// reads 1 stands before 2, or else each that reads 2 stands before 1; and so for 3 and 4.
+fn four_readers(rt: &impl Abort, alloc: Global) -> Polygraph {
+    let mut known = Known::new(alloc, 8).expect(rt, "memory");
+    for ends in [
+        (1, 5),
+        (3, 5),
+        (1, 6),
+        (4, 6),
+        (2, 7),
+        (3, 7),
+        (2, 8),
+        (4, 8),
+    ] {
+        join(rt, &mut known, ends);
+    }
+    assert_eq!(rt; known.nodes(), 8);
+    let first = Choice::new(
+        side(rt, alloc, (5, 2), (6, 2)),
+        side(rt, alloc, (7, 1), (8, 1)),
+    );
+    let second = Choice::new(
+        side(rt, alloc, (5, 4), (7, 4)),
+        side(rt, alloc, (6, 3), (8, 3)),
+    );
+    let mut choices = Vec::new(alloc);
+    choices.push(first).expect(rt, "memory");
+    choices.push(second).expect(rt, "memory");
+    Polygraph::new(known, choices)
+}
+
+fn see(rt: &impl Abort, machine: &mut CubeMachine, seat: u8, event: Event, want: Reply) {
+    let seat = SeatNo::new(seat).expect(rt, "a seat");
+    let reply = machine.step(seat, &event);
+    assert_eq!(rt; reply, want);
+}
+
+fn waits(rt: &impl Abort, machine: &CubeMachine, seat: u8, event: Event) -> bool {
+    let seat = SeatNo::new(seat).expect(rt, "a seat");
+    machine.waits(seat, &event)
+}
+
+#[test]
+fn steps_until_a_side_is_refuted(rt: HostRuntime) {
+    let rt = &rt;
+    let alloc = rt.alloc();
+    let polygraph = four_readers(rt, alloc);
+    let row = Row::new(alloc, budget(rt, 7)).expect(rt, "memory");
+    let machine = &mut CubeMachine::opening(alloc, &polygraph, budget(rt, 7), &row).expect(
+        rt, "memory",
+    );
+    see(rt, machine, 1, Event::TakeAny, Reply::Cube(0));
+    see(rt, machine, 1, Event::Claim(0), Reply::HasCube);
+    see(rt, machine, 2, Event::Claim(0), Reply::NotOpen);
+    see(rt, machine, 2, Event::Split(index(rt, 0)), Reply::NoCube);
+    see(rt, machine, 1, Event::Split(index(rt, 2)), Reply::BadChoice);
+    see(
+        rt,
+        machine,
+        1,
+        Event::Split(index(rt, 0)),
+        Reply::Children(1, 2),
+    );
+    see(rt, machine, 1, Event::Claim(1), Reply::Cube(1));
+    see(rt, machine, 1, Event::Split(index(rt, 0)), Reply::BadChoice);
+    see(
+        rt,
+        machine,
+        1,
+        Event::Split(index(rt, 1)),
+        Reply::Children(3, 4),
+    );
+    see(rt, machine, 2, Event::TakeAny, Reply::Cube(4));
+    let not_here = Event::Refute(line(rt, alloc, &[2, 7, 4, 6, 2]));
+    see(rt, machine, 2, not_here, Reply::BadCycle);
+    let cycle = Event::Refute(line(rt, alloc, &[2, 8, 3, 5, 2]));
+    see(rt, machine, 2, cycle, Reply::Closed);
+    see(rt, machine, 1, Event::Claim(3), Reply::Cube(3));
+    let cycle = Event::Refute(line(rt, alloc, &[2, 7, 4, 6, 2]));
+    see(rt, machine, 1, cycle, Reply::Closed);
+    assert_eq!(rt; machine.closed(), 4);
+    assert_eq!(rt; machine.node_count(), 5);
+    assert_eq!(rt;
+        row.origin(3),
+        Some(Origin {
+            parent: 1,
+            choice: index(rt, 1),
+            side: Side::One
+        })
+    );
+}
+
+#[test]
+fn steps_with_a_release(rt: HostRuntime) {
+    let rt = &rt;
+    let alloc = rt.alloc();
+    let polygraph = four_readers(rt, alloc);
+    let row = Row::new(alloc, budget(rt, 7)).expect(rt, "memory");
+    let machine = &mut CubeMachine::opening(alloc, &polygraph, budget(rt, 7), &row).expect(
+        rt, "memory",
+    );
+    see(rt, machine, 1, Event::Claim(0), Reply::Cube(0));
+    see(rt, machine, 1, Event::Release, Reply::Released);
+    see(rt, machine, 2, Event::Claim(0), Reply::Cube(0));
+    see(rt, machine, 1, Event::Claim(0), Reply::NotOpen);
+    see(
+        rt,
+        machine,
+        2,
+        Event::Split(index(rt, 1)),
+        Reply::Children(1, 2),
+    );
+    see(rt, machine, 2, Event::Split(index(rt, 0)), Reply::NoCube);
+    see(rt, machine, 1, Event::Claim(9), Reply::NotOpen);
+    see(rt, machine, 1, Event::TakeAny, Reply::Cube(2));
+    let order = Event::Solve(line(rt, alloc, &[1, 2, 3, 4, 5, 6, 7, 8]));
+    see(rt, machine, 1, order, Reply::BadOrder);
+}
+
+// Two transactions with no edge between them, and a choice of either order.
+fn either_order(rt: &impl Abort, alloc: Global) -> Polygraph {
+    let known = Known::new(alloc, 2).expect(rt, "memory");
+    let (one, two) = (node(rt, 1), node(rt, 2));
+    assert_eq!(rt; known.nodes(), 2);
+    let choice = one_or_other(one, two);
+    let mut choices = Vec::new(alloc);
+    choices.push(choice).expect(rt, "memory");
+    Polygraph::new(known, choices)
+}
+
+fn one_or_other(one: NodeIx, two: NodeIx) -> Choice
+    requires { (one ≡ 1) × (two ≡ 2) }
+    ensures { JoinsBoth 2 result }
+{
+    Choice::new(
+        Edges::single(Edge::new(one, two)),
+        Edges::single(Edge::new(two, one)),
+    )
+}
+
+#[test]
+fn steps_until_a_cube_is_solved(rt: HostRuntime) {
+    let rt = &rt;
+    let alloc = rt.alloc();
+    let polygraph = either_order(rt, alloc);
+    let row = Row::new(alloc, budget(rt, 3)).expect(rt, "memory");
+    let machine = &mut CubeMachine::opening(alloc, &polygraph, budget(rt, 3), &row).expect(
+        rt, "memory",
+    );
+    see(rt, machine, 1, Event::TakeAny, Reply::Cube(0));
+    let early = Event::Solve(line(rt, alloc, &[2, 1]));
+    see(rt, machine, 1, early, Reply::BadOrder);
+    see(
+        rt,
+        machine,
+        1,
+        Event::Split(index(rt, 0)),
+        Reply::Children(1, 2),
+    );
+    see(rt, machine, 1, Event::TakeAny, Reply::Cube(2));
+    for wrong in [
+        [1, 2].as_slice(),
+        [2, 2].as_slice(),
+        [2].as_slice(),
+        [2, 1, 1].as_slice(),
+        [].as_slice(),
+    ] {
+        let event = Event::Solve(line(rt, alloc, wrong));
+        see(rt, machine, 1, event, Reply::BadOrder);
+    }
+    assert!(rt; !machine.is_solved() && !machine.is_finished());
+    let order = Event::Solve(line(rt, alloc, &[2, 1]));
+    see(rt, machine, 1, order, Reply::Solved);
+    assert!(rt; machine.is_solved() && machine.is_finished() && !machine.is_exhausted());
+    assert_eq!(rt; machine.closed(), 2);
+    see(rt, machine, 2, Event::Claim(1), Reply::Finished);
+    see(rt, machine, 2, Event::TakeAny, Reply::Finished);
+    see(rt, machine, 2, Event::Release, Reply::Released);
+    assert_eq!(rt; machine.node_count(), 3);
+    if machine.node_count() == 3 {
+        assert_eq!(rt; machine.mark(0), Mark::Split(index(rt, 0)));
+        assert_eq!(rt; machine.mark(1), Mark::Open);
+        assert_eq!(rt; machine.mark(2), Mark::Solved);
+        assert_eq!(rt; machine.origin(0), None);
+        assert_eq!(rt;
+            machine.origin(2),
+            Some(Origin {
+                parent: 0,
+                choice: index(rt, 0),
+                side: Side::Two
+            })
+        );
+    }
+}
+
+#[test]
+fn steps_until_the_budget_is_spent(rt: HostRuntime) {
+    let rt = &rt;
+    let alloc = rt.alloc();
+    let polygraph = either_order(rt, alloc);
+    let row = Row::new(alloc, budget(rt, 1)).expect(rt, "memory");
+    let machine = &mut CubeMachine::opening(alloc, &polygraph, budget(rt, 1), &row).expect(
+        rt, "memory",
+    );
+    see(rt, machine, 16, Event::Claim(0), Reply::Cube(0));
+    see(
+        rt,
+        machine,
+        16,
+        Event::Split(index(rt, 0)),
+        Reply::Children(1, 2),
+    );
+    see(rt, machine, 16, Event::Claim(1), Reply::Finished);
+    assert!(rt; machine.is_finished() && !machine.is_solved() && !machine.is_exhausted());
+    assert_eq!(rt; machine.closed(), 1);
+}
+
+// Each cube of the four readers is refuted.
+#[test]
+fn steps_until_nothing_is_left(rt: HostRuntime) {
+    let rt = &rt;
+    let alloc = rt.alloc();
+    let polygraph = four_readers(rt, alloc);
+    let row = Row::new(alloc, budget(rt, 7)).expect(rt, "memory");
+    let machine = &mut CubeMachine::opening(alloc, &polygraph, budget(rt, 8), &row).expect(
+        rt, "memory",
+    );
+    see(rt, machine, 1, Event::Claim(0), Reply::Cube(0));
+    see(
+        rt,
+        machine,
+        1,
+        Event::Split(index(rt, 0)),
+        Reply::Children(1, 2),
+    );
+    see(rt, machine, 1, Event::Claim(1), Reply::Cube(1));
+    see(
+        rt,
+        machine,
+        1,
+        Event::Split(index(rt, 1)),
+        Reply::Children(3, 4),
+    );
+    see(rt, machine, 1, Event::Claim(2), Reply::Cube(2));
+    see(
+        rt,
+        machine,
+        1,
+        Event::Split(index(rt, 1)),
+        Reply::Children(5, 6),
+    );
+    for (id, cycle) in [
+        (3, [2, 7, 4, 6, 2].as_slice()),
+        (6, [1, 6, 3, 7, 1].as_slice()),
+        (4, [5, 2, 8, 3, 5].as_slice()),
+        (5, [1, 5, 4, 8, 1].as_slice()),
+    ] {
+        assert!(rt; !machine.is_exhausted());
+        see(rt, machine, 2, Event::Claim(id), Reply::Cube(id));
+        for wrong in [[].as_slice(), [1].as_slice(), [1, 5].as_slice()] {
+            let event = Event::Refute(line(rt, alloc, wrong));
+            see(rt, machine, 2, event, Reply::BadCycle);
+        }
+        let event = Event::Refute(line(rt, alloc, cycle));
+        see(rt, machine, 2, event, Reply::Closed);
+    }
+    assert!(rt; machine.is_exhausted() && machine.is_finished() && !machine.is_solved());
+    assert_eq!(rt; machine.closed(), 7);
+}
+
+#[test]
+fn released_cubes_are_taken_greatest_first(rt: HostRuntime) {
+    let rt = &rt;
+    let alloc = rt.alloc();
+    let polygraph = four_readers(rt, alloc);
+    let row = Row::new(alloc, budget(rt, 7)).expect(rt, "memory");
+    let machine = &mut CubeMachine::opening(alloc, &polygraph, budget(rt, 7), &row).expect(
+        rt, "memory",
+    );
+    see(rt, machine, 1, Event::TakeAny, Reply::Cube(0));
+    see(
+        rt,
+        machine,
+        1,
+        Event::Split(index(rt, 0)),
+        Reply::Children(1, 2),
+    );
+    see(rt, machine, 1, Event::Claim(1), Reply::Cube(1));
+    see(
+        rt,
+        machine,
+        1,
+        Event::Split(index(rt, 1)),
+        Reply::Children(3, 4),
+    );
+    see(rt, machine, 1, Event::Claim(3), Reply::Cube(3));
+    see(rt, machine, 2, Event::Claim(2), Reply::Cube(2));
+    see(rt, machine, 1, Event::Release, Reply::Released);
+    see(rt, machine, 2, Event::Release, Reply::Released);
+    for (seat, id) in [(1, 4), (2, 3), (3, 2)] {
+        see(rt, machine, seat, Event::TakeAny, Reply::Cube(id));
+    }
+    see(rt, machine, 4, Event::TakeAny, Reply::NoneNow);
+    see(rt, machine, 2, Event::TakeAny, Reply::HasCube);
+}
+
+#[test]
+fn a_request_waits_while_another_seat_holds_all_there_is(rt: HostRuntime) {
+    let rt = &rt;
+    let alloc = rt.alloc();
+    let polygraph = either_order(rt, alloc);
+    let row = Row::new(alloc, budget(rt, 2)).expect(rt, "memory");
+    let machine = &mut CubeMachine::opening(alloc, &polygraph, budget(rt, 2), &row).expect(
+        rt, "memory",
+    );
+    assert!(rt; !waits(rt, machine, 2, Event::TakeAny));
+    see(rt, machine, 1, Event::TakeAny, Reply::Cube(0));
+    assert!(rt; waits(rt, machine, 2, Event::TakeAny));
+    assert!(rt; !waits(rt, machine, 1, Event::TakeAny));
+    assert!(rt; !waits(rt, machine, 2, Event::Claim(0)));
+    assert!(rt; !waits(rt, machine, 2, Event::Split(index(rt, 0))));
+    assert!(rt; !waits(rt, machine, 2, Event::Release));
+    see(
+        rt,
+        machine,
+        1,
+        Event::Split(index(rt, 0)),
+        Reply::Children(1, 2),
+    );
+    assert!(rt; !waits(rt, machine, 2, Event::TakeAny));
+    see(rt, machine, 1, Event::TakeAny, Reply::Cube(2));
+    see(rt, machine, 3, Event::TakeAny, Reply::Cube(1));
+    assert!(rt; waits(rt, machine, 2, Event::TakeAny));
+    let order = Event::Solve(line(rt, alloc, &[2, 1]));
+    see(rt, machine, 1, order, Reply::Solved);
+    assert!(rt; !waits(rt, machine, 2, Event::TakeAny));
+}
+
+#[test]
+fn budgets_have_limits(rt: HostRuntime) {
+    assert_eq!(rt; MAX_BUDGET, 1_000_000);
+    for number in [1, 7, 1_000_000] {
+        let budget = Budget::new(number).expect(&rt, "a budget");
+        assert_eq!(rt; budget.get(), number);
+    }
+    assert!(rt; Budget::new(0).is_none());
+    assert!(rt; Budget::new(1_000_001).is_none());
+}
+
+#[test]
+fn a_row_gives_back_what_was_noted(rt: HostRuntime) {
+    let row = Row::new(rt.alloc(), budget(&rt, 1_000_000)).expect(&rt, "memory");
+    for (node, parent, choice, side) in [
+        (1, 0, 0, Side::One),
+        (2, 0, 0, Side::Two),
+        (3, 2, 99_999, Side::Two),
+        (2_000_000, 1_999_999, 99_999, Side::One),
+        (1_048_577, 1_048_576, 65_536, Side::Two),
+    ] {
+        let choice = index(&rt, choice);
+        let origin = Origin {
+            parent,
+            choice,
+            side,
+        };
+        assert!(rt; row.origin(node).is_none());
+        row.note(node, origin);
+        let noted = row.origin(node).expect(&rt, "an origin");
+        assert_eq!(rt; noted, origin);
+    }
+    for (node, parent) in [(0, 0), (7, 7), (8, 9), (9, 1 << 21), (2_000_001, 1)] {
+        let choice = index(&rt, 5);
+        let origin = Origin {
+            parent,
+            choice,
+            side: Side::One,
+        };
+        row.note(node, origin);
+        assert!(rt; row.origin(node).is_none());
+    }
+}

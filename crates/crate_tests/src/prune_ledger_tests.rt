@@ -1,0 +1,344 @@
+ghost use Rattle.std.specs.Prelude.{◌≡◌};
+ghost use Rattle.polygraph.specs.Polygraphs.{JoinsBoth};
+ghost use Rattle.reach_rows.specs.ReachRows.{AreRowsOf};
+
+use desk::desk::Desk;
+use desk::gate::{Gate, OpenGate};
+use desk::machine::Machine;
+use desk::naming::Naming;
+use desk::opened::Opened;
+use desk::seat_no::{SeatNo, Workers};
+use known_graph::Known;
+use polygraph::{Choice, ChoiceIx, Edges, Polygraph};
+use prune_ledger::laws::work;
+use prune_ledger::machine::PruneMachine;
+use prune_ledger::parts::{Event, Refutation, Reply};
+use prune_ledger::{Ledger, Pruned, check_ledger, judge, laws, prune};
+use pruning_laws::Side;
+use reach_laws::Edge;
+use reach_rows::Rows;
+use serializability::NodeIx;
+use std::alloc::Global;
+use std::marker::Brand;
+use std::process::Abort;
+use std::sync::Wait;
+use std::sync::atomic::{AtomicBool, AtomicU64, Ordering};
+use std::test::*;
+use std::thread;
+use std::thread::Threads;
+use std::time::{Clock, Duration};
+
+fn edge(rt: &impl Abort, ends: (usize, usize)) -> Edge
+    ensures { result ≡ (ends.0, ends.1) }
+{
+    let u = NodeIx::new(ends.0).expect(rt, "a node");
+    let v = NodeIx::new(ends.1).expect(rt, "a node");
+    Edge::new(u, v)
+}
+
+fn choice(rt: &impl Abort, one: (usize, usize), two: (usize, usize)) -> Choice
+    ensures { JoinsBoth 5 result }
+{
+    assert!(rt; one.0 <= 5 && one.1 <= 5 && one.0 != one.1);
+    assert!(rt; two.0 <= 5 && two.1 <= 5 && two.0 != two.1);
+    Choice::new(Edges::single(edge(rt, one)), Edges::single(edge(rt, two)))
+}
+
+fn join(rt: &impl Abort, known: &mut Known, ends: (usize, usize)) {
+    let edge = edge(rt, ends);
+    assert!(rt; edge.source().get() <= known.nodes() && edge.target().get() <= known.nodes());
+    known.add_edge(edge.source(), edge.target());
+}
+
+// Five transactions: the first stands before the second and is read by the third, which the fourth
+// reads, which the fifth reads. Where `dead`, the fifth also reads the second.
+fn polygraph(rt: &impl Abort, alloc: Global, dead: bool) -> Polygraph {
+    let mut known = Known::new(alloc, 5).expect(rt, "memory");
+    for ends in [(1, 2), (1, 3), (3, 4), (4, 5)] {
+        join(rt, &mut known, ends);
+    }
+    if dead {
+        join(rt, &mut known, (2, 5));
+    }
+    assert_eq!(rt; known.nodes(), 5);
+    let mut choices = Vec::new(alloc);
+    choices
+        .push(choice(rt, (3, 2), (2, 1)))
+        .expect(rt, "memory");
+    choices
+        .push(choice(rt, (2, 3), (4, 2)))
+        .expect(rt, "memory");
+    choices
+        .push(choice(rt, (2, 4), (5, 2)))
+        .expect(rt, "memory");
+    Polygraph::new(known, choices)
+}
+
+fn machine(rt: &impl Abort, alloc: Global, dead: bool) -> PruneMachine {
+    let (known, choices) = polygraph(rt, alloc, dead).into_parts();
+    PruneMachine::opening(alloc, choices, known).expect(rt, "memory")
+}
+
+fn index(rt: &impl Abort, number: usize) -> ChoiceIx {
+    ChoiceIx::new(number).expect(rt, "a choice")
+}
+
+fn post(rt: &impl Abort, alloc: Global, choice: usize, side: Side, ends: (usize, usize)) -> Event {
+    let edge = edge(rt, ends);
+    let mut walk = Vec::new(alloc);
+    walk.push(edge.target()).expect(rt, "memory");
+    walk.push(edge.source()).expect(rt, "memory");
+    Event::Post(Refutation {
+        choice: index(rt, choice),
+        side,
+        edge,
+        walk,
+    })
+}
+
+fn see(rt: &impl Abort, machine: &mut PruneMachine, seat: u8, event: Event, want: Reply) {
+    let seat = SeatNo::new(seat).expect(rt, "a seat");
+    assert!(rt; machine.step(seat, &event) == want);
+}
+
+#[test]
+fn steps_of_two_seats(rt: HostRuntime) {
+    let rt = &rt;
+    let alloc = rt.alloc();
+    let mut machine = machine(rt, alloc, false);
+    let machine = &mut machine;
+    see(rt, machine, 1, Event::Take, Reply::Judge(index(rt, 0)));
+    see(rt, machine, 2, Event::Take, Reply::Judge(index(rt, 1)));
+    let early = post(rt, alloc, 1, Side::One, (2, 3));
+    see(rt, machine, 2, early, Reply::BadWalk);
+    let first = post(rt, alloc, 0, Side::Two, (2, 1));
+    see(rt, machine, 1, first, Reply::Entered);
+    let second = post(rt, alloc, 1, Side::One, (2, 3));
+    see(rt, machine, 2, second, Reply::Entered);
+    let again = post(rt, alloc, 0, Side::Two, (2, 1));
+    see(rt, machine, 2, again, Reply::AlreadyIn);
+    see(rt, machine, 1, Event::Take, Reply::Judge(index(rt, 2)));
+    see(rt, machine, 1, Event::Pass(index(rt, 2)), Reply::Noted);
+    see(rt, machine, 2, Event::Take, Reply::NoneLeft);
+    let stranger = post(rt, alloc, 3, Side::One, (2, 4));
+    see(rt, machine, 2, stranger, Reply::BadWalk);
+}
+
+#[test]
+fn steps_of_a_seat_until_it_is_dead(rt: HostRuntime) {
+    let rt = &rt;
+    let alloc = rt.alloc();
+    let mut machine = machine(rt, alloc, true);
+    let machine = &mut machine;
+    for (number, side, ends) in [
+        (2, Side::Two, (5, 2)),
+        (0, Side::Two, (2, 1)),
+        (1, Side::One, (2, 3)),
+        (1, Side::Two, (4, 2)),
+    ] {
+        let event = post(rt, alloc, number, side, ends);
+        see(rt, machine, 1, event, Reply::Entered);
+    }
+    see(rt, machine, 1, Event::Take, Reply::Dead);
+    see(rt, machine, 1, Event::Release, Reply::Released);
+}
+
+// Counts the rounds, by turn 0 of seat 1.
+#[derive(Drop)]
+struct Counting {
+    rounds: AtomicU64,
+}
+
+impl Gate for Counting {
+    fn pass<R: Wait + Clock>(&self, _rt: &R, seat: SeatNo, turn: u64) {
+        if seat.get() == 1 && turn == 0 {
+            self.rounds.fetch_add(1, Ordering::SeqCst);
+        }
+    }
+}
+
+// The ledger of what is open, with its polygraph's choices counted.
+fn ledger_of(rt: &impl Abort, pruned: Pruned, open: bool) -> Ledger {
+    match pruned {
+        Pruned::Dead(ledger) => {
+            assert!(rt; !open);
+            ledger
+        }
+        Pruned::Open(reduced) => {
+            assert!(rt; open);
+            let (poly, rows, ledger) = reduced.into_parts();
+            assert_eq!(rt; poly.choices().len(), 0);
+            assert!(rt; !rows.cyclic());
+            ledger
+        }
+    }
+}
+
+// The choice of each entry, and whether its side one is refused.
+fn see_refused(rt: &impl Abort, ledger: &Ledger, wanted: &[(usize, bool)]) {
+    assert_eq!(rt; ledger.entries.len(), wanted.len());
+    for (entry, want) in ledger.entries.iter().zip(wanted) {
+        assert_eq!(rt; entry.post.choice.get(), want.0);
+        assert_eq!(rt; entry.post.side == Side::One, want.1);
+    }
+}
+
+// Whether the ledger is valid, and is not once its first walk is reversed.
+fn see_ledger(rt: &impl Abort, polygraph: &Polygraph, ledger: Ledger) {
+    assert!(rt; check_ledger(polygraph, &ledger));
+    let Ledger { mut entries, cycle } = ledger;
+    assert!(rt; entries.len() > 0);
+    entries[0].post.walk.reverse();
+    assert!(rt; !check_ledger(polygraph, &Ledger { entries, cycle }));
+}
+
+fn workers(rt: &impl Abort, count: u8) -> Workers {
+    Workers::new(count).expect(rt, "workers")
+}
+
+#[test]
+fn two_rounds_keep_three_sides(rt: HostRuntime) -> Result<(), Fail> {
+    let alloc = rt.alloc();
+    let gate = Counting {
+        rounds: AtomicU64::new(0),
+    };
+    let all = polygraph(&rt, alloc, false);
+    let pruned = prune(&rt, alloc, all, workers(&rt, 1), &gate)?;
+    let ledger = ledger_of(&rt, pruned, true);
+    assert_eq!(rt; gate.rounds.load(Ordering::SeqCst), 2);
+    see_refused(&rt, &ledger, &[(0, false), (1, true), (2, true)]);
+    assert!(rt; ledger.cycle.is_none());
+    see_ledger(&rt, &polygraph(&rt, alloc, false), ledger);
+    laws::opening_state_is_opening();
+    laws::each_kept_side_is_forced();
+    laws::dead_edges_are_cyclic();
+    laws::entered_posts_are_a_valid_ledger();
+    laws::grown_states_grow();
+    Ok(())
+}
+
+#[test]
+fn dead_with_any_number_of_workers(rt: HostRuntime) -> Result<(), Fail> {
+    let alloc = rt.alloc();
+    for count in [1, 2, 16] {
+        let all = polygraph(&rt, alloc, true);
+        let pruned = prune(&rt, alloc, all, workers(&rt, count), &OpenGate)?;
+        let ledger = ledger_of(&rt, pruned, false);
+        assert!(rt; ledger.cycle.is_some());
+        see_ledger(&rt, &polygraph(&rt, alloc, true), ledger);
+    }
+    Ok(())
+}
+
+// Holds a seat at its first turn 0 until the other has once come to a turn 1.
+#[derive(Drop)]
+struct Holding {
+    held: u8,
+    came: AtomicBool,
+    missed: AtomicBool,
+    turns: AtomicU64,
+}
+
+impl Gate for Holding {
+    fn pass<R: Wait + Clock>(&self, rt: &R, seat: SeatNo, turn: u64) {
+        if seat.get() != self.held {
+            self.turns.fetch_add(1, Ordering::SeqCst);
+            if turn == 1 {
+                self.came.store(true, Ordering::SeqCst);
+            }
+            return;
+        }
+        if turn == 0 {
+            self.wait(rt);
+        }
+    }
+}
+
+impl Holding {
+    // Looks at most 10,000 times, a millisecond apart.
+    fn wait<R: Clock>(&self, rt: &R) {
+        for _ in 0..10_000 {
+            if self.came.load(Ordering::SeqCst) {
+                return;
+            }
+            thread::sleep(rt, Duration::from_millis(1));
+        }
+        self.missed.store(true, Ordering::SeqCst);
+    }
+}
+
+#[test]
+fn each_of_two_workers_takes_part(rt: HostRuntime) -> Result<(), Fail> {
+    let alloc = rt.alloc();
+    for held in [1, 2] {
+        let gate = Holding {
+            held,
+            came: AtomicBool::new(false),
+            missed: AtomicBool::new(false),
+            turns: AtomicU64::new(0),
+        };
+        let all = polygraph(&rt, alloc, false);
+        let pruned = prune(&rt, alloc, all, workers(&rt, 2), &gate)?;
+        let ledger = ledger_of(&rt, pruned, true);
+        assert!(rt; !gate.missed.load(Ordering::SeqCst));
+        assert_eq!(rt; ledger.entries.len(), 3);
+        assert!(rt; ledger.entries[0].seat.get() != held);
+        let free = ledger
+            .entries
+            .iter()
+            .filter(|entry| entry.seat.get() != held);
+        assert!(rt; free.count() as u64 / 2 <= gate.turns.load(Ordering::SeqCst));
+    }
+    Ok(())
+}
+
+#[test]
+fn two_threads_work_at_a_desk(rt: HostRuntime) -> Result<(), Fail> {
+    let alloc = rt.alloc();
+    let opened = Opened::new(alloc, machine(&rt, alloc, false), workers(&rt, 2))?;
+    let polygraph = polygraph(&rt, alloc, false);
+    let known = polygraph.known().copy(alloc)?;
+    let rows = Rows::plain(alloc, &known)?;
+    let first = polygraph.choice(index(&rt, 0)).ok_or("a choice")?;
+    let verdict = judge(&rows, first);
+    assert!(rt; verdict.one.is_none() && verdict.two.is_some());
+    work_together::<Brand, _>(&rt, alloc, opened, &polygraph, &known, &rows);
+    Ok(())
+}
+
+fn work_together<J: Naming + Send + Sync, R: Threads + Wait + Clock + Abort + Sync>(
+    rt: &R,
+    alloc: Global,
+    opened: Opened<PruneMachine>,
+    polygraph: &Polygraph,
+    known: &Known,
+    rows: &Rows,
+)
+    requires names { J.names ≡ opened.1 }
+    requires desk { J.desk ≡ opened.2 }
+    requires nodes { known.now.nodes ≡ polygraph.now.nodes }
+    requires rows { AreRowsOf rows.now known.now }
+{
+    let (desk, seats) = Desk::<PruneMachine, J>::open(alloc, opened).expect(rt, "memory");
+    let table = &desk;
+    let done = thread::map_vec(
+        rt,
+        seats,
+        &|seat|
+            requires { (known.now.nodes ≡ polygraph.now.nodes) × AreRowsOf rows.now known.now }
+        { work(rt, alloc, table, seat, polygraph, known, rows, &OpenGate) },
+    )
+    .expect(rt, "memory");
+    let mut passed: usize = 0;
+    let mut lefts = Vec::new(alloc);
+    for (left, list) in done {
+        passed = passed.wrapping_add(list.expect(rt, "memory").len());
+        lefts.push(left).expect(rt, "memory");
+    }
+    let closed = desk.close(lefts).ok().expect(rt, "each seat has left");
+    let entered = closed
+        .history
+        .iter()
+        .filter(|step| step.reply == Reply::Entered);
+    assert_eq!(rt; passed.wrapping_add(entered.count()), 3);
+}

@@ -1,0 +1,214 @@
+use desk::gate::{Gate, OpenGate};
+use desk::seat_no::{SeatNo, Workers};
+use known_graph::Known;
+use reach_rows::{Rows, laws};
+use serializability::NodeIx;
+use std::alloc::Global;
+use std::process::Abort;
+use std::sync::Wait;
+use std::sync::atomic::{AtomicBool, AtomicUsize, Ordering};
+use std::test::*;
+use std::thread;
+use std::thread::Threads;
+use std::time::{Clock, Duration};
+
+fn node(rt: &impl Abort, number: usize) -> NodeIx {
+    NodeIx::new(number).expect(rt, "a node")
+}
+
+fn workers(rt: &impl Abort, count: u8) -> Workers {
+    Workers::new(count).expect(rt, "workers")
+}
+
+fn join_known(rt: &impl Abort, known: &mut Known, u: usize, v: usize) {
+    let (u, v) = (node(rt, u), node(rt, v));
+    assert!(rt; u.get() <= known.nodes() && v.get() <= known.nodes());
+    known.add_edge(u, v);
+}
+
+fn join_rows(rt: &impl Abort, rows: &mut Rows, u: usize, v: usize) {
+    let (u, v) = (node(rt, u), node(rt, v));
+    assert!(rt; u.get() <= rows.nodes() && v.get() <= rows.nodes());
+    rows.add_edge(u, v);
+}
+
+// The arcs of six transactions: the first is read by the second, which writes before the fifth reads; the
+// third is read by the fourth, which the sixth reads. Node 0 stands before each.
+fn arcs(rt: &impl Abort, alloc: Global) -> Known {
+    let mut known = Known::new(alloc, 6).expect(rt, "memory");
+    for (u, v) in [(1, 2), (3, 4), (2, 5), (4, 6)] {
+        join_known(rt, &mut known, u, v);
+    }
+    known
+}
+
+// The pairs of nodes of which the first reaches the second, as numbers of two digits; two nodes more are asked.
+fn pairs(rt: &impl Abort, alloc: Global, rows: &Rows) -> Vec<usize> {
+    let mut found = Vec::new(alloc);
+    for u in 0..9 {
+        for v in 0..9 {
+            if rows.reaches(node(rt, u), node(rt, v)) {
+                found.push(u * 10 + v).expect(rt, "memory");
+            }
+        }
+    }
+    found
+}
+
+// The rows of the arcs, and what two edges more make of them: the second closes a cycle through all but node 0.
+fn see_rows(rt: &impl Abort, alloc: Global, mut rows: Rows) {
+    assert_eq!(rt; rows.nodes(), 6);
+    let first = pairs(rt, alloc, &rows);
+    let want = [1, 2, 3, 4, 5, 6, 12, 15, 25, 34, 36, 46];
+    assert_eq!(rt; first.as_slice(), want.as_slice());
+    assert!(rt; !rows.cyclic());
+
+    let before = rows.copy(alloc).expect(rt, "memory");
+    join_rows(rt, &mut rows, 5, 3);
+    let second = pairs(rt, alloc, &rows);
+    let want = [
+        1, 2, 3, 4, 5, 6, 12, 13, 14, 15, 16, 23, 24, 25, 26, 34, 36, 46, 53, 54, 56,
+    ];
+    assert_eq!(rt; second.as_slice(), want.as_slice());
+    assert!(rt; !rows.cyclic());
+
+    join_rows(rt, &mut rows, 6, 1);
+    assert_eq!(rt; pairs(rt, alloc, &rows).len(), 42);
+    assert!(rt; rows.cyclic());
+    assert_eq!(rt; pairs(rt, alloc, &before).as_slice(), first.as_slice());
+}
+
+#[test]
+fn one_thread_or_several_see_the_same(rt: HostRuntime) -> Result<(), Fail> {
+    let alloc = rt.alloc();
+    let known = arcs(&rt, alloc);
+    see_rows(&rt, alloc, Rows::plain(alloc, &known)?);
+    for count in [1, 4, 16] {
+        let rows = Rows::compute(&rt, alloc, &known, workers(&rt, count), &OpenGate)?;
+        see_rows(&rt, alloc, rows);
+    }
+    laws::rows_of_a_graph_are_one();
+    Ok(())
+}
+
+// A line through 400 nodes has long walks, and rows of several words.
+#[test]
+fn a_line_of_all_nodes(rt: HostRuntime) -> Result<(), Fail> {
+    let alloc = rt.alloc();
+    let mut known = Known::new(alloc, 400)?;
+    for u in 1..400 {
+        join_known(&rt, &mut known, u, u + 1);
+    }
+    let mut rows = Rows::plain(alloc, &known)?;
+    for (u, v, want) in [
+        (1, 400, true),
+        (400, 1, false),
+        (63, 64, true),
+        (65, 65, false),
+    ] {
+        assert_eq!(&rt;
+            rows.reaches(node(&rt, u), node(&rt, v)),
+            want,
+            "{u} to {v}"
+        );
+    }
+    assert!(rt; !rows.cyclic());
+    join_rows(&rt, &mut rows, 400, 1);
+    assert!(rt; rows.cyclic() && rows.reaches(node(&rt, 65), node(&rt, 65)));
+    Ok(())
+}
+
+// Seats 1 and 2 wait for each other before their first source.
+#[derive(Drop)]
+struct Meeting {
+    first: AtomicBool,
+    second: AtomicBool,
+    missed: AtomicBool,
+}
+
+impl Meeting {
+    // Looks at most 10,000 times, a millisecond apart.
+    fn wait_for<R: Clock>(&self, rt: &R, other: &AtomicBool) {
+        for _ in 0..10_000 {
+            if other.load(Ordering::SeqCst) {
+                return;
+            }
+            thread::sleep(rt, Duration::from_millis(1));
+        }
+        self.missed.store(true, Ordering::SeqCst);
+    }
+}
+
+impl Gate for Meeting {
+    fn pass<R: Wait + Clock>(&self, rt: &R, seat: SeatNo, turn: u64) {
+        match (seat.get(), turn) {
+            (1, 0) => {
+                self.first.store(true, Ordering::SeqCst);
+                self.wait_for(rt, &self.second);
+            }
+            (2, 0) => {
+                self.second.store(true, Ordering::SeqCst);
+                self.wait_for(rt, &self.first);
+            }
+            _ => {}
+        }
+    }
+}
+
+#[test]
+fn two_workers_meet(rt: HostRuntime) -> Result<(), Fail> {
+    let alloc = rt.alloc();
+    let known = arcs(&rt, alloc);
+    for count in [2, 16] {
+        let gate = Meeting {
+            first: AtomicBool::new(false),
+            second: AtomicBool::new(false),
+            missed: AtomicBool::new(false),
+        };
+        let rows = Rows::compute(&rt, alloc, &known, workers(&rt, count), &gate)?;
+        assert!(rt; !gate.missed.load(Ordering::SeqCst));
+        see_rows(&rt, alloc, rows);
+    }
+    Ok(())
+}
+
+// How often each of two seats passes.
+#[derive(Drop)]
+struct Counted {
+    first: AtomicUsize,
+    second: AtomicUsize,
+}
+
+impl Gate for Counted {
+    fn pass<R: Wait + Clock>(&self, _rt: &R, seat: SeatNo, _turn: u64) {
+        let passes = if seat.get() == 1 {
+            &self.first
+        } else {
+            &self.second
+        };
+        passes.fetch_add(1, Ordering::SeqCst);
+    }
+}
+
+// With an edge from each node to each greater one, node 0 has work 401, and node u has 401 - u: in all 80,601.
+// Nodes 0 to 117 have 40,415 of it, the last of them the 40,300th.
+#[test]
+fn two_workers_have_half_the_work_each(rt: HostRuntime) -> Result<(), Fail> {
+    let alloc = rt.alloc();
+    let mut known = Known::new(alloc, 400)?;
+    for u in 1..401 {
+        for v in u + 1..401 {
+            join_known(&rt, &mut known, u, v);
+        }
+    }
+    let gate = Counted {
+        first: AtomicUsize::new(0),
+        second: AtomicUsize::new(0),
+    };
+    let rows = Rows::compute(&rt, alloc, &known, workers(&rt, 2), &gate)?;
+    assert_eq!(rt; gate.first.load(Ordering::SeqCst), 118);
+    assert_eq!(rt; gate.second.load(Ordering::SeqCst), 283);
+    assert!(rt; rows.reaches(node(&rt, 1), node(&rt, 400)));
+    assert!(rt; !rows.reaches(node(&rt, 400), node(&rt, 1)));
+    Ok(())
+}
