@@ -1,8 +1,9 @@
 """A plain, slow reading of the definitions in docs/DEFINITIONS.md, made apart from the program: the faults of a log,
-its anomalies, its serial orders by listing all orders, and the text of its plain formula. It shares no code with the program."""
+its anomalies, its serial orders by listing all orders, and the texts of its plain and its reduced formula and of their counts. It
+shares no code with the program."""
 import itertools, re
 
-LIMITS = dict(bytes=16 * 1024 * 1024, sessions=64, operations=200000, committed=400, keys=10000, choices=100000, plain=100)
+LIMITS = dict(bytes=16 * 1024 * 1024, sessions=64, operations=200000, committed=400, keys=10000, choices=100000, plain=100, clauses=20000000)
 
 NUMBER = rb'(?:0|[1-9][0-9]*)'
 KEY = rb'[A-Za-z0-9_.:/-]{1,64}'
@@ -236,6 +237,21 @@ class History:
             choices += [(self.chain_first(a, b, key), self.chain_first(b, a, key)) for a, b in itertools.combinations(heads, 2)]
         return known, choices
 
+    def reaches(self, edges):
+        """The pairs (u, v) of which u reaches v by at least one of these edges."""
+        behind = {u: [] for u in range(self.n + 1)}
+        for u, v in edges:
+            behind[u].append(v)
+        pairs = set()
+        for u in range(self.n + 1):
+            left = list(behind[u])
+            while left:
+                v = left.pop()
+                if (u, v) not in pairs:
+                    pairs.add((u, v))
+                    left += behind[v]
+        return pairs
+
     def pruning(self):
         """('dead', None), or ('open', the forced sides): the least set that has the other side of each refuted one."""
         known, choices = self.chain_polygraph()
@@ -244,17 +260,59 @@ class History:
             edges = set(known)
             for c, s in forced:
                 edges |= set(choices[c][s - 1])
-            reach = {(u, v) for u, v in edges}
-            while True:
-                more = {(u, w) for u, v in reach for x, w in edges if x == v} - reach
-                if not more:
-                    break
-                reach |= more
+            reach = self.reaches(edges)
             found = {(c, 2 if s == 1 else 1) for c in range(len(choices)) for s in (1, 2)
                      if any((v, u) in reach for u, v in choices[c][s - 1])}
             if found <= forced:
                 return ('dead', None) if any((v, v) in reach for v in range(self.n + 1)) else ('open', forced)
             forced |= found
+
+    def reduced(self, forced):
+        """The variables and clauses of the reduced formula: a variable for each pair of nodes 1 to n of which neither reaches the
+        other, and one for each choice without a forced side."""
+        known, choices = self.chain_polygraph()
+        kept = known | {edge for c, s in forced for edge in choices[c][s - 1]}
+        reach = self.reaches(kept)
+        left = [choice for c, choice in enumerate(choices) if (c, 1) not in forced and (c, 2) not in forced]
+        free = [(i, j) for i, j in itertools.combinations(self.nodes, 2) if (i, j) not in reach and (j, i) not in reach]
+        number = {pair: i for i, pair in enumerate(free, 1)}
+        literal = lambda u, v: number[u, v] if u < v else -number[v, u]
+        clauses = []
+        for i, j, k in itertools.combinations(self.nodes, 3):
+            for edges in (((j, i), (k, j), (i, k)), ((i, j), (j, k), (k, i))):
+                if not any(edge in reach for edge in edges):
+                    clauses.append([literal(u, v) for u, v in edges if (v, u) not in reach])
+        for c, sides in enumerate(left, len(free) + 1):
+            for sign, side in zip((-1, 1), sides):
+                clauses += [[sign * c, literal(u, v)] for u, v in side if (u, v) not in reach]
+        return len(free) + len(left), clauses
+
+    def answer(self, plain):
+        """What a formula is made from, as `stats` has it, with its variables and clauses; else Refused."""
+        if plain and self.n > LIMITS['plain']:
+            raise Refused('G2')
+        found = self.anomaly()
+        anomaly = found and found[0]
+        if not plain and not anomaly and self.first_cycle(self.arcs()):
+            anomaly = 'A8'
+        if anomaly:
+            return [('anomaly', anomaly)], 1, [[1], [-1]]
+        known, choices = (self.arcs(), list(self.bipaths())) if plain else self.chain_polygraph()
+        if len(choices) > LIMITS['choices']:
+            raise Refused('G1')
+        counts = [('choices', len(choices))]
+        if plain:
+            variables, clauses = self.plain()
+        else:
+            end, forced = ('cyclic', None) if self.first_cycle(known) else self.pruning()
+            if end != 'open':
+                return [('anomaly', 'A8' if end == 'cyclic' else 'A9')], 1, [[1], [-1]]
+            settled = len({c for c, _ in forced})
+            counts += [('forced', settled), ('open', len(choices) - settled)]
+            variables, clauses = self.reduced(forced)
+        if len(clauses) > LIMITS['clauses']:
+            raise Refused('G3')
+        return counts, variables, clauses
 
     # ---- verdicts
 
@@ -337,37 +395,20 @@ class History:
         return goes_on({}, frozenset(self.nodes))
 
 
-def plain_text(text):
-    """What `encode --plain` writes for a log; else Refused."""
-    history = History(read_log(text))
-    if history.n > LIMITS['plain']:
-        raise Refused('G2')
-    if history.anomaly():
-        variables, clauses = 1, [[1], [-1]]
-    else:
-        if sum(1 for _ in history.bipaths()) > LIMITS['choices']:
-            raise Refused('G1')
-        variables, clauses = history.plain()
+def formula_text(text, plain):
+    """What `encode` writes for a log, with `--plain` or without it; else Refused."""
+    _, variables, clauses = History(read_log(text)).answer(plain)
     lines = ['p cnf %d %d' % (variables, len(clauses))] + [' '.join(map(str, clause + [0])) for clause in clauses]
     return ''.join(line + '\n' for line in lines).encode()
 
 
-def stats_text(text):
-    """What `stats --plain` writes for a log; else Refused."""
+def stats_text(text, plain):
+    """What `stats` writes for a log, with `--plain` or without it; else Refused."""
     sessions = read_log(text)
     history = History(sessions)
-    if history.n > LIMITS['plain']:
-        raise Refused('G2')
     transactions = [t for _, ts in sessions for t in ts]
+    counts, variables, clauses = history.answer(plain)
     lines = [('sessions', len(sessions)), ('committed', history.n), ('aborted', len(transactions) - history.n),
              ('keys', len(history.keys)), ('operations', sum(len(ops) for ops, _ in transactions))]
-    anomaly = history.anomaly()
-    if anomaly:
-        lines += [('anomaly', anomaly[0]), ('variables', 1), ('clauses', 2)]
-    else:
-        choices = sum(1 for _ in history.bipaths())
-        if choices > LIMITS['choices']:
-            raise Refused('G1')
-        variables, clauses = history.plain()
-        lines += [('choices', choices), ('variables', variables), ('clauses', len(clauses))]
+    lines += counts + [('variables', variables), ('clauses', len(clauses))]
     return ''.join('%s %s\n' % line for line in lines).encode()

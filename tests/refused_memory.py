@@ -6,6 +6,8 @@ say `out of memory` with status 4 and write nothing, or do what it does with amp
 each cube is refuted, a refusal to one of them must at least once leave the answer to the other. Needs a C compiler, for a small
 library that stands before the allocator of the C library.
 
+Once the first piece of a formula went out, a run in which every further request is refused must write the same text, and make none.
+
 GRAPHS is the program that times the crates of graphs. Of it each run must end by itself, and must not count other choices
 than it does with ample memory. Last line: 'refused memory: N passed, M failed'."""
 import os, shutil, subprocess, sys, tempfile
@@ -18,14 +20,19 @@ SHIM = r'''
 #include <stdlib.h>
 #include <unistd.h>
 static long left = -1;
+static int after_write = -1, written = 0;
 static void *refused(void) { errno = ENOMEM; return 0; }
 static int refuses(void) {
     if (left < 0) { char *n = getenv("REFUSED"); left = n ? atol(n) : 0; }
+    if (after_write < 0) after_write = getenv("AFTER_WRITE") != 0;
+    if (after_write && written) goto told;
     if (left <= 0 || --left > 0) return 0;
+told:;
     int told = open(getenv("TOLD"), O_CREAT | O_WRONLY, 0600);
     if (told >= 0) close(told);
     return 1;
 }
+ssize_t write(int fd, const void *p, size_t n) { static ssize_t (*real)(int, const void *, size_t); if (!real) real = dlsym(RTLD_NEXT, "write"); if (fd == 1) written = 1; return real(fd, p, n); }
 void *malloc(size_t n) { static void *(*real)(size_t); if (!real) real = dlsym(RTLD_NEXT, "malloc"); return refuses() ? refused() : real(n); }
 void *realloc(void *p, size_t n) { static void *(*real)(void *, size_t); if (!real) real = dlsym(RTLD_NEXT, "realloc"); return refuses() ? refused() : real(p, n); }
 void *aligned_alloc(size_t a, size_t n) { static void *(*real)(size_t, size_t); if (!real) real = dlsym(RTLD_NEXT, "aligned_alloc"); return refuses() ? refused() : real(a, n); }
@@ -33,7 +40,8 @@ int posix_memalign(void **p, size_t a, size_t n) { static int (*real)(void **, s
 '''
 
 LOG = b'session 1\nbegin\nw x 1\ncommit\nsession 2\nbegin\nw x 2\ncommit\nsession 3\nbegin\nr x 1\ncommit\n'
-ANSWER = b's SATISFIABLE\nv 1 2 3 4 5 -6 0\n'
+ANSWER = b's SATISFIABLE\nv 1 -2 3 0\n'
+PLAIN_ANSWER = b's SATISFIABLE\nv 1 2 3 4 5 -6 0\n'
 ORDER = b'1 1\n3 1\n2 1\n'
 MOST = 2000
 # `check` may print either of the two serial orders of LOG where several workers search.
@@ -48,14 +56,16 @@ def main():
         return
     passed, failed = 0, 0
     with tempfile.TemporaryDirectory() as folder:
-        paths = {name: os.path.join(folder, name) for name in ('log', 'answer', 'order', 'shim.c', 'shim.so', 'told')}
-        for name, data in (('log', LOG), ('answer', ANSWER), ('order', ORDER), ('shim.c', SHIM.encode())):
+        paths = {name: os.path.join(folder, name) for name in ('log', 'answer', 'plain_answer', 'order', 'shim.c', 'shim.so', 'told')}
+        for name, data in (('log', LOG), ('answer', ANSWER), ('plain_answer', PLAIN_ANSWER), ('order', ORDER), ('shim.c', SHIM.encode())):
             with open(paths[name], 'wb') as out:
                 out.write(data)
         subprocess.run([compiler, '-shared', '-fPIC', '-o', paths['shim.so'], paths['shim.c'], '-ldl'], check=True)
         examples = os.path.join(os.path.dirname(os.path.abspath(__file__)), '..', 'examples')
         calls = [['encode', '--plain', paths['log']], ['stats', '--plain', paths['log']],
-                 ['decode', '--plain', '--model', paths['answer'], paths['log']], ['verify', '--order', paths['order'], paths['log']]]
+                 ['decode', '--plain', '--model', paths['plain_answer'], paths['log']], ['verify', '--order', paths['order'], paths['log']]]
+        calls += [words for count in ('1', '2') for words in (['encode', '--workers', count, paths['log']], ['stats', '--workers', count, paths['log']],
+                  ['decode', '--workers', count, '--model', paths['answer'], paths['log']])]
         calls += [['check', '--workers', count, log] for count in ('1', '2')
                   for log in [paths['log']] + [os.path.join(examples, name) for name in ('crossed_readers.log', 'forced_choices.log', 'forced_cycle.log', 'write_skew.log', 'lost_update.log')]]
         for words in calls:
@@ -88,6 +98,20 @@ def main():
             if words[:3] == ['check', '--workers', '2'] and words[-1].endswith('crossed_readers.log') and not left_to_another:
                 failed += 1
                 print('FAILED check: no refusal to one worker left the answer to the other')
+        # A formula of several pieces: 40 writers of a key each.
+        with open(paths['log'], 'wb') as out:
+            out.write(b''.join(b'session %d\nbegin\nw k%d %d\ncommit\n' % (k, k, k) for k in range(1, 41)))
+        for words in (['encode', paths['log']], ['encode', '--plain', paths['log']]):
+            runs = [subprocess.run([program, *words], stdin=subprocess.DEVNULL, stdout=subprocess.PIPE, stderr=subprocess.PIPE, env=dict(os.environ, LD_PRELOAD=paths['shim.so'], TOLD=paths['told'], **more), timeout=60)
+                    for more in ({}, {'AFTER_WRITE': '1'})]
+            same = runs[0].returncode == 0 and all((ran.returncode, ran.stdout, ran.stderr) == (0, runs[0].stdout, b'') for ran in runs)
+            if same and len(runs[0].stdout) > 100000 and not os.path.exists(paths['told']):
+                passed += 1
+            else:
+                failed += 1
+                print('FAILED %s: memory was asked for once the text was going out' % ' '.join(words[:-1]))
+        with open(paths['log'], 'wb') as out:
+            out.write(LOG)
         for words in (['log', paths['log']], ['made']):
             counts, ended = None, 0
             for n in range(MOST):

@@ -2,10 +2,10 @@
 """solvers.py PROGRAM: the built program against real SAT solvers, against the plain, slow reference beside this file, and
 against all orders of small logs.
 
-For each log of examples/ and a few hundred made ones: the formula's text must be the reference's, byte for byte; each
-solver's answer goes back into `decode`; each order that comes out must be accepted by `verify`; where a solver says
-UNSATISFIABLE, no order of the at most seven transactions may be serial. Ten thousand small logs, most of them damaged, go
-through `stats`, whose refusals and counts must be the reference's.
+For each log of examples/ and a few hundred made ones, and for its reduced and its plain formula: the formula's text must be the
+reference's, byte for byte; each solver's answer goes back into `decode`; each order that comes out must be accepted by `verify`;
+where a solver says UNSATISFIABLE, no order of the at most seven transactions may be serial. Ten thousand small logs, most of them
+damaged, go through `stats` of both, whose refusals and counts must be the reference's.
 
 The solvers are those that are installed, which .ci/install_solvers sees to. Where there is none, a small solver of this file's own
 takes their place, and the output says so. Last line: 'solvers: N passed, M failed'."""
@@ -79,13 +79,18 @@ class Runs:
             yield 'own', own_answer(formula)
 
     def whole_way(self, name, text):
-        """From a log to orders, by each solver."""
+        """From a log to orders, by each solver, with both formulas."""
+        for plain in (False, True):
+            self.by_formula('%s%s' % (name, ', plain' if plain else ''), text, plain)
+
+    def by_formula(self, name, text, plain):
+        asked = ['--plain'] if plain else []
         log, model, order = (os.path.join(self.folder, n) for n in ('log', 'model', 'order'))
         with open(log, 'wb') as out:
             out.write(text)
-        status, formula, error = self.call('encode', '--plain', log)
+        status, formula, error = self.call('encode', *asked, log)
         try:
-            wanted, refusal = reference.plain_text(text), b''
+            wanted, refusal = reference.formula_text(text, plain), b''
         except reference.Refused as refused:
             wanted, refusal = b'', ('refused: %s\n' % refused).encode()
         self.expect((status, formula, error) == (2 if refusal else 0, wanted, refusal), '%s: encode' % name)
@@ -96,7 +101,7 @@ class Runs:
         for solver, answer in self.answers(formula):
             with open(model, 'wb') as out:
                 out.write(answer)
-            status, listed, error = self.call('decode', '--plain', '--model', model, log)
+            status, listed, error = self.call('decode', *asked, '--model', model, log)
             if b's UNSATISFIABLE' in answer:
                 self.expect((status, listed) == (3, b'unsatisfiable claimed, not checked\n'), '%s: decode of %s' % (name, solver))
                 self.expect(not orders, '%s: %s finds no order, and there is one' % (name, solver))
@@ -109,14 +114,17 @@ class Runs:
             self.expect(history.is_serial([history.names.index(n) for n in names]), '%s: order of %s' % (name, solver))
 
     def counts(self, seed):
-        """The refusal or the counts of a damaged log, as the reference has them."""
+        """The refusal or the counts of a damaged log, as the reference has them, with both formulas."""
         text = generate.damaged(seed)
-        try:
-            wanted = (0, reference.stats_text(text), b'')
-        except reference.Refused as refused:
-            wanted = (2, b'', ('refused: %s\n' % refused).encode())
-        got = self.call('stats', '--plain', stdin=text)
-        return got == wanted, 'damaged log %d: %r, wanted %r' % (seed, got, wanted)
+        told = []
+        for plain in (False, True):
+            try:
+                wanted = (0, reference.stats_text(text, plain), b'')
+            except reference.Refused as refused:
+                wanted = (2, b'', ('refused: %s\n' % refused).encode())
+            got = self.call('stats', *(['--plain'] if plain else []), stdin=text)
+            told.append((got == wanted, 'damaged log %d%s: %r, wanted %r' % (seed, ', plain' if plain else '', got, wanted)))
+        return told
 
 
 def main():
@@ -130,8 +138,9 @@ def main():
         for seed in range(MADE):
             runs.whole_way('made log %d' % seed, generate.small_log(seed))
         with concurrent.futures.ThreadPoolExecutor() as pool:
-            for holds, what in pool.map(runs.counts, range(DAMAGED)):
-                runs.expect(holds, what)
+            for told in pool.map(runs.counts, range(DAMAGED)):
+                for holds, what in told:
+                    runs.expect(holds, what)
     print('solvers: %s' % (', '.join(solvers) or 'none but the one of tests/solvers.py'))
     print('solvers: %d passed, %d failed' % (runs.passed, len(runs.failed)))
     sys.exit(1 if runs.failed else 0)

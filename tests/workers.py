@@ -1,8 +1,8 @@
 #!/usr/bin/env python3
 """workers.py PROGRAM: what a command prints does not depend on the number of workers.
 
-Logs at the limits, and logs that are refused, go through `encode` and `stats` with 1, 3, 4 and 16 workers; the answers must be
-equal, byte for byte. Last line: 'workers: N passed, M failed'."""
+Logs at the limits, and logs that are refused, go through `encode` and `stats`, with `--plain` and without it, with 1, 3, 4 and 16
+workers; the answers must be equal, byte for byte. Last line: 'workers: N passed, M failed'."""
 import glob, os, subprocess, sys, tempfile
 
 HERE = os.path.dirname(os.path.abspath(__file__))
@@ -37,13 +37,13 @@ def main():
             with open(path, 'rb') as log:
                 logs[os.path.basename(path)] = log.read()
         for name, text in logs.items():
-            for command in ('encode', 'stats'):
-                first, *others = answers(program, [command, '--plain'], text)
+            for words in (['encode'], ['stats'], ['encode', '--plain'], ['stats', '--plain']):
+                first, *others = answers(program, words, text)
                 if all(other == first for other in others):
                     passed += 1
                 else:
                     failed += 1
-                    print('FAILED %s of %s depends on the number of workers' % (command, name))
+                    print('FAILED %s of %s depends on the number of workers' % (' '.join(words), name))
     print('workers: %d passed, %d failed' % (passed, failed))
     sys.exit(1 if failed else 0)
 

@@ -143,7 +143,7 @@ impl Relation {
     }
 
     /// What is said of `low` before `high` or, where not `forward`, of `high` before `low`.
-    fn term_between(&self, low: usize, high: usize, forward: bool) -> Term
+    pub(crate) fn term_between(&self, low: usize, high: usize, forward: bool) -> Term
         requires within { (low < high) × (high ≤ self.now.nodes) }
         ensures value { result ≡ (if forward then term_of self.now low high else term_of self.now high low) }
     {

@@ -21,14 +21,14 @@ pub(crate) fn triple_clauses(
 {
     let _nodes = relation.nodes();
     let one_way = clause_of(
-        relation.term(j, i),
-        relation.term(k, j),
-        relation.term(i, k),
+        relation.term_between(i, j, false),
+        relation.term_between(j, k, false),
+        relation.term_between(i, k, true),
     );
     let other_way = clause_of(
-        relation.term(i, j),
-        relation.term(j, k),
-        relation.term(k, i),
+        relation.term_between(i, j, true),
+        relation.term_between(j, k, true),
+        relation.term_between(i, k, false),
     );
     (one_way, other_way)
 }
