@@ -7,6 +7,7 @@ python3 - "$program" "$folder" <<'PY'
 import os, resource, subprocess, sys, time
 
 program, folder = sys.argv[1:]
+CLOSED = 20000
 
 
 def measure(log, strategy, workers, budget):
@@ -20,10 +21,20 @@ def measure(log, strategy, workers, budget):
         said = (ran.stdout + ran.stderr).decode().split('\n')[0]
     peak = resource.getrusage(resource.RUSAGE_CHILDREN).ru_maxrss // 1024
     print('%-16s %-6s %2d workers  budget %7d  %8.3f s  peak so far %4d MiB  %s' % (log, strategy, workers, budget, best, peak, said), flush=True)
+    return best
 
 
 for log, budget in (('writers_25', 10000), ('writers_100', 10000), ('forks_0', 10000), ('forks_5', 10000), ('forks_20', 10000), ('operations_400', 10000), ('writers_400', 100000), ('choices_400', 10000), ('choices_400', 100000)):
     for strategy in ('first', 'most', 'least', 'forced'):
         for workers in (1, 4) if strategy == 'first' else (1,):
             measure(log, strategy, workers, budget)
+
+
+def closing(log):
+    """Measures a log whose every order is refuted, and says what a closing takes."""
+    few, many = (measure(log, 'forced', 1, budget) for budget in (CLOSED // 2, CLOSED))
+    print('%-16s forced  1 worker   %6.1f microseconds a closing' % (log, (many - few) / (CLOSED - CLOSED // 2) * 1e6), flush=True)
+
+
+closing('crossed_392')
 PY

@@ -90,6 +90,23 @@ def forks(count):
         yield 'commit'
 
 
+def crossed(count, readers):
+    """Two versions each of x and y, and readers of all four pairs of them: no order. Beside these stand keys with two versions and this
+    many readers of each, so that a search that takes the choice with the most edges decides them first, and closes all that is below each."""
+    sessions = []
+    for k in range(count):
+        for w in (1000 + 2 * k, 1001 + 2 * k):
+            sessions.append([['w k%d %d' % (k, w)]] + [['r k%d %d' % (k, w)]] * readers)
+    sessions += [[['w x 1']], [['w x 2']], [['w y 3']], [['w y 4']]]
+    sessions += [[['r x %d' % x, 'r y %d' % y]] for x in (1, 2) for y in (3, 4)]
+    for session, transactions in enumerate(sessions, 1):
+        yield 'session %d' % session
+        for ops in transactions:
+            yield 'begin'
+            yield from ops
+            yield 'commit'
+
+
 write('choices_400.log', choices())
 write('one_session_400.log', one_session(400))
 write('writers_25.log', writers(25))
@@ -98,6 +115,7 @@ write('writers_400.log', writers(400))
 write('forks_0.log', forks(0))
 write('forks_5.log', forks(5))
 write('forks_20.log', forks(20))
+write('crossed_392.log', crossed(12, 15))
 write('bipaths_40.log', bipaths(40))
 write('bipaths_41.log', bipaths(41))
 write('operations_100.log', operations(100, True))

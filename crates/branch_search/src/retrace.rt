@@ -13,8 +13,9 @@ use std::alloc::{AllocError, Global};
 // How many cubes a worker keeps at the most.
 const KEPT: usize = 16;
 
-// How many decisions lie between two cubes that it keeps.
-const APART: usize = 8;
+// How many edges the decisions between two cubes that it keeps have at the least: adding so many takes about as
+// long as keeping a cube.
+const APART: usize = 16;
 
 /// What the cube of a node decides beyond its parent's.
 #[derive(Clone, Copy)]
@@ -38,7 +39,7 @@ pub struct Trail<'a> {
     pub kept: Vec<KeptCube<'a>>,
     // Where the next cube is kept.
     pub next: usize,
-    // How many decisions were made since a cube was kept or gone back to.
+    // How many edges the decisions have that were made since a cube was kept or gone back to.
     pub since: usize,
     // Whether the worker has gone back.
     pub turned: bool,
@@ -72,11 +73,11 @@ pub fn go_down<'a>(
     ensures kept { IfOk result (λ _. All (λ k. k.view.polygraph ≡ view.new.polygraph) trail.new.kept.items) }
     ensures polygraph { view.new.polygraph ≡ view.old.polygraph }
 {
-    if !extend(view, step.choice, step.side) {
+    let Some(edges) = extend(view, step.choice, step.side) else {
         return Ok(false);
-    }
+    };
     if trail.turned {
-        trail.since = trail.since.saturating_add(1);
+        trail.since = trail.since.saturating_add(edges);
         if trail.since >= APART {
             keep(alloc, trail, view, step.node)?;
         }
@@ -157,10 +158,10 @@ fn replay<'a>(
 {
     while let Some(step) = trail.ahead.pop() {
         trail.turned = true;
-        if !extend(view, step.choice, step.side) {
+        let Some(edges) = extend(view, step.choice, step.side) else {
             return Ok(false);
-        }
-        trail.since = trail.since.saturating_add(1);
+        };
+        trail.since = trail.since.saturating_add(edges);
         if trail.since >= APART && trail.ahead.len() < KEPT * APART {
             keep(alloc, trail, view, step.node)?;
         }
@@ -203,13 +204,14 @@ fn put<'a>(kept: &mut Vec<KeptCube<'a>>, place: usize, cube: KeptCube<'a>) -> Re
     Ok(())
 }
 
-// Decides one choice more, where it is open; `false` where it is not.
-fn extend(view: &mut CubeView<'_>, choice: ChoiceIx, side: Side) -> bool
+// Decides one choice more, where it is open, and says how many edges its side has.
+fn extend(view: &mut CubeView<'_>, choice: ChoiceIx, side: Side) -> Option<usize>
     ensures polygraph { view.new.polygraph ≡ view.old.polygraph }
 {
-    if !view.is_open(choice) {
-        return false;
+    if choice.get() >= view.count() || !view.is_open(choice) {
+        return None;
     }
+    let edges = view.choice(choice).edges(side).len();
     view.decide(choice, side);
-    true
+    Some(edges)
 }

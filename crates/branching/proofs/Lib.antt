@@ -7,3 +7,5 @@ pub mod Worded
 pub mod Turned
 pub mod Meant
 pub mod Refuting
+pub mod Marked
+pub mod Unforced

@@ -4,14 +4,12 @@ use Rattle.std.specs.Prelude.{nat_lt}
 use Rattle.std.proofs.lemmas.Bool.{cases_lt, false≢true, lt-ltb, le-ltb, cond-true, cond-false}
 use Rattle.serializability.proofs.Places.{Has}
 use Rattle.pruning_laws.specs.declared.side.Side.{Side}
+use Rattle.prune_ledger.proofs.Marks.{some-inj}
 use Rattle.branching.specs.View.{View, is_open_in}
 use Rattle.branching.specs.Picks.{open_from, open_choices, edge_count, or_more, first_greatest, or_fewer, first_least, most_edges, least_edges}
 use Rattle.branching.specs.Picked.{most_is_open, least_is_open}
 use Rattle.branching.specs.Opens.{is_open_at}
 use Rattle.branching.specs.Meant.{HasMost, HasFewest}
-
-some-inj : {A : Type 0} (x y : A) → Some x ≡ Some y → x ≡ y
-some-inj x y e = cc
 
 -- ---- the open ones are listed, ascending
 open_has : (sides : List (Option Side)) (k i : ℕ) → is_open_at sides i ≡ true → Has (k + i) (open_from k sides)

@@ -15,6 +15,7 @@ use Rattle.known_graph.proofs.Listed.{In, In-from_Contains}
 use Rattle.known_graph.proofs.Tested.{same_bool, edge_in, has_contained}
 use Rattle.prune_ledger.specs.Ledger.{side_of}
 use Rattle.prune_ledger.specs.Rounds.{Refutes}
+use Rattle.prune_ledger.proofs.Marks.{some-inj}
 use Rattle.prune_ledger.proofs.Sides.{side_is}
 use Rattle.branching.specs.View.{View, is_open_in, edges_in}
 use Rattle.branching.specs.Picks.{open_from, open_choices, most_edges}
@@ -24,9 +25,6 @@ use Rattle.branching.specs.Picked.{forced_is_open}
 use Rattle.branching.specs.Forced.{IsRefutedSide, IsForcedChoice, HasForced, HasForcedOrMost}
 use Rattle.branching.proofs.Meant.{listed_in, open_above, most_has_most}
 use Rattle.branching.proofs.Views.{view_joined, choice_read}
-
-some-inj : {A : Type 0} (x y : A) → Some x ≡ Some y → x ≡ y
-some-inj x y e = cc
 
 -- ---- walks by nodes below a bound
 abbrev Below : List Edge → ℕ → ℕ → ℕ → Type 0

@@ -1,28 +1,28 @@
 -- The edges of a view, and what keeps them up.
-use Rattle.std.proofs.Common.{◌≡◌, ◌≢◌, ◌⊎◌, ◌↔◌, ℕ, ◌<◌, ◌≤◌, Bool, true, false, List, length, get_or, set, replicate, Option, Some, None, refl, sym, ap, ◌∙◌, subst, inl, inr, arith}
+use Rattle.std.proofs.Common.{◌≡◌, ◌≢◌, ◌⊎◌, ℕ, ◌<◌, ◌≤◌, Bool, true, false, List, length, get_or, set, replicate, Option, Some, None, refl, sym, ap, ◌∙◌, subst, inl, inr, arith}
 use Rattle.std.specs.Prelude.{slice_get}
 use Rattle.std.specs.Option.{option_map_or}
 use Rattle.std.specs.List.{Contains, AllByRecursion}
 use Rattle.std.proofs.lemmas.Bool.{cases_eq, cases_lt, false≢true}
 use Rattle.std.proofs.lemmas.List.{get_or-replicate, length-replicate, length-set}
-use Rattle.std.proofs.lemmas.Option.{slice_get-get_or, slice_get_past, slice_get_within}
+use Rattle.std.proofs.lemmas.Option.{slice_get-get_or, slice_get_past}
 use Rattle.serializability.specs.Polygraph.{Edge, Choice, Polygraph}
 use Rattle.reach_laws.specs.Reach.{Graph, IsCyclic}
 use Rattle.reach_laws.proofs.Walks.{each_contained, each_from_contained, reach_in}
 use Rattle.pruning_laws.specs.declared.side.Side.{Side}
-use Rattle.pruning_laws.specs.declared.side.Side.TheVariants.{One, Two}
 use Rattle.pruning_laws.specs.Forced.{edges_of}
 use Rattle.pruning_laws.specs.Ledger.{same_side}
 use Rattle.known_graph.proofs.Listed.{In, In-from_Contains, Contains-from_In}
-use Rattle.polygraph.specs.Polygraphs.{Joins, JoinsBoth}
-use Rattle.reach_rows.specs.ReachRows.{AreRowsOf, AddsEdge}
+use Rattle.polygraph.specs.Polygraphs.{Joins}
+use Rattle.polygraph.proofs.Kept.{graph_in as graph_of}
+use Rattle.reach_rows.specs.ReachRows.{AreRowsOf}
 use Rattle.prune_ledger.specs.Ledger.{side_of}
-use Rattle.prune_ledger.proofs.Edges.{Added}
-use Rattle.prune_ledger.proofs.Marks.{some-inj}
+use Rattle.prune_ledger.specs.Rounds.{AddsEdges}
+use Rattle.prune_ledger.proofs.Marks.{side_joins}
 use Rattle.prune_ledger.proofs.Sides.{same_is, same_itself, side_is, known_with, side_with, choice_of_edge, with_cases}
 use Rattle.branching.specs.View.{View, is_open_in, chosen, edges_in, graph_in, opened, decided}
-use Rattle.branching.specs.Held.{IsWhole, IsView, AreEdgesOf}
-use Rattle.branching.specs.Grown.{AddsEdges}
+use Rattle.prune_ledger.specs.Runs.{IsWhole}
+use Rattle.branching.specs.Held.{IsView, AreEdgesOf}
 use Rattle.branching.proofs.Opens.{slice_get-set_same, slice_get-set_other, open_within, open_is_none}
 
 -- ---- the rows of a graph are those of each with the same edges
@@ -39,22 +39,6 @@ rows_same rows g h r n to from = record {
 
 pub rows_of_view : (v : View) (rows g : Graph) → AreEdgesOf v g → AreRowsOf rows g → AreRowsOf rows (graph_in v)
 rows_of_view v rows g a r = rows_same rows g (graph_in v) r (sym a.nodes) (λ e c. (a.edges e).0 c) (λ e c. (a.edges e).1 c)
-
--- ---- more edges
-pub adds_from_added : (old new : Graph) (part more : List Edge) → Added old new part → part ≡ more → AddsEdges old new more
-adds_from_added old new part more a same = record {
-  nodes = a.nodes;
-  edges = λ e. (
-    (λ c. elim (a.from e (In-from_Contains new.edges e c)) [
-      | inl x ↦ inl (Contains-from_In old.edges e x)
-      | inr y ↦ inr (Contains-from_In more e (subst (In e) same y))
-    ]),
-    (λ d. elim d [
-      | inl x ↦ Contains-from_In new.edges e (a.first e (In-from_Contains old.edges e x))
-      | inr y ↦ Contains-from_In new.edges e (a.second e (subst (In e) (sym same) (In-from_Contains more e y)))
-    ]),
-  );
-}
 
 -- ---- no side is decided
 pub none_chosen : (p : Polygraph) (c : ℕ) (side : Side) → chosen (opened p) c side ≡ false
@@ -132,22 +116,12 @@ decided_edges v c side h g new more at t m a b = record {
 }
 
 -- ---- what a choice joins
-side_joins : (n : ℕ) (h : Choice) (side : Side) → JoinsBoth n h → AllByRecursion (Joins n) (edges_of h side)
-side_joins n h One j = j.first
-side_joins n h Two j = j.second
-
-choice_contained : (choices : List Choice) (c : ℕ) (h : Choice) → slice_get choices c ≡ Some h → Contains choices h
-choice_contained choices c h at = let lt = slice_get_within choices c h at in (c, lt, some-inj _ _ (sym (slice_get-get_or choices c h lt) ∙ at))
-
 pub joined_at : (p : Polygraph) (c : ℕ) (h : Choice) (side : Side) (n : ℕ) (more : List Edge) → IsWhole p → slice_get p.choices c ≡ Some h → n ≡ p.nodes → more ≡ edges_of h side → AllByRecursion (Joins n) more
 joined_at p c h side n more w at e m =
     subst (λ k. AllByRecursion (Joins k) more) (sym e)
-    (subst (AllByRecursion (Joins p.nodes)) (sym m) (side_joins p.nodes h side (each_contained (JoinsBoth p.nodes) p.choices h w.choices.joined (choice_contained p.choices c h at))))
+    (subst (AllByRecursion (Joins p.nodes)) (sym m) (side_joins p.nodes p.choices c h side w.choices.joined at))
 
 -- ---- what the view keeps as it is made, restarted and decided
-abbrev pub graph_of : Polygraph → Graph
-graph_of p = record { nodes = p.nodes; edges = p.known }
-
 pub held_opened : (p : Polygraph) (sides : List (Option Side)) (g : Graph) → sides ≡ replicate (length p.choices) None → g ≡ graph_of p → AreEdgesOf (record { polygraph = p; sides = sides }) g
 held_opened p sides g e h = subst (λ (l : List (Option Side)). AreEdgesOf (record { polygraph = p; sides = l }) g) (sym e) (opened_edges p g h)
 
@@ -167,11 +141,6 @@ held_decided v c side sides h g new more e at t m a b =
 
 pub open_in_view : (v now : View) (c : ℕ) → v ≡ now → is_open_in now c ≡ true → is_open_in v c ≡ true
 open_in_view v now c e t = ap (λ (w : View). is_open_in w c) e ∙ t
-
-pub added_rows : (rows next g new : Graph) (u v a b : ℕ) → AreRowsOf rows g → u ≡ a → v ≡ b
-    → ((old after : Graph) → AreRowsOf rows old → AddsEdge old after (a, b) → AreRowsOf next after) → new.nodes ≡ g.nodes → ((e : Edge) → (Contains new.edges e ↔ (Contains g.edges e ⊎ (e ≡ (u, v))))) → AreRowsOf next new
-added_rows rows next g new u v a b r p q step n f =
-    step g new r (record { nodes = n; edges = subst (λ (x : Edge). (e : Edge) → (Contains new.edges e ↔ (Contains g.edges e ⊎ (e ≡ x)))) (λ i. (p i, q i)) f })
 
 pub choice_read : (xs choices : List Choice) (i c : ℕ) (h : Choice) → xs ≡ choices → i ≡ c → c < length choices → h ≡ get_or xs i h → slice_get choices c ≡ Some h
 choice_read xs choices i c h e k lt is =

@@ -1,19 +1,14 @@
 -- A view that is held with its edges.
 use Rattle.std.specs.Prelude.{◌≡◌, ◌↔◌, length, map}
 use Rattle.std.specs.List.{Contains}
-use Rattle.serializability.specs.Polygraph.{Edge, Polygraph}
+use Rattle.serializability.specs.Polygraph.{Edge}
 use Rattle.reach_laws.specs.Reach.{Graph}
-use Rattle.known_graph.specs.Graphs.{IsKnownGraph}
-use Rattle.polygraph.specs.Polygraphs.{IsPolygraph}
 use Rattle.reach_rows.specs.ReachRows.{AreRowsOf}
+use Rattle.prune_ledger.specs.Runs.{IsWhole}
 use Rattle.branching.specs.View.{View, edges_in}
 use Rattle.branching.specs.Picks.{size_of}
+use Rattle.branching.specs.Marked.{AreIncoming, AreMarked}
 use Rattle.branching.specs.declared.view.CubeView.TheInside.{Inside}
-
--- what the type of polygraphs keeps
-pub record IsWhole (p : Polygraph) : Type 0 where
-  pub choices : IsPolygraph p
-  pub known : IsKnownGraph (record { nodes = p.nodes; edges = p.known })
 
 -- each choice is open or has a side, and the polygraph is whole
 pub record IsView (v : View) : Type 0 where
@@ -33,3 +28,5 @@ pub record IsHeld (k : Inside) : Type 0 where
   pub counted : k.counts ≡ map size_of k.reduced.now.poly.choices
   pub graph : AreEdgesOf (view_of k) k.graph
   pub rows : AreRowsOf k.rows k.graph
+  pub incoming : AreIncoming k.reduced.now.poly.nodes k.reduced.now.poly.choices k.incoming.items
+  pub marks : AreMarked k.reduced.now.poly.choices k.sides k.graph.edges k.marks.items

@@ -7,7 +7,7 @@ pub mod Picked
 pub mod Meant
 pub mod Forced
 pub mod Sides
-pub mod Grown
+pub mod Marked
 pub mod Held
 pub mod Saved
 pub mod Orders

@@ -7,13 +7,11 @@ use Rattle.std.proofs.lemmas.Bool.{cases_lt, lt-ltb, le-ltb, cond-true, cond-fal
 use Rattle.std.proofs.lemmas.Nat.{mod_below}
 use Rattle.std.proofs.lemmas.Option.{slice_get-get_or}
 use Rattle.pruning_laws.specs.declared.side.Side.{Side}
+use Rattle.prune_ledger.proofs.Marks.{some-inj}
 use Rattle.branching.specs.View.{View, is_open_in}
 use Rattle.branching.specs.Picks.{open_from, open_choices, first_open, edge_count, or_more, first_greatest, or_fewer, first_least, most_edges, least_edges, word_at, by_words, is_even_depth}
 use Rattle.branching.specs.Opens.{is_open_at}
 use Rattle.branching.specs.Refuted.{is_forced_in, first_forced, forced_or_most}
-
-some-inj : {A : Type 0} (x y : A) → Some x ≡ Some y → x ≡ y
-some-inj x y e = cc
 
 not_some : {A : Type 0} (x : A) → Some x ≡ None → ⊥
 not_some x e = absurd (cc)

@@ -1,7 +1,7 @@
 //! A choice that the edges decide, before any other.
 
 ghost use Rattle.std.specs.Prelude.{◌≡◌};
-ghost use Rattle.branching.specs.Refuted.{first_forced, forced_or_most, side_left};
+ghost use Rattle.branching.specs.Refuted.{forced_or_most, side_left};
 
 use crate::by_size::MostEdges;
 use crate::strategy::Strategy;
@@ -25,7 +25,7 @@ impl Strategy for Forced {
     ghost first_of = { λ _ v c. side_left v c };
 
     fn pick(&self, view: &CubeView<'_>) -> Option<ChoiceIx> {
-        match first_forced(view) {
+        match view.first_forced() {
             Some(choice) => Some(choice),
             None => MostEdges.pick(view),
         }
@@ -42,19 +42,4 @@ impl Strategy for Forced {
     ghost picks_open = { λ _ v c e. forced_is_open v c e };
 
     ghost picks_some = { λ _ v e c. forced_where_open v e c };
-}
-
-// The open choice of least number of which a side is refuted.
-#[tactic(auto, using(crate::proofs::Opens::open_within))]
-fn first_forced(view: &CubeView<'_>) -> Option<ChoiceIx>
-    ensures choice { result ≡ first_forced view.now }
-{
-    let mut from = 0;
-    while let Some(choice) = view.next_open(from) {
-        if view.is_forced(choice) {
-            return Some(choice);
-        }
-        from = choice.get() + 1;
-    }
-    None
 }

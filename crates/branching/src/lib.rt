@@ -10,6 +10,7 @@ mod counts;
 mod first_open;
 mod forced;
 pub mod laws;
+mod marks;
 mod order;
 mod sides;
 mod strategy;

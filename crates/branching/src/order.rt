@@ -59,8 +59,8 @@ fn unreached(rows: &Rows, node: NodeIx) -> usize
     count
 }
 
-// The node with this number.
-fn node_of(number: usize) -> NodeIx
+/// The node with this number.
+pub fn node_of(number: usize) -> NodeIx
     requires few { number ≤ 400 }
     ensures number { result ≡ number }
 {

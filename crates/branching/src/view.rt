@@ -1,20 +1,26 @@
 //! What a strategy sees of a cube.
 
-ghost use Rattle.std.specs.Prelude.{◌≡◌, ℕ, ◌+◌, ◌<◌, ◌≤◌, [], ◌∷◌, true, Some, MatchOption, IfSome, IfOk, is_some, length, slice_get};
+ghost use Rattle.std.specs.Prelude.{◌≡◌, ℕ, ◌+◌, ◌<◌, ◌≤◌, [], ◌∷◌, true, Some, MatchOption, IfSome, IfOk, IfNone, is_some, length, slice_get, List, Option};
 ghost use Rattle.std.specs.List.{AllByRecursion};
+ghost use Rattle.serializability.specs.Polygraph as spec;
+ghost use Rattle.pruning_laws.specs.declared.side.Side as side;
 ghost use Rattle.pruning_laws.specs.declared.side.Side.TheVariants.{One, Two};
 ghost use Rattle.polygraph.specs.Polygraphs.{Joins};
 ghost use Rattle.reach_rows.specs.ReachRows.{AreRowsOf};
+ghost use Rattle.prune_ledger.specs.Rounds.{AddsEdges};
 ghost use Rattle.branching.specs.View.{is_open_in, depth_of, graph_in, opened, decided};
 ghost use Rattle.branching.specs.Picks.{edge_count};
-ghost use Rattle.branching.specs.Refuted.{is_refuted_in, is_forced_in};
+ghost use Rattle.branching.specs.Refuted.{is_refuted_in, is_forced_in, first_forced, AreUnforced};
 ghost use Rattle.branching.specs.Opens.{open_past};
-ghost use Rattle.branching.specs.Grown.{AddsEdges};
 ghost use Rattle.branching.specs.Held.{IsView, AreEdgesOf};
+ghost use Rattle.branching.specs.Marked.{AreIncoming, AreMarked};
 
+use crate::bits::{clear_bit, next_set};
 use crate::counts::EdgeCounts;
+use crate::marks::{Incoming, incoming_of, mark_refuted};
 use crate::sides::Sides;
 use known_graph::Known;
+use known_graph::bits::row_len;
 use polygraph::{Choice, ChoiceIx};
 use prune_ledger::{Reduced, Verdict, judge};
 use pruning_laws::Side;
@@ -26,7 +32,8 @@ use std::marker::Model;
 /// What a strategy sees of a cube: the choices of a polygraph, and of each the side that is decided, or
 /// none where it is open.
 ///
-/// It keeps up the known edges with those of the decided sides, and which node reaches which by them.
+/// It keeps up the known edges with those of the decided sides, which node reaches which by them, and a mark
+/// for each open choice of which they refute a side.
 #[derive(Drop)]
 pub struct CubeView<'a> {
     reduced: &'a Reduced,
@@ -34,6 +41,8 @@ pub struct CubeView<'a> {
     sides: Sides,
     graph: Known,
     rows: Rows,
+    incoming: Vec<Vec<Incoming>>,
+    marks: Vec<u64>,
 }
 
 impl<'a> Model for CubeView<'a> {
@@ -54,6 +63,7 @@ pub struct SavedView<'a> {
     sides: Sides,
     graph: Known,
     rows: Rows,
+    marks: Vec<u64>,
 }
 
 impl<'a> Model for SavedView<'a> {
@@ -73,13 +83,15 @@ impl<'a> CubeView<'a> {
         ensures opened { IfOk result (λ view. view ≡ opened reduced.now.poly) }
     {
         let poly = reduced.poly();
-        let _nodes = poly.nodes();
+        let nodes = poly.nodes();
         Ok(CubeView {
             reduced,
             counts: EdgeCounts::new(alloc, poly.choices())?,
             sides: Sides::open(alloc, poly.choices().len())?,
             graph: poly.known().copy(alloc)?,
             rows: reduced.rows().copy(alloc)?,
+            incoming: incoming_of(alloc, nodes, poly.choices())?,
+            marks: vec![in alloc; 0; row_len(poly.choices().len())]?,
         })
     }
 
@@ -91,6 +103,7 @@ impl<'a> CubeView<'a> {
         self.sides.reopen();
         self.graph.copy_from(reduced.poly().known());
         self.rows.copy_from(reduced.rows());
+        self.marks.as_mut_slice().fill(0);
     }
 
     /// What is seen now, to go back to.
@@ -102,6 +115,7 @@ impl<'a> CubeView<'a> {
             sides: self.sides.copy(alloc)?,
             graph: self.graph.copy(alloc)?,
             rows: self.rows.copy(alloc)?,
+            marks: Vec::from_slice(alloc, &self.marks)?,
         })
     }
 
@@ -113,6 +127,7 @@ impl<'a> CubeView<'a> {
         self.sides.copy_from(&saved.sides);
         self.graph.copy_from(&saved.graph);
         self.rows.copy_from(&saved.rows);
+        self.marks.as_mut_slice().copy_from_slice(&saved.marks);
     }
 
     /// Decides an open choice. It takes no memory.
@@ -122,7 +137,15 @@ impl<'a> CubeView<'a> {
     {
         let choices = self.reduced.poly().choices();
         let edges = choices[choice.get()].edges(side);
-        add_edges(&mut self.graph, &mut self.rows, edges);
+        let marks = self.marks.as_mut_slice();
+        add_edges(
+            &self.incoming,
+            &mut self.graph,
+            &mut self.rows,
+            marks,
+            edges,
+        );
+        clear_bit(marks, choice.get());
         self.sides.decide(choice, side);
     }
 
@@ -214,6 +237,29 @@ impl<'a> CubeView<'a> {
         judge(&self.rows, &self.reduced.poly().choices()[choice.get()])
     }
 
+    /// The open choice of least number of which a side is refuted.
+    pub(crate) fn first_forced(&self) -> Option<ChoiceIx>
+        ensures choice { result ≡ first_forced self.now }
+    {
+        let mut from = 0;
+        while let Some(choice) = self.next_marked(from) {
+            if self.is_open(choice) && self.is_forced(choice) {
+                return Some(choice);
+            }
+            from = choice.get() + 1;
+        }
+        None
+    }
+
+    // The choice of least number from a number on that is marked; those below it are not open and forced.
+    fn next_marked(&self, from: usize) -> Option<ChoiceIx>
+        ensures next { IfSome result (λ c. from ≤ c) }
+        ensures below { IfSome result (λ c. AreUnforced self.now from c) }
+        ensures none { IfNone result ((c : ℕ) → AreUnforced self.now from c) }
+    {
+        ChoiceIx::new(next_set(&self.marks, from)?)
+    }
+
     /// A number of edges that no choice has fewer of, both sides together.
     pub(crate) fn fewest_edges(&self) -> usize
         ensures fewest { (c : ℕ) → c < length self.now.polygraph.choices →
@@ -246,14 +292,26 @@ impl<'a> CubeView<'a> {
     }
 }
 
-// Adds these edges to a graph, and to its rows.
-fn add_edges(graph: &mut Known, rows: &mut Rows, edges: &[Edge])
+// Adds these edges to a graph and to its rows, and marks the choices of which they refute a side.
+fn add_edges(
+    incoming: &[Vec<Incoming>],
+    graph: &mut Known,
+    rows: &mut Rows,
+    marks: &mut [u64],
+    edges: &[Edge],
+)
     requires joined { AllByRecursion (Joins graph.old.nodes) edges.now }
     requires rows { AreRowsOf rows.old graph.old }
+    requires lists { length incoming.now ≡ graph.old.nodes + 1 }
     ensures edges { AddsEdges graph.old graph.new edges.now }
     ensures rows { AreRowsOf rows.new graph.new }
+    ensures marks { (choices : List spec.Choice) (sides : List (Option side.Side)) → length sides ≡ length choices →
+        AreIncoming graph.old.nodes choices incoming.now → AreMarked choices sides graph.old.edges marks.old →
+        AreMarked choices sides graph.new.edges marks.new }
+    ensures len { length marks.new ≡ length marks.old }
 {
     for &edge in edges {
+        mark_refuted(incoming, rows, marks, edge.source(), edge.target());
         graph.add_edge(edge.source(), edge.target());
         rows.add_edge(edge.source(), edge.target());
     }

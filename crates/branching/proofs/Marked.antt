@@ -1,0 +1,246 @@
+-- Marks of the choices of which a side is refuted.
+use Rattle.std.proofs.Common.{◌≡◌, ◌≢◌, ◌⊎◌, ◌↔◌, ℕ, zero, suc, ◌+◌, ◌/◌, ◌<◌, ◌≤◌, true, not, eqb, ◌&&◌, List, [], ◌∷◌, ◌++◌, length, get_or, set, take, Option, Some, refl, sym, ap, ◌∙◌, subst, inl, inr, arith, Vec, Global}
+use Rattle.std.specs.Prelude.{slice_get}
+use Rattle.std.specs.Option.{option_map_or}
+use Rattle.std.specs.List.{Contains}
+use Rattle.std.proofs.lemmas.Bool.{cases_eq, cases_Bool, false≢true, and_parts, and_from}
+use Rattle.std.proofs.lemmas.List.{take_more}
+use Rattle.std.proofs.Math.Seq.{take-append_seam}
+use Rattle.std.proofs.lemmas.Option.{slice_get_within}
+use Rattle.serializability.specs.Polygraph.{Edge, Choice, Polygraph}
+use Rattle.reach_laws.specs.Reach.{Graph, Reaches}
+use Rattle.reach_laws.proofs.Walks.{each_contained, reach_joined}
+use Rattle.pruning_laws.specs.declared.side.Side.{Side}
+use Rattle.pruning_laws.specs.declared.side.Side.TheVariants.{One, Two}
+use Rattle.pruning_laws.specs.Forced.{edges_of, IsRefuted}
+use Rattle.known_graph.specs.Bits.{bit_of, row_len}
+use Rattle.known_graph.specs.Tests.{has_edge}
+use Rattle.known_graph.proofs.Tested.{edge_in, has_contained}
+use Rattle.known_graph.proofs.Listed.{In-from_Contains, Contains-from_In, In-append_left, In-append_right, In-append_cases}
+use Rattle.reach_rows.specs.ReachRows.{AreRowsOf}
+use Rattle.reach_rows.proofs.Behind.{word_within}
+use Rattle.reach_rows.proofs.Walking.{grown_reach}
+use Rattle.prune_ledger.specs.Ledger.{side_of}
+use Rattle.prune_ledger.specs.Pruned.{IsReduced}
+use Rattle.prune_ledger.proofs.Marks.{contained_at}
+use Rattle.prune_ledger.proofs.Sides.{side_is, choice_of_edge}
+use Rattle.branching.specs.Opens.{is_open_at}
+use Rattle.branching.specs.Marked.{list_of, AddsEntry, AddsSide, AreIncoming, Keeps, IsOrReaches, MarksBehind, MarksTarget, MarksAll, AreMarked}
+use Rattle.branching.specs.declared.marks.Incoming.{Incoming}
+use Rattle.branching.proofs.Opens.{slice_get-set_same, slice_get-set_other, open_within, open_set}
+
+-- what was written over the whole of a list
+pub written_whole : {X : Type 0} (n : ℕ) (xs ys : List X) → n ≡ length xs → take n (xs ++ ys) ≡ xs
+written_whole n xs ys e = ap (λ m. take m (xs ++ ys)) e ∙ take-append_seam xs ys
+
+-- ---- lists by number
+list_same : (lists : List (Vec Incoming Global)) (k : ℕ) (new : Vec Incoming Global) → k < length lists → list_of (set lists k new) k ≡ new.items
+list_same lists k new lt = ap (λ o. option_map_or (λ (l : Vec Incoming Global). l.items) o []) (slice_get-set_same lists k new lt)
+
+list_other : (lists : List (Vec Incoming Global)) (k j : ℕ) (new : Vec Incoming Global) → j ≢ k → list_of (set lists k new) j ≡ list_of lists j
+list_other lists k j new ne = ap (λ o. option_map_or (λ (l : Vec Incoming Global). l.items) o []) (slice_get-set_other lists k j new ne)
+
+list_is : (lists : List (Vec Incoming Global)) (k : ℕ) (list : Vec Incoming Global) → slice_get lists k ≡ Some list → list_of lists k ≡ list.items
+list_is lists k list at = ap (λ o. option_map_or (λ (l : Vec Incoming Global). l.items) o []) at
+
+contains_left : {X : Type 0} (x : X) (xs ys : List X) → Contains xs x → Contains (xs ++ ys) x
+contains_left x xs ys c = Contains-from_In (xs ++ ys) x (In-append_left x xs ys (In-from_Contains xs x c))
+
+contains_last : {X : Type 0} (x : X) (xs : List X) → Contains (xs ++ x ∷ []) x
+contains_last x xs = Contains-from_In (xs ++ x ∷ []) x (In-append_right x xs (x ∷ []) (inl refl))
+
+-- in a part with an item more
+pub last_or : {X : Type 0} (x y : X) (xs : List X) → Contains (xs ++ y ∷ []) x → Contains xs x ⊎ (y ≡ x)
+last_or x y xs c = elim (In-append_cases x xs (y ∷ []) (In-from_Contains (xs ++ y ∷ []) x c)) [
+  | inl a ↦ inl (Contains-from_In xs x a)
+  | inr b ↦ elim b [ inl e ↦ inr e | inr none ↦ absurd none ]
+]
+
+pub entry_pushed : (lists : List (Vec Incoming Global)) (k : ℕ) (old new : Vec Incoming Global) (x : Incoming) → k < length lists → slice_get lists k ≡ Some old → new.items ≡ old.items ++ x ∷ [] → AddsEntry k x lists (set lists k new)
+entry_pushed lists k old new x lt at pushed = record {
+  keeps = record {
+    kept = λ t y c. elim (cases_eq t k) [
+      | inl e ↦
+          (let here : Contains old.items y = subst (λ l. Contains l y) (ap (list_of lists) e ∙ list_is lists k old at) c in
+          subst (λ l. Contains l y) (sym (ap (list_of (set lists k new)) e ∙ list_same lists k new lt ∙ pushed)) (contains_left y old.items (x ∷ []) here))
+      | inr ne ↦ subst (λ l. Contains l y) (sym (list_other lists k t new ne)) c
+    ];
+  };
+  added = subst (λ l. Contains l x) (sym (list_same lists k new lt ∙ pushed)) (contains_last x old.items);
+}
+
+pub side_none : (c : ℕ) (lists : List (Vec Incoming Global)) → AddsSide c [] lists lists
+side_none c lists = record { keeps = record { kept = λ t x k. k }; added = λ e k. absurd (In-from_Contains [] e k) }
+
+pub side_more : (c : ℕ) (old now next : List (Vec Incoming Global)) (side : List Edge) (k : ℕ) (d : Edge) (s t : ℕ) → k < length side → d ≡ get_or side k d → s ≡ d.0 → t ≡ d.1
+    → AddsSide c (take k side) old now → AddsEntry t (record { source = s; choice = c }) now next → AddsSide c (take (k + 1) side) old next
+side_more c old now next side k d s t lt is p q a m =
+    subst (λ (l : List Edge). AddsSide c l old next) (ap (λ (x : Edge). take k side ++ x ∷ []) is ∙ sym (take_more side k d lt)) (record {
+      keeps = record { kept = λ n x h. m.keeps.kept n x (a.keeps.kept n x h) };
+      added = λ e h. elim (last_or e d (take k side) h) [
+        | inl b ↦ m.keeps.kept e.1 (record { source = e.0; choice = c }) (a.added e b)
+        | inr same ↦
+            (let first : s ≡ e.0 = p ∙ ap (λ (x : Edge). x.0) same in
+            let second : t ≡ e.1 = q ∙ ap (λ (x : Edge). x.1) same in
+            subst (λ n. Contains (list_of next n) (record { source = e.0; choice = c })) second
+            (subst (λ n. Contains (list_of next t) (record { source = n; choice = c })) first m.added))
+      ];
+    })
+
+-- the choices below a number are done
+pub record AreIncomingTo (choices : List Choice) (number : ℕ) (lists : List (Vec Incoming Global)) : Type 0 where
+  pub each : (c : ℕ) (side : Side) (e : Edge) → c < number → Contains (side_of choices c side) e → Contains (list_of lists e.1) (record { source = e.0; choice = c })
+
+pub incoming_more : (choices : List Choice) (k : ℕ) (h g : Choice) (old now next : List (Vec Incoming Global)) → slice_get choices k ≡ Some h → slice_get choices k ≡ Some g → AreIncomingTo choices k old → AddsSide k h.one old now → AddsSide k g.two now next
+    → AreIncomingTo choices (k + 1) next
+incoming_more choices k h g old now next at also a one two = record {
+  each = λ c side e lt i. elim (cases_eq c k) [
+    | inl same ↦ subst (λ n. Contains (list_of next e.1) (record { source = e.0; choice = n })) (sym same) (here side e (subst (λ n. Contains (side_of choices n side) e) same i))
+    | inr ne ↦
+        (let less : c < k = omega (arith, lt, ne) in
+        two.keeps.kept e.1 (record { source = e.0; choice = c }) (one.keeps.kept e.1 (record { source = e.0; choice = c }) (a.each c side e less i)))
+  ];
+}
+  where
+    here : (side : Side) (e : Edge) → Contains (side_of choices k side) e → Contains (list_of next e.1) (record { source = e.0; choice = k })
+    here One e i = two.keeps.kept e.1 (record { source = e.0; choice = k }) (one.added e (subst (λ l. Contains l e) (side_is choices k h One at) i))
+    here Two e i = two.added e (subst (λ l. Contains l e) (side_is choices k g Two also) i)
+
+pub incoming_all : (n : ℕ) (choices : List Choice) (k : ℕ) (lists : List (Vec Incoming Global)) → length lists ≡ n + 1 → length choices ≤ k → AreIncomingTo choices k lists → AreIncoming n choices lists
+incoming_all n choices k lists count past a = record {
+  count = count;
+  each = λ c side e i.
+      (let g = choice_of_edge choices c side e (In-from_Contains (side_of choices c side) e i) in
+      let lt = slice_get_within choices c g.choice g.at in
+      a.each c side e (omega (arith, lt, past)) i);
+}
+
+-- ---- marks that are kept
+pub keeps_same : (marks : List ℕ) → Keeps marks marks
+keeps_same marks = record { kept = λ k t. t; len = refl }
+
+pub keeps_then : (a b c : List ℕ) → Keeps a b → Keeps b c → Keeps a c
+keeps_then a b c x y = record { kept = λ k t. y.kept k (x.kept k t); len = y.len ∙ x.len }
+
+pub behind_none : (rows : List Edge) (v : ℕ) (marks : List ℕ) → MarksBehind rows v [] marks
+behind_none rows v marks = record { each = λ x c. absurd (In-from_Contains [] x c) }
+
+pub behind_kept : (rows : List Edge) (v : ℕ) (list : List Incoming) (old new : List ℕ) → Keeps old new → MarksBehind rows v list old → MarksBehind rows v list new
+behind_kept rows v list old new k m = record { each = λ x c lt r. k.kept x.choice (m.each x c (subst (λ n. x.choice / 64 < n) k.len lt) r) }
+
+pub behind_more : (rows : List Edge) (v : ℕ) (list : List Incoming) (old new : List ℕ) (k : ℕ) (d : Incoming) → k < length list → d ≡ get_or list k d → MarksBehind rows v (take k list) old → Keeps old new
+    → (d.choice / 64 < length old → IsOrReaches rows v d.source → bit_of new d.choice ≡ true) → MarksBehind rows v (take (k + 1) list) new
+behind_more rows v list old new k d lt is m keeps marked =
+    subst (λ (l : List Incoming). MarksBehind rows v l new) (ap (λ (x : Incoming). take k list ++ x ∷ []) is ∙ sym (take_more list k d lt)) (record {
+      each = λ x c within r. elim (last_or x d (take k list) c) [
+        | inl a ↦ (behind_kept rows v (take k list) old new keeps m).each x a within r
+        | inr same ↦
+            subst (λ (y : Incoming). y.choice / 64 < length new → IsOrReaches rows v y.source → bit_of new y.choice ≡ true) same
+            (λ w q. marked (subst (λ n. d.choice / 64 < n) keeps.len w) q) within r
+      ];
+    })
+
+-- the lists of the nodes below a number are done
+pub record MarksBelow (rows : List Edge) (u v : ℕ) (lists : List (Vec Incoming Global)) (number : ℕ) (marks : List ℕ) : Type 0 where
+  pub each : (t : ℕ) → t < number → MarksTarget rows t u v (list_of lists t) marks
+
+pub below_none : (rows : List Edge) (u v : ℕ) (lists : List (Vec Incoming Global)) (marks : List ℕ) → MarksBelow rows u v lists 0 marks
+below_none rows u v lists marks = record { each = λ t lt. absurd (omega (arith, lt)) }
+
+pub below_more : (rows : List Edge) (u v : ℕ) (lists : List (Vec Incoming Global)) (k : ℕ) (list : Vec Incoming Global) (old new : List ℕ) → slice_get lists k ≡ Some list → MarksBelow rows u v lists k old → Keeps old new
+    → MarksTarget rows k u v list.items new → MarksBelow rows u v lists (k + 1) new
+below_more rows u v lists k list old new at m keeps marked = record {
+  each = λ t lt. elim (cases_eq t k) [
+    | inl same ↦ subst (λ n. MarksTarget rows n u v (list_of lists n) new) (sym same) (subst (λ l. MarksTarget rows k u v l new) (sym (list_is lists k list at)) marked)
+    | inr ne ↦
+        (let less : t < k = omega (arith, lt, ne) in
+        record { each = λ r f. behind_kept rows v (list_of lists t) old new keeps ((m.each t less).each r f) })
+  ];
+}
+
+-- ---- what a mark is for
+no_list : (lists : List (Vec Incoming Global)) (t : ℕ) (x : Incoming) → Contains (list_of lists t) x → t < length lists
+no_list [] t x c = absurd (In-from_Contains [] x c)
+no_list (l ∷ ls) zero x c = omega arith
+no_list (l ∷ ls) (suc t) x c = let lt = no_list ls t x c in omega (arith, lt)
+
+by_rows : (rows graph : Graph) (u w : ℕ) → AreRowsOf rows graph → (u ≡ w) ⊎ Reaches graph.edges u w → IsOrReaches rows.edges u w
+by_rows rows graph u w a (inl e) = inl e
+by_rows rows graph u w a (inr r) = inr ((a.reach u w).1 r)
+
+pub all_marked : (rows graph : Graph) (u v : ℕ) (lists : List (Vec Incoming Global)) (k : ℕ) (marks : List ℕ) → AreRowsOf rows graph → length lists ≤ k → MarksBelow rows.edges u v lists k marks → MarksAll graph.edges u v lists marks
+all_marked rows graph u v lists k marks a past m = record {
+  each = λ t x c within to not_yet from.
+      (let lt = no_list lists t x c in
+      ((m.each t (omega (arith, lt, past))).each (by_rows rows graph t u a to) (λ i. not_yet ((a.reach t v).0 i))).each x c within (by_rows rows graph v x.source a from));
+}
+
+-- where u reached v already, no node comes to reach it
+pub none_to_mark : (graph : Graph) (u v : ℕ) (lists : List (Vec Incoming Global)) (marks : List ℕ) → Reaches graph.edges u v → MarksAll graph.edges u v lists marks
+none_to_mark graph u v lists marks r = record { each = λ t x c within to not_yet from. absurd (not_yet (reached t to)) }
+  where
+    reached : (t : ℕ) → (t ≡ u) ⊎ Reaches graph.edges t u → Reaches graph.edges t v
+    reached t (inl e) = subst (λ n. Reaches graph.edges n v) (sym e) r
+    reached t (inr s) = reach_joined graph.edges t u v s r
+
+-- ---- the marks of a view
+pub marked_none : (p : Polygraph) (sides : List (Option Side)) (edges : List Edge) (marks : List ℕ) → IsReduced p → edges ≡ p.known → length marks ≡ row_len (length p.choices) → AreMarked p.choices sides edges marks
+marked_none p sides edges marks reduced same len = record {
+  len = len;
+  marked = λ c side free r.
+      (let g = choice_of_edge p.choices c side (r.0, r.1.0) (In-from_Contains (side_of p.choices c side) (r.0, r.1.0) r.1.1.0) in
+      let whole : IsRefuted p.known (edges_of g.choice side) = subst (λ l. IsRefuted l (edges_of g.choice side)) same (subst (IsRefuted edges) (side_is p.choices c g.choice side g.at) r) in
+      absurd (each_contained (λ h. (s : Side) → IsRefuted p.known (edges_of h s) → ⊥) p.choices g.choice reduced.unrefuted (contained_at p.choices c g.choice g.at) side whole));
+}
+
+contained_or : (edges : List Edge) (e : Edge) → Contains edges e ⊎ (Contains edges e → ⊥)
+contained_or edges e = elim (cases_Bool (has_edge edges e)) [
+  | inl t ↦ inl (edge_in edges e t)
+  | inr f ↦ inr (λ c. false≢true (sym f ∙ has_contained edges e c))
+]
+
+-- one edge more
+marked_edge : (rows g new : Graph) (choices : List Choice) (n : ℕ) (lists : List (Vec Incoming Global)) (old marks : List ℕ) (u v c : ℕ) (e : Edge) (side : Side) → AreRowsOf rows g → AreIncoming n choices lists
+    → ((x : Edge) → (Contains new.edges x ↔ (Contains g.edges x ⊎ (x ≡ (u, v))))) → Keeps old marks → MarksAll g.edges u v lists marks → (c / 64 < length marks)
+    → (IsRefuted g.edges (side_of choices c side) → bit_of old c ≡ true) → Contains (side_of choices c side) e → Reaches new.edges e.1 e.0 → bit_of marks c ≡ true
+marked_edge rows g new choices n lists old marks u v c e side are incoming more keeps all within before i r =
+    elim ((grown_reach g.edges new.edges u v more e.1 e.0).0 r) [
+      | inl was ↦ keeps.kept c (before (e.0, (e.1, (i, was))))
+      | inr via ↦ elim (contained_or (rows.edges) (e.1, v)) [
+        | inl already ↦ keeps.kept c (before (e.0, (e.1, (i, on_from ((are.reach e.1 v).0 already) via.1))))
+        | inr not_yet ↦ all.each e.1 (record { source = e.0; choice = c }) (incoming.each c side e i) within via.0 (λ q. not_yet ((are.reach e.1 v).1 q)) (turned via.1)
+      ]
+    ]
+  where
+    on_from : Reaches g.edges e.1 v → (e.0 ≡ v) ⊎ Reaches g.edges v e.0 → Reaches g.edges e.1 e.0
+    on_from q (inl same) = subst (Reaches g.edges e.1) (sym same) q
+    on_from q (inr s) = reach_joined g.edges e.1 v e.0 q s
+
+    turned : (e.0 ≡ v) ⊎ Reaches g.edges v e.0 → (v ≡ e.0) ⊎ Reaches g.edges v e.0
+    turned (inl same) = inl (sym same)
+    turned (inr s) = inr s
+
+pub marked_more : (rows g new : Graph) (choices : List Choice) (sides : List (Option Side)) (n : ℕ) (lists : List (Vec Incoming Global)) (old marks : List ℕ) (u v a b : ℕ) → AreRowsOf rows g → AreIncoming n choices lists
+    → length sides ≡ length choices → u ≡ a → v ≡ b → ((x : Edge) → (Contains new.edges x ↔ (Contains g.edges x ⊎ (x ≡ (a, b))))) → Keeps old marks → MarksAll g.edges u v lists marks → AreMarked choices sides g.edges old → AreMarked choices sides new.edges marks
+marked_more rows g new choices sides n lists old marks u v a b are incoming count p q more keeps all m = record {
+  len = keeps.len ∙ m.len;
+  marked = λ c side free r.
+      (let lt = open_within sides c free in
+      let within : c / 64 < length marks = subst (λ k. c / 64 < k) (sym (keeps.len ∙ m.len)) (word_within (length choices) c (omega (arith, lt, count))) in
+      let added = subst (λ (x : Edge). (y : Edge) → (Contains new.edges y ↔ (Contains g.edges y ⊎ (y ≡ x)))) (λ i. (sym p i, sym q i)) more in
+      marked_edge rows g new choices n lists old marks u v c (r.0, r.1.0) side are incoming added keeps all within (m.marked c side free) r.1.1.0 r.1.1.1);
+}
+
+-- a choice is decided
+pub marked_decided : (choices : List Choice) (sides next : List (Option Side)) (edges : List Edge) (old marks : List ℕ) (c : ℕ) (side : Side) → c < length sides → next ≡ set sides c (Some side) → length marks ≡ length old
+    → ((k : ℕ) → bit_of marks k ≡ (not (eqb k c) && bit_of old k)) → AreMarked choices sides edges old → AreMarked choices next edges marks
+marked_decided choices sides next edges old marks c side lt is len bits m = record {
+  len = len ∙ m.len;
+  marked = λ k s free r.
+      (let t : (not (eqb k c) && is_open_at sides k) ≡ true = sym (open_set sides c side k lt) ∙ sym (ap (λ l. is_open_at l k) is) ∙ free in
+      let both = and_parts (not (eqb k c)) (is_open_at sides k) t in
+      bits k ∙ and_from (not (eqb k c)) (bit_of old k) both.0 (m.marked k s both.1 r));
+}
+
+pub place_within : (choices : List Choice) (sides : List (Option Side)) (edges : List Edge) (marks : List ℕ) (c : ℕ) → AreMarked choices sides edges marks → c < length choices → c / 64 < length marks
+place_within choices sides edges marks c m lt = subst (λ k. c / 64 < k) (sym m.len) (word_within (length choices) c (omega (arith, lt)))

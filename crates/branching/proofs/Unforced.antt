@@ -1,0 +1,93 @@
+-- Open choices that are not marked, and the first one of which a side is refuted.
+use Rattle.std.proofs.Common.{◌≡◌, ◌↔◌, ℕ, zero, suc, ◌+◌, ◌<◌, Bool, true, false, List, [], ◌∷◌, length, Option, Some, None, refl, sym, ap, ◌∙◌, subst, inl, inr, arith}
+use Rattle.std.specs.Prelude.{slice_get, IsSome, IfSome, IfNone}
+use Rattle.std.specs.List.{filter}
+use Rattle.std.proofs.lemmas.Bool.{cases_Bool, cases_lt, false≢true}
+use Rattle.reach_laws.specs.Reach.{Graph}
+use Rattle.pruning_laws.specs.declared.side.Side.{Side}
+use Rattle.known_graph.specs.Bits.{bit_of, row_len}
+use Rattle.prune_ledger.specs.Ledger.{side_of}
+use Rattle.prune_ledger.proofs.Grown.{refuted_in}
+use Rattle.branching.specs.Bits.{IsNext, NoneFrom}
+use Rattle.branching.specs.View.{View, is_open_in, edges_in}
+use Rattle.branching.specs.Picks.{open_from}
+use Rattle.branching.specs.Opens.{is_open_at}
+use Rattle.branching.specs.Held.{IsView, AreEdgesOf}
+use Rattle.branching.specs.Marked.{AreMarked}
+use Rattle.branching.specs.Refuted.{is_forced_in, first_forced, AreUnforced}
+use Rattle.branching.proofs.Opens.{open_within}
+use Rattle.branching.proofs.Refuting.{forced_of, first_passes, first_fails}
+
+-- ---- a choice without a mark
+unmarked : (v : View) (g : Graph) (marks : List ℕ) (c : ℕ) → AreEdgesOf v g → AreMarked v.polygraph.choices v.sides g.edges marks → is_open_in v c ≡ true → bit_of marks c ≡ false → is_forced_in v c ≡ false
+unmarked v g marks c a m free f = elim (cases_Bool (is_forced_in v c)) [
+  | inl t ↦
+      (let h = forced_of v c t in
+      let r = refuted_in (edges_in v) g.edges (side_of v.polygraph.choices c h.0) (λ e i. (a.edges e).1 i) h.1 in
+      absurd (false≢true (sym f ∙ m.marked c h.0 free r)))
+  | inr n ↦ n
+]
+
+pub unforced_next : (v : View) (g : Graph) (marks : List ℕ) (from k : ℕ) → AreEdgesOf v g → AreMarked v.polygraph.choices v.sides g.edges marks → IsNext marks from k → AreUnforced v from k
+unforced_next v g marks from k a m n = record { each = λ c lo hi free. unmarked v g marks c a m free (n.first c lo hi) }
+
+pub unforced_from : (v : View) (g : Graph) (marks : List ℕ) (from : ℕ) → AreEdgesOf v g → AreMarked v.polygraph.choices v.sides g.edges marks → NoneFrom marks from → (to : ℕ) → AreUnforced v from to
+unforced_from v g marks from a m n to = record { each = λ c lo hi free. unmarked v g marks c a m free (n.clear c lo) }
+
+pub few_marks : (v : View) (marks : List ℕ) (g : Graph) → IsView v → AreMarked v.polygraph.choices v.sides g.edges marks → length marks < 4294967296
+unfolding row_len
+few_marks v marks g is m = let e = m.len in let f = is.whole.choices.few in omega (arith, e, f)
+
+-- ---- the next one, by its number
+pub next_below : (v : View) (o : Option ℕ) (from k : ℕ) → AreUnforced v from k → IfSome o (λ c. c ≡ k) → IfSome o (λ c. AreUnforced v from c)
+next_below v None from k u value = value
+next_below v (Some c) from k u value = subst (AreUnforced v from) (sym value) u
+
+pub next_none : (v : View) (o : Option ℕ) (from k : ℕ) → IsView v → AreUnforced v from k → (IsSome o ↔ (k < 100000)) → IfNone o ((c : ℕ) → AreUnforced v from c)
+next_none v (Some c) from k is u some = _
+next_none v None from k is u some = λ to. record {
+  each = λ c lo hi free.
+      (let within = open_within v.sides c free in
+      let sided = is.sided in
+      let few = is.whole.choices.few in
+      elim (cases_lt k 100000) [ inl lt ↦ absurd (false≢true (some.1 lt)) | inr ge ↦ u.each c lo (omega (arith, within, sided, few, ge)) free ]);
+}
+
+pub unforced_joined : (v : View) (a b c : ℕ) → AreUnforced v a b → AreUnforced v b c → AreUnforced v a c
+unforced_joined v a b c first second = record {
+  each = λ n lo hi free. elim (cases_lt n b) [ inl lt ↦ first.each n lo lt free | inr ge ↦ second.each n ge hi free ];
+}
+
+-- ---- the first one that passes
+first_found : (p : ℕ → Bool) (sides : List (Option Side)) (k i : ℕ) → is_open_at sides i ≡ true → p (k + i) ≡ true → ((j : ℕ) → j < i → is_open_at sides j ≡ true → p (k + j) ≡ false)
+    → slice_get (filter p (open_from k sides)) 0 ≡ Some (k + i)
+first_found p [] k i free t below = absurd (false≢true free)
+first_found p (Some s ∷ xs) k zero free t below = absurd (false≢true free)
+first_found p (None ∷ xs) k zero free t below =
+    let e : k + 0 ≡ k = omega arith in
+    first_passes p k (k ∷ open_from (k + 1) xs) (open_from (k + 1) xs) refl (subst (λ n. p n ≡ true) e t) ∙ ap (λ n. Some n) (sym e)
+first_found p (Some s ∷ xs) k (suc i) free t below =
+    let e : k + suc i ≡ k + 1 + i = omega arith in
+    first_found p xs (k + 1) i free (subst (λ n. p n ≡ true) e t) (λ j lt o. (let d : k + suc j ≡ k + 1 + j = omega arith in subst (λ n. p n ≡ false) d (below (suc j) (omega (arith, lt)) o))) ∙ ap (λ n. Some n) (sym e)
+first_found p (None ∷ xs) k (suc i) free t below =
+    let e : k + suc i ≡ k + 1 + i = omega arith in
+    let z : k + 0 ≡ k = omega arith in
+    first_fails p k (k ∷ open_from (k + 1) xs) (open_from (k + 1) xs) refl (subst (λ n. p n ≡ false) z (below 0 (omega arith) refl))
+    ∙ first_found p xs (k + 1) i free (subst (λ n. p n ≡ true) e t) (λ j lt o. (let d : k + suc j ≡ k + 1 + j = omega arith in subst (λ n. p n ≡ false) d (below (suc j) (omega (arith, lt)) o))) ∙ ap (λ n. Some n) (sym e)
+
+none_found : (p : ℕ → Bool) (sides : List (Option Side)) (k : ℕ) → ((j : ℕ) → is_open_at sides j ≡ true → p (k + j) ≡ false) → slice_get (filter p (open_from k sides)) 0 ≡ None
+none_found p [] k below = refl
+none_found p (Some s ∷ xs) k below = none_found p xs (k + 1) (λ j o. (let d : k + suc j ≡ k + 1 + j = omega arith in subst (λ n. p n ≡ false) d (below (suc j) o)))
+none_found p (None ∷ xs) k below =
+    let z : k + 0 ≡ k = omega arith in
+    first_fails p k (k ∷ open_from (k + 1) xs) (open_from (k + 1) xs) refl (subst (λ n. p n ≡ false) z (below 0 refl))
+    ∙ none_found p xs (k + 1) (λ j o. (let d : k + suc j ≡ k + 1 + j = omega arith in subst (λ n. p n ≡ false) d (below (suc j) o)))
+
+pub first_forced_is : (v : View) (c : ℕ) → is_open_in v c ≡ true → is_forced_in v c ≡ true → AreUnforced v 0 c → first_forced v ≡ Some c
+first_forced_is v c free t u =
+    let e : 0 + c ≡ c = omega arith in
+    first_found (is_forced_in v) v.sides 0 c free (subst (λ n. is_forced_in v n ≡ true) (sym e) t) (λ j lt o. (let d : j ≡ 0 + j = omega arith in subst (λ n. is_forced_in v n ≡ false) d (u.each j (omega arith) lt o)))
+    ∙ ap (λ n. Some n) e
+
+pub none_forced_is : (v : View) → ((c : ℕ) → AreUnforced v 0 c) → first_forced v ≡ None
+none_forced_is v u = none_found (is_forced_in v) v.sides 0 (λ j o. (let d : j ≡ 0 + j = omega arith in subst (λ n. is_forced_in v n ≡ false) d ((u (j + 1)).each j (omega arith) (omega arith) o)))
