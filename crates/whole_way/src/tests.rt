@@ -286,7 +286,8 @@ const TWO_CHAINS: &str = "session 1\nbegin\nw x 1\ncommit\nsession 2\nbegin\nr x
     session 3\nbegin\nw x 3\ncommit\nsession 4\nbegin\nr x 3\nw x 4\ncommit\n\
     session 5\nbegin\nr x 2\ncommit\nsession 6\nbegin\nr x 4\ncommit\n";
 
-const TWO_CHAINS_FORMULA: &str = "p cnf 10 20\n-4 1 0\n-5 2 0\n-6 3 0\n-1 2 0\n1 7 0\n-1 3 0\n2 8 0\n-2 3 0\n\
+const TWO_CHAINS_FORMULA: &str =
+    "p cnf 10 20\n-4 1 0\n-5 2 0\n-6 3 0\n-1 2 0\n1 7 0\n-1 3 0\n2 8 0\n-2 3 0\n\
     -9 3 0\n-4 5 0\n4 7 0\n-4 6 0\n5 8 0\n-5 6 0\n-9 6 0\n-8 7 0\n7 9 0\n8 9 0\n-10 -7 0\n10 -3 0\n";
 
 #[test]
@@ -426,8 +427,13 @@ fn each_number_of_workers(rt: HostRuntime) -> Result<(), Fail> {
                 "1 1\n2 1\n5 1\n3 1\n4 1\n6 1\n",
             ),
         ] {
-            let (code, printed) =
-                told(&rt, rt.alloc(), &reduced(&rt, workers), command, TWO_CHAINS)?;
+            let (code, printed) = told(
+                &rt,
+                rt.alloc(),
+                &reduced(&rt, workers),
+                command,
+                TWO_CHAINS,
+            )?;
             assert_eq!(rt; code, 0, "{text:?}");
             assert_eq!(rt; printed.as_slice(), text.as_bytes());
         }
