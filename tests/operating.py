@@ -1,7 +1,7 @@
 #!/usr/bin/env python3
 """operating.py PROGRAM [--plain] [--all]: the program as an operator meets it.
 
-Logs of 16 MiB of bad shapes are answered within ten seconds and 128 MiB; pipes are closed, devices full, files directories, missing
+Logs of 16 MiB of bad shapes are answered within 128 MiB; pipes are closed, devices full, files directories, missing
 or unreadable, standard input is closed, the address space is limited from little to ample, threads are refused. Each run must end
 with the answer that it has with ample means or with a named refusal on standard error and its status, never by a signal, and never
 with half a text and status 0. With --plain the plain formula alone is asked for; with --all the cases of UNSETTLED run too. Last
@@ -12,7 +12,7 @@ HERE = os.path.dirname(os.path.abspath(__file__))
 sys.path.insert(0, HERE)
 import answers
 
-BYTES, SECONDS, MEMORY, LATE = 16 * 1024 * 1024, 10, 128 * 1024, 120
+BYTES, MEMORY, LATE = 16 * 1024 * 1024, 128 * 1024, 120
 LOG = b'session 1\nbegin\nw x 1\ncommit\nsession 2\nbegin\nw x 2\ncommit\nsession 3\nbegin\nr x 1\ncommit\n'
 MODELS = {True: b's SATISFIABLE\nv 1 2 3 4 5 -6 0\n', False: b's SATISFIABLE\nv 1 -2 3 0\n'}
 ORDER = b'1 1\n3 1\n2 1\n'
@@ -22,9 +22,9 @@ LETTERS = 'ABCDEFGHIJKLMNOPQRSTUVWXYZabcdefghijklmnopqrstuvwxyz0123456789_.:/-'
 NOBODY = 65534
 # The status of the system's loader where it finds no room for the libraries, before the program begins.
 UNLOADED = 127
-# Cases that the program does not pass today, by the first words of their names; they run with --all: help and version end with
-# status 0 where nobody hears them, and a log of far more operations than are taken is read whole before it is refused.
-UNSETTLED = ('unheard help', 'memory of 16 MiB, 64 sessions of one read', 'memory of 16 MiB, 64 sessions of one write')
+# Cases that the program does not pass today, by the first words of their names; they run with --all: a log of far more operations
+# than are taken is read whole before it is refused.
+UNSETTLED = ('memory of 16 MiB, 64 sessions of one read', 'memory of 16 MiB, 64 sessions of one write')
 
 
 def repeated(before, line):
@@ -136,15 +136,13 @@ class Runs:
             path = self.file('shape', pieces)
             for words, _ in self.calls(path):
                 name_of = '16 MiB, %s, %s' % (name, ' '.join(words[:-1]))
-                got, took, used = self.measured(words)
+                got, used = self.measured(words)
                 self.case(name_of, lambda: answer_fault(words, got, said))
-                self.case('time of ' + name_of, lambda: '%.1f s' % took if took > SECONDS else None)
                 self.case('memory of ' + name_of, lambda: '%d KiB' % used if used > MEMORY else None)
             os.remove(path)
 
     def measured(self, words):
-        """An answer, its seconds, and the most memory that it took, in KiB."""
-        began = time.monotonic()
+        """An answer, and the most memory that it took, in KiB."""
         with tempfile.TemporaryFile(dir=self.folder) as out, tempfile.TemporaryFile(dir=self.folder) as error:
             child = subprocess.Popen([self.program, *words], stdin=subprocess.DEVNULL, stdout=out, stderr=error)
             late = threading.Timer(LATE, child.kill)
@@ -152,9 +150,8 @@ class Runs:
             _, status, used = os.wait4(child.pid, 0)
             late.cancel()
             child.returncode = os.waitstatus_to_exitcode(status)
-            took = time.monotonic() - began
             out.seek(0), error.seek(0)
-            return (child.returncode, out.read(4096), error.read(4096)), took, used.ru_maxrss
+            return (child.returncode, out.read(4096), error.read(4096)), used.ru_maxrss
 
     # ---- devices
 

@@ -64,9 +64,10 @@ def main():
         examples = os.path.join(os.path.dirname(os.path.abspath(__file__)), '..', 'examples')
         calls = [['encode', '--plain', paths['log']], ['stats', '--plain', paths['log']],
                  ['decode', '--plain', '--model', paths['plain_answer'], paths['log']], ['verify', '--order', paths['order'], paths['log']]]
-        calls += [words for count in ('1', '2') for words in (['encode', '--workers', count, paths['log']], ['stats', '--workers', count, paths['log']],
-                  ['decode', '--workers', count, '--model', paths['answer'], paths['log']])]
-        calls += [['check', '--workers', count, log] for count in ('1', '2')
+        calls += [['decode', '--workers', count, '--model', paths['answer'], paths['log']] for count in ('1', '4')]
+        calls += [[command, '--workers', count, log] for command in ('encode', 'stats') for count in ('1', '4')
+                  for log in [paths['log']] + [os.path.join(examples, name) for name in ('two_chains.log', 'forced_choices.log', 'crossed_readers.log')]]
+        calls += [['check', '--workers', count, log] for count in ('1', '2', '4')
                   for log in [paths['log']] + [os.path.join(examples, name) for name in ('crossed_readers.log', 'forced_choices.log', 'forced_cycle.log', 'write_skew.log', 'lost_update.log')]]
         for words in calls:
             wanted, refusals, left_to_another = None, 0, 0

@@ -4,5 +4,4 @@ mod Usages
 mod Marks
 mod Scan
 mod Turns
-mod Sources
 mod Clashes

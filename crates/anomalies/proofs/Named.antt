@@ -13,7 +13,7 @@ use Rattle.serializability.specs.Reads.{last_write, WritesAfter, IsNumbered}
 use Rattle.serializability.specs.Polygraph.{committed}
 use Rattle.serializability.specs.Anomalies.{is_write_of, writes_as, is_unknown, is_aborted, is_intermediate, external_anomaly}
 use Rattle.serializability.proofs.Sources.{Has-from_range, range-from_Has, any_found, any_from, wrote_is}
-use Rattle.history.specs.Writes.{IsUnwritten, IsNodesWrite, IsWrite}
+use Rattle.session_history.specs.Writes.{IsUnwritten, IsNodesWrite, IsWrite}
 use Rattle.anomaly_laws.specs.Aborted.{WritesAborted}
 use Rattle.anomaly_laws.specs.Meaning.{IsIntermediateWrite}
 use Rattle.anomaly_laws.proofs.Lists.{contains_at}

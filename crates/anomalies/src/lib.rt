@@ -12,7 +12,7 @@ ghost use Rattle.std.specs.Prelude.{◌≡◌, IfOk};
 ghost use Rattle.serializability.specs.Anomalies.{anomaly_of};
 ghost use Rattle.log_definitions.specs.Numbers.{log_of};
 
-use history::{Anomaly, History};
+use session_history::{Anomaly, History};
 use std::alloc::{AllocError, Global};
 
 /// The anomaly of the history, where there is one: the first read in log order that is an anomaly,

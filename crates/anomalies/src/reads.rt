@@ -9,7 +9,7 @@ ghost use Rattle.serializability.specs.Anomalies.{external_anomaly, read_anomaly
 ghost use Rattle.log_definitions.specs.Numbers.{log_of, IsWellFormedList};
 ghost use Rattle.anomalies.specs.Usage.{StandsAt, IsUsage, AreBelow, key_of, used_by, used_after, split_anomaly};
 
-use history::{Anomaly, Event, History, NodeIx, ReadAnomaly};
+use session_history::{Anomaly, Event, History, NodeIx, ReadAnomaly};
 use std::alloc::{AllocError, Global};
 
 /// What a transaction did to a key so far, where none of its reads is an anomaly.

@@ -7,7 +7,7 @@ ghost use Rattle.serializability.specs.Anomalies.{lost_updates, first_some};
 ghost use Rattle.log_definitions.specs.Numbers.{log_of};
 ghost use Rattle.anomalies.specs.Updates.{AreOfKeysBelow, AreFirst, lost_updates_of, lost_by, clash_with, lesser, updater_of};
 
-use history::{Anomaly, History, NodeIx};
+use session_history::{Anomaly, History, NodeIx};
 use std::alloc::{AllocError, Global};
 
 /// The first node that updates a key from a node.
@@ -78,7 +78,7 @@ fn clash_of(
         AreFirst log key (earlier ++ node ∷ []) updaters.new }
     ensures keys { AreOfKeysBelow (key + 1) updaters.old → AreOfKeysBelow (key + 1) updaters.new }
 {
-    let source = source_of(history, node, key)?;
+    let source = history.source_of(node, key)?;
     let updater = &mut updaters[source.get()];
     match updater_of(key, *updater) {
         Some(first) => Some(Clash {
@@ -116,17 +116,5 @@ fn lesser(least: Option<Clash>, clash: Option<Clash>) -> Option<Clash>
                 old
             }),
         },
-    }
-}
-
-/// The node from which the node reads the key externally.
-fn source_of(history: &History, node: NodeIx, key: usize) -> Option<NodeIx>
-    requires key { key < (log_of history.now).keys }
-    ensures source { result ≡ source (log_of history.now) node key }
-{
-    let reads = history.reads_of(node);
-    match reads.binary_search_by_key(&key, |read| read.key) {
-        Ok(place) => Some(reads[place].source),
-        Err(_) => None,
     }
 }

@@ -7,8 +7,8 @@ use Rattle.pruning_laws.specs.declared.side.Side.TheVariants.{One, Two}
 use Rattle.desk.proofs.Tied.{get_set}
 use Rattle.cube_laws.specs.Cubes.{Cube, is_decided, edges_under}
 use Rattle.cube_laws.specs.Steps.{is_cycle}
-use Rattle.cube_laws.specs.declared.parts.Mark.{Mark}
-use Rattle.cube_laws.specs.declared.parts.Mark.TheVariants.{Open, Held, Split as Divided, Refuted, Solved as Ended}
+use Rattle.cube_laws.specs.declared.messages.Mark.{Mark}
+use Rattle.cube_laws.specs.declared.messages.Mark.TheVariants.{Open, Held, Split as Divided, Refuted, Solved as Ended}
 use Rattle.branch_search.specs.declared.tree.Decision.{Decision}
 use Rattle.branch_search.specs.declared.tree.Growth.{Growth}
 use Rattle.branch_search.specs.declared.tree.Growth.TheVariants.{Leaf, Inner}

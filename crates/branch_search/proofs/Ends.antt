@@ -7,8 +7,8 @@ use Rattle.desk.specs.History.{IsLegal, IsReached, replay}
 use Rattle.cube_laws.specs.State.{State, opening_state}
 use Rattle.cube_laws.specs.Steps.{has_solved, has_live, is_exhausted, next_of, reply_of}
 use Rattle.cube_laws.specs.Runs.{solves}
-use Rattle.cube_laws.specs.declared.parts.Event.{Event}
-use Rattle.cube_laws.specs.declared.parts.Reply.{Reply}
+use Rattle.cube_laws.specs.declared.messages.Event.{Event}
+use Rattle.cube_laws.specs.declared.messages.Reply.{Reply}
 use Rattle.cube_laws.proofs.Grown.{grown_opening, grown_after}
 use Rattle.cube_laws.proofs.Counted.{solved_before}
 use Rattle.branch_search.specs.Answers.{IsSpent, IsReadFrom, EndsRun}

@@ -7,8 +7,8 @@ use Rattle.desk.proofs.Tied.{get_set}
 use Rattle.cube_laws.specs.Cubes.{Cube}
 use Rattle.cube_laws.specs.State.{Node, State}
 use Rattle.cube_laws.specs.Steps.{is_open, is_held_by, held_from, last_open_from, or_else, with_mark, is_open_at}
-use Rattle.cube_laws.specs.declared.parts.Mark.{Mark}
-use Rattle.cube_laws.specs.declared.parts.Mark.TheVariants.{Open, Held, Split as Divided, Refuted, Solved as Ended}
+use Rattle.cube_laws.specs.declared.messages.Mark.{Mark}
+use Rattle.cube_laws.specs.declared.messages.Mark.TheVariants.{Open, Held, Split as Divided, Refuted, Solved as Ended}
 use Rattle.branch_search.proofs.Lists.{some_is, within, set_here, set_apart, set_self, append_left, append_cases, map_some, map_set}
 
 abbrev pub marks_of : List Node → List Mark

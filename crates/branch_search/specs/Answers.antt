@@ -7,8 +7,8 @@ use Rattle.log_definitions.specs.Serial.{IsSerialOrder}
 use Rattle.serializability.specs.Polygraph.{Polygraph}
 use Rattle.cube_laws.specs.State.{State, opening_state}
 use Rattle.cube_laws.specs.Steps.{has_solved, has_live, is_exhausted, next_of, reply_of}
-use Rattle.cube_laws.specs.declared.parts.Event.{Event}
-use Rattle.cube_laws.specs.declared.parts.Reply.{Reply}
+use Rattle.cube_laws.specs.declared.messages.Event.{Event}
+use Rattle.cube_laws.specs.declared.messages.Reply.{Reply}
 use Rattle.branch_search.specs.Trees.{IsRefutationTree}
 use Rattle.branch_search.specs.declared.answer.Answer.{Answer}
 use Rattle.branch_search.specs.declared.answer.Answer.TheVariants.{Yes, No, Unknown}

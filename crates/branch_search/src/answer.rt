@@ -1,7 +1,7 @@
 //! What a search answers.
 
 use crate::tree::Tree;
-use history::Order;
+use session_history::Order;
 
 /// What a search answers.
 #[derive(Drop)]

@@ -23,6 +23,7 @@ pub use branching::{
     Alternate, ByWords, CubeView, FirstOpen, Forced, LeastEdges, MostEdges, Strategy,
 };
 pub use checking::check_tree;
-pub use cube_machine::Budget;
+pub use cube_laws::{Event, NodeLine, Reply};
+pub use cube_machine::{Budget, CubeMachine};
 pub use searching::search;
 pub use tree::{Decision, Growth, Tree, TreeNode};

@@ -8,8 +8,8 @@ ghost use Rattle.desk.specs.History.{IsReached};
 ghost use Rattle.cube_laws.specs.State.{opening_state};
 ghost use Rattle.cube_laws.specs.Steps.{next_of, reply_of};
 ghost use Rattle.cube_laws.specs.Runs.{EachSolvesRightly, solves};
-ghost use Rattle.cube_laws.specs.declared.parts.Event.TheVariants as event;
-ghost use Rattle.cube_laws.specs.declared.parts.Reply.TheVariants as reply;
+ghost use Rattle.cube_laws.specs.declared.messages.Event.TheVariants as event;
+ghost use Rattle.cube_laws.specs.declared.messages.Reply.TheVariants as reply;
 ghost use Rattle.branch_search.specs.Answers.{SaysYes, SaysNo, ShowsNo, SaysUnknown, IsSettled, IsReadFrom};
 
 use crate::answer::Answer;
@@ -22,8 +22,8 @@ use cube_laws::{Event, NodeLine, Reply};
 use cube_machine::{Budget, CubeMachine};
 use desk::desk::Closed;
 use desk::history::Entry;
-use history::{History, Order};
 use prune_ledger::Reduced;
+use session_history::{History, Order};
 use std::alloc::{AllocError, Global};
 
 /// What a closed desk has to say: the order that solved a node; that every cube is refuted, with the tree; or

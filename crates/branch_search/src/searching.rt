@@ -1,4 +1,4 @@
-//! The search.
+//! The search: a machine of cubes, workers at its desk, and what its last state says.
 
 ghost use Rattle.std.specs.Prelude.{◌≡◌, ◌↔◌, ℕ, ◌+◌, ◌-◌, ◌^◌, ◌≤◌, List, length, IfOk};
 ghost use Rattle.serializability.specs.Polygraph.{Fits};
@@ -13,8 +13,8 @@ use cube_machine::{Budget, CubeMachine, Row};
 use desk::gate::Gate;
 use desk::opened::Opened;
 use desk::seat_no::Workers;
-use history::History;
 use prune_ledger::Reduced;
+use session_history::History;
 use std::alloc::{AllocError, Global};
 use std::marker::Brand;
 use std::sync::Wait;

@@ -4,6 +4,7 @@ use Rattle.std.specs.Option.{option_map_or}
 use Rattle.pruning_laws.specs.declared.side.Side.{Side}
 use Rattle.known_graph.specs.Bits.{bit_of, row_len}
 use Rattle.branching.specs.Picks.{open_from}
+use Rattle.polygraph.specs.declared.index.TheConstants.{MAX_CHOICES}
 
 -- whether there is such a choice and it is open
 abbrev pub is_open_at : List (Option Side) → ℕ → Bool
@@ -15,6 +16,6 @@ open_past sides from = open_from from (drop from sides)
 
 -- a bit for each choice, set where it is open
 pub record AreBits (sides : List (Option Side)) (words : List ℕ) : Type 0 where
-  pub few : length sides ≤ 100000
+  pub few : length sides ≤ MAX_CHOICES
   pub bits : (c : ℕ) → bit_of words c ≡ is_open_at sides c
   pub len : length words ≡ row_len (length sides)

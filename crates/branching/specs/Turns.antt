@@ -6,8 +6,8 @@ use Rattle.pruning_laws.specs.Ledger.{sides_in}
 use Rattle.cube_laws.specs.State.{State}
 use Rattle.cube_laws.specs.Steps.{is_finished, node_held, cube_at, reply_of}
 use Rattle.cube_laws.specs.Runs.{TakesOn}
-use Rattle.cube_laws.specs.declared.parts.Event.{Event}
-use Rattle.cube_laws.specs.declared.parts.Event.TheVariants.{Claim, TakeAny, Split, Refute, Solve, Release}
+use Rattle.cube_laws.specs.declared.messages.Event.{Event}
+use Rattle.cube_laws.specs.declared.messages.Event.TheVariants.{Claim, TakeAny, Split, Refute, Solve, Release}
 use Rattle.branching.specs.View.{View, is_open_in, chosen, edges_in}
 
 -- the search goes on over this polygraph, and the seat holds a node whose cube decides what the view decides

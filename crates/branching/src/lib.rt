@@ -14,8 +14,6 @@ mod marks;
 mod order;
 mod sides;
 mod strategy;
-#[cfg(test)]
-mod tests;
 mod view;
 
 pub use alternate::Alternate;

@@ -7,6 +7,8 @@ ghost use Rattle.reach_rows.specs.ReachRows.{AreRowsOf};
 ghost use Rattle.polygraph.specs.Polygraphs.{Joins, JoinsBoth};
 ghost use Rattle.known_graph.specs.Bits.{bit_of};
 ghost use Rattle.branching.specs.Marked.{list_of, AreIncoming, AddsSide, AddsEntry, Keeps, IsOrReaches, MarksBehind, MarksTarget, MarksAll};
+ghost use Rattle.polygraph.specs.declared.index.TheConstants.{MAX_CHOICES};
+ghost use Rattle.serializability.specs.declared.node.TheConstants.{MAX_NODES};
 
 use crate::order::node_of;
 use known_graph::bits::set_bit;
@@ -29,8 +31,8 @@ pub fn incoming_of(
     nodes: usize,
     choices: &[Choice],
 ) -> Result<Vec<Vec<Incoming>>, AllocError>
-    requires nodes { nodes ≤ 400 }
-    requires few { length choices.now ≤ 100000 }
+    requires nodes { nodes ≤ MAX_NODES }
+    requires few { length choices.now ≤ MAX_CHOICES }
     requires joined { AllByRecursion (JoinsBoth nodes) choices.now }
     ensures incoming { IfOk result (λ lists. AreIncoming nodes choices.now lists.items) }
 {
@@ -46,7 +48,7 @@ pub fn incoming_of(
 
 // The choice with this number.
 fn choice_of(number: usize) -> ChoiceIx
-    requires few { number < 100000 }
+    requires few { number < MAX_CHOICES }
     ensures number { result ≡ number }
 {
     ChoiceIx::new(number).unwrap()

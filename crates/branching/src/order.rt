@@ -3,6 +3,7 @@
 ghost use Rattle.std.specs.Prelude.{◌≡◌, ◌+◌, ◌≤◌, IfOk, map};
 ghost use Rattle.std.specs.List.{All, range_with_len};
 ghost use Rattle.branching.specs.Orders.{unreached, IsOrderByReach};
+ghost use Rattle.serializability.specs.declared.node.TheConstants.{MAX_NODES};
 
 use reach_rows::Rows;
 use serializability::NodeIx;
@@ -61,7 +62,7 @@ fn unreached(rows: &Rows, node: NodeIx) -> usize
 
 /// The node with this number.
 pub fn node_of(number: usize) -> NodeIx
-    requires few { number ≤ 400 }
+    requires few { number ≤ MAX_NODES }
     ensures number { result ≡ number }
 {
     NodeIx::new(number).unwrap()

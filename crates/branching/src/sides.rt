@@ -3,6 +3,7 @@
 ghost use Rattle.std.specs.Prelude.{◌≡◌, ℕ, ◌+◌, ◌<◌, ◌≤◌, [], ◌∷◌, true, Some, None, Option, MatchOption, IfSome, IfOk, is_some, length, replicate, slice_get, slice_set};
 ghost use Rattle.std.specs.List.{filter};
 ghost use Rattle.branching.specs.Opens.{is_open_at, open_past};
+ghost use Rattle.polygraph.specs.declared.index.TheConstants.{MAX_CHOICES};
 
 use crate::bits::{clear_bit, next_set, set_below};
 use known_graph::bits::{has_bit, row_len};
@@ -34,7 +35,7 @@ impl Model for Sides {
 impl Sides {
     /// The sides of so many choices, all of them open.
     pub fn open(alloc: Global, count: usize) -> Result<Sides, AllocError>
-        requires few { count ≤ 100000 }
+        requires few { count ≤ MAX_CHOICES }
         ensures open { IfOk result (λ sides. sides ≡ replicate count None) }
     {
         let mut open = vec![in alloc; 0; row_len(count)]?;
@@ -90,7 +91,7 @@ impl Sides {
     /// How many choices there are.
     pub fn count(&self) -> usize
         ensures count { result ≡ length self.now }
-        ensures few { result ≤ 100000 }
+        ensures few { result ≤ MAX_CHOICES }
     {
         self.sides.len()
     }

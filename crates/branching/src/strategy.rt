@@ -1,4 +1,4 @@
-//! Strategies.
+//! What a strategy answers: by which choice a cube is split, and which side is searched first.
 
 ghost use Rattle.std.specs.Prelude.{◌≡◌, ℕ, ◌<◌, Some, None, true, false, Option, length};
 ghost use Rattle.pruning_laws.specs.declared.side.Side as side;

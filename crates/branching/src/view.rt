@@ -14,6 +14,7 @@ ghost use Rattle.branching.specs.Refuted.{is_refuted_in, is_forced_in, first_for
 ghost use Rattle.branching.specs.Opens.{open_past};
 ghost use Rattle.branching.specs.Held.{IsView, AreEdgesOf};
 ghost use Rattle.branching.specs.Marked.{AreIncoming, AreMarked};
+ghost use Rattle.polygraph.specs.declared.index.TheConstants.{MAX_CHOICES};
 
 use crate::bits::{clear_bit, next_set};
 use crate::counts::EdgeCounts;
@@ -160,7 +161,7 @@ impl<'a> CubeView<'a> {
     /// How many choices there are.
     pub fn count(&self) -> usize
         ensures count { result ≡ length self.now.polygraph.choices }
-        ensures few { result ≤ 100000 }
+        ensures few { result ≤ MAX_CHOICES }
         ensures view { IsView self.now }
     {
         self.sides.count()

@@ -6,6 +6,7 @@ ghost use Rattle.log_definitions.specs.Numbers.{log_of};
 ghost use Rattle.write_chains.specs.Views.{chain_view};
 ghost use Rattle.polygraph.specs.Limits.{IsPolyFault};
 ghost use Rattle.coalesce.specs.Between.{between, among};
+ghost use Rattle.polygraph.specs.declared.index.TheConstants.{MAX_CHOICES};
 
 use polygraph::{Choice, Edges, MAX_CHOICES, PolyFault};
 use reach_laws::Edge;
@@ -83,7 +84,7 @@ fn add_choices_among(
 fn choice_count(chains: &Chains, keys: usize) -> Result<usize, PolyFault>
     requires keys { keys ≡ (log_of chains.now).keys }
     ensures count { IfOk result (λ k. k ≡ length (chain_choices (log_of chains.now))) }
-    ensures few { OnOk result (length (chain_choices (log_of chains.now)) ≤ 100000) }
+    ensures few { OnOk result (length (chain_choices (log_of chains.now)) ≤ MAX_CHOICES) }
     ensures fault { IfErr result (IsPolyFault (chain_choices (log_of chains.now))) }
 {
     let mut count = 0;
@@ -102,7 +103,7 @@ fn choice_count(chains: &Chains, keys: usize) -> Result<usize, PolyFault>
 pub fn choices_of(alloc: Global, chains: &Chains, keys: usize) -> Result<Vec<Choice>, PolyFault>
     requires keys { keys ≡ (log_of chains.now).keys }
     ensures choices { IfOk result (λ c. c.items ≡ chain_choices (log_of chains.now)) }
-    ensures few { OnOk result (length (chain_choices (log_of chains.now)) ≤ 100000) }
+    ensures few { OnOk result (length (chain_choices (log_of chains.now)) ≤ MAX_CHOICES) }
     ensures fault { IfErr result (IsPolyFault (chain_choices (log_of chains.now))) }
 {
     let mut choices = Vec::with_capacity(alloc, choice_count(chains, keys)?)?;

@@ -9,12 +9,13 @@ ghost use Rattle.chain_laws.specs.Chains.{chain_choices, chain_polygraph};
 ghost use Rattle.log_definitions.specs.Numbers.{log_of};
 ghost use Rattle.known_graph.specs.Graphs.{arc_graph};
 ghost use Rattle.polygraph.specs.Limits.{IsPolyFault};
+ghost use Rattle.polygraph.specs.declared.index.TheConstants.{MAX_CHOICES};
 
 use crate::choices::choices_of;
 use crate::known::add_known_edges;
-use history::History;
 use known_graph::Known;
 use polygraph::{PolyFault, Polygraph};
+use session_history::History;
 use std::alloc::Global;
 use write_chains::Chains;
 
@@ -40,7 +41,7 @@ pub fn coalesce(
     ensures choices { IfOk result (λ p. p.choices ≡ chain_choices (log_of history.now)) }
     ensures same_orders { IfOk result (λ p. (order : List ℕ) →
         (Fits (bipath_polygraph (log_of history.now)) order ↔ Fits p order)) }
-    ensures few { OnOk result (length (chain_choices (log_of history.now)) ≤ 100000) }
+    ensures few { OnOk result (length (chain_choices (log_of history.now)) ≤ MAX_CHOICES) }
     ensures fault { IfErr result (IsPolyFault (chain_choices (log_of history.now))) }
 {
     let keys = history.keys();

@@ -1,24 +1,32 @@
 -- Sessions have one formula, with `--plain` and without it.
-use Rattle.std.proofs.Common.{◌≡◌, ℕ, Bool, true, false, List, length, Option, None, Some, refl, sym, ap, ◌∙◌, inl, inr}
+use Rattle.std.proofs.Common.{◌≡◌, ℕ, ◌+◌, Bool, true, false, List, length, get_or, Option, None, Some, refl, sym, ap, ◌∙◌, subst, inl, inr, arith}
+use Rattle.std.proofs.lemmas.List.{get_or_default, ext_get_or}
 use Rattle.session_log.specs.Text.{ClientSession}
 use Rattle.serializability.specs.declared.anomaly.Anomaly.{Anomaly}
 use Rattle.serializability.specs.Log.{Log}
 use Rattle.serializability.specs.Polygraph.{Polygraph, arcs}
+use Rattle.serializability.specs.Replay.{ListsOnce}
 use Rattle.serializability.specs.Formula.{Cnf}
+use Rattle.serializability.specs.Decoded.{before, IsDecoded}
+use Rattle.serializability.proofs.Ranks.{rank}
 use Rattle.serializability.specs.Anomalies.{anomaly_of}
 use Rattle.reach_laws.specs.Reach.{IsCyclic}
 use Rattle.reach_laws.proofs.Walks.{cycle_from}
 use Rattle.chain_laws.specs.Chains.{chain_polygraph, chain_choices}
 use Rattle.pruning_laws.specs.Forced.{Sides, edges_with}
+use Rattle.log_definitions.specs.Serial.{committed_in}
 use Rattle.log_definitions.specs.Numbers.{log_of}
 use Rattle.reduction.specs.Chained.{IsCoalesced, IsKnownCycle}
 use Rattle.order_laws.proofs.Same.{same_pruned, same_formula}
 use Rattle.dimacs.specs.Text.{text_of}
+use Rattle.dimacs.specs.declared.status.Status as dimacs
+use Rattle.dimacs.specs.declared.status.Status.TheVariants as claim
+use Rattle.order_text.specs.Text.{order_text}
 use Rattle.cobra_cli.specs.declared.basis.Basis.{Basis}
 use Rattle.cobra_cli.specs.declared.basis.Basis.TheVariants.{Anomalous, Chains}
 use Rattle.cobra_cli.specs.declared.status.Status.{Status}
 use Rattle.cobra_cli.specs.Formulas.{anomaly_number, IsReducedFormula, by_anomaly, by_cycle, by_pruning, by_choices, IsFormulaFrom, IsFormulaOf}
-use Rattle.cobra_cli.specs.Commands.{IsEncoding, IsCounting}
+use Rattle.cobra_cli.specs.Commands.{IsEncoding, IsAnswerTo, named_by, IsOrderText, IsDecoding, model, unsatisfiable, unknown, IsCounting}
 use Rattle.cobra_cli.specs.Statistics.{stats_text}
 use Rattle.cobra_cli.proofs.SameEdges.{cycle_among, known_among}
 
@@ -79,3 +87,36 @@ pub one_counting : (plain : Bool) (ss : List ClientSession) (s t : Status) (text
 one_counting plain ss s t text other h k =
     let same = one_made plain ss h.basis k.basis h.formula k.formula h.made k.made in
     h.told ∙ ap (λ (f : Cnf). stats_text ss h.basis f) same.1 ∙ ap (λ (b : Basis). stats_text ss b k.formula) same.0 ∙ sym k.told
+
+-- ---- one decoding: a node's rank is its place, so two orders of the same nodes with these ranks are one
+one_order : (n m : ℕ) (r : ℕ → ℕ → Bool) (a b : List ℕ) → IsDecoded n r a → IsDecoded n r b → ListsOnce m a → ListsOnce m b → a ≡ b
+one_order n m r a b p q s t = ext_get_or 0 a b (p.places ∙ sym q.places) (λ i lt.
+    let v = get_or a i 0 in
+    let node = s.only i 0 lt in
+    let there = t.each v node.0 node.1 in
+    let here : get_or b there.0 0 ≡ v = get_or_default b there.0 0 v there.1 ∙ there.2 in
+    let ranks : there.0 + 1 ≡ i + 1 = sym (q.each there.0 there.1) ∙ ap (rank n r) here ∙ p.each i lt in
+    let place : there.0 ≡ i = omega (arith, ranks) in
+    sym here ∙ ap (λ k. get_or b k 0) place)
+
+one_order_text : (given : List ℕ) (ss : List ClientSession) (f g : Cnf) → f ≡ g → (text other : List ℕ) → IsOrderText given ss f text → IsOrderText given ss g other → text ≡ other
+one_order_text given ss f g e text other h k =
+    let same = subst (λ (c : Cnf). IsOrderText given ss c other) (sym e) k in
+    h.told
+    ∙ ap (λ (order : List ℕ). order_text ss order)
+    (one_order f.nodes (length (committed_in ss)) (before f (named_by given f)) h.order same.order h.decoded same.decoded h.serial.once same.serial.once)
+    ∙ sym same.told
+
+one_claim : (plain : Bool) (given : List ℕ) (ss : List ClientSession) (a b : dimacs.Status) (f g : Cnf) → IsAnswerTo plain given ss a f → IsAnswerTo plain given ss b g → a ≡ b
+one_claim plain given ss a b f g h k = let e = sym h.claims ∙ k.claims in cc
+
+pub one_decoding : (plain : Bool) (given : List ℕ) (ss : List ClientSession) (s t : Status) (text other : List ℕ) → IsDecoding plain given ss s text → IsDecoding plain given ss t other → (s ≡ t) × (text ≡ other)
+one_decoding plain given ss s t text other (model f a written o) (model g b told p) = (refl, one_order_text given ss f g (one_formula plain ss f g a.belongs b.belongs) written told o p)
+one_decoding plain given ss s t text other (model f a written o) (unsatisfiable g b) = absurd (let e = one_claim plain given ss claim.Satisfiable claim.Unsatisfiable f g a b in cc)
+one_decoding plain given ss s t text other (model f a written o) (unknown g b) = absurd (let e = one_claim plain given ss claim.Satisfiable claim.Unknown f g a b in cc)
+one_decoding plain given ss s t text other (unsatisfiable f a) (model g b told p) = absurd (let e = one_claim plain given ss claim.Unsatisfiable claim.Satisfiable f g a b in cc)
+one_decoding plain given ss s t text other (unsatisfiable f a) (unsatisfiable g b) = (refl, refl)
+one_decoding plain given ss s t text other (unsatisfiable f a) (unknown g b) = absurd (let e = one_claim plain given ss claim.Unsatisfiable claim.Unknown f g a b in cc)
+one_decoding plain given ss s t text other (unknown f a) (model g b told p) = absurd (let e = one_claim plain given ss claim.Unknown claim.Satisfiable f g a b in cc)
+one_decoding plain given ss s t text other (unknown f a) (unsatisfiable g b) = absurd (let e = one_claim plain given ss claim.Unknown claim.Unsatisfiable f g a b in cc)
+one_decoding plain given ss s t text other (unknown f a) (unknown g b) = (refl, refl)

@@ -6,7 +6,7 @@ use Rattle.serializability.specs.Formula.{Cnf, Satisfies}
 use Rattle.serializability.specs.Decoded.{before, IsDecoded}
 use Rattle.log_definitions.specs.Serial.{IsSerialOrder}
 use Rattle.log_definitions.specs.Numbers.{log_of}
-use Rattle.history.specs.Tables.{name_in}
+use Rattle.session_history.specs.Tables.{name_in}
 use Rattle.order_cnf.specs.Data.{IsFirstFalse}
 use Rattle.dimacs.specs.Text.{text_of}
 use Rattle.dimacs.specs.declared.answer.AnswerFault.{AnswerFault}

@@ -6,6 +6,7 @@ use Rattle.serializability.specs.declared.anomaly.Anomaly.TheVariants as anomaly
 use Rattle.serializability.specs.declared.anomaly.ReadAnomaly.{ReadAnomaly}
 use Rattle.serializability.specs.declared.anomaly.ReadAnomaly.TheVariants as read
 use Rattle.serializability.specs.Log.{Log}
+use Rattle.serializability.specs.Polygraph.{bipaths}
 use Rattle.serializability.specs.Formula.{Cnf}
 use Rattle.serializability.specs.Pairs.{Known}
 use Rattle.serializability.specs.Plain.{contradiction}
@@ -23,6 +24,7 @@ use Rattle.order_cnf.specs.declared.fault.CnfFault.TheVariants as cnf
 use Rattle.order_cnf.specs.Limits.{plain_fault, size_fault, IsFault}
 use Rattle.cobra_cli.specs.declared.basis.Basis.{Basis}
 use Rattle.cobra_cli.specs.declared.basis.Basis.TheVariants.{Anomalous, Bipaths, Chains}
+use Rattle.order_cnf.specs.declared.plain.TheConstants.{MAX_PLAIN_NODES}
 
 -- the number that an anomaly is printed with; 8 is a cycle of what is known, and 9 that pruning ends in a cycle
 abbrev pub read_number : ReadAnomaly → ℕ
@@ -46,18 +48,18 @@ fault_where (Some _) log = None
 
 -- the limit that stands in the way of a formula: more than 100 committed transactions, else one that the plain formula exceeds
 unfoldable pub formula_fault : List ClientSession → Option CnfFault
-formula_fault ss = if nat_lt 100 (log_of ss).nodes then Some cnf.TooManyForPlain else fault_where (anomaly_of (log_of ss)) (log_of ss)
+formula_fault ss = if nat_lt MAX_PLAIN_NODES (log_of ss).nodes then Some cnf.TooManyForPlain else fault_where (anomaly_of (log_of ss)) (log_of ss)
 
 -- what the formula is made from: the bipaths, or the contradiction from an anomaly
-abbrev pub plain_basis : Option Anomaly → Basis
-plain_basis None = Bipaths
-plain_basis (Some a) = Anomalous (anomaly_number a)
+abbrev pub plain_basis : Option Anomaly → Log → Basis
+plain_basis None log = Bipaths (length (bipaths log))
+plain_basis (Some a) log = Anomalous (anomaly_number a)
 
 -- The plain formula, or the contradiction where an anomaly stands. There is one only where no limit stands in the way.
 pub record IsPlainFormula (ss : List ClientSession) (b : Basis) (f : Cnf) : Type 0 where
   pub within : formula_fault ss ≡ None
   pub formula : f ≡ plain_answer ss
-  pub basis : b ≡ plain_basis (anomaly_of (log_of ss))
+  pub basis : b ≡ plain_basis (anomaly_of (log_of ss)) (log_of ss)
 
 -- ---- without it
 

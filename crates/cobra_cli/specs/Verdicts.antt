@@ -7,7 +7,7 @@ use Rattle.serializability.specs.declared.anomaly.Anomaly.TheVariants as anomaly
 use Rattle.serializability.specs.declared.anomaly.ReadAnomaly.{ReadAnomaly}
 use Rattle.serializability.specs.declared.anomaly.ReadAnomaly.TheVariants as read
 use Rattle.log_definitions.specs.WellFormed.{keys_in}
-use Rattle.history.specs.Tables.{name_in}
+use Rattle.session_history.specs.Tables.{name_in}
 use Rattle.order_text.specs.Text.{name_text, order_text}
 
 -- a word, and the name of a node

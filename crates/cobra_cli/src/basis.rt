@@ -3,15 +3,15 @@
 ghost use Rattle.std.specs.Prelude.{◌≡◌};
 ghost use Rattle.cobra_cli.specs.Formulas.{read_number, anomaly_number};
 
-use history::{Anomaly, ReadAnomaly};
+use session_history::{Anomaly, ReadAnomaly};
 
 /// What the formula that belongs to a log is made from.
 #[derive(Clone, Copy, Debug, PartialEq, Eq)]
 pub enum Basis {
     /// An anomaly, by the number that it is printed with. The formula is the contradiction.
     Anomalous(u8),
-    /// The bipaths. The formula is the plain one.
-    Bipaths,
+    /// So many bipaths. The formula is the plain one.
+    Bipaths(usize),
     /// So many choices between chains, and so many of them that pruning left. The formula is the reduced one.
     Chains { all: usize, left: usize },
 }

@@ -40,8 +40,8 @@ fn tell_formula<W: Sink>(sink: &mut W, formula: &Formula) -> Result<Status, Faul
 /// # Errors
 /// The log's first fault; G1 above 100,000 choices between chains, where neither an anomaly nor a cycle of the arcs was found; G3
 /// above 20,000,000 clauses; the sink's failure, with how much of the text went out; want of memory. With `--plain` G2 above 100
-/// committed transactions, before anything else of the formula, and then G1 above 100,000 bipaths. At each but the sink's
-/// nothing was written.
+/// committed transactions, before anything else of the formula, and then, where no anomaly stands, G1 above 100,000 bipaths. At
+/// each but the sink's nothing was written.
 pub fn encode<R: Threads + Wait + Clock + Sync, G: Gate, W: Sink>(
     rt: &R,
     alloc: Global,

@@ -10,18 +10,19 @@ ghost use Rattle.order_cnf.specs.Data.{cnf_of};
 ghost use Rattle.order_cnf.specs.Limits.{IsFault};
 ghost use Rattle.cobra_cli.specs.Formulas.{formula_fault, IsPlainFormula, IsReducedWithin, IsReducedFault, IsFormulaFrom, IsFormulaFault};
 ghost use Rattle.cobra_cli.specs.Commands.{IsFaithful};
+ghost use Rattle.order_cnf.specs.declared.plain.TheConstants.{MAX_PLAIN_NODES};
 
 use crate::basis::{Basis, KNOWN_CYCLE, PRUNED_CYCLE, anomaly_number};
 use crate::status::Options;
 use anomalies::classify;
 use desk::gate::Gate;
 use desk::seat_no::Workers;
-use history::History;
 use order_cnf::{
     CnfFault, Formula, MAX_PLAIN_NODES, contradiction, plain_formula, reduced_formula,
 };
 use prune_ledger::{Pruned, Reduced};
 use reduction::{Reduction, reduce};
+use session_history::History;
 use std::alloc::Global;
 use std::sync::Wait;
 use std::thread::Threads;
@@ -52,17 +53,18 @@ fn plain_of(alloc: Global, history: &History) -> Result<Belonging, CnfFault>
     ensures made { IfOk result (λ b. IsPlainFormula history.now b.basis (cnf_of b.formula)) }
     ensures faithful { IfOk result (λ b. IsFaithful history.now (cnf_of b.formula)) }
     ensures fault { IfErr result (λ e. IsFault e (formula_fault history.now)) }
-    ensures few { OnOk result ((log_of history.now).nodes ≤ 100) }
+    ensures few { OnOk result ((log_of history.now).nodes ≤ MAX_PLAIN_NODES) }
 {
     if history.committed() > MAX_PLAIN_NODES {
         return Err(CnfFault::TooManyForPlain);
     }
     match classify(alloc, history)? {
         Some(anomaly) => contradicted(alloc, anomaly_number(anomaly)),
-        None => Ok(Belonging {
-            formula: plain_formula(alloc, history)?,
-            basis: Basis::Bipaths,
-        }),
+        None => {
+            let formula = plain_formula(alloc, history)?;
+            let basis = Basis::Bipaths(formula.choices());
+            Ok(Belonging { formula, basis })
+        }
     }
 }
 

@@ -5,7 +5,7 @@ ghost use Rattle.session_log.specs.Text.{ClientSession};
 ghost use Rattle.serializability.specs.Formula.{Cnf};
 ghost use Rattle.cobra_cli.specs.declared.status.Status.{Status};
 ghost use Rattle.cobra_cli.specs.Formulas.{IsFormulaOf};
-ghost use Rattle.cobra_cli.specs.Commands.{IsEncoding, IsCounting};
+ghost use Rattle.cobra_cli.specs.Commands.{IsEncoding, IsDecoding, IsCounting};
 
 /// Sessions have one formula with `--plain` and one without it: the same variables, the same clauses, and each assignment puts the
 /// same nodes before each other.
@@ -20,4 +20,11 @@ pub fn one_text()
         IsEncoding plain ss s text → IsEncoding plain ss t other → text ≡ other }
     ensures counting { (plain : Bool) (ss : List ClientSession) (s t : Status) (text other : List ℕ) →
         IsCounting plain ss s text → IsCounting plain ss t other → text ≡ other }
+{}
+
+/// What `decode` writes, and how it ends, is fixed by the sessions, by the answer, and by whether `--plain` was asked for: an
+/// assignment stands for one order.
+pub fn one_decoding()
+    ensures { (plain : Bool) (given : List ℕ) (ss : List ClientSession) (s t : Status) (text other : List ℕ) →
+        IsDecoding plain given ss s text → IsDecoding plain given ss t other → (s ≡ t) × (text ≡ other) }
 {}

@@ -6,7 +6,7 @@ ghost use Rattle.log_definitions.specs.WellFormed.{IsWellFormed, IsLogFault};
 use desk::gate::Gate;
 use desk::seat_no::Workers;
 use gather::collect;
-use history::History;
+use session_history::History;
 use session_log::LogFault;
 use std::alloc::Global;
 use std::sync::Wait;

@@ -1,27 +1,21 @@
 //! How large a log and its formula are.
 
-ghost use Rattle.std.specs.Prelude.{◌≡◌, ◌-◌, ◌≤◌, ◌++◌, ◌∷◌, [], length, codes, decimal, IfOk, IfErr, OnOk};
-ghost use Rattle.serializability.specs.Polygraph as spec;
-ghost use Rattle.serializability.specs.Reads.{IsClean};
-ghost use Rattle.log_definitions.specs.Numbers.{log_of};
-ghost use Rattle.order_cnf.specs.Data.{cnf_of};
+ghost use Rattle.std.specs.Prelude.{◌≡◌, ◌-◌, ◌≤◌, ◌++◌, ◌∷◌, [], codes, decimal, IfOk, IfErr, OnOk};
 ghost use Rattle.cobra_cli.specs.Answers.{IsTold, IsRefused};
 ghost use Rattle.cobra_cli.specs.Commands.{HasNoFormula, IsCounting};
 ghost use Rattle.cobra_cli.specs.Failures.{failures_after};
-ghost use Rattle.cobra_cli.specs.Formulas.{IsFormulaFrom};
-ghost use Rattle.cobra_cli.specs.Statistics.{count_line, basis_text, counts_text};
+ghost use Rattle.cobra_cli.specs.Statistics.{count_line, basis_text, counts_text, OpensNoMore};
 
 use crate::basis::Basis;
 use crate::fault::Fault;
-use crate::formula::{Belonging, formula_of};
+use crate::formula::formula_of;
 use crate::reading::read_log;
 use crate::reply::{Reply, tell};
 use crate::status::{Options, Status};
 use desk::gate::Gate;
 use dimacs::Sink;
-use history::History;
 use itoa::Buffer;
-use polygraph::{PolyFault, bipaths};
+use session_history::History;
 use std::alloc::{AllocError, Global};
 use std::sync::Wait;
 use std::thread::Threads;
@@ -64,30 +58,6 @@ fn put_counts(out: &mut Vec<u8>, history: &History) -> Result<(), AllocError>
     Ok(())
 }
 
-/// The number of bipaths of a clean history that has not too many.
-fn bipath_count(alloc: Global, history: &History) -> Result<usize, AllocError>
-    requires clean { IsClean (log_of history.now) }
-    requires few { length (spec.bipaths (log_of history.now)) ≤ 100000 }
-    ensures count { IfOk result (λ count. count ≡ length (spec.bipaths (log_of history.now))) }
-{
-    match bipaths(alloc, history) {
-        Ok(polygraph) => Ok(polygraph.choices().len()),
-        Err(PolyFault::TooManyChoices) => unreachable!(),
-        Err(PolyFault::Memory) => Err(AllocError),
-    }
-}
-
-/// Appends the line of the number of bipaths.
-fn put_bipaths(out: &mut Vec<u8>, alloc: Global, history: &History) -> Result<(), AllocError>
-    requires clean { IsClean (log_of history.now) }
-    requires few { length (spec.bipaths (log_of history.now)) ≤ 100000 }
-    ensures text { OnOk result (out.new.items
-        ≡ out.old.items ++ basis_text Basis.Bipaths (log_of history.now)) }
-{
-    let choices = bipath_count(alloc, history)?;
-    put_count(out, b"choices", choices)
-}
-
 /// Appends the lines of so many choices between chains, of which so many are left.
 fn put_chains(out: &mut Vec<u8>, all: usize, left: usize) -> Result<(), AllocError>
     requires some { left ≤ all }
@@ -99,23 +69,14 @@ fn put_chains(out: &mut Vec<u8>, all: usize, left: usize) -> Result<(), AllocErr
     put_count(out, b"open", left)
 }
 
-/// Appends the lines of what the formula is made from.
-fn put_basis(
-    out: &mut Vec<u8>,
-    alloc: Global,
-    history: &History,
-    belonging: &Belonging,
-    options: &Options,
-) -> Result<(), AllocError>
-    requires made { IsFormulaFrom options.now.plain history.now belonging.now.basis (cnf_of belonging.now.formula) }
-    ensures text { OnOk result (out.new.items
-        ≡ out.old.items ++ basis_text belonging.now.basis (log_of history.now)) }
+/// Appends the lines of what a formula is made from.
+fn put_basis(out: &mut Vec<u8>, basis: Basis) -> Result<(), AllocError>
+    requires some { OpensNoMore basis }
+    ensures text { OnOk result (out.new.items ≡ out.old.items ++ basis_text basis) }
 {
-    let _asked = options.plain;
-    let _nodes = history.committed();
-    match belonging.basis {
+    match basis {
         Basis::Anomalous(number) => put_anomaly(out, number),
-        Basis::Bipaths => put_bipaths(out, alloc, history),
+        Basis::Bipaths(count) => put_count(out, b"choices", count),
         Basis::Chains { all, left } => put_chains(out, all, left),
     }
 }
@@ -136,7 +97,7 @@ fn counted<R: Threads + Wait + Clock + Sync, G: Gate>(
     let belonging = formula_of(rt, alloc, history, options, gate)?;
     let mut text = Vec::new(alloc);
     put_counts(&mut text, history)?;
-    put_basis(&mut text, alloc, history, &belonging, options)?;
+    put_basis(&mut text, belonging.basis)?;
     put_count(&mut text, b"variables", belonging.formula.vars())?;
     put_count(&mut text, b"clauses", belonging.formula.count())?;
     Ok(Reply {

@@ -7,9 +7,9 @@ ghost use Rattle.log_definitions.specs.Numbers.{log_of};
 ghost use Rattle.order_text.specs.Text.{AreNodes};
 ghost use Rattle.cobra_cli.specs.Verdicts.{named, read_title, key_bytes, read_text, lost_text, anomaly_text, nodes_text, cycle_text, serial_text, spent_text};
 
-use history::{Anomaly, History, NodeIx, Order, ReadAnomaly};
 use itoa::Buffer;
 use order_text::{print_order, put_name};
+use session_history::{Anomaly, History, NodeIx, Order, ReadAnomaly};
 use std::alloc::{AllocError, Global};
 
 /// Appends a word and the name of a node.

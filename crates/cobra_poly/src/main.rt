@@ -131,10 +131,11 @@ fn answer<R: Runtime + AllocGlobal + Threads + Wait + Sync, I: Read + Drop, W: W
     };
     match words_of(alloc, &words)? {
         Some(Words::Request(request)) => Ok(run(rt, alloc, request, input, output)?.code()),
-        Some(Words::Shown(text)) => {
-            let _ = text.print(rt);
-            Ok(text.exit_code() as u8)
-        }
+        // Help and the version have to arrive; words that are no call are refused in any case.
+        Some(Words::Shown(text)) => match text.print(rt) {
+            Err(_) if !text.use_stderr() => Err(Stop::Output),
+            _ => Ok(text.exit_code() as u8),
+        },
         None => Ok(USAGE),
     }
 }

@@ -5,10 +5,10 @@ ghost use Rattle.session_log.specs.Blocks.{blocks_of};
 
 use anomalies::classify;
 use coalesce::coalesce;
-use history::History;
 use known_graph::Known;
 use polygraph::{Choice, Polygraph, bipaths, order_fits};
 use serializability::NodeIx;
+use session_history::History;
 use session_log::{Block, LogFault, Session, cut, parse_block};
 use std::alloc::Global;
 use std::test::Fail;

@@ -1,11 +1,11 @@
 ghost use Rattle.std.specs.Prelude.{◌≡◌, ◌∷◌, [], IfOk};
 
 use crate::node::node;
-use history::History;
 use known_graph::Known;
 use known_graph::bits::has_bit;
 use reach_laws::Edge;
 use serializability::NodeIx;
+use session_history::History;
 use session_log::{Key, Op, Outcome, Session, Txn};
 use std::alloc::Global;
 use std::test::Fail;

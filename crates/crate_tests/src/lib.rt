@@ -2,6 +2,8 @@
 #![tactic(auto)]
 
 #[cfg(test)]
+mod branching_tests;
+#[cfg(test)]
 mod coalesce_tests;
 #[cfg(test)]
 mod cobra_words_tests;
@@ -10,7 +12,11 @@ mod cube_laws_tests;
 #[cfg(test)]
 mod cube_machine_tests;
 #[cfg(test)]
+mod decode_order_tests;
+#[cfg(test)]
 mod desk_tests;
+#[cfg(test)]
+mod dimacs_tests;
 #[cfg(test)]
 mod gather_tests;
 #[cfg(test)]
@@ -23,5 +29,7 @@ mod polygraph_tests;
 mod prune_ledger_tests;
 #[cfg(test)]
 mod reach_rows_tests;
+#[cfg(test)]
+mod reduction_tests;
 #[cfg(test)]
 mod session_log_tests;

@@ -12,7 +12,7 @@ use known_graph::Known;
 use polygraph::{Choice, ChoiceIx, Edges, Polygraph};
 use prune_ledger::laws::work;
 use prune_ledger::machine::PruneMachine;
-use prune_ledger::parts::{Event, Refutation, Reply};
+use prune_ledger::messages::{Event, Refutation, Reply};
 use prune_ledger::{Ledger, Pruned, check_ledger, judge, laws, prune};
 use pruning_laws::Side;
 use reach_laws::Edge;

@@ -11,12 +11,12 @@ use Rattle.desk.specs.History.{IsLegal, replay}
 use Rattle.cube_laws.specs.Cubes.{Cube, edges_under}
 use Rattle.cube_laws.specs.State.{Node, State, root}
 use Rattle.cube_laws.specs.Steps.{is_open, is_solved, is_held, has_solved, has_live, is_finished, is_exhausted, node_held, is_cycle, is_solution, cube_at, child, solve_reply, next_of, reply_of}
-use Rattle.cube_laws.specs.declared.parts.Mark.{Mark}
-use Rattle.cube_laws.specs.declared.parts.Mark.TheVariants.{Open, Held, Split as Divided, Refuted, Solved as Ended}
-use Rattle.cube_laws.specs.declared.parts.Event.{Event}
-use Rattle.cube_laws.specs.declared.parts.Event.TheVariants.{Claim, TakeAny, Split, Refute, Solve, Release}
-use Rattle.cube_laws.specs.declared.parts.Reply.{Reply}
-use Rattle.cube_laws.specs.declared.parts.Reply.TheVariants.{Finished, NoCube, BadOrder, Solved}
+use Rattle.cube_laws.specs.declared.messages.Mark.{Mark}
+use Rattle.cube_laws.specs.declared.messages.Mark.TheVariants.{Open, Held, Split as Divided, Refuted, Solved as Ended}
+use Rattle.cube_laws.specs.declared.messages.Event.{Event}
+use Rattle.cube_laws.specs.declared.messages.Event.TheVariants.{Claim, TakeAny, Split, Refute, Solve, Release}
+use Rattle.cube_laws.specs.declared.messages.Reply.{Reply}
+use Rattle.cube_laws.specs.declared.messages.Reply.TheVariants.{Finished, NoCube, BadOrder, Solved}
 use Rattle.cube_laws.specs.Runs.{SolvesRightly, EachSolvesRightly}
 use Rattle.cube_laws.proofs.Nodes.{one_value, get_same, get_other, get_front, get_first, get_second, get_below, each_at, any_at}
 use Rattle.cube_laws.proofs.Ways.{marked, ways}

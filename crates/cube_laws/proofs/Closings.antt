@@ -4,17 +4,17 @@ use Rattle.std.specs.Prelude.{slice_get, slice_set, nat_eq}
 use Rattle.std.specs.List.{IsDistinct}
 use Rattle.std.proofs.lemmas.Bool.{false≢true, cases_eq}
 use Rattle.serializability.proofs.Places.{Has, Apart, Has-append_cases}
-use Rattle.polygraph.proofs.Listed.{IsDistinct-from_Apart}
+use Rattle.serializability.proofs.Listed.{IsDistinct-from_Apart}
 use Rattle.pruning_laws.specs.declared.side.Side.TheVariants.{One, Two}
 use Rattle.desk.specs.declared.history.Entry.{Entry}
 use Rattle.desk.specs.History.{IsLegal, replay}
 use Rattle.cube_laws.specs.State.{Node, State}
 use Rattle.cube_laws.specs.Steps.{is_open, is_held_by, node_held, child, next_of, reply_of}
-use Rattle.cube_laws.specs.declared.parts.Mark.{Mark}
-use Rattle.cube_laws.specs.declared.parts.Mark.TheVariants.{Open, Held, Split as Divided, Refuted, Solved as Ended}
-use Rattle.cube_laws.specs.declared.parts.Event.{Event}
-use Rattle.cube_laws.specs.declared.parts.Reply.{Reply}
-use Rattle.cube_laws.specs.declared.parts.Reply.TheVariants.{Cube as Given, Children, Closed, Solved, Released}
+use Rattle.cube_laws.specs.declared.messages.Mark.{Mark}
+use Rattle.cube_laws.specs.declared.messages.Mark.TheVariants.{Open, Held, Split as Divided, Refuted, Solved as Ended}
+use Rattle.cube_laws.specs.declared.messages.Event.{Event}
+use Rattle.cube_laws.specs.declared.messages.Reply.{Reply}
+use Rattle.cube_laws.specs.declared.messages.Reply.TheVariants.{Cube as Given, Children, Closed, Solved, Released}
 use Rattle.cube_laws.specs.Runs.{is_closing, as_list, closings}
 use Rattle.cube_laws.proofs.Nodes.{Marked, one_value, get_same, get_other, get_front}
 use Rattle.cube_laws.proofs.Ways.{marked, noted, counted, divided, ways, held_node}

@@ -10,12 +10,12 @@ use Rattle.desk.specs.declared.history.Entry.{Entry}
 use Rattle.desk.specs.History.{IsLegal, replay}
 use Rattle.cube_laws.specs.State.{Node, State, opening_state}
 use Rattle.cube_laws.specs.Steps.{is_open, is_solved, is_held, has_solved, has_live, node_held, last_open, is_open_at, is_finished, cube_at, can_split, is_cycle, child, claim_reply, any_reply, split_reply, refute_reply, next_of, reply_of}
-use Rattle.cube_laws.specs.declared.parts.Mark.{Mark}
-use Rattle.cube_laws.specs.declared.parts.Mark.TheVariants.{Open, Held, Split as Divided, Refuted, Solved as Ended}
-use Rattle.cube_laws.specs.declared.parts.Event.{Event}
-use Rattle.cube_laws.specs.declared.parts.Event.TheVariants.{Claim, TakeAny, Split, Refute, Solve, Release}
-use Rattle.cube_laws.specs.declared.parts.Reply.{Reply}
-use Rattle.cube_laws.specs.declared.parts.Reply.TheVariants.{Finished, HasCube, NotOpen, NoneNow, Cube as Given, NoCube, BadChoice, Children, BadCycle, Closed, BadOrder, Solved, Released}
+use Rattle.cube_laws.specs.declared.messages.Mark.{Mark}
+use Rattle.cube_laws.specs.declared.messages.Mark.TheVariants.{Open, Held, Split as Divided, Refuted, Solved as Ended}
+use Rattle.cube_laws.specs.declared.messages.Event.{Event}
+use Rattle.cube_laws.specs.declared.messages.Event.TheVariants.{Claim, TakeAny, Split, Refute, Solve, Release}
+use Rattle.cube_laws.specs.declared.messages.Reply.{Reply}
+use Rattle.cube_laws.specs.declared.messages.Reply.TheVariants.{Finished, HasCube, NotOpen, NoneNow, Cube as Given, NoCube, BadChoice, Children, BadCycle, Closed, BadOrder, Solved, Released}
 use Rattle.cube_laws.specs.Cubes.{edges_under}
 use Rattle.cube_laws.specs.Runs.{is_closing, is_solving, solves}
 use Rattle.cube_laws.proofs.Nodes.{none-some, some-inj}

@@ -11,7 +11,7 @@ use Rattle.serializability.specs.Replay.{place_of, Before, ListsOnce}
 use Rattle.serializability.specs.Polygraph.{Edge, Choice, Polygraph, Keeps, KeepsOne, Fits}
 use Rattle.serializability.proofs.Places.{Has, Apart, Has-split, Has-append_front, Has-append_back, Has-append_cases, each_of_append, each_from_append}
 use Rattle.serializability.proofs.Sources.{any_found, range-from_Has}
-use Rattle.polygraph.proofs.Listed.{IsDistinct-from_Apart, Has-from_any, any-from_Has, once_from}
+use Rattle.serializability.proofs.Listed.{IsDistinct-from_Apart, Has-from_any, any-from_Has, once_from}
 use Rattle.pruning_laws.specs.declared.side.Side.{Side}
 use Rattle.pruning_laws.specs.declared.side.Side.TheVariants.{One, Two}
 use Rattle.pruning_laws.specs.Forced.{edges_of, Sides, kept_from}

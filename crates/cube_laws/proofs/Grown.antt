@@ -6,7 +6,7 @@ use Rattle.std.proofs.lemmas.Bool.{false≢true, and_parts, or_parts, or_cases, 
 use Rattle.std.proofs.lemmas.Map.Steps.{length-le_from_distinct_below}
 use Rattle.serializability.specs.Polygraph.{Polygraph}
 use Rattle.serializability.proofs.Places.{Has, Apart, each_from_append}
-use Rattle.polygraph.proofs.Listed.{IsDistinct-from_Apart, Has-from_any}
+use Rattle.serializability.proofs.Listed.{IsDistinct-from_Apart, Has-from_any}
 use Rattle.pruning_laws.specs.declared.side.Side.{Side}
 use Rattle.pruning_laws.specs.declared.side.Side.TheVariants.{One, Two}
 use Rattle.pruning_laws.specs.Ledger.{Entry as Decision}
@@ -15,10 +15,10 @@ use Rattle.desk.specs.History.{replay}
 use Rattle.cube_laws.specs.Cubes.{Cube, is_decided}
 use Rattle.cube_laws.specs.State.{Node, State, opening_state}
 use Rattle.cube_laws.specs.Steps.{is_open, is_solved, is_held_by, is_held, has_solved, has_live, is_finished, is_choice, can_split, child, next_of}
-use Rattle.cube_laws.specs.declared.parts.Mark.{Mark}
-use Rattle.cube_laws.specs.declared.parts.Mark.TheVariants.{Open, Held, Split as Divided, Refuted, Solved as Ended}
-use Rattle.cube_laws.specs.declared.parts.Event.{Event}
-use Rattle.cube_laws.specs.declared.parts.Reply.{Reply}
+use Rattle.cube_laws.specs.declared.messages.Mark.{Mark}
+use Rattle.cube_laws.specs.declared.messages.Mark.TheVariants.{Open, Held, Split as Divided, Refuted, Solved as Ended}
+use Rattle.cube_laws.specs.declared.messages.Event.{Event}
+use Rattle.cube_laws.specs.declared.messages.Reply.{Reply}
 use Rattle.cube_laws.proofs.Nodes.{none-some, some-inj, length_set, length_two, each_at, each_set, any_at, any_kept}
 use Rattle.cube_laws.proofs.Ways.{marked, noted, counted, divided, ways}
 

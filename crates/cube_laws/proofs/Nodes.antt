@@ -6,7 +6,7 @@ use Rattle.std.specs.List.{AllByRecursion, list_any}
 use Rattle.std.proofs.lemmas.Bool.{cases_Bool, false≢true, or_cases, or_left, or_right, cond-true, cond-false}
 use Rattle.cube_laws.specs.State.{Node}
 use Rattle.cube_laws.specs.Steps.{is_open, is_held_by, held_from, last_open_from, or_else}
-use Rattle.cube_laws.specs.declared.parts.Mark.{Mark}
+use Rattle.cube_laws.specs.declared.messages.Mark.{Mark}
 
 -- ---- options
 pub some-inj : {A : Type 0} (x y : A) → Some x ≡ Some y → x ≡ y

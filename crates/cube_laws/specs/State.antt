@@ -2,8 +2,8 @@
 use Rattle.std.specs.Prelude.{ℕ, List, [], ◌∷◌}
 use Rattle.serializability.specs.Polygraph.{Polygraph}
 use Rattle.cube_laws.specs.Cubes.{Cube}
-use Rattle.cube_laws.specs.declared.parts.Mark.{Mark}
-use Rattle.cube_laws.specs.declared.parts.Mark.TheVariants.{Open}
+use Rattle.cube_laws.specs.declared.messages.Mark.{Mark}
+use Rattle.cube_laws.specs.declared.messages.Mark.TheVariants.{Open}
 
 -- a node of the tree: the number of its parent, which of node 0 is 0, its cube, and what is noted of it
 pub record Node : Type 0 where

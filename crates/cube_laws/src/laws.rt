@@ -9,8 +9,8 @@ ghost use Rattle.desk.specs.History.{IsLegal, replay};
 ghost use Rattle.cube_laws.specs.State.{State, opening_state};
 ghost use Rattle.cube_laws.specs.Steps.{next_of, reply_of, has_solved, has_live, is_finished, is_exhausted};
 ghost use Rattle.cube_laws.specs.Runs.{EachSolvesRightly, solves, closings};
-ghost use Rattle.cube_laws.specs.declared.parts.Event.{Event};
-ghost use Rattle.cube_laws.specs.declared.parts.Reply.{Reply};
+ghost use Rattle.cube_laws.specs.declared.messages.Event.{Event};
+ghost use Rattle.cube_laws.specs.declared.messages.Reply.{Reply};
 
 /// After every list of steps, whoever sends what, an order that solved a node fits the polygraph.
 pub fn solving_orders_fit()

@@ -8,7 +8,7 @@
 
 pub mod laws;
 mod line;
-mod parts;
+mod messages;
 
 pub use line::NodeLine;
-pub use parts::{Event, Mark, Reply};
+pub use messages::{Event, Mark, Reply};

@@ -8,8 +8,8 @@ use Rattle.pruning_laws.specs.declared.side.Side.{Side}
 use Rattle.cube_laws.specs.Cubes.{Cube}
 use Rattle.cube_laws.specs.State.{Node}
 use Rattle.cube_laws.specs.Steps.{with_mark, child}
-use Rattle.cube_laws.specs.declared.parts.Mark.{Mark}
-use Rattle.cube_laws.specs.declared.parts.Mark.TheVariants.{Open}
+use Rattle.cube_laws.specs.declared.messages.Mark.{Mark}
+use Rattle.cube_laws.specs.declared.messages.Mark.TheVariants.{Open}
 use Rattle.cube_laws.proofs.Nodes.{some-inj, none-some}
 use Rattle.cube_machine.specs.Ways.{cube_of, cubes_after, parent_of, nodes_with, nodes_of, cube_in, IsWay}
 use Rattle.cube_machine.specs.declared.origin.Origin.{Origin}

@@ -6,7 +6,7 @@ use Rattle.serializability.specs.Polygraph.{Polygraph}
 use Rattle.reach_laws.specs.Reach.{Graph}
 use Rattle.cube_laws.specs.State.{Node, State}
 use Rattle.cube_laws.specs.Steps.{with_mark, has_solved, has_live, is_finished}
-use Rattle.cube_laws.specs.declared.parts.Mark.{Mark}
+use Rattle.cube_laws.specs.declared.messages.Mark.{Mark}
 use Rattle.cube_machine.specs.Growth.{Growth}
 use Rattle.cube_machine.specs.Noted.{AreNoted}
 use Rattle.cube_machine.specs.Machines.{IsMachine}

@@ -6,7 +6,7 @@ use Rattle.std.proofs.lemmas.List.{length-append}
 use Rattle.cube_laws.specs.State.{Node, root}
 use Rattle.cube_laws.specs.Steps.{with_mark}
 use Rattle.cube_laws.specs.Cubes.{is_decided}
-use Rattle.cube_laws.specs.declared.parts.Mark.{Mark}
+use Rattle.cube_laws.specs.declared.messages.Mark.{Mark}
 use Rattle.cube_laws.proofs.Nodes.{some-inj}
 use Rattle.cube_machine.specs.Ways.{cube_in}
 use Rattle.cube_machine.specs.Noted.{IsNoted, AreNoted}

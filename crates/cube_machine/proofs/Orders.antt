@@ -11,7 +11,7 @@ use Rattle.known_graph.specs.Graphs.{IsKnownGraph}
 use Rattle.known_graph.proofs.Listed.{In, In-from_Contains}
 use Rattle.known_graph.proofs.Tested.{same_bool, edge_in, has_contained}
 use Rattle.polygraph.specs.Places.{ArePlaces, AreKept}
-use Rattle.polygraph.proofs.Listed.{once_length}
+use Rattle.serializability.proofs.Listed.{once_length}
 use Rattle.cube_laws.specs.Steps.{lists_once, keeps_edges}
 use Rattle.cube_laws.proofs.Nodes.{any_at}
 use Rattle.cube_laws.proofs.Fits.{once_tested}

@@ -6,7 +6,7 @@ use Rattle.std.proofs.lemmas.List.{length-set}
 use Rattle.pruning_laws.specs.declared.side.Side.TheVariants.{One, Two}
 use Rattle.cube_laws.specs.State.{Node}
 use Rattle.cube_laws.specs.Steps.{is_open, is_held_by, held_from, last_open_from, with_mark, child}
-use Rattle.cube_laws.specs.declared.parts.Mark.{Mark}
+use Rattle.cube_laws.specs.declared.messages.Mark.{Mark}
 use Rattle.cube_laws.proofs.Nodes.{none-some, get_same, get_front, found_held, found_open, found_first}
 use Rattle.cube_machine.specs.Ways.{cube_in}
 use Rattle.cube_machine.proofs.Lists.{get_within, get_some}

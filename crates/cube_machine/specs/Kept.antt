@@ -2,8 +2,8 @@
 use Rattle.std.specs.Prelude.{◌≡◌, ℕ, ◌+◌, ◌<◌, ◌||◌, not, Bool, if◌then◌else◌, List, [], ◌∷◌, Option, Some, length, slice_get, slice_index}
 use Rattle.std.specs.List.{list_any}
 use Rattle.cube_laws.specs.Steps.{is_open, is_held, is_solved}
-use Rattle.cube_laws.specs.declared.parts.Mark.{Mark}
-use Rattle.cube_laws.specs.declared.parts.Mark.TheVariants.{Held}
+use Rattle.cube_laws.specs.declared.messages.Mark.{Mark}
+use Rattle.cube_laws.specs.declared.messages.Mark.TheVariants.{Held}
 use Rattle.cube_machine.specs.declared.origin.Origin.{Origin}
 use Rattle.cube_machine.specs.declared.node.TreeNode.{TreeNode}
 

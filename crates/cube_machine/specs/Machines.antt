@@ -5,6 +5,7 @@ use Rattle.reach_laws.specs.Reach.{Graph}
 use Rattle.cube_machine.specs.Growth.{Growth}
 use Rattle.cube_machine.specs.Noted.{AreNoted}
 use Rattle.cube_machine.specs.declared.decided.Decided.{Decided}
+use Rattle.cube_machine.specs.declared.budget.TheConstants.{MAX_BUDGET}
 
 -- There is room for the nodes that the budget allows, the graph is one of the polygraph's nodes, and of each seat's cube it is
 -- noted what it decides.
@@ -12,7 +13,7 @@ pub record IsMachine (p : Polygraph) (tree : Growth) (closed budget : ℕ) (grap
   pub small : length tree.nodes ≤ 2 * closed + 1
   pub roomy : 2 * budget + 1 ≤ tree.room
   pub counted : closed ≤ budget
-  pub few : budget ≤ 1000000
+  pub few : budget ≤ MAX_BUDGET
   pub alike : graph.nodes ≡ p.nodes
   pub seats : length table ≡ 17
   pub noted : AreNoted tree.nodes (length p.choices) table

@@ -1,6 +1,7 @@
-//! Budgets.
+//! The budget of a search: how many cubes it may close.
 
 ghost use Rattle.std.specs.Prelude.{◌≡◌, ℕ, ◌<◌, ◌≤◌, ◌↔◌, IsSome, IfSome};
+ghost use Rattle.cube_machine.specs.declared.budget.TheConstants.{MAX_BUDGET};
 
 use std::marker::Model;
 
@@ -18,7 +19,7 @@ impl Model for Budget {
 
     ghost view = { λ b. b.number };
 
-    ghost invariant = { λ b. (0 < b.number) × (b.number ≤ 1000000) };
+    ghost invariant = { λ b. (0 < b.number) × (b.number ≤ MAX_BUDGET) };
 
     ghost inverse = { λ n. record { number = n } };
 }
@@ -26,7 +27,7 @@ impl Model for Budget {
 impl Budget {
     /// The budget of this number, where it is one of 1 to 1,000,000.
     pub fn new(number: usize) -> Option<Budget>
-        ensures some { IsSome result ↔ ((0 < number) × (number ≤ 1000000)) }
+        ensures some { IsSome result ↔ ((0 < number) × (number ≤ MAX_BUDGET)) }
         ensures value { IfSome result (λ b. b ≡ number) }
     {
         if 0 < number && number <= MAX_BUDGET {
@@ -39,7 +40,7 @@ impl Budget {
     /// The number.
     pub fn get(self) -> usize
         ensures value { result ≡ self }
-        ensures range { (0 < self) × (self ≤ 1000000) }
+        ensures range { (0 < self) × (self ≤ MAX_BUDGET) }
     {
         self.number
     }

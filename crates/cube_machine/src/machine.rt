@@ -5,8 +5,8 @@ ghost use Rattle.std.specs.Option.{option_map};
 ghost use Rattle.cube_laws.specs.State.{opening_state, root};
 ghost use Rattle.cube_laws.specs.Steps.{has_solved, is_finished, is_exhausted, node_held, last_open, claim_reply, any_reply, split_reply, refute_reply, solve_reply, claimed, taken, held_where, split_where, refuted_where, solved_where, opened_at, can_split, cube_at, is_cycle, decides_all, is_solution, waits_of};
 ghost use Rattle.cube_laws.specs.Cubes.{edges_under};
-ghost use Rattle.cube_laws.specs.declared.parts.Event.TheVariants.{TakeAny};
-ghost use Rattle.cube_laws.specs.declared.parts.Reply.TheVariants.{Released};
+ghost use Rattle.cube_laws.specs.declared.messages.Event.TheVariants.{TakeAny};
+ghost use Rattle.cube_laws.specs.declared.messages.Reply.TheVariants.{Released};
 ghost use Rattle.cube_machine.specs.Ways.{IsWay};
 ghost use Rattle.cube_machine.specs.Noted.{AreNoted};
 

@@ -5,7 +5,7 @@ ghost use Rattle.std.specs.Option.{option_map, option_map_or};
 ghost use Rattle.std.specs.List.{list_any};
 ghost use Rattle.cube_laws.specs.State.{root};
 ghost use Rattle.cube_laws.specs.Steps.{is_open, is_solved, is_held, held_from, last_open_from, has_solved, has_live, with_mark, child};
-ghost use Rattle.cube_laws.specs.declared.parts.Mark.TheVariants.{Open, Held, Split as Divided};
+ghost use Rattle.cube_laws.specs.declared.messages.Mark.TheVariants.{Open, Held, Split as Divided};
 ghost use Rattle.pruning_laws.specs.declared.side.Side.TheVariants.{One, Two};
 ghost use Rattle.cube_machine.specs.Ways.{cube_in, IsWay};
 ghost use Rattle.cube_machine.specs.Kept.{IsAscending, is_closed};

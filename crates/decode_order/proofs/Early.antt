@@ -9,7 +9,7 @@ use Rattle.serializability.proofs.Places.{Has, Apart, Has-from_Contains, Has-app
 use Rattle.serializability.proofs.Sources.{any_found, any_from}
 use Rattle.serializability.proofs.Serial.{behind_zero, node_of}
 use Rattle.decode_order.specs.Replaying.{first_early}
-use Rattle.decode_order.proofs.Listed.{once_apart}
+use Rattle.serializability.proofs.Listed.{once_apart}
 
 abbrev pub is_earlier : (ℕ → ℕ) → ℕ → ℕ → Bool
 is_earlier session v u = nat_lt u v && eqb (session u) (session v)

@@ -1,5 +1,5 @@
 pub mod Placing
-pub mod Listed
+pub mod Counted
 pub mod Early
 pub mod Mismatch
 pub mod Whole

@@ -6,7 +6,7 @@ use Rattle.std.proofs.lemmas.List.{get_or-set_same, get_or-set_other, length-set
 use Rattle.serializability.specs.Replay.{ListsOnce}
 use Rattle.serializability.proofs.Places.{Has, Apart, Has-append_front, Has-append_back, Has-append_cases, Apart-not_both}
 use Rattle.serializability.proofs.Serial.{node_of}
-use Rattle.decode_order.proofs.Listed.{Has_get, once_apart}
+use Rattle.serializability.proofs.Listed.{Has_get, once_apart}
 
 -- exactly the nodes of the line are marked
 pub record Marked (n : ℕ) (line : List ℕ) (marks : List Bool) : Type 0 where

@@ -9,7 +9,7 @@ use Rattle.serializability.specs.Replay.{ListsOnce}
 use Rattle.serializability.proofs.Places.{Has, Apart, Has-from_Contains, Has-append_front, Has-append_back, Has-append_cases, Apart-not_both}
 use Rattle.serializability.proofs.Serial.{node_of}
 use Rattle.decode_order.specs.Replaying.{first_early}
-use Rattle.decode_order.proofs.Listed.{Has_get, once_apart}
+use Rattle.serializability.proofs.Listed.{Has_get, once_apart}
 use Rattle.decode_order.proofs.Early.{is_earlier, earlier_from, early_further}
 use Rattle.decode_order.proofs.Marks.{Marked, marked_more, front_more, rest_from, around}
 

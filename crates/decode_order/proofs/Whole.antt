@@ -7,7 +7,7 @@ use Rattle.serializability.specs.Replay.{empty, Meets, IsSerial, ListsOnce}
 use Rattle.decode_order.specs.declared.fault.ReplayFault.{ReplayFault}
 use Rattle.decode_order.specs.declared.fault.ReplayFault.TheVariants.{NotAPermutation, SessionOrder}
 use Rattle.decode_order.specs.Replaying.{lists_once, first_early, first_mismatch, in_replay, session_fault, read_fault, replay_fault}
-use Rattle.decode_order.proofs.Listed.{lists_once_is, lists_once_from}
+use Rattle.decode_order.proofs.Counted.{lists_once_is, lists_once_from}
 use Rattle.decode_order.proofs.Early.{in_turn, none_early, sessions_kept, turn_from_sessions}
 use Rattle.decode_order.proofs.Mismatch.{meets_all, no_mismatch, ops-in_replay}
 

@@ -9,9 +9,9 @@ ghost use Rattle.decode_order.specs.Decoding.{IsDecodeFault};
 
 use crate::fault::DecodeFault;
 use crate::node::node_of;
-use history::Order;
 use order_cnf::Formula;
 use serializability::NodeIx;
+use session_history::Order;
 use std::alloc::{AllocError, Global};
 
 /// The order of nodes 1 to n that a satisfying assignment stands for: the node at place p has p nodes

@@ -10,8 +10,6 @@ mod node;
 mod reads;
 mod serial;
 mod sessions;
-#[cfg(test)]
-mod tests;
 
 pub use decode::positions;
 pub use fault::{DecodeFault, ReplayFault};

@@ -4,8 +4,8 @@ ghost use Rattle.std.specs.Prelude.{◌↔◌, IsTrue, IfOk};
 ghost use Rattle.serializability.specs.Replay.{ListsOnce};
 ghost use Rattle.log_definitions.specs.Numbers.{log_of};
 
-use history::History;
 use serializability::NodeIx;
+use session_history::History;
 use std::alloc::{AllocError, Global};
 
 // Whether the order lists nodes 1 to n once each.

@@ -7,8 +7,8 @@ ghost use Rattle.log_definitions.specs.Numbers.{log_of};
 ghost use Rattle.decode_order.specs.Replaying as spec;
 ghost use Rattle.decode_order.specs.Replaying.{key_of, held, meets, placed_from, in_replay};
 
-use history::{Event, History};
 use serializability::NodeIx;
+use session_history::{Event, History};
 use std::alloc::{AllocError, Global};
 
 // The first read in replay that does not name what the map holds, by its node and its number among

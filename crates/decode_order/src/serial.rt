@@ -9,8 +9,8 @@ use crate::fault::ReplayFault;
 use crate::listing::lists_once;
 use crate::reads::first_mismatch;
 use crate::sessions::first_early;
-use history::{History, Order};
 use serializability::NodeIx;
+use session_history::{History, Order};
 use std::alloc::{AllocError, Global};
 
 /// Whether an order of a history's nodes is serial: it lists nodes 1 to n once each, keeps the order

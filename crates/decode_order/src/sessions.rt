@@ -6,8 +6,8 @@ ghost use Rattle.log_definitions.specs.Numbers.{log_of};
 ghost use Rattle.decode_order.specs.Replaying as spec;
 
 use crate::node::node_of;
-use history::History;
 use serializability::NodeIx;
+use session_history::History;
 use std::alloc::{AllocError, Global};
 
 // The first listed node that stands before an earlier one of its session. The nodes of a session lie

@@ -27,45 +27,7 @@
 //! Nothing is promised of time: not that a call returns, nor that a waiting call wakes up, nor in
 //! which order the calls of two seats are made. Tests look at the waiting.
 //!
-//! # How a proof can know it
-//!
-//! When a thread takes a lock, it knows of the value what its type says, and nothing of what other
-//! threads did before. So how can the thread that closes the desk know that the history has all the
-//! calls of each seat, and no others? By tokens: values without bytes that carry what is known.
-//!
-//! A *ghost name* is a place that exists in proofs alone. It has a value and two halves, with two
-//! rules: both halves show the same value, and it changes only where both are in one hand. Who
-//! holds one half therefore knows that nobody changed the value in the meantime.
-//!
-//! Each seat has such a name, whose value is the list of the seat's calls with their replies, and
-//! whether it has left. The half under the lock is an `Account`, the half in the seat a `Receipt`.
-//! A call takes the lock, makes the step, and now has both halves: it appends the same call to both
-//! and to the stored history. What the lock guards has a type, `Guarded`, which says that each
-//! account's list is the seat's part of the history, and that the history is legal and leads to the
-//! machine's state. So this has to be true again before the lock is let go.
-//!
-//! When the desk is closed, all receipts are back. Comparing each with its account shows that the
-//! seat's list is its part of the history. The opening state has a pair of the same kind, one half
-//! under the lock and one beside it in the desk, so that the history provably starts where it
-//! should.
-//!
-//! # Which desk it is
-//!
-//! Ghost names are numbers that are made while the program runs, but the types of a desk and of its
-//! seats have to speak of them. The type parameter `J: Naming` stands for them, so that a seat of
-//! another desk is a type error. This is why a desk is opened in two steps. `Opened::new` makes the
-//! names. A function that is generic in `J` then calls `Desk::open` and does the work; its caller
-//! passes `Brand` for `J`, and the proof of that call picks the names:
-//!
-//! ```text
-//! ghosts-run g a = record { names = a.opened.1; desk = a.opened.2 }
-//! ```
-//!
-//! # Room for the last call
-//!
-//! A seat can always leave, also when memory has run out. The history keeps a free place for each
-//! seat that has not left: opening reserves them, and each call asks for them and for its own place
-//! before the machine steps.
+//! How a thread's proof can know this, and what room a seat keeps for its last call: docs/DESK.md.
 #![tactic(auto)]
 
 mod account;
@@ -80,3 +42,12 @@ pub mod opened;
 mod row;
 pub mod seat;
 pub mod seat_no;
+
+pub use desk::{Closed, Desk, NotAll};
+pub use gate::{Gate, OpenGate};
+pub use history::Entry;
+pub use machine::Machine;
+pub use naming::Naming;
+pub use opened::Opened;
+pub use seat::{Left, Seat};
+pub use seat_no::{SeatNo, Workers};

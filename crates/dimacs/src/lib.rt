@@ -5,13 +5,12 @@ mod answer;
 mod fault;
 mod laws;
 mod number;
+mod numeral;
 mod piece;
 mod read;
 mod reading;
 mod sink;
 mod status;
-#[cfg(test)]
-mod tests;
 mod words;
 mod write;
 

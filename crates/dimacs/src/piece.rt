@@ -1,9 +1,10 @@
 //! Bytes on their way to a sink, gathered so that a few large pieces go out.
 
-ghost use Rattle.std.specs.Prelude.{◌≡◌, ◌+◌, ◌≤◌, ◌↔◌, [], ◌++◌, length, codes, IsTrue};
+ghost use Rattle.std.specs.Prelude.{◌≡◌, ◌+◌, ◌≤◌, ◌↔◌, [], ◌++◌, length, codes, IsTrue, if◌then◌else◌, decimal};
 ghost use Rattle.order_cnf.specs.Clauses.{literals};
 ghost use Rattle.dimacs.specs.Text.{literal_text, clause_text, header};
 
+use crate::numeral::{NUMERAL_BYTES, Numeral, Numerals};
 use itoa::{Buffer, Integer};
 use order_cnf::Clause;
 use serializability::Literal;
@@ -52,6 +53,7 @@ impl Piece {
     }
 
     /// Whether a clause still fits.
+    #[inline]
     pub(crate) fn has_room(&self) -> bool
         ensures { IsTrue result ↔ (length self.now + 64 ≤ 16384) }
     {
@@ -66,6 +68,7 @@ impl Piece {
     }
 
     /// Adds bytes.
+    #[inline]
     fn push(&mut self, text: &[u8])
         requires { length self.old + length text.now ≤ 16384 }
         ensures { self.new ≡ self.old ++ text.now }
@@ -85,17 +88,36 @@ impl Piece {
         self.push(digits.format(number).as_bytes());
     }
 
+    /// Adds a minus where a literal is negated.
+    #[inline]
+    fn push_sign(&mut self, positive: bool)
+        requires { length self.old + 1 ≤ 16384 }
+        ensures { self.new ≡ self.old ++ (if positive then [] else codes "-") }
+    {
+        self.bytes[self.len] = b'-';
+        self.len += usize::from(!positive);
+    }
+
+    /// Adds a numeral. Always as many bytes are copied, and those behind the numeral do not count.
+    #[inline]
+    fn push_numeral(&mut self, numeral: &Numeral)
+        requires { length self.old + 11 ≤ 16384 }
+        ensures text { self.new ≡ self.old ++ (decimal numeral.now.variable ++ codes " ") }
+        ensures short { length self.new ≤ length self.old + 11 }
+    {
+        self.bytes[self.len..self.len + NUMERAL_BYTES].copy_from_slice(numeral.bytes());
+        self.len += numeral.len();
+    }
+
     /// Adds a literal and a space.
-    fn push_literal(&mut self, literal: Literal)
+    #[inline]
+    fn push_literal(&mut self, literal: Literal, numerals: &mut Numerals)
         requires { length self.old + 12 ≤ 16384 }
         ensures text { self.new ≡ self.old ++ (literal_text literal ++ codes " ") }
         ensures short { length self.new ≤ length self.old + 12 }
     {
-        if !literal.positive {
-            self.push(b"-");
-        }
-        self.push_number(literal.variable);
-        self.push(b" ");
+        self.push_sign(literal.positive);
+        self.push_numeral(numerals.numeral(literal.variable));
     }
 
     /// Adds the first line of a text.
@@ -112,21 +134,22 @@ impl Piece {
     }
 
     /// Adds the line of a clause.
-    pub(crate) fn push_clause(&mut self, clause: Clause)
+    #[inline]
+    pub(crate) fn push_clause(&mut self, clause: Clause, numerals: &mut Numerals)
         requires { length self.old + 64 ≤ 16384 }
         ensures text { self.new ≡ self.old ++ clause_text (literals clause) }
         ensures short { length self.new ≤ length self.old + 64 }
     {
         match clause {
-            Clause::Unit(a) => self.push_literal(a),
+            Clause::Unit(a) => self.push_literal(a, numerals),
             Clause::Pair(a, b) => {
-                self.push_literal(a);
-                self.push_literal(b);
+                self.push_literal(a, numerals);
+                self.push_literal(b, numerals);
             }
             Clause::Triple(a, b, c) => {
-                self.push_literal(a);
-                self.push_literal(b);
-                self.push_literal(c);
+                self.push_literal(a, numerals);
+                self.push_literal(b, numerals);
+                self.push_literal(c, numerals);
             }
         }
         self.push(b"0\n");

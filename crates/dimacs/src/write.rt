@@ -8,6 +8,7 @@ ghost use Rattle.dimacs.specs.Sinks.{one_more};
 ghost use Rattle.dimacs.specs.Text.{text_of};
 
 use crate::fault::WriteFault;
+use crate::numeral::Numerals;
 use crate::piece::Piece;
 use crate::sink::{Sink, put_all};
 use order_cnf::Formula;
@@ -24,17 +25,19 @@ pub fn write_formula<W: Sink>(sink: &mut W, formula: &Formula) -> Result<(), Wri
         (if is_ok result then W.failures sink.old else one_more (W.failures sink.old)) }
 {
     let mut piece = Piece::new();
+    let mut numerals = Numerals::new();
     let mut written = 0;
     piece.push_header(formula.vars(), formula.count());
     for clause in formula.clauses() {
         written = make_room(sink, written, &mut piece)?;
-        piece.push_clause(clause);
+        piece.push_clause(clause, &mut numerals);
     }
     flush(sink, written, &mut piece)?;
     Ok(())
 }
 
 /// Sees to it that there is room for a clause.
+#[inline]
 fn make_room<W: Sink>(sink: &mut W, written: u64, piece: &mut Piece) -> Result<u64, WriteFault>
     requires { written + length piece.old < 2 ^ 64 }
     ensures went { (start : Option (List ℕ)) (rest whole : List ℕ) →

@@ -12,11 +12,11 @@ use Rattle.desk.proofs.Tied.{get_set}
 use Rattle.gather.specs.Pieces.{Piece, IsPiece, is_piece_of, is_piece}
 use Rattle.gather.specs.Steps.{State, is_kept, is_held_by, put_reply, next_of, reply_of}
 use Rattle.gather.specs.Kept.{WasKept, AreKept}
-use Rattle.gather.specs.declared.parts.Mark.{Mark}
-use Rattle.gather.specs.declared.parts.Event.{Event}
-use Rattle.gather.specs.declared.parts.Event.TheVariants.{Take, Put, Release}
-use Rattle.gather.specs.declared.parts.Reply.{Reply}
-use Rattle.gather.specs.declared.parts.Reply.TheVariants.{Double, Kept, Stranger}
+use Rattle.gather.specs.declared.messages.Mark.{Mark}
+use Rattle.gather.specs.declared.messages.Event.{Event}
+use Rattle.gather.specs.declared.messages.Event.TheVariants.{Take, Put, Release}
+use Rattle.gather.specs.declared.messages.Reply.{Reply}
+use Rattle.gather.specs.declared.messages.Reply.TheVariants.{Double, Kept, Stranger}
 
 log_same : (s : State) (seat : ℕ) (e : Event) → (next_of s seat e).log ≡ s.log
 log_same s seat Take = refl

@@ -4,10 +4,10 @@ use Rattle.session_log.specs.declared.block.Block.{Block}
 use Rattle.desk.specs.declared.history.Entry.{Entry}
 use Rattle.desk.specs.History.{entry}
 use Rattle.gather.specs.Pieces.{Piece, IsPiece}
-use Rattle.gather.specs.declared.parts.Event.{Event}
-use Rattle.gather.specs.declared.parts.Event.TheVariants.{Put}
-use Rattle.gather.specs.declared.parts.Reply.{Reply}
-use Rattle.gather.specs.declared.parts.Reply.TheVariants.{Kept}
+use Rattle.gather.specs.declared.messages.Event.{Event}
+use Rattle.gather.specs.declared.messages.Event.TheVariants.{Put}
+use Rattle.gather.specs.declared.messages.Reply.{Reply}
+use Rattle.gather.specs.declared.messages.Reply.TheVariants.{Kept}
 
 -- some seat put this piece for block k, and was answered that it is kept
 pub record WasKept (history : List (Entry Event Reply)) (k : ℕ) (p : Piece) : Type 0 where

@@ -3,12 +3,12 @@ use Rattle.std.specs.Prelude.{ℕ, Bool, true, false, ◌&&◌, ◌==◌, if◌t
 use Rattle.std.specs.Option.{option_or}
 use Rattle.session_log.specs.Blocks.{blocks_of}
 use Rattle.gather.specs.Pieces.{is_piece}
-use Rattle.gather.specs.declared.parts.Mark.{Mark}
-use Rattle.gather.specs.declared.parts.Mark.TheVariants as mark
-use Rattle.gather.specs.declared.parts.Event.{Event}
-use Rattle.gather.specs.declared.parts.Event.TheVariants.{Take, Put, Release}
-use Rattle.gather.specs.declared.parts.Reply.{Reply}
-use Rattle.gather.specs.declared.parts.Reply.TheVariants.{Block, NoneLeft, Double, Kept, Stranger, Released}
+use Rattle.gather.specs.declared.messages.Mark.{Mark}
+use Rattle.gather.specs.declared.messages.Mark.TheVariants as mark
+use Rattle.gather.specs.declared.messages.Event.{Event}
+use Rattle.gather.specs.declared.messages.Event.TheVariants.{Take, Put, Release}
+use Rattle.gather.specs.declared.messages.Reply.{Reply}
+use Rattle.gather.specs.declared.messages.Reply.TheVariants.{Block, NoneLeft, Double, Kept, Stranger, Released}
 
 -- a log, and a mark for each of its blocks
 pub record State : Type 0 where

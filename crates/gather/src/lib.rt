@@ -26,12 +26,12 @@
 mod collecting;
 pub mod laws;
 mod machine;
+mod messages;
 mod parsed;
-mod parts;
 mod rules;
 mod worker;
 
 pub use collecting::collect;
 pub use machine::GatherMachine;
+pub use messages::{Event, Mark, Reply};
 pub use parsed::{Parsed, parse_piece};
-pub use parts::{Event, Mark, Reply};

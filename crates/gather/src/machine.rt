@@ -3,12 +3,12 @@
 ghost use Rattle.std.specs.Prelude.{◌≡◌, Some, IfOk, Contains, map, position, slice_get};
 ghost use Rattle.session_log.specs.Blocks.{blocks_of};
 ghost use Rattle.gather.specs.Pieces.{is_piece, is_piece_of};
-ghost use Rattle.gather.specs.declared.parts.Mark.TheVariants as mark;
+ghost use Rattle.gather.specs.declared.messages.Mark.TheVariants as mark;
 ghost use Rattle.gather.specs.Steps.{opening_state, with_marks, is_open, is_kept, is_held_by};
 ghost use Rattle.gather.specs.Steps.{handed, hand_out, take_reply, put_reply, marked_kept, released};
 
+use crate::messages::{Mark, Reply};
 use crate::parsed::Parsed;
-use crate::parts::{Mark, Reply};
 use desk::seat_no::SeatNo;
 use session_log::Block;
 use std::alloc::{AllocError, Global};

@@ -1,7 +1,7 @@
 //! The machine's step, by its table.
 
 use crate::machine::GatherMachine;
-use crate::parts::{Event, Reply};
+use crate::messages::{Event, Reply};
 use desk::machine::Machine;
 use desk::seat_no::SeatNo;
 

@@ -4,8 +4,8 @@ ghost use Rattle.std.specs.Prelude.{◌≡◌};
 ghost use Rattle.session_log.specs.Blocks.{blocks_of};
 
 use crate::machine::GatherMachine;
+use crate::messages::{Event, Reply};
 use crate::parsed::parse_piece;
-use crate::parts::{Event, Reply};
 use desk::desk::Desk;
 use desk::gate::Gate;
 use desk::naming::Naming;

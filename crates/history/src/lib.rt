@@ -1,23 +1,10 @@
-//! The history of a log: its committed transactions as nodes, with numbered keys, who wrote what and who read it from whom,
-//! and the anomaly that rules out every serial order, where there is one.
+//! A log as a history: its committed transactions as nodes, its keys by number, who wrote what and who read it, and its anomaly.
+//!
+//! This crate hands on what `session_history` and `anomalies` make, and has no code of its own.
 #![tactic(auto)]
 
-mod count;
-mod key_set;
-mod log;
-mod names;
-mod nodes;
-mod numbers;
-mod order;
-mod reads;
-mod rows;
-mod scan;
-mod writes;
-
-pub use count::Counts;
-pub use log::{History, MAX_KEYS, MAX_OPERATIONS};
-pub use names::Name;
-pub use order::Order;
-pub use reads::ReadFrom;
-pub use serializability::{Anomaly, Event, NodeIx, ReadAnomaly};
-pub use writes::Written;
+pub use anomalies::classify;
+pub use reach_laws::Edge;
+pub use session_history::{
+    Anomaly, Counts, Event, History, Name, NodeIx, Order, ReadAnomaly, ReadFrom, Written,
+};

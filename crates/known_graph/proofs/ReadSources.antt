@@ -8,7 +8,7 @@ use Rattle.serializability.specs.Reads.{IsClean}
 use Rattle.serializability.specs.Polygraph.{source, reads_from, all_keys}
 use Rattle.serializability.proofs.Places.{each_of_map}
 use Rattle.serializability.proofs.Serial.{source_within}
-use Rattle.history.specs.Tables.{sources_of}
+use Rattle.session_history.specs.Tables.{sources_of}
 
 abbrev reads_key : Log → ℕ → ℕ → Option (ℕ × ℕ)
 reads_key log r x = option_map (λ w. (x, w)) (source log r x)

@@ -1,5 +1,5 @@
 -- A list that is made piece by piece, with what is left of it.
-use Rattle.std.proofs.Common.{◌≡◌, ℕ, suc, ◌+◌, ◌-◌, ◌<◌, List, ◌∷◌, ◌++◌, sym, ap, ◌∙◌, arith, append_assoc}
+use Rattle.std.proofs.Common.{◌≡◌, ℕ, suc, ◌+◌, ◌-◌, ◌<◌, List, ◌∷◌, ◌++◌, length, sym, ap, ◌∙◌, arith, append_assoc, length-append}
 use Rattle.std.specs.List.{range_with_len}
 
 -- the numbers from k up to the end
@@ -23,3 +23,6 @@ piece_begun s now total h = ap (λ l. now ++ l) (sym s.parts) ∙ h
 -- the same, where others come behind
 pub before : {X : Type 0} {left piece rest : List X} (others : List X) → Split left piece rest → Split (left ++ others) piece (rest ++ others)
 before {X} {left} {piece} {rest} others s = record { parts = ap (λ l. l ++ others) s.parts ∙ append_assoc piece rest others }
+
+pub split_length : {X : Type 0} {left piece rest : List X} → Split left piece rest → length left ≡ length piece + length rest
+split_length {X} {left} {piece} {rest} s = ap length s.parts ∙ length-append piece rest

@@ -5,11 +5,12 @@ use Rattle.serializability.specs.Log.{Log}
 use Rattle.serializability.specs.Polygraph.{Edge, arcs}
 use Rattle.reach_laws.specs.Reach.{Graph}
 use Rattle.known_graph.specs.Pairs.{all_pairs}
+use Rattle.serializability.specs.declared.node.TheConstants.{MAX_NODES}
 
 -- The graph has at most 400 nodes beside node 0. Its edges are pairs of them, each once, by the first node and then the second,
 -- and one leads from node 0 to each other node.
 pub record IsKnownGraph (g : Graph) : Type 0 where
-  pub few : g.nodes ≤ 400
+  pub few : g.nodes ≤ MAX_NODES
   pub test : Edge → Bool
   pub listed : g.edges ≡ filter test (all_pairs g.nodes)
   pub initial : (v : ℕ) → 0 < v → v ≤ g.nodes → Contains g.edges (0, v)

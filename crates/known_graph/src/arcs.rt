@@ -9,8 +9,8 @@ ghost use Rattle.known_graph.specs.Graphs.{IsKnownGraph, arc_graph};
 
 use crate::graph::Known;
 use crate::node::node;
-use history::History;
 use serializability::NodeIx;
+use session_history::History;
 use std::alloc::{AllocError, Global};
 
 // Adds the arc to a node from the one before it, where they are of one session.

@@ -7,6 +7,7 @@ ghost use Rattle.known_graph.specs.Bits.{bit_of, row_len};
 ghost use Rattle.known_graph.specs.Graphs.{IsKnownGraph};
 ghost use Rattle.known_graph.specs.Held.{bit_place};
 ghost use Rattle.known_graph.specs.Tests.{has_edge};
+ghost use Rattle.serializability.specs.declared.node.TheConstants.{MAX_NODES};
 
 use crate::bits::{has_bit, row_len, set_bit, set_bits_to};
 use serializability::NodeIx;
@@ -35,7 +36,7 @@ impl Model for Known {
 
 /// The number of the bit of an edge.
 fn bit_place(nodes: usize, u: NodeIx, v: NodeIx) -> usize
-    requires few { nodes ≤ 400 }
+    requires few { nodes ≤ MAX_NODES }
     requires nodes { (u ≤ nodes) × (v ≤ nodes) }
     ensures place { result ≡ bit_place nodes u v }
     ensures within { result / 64 < (nodes + 1) * row_len nodes }
@@ -47,7 +48,7 @@ impl Known {
     /// The graph of nodes 0 to n in which an edge leads from node 0 to each other node, and no other
     /// edge is known.
     pub fn new(alloc: Global, nodes: usize) -> Result<Known, AllocError>
-        requires few { nodes ≤ 400 }
+        requires few { nodes ≤ MAX_NODES }
         ensures nodes { IfOk result (λ known. known.nodes ≡ nodes) }
         ensures edges { IfOk result (λ known. (e : Edge) →
             (Contains known.edges e ↔ ((e.0 ≡ 0) × (0 < e.1) × (e.1 ≤ nodes)))) }
@@ -61,7 +62,7 @@ impl Known {
     /// The number of nodes, n, without node 0.
     pub fn nodes(&self) -> usize
         ensures count { result ≡ self.now.nodes }
-        ensures few { result ≤ 400 }
+        ensures few { result ≤ MAX_NODES }
         ensures graph { IsKnownGraph self.now }
     {
         self.nodes

@@ -7,6 +7,7 @@ ghost use Rattle.serializability.specs.Polygraph.{Edge};
 ghost use Rattle.reach_laws.specs.Reach.{IsWalk};
 ghost use Rattle.known_graph.specs.Bits.{bit_of};
 ghost use Rattle.known_graph.specs.Tree.{reached_from, word_numbers, fresh_numbers, node_at, from_at, IsTree};
+ghost use Rattle.serializability.specs.declared.node.TheConstants.{MAX_NODES};
 
 use crate::node::node;
 use serializability::NodeIx;
@@ -27,7 +28,7 @@ fn add_word(
     first: usize,
     from: usize,
 ) -> Result<(), AllocError>
-    requires nodes { (b : ℕ) → b < 64 → bit_at word b ≡ 1 → first + b ≤ 400 }
+    requires nodes { (b : ℕ) → b < 64 → bit_at word b ≡ 1 → first + b ≤ MAX_NODES }
     ensures added { OnOk result (found.new.items
         ≡ found.old.items ++ reached_from from (word_numbers first word)) }
 {
@@ -52,7 +53,7 @@ pub fn add_row(
 ) -> Result<(), AllocError>
     requires len { length seen.old ≡ length row.now }
     requires short { length row.now < 2 ^ 32 }
-    requires nodes { (v : ℕ) → bit_of row.now v ≡ true → v ≤ 400 }
+    requires nodes { (v : ℕ) → bit_of row.now v ≡ true → v ≤ MAX_NODES }
     ensures added { OnOk result (found.new.items
         ≡ found.old.items ++ reached_from from (fresh_numbers row.now seen.old)) }
     ensures seen { OnOk result ((v : ℕ) →

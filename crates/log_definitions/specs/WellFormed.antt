@@ -15,6 +15,8 @@ use Rattle.session_log.specs.declared.line.Line.TheVariants as line
 use Rattle.session_log.specs.declared.fault.Limit.TheVariants as limit
 use Rattle.session_log.specs.declared.fault.LogFault.{LogFault}
 use Rattle.session_log.specs.declared.fault.LogFault.TheVariants.{SessionTwice, WriteTwice, OverLimit, Memory}
+use Rattle.serializability.specs.declared.node.TheConstants.{MAX_NODES}
+use Rattle.session_log.specs.declared.limits.TheConstants.{MAX_KEYS, MAX_OPERATIONS}
 
 -- the lines of a log, by their forms
 abbrev pub log_lines : List ClientSession → List Line
@@ -72,9 +74,9 @@ is_committed t = is_commit t.outcome
 
 abbrev pub limit_fault : List ClientSession → Option LogFault
 limit_fault ss =
-    if nat_lt 200000 (length (ops_in ss)) then Some (OverLimit limit.Operations) else
-    (if nat_lt 400 (count_by is_committed (txns_in ss)) then Some (OverLimit limit.Committed) else
-    (if nat_lt 10000 (length (keys_in ss)) then Some (OverLimit limit.Keys) else None))
+    if nat_lt MAX_OPERATIONS (length (ops_in ss)) then Some (OverLimit limit.Operations) else
+    (if nat_lt MAX_NODES (count_by is_committed (txns_in ss)) then Some (OverLimit limit.Committed) else
+    (if nat_lt MAX_KEYS (length (keys_in ss)) then Some (OverLimit limit.Keys) else None))
 
 abbrev pub session_fault : Option ℕ → Option LogFault
 session_fault None = None
@@ -113,6 +115,6 @@ written (Write key wid ∷ ops) = wid ∷ written ops
 pub record KeepsRules (ss : List ClientSession) : Type 0 where
   pub sessions : IsDistinct nat_eq (map (λ s. s.number) ss)
   pub writes : IsDistinct nat_eq (written (ops_in ss))
-  pub operations : length (ops_in ss) ≤ 200000
-  pub committed : count_by is_committed (txns_in ss) ≤ 400
-  pub keys : length (keys_in ss) ≤ 10000
+  pub operations : length (ops_in ss) ≤ MAX_OPERATIONS
+  pub committed : count_by is_committed (txns_in ss) ≤ MAX_NODES
+  pub keys : length (keys_in ss) ≤ MAX_KEYS

@@ -9,25 +9,17 @@ use Rattle.reach_laws.proofs.Walks.{each_contained, each_from_contained}
 use Rattle.pruning_laws.specs.declared.side.Side.{Side}
 use Rattle.pruning_laws.specs.declared.side.Side.TheVariants.{One, Two}
 use Rattle.pruning_laws.specs.Forced.{IsRefuted, edges_of}
-use Rattle.known_graph.specs.Graphs.{IsKnownGraph}
 use Rattle.known_graph.proofs.Tested.{edge_in, has_contained}
-use Rattle.reach_rows.specs.ReachRows.{AreRowsOf}
-use Rattle.polygraph.specs.Polygraphs.{Joins, JoinsBoth, IsPolygraph}
-use Rattle.prune_ledger.specs.Pruned.{IsReduced}
+use Rattle.polygraph.specs.Polygraphs.{Joins, JoinsBoth}
+use Rattle.prune_ledger.specs.Pruned.{Remainder}
 use Rattle.order_laws.specs.Reduced.{IsReach, order_nodes}
 use Rattle.order_laws.specs.Proper.{IsProper}
 use Rattle.order_laws.proofs.Reached.{reach_known, not_back, initial_known, same_pairs}
 use Rattle.order_cnf.specs.Data.{is_listed}
 use Rattle.order_cnf.specs.Tables.{Relation, known_in, pairs_in, IsStrict}
+use Rattle.order_cnf.specs.Left.{IsRest, IsProperRest}
 use Rattle.order_cnf.specs.Streams.{IsUnturned}
 use Rattle.order_cnf.proofs.Wholes.{edges_in, counts_in}
-
--- a polygraph with the rows of its known edges
-pub record IsRest (p : Polygraph) (reach : Graph) : Type 0 where
-  pub graph : IsKnownGraph (record { nodes = p.nodes; edges = p.known })
-  pub polygraph : IsPolygraph p
-  pub reduced : IsReduced p
-  pub rows : AreRowsOf reach (record { nodes = p.nodes; edges = p.known })
 
 pub is_reach : (p : Polygraph) (rows : Graph) → IsRest p rows → IsReach p.known (is_listed rows.edges)
 is_reach p rows k = record { each = λ u v. (λ t. (k.rows.reach u v).0 (edge_in rows.edges (u, v) t), λ r. has_contained rows.edges (u, v) ((k.rows.reach u v).1 r)) }
@@ -40,6 +32,9 @@ is_proper p rows k = record {
   acyclic = k.reduced.acyclic;
   unrefuted = k.reduced.unrefuted;
 }
+
+pub proper_rest : (r : Remainder) → IsRest r.poly r.rows → IsProperRest r
+proper_rest r k = record { proper = is_proper r.poly r.rows k; reach = is_reach r.poly r.rows k }
 
 pub is_strict : (p : Polygraph) (rows : Graph) → IsRest p rows → IsStrict (is_listed rows.edges)
 is_strict p rows k =

@@ -3,6 +3,7 @@ use Rattle.std.proofs.Common.{◌≡◌, ◌≢◌, inl, inr, refl, sym, ap, ◌
 use Rattle.std.specs.Prelude.{map}
 use Rattle.std.specs.List.{filter, list_any}
 use Rattle.std.proofs.lemmas.Bool.{cases_Bool, cases_order, false≢true, or_parts, and_parts, not-true, lt-ltb, le-ltb}
+use Rattle.std.proofs.lemmas.List.{length-append}
 use Rattle.serializability.specs.declared.literal.Literal.{Literal}
 use Rattle.serializability.specs.Polygraph.{Edge}
 use Rattle.serializability.specs.Pairs.{is_free, edge_literal, edge_clause, pair_place}
@@ -102,16 +103,27 @@ pub edge_clause_is : (r : Relation) (es : List Edge) → edge_clause (known_in r
 unfolding clause_of
 edge_clause_is r es = both (list_any (λ (e : Edge). known_in r e.0 e.1) es) (list_any is_true (terms r es)) _ _ (any_same r es) (λ h. sym (lits r es h))
 
-pub triple_is : (r : Relation) (i j k : ℕ) (a b c d e f : Term) (x y : Option Clause) → a ≡ term_of r j i → b ≡ term_of r k j → c ≡ term_of r i k → d ≡ term_of r i j → e ≡ term_of r j k → f ≡ term_of r k i
-    → given x ≡ clause_of (a ∷ b ∷ c ∷ []) → given y ≡ clause_of (d ∷ e ∷ f ∷ []) → given x ++ given y ≡ clauses_at r (i, j, k)
-triple_is r i j k a b c d e f x y ea eb ec ed ee ef ex ey =
+triple_of : (r : Relation) (i j k : ℕ) (a b c d e f : Term) → a ≡ term_of r j i → b ≡ term_of r k j → c ≡ term_of r i k → d ≡ term_of r i j → e ≡ term_of r j k → f ≡ term_of r k i
+    → clause_of (a ∷ b ∷ c ∷ []) ++ clause_of (d ∷ e ∷ f ∷ []) ≡ clauses_at r (i, j, k)
+triple_of r i j k a b c d e f ea eb ec ed ee ef =
     let first : clause_of (a ∷ b ∷ c ∷ []) ≡ edge_clause (known_in r) (pairs_in r) ((j, i) ∷ (k, j) ∷ (i, k) ∷ []) =
     ap (λ t. clause_of (t ∷ b ∷ c ∷ [])) ea ∙ ap (λ t. clause_of (term_of r j i ∷ t ∷ c ∷ [])) eb ∙ ap (λ t. clause_of (term_of r j i ∷ term_of r k j ∷ t ∷ [])) ec
     ∙ sym (edge_clause_is r ((j, i) ∷ (k, j) ∷ (i, k) ∷ [])) in
     let second : clause_of (d ∷ e ∷ f ∷ []) ≡ edge_clause (known_in r) (pairs_in r) ((i, j) ∷ (j, k) ∷ (k, i) ∷ []) =
     ap (λ t. clause_of (t ∷ e ∷ f ∷ [])) ed ∙ ap (λ t. clause_of (term_of r i j ∷ t ∷ f ∷ [])) ee ∙ ap (λ t. clause_of (term_of r i j ∷ term_of r j k ∷ t ∷ [])) ef
     ∙ sym (edge_clause_is r ((i, j) ∷ (j, k) ∷ (k, i) ∷ [])) in
-    ap (λ l. l ++ given y) (ex ∙ first) ∙ ap (λ l. edge_clause (known_in r) (pairs_in r) ((j, i) ∷ (k, j) ∷ (i, k) ∷ []) ++ l) (ey ∙ second)
+    ap (λ l. l ++ clause_of (d ∷ e ∷ f ∷ [])) first ∙ ap (λ l. edge_clause (known_in r) (pairs_in r) ((j, i) ∷ (k, j) ∷ (i, k) ∷ []) ++ l) second
+
+pub triple_number : (r : Relation) (i j k m n : ℕ) (a b c d e f : Term) → a ≡ term_of r j i → b ≡ term_of r k j → c ≡ term_of r i k → d ≡ term_of r i j → e ≡ term_of r j k → f ≡ term_of r k i
+    → m ≡ length (clause_of (a ∷ b ∷ c ∷ [])) → n ≡ length (clause_of (d ∷ e ∷ f ∷ [])) → m + n ≡ length (clauses_at r (i, j, k))
+triple_number r i j k m n a b c d e f ea eb ec ed ee ef em en =
+    ap (λ x. x + n) em ∙ ap (λ x. length (clause_of (a ∷ b ∷ c ∷ [])) + x) en
+    ∙ sym (length-append (clause_of (a ∷ b ∷ c ∷ [])) (clause_of (d ∷ e ∷ f ∷ []))) ∙ ap length (triple_of r i j k a b c d e f ea eb ec ed ee ef)
+
+pub triple_is : (r : Relation) (i j k : ℕ) (a b c d e f : Term) (x y : Option Clause) → a ≡ term_of r j i → b ≡ term_of r k j → c ≡ term_of r i k → d ≡ term_of r i j → e ≡ term_of r j k → f ≡ term_of r k i
+    → given x ≡ clause_of (a ∷ b ∷ c ∷ []) → given y ≡ clause_of (d ∷ e ∷ f ∷ []) → given x ++ given y ≡ clauses_at r (i, j, k)
+triple_is r i j k a b c d e f x y ea eb ec ed ee ef ex ey =
+    ap (λ l. l ++ given y) ex ∙ ap (λ l. clause_of (a ∷ b ∷ c ∷ []) ++ l) ey ∙ triple_of r i j k a b c d e f ea eb ec ed ee ef
 
 false_term : (r : Relation) (u v : ℕ) → term_of r u v ≡ term.False → known_in r v u ≡ true
 false_term r u v h = false_when (known_in r u v) (known_in r v u) (edge_literal (pairs_in r) u v) h
@@ -205,6 +217,18 @@ turned_between r low high false true s z e ne =
 turned_between r low high true false s z e ne =
     sym (when_turned (known_in r high low) (known_in r low high) (edge_literal (pairs_in r) high low) (apart_known r s low high (sym e)) (sym e))
 
+pub open_up : (r : Relation) (low high variable : ℕ) → low < high → variable ≡ variable_of r low high → variable ≢ 0 → term.Open (record { variable = variable; positive = true }) ≡ term_of r low high
+open_up r low high variable lt e ne = open_between r low high variable true lt e ne
+
+pub open_down : (r : Relation) (low high variable : ℕ) → low < high → variable ≡ variable_of r low high → variable ≢ 0 → term.Open (record { variable = variable; positive = false }) ≡ term_of r high low
+open_down r low high variable lt e ne = open_between r low high variable false lt e ne
+
+pub known_up : (r : Relation) (low high : ℕ) → IsStrict (known_in r) → variable_of r low high ≡ 0 → true ≡ known_in r low high → (term.True ≡ term_of r low high) × (term.False ≡ term_of r high low)
+known_up r low high s z e = (known_between r low high true true s z e refl, turned_between r low high true false s z e (λ h. false≢true (sym h)))
+
+pub known_back : (r : Relation) (low high : ℕ) → IsStrict (known_in r) → variable_of r low high ≡ 0 → false ≡ known_in r low high → (term.False ≡ term_of r low high) × (term.True ≡ term_of r high low)
+known_back r low high s z e = (turned_between r low high false true s z e (λ h. false≢true h), known_between r low high false false s z e refl)
+
 -- ---- a literal's variable is one of the pairs'
 free_from : (a b : Bool) → a ≡ false → b ≡ false → (not a && not b) ≡ true
 free_from true b h k = absurd (false≢true (sym h))
@@ -259,3 +283,26 @@ by_same e x h = rw h refl
 
 pub before_same : (r : Relation) (values : List Bool) (u v : ℕ) → u ≡ v → false ≡ is_before (known_in r) (pairs_in r) values u v
 before_same r values u v e = by_same (eqb u v) _ (eq-eqb u v e)
+
+-- ---- how many clauses a triple has
+empty_when : (b : Bool) (l : List Literal) → b ≡ true → 0 ≡ length (cond b [] (l ∷ []))
+empty_when true l h = refl
+empty_when false l h = absurd (false≢true h)
+
+one_when : (b : Bool) (l : List Literal) → b ≡ false → 1 ≡ length (cond b [] (l ∷ []))
+one_when true l h = absurd (false≢true (sym h))
+one_when false l h = refl
+
+any_three : (x y z t : Bool) → ((x || y) || z) ≡ t → (x || (y || (z || false))) ≡ t
+any_three true y z t h = h
+any_three false true z t h = h
+any_three false false true t h = h
+any_three false false false t h = h
+
+pub no_clause : (a b c : Term) → ((is_true a || is_true b) || is_true c) ≡ true → 0 ≡ length (clause_of (a ∷ b ∷ c ∷ []))
+unfolding clause_of
+no_clause a b c h = empty_when (list_any is_true (a ∷ b ∷ c ∷ [])) (literals_in (a ∷ b ∷ c ∷ [])) (any_three (is_true a) (is_true b) (is_true c) true h)
+
+pub one_clause : (a b c : Term) → ((is_true a || is_true b) || is_true c) ≡ false → 1 ≡ length (clause_of (a ∷ b ∷ c ∷ []))
+unfolding clause_of
+one_clause a b c h = one_when (list_any is_true (a ∷ b ∷ c ∷ [])) (literals_in (a ∷ b ∷ c ∷ [])) (any_three (is_true a) (is_true b) (is_true c) false h)

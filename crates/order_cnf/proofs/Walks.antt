@@ -1,9 +1,9 @@
 -- What is left of a walk over all triples of nodes.
-use Rattle.std.proofs.Common.{◌≡◌, inl, inr, refl, sym, ap, ◌∙◌, ℕ, suc, ◌+◌, ◌-◌, ◌<◌, ◌≤◌, Option, None, Some, false, List, [], ◌∷◌, ◌++◌, arith}
+use Rattle.std.proofs.Common.{◌≡◌, inl, inr, refl, sym, ap, ◌∙◌, ℕ, suc, ◌+◌, ◌-◌, ◌<◌, ◌≤◌, Option, None, Some, false, List, [], ◌∷◌, ◌++◌, length, arith}
 use Rattle.std.specs.Prelude.{map, is_some}
 use Rattle.std.specs.List.{flat_map, range_with_len}
 use Rattle.std.proofs.lemmas.Bool.{cases_order, false≢true}
-use Rattle.std.proofs.lemmas.List.{map-append, append_assoc}
+use Rattle.std.proofs.lemmas.List.{map-append, append_assoc, length-append}
 use Rattle.std.proofs.lemmas.List.Concat.{flat_map-append}
 use Rattle.serializability.specs.declared.literal.Literal.{Literal}
 use Rattle.serializability.specs.Pairs.{pairs_of, triples_of}
@@ -119,6 +119,31 @@ no_more r end i j k e hk hj hi =
     ap (λ l. l ++ (of_two r i (up_to (j + 1) (r.nodes + 1)) ++ of_three r (up_to (i + 1) (r.nodes + 1)))) (none_of_one r i j (up_to k (r.nodes + 1)) (up_to_last k (r.nodes + 1) (omega (arith, e))))
     ∙ ap (λ l. l ++ of_three r (up_to (i + 1) (r.nodes + 1))) (none_of_two r i (up_to (j + 1) (r.nodes + 1)) (up_to_last (j + 1) (r.nodes + 1) (omega (arith, e))))
     ∙ none_of_three r (up_to (i + 1) (r.nodes + 1)) (up_to_last (i + 1) (r.nodes + 1) (omega (arith, e)))
+
+-- ---- how many are left
+pub row_left : (r : Relation) (i j k : ℕ) → length (cursor_left r (record { first = i; second = j; third = k }))
+    ≡ length (of_one r i j (up_to k (r.nodes + 1))) + length (cursor_left r (record { first = i; second = j; third = r.nodes + 1 }))
+unfolding cursor_left
+row_left r i j k =
+    let one = of_one r i j (up_to k (r.nodes + 1)) in
+    let rest = of_two r i (up_to (j + 1) (r.nodes + 1)) ++ of_three r (up_to (i + 1) (r.nodes + 1)) in
+    length-append one rest
+    ∙ sym (ap (λ l. length one + length (l ++ rest)) (none_of_one r i j (up_to (r.nodes + 1) (r.nodes + 1)) (up_to_last (r.nodes + 1) (r.nodes + 1) (omega arith))))
+
+pub triple_left : (r : Relation) (i j k end : ℕ) → end ≡ r.nodes + 1 → k < end → length (of_one r i j (up_to k (r.nodes + 1))) ≡ length (clauses_at r (i, j, k)) + length (of_one r i j (up_to (k + 1) (r.nodes + 1)))
+triple_left r i j k end e lt =
+    ap length (first_of_one r i j k (up_to k (r.nodes + 1)) (up_to (k + 1) (r.nodes + 1)) (up_to_first k (r.nodes + 1) (omega (arith, e, lt))))
+    ∙ length-append (clauses_at r (i, j, k)) (of_one r i j (up_to (k + 1) (r.nodes + 1)))
+
+pub row_counted : (r : Relation) (i j k end row left count all : ℕ) → end ≡ r.nodes + 1 → row ≡ length (of_one r i j (up_to k (r.nodes + 1))) → length (cursor_left r (record { first = i; second = j; third = k })) ≡ left → count + left ≡ all
+    → count + row + length (cursor_left r (record { first = i; second = j; third = end })) ≡ all
+row_counted r i j k end row left count all e er el ea =
+    let same : length (cursor_left r (record { first = i; second = j; third = end })) ≡ length (cursor_left r (record { first = i; second = j; third = r.nodes + 1 })) =
+    ap (λ n. length (cursor_left r (record { first = i; second = j; third = n }))) e in
+    omega (arith, row_left r i j k, same, er, el, ea)
+
+pub row_done : (r : Relation) (i j k : ℕ) → r.nodes + 1 ≤ k → length (of_one r i j (up_to k (r.nodes + 1))) ≡ 0
+row_done r i j k h = ap length (none_of_one r i j (up_to k (r.nodes + 1)) (up_to_last k (r.nodes + 1) h))
 
 -- ---- the clauses of a triple, where it has them
 pub pair_first : (r : Relation) (i j k : ℕ) (a b : Option Clause) (start : List (List Literal)) → given a ++ given b ≡ clauses_at r (i, j, k) → k < r.nodes + 1 → cursor_left r (record { first = i; second = j; third = k }) ≡ start

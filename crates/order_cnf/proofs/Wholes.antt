@@ -1,9 +1,9 @@
 -- The clauses of whole formulas are those of their definitions.
 use Rattle.std.proofs.Common.{◌≡◌, refl, sym, ap, ◌∙◌, subst, ℕ, suc, ◌+◌, ◌-◌, ◌||◌, Bool, true, false, not, List, [], ◌∷◌, ◌++◌, length, drop, arith}
-use Rattle.std.specs.Prelude.{map, Some, is_some}
+use Rattle.std.specs.Prelude.{map, Option, None, Some, is_some, IfSome}
 use Rattle.std.specs.List.{flat_map, range_with_len, AllByRecursion}
 use Rattle.std.proofs.lemmas.Bool.{false≢true}
-use Rattle.std.proofs.lemmas.List.{append_assoc}
+use Rattle.std.proofs.lemmas.List.{append_assoc, length-append, length-map}
 use Rattle.std.proofs.Math.Seq.{take-append_seam, drop-append_seam}
 use Rattle.serializability.specs.declared.literal.Literal.{Literal}
 use Rattle.serializability.specs.Polygraph.{Edge, Choice, Polygraph}
@@ -14,7 +14,7 @@ use Rattle.serializability.specs.Plain.{nothing_known, plain_nodes, plain_pairs,
 use Rattle.order_laws.specs.Reduced.{reduced, choice_clauses, side_clauses, order_nodes}
 use Rattle.order_cnf.specs.Bipaths.{IsBipath}
 use Rattle.order_cnf.specs.Tables.{Relation, known_in, pairs_in}
-use Rattle.order_cnf.specs.Streams.{units_of, bipaths_of, of_three, sides_after, turned, IsUnturned, IsFreeBipath}
+use Rattle.order_cnf.specs.Streams.{units_of, bipaths_of, of_three, sides_after, last_variable, up_to, turned, IsUnturned, IsFreeBipath}
 use Rattle.order_cnf.specs.Layouts.{clauses_in}
 use Rattle.order_cnf.specs.declared.fault.CnfFault.{CnfFault}
 use Rattle.order_cnf.specs.Limits.{size_fault}
@@ -169,3 +169,21 @@ free_bipaths r n (c ∷ choices) nodes known h = (record { bipath = subst (λ m.
 
 pub no_edges : (r : Relation) (edges : List Edge) → edges ≡ [] → AllByRecursion (IsUnturned r) edges
 no_edges r edges e = subst (AllByRecursion (IsUnturned r)) (sym e) tt
+
+-- ---- how many clauses there are
+pub clause_number : (r : Relation) (start : ℕ) (units : List Literal) (bs : List Choice) (es : List Edge) (cs : List ℕ)
+    → length (clauses_in r start units bs es cs) ≡ length units + (length bs + (length (of_three r (up_to start (r.nodes + 1))) + length (sides_after r (last_variable r) es cs)))
+unfolding clauses_in units_of bipaths_of
+clause_number r start units bs es cs =
+    let threes = of_three r (up_to start (r.nodes + 1)) in
+    let sides = sides_after r (last_variable r) es cs in
+    let one : Literal → List Literal = λ l. l ∷ [] in
+    let two : Choice → List Literal = λ c. map (λ e. edge_literal (pairs_in r) e.0 e.1) (c.one ++ c.two) in
+    length-append (map one units) (map two bs ++ (threes ++ sides))
+    ∙ ap (λ n. n + length (map two bs ++ (threes ++ sides))) (length-map units one)
+    ∙ ap (λ n. length units + n) (length-append (map two bs) (threes ++ sides) ∙ ap (λ n. n + length (threes ++ sides)) (length-map bs two)
+    ∙ ap (λ n. length bs + n) (length-append threes sides))
+
+pub some_weaker : {X : Type 0} (o : Option X) (P Q : X → Type 0) → ((x : X) → P x → Q x) → IfSome o P → IfSome o Q
+some_weaker None P Q f h = tt
+some_weaker (Some x) P Q f h = f x h

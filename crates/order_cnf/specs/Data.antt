@@ -5,12 +5,14 @@ use Rattle.serializability.specs.declared.literal.Literal.{Literal}
 use Rattle.serializability.specs.Pairs.{Known}
 use Rattle.serializability.specs.Formula.{Cnf, clause_true}
 
--- `known` lists the pairs (u, v) of which it is known that u stands before v
+-- `known` lists the pairs (u, v) of which it is known that u stands before v, and `choices` counts the choices that the formula is
+-- made of
 pub record FormulaData : Type 0 where
   pub nodes : ℕ
   pub known : List (ℕ × ℕ)
   pub variables : ℕ
   pub clauses : List (List Literal)
+  pub choices : ℕ
 
 abbrev pub is_listed : List (ℕ × ℕ) → Known
 is_listed pairs u v = list_any (λ p. (p.0 == u) && (p.1 == v)) pairs

@@ -7,7 +7,7 @@ use Rattle.order_cnf.specs.Shapes.{data_with, cnf_with}
 use Rattle.order_cnf.specs.declared.formula.Formula.TheInside.{Inside}
 
 abbrev pub data_of : Inside → FormulaData
-data_of f = data_with f.layout f.variables
+data_of f = data_with f.layout f.variables f.choices
 
 pub record IsHeld (f : Inside) : Type 0 where
   pub formula : IsFormula (cnf_with f.layout f.variables)

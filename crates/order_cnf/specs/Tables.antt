@@ -9,6 +9,7 @@ use Rattle.order_cnf.specs.declared.term.Term.TheVariants as term
 use Rattle.order_cnf.specs.declared.clause.Clause.{Clause}
 use Rattle.order_cnf.specs.Clauses.{literals}
 use Rattle.order_cnf.specs.Data.{is_listed}
+use Rattle.serializability.specs.declared.node.TheConstants.{MAX_NODES}
 
 -- nodes 0 to `nodes`, and the pairs (u, v) of which it is known that u stands before v
 pub record Relation : Type 0 where
@@ -44,7 +45,7 @@ variable_of r u v = if is_free (known_in r) (u, v) then suc (pair_place (pairs_i
 
 -- a table of these variables, row by row
 pub record IsTable (r : Relation) (table : List ℕ) : Type 0 where
-  pub few : r.nodes ≤ 400
+  pub few : r.nodes ≤ MAX_NODES
   pub strict : IsStrict (known_in r)
   pub places : length table ≡ (r.nodes + 1) * (r.nodes + 1)
   pub entry : (u v : ℕ) → u < v → v ≤ r.nodes → slice_index_or table (u * (r.nodes + 1) + v) 0 ≡ variable_of r u v

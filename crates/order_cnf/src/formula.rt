@@ -8,17 +8,16 @@ ghost use Rattle.order_cnf.specs.Data.{cnf_of, IsFirstFalse};
 ghost use Rattle.order_cnf.specs.Limits.{size_fault};
 ghost use Rattle.order_cnf.specs.Shapes.{data_with, cnf_with};
 ghost use Rattle.order_cnf.specs.Tables.{pairs_in};
+ghost use Rattle.serializability.specs.declared.literal.TheConstants.{MAX_CLAUSES};
+ghost use Rattle.serializability.specs.declared.node.TheConstants.{MAX_NODES};
 
 use crate::clause::clause_is_true;
 use crate::fault::CnfFault;
 use crate::layout::{Clauses, Layout};
 use crate::relation::Relation;
-use serializability::{Literal, NodeIx};
+use serializability::{Literal, MAX_CLAUSES, NodeIx};
 use std::alloc::Global;
 use std::marker::Model;
-
-// The greatest number of clauses.
-const MAX_CLAUSES: usize = 20_000_000;
 
 /// A formula over the order of nodes 0 to n, in clauses of one to three literals, each of which is made when it is asked for.
 ///
@@ -29,6 +28,8 @@ pub struct Formula {
     layout: Layout,
     variables: u32,
     count: usize,
+    /// How many choices it is made of.
+    choices: usize,
 }
 
 impl Model for Formula {
@@ -44,12 +45,12 @@ impl Model for Formula {
 }
 
 impl Formula {
-    /// The formula of these clauses and so many variables, where there are at most 20,000,000 clauses.
-    pub(crate) fn of(layout: Layout, variables: u32) -> Result<Formula, CnfFault>
-        requires sound { length layout.clauses ≤ 20000000 → IsFormula (cnf_with layout variables) }
+    /// The formula of these clauses and so many variables and choices, where there are at most 20,000,000 clauses.
+    pub(crate) fn of(layout: Layout, variables: u32, choices: usize) -> Result<Formula, CnfFault>
+        requires sound { length layout.clauses ≤ MAX_CLAUSES → IsFormula (cnf_with layout variables) }
         requires numbered { length (pairs_in layout.relation) ≤ variables }
         requires few { variables ≤ 180200 }
-        ensures formula { IfOk result (λ f. f ≡ data_with layout variables) }
+        ensures formula { IfOk result (λ f. f ≡ data_with layout variables choices) }
         ensures fits { IfOk result (λ _. size_fault (cnf_with layout variables) ≡ None) }
         ensures fault { IfErr result (λ e. size_fault (cnf_with layout variables) ≡ Some e) }
     {
@@ -60,13 +61,14 @@ impl Formula {
             layout,
             variables,
             count,
+            choices,
         })
     }
 
     /// The number of nodes, n, beside node 0.
     pub fn nodes(&self) -> usize
         ensures count { result ≡ self.now.nodes }
-        ensures few { result ≤ 400 }
+        ensures few { result ≤ MAX_NODES }
         ensures sound { IsFormula (cnf_of self.now) }
     {
         let _variables = self.variables;
@@ -84,9 +86,17 @@ impl Formula {
     /// The number of clauses.
     pub fn count(&self) -> usize
         ensures count { result ≡ length self.now.clauses }
-        ensures few { result ≤ 20000000 }
+        ensures few { result ≤ MAX_CLAUSES }
     {
         self.count
+    }
+
+    /// How many choices the formula is made of: the bipaths of a plain formula, the open choices of a reduced one, and none of
+    /// the contradiction.
+    pub fn choices(&self) -> usize
+        ensures count { result ≡ self.now.choices }
+    {
+        self.choices
     }
 
     /// The clauses, in order.
@@ -130,6 +140,7 @@ impl Formula {
 /// A formula that no assignment satisfies, of one variable and no node beside node 0.
 pub fn contradiction(alloc: Global) -> Result<Formula, CnfFault>
     ensures formula { IfOk result (λ f. cnf_of f ≡ spec.contradiction) }
+    ensures choices { IfOk result (λ f. f.choices ≡ 0) }
     ensures fault { IfErr result (λ e. e ≡ CnfFault.Memory) }
 {
     let literal = Literal {
@@ -149,5 +160,5 @@ pub fn contradiction(alloc: Global) -> Result<Formula, CnfFault>
         Vec::new(alloc),
         Vec::new(alloc),
     );
-    Formula::of(layout, 1)
+    Formula::of(layout, 1, 0)
 }

@@ -1,6 +1,6 @@
 //! What a formula is made of, and its clauses, each made when it is asked for.
 
-ghost use Rattle.std.specs.Prelude.{◌≡◌, ◌↔◌, ◌<◌, ◌≤◌, ◌∷◌, [], length, map, IfSome, IsSome};
+ghost use Rattle.std.specs.Prelude.{◌≡◌, ◌↔◌, ◌+◌, ◌<◌, ◌≤◌, ◌∷◌, [], length, map, IfSome, IsSome};
 ghost use Rattle.std.specs.Iterator.{YieldsFirstBy, item_count};
 ghost use Rattle.polygraph.specs.Polygraphs.{Joins};
 ghost use Rattle.serializability.specs.Pairs.{edge_literal};
@@ -9,12 +9,13 @@ ghost use Rattle.order_cnf.specs.Clauses.{literals};
 ghost use Rattle.order_cnf.specs.Tables.{pairs_in};
 ghost use Rattle.order_cnf.specs.Streams.{IsFreeBipath, bipaths_of};
 ghost use Rattle.order_cnf.specs.Layouts.{IsLayout, clauses_in};
+ghost use Rattle.serializability.specs.declared.literal.TheConstants.{MAX_CLAUSES};
 
 use crate::clause::Clause;
 use crate::relation::Relation;
 use crate::sides::Sides;
 use crate::term::Term;
-use crate::triples::Triples;
+use crate::triples::{Triples, count_triples};
 use polygraph::Choice;
 use reach_laws::Edge;
 use serializability::Literal;
@@ -66,6 +67,19 @@ fn side_literal(relation: &Relation, side: &[Edge]) -> Literal
     ensures value { result ∷ [] ≡ map (λ e. edge_literal (pairs_in relation.now) e.0 e.1) side.now }
 {
     free_literal(relation, side[0])
+}
+
+/// A sum, where it is at most so many.
+fn added(count: usize, more: usize, most: usize) -> Option<usize>
+    requires within { count ≤ most }
+    ensures some { IfSome result (λ n. n ≡ count + more) }
+    ensures none { IsSome result ↔ (count + more ≤ most) }
+{
+    if more > most - count {
+        None
+    } else {
+        Some(count + more)
+    }
 }
 
 /// The clause of a bipath.
@@ -131,18 +145,25 @@ impl Layout {
 
     /// How many clauses there are, where they are at most so many.
     pub(crate) fn count(&self, most: usize) -> Option<usize>
-        requires few { most ≤ 20000000 }
+        requires few { most ≤ MAX_CLAUSES }
         ensures some { IfSome result (λ n. n ≡ length self.now.clauses) }
         ensures none { IsSome result ↔ (length self.now.clauses ≤ most) }
     {
-        let mut count = 0;
-        for _clause in self.clauses() {
-            if count == most {
-                return None;
-            }
-            count += 1;
-        }
-        Some(count)
+        let Some(triples) = count_triples(&self.relation, self.start, most) else {
+            return None;
+        };
+        let Some(more) = added(triples, self.units.len(), most) else {
+            return None;
+        };
+        let Some(count) = added(more, self.bipaths.len(), most) else {
+            return None;
+        };
+        let sides = Sides::new(
+            &self.relation,
+            self.edges.as_slice(),
+            self.counts.as_slice(),
+        );
+        sides.count_after(count, most)
     }
 }
 

@@ -1,8 +1,9 @@
 //! The plain formula of a history.
 
-ghost use Rattle.std.specs.Prelude.{◌≡◌, [], map, None, IfOk, IfErr};
+ghost use Rattle.std.specs.Prelude.{◌≡◌, [], length, map, None, IfOk, IfErr};
 ghost use Rattle.std.specs.List.{AllByRecursion};
 ghost use Rattle.serializability.specs.Reads.{IsClean};
+ghost use Rattle.serializability.specs.Polygraph.{bipaths};
 ghost use Rattle.serializability.specs.Pairs as spec;
 ghost use Rattle.serializability.specs.Plain.{plain, plain_of};
 ghost use Rattle.log_definitions.specs.Numbers.{log_of};
@@ -16,10 +17,10 @@ use crate::fault::CnfFault;
 use crate::formula::Formula;
 use crate::layout::{Layout, free_literal};
 use crate::relation::Relation;
-use history::History;
 use polygraph::{Polygraph, bipaths};
 use reach_laws::Edge;
 use serializability::Literal;
+use session_history::History;
 use std::alloc::{AllocError, Global};
 
 /// The greatest number of committed transactions for a plain formula.
@@ -46,12 +47,14 @@ fn arc_literals(
 fn formula_of(alloc: Global, polygraph: Polygraph) -> Result<Formula, CnfFault>
     requires plain { HasPlain polygraph }
     ensures formula { IfOk result (λ f. cnf_of f ≡ plain_of polygraph) }
+    ensures choices { IfOk result (λ f. f.choices ≡ length polygraph.choices) }
     ensures fits { IfOk result (λ _. size_fault (plain_of polygraph) ≡ None) }
     ensures fault { IfErr result (λ e. IsFault e (size_fault (plain_of polygraph))) }
 {
     let relation = Relation::unknown(alloc, polygraph.nodes())?;
     let variables = relation.variables();
     let (known, bipaths) = polygraph.into_parts();
+    let choices = bipaths.len();
     let units = arc_literals(alloc, &relation, &known.edges(alloc)?)?;
     let layout = Layout::new(
         relation,
@@ -61,7 +64,7 @@ fn formula_of(alloc: Global, polygraph: Polygraph) -> Result<Formula, CnfFault>
         Vec::new(alloc),
         Vec::new(alloc),
     );
-    Formula::of(layout, variables)
+    Formula::of(layout, variables, choices)
 }
 
 /// The plain formula of a clean history: a variable for each pair of nodes, and a clause for each arc,
@@ -73,6 +76,7 @@ fn formula_of(alloc: Global, polygraph: Polygraph) -> Result<Formula, CnfFault>
 pub fn plain_formula(alloc: Global, history: &History) -> Result<Formula, CnfFault>
     requires clean { IsClean (log_of history.now) }
     ensures formula { IfOk result (λ f. cnf_of f ≡ plain (log_of history.now)) }
+    ensures choices { IfOk result (λ f. f.choices ≡ length (bipaths (log_of history.now))) }
     ensures fits { IfOk result (λ _. plain_fault (log_of history.now) ≡ None) }
     ensures fault { IfErr result (λ e. IsFault e (plain_fault (log_of history.now))) }
 {

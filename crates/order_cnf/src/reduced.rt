@@ -3,7 +3,7 @@
 ghost use Rattle.std.specs.Prelude.{◌≡◌, ◌∷◌, ◌++◌, [], length, None, IfOk, IfErr, OnOk};
 ghost use Rattle.std.specs.List.{flat_map};
 ghost use Rattle.order_cnf.specs.Data.{cnf_of};
-ghost use Rattle.order_cnf.specs.Left.{formula_left, formula_of_rest};
+ghost use Rattle.order_cnf.specs.Left.{choices_left, formula_left, formula_of_rest, IsLawful, IsProperRest, IsRest};
 ghost use Rattle.order_cnf.specs.Limits.{size_fault, IsFault};
 
 use crate::fault::CnfFault;
@@ -61,12 +61,24 @@ fn sides_of(alloc: Global, choices: &[Choice]) -> Result<Sides, AllocError>
     Ok(sides)
 }
 
+/// What pruning leaves is proper, and its rows say what reaches what.
+fn left_is_proper(reduced: &Reduced)
+    ensures rest { IsRest reduced.now.poly reduced.now.rows }
+    ensures proper { IsProperRest reduced.now }
+{
+    let _nodes = reduced.poly().nodes();
+    let _rows = reduced.rows();
+}
+
 /// The formula of what pruning leaves open.
 fn formula_of_open(alloc: Global, reduced: &Reduced) -> Result<Formula, CnfFault>
     ensures formula { IfOk result (λ f. cnf_of f ≡ formula_of_rest reduced.now) }
+    ensures choices { IfOk result (λ f. f.choices ≡ length reduced.now.poly.choices) }
+    ensures proper { IsProperRest reduced.now }
     ensures fits { IfOk result (λ _. size_fault (formula_of_rest reduced.now) ≡ None) }
     ensures fault { IfErr result (λ e. IsFault e (size_fault (formula_of_rest reduced.now))) }
 {
+    left_is_proper(reduced);
     let polygraph = reduced.poly();
     let choices = polygraph.choices();
     let rows = reduced.rows().copy(alloc)?;
@@ -74,7 +86,7 @@ fn formula_of_open(alloc: Global, reduced: &Reduced) -> Result<Formula, CnfFault
     let variables = relation.variables() + choices.len() as u32;
     let Sides { edges, counts } = sides_of(alloc, choices)?;
     let layout = Layout::new(relation, 1, Vec::new(alloc), Vec::new(alloc), edges, counts);
-    Formula::of(layout, variables)
+    Formula::of(layout, variables, choices.len())
 }
 
 /// The reduced formula of what pruning leaves of a polygraph: a variable for each pair of nodes of which neither reaches the
@@ -83,6 +95,8 @@ fn formula_of_open(alloc: Global, reduced: &Reduced) -> Result<Formula, CnfFault
 /// Its satisfying assignments stand for the orders that fit. There is none of more than 20,000,000 clauses.
 pub fn reduced_formula(alloc: Global, pruned: &Pruned) -> Result<Formula, CnfFault>
     ensures formula { IfOk result (λ f. cnf_of f ≡ formula_left pruned.now) }
+    ensures choices { IfOk result (λ f. f.choices ≡ choices_left pruned.now) }
+    ensures lawful { IsLawful pruned.now }
     ensures fits { IfOk result (λ _. size_fault (formula_left pruned.now) ≡ None) }
     ensures fault { IfErr result (λ e. IsFault e (size_fault (formula_left pruned.now))) }
 {

@@ -1,12 +1,13 @@
 //! What is known of each pair of nodes: which comes first, or the variable that says it.
 
-ghost use Rattle.std.specs.Prelude.{◌≡◌, ◌≢◌, ◌<◌, ◌≤◌, [], length, if◌then◌else◌, IfOk};
+ghost use Rattle.std.specs.Prelude.{◌≡◌, ◌≢◌, ◌<◌, ◌≤◌, true, false, [], length, IfOk};
 ghost use Rattle.serializability.specs.declared.literal.Literal.{Literal};
 ghost use Rattle.serializability.specs.Pairs.{is_free};
 ghost use Rattle.serializability.specs.Decoded.{is_before};
 ghost use Rattle.order_cnf.specs.Clauses.{IsWithin};
 ghost use Rattle.order_cnf.specs.Data.{is_listed};
 ghost use Rattle.order_cnf.specs.Tables.{Relation as Data, IsStrict, IsTable, known_in, pairs_in, rows_known, term_of};
+ghost use Rattle.serializability.specs.declared.node.TheConstants.{MAX_NODES};
 
 use crate::clause::literal_is_true;
 use crate::term::Term;
@@ -43,7 +44,7 @@ impl Model for Relation {
 
 /// The node with this number.
 fn node(number: usize) -> NodeIx
-    requires few { number ≤ 400 }
+    requires few { number ≤ MAX_NODES }
     ensures value { result ≡ number }
 {
     NodeIx::new(number).unwrap()
@@ -51,7 +52,7 @@ fn node(number: usize) -> NodeIx
 
 /// Whether these rows say that u stands before v.
 fn is_known(rows: &Option<Rows>, u: usize, v: usize) -> bool
-    requires few { (u ≤ 400) × (v ≤ 400) }
+    requires few { (u ≤ MAX_NODES) × (v ≤ MAX_NODES) }
     ensures value { result ≡ is_listed (rows_known rows.now) u v }
 {
     match rows {
@@ -62,7 +63,7 @@ fn is_known(rows: &Option<Rows>, u: usize, v: usize) -> bool
 
 /// Whether these rows say nothing of the two nodes.
 fn is_free(rows: &Option<Rows>, u: usize, v: usize) -> bool
-    requires few { (u ≤ 400) × (v ≤ 400) }
+    requires few { (u ≤ MAX_NODES) × (v ≤ MAX_NODES) }
     ensures value { result ≡ is_free (is_listed (rows_known rows.now)) (u, v) }
 {
     !is_known(rows, u, v) && !is_known(rows, v, u)
@@ -77,7 +78,7 @@ struct Numbering {
 
 /// Numbers the pairs of which these rows say nothing.
 fn number_pairs(alloc: Global, nodes: usize, rows: &Option<Rows>) -> Result<Numbering, AllocError>
-    requires few { nodes ≤ 400 }
+    requires few { nodes ≤ MAX_NODES }
     ensures table { IfOk result (λ m. (r : Data) → r ≡ record { nodes = nodes; known = rows_known rows.now } →
         IsStrict (known_in r) → IsTable r m.table.items) }
     ensures count { IfOk result (λ m. (r : Data) → r ≡ record { nodes = nodes; known = rows_known rows.now } →
@@ -97,10 +98,30 @@ fn number_pairs(alloc: Global, nodes: usize, rows: &Option<Rows>) -> Result<Numb
     Ok(Numbering { table, variables })
 }
 
+/// This variable says it.
+fn up(variable: u32) -> Term
+    ensures value { result ≡ Term.Open (record { variable = variable; positive = true }) }
+{
+    Term::Open(Literal {
+        variable,
+        positive: true,
+    })
+}
+
+/// This variable says the opposite.
+fn down(variable: u32) -> Term
+    ensures value { result ≡ Term.Open (record { variable = variable; positive = false }) }
+{
+    Term::Open(Literal {
+        variable,
+        positive: false,
+    })
+}
+
 impl Relation {
     /// Of no pair of nodes 0 to n it is known which comes first.
     pub(crate) fn unknown(alloc: Global, nodes: usize) -> Result<Relation, AllocError>
-        requires few { nodes ≤ 400 }
+        requires few { nodes ≤ MAX_NODES }
         ensures relation { IfOk result (λ r. r ≡ record { nodes = nodes; known = [] }) }
     {
         Relation::of(alloc, nodes, None)
@@ -112,7 +133,7 @@ impl Relation {
         nodes: usize,
         rows: Option<Rows>,
     ) -> Result<Relation, AllocError>
-        requires few { nodes ≤ 400 }
+        requires few { nodes ≤ MAX_NODES }
         requires strict { IsStrict (is_listed (rows_known rows)) }
         ensures relation { IfOk result (λ r. r ≡ record { nodes = nodes; known = rows_known rows }) }
     {
@@ -128,7 +149,7 @@ impl Relation {
     /// The number n.
     pub(crate) fn nodes(&self) -> usize
         ensures count { result ≡ self.now.nodes }
-        ensures few { result ≤ 400 }
+        ensures few { result ≤ MAX_NODES }
         ensures strict { IsStrict (known_in self.now) }
     {
         self.nodes
@@ -142,21 +163,20 @@ impl Relation {
         self.variables
     }
 
-    /// What is said of `low` before `high` or, where not `forward`, of `high` before `low`.
-    pub(crate) fn term_between(&self, low: usize, high: usize, forward: bool) -> Term
+    /// What is said of `low` before `high`, and of `high` before `low`.
+    #[inline]
+    pub(crate) fn terms(&self, low: usize, high: usize) -> (Term, Term)
         requires within { (low < high) × (high ≤ self.now.nodes) }
-        ensures value { result ≡ (if forward then term_of self.now low high else term_of self.now high low) }
+        ensures up { result.0 ≡ term_of self.now low high }
+        ensures down { result.1 ≡ term_of self.now high low }
     {
         let variable = self.table[low * (self.nodes + 1) + high];
         if variable != 0 {
-            Term::Open(Literal {
-                variable,
-                positive: forward,
-            })
-        } else if is_known(&self.rows, low, high) == forward {
-            Term::True
+            (up(variable), down(variable))
+        } else if is_known(&self.rows, low, high) {
+            (Term::True, Term::False)
         } else {
-            Term::False
+            (Term::False, Term::True)
         }
     }
 
@@ -167,9 +187,9 @@ impl Relation {
         ensures literal { (l : Literal) → result ≡ Term.Open l → IsWithin (length (pairs_in self.now)) l }
     {
         if u < v {
-            self.term_between(u, v, true)
+            self.terms(u, v).0
         } else {
-            self.term_between(v, u, false)
+            self.terms(v, u).1
         }
     }
 

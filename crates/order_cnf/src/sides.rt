@@ -1,10 +1,11 @@
 //! The clauses of open choices.
 
-ghost use Rattle.std.specs.Prelude.{◌≡◌, false, ◌<◌, ◌≤◌, [], ◌∷◌, length, if◌then◌else◌};
+ghost use Rattle.std.specs.Prelude.{◌≡◌, ◌↔◌, ◌+◌, IsSome, IfSome, false, ◌<◌, ◌≤◌, [], ◌∷◌, length, if◌then◌else◌};
 ghost use Rattle.std.specs.List.{AllByRecursion};
 ghost use Rattle.order_laws.specs.Reduced.{side_clauses};
 ghost use Rattle.order_cnf.specs.Tables.{known_in, pairs_in, given};
 ghost use Rattle.order_cnf.specs.Streams.{IsUnturned, IsStep, turned, last_variable, sides_after};
+ghost use Rattle.serializability.specs.declared.literal.TheConstants.{MAX_CLAUSES};
 
 use crate::clause::Clause;
 use crate::relation::Relation;
@@ -88,6 +89,23 @@ impl<'a> Sides<'a> {
             edges,
             counts,
         }
+    }
+
+    /// How many clauses there are with these that were counted before, where they are at most so many.
+    pub(crate) fn count_after(mut self, counted: usize, most: usize) -> Option<usize>
+        requires within { counted ≤ most }
+        requires few { most ≤ MAX_CLAUSES }
+        ensures some { IfSome result (λ n. n ≡ counted + length self.entry) }
+        ensures none { IsSome result ↔ (counted + length self.entry ≤ most) }
+    {
+        let mut count = counted;
+        while let Some(_clause) = self.next() {
+            if count == most {
+                return None;
+            }
+            count += 1;
+        }
+        Some(count)
     }
 
     /// The next clause.

@@ -1,11 +1,13 @@
 //! The clauses that make a relation of nodes an order.
 
-ghost use Rattle.std.specs.Prelude.{◌≡◌, ◌<◌, ◌≤◌, ◌+◌, ◌++◌, [], not, IsTrue, None};
-ghost use Rattle.order_cnf.specs.Tables.{Relation as Data, given};
-ghost use Rattle.order_cnf.specs.Streams.{clauses_at, of_three, up_to, IsStep};
+ghost use Rattle.std.specs.Prelude.{◌≡◌, ◌↔◌, ◌<◌, ◌≤◌, ◌+◌, ◌++◌, ◌∷◌, [], length, not, IsTrue, IsSome, IfSome, None};
+ghost use Rattle.order_cnf.specs.Tables.{Relation as Data, clause_of, is_true, given};
+ghost use Rattle.order_cnf.specs.Streams.{clauses_at, of_three, of_one, up_to, IsStep};
+ghost use Rattle.serializability.specs.declared.literal.TheConstants.{MAX_CLAUSES};
 
 use crate::clause::{Clause, clause_of};
 use crate::relation::Relation;
+use crate::term::Term;
 use std::marker::Model;
 
 /// The clauses of one triple of nodes: no cycle through them, either way round. A clause that holds by what is known is left
@@ -20,17 +22,45 @@ pub(crate) fn triple_clauses(
     ensures value { given result.0 ++ given result.1 ≡ clauses_at relation.now (i, j, k) }
 {
     let _nodes = relation.nodes();
-    let one_way = clause_of(
-        relation.term_between(i, j, false),
-        relation.term_between(j, k, false),
-        relation.term_between(i, k, true),
-    );
-    let other_way = clause_of(
-        relation.term_between(i, j, true),
-        relation.term_between(j, k, true),
-        relation.term_between(i, k, false),
-    );
-    (one_way, other_way)
+    let (ij, ji) = relation.terms(i, j);
+    let (jk, kj) = relation.terms(j, k);
+    let (ik, ki) = relation.terms(i, k);
+    (clause_of(ji, kj, ik), clause_of(ij, jk, ki))
+}
+
+/// Whether it is known to be so.
+#[inline]
+fn is_true(term: Term) -> bool
+    ensures value { result ≡ is_true term }
+{
+    matches!(term, Term::True)
+}
+
+/// How many clauses say "one of these": one, where none is known to be so.
+#[inline]
+#[tactic(auto, using(crate::proofs::Terms::no_clause, crate::proofs::Terms::one_clause))]
+fn clause_count(a: Term, b: Term, c: Term) -> usize
+    ensures value { result ≡ length (clause_of (a ∷ b ∷ c ∷ [])) }
+    ensures few { result ≤ 1 }
+{
+    if is_true(a) || is_true(b) || is_true(c) {
+        0
+    } else {
+        1
+    }
+}
+
+/// How many clauses one triple of nodes has.
+#[inline]
+fn triple_count(relation: &Relation, i: usize, j: usize, k: usize) -> usize
+    requires within { (i < j) × (j < k) × (k ≤ relation.now.nodes) }
+    ensures value { result ≡ length (clauses_at relation.now (i, j, k)) }
+    ensures few { result ≤ 2 }
+{
+    let (ij, ji) = relation.terms(i, j);
+    let (jk, kj) = relation.terms(j, k);
+    let (ik, ki) = relation.terms(i, k);
+    clause_count(ji, kj, ik) + clause_count(ij, jk, ki)
 }
 
 /// Where a walk over all triples of nodes has come to: the next one is (first, second, third), where third is a node.
@@ -68,6 +98,21 @@ impl Cursor {
         true
     }
 
+    /// How many clauses the triples of the first and the second node have, from the third on.
+    fn row_count(&self, relation: &Relation) -> usize
+        requires cursor { IsCursor (relation.now.nodes + 1) self.now }
+        requires found { self.now.third < relation.now.nodes + 1 }
+        ensures value { result ≡ length (of_one relation.now self.now.first self.now.second (up_to self.now.third (relation.now.nodes + 1))) }
+        ensures few { result ≤ 802 }
+    {
+        let end = relation.nodes() + 1;
+        let mut count = 0;
+        for third in self.third..end {
+            count += triple_count(relation, self.first, self.second, third);
+        }
+        count
+    }
+
     /// The clauses of the next triple that has one.
     fn next_pair(&mut self, relation: &Relation) -> (Option<Clause>, Option<Clause>)
         requires cursor { IsCursor (relation.now.nodes + 1) self.old }
@@ -88,6 +133,30 @@ impl Cursor {
         }
         (None, None)
     }
+}
+
+/// How many clauses the triples of nodes from `start` on have, where they are at most so many.
+pub(crate) fn count_triples(relation: &Relation, start: usize, most: usize) -> Option<usize>
+    requires within { start ≤ relation.now.nodes + 1 }
+    requires few { most ≤ MAX_CLAUSES }
+    ensures some { IfSome result (λ n. n ≡ length (of_three relation.now (up_to start (relation.now.nodes + 1)))) }
+    ensures none { IsSome result ↔ (length (of_three relation.now (up_to start (relation.now.nodes + 1))) ≤ most) }
+{
+    let end = relation.nodes() + 1;
+    let mut cursor = Cursor {
+        first: start,
+        second: start,
+        third: end,
+    };
+    let mut count = 0;
+    while cursor.settle(end) {
+        count += cursor.row_count(relation);
+        if count > most {
+            return None;
+        }
+        cursor.third = end;
+    }
+    Some(count)
 }
 
 /// What is left of the clauses of all triples of nodes, in lexicographic order.

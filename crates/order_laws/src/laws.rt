@@ -9,6 +9,8 @@ ghost use Rattle.pruning_laws.specs.Forced.{Sides, IsForced, EachNumbered, edges
 ghost use Rattle.pruning_laws.specs.declared.side.Side.{Side};
 ghost use Rattle.order_laws.specs.Reduced.{reduced, IsReach};
 ghost use Rattle.order_laws.specs.Proper.{IsProper};
+ghost use Rattle.serializability.specs.declared.literal.TheConstants.{MAX_CLAUSES};
+ghost use Rattle.serializability.specs.declared.node.TheConstants.{MAX_NODES};
 
 /// Each order that fits gives an assignment that satisfies the reduced formula.
 pub fn fitting_order_satisfies()
@@ -29,8 +31,8 @@ pub fn satisfying_order_fits()
 /// A reduced formula that is not too large is a formula: its literals are in range, its clauses have one to three of them, and
 /// what a satisfying assignment puts before what is a strict total order of the nodes.
 pub fn reduced_formula_is_a_formula()
-    ensures { (p : Polygraph) → IsProper p → (known : Known) → IsReach p.known known → p.nodes ≤ 400 →
-        length (reduced known p).clauses ≤ 20000000 → IsFormula (reduced known p) }
+    ensures { (p : Polygraph) → IsProper p → (known : Known) → IsReach p.known known → p.nodes ≤ MAX_NODES →
+        length (reduced known p).clauses ≤ MAX_CLAUSES → IsFormula (reduced known p) }
 {}
 
 /// A polygraph has one forced set: of each of its choices two of them hold the same sides.

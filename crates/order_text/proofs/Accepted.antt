@@ -7,7 +7,7 @@ use Rattle.std.proofs.lemmas.List.Elements.{All-nil, All-cons}
 use Rattle.session_log.specs.Text.{ClientSession}
 use Rattle.session_log.specs.Lines.{lines, onto_line, bytes_of}
 use Rattle.session_log.proofs.Lines.{lines-nil, lines-cons_lf, lines-cons}
-use Rattle.history.specs.Tables.{name_in}
+use Rattle.session_history.specs.Tables.{name_in}
 use Rattle.order_text.specs.Text.{name_line, order_text, AreNodes}
 use Rattle.order_text.specs.Faults.{is_name, named, line_fault, first_fault, order_fault}
 use Rattle.order_text.specs.declared.fault.OrderFault.{OrderFault}

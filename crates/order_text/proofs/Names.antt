@@ -11,7 +11,7 @@ use Rattle.log_definitions.specs.Serial.{Committed, committed_of, committed_in, 
 use Rattle.log_definitions.specs.Numbers.{IsWellFormedList, log_of}
 use Rattle.log_definitions.proofs.Nodes.{each_at}
 use Rattle.log_definitions.proofs.Scanning.{rules_where_no_fault}
-use Rattle.history.specs.Tables.{name_in, node_named}
+use Rattle.session_history.specs.Tables.{name_in, node_named}
 use Rattle.order_text.proofs.Reading.{IsNode, has_name, name_at, node_named-sound}
 
 each_of_all : {X : Type 0} (P : X → Type 0) → ((x : X) → P x) → (xs : List X) → AllByRecursion P xs

@@ -19,7 +19,7 @@ use Rattle.session_log.proofs.Lines.{lines-nil}
 use Rattle.session_log.proofs.Whole.{lines_line}
 use Rattle.log_definitions.specs.WellFormed.{log_lines}
 use Rattle.log_definitions.specs.Numbers.{IsWellFormedList}
-use Rattle.history.specs.Tables.{name_in, node_named}
+use Rattle.session_history.specs.Tables.{name_in, node_named}
 use Rattle.order_text.specs.Text.{joined_by, name_line, order_text, AreNodes}
 use Rattle.order_text.specs.Faults.{words_of, are_numerals, is_name, named_by, named, line_fault, first_fault, order_fault}
 use Rattle.order_text.proofs.Reading.{IsNode, short_fault}

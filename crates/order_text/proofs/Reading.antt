@@ -14,7 +14,7 @@ use Rattle.session_log.proofs.Forms.{number_sound}
 use Rattle.session_log.proofs.Lines.{split_at_space, lines-nil}
 use Rattle.log_definitions.specs.Serial.{Committed, committed_in, node_of}
 use Rattle.log_definitions.specs.Numbers.{log_of}
-use Rattle.history.specs.Tables.{name_in, node_named}
+use Rattle.session_history.specs.Tables.{name_in, node_named}
 use Rattle.order_text.specs.Text.{joined_by, name_line, order_text, AreNodes}
 use Rattle.order_text.specs.Faults.{words_of, named_by, named, line_fault, first_fault, order_fault, IsOrderFault}
 use Rattle.order_text.specs.declared.fault.OrderFault.{OrderFault}

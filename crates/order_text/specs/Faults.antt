@@ -3,7 +3,7 @@ use Rattle.std.specs.Prelude.{◌≡◌, ℕ, ◌+◌, ◌^◌, ◌==◌, Bool, 
 use Rattle.std.specs.Option.{option_map, option_map_or, option_or}
 use Rattle.session_log.specs.Text.{ClientSession}
 use Rattle.session_log.specs.Lines.{lines, is_numeral, number_of}
-use Rattle.history.specs.Tables.{node_named}
+use Rattle.session_history.specs.Tables.{node_named}
 use Rattle.order_text.specs.declared.fault.OrderFault.{OrderFault}
 use Rattle.order_text.specs.declared.fault.OrderFault.TheVariants.{BadLine, NoSuchTransaction, TooLong, Memory}
 

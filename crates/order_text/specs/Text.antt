@@ -3,7 +3,7 @@ use Rattle.std.specs.Prelude.{ℕ, ◌<◌, ◌≤◌, List, [], ◌∷◌, ◌+
 use Rattle.std.specs.List.{flat_map, All}
 use Rattle.session_log.specs.Text.{ClientSession}
 use Rattle.log_definitions.specs.Numbers.{log_of}
-use Rattle.history.specs.Tables.{name_in}
+use Rattle.session_history.specs.Tables.{name_in}
 
 -- a session number, this byte, and a place in the session
 abbrev pub joined_by : ℕ → ℕ × ℕ → List ℕ

@@ -4,7 +4,7 @@ ghost use Rattle.std.specs.Prelude.{◌≡◌, ℕ, ◌*◌, ◌<◌, ◌≤◌,
 ghost use Rattle.session_log.specs.Text.{ClientSession};
 ghost use Rattle.log_definitions.specs.WellFormed.{log_lines};
 ghost use Rattle.log_definitions.specs.Numbers.{IsWellFormedList};
-ghost use Rattle.history.specs.Tables.{node_named};
+ghost use Rattle.session_history.specs.Tables.{node_named};
 ghost use Rattle.order_text.specs.Text.{order_text, AreNodes};
 ghost use Rattle.order_text.specs.Faults.{order_fault};
 

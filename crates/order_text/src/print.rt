@@ -2,11 +2,11 @@
 
 ghost use Rattle.std.specs.Prelude.{◌≡◌, ◌≤◌, ◌++◌, length, take, IfOk, OnOk};
 ghost use Rattle.log_definitions.specs.Numbers.{log_of};
-ghost use Rattle.history.specs.Tables.{name_in};
+ghost use Rattle.session_history.specs.Tables.{name_in};
 ghost use Rattle.order_text.specs.Text.{joined_by, name_text, name_line, order_text, AreNodes};
 
-use history::{History, Name, NodeIx, Order};
 use itoa::Buffer;
+use session_history::{History, Name, NodeIx, Order};
 use std::alloc::{AllocError, Global};
 
 fn put_joined(out: &mut Vec<u8>, byte: u8, name: Name) -> Result<(), AllocError>

@@ -6,7 +6,7 @@ ghost use Rattle.order_text.specs.Text.{order_text, AreNodes};
 ghost use Rattle.order_text.specs.Faults.{words_of, named_by, named, line_fault, order_fault, IsOrderFault};
 
 use crate::fault::OrderFault;
-use history::{History, NodeIx, Order};
+use session_history::{History, NodeIx, Order};
 use session_log::{index_of, is_numeral, next_line, number_of};
 use std::alloc::Global;
 

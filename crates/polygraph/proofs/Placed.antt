@@ -8,7 +8,7 @@ use Rattle.serializability.specs.Replay.{place_of, ListsOnce}
 use Rattle.serializability.proofs.Places.{Has, Apart, Has-append_front, Has-append_back, Has-append_cases, Apart-not_both, Has-from_Contains, place_of-here, place_of-further, place_of-back}
 use Rattle.serializability.proofs.Serial.{node_of, behind_zero}
 use Rattle.polygraph.specs.Places.{ArePlaces}
-use Rattle.polygraph.proofs.Listed.{Has_get, Has-from_any, any-from_Has, once_apart, once_from}
+use Rattle.serializability.proofs.Listed.{Has_get, Has-from_any, any-from_Has, once_apart, once_from}
 
 place_of-stays : (v : ℕ) (f b : List ℕ) → Has v f → place_of (f ++ b) v ≡ place_of f v
 place_of-stays v [] b h = absurd h

@@ -10,11 +10,11 @@ use Rattle.serializability.specs.Reads.{last_write, IsClean}
 use Rattle.serializability.specs.Polygraph.{Choice, source, rival_choice, bipaths, bipaths_at, all_keys, committed}
 use Rattle.serializability.proofs.Places.{each_from_range}
 use Rattle.serializability.proofs.Serial.{each_from_bipaths, rival_is, source_within}
-use Rattle.history.specs.Tables.{sources_of, writers_in}
+use Rattle.session_history.specs.Tables.{sources_of, writers_in}
 use Rattle.polygraph.specs.Polygraphs.{JoinsBoth}
 use Rattle.polygraph.specs.Rivals.{is_other}
 use Rattle.polygraph.proofs.Each.{each_item}
-use Rattle.polygraph.proofs.Rests.{up_to, up_to_first, Split}
+use Rattle.known_graph.proofs.Rests.{up_to, up_to_first, Split}
 
 -- ---- from whom a node reads
 abbrev reads_key : Log → ℕ → ℕ → Option (ℕ × ℕ)

@@ -2,6 +2,7 @@
 use Rattle.std.specs.Prelude.{◌≢◌, ℕ, ◌≤◌, length}
 use Rattle.std.specs.List.{AllByRecursion}
 use Rattle.serializability.specs.Polygraph.{Edge, Choice, Polygraph}
+use Rattle.polygraph.specs.declared.index.TheConstants.{MAX_CHOICES}
 
 -- the edge joins two different ones of nodes 0 to n
 pub record Joins (n : ℕ) (e : Edge) : Type 0 where
@@ -16,5 +17,5 @@ pub record JoinsBoth (n : ℕ) (c : Choice) : Type 0 where
 
 -- there are at most 100,000 choices, and each of their edges joins two different nodes
 pub record IsPolygraph (p : Polygraph) : Type 0 where
-  pub few : length p.choices ≤ 100000
+  pub few : length p.choices ≤ MAX_CHOICES
   pub joined : AllByRecursion (JoinsBoth p.nodes) p.choices

@@ -8,6 +8,7 @@ ghost use Rattle.serializability.specs.Polygraph.{bipath_polygraph, rival_choice
 ghost use Rattle.log_definitions.specs.Numbers.{log_of};
 ghost use Rattle.polygraph.specs.Rivals.{is_other};
 ghost use Rattle.polygraph.specs.Limits.{IsPolyFault};
+ghost use Rattle.polygraph.specs.declared.index.TheConstants.{MAX_CHOICES};
 
 use crate::choice::Choice;
 use crate::edges::Edges;
@@ -15,10 +16,10 @@ use crate::fault::PolyFault;
 use crate::index::MAX_CHOICES;
 use crate::node::node;
 use crate::polygraph::Polygraph;
-use history::History;
 use known_graph::Known;
 use reach_laws::Edge;
 use serializability::NodeIx;
+use session_history::History;
 use std::alloc::Global;
 
 // Whether a writer is neither the source nor the reader.
@@ -71,7 +72,7 @@ fn add_rivals(
 fn bipath_count(history: &History) -> Result<usize, PolyFault>
     requires clean { IsClean (log_of history.now) }
     ensures count { IfOk result (λ k. k ≡ length (spec.bipaths (log_of history.now))) }
-    ensures few { OnOk result (length (spec.bipaths (log_of history.now)) ≤ 100000) }
+    ensures few { OnOk result (length (spec.bipaths (log_of history.now)) ≤ MAX_CHOICES) }
     ensures fault { IfErr result (IsPolyFault (spec.bipaths (log_of history.now))) }
 {
     let end = history.committed() + 1;
@@ -92,7 +93,7 @@ fn bipath_count(history: &History) -> Result<usize, PolyFault>
 fn choices_of(alloc: Global, history: &History) -> Result<Vec<Choice>, PolyFault>
     requires clean { IsClean (log_of history.now) }
     ensures choices { IfOk result (λ c. c.items ≡ spec.bipaths (log_of history.now)) }
-    ensures few { OnOk result (length (spec.bipaths (log_of history.now)) ≤ 100000) }
+    ensures few { OnOk result (length (spec.bipaths (log_of history.now)) ≤ MAX_CHOICES) }
     ensures fault { IfErr result (IsPolyFault (spec.bipaths (log_of history.now))) }
 {
     let mut choices = Vec::with_capacity(alloc, bipath_count(history)?)?;
@@ -119,7 +120,7 @@ fn choices_of(alloc: Global, history: &History) -> Result<Vec<Choice>, PolyFault
 pub fn bipaths(alloc: Global, history: &History) -> Result<Polygraph, PolyFault>
     requires clean { IsClean (log_of history.now) }
     ensures polygraph { IfOk result (λ p. p ≡ bipath_polygraph (log_of history.now)) }
-    ensures few { OnOk result (length (spec.bipaths (log_of history.now)) ≤ 100000) }
+    ensures few { OnOk result (length (spec.bipaths (log_of history.now)) ≤ MAX_CHOICES) }
     ensures fault { IfErr result (IsPolyFault (spec.bipaths (log_of history.now))) }
 {
     let choices = choices_of(alloc, history)?;

@@ -1,4 +1,4 @@
-//! Choices.
+//! A choice: two sides, each a list of edges, of which an order keeps one.
 
 ghost use Rattle.std.specs.Prelude.{◌≡◌};
 ghost use Rattle.pruning_laws.specs.Forced.{edges_of};

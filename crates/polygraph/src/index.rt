@@ -1,6 +1,7 @@
-//! Choice numbers.
+//! The number of a choice of a polygraph, and how many choices there can be.
 
 ghost use Rattle.std.specs.Prelude.{◌≡◌, ℕ, ◌<◌, ◌↔◌, IsSome, IfSome};
+ghost use Rattle.polygraph.specs.declared.index.TheConstants.{MAX_CHOICES};
 
 use std::marker::Model;
 
@@ -18,7 +19,7 @@ impl Model for ChoiceIx {
 
     ghost view = { λ c. c.number };
 
-    ghost invariant = { λ c. c.number < 100000 };
+    ghost invariant = { λ c. c.number < MAX_CHOICES };
 
     ghost inverse = { λ n. record { number = n } };
 }
@@ -26,7 +27,7 @@ impl Model for ChoiceIx {
 impl ChoiceIx {
     /// The choice with this number, where it is one of 0 to 99,999.
     pub fn new(number: usize) -> Option<ChoiceIx>
-        ensures some { IsSome result ↔ (number < 100000) }
+        ensures some { IsSome result ↔ (number < MAX_CHOICES) }
         ensures value { IfSome result (λ c. c ≡ number) }
     {
         if number < MAX_CHOICES {
@@ -41,7 +42,7 @@ impl ChoiceIx {
     /// The number.
     pub fn get(self) -> usize
         ensures value { result ≡ self }
-        ensures range { result < 100000 }
+        ensures range { result < MAX_CHOICES }
     {
         self.number as usize
     }

@@ -19,3 +19,5 @@ pub use fault::PolyFault;
 pub use fits::{keeps_known, order_fits};
 pub use index::{ChoiceIx, MAX_CHOICES};
 pub use polygraph::Polygraph;
+pub use pruning_laws::Side;
+pub use reach_laws::Edge;

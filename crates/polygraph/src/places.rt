@@ -3,6 +3,7 @@
 ghost use Rattle.std.specs.Prelude.{◌≡◌, ℕ, ◌≤◌, length, ◌↔◌, nat_lt, IsSome, IfSome, slice_index};
 ghost use Rattle.serializability.specs.Replay.{ListsOnce};
 ghost use Rattle.polygraph.specs.Places.{ArePlaces};
+ghost use Rattle.serializability.specs.declared.node.TheConstants.{MAX_NODES};
 
 use serializability::{MAX_NODES, NodeIx};
 
@@ -31,7 +32,7 @@ fn no_places() -> [u16; MAX_NODES + 1]
 
 /// The places in an order that lists nodes 1 to n once each.
 pub fn places_in(n: usize, order: &[NodeIx]) -> Option<Places>
-    requires few { n ≤ 400 }
+    requires few { n ≤ MAX_NODES }
     ensures once { IsSome result ↔ ListsOnce n order.now }
     ensures places { IfSome result (λ p. ArePlaces n order.now p.places) }
 {

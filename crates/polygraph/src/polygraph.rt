@@ -1,10 +1,12 @@
-//! Polygraphs.
+//! A polygraph: the edges that are known, and the choices.
 
 ghost use Rattle.std.specs.Prelude.{◌≡◌, ◌≤◌, length, slice_get};
 ghost use Rattle.std.specs.Option.{option_copied};
 ghost use Rattle.std.specs.List.{AllByRecursion};
 ghost use Rattle.known_graph.specs.Graphs.{IsKnownGraph};
 ghost use Rattle.polygraph.specs.Polygraphs.{JoinsBoth, IsPolygraph};
+ghost use Rattle.polygraph.specs.declared.index.TheConstants.{MAX_CHOICES};
+ghost use Rattle.serializability.specs.declared.node.TheConstants.{MAX_NODES};
 
 use crate::choice::Choice;
 use crate::index::ChoiceIx;
@@ -34,7 +36,7 @@ impl Model for Polygraph {
 impl Polygraph {
     /// The polygraph of these known edges and choices.
     pub fn new(known: Known, choices: Vec<Choice>) -> Polygraph
-        requires few { length choices.items ≤ 100000 }
+        requires few { length choices.items ≤ MAX_CHOICES }
         requires joined { AllByRecursion (JoinsBoth known.nodes) choices.items }
         ensures { result ≡ record { nodes = known.nodes; known = known.edges; choices = choices.items } }
     {
@@ -44,7 +46,7 @@ impl Polygraph {
     /// The number of nodes, n, without node 0.
     pub fn nodes(&self) -> usize
         ensures count { result ≡ self.now.nodes }
-        ensures few { result ≤ 400 }
+        ensures few { result ≤ MAX_NODES }
         ensures polygraph { IsPolygraph self.now }
         ensures known { IsKnownGraph (record { nodes = self.now.nodes; edges = self.now.known }) }
     {
@@ -62,7 +64,7 @@ impl Polygraph {
     /// The choices, by number.
     pub fn choices(&self) -> &[Choice]
         ensures choices { result.now ≡ self.now.choices }
-        ensures few { length result.now ≤ 100000 }
+        ensures few { length result.now ≤ MAX_CHOICES }
     {
         self.choices.as_slice()
     }

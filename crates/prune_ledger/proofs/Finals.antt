@@ -28,9 +28,9 @@ use Rattle.prune_ledger.specs.Runs.{IsWhole, ledger_of, Grown}
 use Rattle.prune_ledger.specs.Pruned.{posts_in, kept_by, IsReduced, IsRemainder, IsProgress, IsGraphOf, unrefused, IsLast}
 use Rattle.prune_ledger.specs.declared.ledger.Ledger.{Ledger}
 use Rattle.prune_ledger.specs.declared.ledger.LedgerEntry.{LedgerEntry}
-use Rattle.prune_ledger.specs.declared.parts.Mark.{Mark}
-use Rattle.prune_ledger.specs.declared.parts.Event.{Event}
-use Rattle.prune_ledger.specs.declared.parts.Reply.{Reply}
+use Rattle.prune_ledger.specs.declared.messages.Mark.{Mark}
+use Rattle.prune_ledger.specs.declared.messages.Event.{Event}
+use Rattle.prune_ledger.specs.declared.messages.Reply.{Reply}
 use Rattle.known_graph.proofs.Tested.{same_bool}
 use Rattle.prune_ledger.proofs.Sides.{side_is, side_with}
 use Rattle.prune_ledger.proofs.Grown.{some_mark, walk_in, reaches_in, grown_opening, opens, grown_reopened, ran, kept_append, shown_append, refuted_in}

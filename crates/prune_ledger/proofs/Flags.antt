@@ -10,7 +10,7 @@ use Rattle.known_graph.proofs.Listed.{In, Contains-from_In, In-append_left, In-a
 use Rattle.prune_ledger.specs.Opening.{given_back}
 use Rattle.prune_ledger.specs.Rounds.{IsOpenIn}
 use Rattle.prune_ledger.specs.Pruned.{unrefused, AreOpen, AreSettled}
-use Rattle.prune_ledger.specs.declared.parts.Mark.{Mark}
+use Rattle.prune_ledger.specs.declared.messages.Mark.{Mark}
 use Rattle.prune_ledger.proofs.Marks.{some-inj, get_set}
 
 -- ---- flags

@@ -27,11 +27,11 @@ use Rattle.known_graph.specs.Tests.{has_edge, is_line}
 use Rattle.prune_ledger.specs.Steps.{listed, with_edges, refuses, refusing, is_free, free_from, is_refused, side_at, is_choice, is_against, post_reply, is_entered, refused_mark, refused, hand_out, taken, posted, next_of, reply_of}
 use Rattle.prune_ledger.specs.Ledger.{side_of, kept_side, kept_after, edges_after, IsShown, AreShown}
 use Rattle.prune_ledger.specs.Runs.{IsWhole, IsOpening, KeepsForced, EachKeepsForced, posts_of, ledger_of, Grown}
-use Rattle.prune_ledger.specs.declared.parts.Mark.{Mark}
-use Rattle.prune_ledger.specs.declared.parts.Event.{Event}
-use Rattle.prune_ledger.specs.declared.parts.Event.TheVariants.{Take, Post, Pass, Release}
-use Rattle.prune_ledger.specs.declared.parts.Reply.{Reply}
-use Rattle.prune_ledger.specs.declared.parts.Reply.TheVariants.{Judge, NoneLeft, Entered, AlreadyIn, BadWalk, Noted, Released, Dead}
+use Rattle.prune_ledger.specs.declared.messages.Mark.{Mark}
+use Rattle.prune_ledger.specs.declared.messages.Event.{Event}
+use Rattle.prune_ledger.specs.declared.messages.Event.TheVariants.{Take, Post, Pass, Release}
+use Rattle.prune_ledger.specs.declared.messages.Reply.{Reply}
+use Rattle.prune_ledger.specs.declared.messages.Reply.TheVariants.{Judge, NoneLeft, Entered, AlreadyIn, BadWalk, Noted, Released, Dead}
 use Rattle.known_graph.proofs.Tested.{edge_in, walk_of}
 use Rattle.prune_ledger.proofs.Edges.{in_listed, in_of_listed}
 use Rattle.prune_ledger.proofs.Marks.{some-inj, get_set, side_joins, marks_opening}

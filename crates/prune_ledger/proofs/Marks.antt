@@ -16,7 +16,7 @@ use Rattle.prune_ledger.specs.State.{State}
 use Rattle.prune_ledger.specs.Kept.{IsPast, IsKept}
 use Rattle.prune_ledger.specs.Opening.{no_mark}
 use Rattle.prune_ledger.specs.Steps.{refuses, refusing, is_free, free_from, with_edges, refused, hand_out, taken}
-use Rattle.prune_ledger.specs.declared.parts.Mark.{Mark}
+use Rattle.prune_ledger.specs.declared.messages.Mark.{Mark}
 
 pub some-inj : {A : Type 0} (x y : A) → Some x ≡ Some y → x ≡ y
 some-inj x y e = cc

@@ -15,10 +15,10 @@ use Rattle.polygraph.specs.Polygraphs.{Joins, JoinsBoth, IsPolygraph}
 use Rattle.prune_ledger.proofs.Marks.{side_joins, contained_at}
 use Rattle.prune_ledger.specs.Posted.{Posted}
 use Rattle.prune_ledger.specs.Rounds.{Refutes, HasPost, EachHandled, Handled, PostedOf, Settled, Turned, IsOpenIn}
-use Rattle.prune_ledger.specs.declared.parts.Event.{Event}
-use Rattle.prune_ledger.specs.declared.parts.Event.TheVariants.{Take, Post, Pass, Release}
-use Rattle.prune_ledger.specs.declared.parts.Reply.{Reply}
-use Rattle.prune_ledger.specs.declared.parts.Reply.TheVariants.{Judge}
+use Rattle.prune_ledger.specs.declared.messages.Event.{Event}
+use Rattle.prune_ledger.specs.declared.messages.Event.TheVariants.{Take, Post, Pass, Release}
+use Rattle.prune_ledger.specs.declared.messages.Reply.{Reply}
+use Rattle.prune_ledger.specs.declared.messages.Reply.TheVariants.{Judge}
 
 some-inj : {A : Type 0} (x y : A) → Some x ≡ Some y → x ≡ y
 some-inj x y e = cc

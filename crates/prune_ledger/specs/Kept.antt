@@ -4,7 +4,8 @@ use Rattle.std.specs.List.{AllByRecursion}
 use Rattle.serializability.specs.Polygraph.{Choice}
 use Rattle.polygraph.specs.Polygraphs.{JoinsBoth}
 use Rattle.prune_ledger.specs.Steps.{is_free}
-use Rattle.prune_ledger.specs.declared.parts.Mark.{Mark}
+use Rattle.prune_ledger.specs.declared.messages.Mark.{Mark}
+use Rattle.polygraph.specs.declared.index.TheConstants.{MAX_CHOICES}
 
 -- none of the marks before the cursor is free
 pub record IsPast (cursor : ℕ) (marks : List Mark) : Type 0 where
@@ -12,7 +13,7 @@ pub record IsPast (cursor : ℕ) (marks : List Mark) : Type 0 where
 
 -- there are at most 100,000 choices between nodes 0 to n, each with a mark, and no free one before the cursor
 pub record IsKept (n : ℕ) (choices : List Choice) (marks : List Mark) (cursor : ℕ) : Type 0 where
-  pub few : length choices ≤ 100000
+  pub few : length choices ≤ MAX_CHOICES
   pub joined : AllByRecursion (JoinsBoth n) choices
   pub marked : length marks ≡ length choices
   pub within : cursor ≤ length marks

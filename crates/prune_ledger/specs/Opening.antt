@@ -3,7 +3,7 @@ use Rattle.std.specs.Prelude.{List, false, length, replicate, map}
 use Rattle.serializability.specs.Polygraph.{Choice}
 use Rattle.reach_laws.specs.Reach.{Graph}
 use Rattle.prune_ledger.specs.State.{State}
-use Rattle.prune_ledger.specs.declared.parts.Mark.{Mark}
+use Rattle.prune_ledger.specs.declared.messages.Mark.{Mark}
 
 abbrev pub no_mark : Mark
 no_mark = record { one = false; two = false; handed = false }

@@ -12,7 +12,7 @@ use Rattle.prune_ledger.specs.Ledger.{kept_after, edges_after, AreShown}
 use Rattle.prune_ledger.specs.State.{State}
 use Rattle.prune_ledger.specs.Rounds.{IsOpenIn}
 use Rattle.prune_ledger.specs.Runs.{Grown}
-use Rattle.prune_ledger.specs.declared.parts.Mark.{Mark}
+use Rattle.prune_ledger.specs.declared.messages.Mark.{Mark}
 use Rattle.prune_ledger.specs.declared.ledger.LedgerEntry.{LedgerEntry}
 use Rattle.prune_ledger.specs.declared.ledger.Ledger.{Ledger}
 

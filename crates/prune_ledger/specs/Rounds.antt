@@ -6,10 +6,10 @@ use Rattle.reach_laws.specs.Reach.{Graph, Reaches}
 use Rattle.pruning_laws.specs.declared.side.Side.{Side}
 use Rattle.pruning_laws.specs.Forced.{IsRefuted, edges_of, other}
 use Rattle.prune_ledger.specs.Posted.{Posted}
-use Rattle.prune_ledger.specs.declared.parts.Event.{Event}
-use Rattle.prune_ledger.specs.declared.parts.Event.TheVariants.{Take, Post, Pass, Release}
-use Rattle.prune_ledger.specs.declared.parts.Reply.{Reply}
-use Rattle.prune_ledger.specs.declared.parts.Reply.TheVariants.{Judge, Entered}
+use Rattle.prune_ledger.specs.declared.messages.Event.{Event}
+use Rattle.prune_ledger.specs.declared.messages.Event.TheVariants.{Take, Post, Pass, Release}
+use Rattle.prune_ledger.specs.declared.messages.Reply.{Reply}
+use Rattle.prune_ledger.specs.declared.messages.Reply.TheVariants.{Judge, Entered}
 
 -- an edge of the side that goes against a walk
 pub record Refutes (edges side : List Edge) (e : Edge) : Type 0 where

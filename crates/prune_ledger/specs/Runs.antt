@@ -13,10 +13,10 @@ use Rattle.prune_ledger.specs.Posted.{Posted}
 use Rattle.prune_ledger.specs.State.{State}
 use Rattle.prune_ledger.specs.Steps.{is_free, is_refused, is_entered}
 use Rattle.prune_ledger.specs.Ledger.{edges_after}
-use Rattle.prune_ledger.specs.declared.parts.Event.{Event}
-use Rattle.prune_ledger.specs.declared.parts.Event.TheVariants.{Take, Post, Pass, Release}
-use Rattle.prune_ledger.specs.declared.parts.Reply.{Reply}
-use Rattle.prune_ledger.specs.declared.parts.Reply.TheVariants.{Entered}
+use Rattle.prune_ledger.specs.declared.messages.Event.{Event}
+use Rattle.prune_ledger.specs.declared.messages.Event.TheVariants.{Take, Post, Pass, Release}
+use Rattle.prune_ledger.specs.declared.messages.Reply.{Reply}
+use Rattle.prune_ledger.specs.declared.messages.Reply.TheVariants.{Entered}
 
 -- what the type of polygraphs keeps
 pub record IsWhole (p : Polygraph) : Type 0 where

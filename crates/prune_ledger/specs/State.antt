@@ -2,7 +2,7 @@
 use Rattle.std.specs.Prelude.{List, Bool}
 use Rattle.serializability.specs.Polygraph.{Choice}
 use Rattle.reach_laws.specs.Reach.{Graph}
-use Rattle.prune_ledger.specs.declared.parts.Mark.{Mark}
+use Rattle.prune_ledger.specs.declared.messages.Mark.{Mark}
 
 -- the choices, the known edges with those of the sides kept so far, what is noted of each choice, and whether some choice has
 -- both sides refused

@@ -11,11 +11,11 @@ use Rattle.known_graph.specs.Pairs.{all_pairs}
 use Rattle.known_graph.specs.Tests.{has_edge, is_line}
 use Rattle.prune_ledger.specs.Posted.{Posted}
 use Rattle.prune_ledger.specs.State.{State}
-use Rattle.prune_ledger.specs.declared.parts.Mark.{Mark}
-use Rattle.prune_ledger.specs.declared.parts.Event.{Event}
-use Rattle.prune_ledger.specs.declared.parts.Event.TheVariants.{Take, Post, Pass, Release}
-use Rattle.prune_ledger.specs.declared.parts.Reply.{Reply}
-use Rattle.prune_ledger.specs.declared.parts.Reply.TheVariants.{Judge, NoneLeft, Entered, AlreadyIn, BadWalk, Noted, Released, Dead}
+use Rattle.prune_ledger.specs.declared.messages.Mark.{Mark}
+use Rattle.prune_ledger.specs.declared.messages.Event.{Event}
+use Rattle.prune_ledger.specs.declared.messages.Event.TheVariants.{Take, Post, Pass, Release}
+use Rattle.prune_ledger.specs.declared.messages.Reply.{Reply}
+use Rattle.prune_ledger.specs.declared.messages.Reply.TheVariants.{Judge, NoneLeft, Entered, AlreadyIn, BadWalk, Noted, Released, Dead}
 
 -- those of the pairs of nodes 0 to n that are among these edges, by the first node and then the second
 unfoldable pub listed : ℕ → List Edge → List Edge

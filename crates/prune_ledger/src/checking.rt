@@ -13,7 +13,7 @@ ghost use Rattle.prune_ledger.specs.declared.ledger.LedgerEntry.{LedgerEntry};
 use crate::kept::KeptEdges;
 use crate::ledger::{Ledger, LedgerEntry};
 use crate::machine::{has_edge, other_side};
-use crate::parts::Refutation;
+use crate::messages::Refutation;
 use polygraph::{ChoiceIx, Polygraph};
 use pruning_laws::Side;
 use reach_laws::Edge;

@@ -7,7 +7,7 @@ ghost use Rattle.prune_ledger.specs.Runs.{posts_of, ledger_of, seats_of};
 ghost use Rattle.prune_ledger.specs.Pruned.{posts_in, seats_in};
 
 use crate::ledger::LedgerEntry;
-use crate::parts::{Event, Reply};
+use crate::messages::{Event, Reply};
 use desk::history::Entry;
 use std::alloc::AllocError;
 

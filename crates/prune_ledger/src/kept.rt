@@ -4,6 +4,7 @@ ghost use Rattle.std.specs.Prelude.{◌≡◌, ◌++◌, ◌*◌, ◌/◌, ◌<�
 ghost use Rattle.serializability.specs.Polygraph.{Edge};
 ghost use Rattle.known_graph.specs.Tests.{has_edge};
 ghost use Rattle.prune_ledger.specs.KeptEdges.{edge_place, HasEdges};
+ghost use Rattle.serializability.specs.declared.node.TheConstants.{MAX_NODES};
 
 use known_graph::bits::{has_bit, set_bit};
 use reach_laws::Edge;
@@ -25,7 +26,7 @@ pub struct KeptEdges {
 fn edge_place(u: NodeIx, v: NodeIx) -> usize
     ensures place { result ≡ edge_place u v }
     ensures within { result / 64 < 401 * 7 }
-    ensures nodes { (u ≤ 400) × (v ≤ 400) }
+    ensures nodes { (u ≤ MAX_NODES) × (v ≤ MAX_NODES) }
 {
     u.get() * (ROW_WORDS * 64) + v.get()
 }

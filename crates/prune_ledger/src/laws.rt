@@ -12,8 +12,8 @@ ghost use Rattle.prune_ledger.specs.Steps.{next_of, reply_of};
 ghost use Rattle.prune_ledger.specs.Opening.{opening_state, reopened_state};
 ghost use Rattle.prune_ledger.specs.Ledger.{kept_after, AreShown};
 ghost use Rattle.prune_ledger.specs.Runs.{IsWhole, IsOpening, EachKeepsForced, Grown, ledger_of};
-ghost use Rattle.prune_ledger.specs.declared.parts.Event.{Event};
-ghost use Rattle.prune_ledger.specs.declared.parts.Reply.{Reply};
+ghost use Rattle.prune_ledger.specs.declared.messages.Event.{Event};
+ghost use Rattle.prune_ledger.specs.declared.messages.Reply.{Reply};
 
 pub use crate::round::work;
 

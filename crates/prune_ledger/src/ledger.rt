@@ -1,6 +1,6 @@
 //! Ledgers of refuted sides.
 
-use crate::parts::Refutation;
+use crate::messages::Refutation;
 use desk::seat_no::SeatNo;
 use serializability::NodeIx;
 

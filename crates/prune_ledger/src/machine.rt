@@ -9,9 +9,10 @@ ghost use Rattle.prune_ledger.specs.Steps.{with_edges, is_refused, post_reply, r
 ghost use Rattle.prune_ledger.specs.Kept.{IsPast};
 ghost use Rattle.prune_ledger.specs.Opening.{no_mark, opening_state, given_back, reopened_state};
 ghost use Rattle.prune_ledger.specs.Pruned.{unrefused, AreSettled};
-ghost use Rattle.prune_ledger.specs.declared.parts.Reply.TheVariants.{Entered};
+ghost use Rattle.prune_ledger.specs.declared.messages.Reply.TheVariants.{Entered};
+ghost use Rattle.polygraph.specs.declared.index.TheConstants.{MAX_CHOICES};
 
-use crate::parts::{Mark, Refutation, Reply};
+use crate::messages::{Mark, Refutation, Reply};
 use known_graph::Known;
 use polygraph::{Choice, ChoiceIx};
 use pruning_laws::Side;
@@ -202,7 +203,7 @@ impl PruneMachine {
         choices: Vec<Choice>,
         known: Known,
     ) -> Result<PruneMachine, AllocError>
-        requires few { length choices.items ≤ 100000 }
+        requires few { length choices.items ≤ MAX_CHOICES }
         requires joined { AllByRecursion (JoinsBoth known.nodes) choices.items }
         ensures { IfOk result (λ m. m ≡ opening_state choices.items known) }
     {
@@ -255,7 +256,7 @@ impl PruneMachine {
     /// The choices of which neither side is refused, in their order.
     pub(crate) fn into_open(self, alloc: Global) -> Result<Vec<Choice>, AllocError>
         ensures choices { IfOk result (λ v. v.items ≡ unrefused self.marks self.choices) }
-        ensures few { IfOk result (λ v. length v.items ≤ 100000) }
+        ensures few { IfOk result (λ v. length v.items ≤ MAX_CHOICES) }
         ensures joined { IfOk result (λ v. AllByRecursion (JoinsBoth self.graph.nodes) v.items) }
     {
         let PruneMachine {
@@ -338,7 +339,7 @@ impl PruneMachine {
 
 // The choice with this number.
 pub(crate) fn choice_ix(number: usize) -> ChoiceIx
-    requires few { number < 100000 }
+    requires few { number < MAX_CHOICES }
     ensures value { result ≡ number }
 {
     ChoiceIx::new(number).unwrap()

@@ -6,13 +6,13 @@ ghost use Rattle.std.specs.List.{AllByRecursion};
 ghost use Rattle.reach_laws.specs.Reach.{Graph, Reaches};
 ghost use Rattle.polygraph.specs.Polygraphs.{JoinsBoth};
 ghost use Rattle.reach_rows.specs.ReachRows.{AreRowsOf};
-ghost use Rattle.prune_ledger.specs.declared.parts.Reply.TheVariants.{Judge};
+ghost use Rattle.prune_ledger.specs.declared.messages.Reply.TheVariants.{Judge};
 ghost use Rattle.prune_ledger.specs.Rounds.{Handled, PostedOf, Settled, Turned, IsOpenIn, Extends, IsKeptUp, KeepsUp};
 
 use crate::entered::is_entered;
 use crate::judging::judge;
 use crate::machine::{PruneMachine, other_side};
-use crate::parts::{Event, Refutation, Reply};
+use crate::messages::{Event, Refutation, Reply};
 use crate::rowed::RowedGraph;
 use desk::desk::Desk;
 use desk::gate::Gate;

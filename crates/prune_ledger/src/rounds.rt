@@ -13,7 +13,7 @@ use crate::crew::{Round, round_of};
 use crate::entered::with_entered;
 use crate::ledger::{Ledger, LedgerEntry};
 use crate::machine::{PruneMachine, other_side};
-use crate::parts::Refutation;
+use crate::messages::Refutation;
 use crate::remains::{Pruned, Reduced};
 use crate::rowed::RowedGraph;
 use desk::desk::Closed;

@@ -1,4 +1,4 @@
-//! Edges.
+//! An edge between two nodes, from its source to its target.
 
 ghost use Rattle.std.specs.Prelude.{◌≡◌};
 

@@ -7,6 +7,7 @@ ghost use Rattle.known_graph.specs.Bits.{bit_of, row_len};
 ghost use Rattle.known_graph.specs.Held.{bit_place};
 ghost use Rattle.reach_rows.specs.ReachRows.{AreRowsOf, AddsEdge};
 ghost use Rattle.reach_rows.specs.Sources.{Grows};
+ghost use Rattle.serializability.specs.declared.node.TheConstants.{MAX_NODES};
 
 use crate::parts::rows_by_workers;
 use crate::source::{add_source, node};
@@ -44,7 +45,7 @@ impl Model for Rows {
 
 /// The number of the bit that says whether u reaches v.
 fn bit_place(nodes: usize, u: usize, v: usize) -> usize
-    requires few { nodes ≤ 400 }
+    requires few { nodes ≤ MAX_NODES }
     requires nodes { (u ≤ nodes) × (v ≤ nodes) }
     ensures place { result ≡ bit_place nodes u v }
     ensures within { result / 64 < (nodes + 1) * row_len nodes }
@@ -88,7 +89,7 @@ impl Rows {
     /// The number of nodes, n, without node 0.
     pub fn nodes(&self) -> usize
         ensures count { result ≡ self.now.nodes }
-        ensures few { result ≤ 400 }
+        ensures few { result ≤ MAX_NODES }
     {
         self.nodes
     }
@@ -164,7 +165,7 @@ impl Rows {
 /// Row v itself may change on the way, where v reaches u or is u. It then gets the bit of v and its own
 /// bits alone; and the bit of v is added to each row with row v, so that the old row v would give the same.
 fn add_reach(words: &mut [u64], nodes: usize, u: usize, v: usize)
-    requires few { nodes ≤ 400 }
+    requires few { nodes ≤ MAX_NODES }
     requires nodes { (u ≤ nodes) × (v ≤ nodes) }
     requires len { length words.old ≡ (nodes + 1) * row_len nodes }
     ensures grown { Grows nodes words.old words.new u v }

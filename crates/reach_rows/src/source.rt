@@ -4,6 +4,7 @@ ghost use Rattle.std.specs.Prelude.{◌≡◌, ◌↔◌, ℕ, ◌+◌, ◌≤�
 ghost use Rattle.reach_laws.specs.Reach.{Reaches};
 ghost use Rattle.known_graph.specs.Bits.{bit_of, row_len};
 ghost use Rattle.reach_rows.specs.Sources.{Spreads, AreReachRows};
+ghost use Rattle.serializability.specs.declared.node.TheConstants.{MAX_NODES};
 
 use known_graph::Known;
 use known_graph::bits::{NodeBits, first_open, join_words, row_len, set_bit};
@@ -12,7 +13,7 @@ use std::alloc::AllocError;
 
 /// The node with this number.
 pub fn node(number: usize) -> NodeIx
-    requires few { number ≤ 400 }
+    requires few { number ≤ MAX_NODES }
     ensures value { result ≡ number }
 {
     NodeIx::new(number).unwrap()

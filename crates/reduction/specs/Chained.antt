@@ -8,6 +8,7 @@ use Rattle.serializability.specs.Polygraph.{Edge, Polygraph, Fits, arcs}
 use Rattle.reach_laws.specs.Reach.{IsCyclic, IsCycle}
 use Rattle.chain_laws.specs.Chains.{chain_polygraph, chain_choices}
 use Rattle.log_definitions.specs.Serial.{IsSerialOrder}
+use Rattle.polygraph.specs.declared.index.TheConstants.{MAX_CHOICES}
 
 -- the polygraph of the log's chains: of the known edges the set counts
 pub record IsChained (log : Log) (p : Polygraph) : Type 0 where
@@ -27,7 +28,7 @@ pub record HasNoSerialOrder (ss : List ClientSession) : Type 0 where
 pub record IsCoalesced (log : Log) : Type 0 where
   pub anomaly : anomaly_of log ≡ None
   pub acyclic : IsCyclic (arcs log) → ⊥
-  pub few : length (chain_choices log) ≤ 100000
+  pub few : length (chain_choices log) ≤ MAX_CHOICES
 
 -- of such a log this is the polygraph of its chains, whose known edges have no cycle
 pub record IsUnpruned (log : Log) (p : Polygraph) : Type 0 where

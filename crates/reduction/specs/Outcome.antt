@@ -15,6 +15,7 @@ use Rattle.prune_ledger.specs.Pruned.{Remainder, IsDeadBy, IsRemainder}
 use Rattle.reduction.specs.declared.outcome.Reduction.{Reduction}
 use Rattle.reduction.specs.declared.outcome.Reduction.TheVariants.{Anomalous, Cyclic, Dead, Open}
 use Rattle.reduction.specs.Chained.{HasItsOrders, HasNoSerialOrder, IsUnpruned, IsKnownCycle}
+use Rattle.polygraph.specs.declared.index.TheConstants.{MAX_CHOICES}
 
 -- the anomaly that is reported, where there is one
 abbrev pub anomaly_in : Reduction → Option Anomaly
@@ -58,5 +59,5 @@ IsReduction ss (Open choices reduced) = IsCountedHistory ss choices reduced
 -- where neither an anomaly stands nor the arcs have a cycle, there are more than 100,000 choices between chains; of want of
 -- memory nothing is said
 abbrev pub IsReduceFault : List ClientSession → PolyFault → Type 0
-IsReduceFault ss TooManyChoices = (anomaly_of (log_of ss) ≡ None) × (IsCyclic (arcs (log_of ss)) → ⊥) × (100000 < length (chain_choices (log_of ss)))
+IsReduceFault ss TooManyChoices = (anomaly_of (log_of ss) ≡ None) × (IsCyclic (arcs (log_of ss)) → ⊥) × (MAX_CHOICES < length (chain_choices (log_of ss)))
 IsReduceFault ss Memory = Unit {0}

@@ -7,6 +7,3 @@ mod steps;
 
 pub use outcome::Reduction;
 pub use steps::reduce;
-
-#[cfg(test)]
-mod tests;

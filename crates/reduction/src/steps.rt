@@ -10,16 +10,17 @@ ghost use Rattle.known_graph.specs.Graphs.{arc_graph};
 ghost use Rattle.polygraph.specs.Limits.{IsPolyFault};
 ghost use Rattle.reduction.specs.Chained.{IsChained, HasItsOrders};
 ghost use Rattle.reduction.specs.Outcome.{anomaly_in, IsReduction, IsReduceFault};
+ghost use Rattle.polygraph.specs.declared.index.TheConstants.{MAX_CHOICES};
 
 use crate::outcome::Reduction;
 use anomalies::classify;
 use coalesce::coalesce;
 use desk::gate::Gate;
 use desk::seat_no::Workers;
-use history::History;
 use known_graph::Known;
 use polygraph::{PolyFault, Polygraph};
 use prune_ledger::{Pruned, prune};
+use session_history::History;
 use std::alloc::Global;
 use std::sync::Wait;
 use std::thread::Threads;
@@ -33,7 +34,7 @@ fn chained(alloc: Global, history: &History, arcs: Known) -> Result<Polygraph, P
     requires acyclic { ¬ IsCyclic arcs.edges }
     ensures chained { IfOk result (IsChained (log_of history.now)) }
     ensures orders { IfOk result (HasItsOrders history.now) }
-    ensures few { OnOk result (length (chain_choices (log_of history.now)) ≤ 100000) }
+    ensures few { OnOk result (length (chain_choices (log_of history.now)) ≤ MAX_CHOICES) }
     ensures fault { IfErr result (IsPolyFault (chain_choices (log_of history.now))) }
 {
     match chains(alloc, history)? {

@@ -8,3 +8,4 @@ pub mod Lines
 pub mod Tournament
 pub mod Made
 pub mod PlainLaws
+pub mod Listed

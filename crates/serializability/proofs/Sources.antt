@@ -183,3 +183,18 @@ reads_from_is log r u e =
 pub reads_from_source : (log : Log) (r x u : ℕ) → x < log.keys → source log r x ≡ Some u → reads_from log r u ≡ true
 reads_from_source log r x u k e =
     any_from (λ y. option_map_or (λ v. eqb v u) (source log r y) false) (all_keys log) x (wrote_from (source log r x) u e) (Has-from_range x 0 log.keys (omega arith) (omega arith))
+
+-- ---- the nodes read from are nodes of the log
+writer_within : (log : Log) (x w : ℕ) (o : Option ℕ) → find (wrote log x w) (committed log) ≡ o → unwrap_or o 0 ≤ log.nodes
+writer_within log x w None e = omega arith
+writer_within log x w (Some v) e =
+    let r = range-from_Has v 1 log.nodes (find_some (wrote log x w) (committed log) v e).1 in omega (arith, r.1)
+
+mapped_some : (f : ℕ → ℕ) (o : Option ℕ) (u : ℕ) → option_map f o ≡ Some u → (w : ℕ) × (f w ≡ u)
+mapped_some f None u e = cc
+mapped_some f (Some w) u e = (w, cc)
+
+pub source_within : (log : Log) (v x u : ℕ) → source log v x ≡ Some u → u ≤ log.nodes
+source_within log v x u e =
+    let s = mapped_some (writer_of log x) (external_read x (log.ops v)) u e in
+    omega (arith, writer_within log x s.0 (find (wrote log x s.0) (committed log)) refl, s.1)

@@ -3,6 +3,8 @@ use Rattle.std.specs.Prelude.{◌≡◌, ◌≢◌, ◌⊎◌, true, false, ℕ,
 use Rattle.std.specs.List.{count_by, range_with_len, All}
 use Rattle.serializability.specs.Formula.{Cnf, Satisfies, literal_true, IsInRange, HasShortClauses}
 use Rattle.serializability.specs.Pairs.{Known, free_pairs, edge_literal}
+use Rattle.serializability.specs.declared.literal.TheConstants.{MAX_CLAUSES}
+use Rattle.serializability.specs.declared.node.TheConstants.{MAX_NODES}
 
 -- whether u stands before v, as it is known or as the assignment has it
 abbrev pub is_before : Known → List (ℕ × ℕ) → List Bool → ℕ → ℕ → Bool
@@ -33,8 +35,8 @@ pub record IsDecoded (n : ℕ) (r : ℕ → ℕ → Bool) (order : List ℕ) : T
 
 -- a formula of at most 400 nodes and 20,000,000 clauses, each satisfying assignment of which stands for an order of the nodes
 pub record IsFormula (f : Cnf) : Type 0 where
-  pub few_nodes : f.nodes ≤ 400
-  pub few_clauses : length f.clauses ≤ 20000000
+  pub few_nodes : f.nodes ≤ MAX_NODES
+  pub few_clauses : length f.clauses ≤ MAX_CLAUSES
   pub in_range : IsInRange f
   pub short : HasShortClauses f
   pub orders : (values : List Bool) → Satisfies values f → IsOrder f.nodes (before f values)

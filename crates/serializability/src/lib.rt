@@ -14,5 +14,5 @@ mod node;
 
 pub use anomaly::{Anomaly, ReadAnomaly};
 pub use event::Event;
-pub use literal::Literal;
+pub use literal::{Literal, MAX_CLAUSES};
 pub use node::{MAX_NODES, NodeIx};

@@ -1,6 +1,7 @@
-//! Node numbers.
+//! The number of a node, and how many nodes there can be.
 
 ghost use Rattle.std.specs.Prelude.{◌≡◌, ℕ, ◌≤◌, ◌↔◌, IsSome, IfSome};
+ghost use Rattle.serializability.specs.declared.node.TheConstants.{MAX_NODES};
 
 use std::marker::Model;
 
@@ -18,7 +19,7 @@ impl Model for NodeIx {
 
     ghost view = { λ v. v.number };
 
-    ghost invariant = { λ v. v.number ≤ 400 };
+    ghost invariant = { λ v. v.number ≤ MAX_NODES };
 
     ghost inverse = { λ n. record { number = n } };
 }
@@ -29,7 +30,7 @@ impl NodeIx {
 
     /// The node with this number, where it is one of 0 to 400.
     pub fn new(number: usize) -> Option<NodeIx>
-        ensures some { IsSome result ↔ (number ≤ 400) }
+        ensures some { IsSome result ↔ (number ≤ MAX_NODES) }
         ensures value { IfSome result (λ v. v ≡ number) }
     {
         if number <= MAX_NODES {
@@ -44,7 +45,7 @@ impl NodeIx {
     /// The number.
     pub fn get(self) -> usize
         ensures value { result ≡ self }
-        ensures range { result ≤ 400 }
+        ensures range { result ≤ MAX_NODES }
     {
         usize::from(self.number)
     }

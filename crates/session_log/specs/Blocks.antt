@@ -7,6 +7,7 @@ use Rattle.session_log.specs.declared.block.Block.{Block}
 use Rattle.session_log.specs.declared.fault.Limit.TheVariants as limit
 use Rattle.session_log.specs.declared.fault.LogFault.{LogFault}
 use Rattle.session_log.specs.declared.fault.LogFault.TheVariants.{OverLimit}
+use Rattle.session_log.specs.declared.limits.TheConstants.{MAX_LOG_BYTES, MAX_SESSIONS}
 
 -- a block ends before these lines
 abbrev pub ends_block : List (List ℕ × Bool) → Bool
@@ -47,8 +48,8 @@ block_fault text b = first_fault b.line Start (lines (block_text text b))
 -- the limits on the whole text
 unfoldable pub size_fault : List ℕ → Option LogFault
 size_fault text =
-    if nat_lt (2 ^ 24) (length text) then Some (OverLimit limit.LogBytes) else
-    (if nat_lt 64 (count_by is_session_line (lines text)) then Some (OverLimit limit.Sessions) else None)
+    if nat_lt (MAX_LOG_BYTES) (length text) then Some (OverLimit limit.LogBytes) else
+    (if nat_lt MAX_SESSIONS (count_by is_session_line (lines text)) then Some (OverLimit limit.Sessions) else None)
 
 -- the first of these that is a fault
 abbrev pub first_of : List (Option LogFault) → Option LogFault

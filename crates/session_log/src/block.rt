@@ -5,18 +5,14 @@ ghost use Rattle.std.specs.List.{starts_with};
 ghost use Rattle.session_log.specs.Faults.{IsFault, IsSizeFault, IsGrammarFault};
 ghost use Rattle.session_log.specs.Text.{view, session_text, IsLegal};
 ghost use Rattle.session_log.specs.Blocks.{blocks_of, block_text, block_fault, size_fault};
+ghost use Rattle.session_log.specs.declared.limits.TheConstants.{MAX_LOG_BYTES};
 
 use crate::fault::{Limit, LogFault};
+use crate::limits::{MAX_LOG_BYTES, MAX_SESSIONS};
 use crate::parse::parse_lines;
 use crate::session::Session;
 use crate::words::next_line;
 use std::alloc::Global;
-
-/// The most bytes of a log, 16 MiB.
-pub const MAX_LOG_BYTES: usize = 16_777_216;
-
-/// The most lines of a log that begin with the bytes `session`.
-pub const MAX_SESSIONS: usize = 64;
 
 /// Where a session lies in a log: at the bytes `start..stop`, from line `line` on.
 #[derive(Clone, Copy, Debug, PartialEq, Eq)]
@@ -58,7 +54,7 @@ pub fn cut(alloc: Global, log: &[u8]) -> Result<Vec<Block>, LogFault>
 // The same of a log that has lines and keeps the limit on bytes.
 fn cut_lines(alloc: Global, log: &[u8]) -> Result<Vec<Block>, LogFault>
     requires some { 0 < length log.now }
-    requires small { length log.now ≤ 2 ^ 24 }
+    requires small { length log.now ≤ MAX_LOG_BYTES }
     ensures accepted { IfOk result (λ _. size_fault log.now ≡ None) }
     ensures blocks { IfOk result (λ blocks. blocks.items ≡ blocks_of log.now) }
     ensures fault { IfErr result (λ f. IsFault f (size_fault log.now)) }

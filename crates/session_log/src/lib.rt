@@ -5,15 +5,17 @@ mod block;
 mod fault;
 mod key;
 pub mod laws;
+mod limits;
 mod line;
 mod parse;
 mod print;
 mod session;
 mod words;
 
-pub use block::{Block, MAX_LOG_BYTES, MAX_SESSIONS, cut, parse_block};
+pub use block::{Block, cut, parse_block};
 pub use fault::{Limit, LogFault};
 pub use key::Key;
+pub use limits::{MAX_KEYS, MAX_LOG_BYTES, MAX_OPERATIONS, MAX_SESSIONS};
 pub use line::Line;
 pub use parse::parse_lines;
 pub use print::print_log;

@@ -1,13 +1,10 @@
 ghost use Rattle.std.specs.Prelude.{◌≡◌, IfOk, IfSome};
 
-use anomalies::classify;
 use cobra_cli::read_log;
-use desk::gate::OpenGate;
-use desk::seat_no::Workers;
+use desk::{OpenGate, Workers};
 use headline::laws::anomalies_decide;
-use history::History;
+use history::{History, NodeIx, classify};
 use known_graph::Known;
-use serializability::NodeIx;
 use std::alloc::{AllocError, Global};
 use std::process::Abort;
 use std::sync::Wait;

@@ -1,13 +1,11 @@
 use crate::tape::Tape;
+use branch_search::Budget;
 use cobra_cli::{Fault, Options, Status, Stop, StrategyName, check};
-use cube_machine::Budget;
-use desk::gate::{Gate, OpenGate};
-use desk::seat_no::{SeatNo, Workers};
+use desk::{OpenGate, Workers};
 use dimacs::Counted;
 use std::alloc::{AllocError, Global};
 use std::process::Abort;
 use std::sync::Wait;
-use std::sync::atomic::{AtomicU64, Ordering};
 use std::test::Fail;
 use std::thread::Threads;
 use std::time::Clock;
@@ -15,14 +13,14 @@ use std::time::Clock;
 const WRITE_SKEW: &str =
     "session 1\nbegin\nr x 0\nr y 0\nw x 1\ncommit\nsession 2\nbegin\nr x 0\nr y 0\nw y 2\ncommit\n";
 
-const LOST_UPDATE: &str =
+pub const LOST_UPDATE: &str =
     "session 1\nbegin\nr x 0\nw x 1\ncommit\nsession 2\nbegin\nr x 0\nw x 2\ncommit\n";
 
 const TWO_WRITERS: &str =
     "session 1\nbegin\nw x 1\ncommit\nsession 2\nbegin\nw x 2\ncommit\nsession 3\nbegin\nr x 1\ncommit\n";
 
 // Pruning settles each of three choices in turn.
-const SETTLED: &str = "session 1\nbegin\nw a 1\ncommit\nbegin\nw a 2\nw b 3\nw c 4\ncommit\n\
+pub const SETTLED: &str = "session 1\nbegin\nw a 1\ncommit\nbegin\nw a 2\nw b 3\nw c 4\ncommit\n\
     session 2\nbegin\nr a 1\nw b 5\ncommit\nsession 3\nbegin\nr b 5\nw c 6\ncommit\n\
     session 4\nbegin\nr c 6\ncommit\n";
 
@@ -43,6 +41,11 @@ const BY_SIZES: &str = "session 1\nbegin\nw y 1\ncommit\nsession 2\nbegin\nw x 2
     session 5\nbegin\nw x 3\ncommit\nsession 6\nbegin\nw x 4\ncommit\n\
     session 7\nbegin\nr y 1\nr x 4\ncommit\nsession 8\nbegin\nw y 5\ncommit\n\
     session 9\nbegin\nr x 3\nr y 5\ncommit\n";
+
+// With a budget of six cubes a search finds an order by the first choices, and none by those with the most edges.
+const BY_PLACES: &str = "session 1\nbegin\nw x 1\ncommit\nsession 2\nbegin\nw y 2\nw x 3\ncommit\n\
+    session 3\nbegin\nw x 4\nw y 5\ncommit\nsession 4\nbegin\nw y 6\ncommit\n\
+    session 5\nbegin\nr y 6\nr x 1\ncommit\nsession 6\nbegin\nr y 6\nr x 3\ncommit\n";
 
 fn options(rt: &impl Abort, workers: u8, strategy: StrategyName, budget: usize) -> Options {
     Options {
@@ -142,36 +145,6 @@ fn output_that_fails(rt: HostRuntime) {
     assert_eq!(rt; taken.as_slice(), b"not seri".as_slice());
 }
 
-// Counts how often it is passed.
-#[derive(Drop)]
-struct Counting {
-    passed: AtomicU64,
-}
-
-impl Gate for Counting {
-    fn pass<R: Wait + Clock>(&self, _rt: &R, _seat: SeatNo, _turn: u64) {
-        self.passed.fetch_add(1, Ordering::SeqCst);
-    }
-}
-
-// One pass for each block of the log and one that finds none left, by the gate that the caller gave.
-#[test]
-fn the_callers_gate_is_passed(rt: HostRuntime) {
-    let gate = Counting {
-        passed: AtomicU64::new(0),
-    };
-    let options = options(&rt, 1, StrategyName::First, 10_000);
-    let mut sink = Counted::new(Tape {
-        taken: Vec::new(rt.alloc()),
-        most: 1 << 20,
-        good: 1 << 20,
-    });
-    let log = LOST_UPDATE.as_bytes();
-    let result = check(&rt, rt.alloc(), log, &options, &gate, &mut sink);
-    assert!(rt; result == Ok(Status::NotSerializable));
-    assert_eq!(rt; gate.passed.load(Ordering::SeqCst), 3);
-}
-
 // By which choice and which side a search goes on, with one worker, shows in what it prints.
 #[test]
 fn by_strategy(rt: HostRuntime) -> Result<(), Fail> {
@@ -205,6 +178,14 @@ fn by_strategy(rt: HostRuntime) -> Result<(), Fail> {
             "serializable\n1 1\n2 1\n3 1\n4 1\n6 1\n7 1\n5 1\n8 1\n9 1\n",
         ),
         (StrategyName::Least, BY_SIZES, 7, 3, "unknown: 7 closed\n"),
+        (
+            StrategyName::First,
+            BY_PLACES,
+            6,
+            0,
+            "serializable\n2 1\n4 1\n6 1\n1 1\n5 1\n3 1\n",
+        ),
+        (StrategyName::Most, BY_PLACES, 6, 3, "unknown: 6 closed\n"),
     ] {
         let options = options(&rt, 1, strategy, budget);
         let (code, printed) = told(&rt, rt.alloc(), &options, log)?;

@@ -6,6 +6,8 @@ mod chains;
 #[cfg(test)]
 mod checks;
 #[cfg(test)]
+mod gates;
+#[cfg(test)]
 mod tape;
 #[cfg(test)]
 mod tests;

@@ -1,14 +1,12 @@
 use crate::tape::Tape;
-use anomalies::classify;
+use branch_search::Budget;
 use cobra_cli::{
     CountedRead, Fault, Options, Status, Stop, StrategyName, decode, encode, read_all, read_log,
     stats, verify,
 };
-use cube_machine::Budget;
-use desk::gate::OpenGate;
-use desk::seat_no::Workers;
+use desk::{OpenGate, Workers};
 use dimacs::Counted;
-use serializability::{Anomaly, NodeIx, ReadAnomaly};
+use history::{Anomaly, NodeIx, ReadAnomaly, classify};
 use session_log::{cut, parse_block, print_log};
 use std::alloc::{AllocError, Global};
 use std::process::Abort;

@@ -10,7 +10,7 @@ use Rattle.std.specs.Option.{option_map}
 use Rattle.serializability.specs.Polygraph.{source, writer_of}
 use Rattle.serializability.proofs.Places.{Has, Apart, Apart-from_IsDistinct}
 use Rattle.serializability.proofs.Sources.{source_is}
-use Rattle.history.specs.Tables.{writers_in}
+use Rattle.session_history.specs.Tables.{writers_in}
 use Rattle.chain_laws.specs.Chains.{next, IsLinked, last, IsClosedChain, NoneCloses}
 use Rattle.chain_laws.proofs.Walks.{IsNext, next_from, one_some}
 use Rattle.chain_laws.proofs.Closed.{last_push, linked_push}

@@ -8,12 +8,12 @@ use Rattle.std.proofs.lemmas.List.{append-nil, map-append}
 use Rattle.std.proofs.lemmas.List.Elements.{filter_map-append, filter-append}
 use Rattle.serializability.specs.Log.{Log}
 use Rattle.serializability.specs.Polygraph.{source, committed}
-use Rattle.history.specs.Tables.{sources_of}
-use Rattle.history.specs.declared.reads.ReadFrom.{ReadFrom}
+use Rattle.session_history.specs.Tables.{sources_of}
+use Rattle.session_history.specs.declared.reads.ReadFrom.{ReadFrom}
 use Rattle.chain_laws.specs.Chains.{readers, reads_key}
 use Rattle.write_chains.specs.declared.readings.Reading.{Reading}
 use Rattle.write_chains.specs.Readings.{readings_among, readings_in, readings_by, readers_among}
-use Rattle.write_chains.proofs.Sources.{pair_of, source_within}
+use Rattle.serializability.proofs.Sources.{source_within}
 
 abbrev pub reading : ℕ → ℕ → Reading
 reading r w = record { reader = r; source = w }
@@ -22,6 +22,10 @@ reading r w = record { reader = r; source = w }
 by_pairs : ℕ → ℕ → List (ℕ × ℕ) → List Reading
 by_pairs r x [] = []
 by_pairs r x (p ∷ ps) = cond (eqb p.0 x) (reading r p.1 ∷ []) [] ++ by_pairs r x ps
+
+-- a read, by key and source
+abbrev pair_of : ReadFrom → ℕ × ℕ
+pair_of r = (r.key, r.source)
 
 from_pairs : (r x : ℕ) (reads : List ReadFrom) → readings_by r x reads ≡ by_pairs r x (map pair_of reads)
 unfolding by_pairs

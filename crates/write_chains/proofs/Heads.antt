@@ -5,7 +5,7 @@ use Rattle.std.specs.List.{filter}
 use Rattle.std.specs.Option.{option_map_or}
 use Rattle.serializability.specs.Log.{Log}
 use Rattle.serializability.specs.Polygraph.{source, committed}
-use Rattle.history.specs.Tables.{writers_in}
+use Rattle.session_history.specs.Tables.{writers_in}
 use Rattle.chain_laws.specs.Chains.{writes, readers, next, tail_from, heads}
 use Rattle.write_chains.specs.Walks.{end_by}
 use Rattle.write_chains.specs.Views.{ChainView, chain_from}

@@ -8,7 +8,8 @@ use Rattle.std.proofs.lemmas.List.FromFn.{length-map-range_with_len, get_or-map-
 use Rattle.log_definitions.specs.Numbers.{log_of}
 use Rattle.write_chains.specs.declared.chain.KeyChains.{KeyChains}
 use Rattle.write_chains.specs.declared.all.Chains.TheInside.{Inside}
-use Rattle.write_chains.specs.Lists.{pair_at, pairs, unless_empty}
+use Rattle.session_history.specs.Tables.{pair_at, pairs}
+use Rattle.write_chains.specs.Lists.{unless_empty}
 use Rattle.write_chains.specs.Held.{key_view, key_in, sessions_of, AreChains}
 use Rattle.write_chains.proofs.Gathered.{range_push}
 

@@ -1,5 +1,3 @@
-pub mod Searched
-pub mod Sources
 pub mod Pushes
 pub mod Gathered
 pub mod Nexts

@@ -10,7 +10,7 @@ use Rattle.serializability.specs.Polygraph.{source, committed}
 use Rattle.serializability.proofs.Places.{Has, Has-from_Contains, Has-append_cases, each_of_filter, each_from_filter, each_of_range, each_from_range}
 use Rattle.serializability.proofs.Serial.{some_cases}
 use Rattle.reach_laws.proofs.Walks.{each_from_contained, each_contained}
-use Rattle.history.specs.Tables.{writers_in}
+use Rattle.session_history.specs.Tables.{writers_in}
 use Rattle.chain_laws.specs.Chains.{writes, next}
 use Rattle.chain_laws.proofs.Walks.{IsNext, next_is, next_from, one_some}
 use Rattle.write_chains.specs.declared.links.Links.{Links}

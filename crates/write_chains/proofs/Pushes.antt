@@ -3,7 +3,7 @@ use Rattle.std.proofs.Common.{◌≡◌, ℕ, ◌<◌, Bool, true, false, cond, 
 use Rattle.std.specs.Option.{option_map}
 use Rattle.std.proofs.lemmas.Bool.{eqb-true}
 use Rattle.std.proofs.lemmas.List.{append-nil, length-set}
-use Rattle.history.proofs.KeyRows.{slice_get-set_here, slice_get-set_apart}
+use Rattle.session_history.proofs.KeyRows.{slice_get-set_here, slice_get-set_apart}
 use Rattle.write_chains.specs.Lists.{AreLists}
 
 pub lists_same : {X : Type 0} (n : ℕ) (f g : ℕ → List X) (lists : List (Vec X Global)) → ((v : ℕ) → v < n → f v ≡ g v) → AreLists n f lists → AreLists n g lists

@@ -5,7 +5,8 @@ use Rattle.serializability.specs.Log.{Log}
 use Rattle.serializability.specs.Polygraph.{all_keys}
 use Rattle.log_definitions.specs.Numbers.{log_of}
 use Rattle.chain_laws.specs.Chains.{NoneCloses, readers, inner_edges}
-use Rattle.write_chains.specs.Lists.{pairs, unless_empty}
+use Rattle.session_history.specs.Tables.{pairs}
+use Rattle.write_chains.specs.Lists.{unless_empty}
 use Rattle.write_chains.specs.Views.{ChainView, chain_view, chain_from, chains_in, group_view}
 use Rattle.write_chains.specs.declared.chain.KeyChains.{KeyChains}
 use Rattle.write_chains.specs.declared.all.Chains.TheInside.{Inside}

@@ -1,6 +1,5 @@
 -- Lists by number, and tables of nodes.
 use Rattle.std.specs.Prelude.{◌≡◌, ℕ, ◌+◌, ◌<◌, ◌≤◌, List, [], ◌∷◌, length, slice_get, slice_index_or, Option, None, Some, Vec}
-use Rattle.std.specs.List.{filter_map, range_with_len}
 use Rattle.std.specs.Option.{option_map}
 use Rattle.std.specs.declared.alloc.Global.{Global}
 
@@ -13,13 +12,6 @@ pub record AreLists {X : Type 0} (n : ℕ) (f : ℕ → List X) (lists : List (V
 pub record IsTable (n : ℕ) (f : ℕ → Option ℕ) (table : List (Option ℕ)) : Type 0 where
   pub count : length table ≡ n + 1
   pub each : (v : ℕ) → v ≤ n → slice_index_or table v None ≡ f v
-
--- the numbers from a on, n of them, that have a value, each with it
-abbrev pub pair_at : {Y : Type 0} → (ℕ → Option Y) → ℕ → Option (ℕ × Y)
-pair_at g x = option_map (λ y. (x, y)) (g x)
-
-abbrev pub pairs : {Y : Type 0} → (ℕ → Option Y) → ℕ → ℕ → List (ℕ × Y)
-pairs g a n = filter_map (pair_at g) (range_with_len a n)
 
 -- a list that is not empty
 abbrev pub unless_empty : {X : Type 0} → List X → Option (List X)

@@ -4,7 +4,7 @@ use Rattle.std.specs.List.{filter, filter_map}
 use Rattle.std.specs.Option.{option_map}
 use Rattle.serializability.specs.Log.{Log}
 use Rattle.serializability.specs.Polygraph.{committed, source}
-use Rattle.history.specs.declared.reads.ReadFrom.{ReadFrom}
+use Rattle.session_history.specs.declared.reads.ReadFrom.{ReadFrom}
 use Rattle.write_chains.specs.declared.readings.Reading.{Reading}
 
 -- those of these nodes that read the key externally, each with the node that it reads from

@@ -13,9 +13,9 @@ use crate::groups::readers_in;
 use crate::inner::add_inner_edges;
 use crate::links::links_of;
 use crate::readings::Reading;
-use history::History;
 use reach_laws::Edge;
 use serializability::NodeIx;
+use session_history::History;
 use std::alloc::{AllocError, Global};
 use std::marker::Model;
 

@@ -10,8 +10,8 @@ ghost use Rattle.log_definitions.specs.Numbers.{log_of};
 use crate::all::Chains;
 use crate::closed::closed_chain;
 use crate::readings::readings_of;
-use history::History;
 use serializability::NodeIx;
+use session_history::History;
 use std::alloc::{AllocError, Global};
 
 /// The chains of a clean history, or a chain that closes on itself, where there is one: its nodes, each of which reads the

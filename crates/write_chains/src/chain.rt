@@ -9,9 +9,8 @@ ghost use Rattle.write_chains.specs.Held.{key_view, key_in};
 
 use crate::groups::{Group, groups_of};
 use crate::links::Links;
-use crate::source::source_of;
-use history::History;
 use serializability::NodeIx;
+use session_history::History;
 use std::alloc::{AllocError, Global};
 
 /// A chain of a key: its first and its last writer, and the nodes that read the key from the last, ascending.
@@ -79,7 +78,7 @@ pub fn key_chains(
     let initial = chain_of(alloc, links, NodeIx::INITIAL)?;
     let mut others = Vec::new(alloc);
     for writer in history.writers_of(key) {
-        if source_of(history, *writer, key).is_none() {
+        if history.source_of(*writer, key).is_none() {
             others.push(chain_of(alloc, links, *writer)?)?;
         }
     }

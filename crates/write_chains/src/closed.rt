@@ -8,9 +8,8 @@ ghost use Rattle.chain_laws.specs.Chains.{writes, IsClosedChain, NoneCloses};
 ghost use Rattle.log_definitions.specs.Numbers.{log_of};
 ghost use Rattle.write_chains.specs.Walks.{IsOpen, AreOpen};
 
-use crate::source::source_of;
-use history::History;
 use serializability::NodeIx;
+use session_history::History;
 use std::alloc::{AllocError, Global};
 
 /// The source of a node that is not known to be open. There is none where the node is open.
@@ -24,7 +23,7 @@ fn source_unless_open(history: &History, key: usize, marks: &[bool], node: NodeI
     if marks[node.get()] {
         None
     } else {
-        source_of(history, node, key)
+        history.source_of(node, key)
     }
 }
 

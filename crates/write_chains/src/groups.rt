@@ -1,10 +1,11 @@
 //! The readers of the nodes that a key is read from.
 
 ghost use Rattle.std.specs.Prelude.{◌≡◌, ◌+◌, ◌<◌, ◌≤◌, ℕ, List, length, map, IfOk};
-ghost use Rattle.write_chains.specs.Lists.{AreLists, pairs, unless_empty};
+ghost use Rattle.session_history.specs.Tables.{pairs};
+ghost use Rattle.write_chains.specs.Lists.{AreLists, unless_empty};
 ghost use Rattle.write_chains.specs.Views.{group_view};
 
-use crate::source::node;
+use crate::node::node;
 use serializability::NodeIx;
 use std::alloc::{AllocError, Global};
 

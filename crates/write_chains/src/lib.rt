@@ -10,8 +10,8 @@ mod groups;
 mod inner;
 mod links;
 mod lists;
+mod node;
 mod readings;
-mod source;
 
 pub use all::Chains;
 pub use build::chains;

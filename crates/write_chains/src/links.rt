@@ -10,9 +10,8 @@ ghost use Rattle.write_chains.specs.Views.{AreLinks};
 
 use crate::lists::{empty_lists, push_at};
 use crate::readings::Reading;
-use crate::source::source_of;
-use history::History;
 use serializability::NodeIx;
+use session_history::History;
 use std::alloc::{AllocError, Global};
 
 /// Of each node of a history, the writer of a key that stands behind it, and the nodes that read the key from it.
@@ -31,7 +30,7 @@ fn next_of(alloc: Global, history: &History, key: usize) -> Result<Vec<Option<No
 {
     let mut table = vec![in alloc; None; history.committed() + 1]?;
     for writer in history.writers_of(key) {
-        if let Some(source) = source_of(history, *writer, key) {
+        if let Some(source) = history.source_of(*writer, key) {
             table[source.get()] = Some(*writer);
         }
     }

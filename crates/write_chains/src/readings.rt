@@ -7,9 +7,9 @@ ghost use Rattle.write_chains.specs.Readings.{readings_by, readings_in};
 ghost use Rattle.write_chains.specs.declared.readings.Reading.{Reading};
 
 use crate::lists::{empty_lists, push_at};
-use crate::source::node;
-use history::{History, ReadFrom};
+use crate::node::node;
 use serializability::NodeIx;
+use session_history::{History, ReadFrom};
 use std::alloc::{AllocError, Global};
 
 /// A node that reads a key externally, and the node that it reads it from.

@@ -1,8 +1,8 @@
 use Rattle.std.proofs.Common.{◌≡◌}
 use Rattle.std.specs.List.{list_any}
 use Rattle.desk.specs.declared.history.Entry.{Entry}
-use Rattle.cube_laws.specs.declared.parts.Event.{Event}
-use Rattle.cube_laws.specs.declared.parts.Reply.{Reply}
+use Rattle.cube_laws.specs.declared.messages.Event.{Event}
+use Rattle.cube_laws.specs.declared.messages.Reply.{Reply}
 use Rattle.cube_laws.specs.Runs.{solves}
 use Rattle.branch_search.proofs.reading.solving_line.Given as goal
 

@@ -14,7 +14,7 @@ returns-in-Some-clause-faithful c =
     (record { none = none_serial c.args.history.now c.committed.ensures.well_formed c.in-Some.anomaly (sym c.in_ok-anomaly.ensures.anomaly ∙ c.in-Some.is) })
     c.contradicted.ensures.formula
 
-pub returns-in_ok-plain_formula-in-None-clause-faithful : goal.returns-in_ok-plain_formula-in-None-clause-faithful
-returns-in_ok-plain_formula-in-None-clause-faithful c =
-    faithful_plain c.args.history.now c.committed.ensures.well_formed (cnf_of c.in_ok-plain_formula-in-None.field-0)
-    (c.in_ok-plain_formula-in-None.ensures.formula ∙ plain_is_answer c.args.history.now (sym c.in_ok-anomaly.ensures.anomaly ∙ c.in-None.is))
+pub returns-in_ok-formula-in-None-clause-faithful : goal.returns-in_ok-formula-in-None-clause-faithful
+returns-in_ok-formula-in-None-clause-faithful c =
+    faithful_plain c.args.history.now c.committed.ensures.well_formed (cnf_of c.in_ok-formula-in-None.formula)
+    (c.in_ok-formula-in-None.ensures.formula ∙ plain_is_answer c.args.history.now (sym c.in_ok-anomaly.ensures.anomaly ∙ c.in-None.is))

@@ -3,8 +3,6 @@ use Rattle.std.specs.Prelude.{IfOk}
 use Rattle.std.specs.List.{AllByRecursion}
 use Rattle.std.proofs.lemmas.Result.{IfOk-weaker, IfErr-weaker}
 use Rattle.serializability.specs.Decoded.{IsFormula}
-use Rattle.known_graph.specs.Graphs.{IsKnownGraph}
-use Rattle.polygraph.specs.Polygraphs.{IsPolygraph}
 use Rattle.order_laws.specs.Reduced.{reduced}
 use Rattle.order_laws.proofs.Clauses.{is_formula}
 use Rattle.order_cnf.specs.Data.{cnf_of, is_listed}
@@ -13,7 +11,7 @@ use Rattle.order_cnf.specs.Limits.{size_fault, IsFault}
 use Rattle.order_cnf.specs.Streams.{IsUnturned, IsFreeBipath}
 use Rattle.order_cnf.specs.Tables.{IsStrict, pairs_in}
 use Rattle.order_cnf.proofs.Wholes.{reduced_is, edges_in, counts_in}
-use Rattle.order_cnf.proofs.Rests.{IsRest, is_reach, is_proper, is_strict, later_pairs, all_unturned, two_each}
+use Rattle.order_cnf.proofs.Rests.{is_reach, is_proper, is_strict, later_pairs, all_unturned, two_each}
 use Rattle.order_cnf.proofs.reduced.formula_of_open.Goals as goal
 
 pub of-requires-clause-strict : goal.of-requires-clause-strict
@@ -21,12 +19,7 @@ of-requires-clause-strict c =
     let same = c.poly-polygraph.ensures.poly in
     let p = c.args.reduced.now.poly in
     let rows = c.args.reduced.now.rows in
-    let rest : IsRest p rows = record {
-      graph = subst (λ q. IsKnownGraph (record { nodes = q.nodes; edges = q.known })) same c.nodes.ensures.known;
-      polygraph = subst IsPolygraph same c.nodes.ensures.polygraph;
-      reduced = c.poly-polygraph.ensures.reduced;
-      rows = c.rows.ensures.reach;
-    } in
+    let rest = c.left_is_proper.ensures.rest in
     let copied = c.in_ok-rows.ensures.same ∙ c.rows.ensures.rows in
     subst (λ g. IsStrict (is_listed g.edges)) (sym copied) (is_strict p rows rest)
 
@@ -35,12 +28,7 @@ new-layout-requires c =
     let same = c.poly-polygraph.ensures.poly in
     let p = c.args.reduced.now.poly in
     let rows = c.args.reduced.now.rows in
-    let rest : IsRest p rows = record {
-      graph = subst (λ q. IsKnownGraph (record { nodes = q.nodes; edges = q.known })) same c.nodes.ensures.known;
-      polygraph = subst IsPolygraph same c.nodes.ensures.polygraph;
-      reduced = c.poly-polygraph.ensures.reduced;
-      rows = c.rows.ensures.reach;
-    } in
+    let rest = c.left_is_proper.ensures.rest in
     let copied = c.in_ok-rows.ensures.same ∙ c.rows.ensures.rows in
     let nodes = ap (λ r. r.nodes) c.in_ok-relation.ensures.relation ∙ c.nodes.ensures.count ∙ ap (λ q. q.nodes) same in
     let known = ap (λ r. r.known) c.in_ok-relation.ensures.relation ∙ ap (λ g. g.edges) copied in
@@ -59,12 +47,7 @@ of-requires-2-clause-sound c =
     let same = c.poly-polygraph.ensures.poly in
     let p = c.args.reduced.now.poly in
     let rows = c.args.reduced.now.rows in
-    let rest : IsRest p rows = record {
-      graph = subst (λ q. IsKnownGraph (record { nodes = q.nodes; edges = q.known })) same c.nodes.ensures.known;
-      polygraph = subst IsPolygraph same c.nodes.ensures.polygraph;
-      reduced = c.poly-polygraph.ensures.reduced;
-      rows = c.rows.ensures.reach;
-    } in
+    let rest = c.left_is_proper.ensures.rest in
     let copied = c.in_ok-rows.ensures.same ∙ c.rows.ensures.rows in
     let nodes = ap (λ r. r.nodes) c.in_ok-relation.ensures.relation ∙ c.nodes.ensures.count ∙ ap (λ q. q.nodes) same in
     let known = ap (λ r. r.known) c.in_ok-relation.ensures.relation ∙ ap (λ g. g.edges) copied in
@@ -80,12 +63,7 @@ returns-clause-formula c =
     let same = c.poly-polygraph.ensures.poly in
     let p = c.args.reduced.now.poly in
     let rows = c.args.reduced.now.rows in
-    let rest : IsRest p rows = record {
-      graph = subst (λ q. IsKnownGraph (record { nodes = q.nodes; edges = q.known })) same c.nodes.ensures.known;
-      polygraph = subst IsPolygraph same c.nodes.ensures.polygraph;
-      reduced = c.poly-polygraph.ensures.reduced;
-      rows = c.rows.ensures.reach;
-    } in
+    let rest = c.left_is_proper.ensures.rest in
     let copied = c.in_ok-rows.ensures.same ∙ c.rows.ensures.rows in
     let nodes = ap (λ r. r.nodes) c.in_ok-relation.ensures.relation ∙ c.nodes.ensures.count ∙ ap (λ q. q.nodes) same in
     let known = ap (λ r. r.known) c.in_ok-relation.ensures.relation ∙ ap (λ g. g.edges) copied in
@@ -101,12 +79,7 @@ returns-clause-fits c =
     let same = c.poly-polygraph.ensures.poly in
     let p = c.args.reduced.now.poly in
     let rows = c.args.reduced.now.rows in
-    let rest : IsRest p rows = record {
-      graph = subst (λ q. IsKnownGraph (record { nodes = q.nodes; edges = q.known })) same c.nodes.ensures.known;
-      polygraph = subst IsPolygraph same c.nodes.ensures.polygraph;
-      reduced = c.poly-polygraph.ensures.reduced;
-      rows = c.rows.ensures.reach;
-    } in
+    let rest = c.left_is_proper.ensures.rest in
     let copied = c.in_ok-rows.ensures.same ∙ c.rows.ensures.rows in
     let nodes = ap (λ r. r.nodes) c.in_ok-relation.ensures.relation ∙ c.nodes.ensures.count ∙ ap (λ q. q.nodes) same in
     let known = ap (λ r. r.known) c.in_ok-relation.ensures.relation ∙ ap (λ g. g.edges) copied in
@@ -122,12 +95,7 @@ returns-clause-fault c =
     let same = c.poly-polygraph.ensures.poly in
     let p = c.args.reduced.now.poly in
     let rows = c.args.reduced.now.rows in
-    let rest : IsRest p rows = record {
-      graph = subst (λ q. IsKnownGraph (record { nodes = q.nodes; edges = q.known })) same c.nodes.ensures.known;
-      polygraph = subst IsPolygraph same c.nodes.ensures.polygraph;
-      reduced = c.poly-polygraph.ensures.reduced;
-      rows = c.rows.ensures.reach;
-    } in
+    let rest = c.left_is_proper.ensures.rest in
     let copied = c.in_ok-rows.ensures.same ∙ c.rows.ensures.rows in
     let nodes = ap (λ r. r.nodes) c.in_ok-relation.ensures.relation ∙ c.nodes.ensures.count ∙ ap (λ q. q.nodes) same in
     let known = ap (λ r. r.known) c.in_ok-relation.ensures.relation ∙ ap (λ g. g.edges) copied in

@@ -1,6 +1,7 @@
 use Rattle.std.proofs.Common.{◌≡◌, ℕ, List}
 use Rattle.std.specs.Prelude.{map}
-use Rattle.write_chains.specs.Lists.{AreLists, pairs, unless_empty}
+use Rattle.session_history.specs.Tables.{pairs}
+use Rattle.write_chains.specs.Lists.{AreLists, unless_empty}
 use Rattle.write_chains.specs.Views.{group_view}
 use Rattle.write_chains.proofs.groups.groups_of.Given as goal
 

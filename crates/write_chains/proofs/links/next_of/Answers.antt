@@ -1,7 +1,7 @@
 use Rattle.std.proofs.Common.{◌≡◌, ◌+◌, ◌++◌, ◌∷◌, [], ◌<◌, List, ℕ, Option, Some, take, set, length, sym, ap, ◌∙◌, subst, arith}
 use Rattle.std.proofs.lemmas.List.{take_more, take_all}
 use Rattle.log_definitions.specs.Numbers.{log_of}
-use Rattle.write_chains.proofs.Sources.{source_within}
+use Rattle.serializability.proofs.Sources.{source_within}
 use Rattle.write_chains.proofs.Nexts.{NextAmong, writer_at, next_added, next_passed, next_all}
 use Rattle.write_chains.proofs.links.next_of.Goals as goal
 use Rattle.write_chains.proofs.links.next_of.Goals.{in-Some, in_default}

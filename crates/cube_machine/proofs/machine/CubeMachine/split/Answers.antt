@@ -2,7 +2,7 @@ use Rattle.std.proofs.Common.{◌≡◌, ◌∙◌, false, sym, subst}
 use Rattle.pruning_laws.specs.declared.side.Side.TheVariants.{One, Two}
 use Rattle.cube_laws.specs.State.{State}
 use Rattle.cube_laws.specs.Steps.{is_finished, child}
-use Rattle.cube_laws.specs.declared.parts.Mark.TheVariants.{Split}
+use Rattle.cube_laws.specs.declared.messages.Mark.TheVariants.{Split}
 use Rattle.cube_machine.specs.Ways.{cube_in}
 use Rattle.cube_machine.proofs.Splits.{held_within}
 use Rattle.cube_machine.proofs.Kept.{kept_split}

@@ -1,6 +1,0 @@
-use Rattle.std.proofs.Common.{◌≡◌, []}
-use Rattle.log_definitions.specs.WellFormed.{first_seen}
-use Rattle.history.proofs.key_set.indexed.Given as goal
-
-abbrev pub invariant-loop-text : goal.invariant-loop-text
-invariant-loop-text l = l.keys.keys ≡ first_seen [] l.yielded

@@ -1,6 +1,0 @@
-use Rattle.std.proofs.Common.{[]}
-use Rattle.history.specs.Sources.{AreReads}
-use Rattle.history.proofs.reads.no_reads.Given as goal
-
-abbrev pub invariant-loop-i : goal.invariant-loop-i
-invariant-loop-i l = AreReads l.i (λ _. []) l.reads.items

@@ -1,7 +1,0 @@
-use Rattle.std.proofs.Common.{map, take}
-use Rattle.history.specs.Written.{entry_of}
-use Rattle.history.specs.Sources.{AreReads, final_node, found_in, readers_of}
-use Rattle.history.proofs.reads.reads_of.Given as goal
-
-abbrev pub invariant-loop-key : goal.invariant-loop-key
-invariant-loop-key l = AreReads l.nodes (λ v. found_in 0 (λ x w. final_node (entry_of l.writes w) x) v (map readers_of (take l.key l.rows))) l.reads.items

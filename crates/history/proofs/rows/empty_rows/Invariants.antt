@@ -1,5 +1,0 @@
-use Rattle.history.specs.Rows.{AreRows, no_row}
-use Rattle.history.proofs.rows.empty_rows.Given as goal
-
-abbrev pub invariant-loop-i : goal.invariant-loop-i
-invariant-loop-i l = AreRows l.i (λ _. no_row) l.rows.items

@@ -1,0 +1,14 @@
+pub mod Seen
+pub mod Writing
+pub mod Taking
+pub mod KeyRows
+pub mod Reading
+pub mod Named
+pub mod Twice
+pub mod Placings
+pub mod Tabled
+pub mod Limits
+pub mod Kept
+pub mod Totals
+pub mod Identified
+pub mod Searched

@@ -1,0 +1,5 @@
+use Rattle.session_history.specs.Rows.{AreRows, no_row}
+use Rattle.session_history.proofs.rows.empty_rows.Given as goal
+
+abbrev pub invariant-loop-i : goal.invariant-loop-i
+invariant-loop-i l = AreRows l.i (λ _. no_row) l.rows.items

@@ -1,0 +1,23 @@
+//! The history of a log: its committed transactions as nodes, with numbered keys, who wrote what and who read it from whom,
+//! and the anomaly that rules out every serial order, where there is one.
+#![tactic(auto)]
+
+mod count;
+mod key_set;
+mod log;
+mod names;
+mod nodes;
+mod numbers;
+mod order;
+mod reads;
+mod rows;
+mod scan;
+mod writes;
+
+pub use count::Counts;
+pub use log::History;
+pub use names::Name;
+pub use order::Order;
+pub use reads::ReadFrom;
+pub use serializability::{Anomaly, Event, NodeIx, ReadAnomaly};
+pub use writes::Written;

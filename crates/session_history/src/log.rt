@@ -1,0 +1,271 @@
+//! The history of a log.
+
+ghost use Rattle.std.specs.Prelude.{◌≡◌, ◌<◌, ◌≤◌, ◌^◌, None, Some, IfOk, IfErr, MatchOption, length, map, slice_get};
+ghost use Rattle.std.specs.List.{AllByRecursion};
+ghost use Rattle.session_log.specs.Text.{view, IsLegal};
+ghost use Rattle.session_log.specs.Faults.{IsFault};
+ghost use Rattle.serializability.specs.Polygraph.{source};
+ghost use Rattle.log_definitions.specs.WellFormed.{log_lines, list_fault, keys_in, ops_in};
+ghost use Rattle.log_definitions.specs.Serial.{committed_in};
+ghost use Rattle.log_definitions.specs.Numbers.{log_of, aborted_in, IsWellFormedList};
+ghost use Rattle.session_history.specs.Taken.{HoldsAll, placed_in};
+ghost use Rattle.session_history.specs.Writes.{IsUnwritten, IsWrite};
+ghost use Rattle.session_history.specs.Tables.{sources_of, writers_in, name_in, node_named};
+ghost use Rattle.serializability.specs.declared.node.TheConstants.{MAX_NODES};
+ghost use Rattle.session_log.specs.declared.limits.TheConstants.{MAX_KEYS};
+
+use crate::count::{Counts, committed_count, counts_of, operation_count};
+use crate::key_set::indexed;
+use crate::names::{Name, names_of};
+use crate::nodes::{Node, Transactions};
+use crate::reads::{ReadFrom, reads_of};
+use crate::rows::{Row, rows_of};
+use crate::scan::session_twice;
+use crate::writes::{Writes, Written};
+use indexmap::IndexSet;
+use serializability::{Event, MAX_NODES, NodeIx};
+use session_log::{Key, Limit, LogFault, MAX_KEYS, MAX_OPERATIONS, Session};
+use std::alloc::{AllocError, Global};
+use std::collections::BTreeMap;
+use std::marker::Model;
+
+/// The sessions of a well-formed log, with what they say of its nodes and keys.
+#[derive(Drop)]
+pub struct History {
+    sessions: Vec<Session>,
+    /// A key's number is its index.
+    keys: IndexSet<Key>,
+    nodes: Vec<Node>,
+    names: BTreeMap<(usize, usize), NodeIx>,
+    rows: Vec<Row>,
+    reads: Vec<Vec<ReadFrom>>,
+    writes: Writes,
+    counts: Counts,
+}
+
+impl Model for History {
+    ghost use Rattle.std.specs.Prelude.{List};
+    ghost use Rattle.session_log.specs.Text.{ClientSession};
+
+    ghost Value = { List ClientSession };
+
+    ghost use Rattle.session_history.specs.Held.{sessions_of, IsHistory};
+
+    ghost view = { sessions_of };
+
+    ghost invariant = { IsHistory };
+}
+
+impl History {
+    ghost use Rattle.std.specs.Option.{option_map};
+    ghost use Rattle.session_history.specs.Taken.{node_view};
+    ghost use Rattle.session_history.specs.Held.{node_kept};
+
+    /// The history of these sessions, or the first fault that makes them no well-formed log: a session number that stands twice,
+    /// a limit, or an identity that is written twice.
+    pub fn build(alloc: Global, sessions: Vec<Session>) -> Result<History, LogFault>
+        requires legal { AllByRecursion IsLegal (map view sessions.items) }
+        requires room { length (log_lines (map view sessions.items)) < 2 ^ 63 }
+        ensures history { IfOk result (λ h. h ≡ map view sessions.items) }
+        ensures accepted { IfOk result (λ _. list_fault (map view sessions.items) ≡ None) }
+        ensures fault { IfErr result (λ f. IsFault f (list_fault (map view sessions.items))) }
+    {
+        let all = checked(alloc, &sessions)?;
+        Ok(History::of(alloc, sessions, all)?)
+    }
+
+    /// The history of sound sessions, of which this is all that they hold.
+    fn of(alloc: Global, sessions: Vec<Session>, all: Transactions) -> Result<History, AllocError>
+        requires sound { IsWellFormedList (map view sessions.items) }
+        requires room { length (log_lines (map view sessions.items)) < 2 ^ 63 }
+        requires holds { HoldsAll all (log_lines (map view sessions.items))
+            (placed_in (map view sessions.items)) }
+        ensures { IfOk result (λ h. h ≡ map view sessions.items) }
+    {
+        let counts = counts_of(&sessions, &all);
+        let Transactions {
+            numbers,
+            nodes,
+            writes,
+        } = all;
+        let names = names_of(alloc, &nodes)?;
+        let rows = rows_of(alloc, numbers.len(), &nodes)?;
+        let reads = reads_of(alloc, nodes.len(), &rows, &writes)?;
+        let keys = indexed(alloc, numbers.into_texts())?;
+        Ok(History {
+            sessions,
+            keys,
+            nodes,
+            names,
+            rows,
+            reads,
+            writes,
+            counts,
+        })
+    }
+
+    /// The number of nodes, which are the committed transactions, without node 0.
+    pub fn committed(&self) -> usize
+        ensures count { result ≡ (log_of self.now).nodes }
+        ensures few { result ≤ MAX_NODES }
+        ensures well_formed { IsWellFormedList self.now }
+    {
+        self.nodes.len()
+    }
+
+    /// The write that has an identity, where the log has one: its key, its node, which is node 0 where its transaction was
+    /// aborted, and whether it is the last write of the key there.
+    pub fn written(&self, wid: u64) -> Option<Written>
+        ensures write { MatchOption result (IsUnwritten (log_of self.now) wid)
+            (λ w. IsWrite (log_of self.now) wid w.key w.node w.last) }
+    {
+        self.writes.entry(wid)
+    }
+
+    /// The number of keys.
+    pub fn keys(&self) -> usize
+        ensures count { result ≡ (log_of self.now).keys }
+        ensures few { result ≤ MAX_KEYS }
+    {
+        self.keys.len()
+    }
+
+    /// The operations of a node; node 0 has none, nor has a number above the last node's.
+    pub fn events_of(&self, node: NodeIx) -> &[Event]
+        ensures events { result.now ≡ (log_of self.now).ops node }
+    {
+        match self.node(node) {
+            Some(node) => &node.events,
+            None => &[],
+        }
+    }
+
+    /// The keys that a node reads externally, ascending, each with the node that it reads from; none where there is no such
+    /// node.
+    pub fn reads_of(&self, node: NodeIx) -> &[ReadFrom]
+        ensures sources { map (λ r. (r.key, r.source)) result.now
+            ≡ sources_of (log_of self.now) node }
+    {
+        match node.get().checked_sub(1) {
+            Some(i) => match self.reads.get(i) {
+                Some(reads) => reads,
+                None => &[],
+            },
+            None => &[],
+        }
+    }
+
+    /// The node from which a node reads the key externally.
+    pub fn source_of(&self, node: NodeIx, key: usize) -> Option<NodeIx>
+        requires key { key < (log_of self.now).keys }
+        ensures source { result ≡ source (log_of self.now) node key }
+    {
+        let reads = self.reads_of(node);
+        match reads.binary_search_by_key(&key, |read| read.key) {
+            Ok(place) => Some(reads[place].source),
+            Err(_) => None,
+        }
+    }
+
+    /// The nodes that write the key, ascending.
+    pub fn writers_of(&self, key: usize) -> &[NodeIx]
+        requires { key < (log_of self.now).keys }
+        ensures writers { result.now ≡ writers_in (log_of self.now) key }
+    {
+        &self.rows[key].writers
+    }
+
+    /// The text of the key.
+    pub fn key_text(&self, key: usize) -> &Key
+        requires { key < (log_of self.now).keys }
+        ensures text { slice_get (keys_in self.now) key ≡ Some result.now }
+    {
+        &self.keys[key]
+    }
+
+    /// The name of a node.
+    pub fn name_of(&self, node: NodeIx) -> Name
+        requires { node ≤ (log_of self.now).nodes }
+        ensures name { (result.session, result.place) ≡ name_in self.now node }
+    {
+        match self.node(node) {
+            Some(node) => Name {
+                session: node.session,
+                place: node.place,
+            },
+            None => Name {
+                session: 0,
+                place: 0,
+            },
+        }
+    }
+
+    /// The number of the session of a node, and 0 where there is none.
+    pub fn session_of(&self, node: NodeIx) -> u16
+        ensures session { result ≡ (log_of self.now).session node }
+    {
+        match self.node(node) {
+            Some(node) => node.session,
+            None => 0,
+        }
+    }
+
+    /// The node of the transaction at this place of a session, where it is committed.
+    pub fn node_at(&self, session: usize, place: usize) -> Option<NodeIx>
+        ensures node { result ≡ node_named self.now session place }
+    {
+        self.names.get(&(session, place)).copied()
+    }
+
+    /// How much it holds.
+    pub fn counts(&self) -> Counts
+        ensures sessions { result.sessions ≡ length self.now }
+        ensures committed { result.committed ≡ length (committed_in self.now) }
+        ensures aborted { result.aborted ≡ length (aborted_in self.now) }
+        ensures keys { result.keys ≡ length (keys_in self.now) }
+        ensures operations { result.operations ≡ length (ops_in self.now) }
+    {
+        self.counts
+    }
+
+    /// What is kept of a node, where there is one.
+    fn node(&self, node: NodeIx) -> Option<&Node>
+        ensures { option_map (λ n. node_view n.now) result ≡ node_kept self.now node }
+    {
+        match node.get().checked_sub(1) {
+            Some(i) => self.nodes.get(i),
+            None => None,
+        }
+    }
+}
+
+/// What the transactions hold, where the sessions have no fault, or their first fault.
+fn checked(alloc: Global, sessions: &[Session]) -> Result<Transactions, LogFault>
+    requires room { length (log_lines (map view sessions.now)) < 2 ^ 63 }
+    ensures holds { IfOk result (λ all. HoldsAll all (log_lines (map view sessions.now))
+        (placed_in (map view sessions.now))) }
+    ensures accepted { IfOk result (λ _. list_fault (map view sessions.now) ≡ None) }
+    ensures fault { IfErr result (λ f. IsFault f (list_fault (map view sessions.now))) }
+{
+    if let Some(line) = session_twice(alloc, sessions)? {
+        return Err(LogFault::SessionTwice { line });
+    }
+    if operation_count(sessions) > MAX_OPERATIONS {
+        return Err(LogFault::OverLimit {
+            which: Limit::Operations,
+        });
+    }
+    if committed_count(sessions) > MAX_NODES {
+        return Err(LogFault::OverLimit {
+            which: Limit::Committed,
+        });
+    }
+    let all = Transactions::of(alloc, sessions)?;
+    if all.numbers.len() > MAX_KEYS {
+        return Err(LogFault::OverLimit { which: Limit::Keys });
+    }
+    if let Some(line) = all.writes.twice() {
+        return Err(LogFault::WriteTwice { line });
+    }
+    Ok(all)
+}

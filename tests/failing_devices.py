@@ -1,0 +1,139 @@
+#!/usr/bin/env python3
+"""failing_devices.py PROGRAM: each read and each write of each command fails in turn.
+
+The program runs with its Nth read failed, for N = 1, 2, .. until a run makes fewer: each such run must say `device failed: input`
+with status 5 and write nothing. Then its Nth write to standard output fails, or takes no byte, until a run makes fewer: what went out
+before must be the beginning of the whole text, and `device failed: output` is said with status 5. Reads and writes of one byte at
+a time must leave the whole text. Needs a C compiler, for a small library that stands before the C library's `read` and `write`. Last
+line: 'failing devices: N passed, M failed'."""
+import os, shutil, subprocess, sys, tempfile
+
+SHIM = r'''
+#define _GNU_SOURCE
+#include <dlfcn.h>
+#include <errno.h>
+#include <fcntl.h>
+#include <stdlib.h>
+#include <string.h>
+#include <unistd.h>
+static _Atomic long reads, writes;
+static long number(const char *name) { char *n = getenv(name); return n ? atol(n) : 0; }
+static void tell(void) { int told = open(getenv("TOLD"), O_CREAT | O_WRONLY, 0600); if (told >= 0) close(told); }
+ssize_t read(int fd, void *p, size_t n) {
+    static ssize_t (*real)(int, void *, size_t);
+    if (!real) real = dlsym(RTLD_NEXT, "read");
+    if (++reads == number("READ_FAILS")) { tell(); errno = EIO; return -1; }
+    return real(fd, p, getenv("ONE_BYTE") && n ? 1 : n);
+}
+ssize_t write(int fd, const void *p, size_t n) {
+    static ssize_t (*real)(int, const void *, size_t);
+    if (!real) real = dlsym(RTLD_NEXT, "write");
+    if (fd != 1) return real(fd, p, n);
+    long count = ++writes;
+    if (count == number("WRITE_FAILS")) { tell(); errno = ENOSPC; return -1; }
+    if (count == number("WRITE_TAKES_NONE")) { tell(); return 0; }
+    return real(fd, p, getenv("ONE_BYTE") && n ? 1 : n);
+}
+'''
+
+INPUT, OUTPUT = (5, b'', b'device failed: input\n'), (5, b'device failed: output\n')
+MODELS = {'two_writers.log': b's SATISFIABLE\nv 1 -2 3 0\n', 'two_chains.log': b's UNSATISFIABLE\nv 0\n', 'forced_choices.log': b's SATISFIABLE\nc none is needed\n'}
+MOST = 5000
+
+
+class Sweeps:
+    def __init__(self, program, folder, shim):
+        self.program, self.folder, self.shim, self.told = program, folder, shim, os.path.join(folder, 'told')
+        self.passed, self.failed = 0, 0
+
+    def run(self, words, **means):
+        """The answer of a run, and whether what was to fail did."""
+        if os.path.exists(self.told):
+            os.remove(self.told)
+        place = dict(os.environ, LD_PRELOAD=self.shim, TOLD=self.told, **{name: str(value) for name, value in means.items()})
+        with open(words[-1], 'rb') as log:
+            ran = subprocess.run([self.program, *words], stdin=log, stdout=subprocess.PIPE, stderr=subprocess.PIPE, env=place, timeout=60)
+        return (ran.returncode, ran.stdout, ran.stderr), os.path.exists(self.told)
+
+    def count(self, right, words, what, got):
+        self.passed, self.failed = self.passed + right, self.failed + (not right)
+        if not right:
+            print('FAILED %s, %s: %r' % (' '.join(words), what, (got[0], got[1][-80:], got[2])), flush=True)
+
+    def failing_reads(self, words, whole):
+        for n in range(1, MOST):
+            got, met = self.run(words, READ_FAILS=n)
+            self.count(got == (INPUT if met else whole), words, 'read %d failed' % n, got)
+            if not met:
+                return n
+        return self.count(False, words, 'no end of reads', got)
+
+    def failing_writes(self, words, whole, means, **more):
+        """Each write fails, until a run makes fewer: what went out before grows with each."""
+        before = -1
+        for n in range(1, MOST):
+            got, met = self.run(words, **{means: n}, **more)
+            if not met:
+                self.count(got == whole, words, 'no write fails', got)
+                return n
+            out = got[1]
+            self.count((got[0], got[2]) == OUTPUT and whole[1].startswith(out) and before < len(out) < len(whole[1]), words, '%s %d' % (means, n), got)
+            before = len(out)
+        return self.count(False, words, 'no end of writes', got)
+
+    def sweep(self, words):
+        whole, met = self.run(words)
+        self.count(whole[0] in (0, 1, 3) and not whole[2] and not met, words, 'nothing fails', whole)
+        reads = self.failing_reads(words, whole)
+        writes = [self.failing_writes(words, whole, means) for means in ('WRITE_FAILS', 'WRITE_TAKES_NONE')]
+        got, _ = self.run(words, ONE_BYTE=1)
+        self.count(got == whole, words, 'one byte at a time', got)
+        if len(whole[1]) < 500:
+            writes += [self.failing_writes(words, whole, means, ONE_BYTE=1) for means in ('WRITE_FAILS', 'WRITE_TAKES_NONE')]
+        print('failing devices: %s: the runs that met no fault were number %d of reads, %s of writes' % (' '.join(map(os.path.basename, words)), reads or 0, ', '.join(str(n) for n in writes)), flush=True)
+
+
+def calls(folder):
+    """Each command, with 1 and with 4 workers: the log is a file, and then standard input."""
+    examples = os.path.join(os.path.dirname(os.path.abspath(__file__)), '..', 'examples')
+    for name, model in MODELS.items():
+        log, answer, order = os.path.join(examples, name), os.path.join(folder, 'answer of ' + name), os.path.join(folder, 'order of ' + name)
+        with open(answer, 'wb') as out:
+            out.write(model)
+        for workers in ('1', '4'):
+            for words in (['encode'], ['encode', '--plain'], ['stats'], ['decode', '--model', answer]):
+                yield [*words, '--workers', workers, log]
+        yield ['verify', '--order', order, log]
+    for name in ('forced_choices.log', 'forced_cycle.log', 'crossed_readers.log', 'lost_update.log'):
+        for words in (['check', '--workers', '1'], ['check', '--workers', '4']):
+            yield [*words, os.path.join(examples, name)]
+    large = os.path.join(folder, 'large.log')
+    with open(large, 'wb') as out:
+        out.write(b''.join(b'session %d\nbegin\nw k%d %d\ncommit\n' % (k, k, k) for k in range(1, 41)))
+    yield ['encode', large]
+
+
+def main():
+    program = os.path.abspath(sys.argv[1])
+    compiler = shutil.which('cc') or shutil.which('clang') or shutil.which('gcc')
+    if not compiler:
+        print('failing devices: cannot be tried, there is no C compiler here')
+        return
+    with tempfile.TemporaryDirectory() as folder:
+        source, shim = os.path.join(folder, 'shim.c'), os.path.join(folder, 'shim.so')
+        with open(source, 'w') as out:
+            out.write(SHIM)
+        subprocess.run([compiler, '-shared', '-fPIC', '-o', shim, source, '-ldl'], check=True)
+        sweeps = Sweeps(program, folder, shim)
+        for words in calls(folder):
+            if words[0] == 'verify':
+                found = subprocess.run([program, 'check', '--workers', '1', words[-1]], stdout=subprocess.PIPE).stdout
+                with open(words[2], 'wb') as out:
+                    out.write(found.partition(b'\n')[2])
+            sweeps.sweep(words)
+        print('failing devices: %d passed, %d failed' % (sweeps.passed, sweeps.failed))
+        sys.exit(1 if sweeps.failed or not sweeps.passed else 0)
+
+
+if __name__ == '__main__':
+    main()
