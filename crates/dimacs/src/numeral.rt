@@ -8,7 +8,7 @@ use itoa::Buffer;
 pub(crate) const NUMERAL_BYTES: usize = 11;
 
 /// How many numerals are kept.
-const KEPT: usize = 8192;
+const KEPT: usize = 2048;
 
 /// A variable's digits, and a space behind them.
 #[derive(Clone, Copy)]
@@ -22,6 +22,7 @@ pub(crate) struct Numeral {
 
 impl Numeral {
     /// The numeral of a variable.
+    #[inline(never)]
     fn of(variable: u32) -> Numeral
         ensures { result.variable ≡ variable }
     {
@@ -68,7 +69,7 @@ impl Numerals {
     }
 
     /// The numeral of a variable, which is made where it is not kept.
-    #[inline]
+    #[inline(always)]
     pub(crate) fn numeral(&mut self, variable: u32) -> &Numeral
         ensures { result.now.variable ≡ variable }
     {

@@ -68,7 +68,7 @@ impl Piece {
     }
 
     /// Adds bytes.
-    #[inline]
+    #[inline(always)]
     fn push(&mut self, text: &[u8])
         requires { length self.old + length text.now ≤ 16384 }
         ensures { self.new ≡ self.old ++ text.now }
@@ -89,7 +89,7 @@ impl Piece {
     }
 
     /// Adds a minus where a literal is negated.
-    #[inline]
+    #[inline(always)]
     fn push_sign(&mut self, positive: bool)
         requires { length self.old + 1 ≤ 16384 }
         ensures { self.new ≡ self.old ++ (if positive then [] else codes "-") }
@@ -99,7 +99,7 @@ impl Piece {
     }
 
     /// Adds a numeral. Always as many bytes are copied, and those behind the numeral do not count.
-    #[inline]
+    #[inline(always)]
     fn push_numeral(&mut self, numeral: &Numeral)
         requires { length self.old + 11 ≤ 16384 }
         ensures text { self.new ≡ self.old ++ (decimal numeral.now.variable ++ codes " ") }
@@ -110,7 +110,7 @@ impl Piece {
     }
 
     /// Adds a literal and a space.
-    #[inline]
+    #[inline(always)]
     fn push_literal(&mut self, literal: Literal, numerals: &mut Numerals)
         requires { length self.old + 12 ≤ 16384 }
         ensures text { self.new ≡ self.old ++ (literal_text literal ++ codes " ") }
@@ -134,7 +134,7 @@ impl Piece {
     }
 
     /// Adds the line of a clause.
-    #[inline]
+    #[inline(always)]
     pub(crate) fn push_clause(&mut self, clause: Clause, numerals: &mut Numerals)
         requires { length self.old + 64 ≤ 16384 }
         ensures text { self.new ≡ self.old ++ clause_text (literals clause) }

@@ -16,7 +16,7 @@ use crate::relation::Relation;
 use crate::sides::Sides;
 use crate::term::Term;
 use crate::triples::{Triples, count_triples};
-use polygraph::Choice;
+use polygraph::Bipath;
 use reach_laws::Edge;
 use serializability::Literal;
 use std::marker::Model;
@@ -28,7 +28,7 @@ pub(crate) struct Layout {
     /// The least node of the triples.
     start: usize,
     units: Vec<Literal>,
-    bipaths: Vec<Choice>,
+    bipaths: Vec<Bipath>,
     /// The edges of the open choices' sides, and how many each side has.
     edges: Vec<Edge>,
     counts: Vec<usize>,
@@ -60,13 +60,13 @@ pub(crate) fn free_literal(relation: &Relation, edge: Edge) -> Literal
     }
 }
 
-/// The literal of a bipath's side, which is one edge.
-fn side_literal(relation: &Relation, side: &[Edge]) -> Literal
+/// The literal of a bipath's side, which is this edge.
+fn side_literal(relation: &Relation, edge: Edge) -> Literal
     requires nothing { relation.now.known ≡ [] }
-    requires single { IsSingle relation.now.nodes side.now }
-    ensures value { result ∷ [] ≡ map (λ e. edge_literal (pairs_in relation.now) e.0 e.1) side.now }
+    requires single { IsSingle relation.now.nodes (edge ∷ []) }
+    ensures value { result ∷ [] ≡ map (λ e. edge_literal (pairs_in relation.now) e.0 e.1) (edge ∷ []) }
 {
-    free_literal(relation, side[0])
+    free_literal(relation, edge)
 }
 
 /// A sum, where it is at most so many.
@@ -83,7 +83,7 @@ fn added(count: usize, more: usize, most: usize) -> Option<usize>
 }
 
 /// The clause of a bipath.
-fn bipath_clause(relation: &Relation, bipath: &Choice) -> Clause
+fn bipath_clause(relation: &Relation, bipath: &Bipath) -> Clause
     requires free { IsFreeBipath relation.now bipath.now }
     ensures value { literals result ∷ [] ≡ bipaths_of relation.now (bipath.now ∷ []) }
 {
@@ -99,7 +99,7 @@ impl Layout {
         relation: Relation,
         start: usize,
         units: Vec<Literal>,
-        bipaths: Vec<Choice>,
+        bipaths: Vec<Bipath>,
         edges: Vec<Edge>,
         counts: Vec<usize>,
     ) -> Layout
@@ -172,7 +172,7 @@ impl Layout {
 pub struct Clauses<'a> {
     relation: &'a Relation,
     units: &'a [Literal],
-    bipaths: &'a [Choice],
+    bipaths: &'a [Bipath],
     triples: Triples<'a>,
     sides: Sides<'a>,
 }

@@ -17,7 +17,7 @@ use crate::fault::CnfFault;
 use crate::formula::Formula;
 use crate::layout::{Layout, free_literal};
 use crate::relation::Relation;
-use polygraph::{Polygraph, bipaths};
+use polygraph::{BipathGraph, bipath_graph};
 use reach_laws::Edge;
 use serializability::Literal;
 use session_history::History;
@@ -44,16 +44,16 @@ fn arc_literals(
 }
 
 /// The formula of a polygraph of bipaths, where it is one.
-fn formula_of(alloc: Global, polygraph: Polygraph) -> Result<Formula, CnfFault>
+fn formula_of(alloc: Global, polygraph: BipathGraph) -> Result<Formula, CnfFault>
     requires plain { HasPlain polygraph }
     ensures formula { IfOk result (λ f. cnf_of f ≡ plain_of polygraph) }
     ensures choices { IfOk result (λ f. f.choices ≡ length polygraph.choices) }
     ensures fits { IfOk result (λ _. size_fault (plain_of polygraph) ≡ None) }
     ensures fault { IfErr result (λ e. IsFault e (size_fault (plain_of polygraph))) }
 {
-    let relation = Relation::unknown(alloc, polygraph.nodes())?;
-    let variables = relation.variables();
     let (known, bipaths) = polygraph.into_parts();
+    let relation = Relation::unknown(alloc, known.nodes())?;
+    let variables = relation.variables();
     let choices = bipaths.len();
     let units = arc_literals(alloc, &relation, &known.edges(alloc)?)?;
     let layout = Layout::new(
@@ -83,6 +83,6 @@ pub fn plain_formula(alloc: Global, history: &History) -> Result<Formula, CnfFau
     if history.committed() > MAX_PLAIN_NODES {
         return Err(CnfFault::TooManyForPlain);
     }
-    let polygraph = bipaths(alloc, history)?;
+    let polygraph = bipath_graph(alloc, history)?;
     formula_of(alloc, polygraph)
 }

@@ -11,7 +11,7 @@ ghost use Rattle.polygraph.specs.Limits.{IsPolyFault};
 ghost use Rattle.polygraph.specs.declared.index.TheConstants.{MAX_CHOICES};
 
 use crate::choice::Choice;
-use crate::edges::Edges;
+use crate::compact::{Bipath, BipathGraph};
 use crate::fault::PolyFault;
 use crate::index::MAX_CHOICES;
 use crate::node::node;
@@ -20,7 +20,7 @@ use known_graph::Known;
 use reach_laws::Edge;
 use serializability::NodeIx;
 use session_history::History;
-use std::alloc::Global;
+use std::alloc::{AllocError, Global};
 
 // Whether a writer is neither the source nor the reader.
 fn is_other(writer: NodeIx, source: NodeIx, reader: NodeIx) -> bool
@@ -30,12 +30,12 @@ fn is_other(writer: NodeIx, source: NodeIx, reader: NodeIx) -> bool
 }
 
 // A rival stands before the source, or the reader stands before the rival.
-fn bipath(source: NodeIx, reader: NodeIx, rival: NodeIx) -> Choice
+fn bipath(source: NodeIx, reader: NodeIx, rival: NodeIx) -> Bipath
     ensures choice { result ≡ rival_choice source reader rival }
 {
     let before_source = Edge::new(rival, source);
     let behind_reader = Edge::new(reader, rival);
-    Choice::new(Edges::single(before_source), Edges::single(behind_reader))
+    Bipath::new(before_source, behind_reader)
 }
 
 // How many of the writers of a key are neither the reader nor its source.
@@ -50,7 +50,7 @@ fn rival_count(writers: &[NodeIx], source: NodeIx, reader: NodeIx) -> usize
 
 // Adds the bipaths of a reader and a source.
 fn add_rivals(
-    choices: &mut Vec<Choice>,
+    choices: &mut Vec<Bipath>,
     writers: &[NodeIx],
     source: NodeIx,
     reader: NodeIx,
@@ -90,7 +90,7 @@ fn bipath_count(history: &History) -> Result<usize, PolyFault>
 }
 
 // The bipaths of a clean history, by reader, key and rival.
-fn choices_of(alloc: Global, history: &History) -> Result<Vec<Choice>, PolyFault>
+fn choices_of(alloc: Global, history: &History) -> Result<Vec<Bipath>, PolyFault>
     requires clean { IsClean (log_of history.now) }
     ensures choices { IfOk result (λ c. c.items ≡ spec.bipaths (log_of history.now)) }
     ensures few { OnOk result (length (spec.bipaths (log_of history.now)) ≤ MAX_CHOICES) }
@@ -117,13 +117,36 @@ fn choices_of(alloc: Global, history: &History) -> Result<Vec<Choice>, PolyFault
 ///
 /// It is refused with `TooManyChoices` where there are more than 100,000 bipaths, which are then counted
 /// no further, and with `Memory` where memory was refused.
+pub fn bipath_graph(alloc: Global, history: &History) -> Result<BipathGraph, PolyFault>
+    requires clean { IsClean (log_of history.now) }
+    ensures polygraph { IfOk result (λ p. p ≡ bipath_polygraph (log_of history.now)) }
+    ensures few { OnOk result (length (spec.bipaths (log_of history.now)) ≤ MAX_CHOICES) }
+    ensures fault { IfErr result (IsPolyFault (spec.bipaths (log_of history.now))) }
+{
+    let bipaths = choices_of(alloc, history)?;
+    let known = Known::of(alloc, history)?;
+    Ok(BipathGraph::new(known, bipaths))
+}
+
+// The same choices, each with its sides as lists.
+fn with_lists(alloc: Global, bipaths: &[Bipath]) -> Result<Vec<Choice>, AllocError>
+    ensures same { IfOk result (λ listed. listed.items ≡ bipaths.now) }
+{
+    let mut listed = Vec::with_capacity(alloc, bipaths.len())?;
+    for bipath in bipaths {
+        listed.push(bipath.choice())?;
+    }
+    Ok(listed)
+}
+
+/// The same polygraph, with each side as a list of edges. Its faults are the same.
 pub fn bipaths(alloc: Global, history: &History) -> Result<Polygraph, PolyFault>
     requires clean { IsClean (log_of history.now) }
     ensures polygraph { IfOk result (λ p. p ≡ bipath_polygraph (log_of history.now)) }
     ensures few { OnOk result (length (spec.bipaths (log_of history.now)) ≤ MAX_CHOICES) }
     ensures fault { IfErr result (IsPolyFault (spec.bipaths (log_of history.now))) }
 {
-    let choices = choices_of(alloc, history)?;
-    let known = Known::of(alloc, history)?;
+    let (known, bipaths) = bipath_graph(alloc, history)?.into_parts();
+    let choices = with_lists(alloc, &bipaths)?;
     Ok(Polygraph::new(known, choices))
 }

@@ -4,6 +4,7 @@
 
 mod bipath;
 mod choice;
+mod compact;
 mod edges;
 mod fault;
 mod fits;
@@ -12,8 +13,9 @@ mod node;
 pub mod places;
 mod polygraph;
 
-pub use bipath::bipaths;
+pub use bipath::{bipath_graph, bipaths};
 pub use choice::Choice;
+pub use compact::{Bipath, BipathGraph};
 pub use edges::Edges;
 pub use fault::PolyFault;
 pub use fits::{keeps_known, order_fits};
