@@ -12,26 +12,29 @@ GRAPHS is the program that times the crates of graphs. Of it each run must end b
 than it does with ample memory. Last line: 'refused memory: N passed, M failed'."""
 import os, shutil, subprocess, sys, tempfile
 
-SHIM = r'''
+# Whether a request for memory is the one that is to be refused.
+REFUSES = r'''
 #define _GNU_SOURCE
 #include <dlfcn.h>
 #include <errno.h>
 #include <fcntl.h>
 #include <stdlib.h>
 #include <unistd.h>
-static long left = -1;
-static int after_write = -1, written = 0;
+static _Atomic long asked;
+static _Atomic int written;
 static void *refused(void) { errno = ENOMEM; return 0; }
 static int refuses(void) {
-    if (left < 0) { char *n = getenv("REFUSED"); left = n ? atol(n) : 0; }
-    if (after_write < 0) after_write = getenv("AFTER_WRITE") != 0;
-    if (after_write && written) goto told;
-    if (left <= 0 || --left > 0) return 0;
-told:;
+    char *which = getenv("REFUSED");
+    int after_write = written && getenv("AFTER_WRITE");
+    if (++asked != (which ? atol(which) : 0) && !after_write) return 0;
     int told = open(getenv("TOLD"), O_CREAT | O_WRONLY, 0600);
     if (told >= 0) close(told);
     return 1;
 }
+'''
+
+# Stands before the allocator of the C library.
+SHIM = REFUSES + r'''
 ssize_t write(int fd, const void *p, size_t n) { static ssize_t (*real)(int, const void *, size_t); if (!real) real = dlsym(RTLD_NEXT, "write"); if (fd == 1) written = 1; return real(fd, p, n); }
 void *malloc(size_t n) { static void *(*real)(size_t); if (!real) real = dlsym(RTLD_NEXT, "malloc"); return refuses() ? refused() : real(n); }
 void *realloc(void *p, size_t n) { static void *(*real)(void *, size_t); if (!real) real = dlsym(RTLD_NEXT, "realloc"); return refuses() ? refused() : real(p, n); }
@@ -48,9 +51,14 @@ MOST = 2000
 BOTH = [(0, b'serializable\n' + order, b'') for order in (b'1 1\n3 1\n2 1\n', b'2 1\n1 1\n3 1\n')]
 
 
+def c_compiler():
+    """A C compiler, or nothing where there is none."""
+    return shutil.which('cc') or shutil.which('clang') or shutil.which('gcc')
+
+
 def main():
     program, graphs = map(os.path.abspath, sys.argv[1:3])
-    compiler = shutil.which('cc') or shutil.which('clang') or shutil.which('gcc')
+    compiler = c_compiler()
     if not compiler:
         print('refused memory: cannot be tried, there is no C compiler here')
         return
@@ -133,4 +141,5 @@ def main():
     sys.exit(1 if failed else 0)
 
 
-main()
+if __name__ == '__main__':
+    main()

@@ -13,6 +13,7 @@ ghost use Rattle.std.specs.Ordering.{nat_cmp};
 ghost use Rattle.std.proofs.Common.{rules};
 ghost use Rattle.session_log.specs.Key.{IsKey, is_key, is_key_byte};
 
+use crate::key_bytes::{KeyBytes, LONGEST};
 use std::alloc::{AllocError, Global};
 use std::cmp::Ordering;
 use std::hash::{Hash, Hasher};
@@ -21,7 +22,7 @@ use std::marker::Model;
 /// A key: 1 to 64 bytes of `A-Z a-z 0-9 _ . : / -`.
 #[derive(Debug, Drop)]
 pub struct Key {
-    bytes: Vec<u8>,
+    bytes: KeyBytes,
 }
 
 impl Model for Key {
@@ -30,9 +31,9 @@ impl Model for Key {
 
     ghost Value = { List ℕ };
 
-    ghost view = { λ k. k.bytes.items };
+    ghost view = { λ k. k.bytes };
 
-    ghost invariant = { λ k. IsKey k.bytes.items };
+    ghost invariant = { λ k. IsKey k.bytes };
 }
 
 impl Key {
@@ -44,7 +45,7 @@ impl Key {
             return Ok(None);
         }
         Ok(Some(Key {
-            bytes: Vec::from_slice(alloc, bytes)?,
+            bytes: KeyBytes::of(alloc, bytes)?,
         }))
     }
 
@@ -52,9 +53,8 @@ impl Key {
     pub fn to_owned_key(&self, alloc: Global) -> Result<Key, AllocError>
         ensures same { IfOk result (λ key. key ≡ self.now) }
     {
-        let bytes = &self.bytes;
         Ok(Key {
-            bytes: Vec::from_slice(alloc, bytes)?,
+            bytes: KeyBytes::of(alloc, self.as_bytes())?,
         })
     }
 
@@ -73,7 +73,7 @@ impl PartialEq for Key {
     ghost laws = { partial_equiv_from_equiv nat_list_eq_equiv };
 
     fn eq(&self, other: &Key) -> bool {
-        self.bytes == other.bytes
+        self.as_bytes() == other.as_bytes()
     }
 }
 
@@ -102,7 +102,7 @@ impl Ord for Key {
     ghost matches_eq = { texts_ties };
 
     fn cmp(&self, other: &Key) -> Ordering {
-        self.bytes.cmp(&other.bytes)
+        self.as_bytes().cmp(&other.as_bytes())
     }
 }
 
@@ -113,7 +113,7 @@ impl Hash for Key {
         (record { fed = Prim.search (hashing, rules) })).fed };
 
     fn hash<H: Hasher>(&self, state: &mut H) {
-        self.bytes.hash(state);
+        self.as_bytes().hash(state);
     }
 }
 
@@ -133,5 +133,5 @@ fn all_key_bytes(bytes: &[u8]) -> bool
 fn is_key(bytes: &[u8]) -> bool
     ensures { result ≡ is_key bytes.now }
 {
-    !bytes.is_empty() && bytes.len() <= 64 && all_key_bytes(bytes)
+    !bytes.is_empty() && bytes.len() <= LONGEST && all_key_bytes(bytes)
 }

@@ -4,12 +4,14 @@
 mod block;
 mod fault;
 mod key;
+mod key_bytes;
 pub mod laws;
 mod limits;
 mod line;
 mod parse;
 mod print;
 mod session;
+mod short_bytes;
 mod words;
 
 pub use block::{Block, cut, parse_block};

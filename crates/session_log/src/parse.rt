@@ -1,7 +1,7 @@
 //! The lines of one session, read from the first on.
 
 ghost use Rattle.std.specs.Prelude.{◌≡◌, ◌∷◌, ◌++◌, ◌<◌, ◌+◌, ◌^◌, false, Some, None, length};
-ghost use Rattle.std.specs.Prelude.{if◌then◌else◌, IfOk, IfErr};
+ghost use Rattle.std.specs.Prelude.{[], if◌then◌else◌, IfOk, IfErr, OnOk};
 ghost use Rattle.session_log.specs.Lines.{lines, form_of, bytes_of};
 ghost use Rattle.session_log.specs.Faults.{Start, after, step, first_fault, form_at, is_session_line};
 ghost use Rattle.session_log.specs.Faults.{IsBlock, FailsAs, IsFault, IsGrammarFault};
@@ -28,6 +28,17 @@ struct Reading {
     current: Option<OpenTxn>,
 }
 
+/// Adds an operation. A full list grows by an eighth, so that many short transactions hold little room that they do not use.
+fn add(ops: &mut Vec<Op>, op: Op) -> Result<(), AllocError>
+    ensures { OnOk result (ops.new.items ≡ ops.old.items ++ op ∷ []) }
+{
+    if ops.len() == ops.capacity() {
+        ops.reserve_exact(ops.len() / 8 + 1)?;
+    }
+    ops.push(op)?;
+    Ok(())
+}
+
 /// Takes the next line, which is line `n`.
 fn with_line(alloc: Global, reading: Reading, n: usize, form: Line) -> Result<Reading, LogFault>
     requires { IsBodyLine form }
@@ -48,11 +59,11 @@ fn with_line(alloc: Global, reading: Reading, n: usize, form: Line) -> Result<Re
             Line::Session(_) | Line::Begin => return Err(LogFault::OpenTransaction { line }),
             Line::Write(_, 0) => return Err(LogFault::WriteZero { line: n }),
             Line::Read(key, wid) => {
-                ops.push(Op::Read { key, wid })?;
+                add(&mut ops, Op::Read { key, wid })?;
                 Some(OpenTxn { line, ops })
             }
             Line::Write(key, wid) => {
-                ops.push(Op::Write { key, wid })?;
+                add(&mut ops, Op::Write { key, wid })?;
                 Some(OpenTxn { line, ops })
             }
             Line::Commit => {

@@ -11,6 +11,9 @@ pub enum Op {
     Write { key: Key, wid: u64 },
 }
 
+// A log of the greatest size can have millions of operations, and is read whole before they are counted.
+const _: () = prove!(size_of::<Op>() == 32);
+
 /// How a transaction ended.
 #[derive(Clone, Copy, Debug, PartialEq, Eq)]
 pub enum Outcome {
