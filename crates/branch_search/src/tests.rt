@@ -416,6 +416,8 @@ impl Strategy for Meeting {
 
     const NAME: &'static str = "meeting";
 
+    const USES_MARKS: bool = false;
+
     ghost picks = { λ _ v. first_open v };
 
     ghost first_of = { λ _ _ _. One };

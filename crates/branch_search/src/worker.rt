@@ -2,6 +2,7 @@
 
 ghost use Rattle.std.specs.Prelude.{◌≡◌, IfOk};
 ghost use Rattle.std.specs.List.{All};
+ghost use Rattle.branching.specs.View.{opened};
 
 use crate::retrace::{Step, Trail, go_down, retrace};
 use branching::laws::turn;
@@ -74,7 +75,7 @@ fn take_turns<'a, S: Strategy, J: Naming, G: Gate, R: Wait + Clock>(
 ) -> Result<(), AllocError>
     ensures number { seat.new.0 ≡ seat.old.0 }
 {
-    let mut view = CubeView::new(alloc, reduced)?;
+    let mut view = view_for::<S>(alloc, reduced)?;
     let mut trail = Trail::new(alloc);
     let mut request = Request::Any;
     let mut number: u64 = 0;
@@ -90,6 +91,20 @@ fn take_turns<'a, S: Strategy, J: Naming, G: Gate, R: Wait + Clock>(
         number = number.saturating_add(1);
     }
     unreachable!()
+}
+
+// The view of the cube in which no choice is decided, with marks where the strategy uses these.
+fn view_for<'v, S: Strategy>(
+    alloc: Global,
+    reduced: &'v Reduced,
+) -> Result<CubeView<'v>, AllocError>
+    ensures opened { IfOk result (λ view. view ≡ opened reduced.now.poly) }
+{
+    if S::USES_MARKS {
+        CubeView::new(alloc, reduced)
+    } else {
+        CubeView::without_marks(alloc, reduced)
+    }
 }
 
 // Asks for a cube, and refutes, solves or splits it. It answers what to ask for next, and nothing where the

@@ -8,4 +8,5 @@ pub mod Turned
 pub mod Meant
 pub mod Refuting
 pub mod Marked
+pub mod Markings
 pub mod Unforced

@@ -241,6 +241,3 @@ marked_decided choices sides next edges old marks c side lt is len bits m = reco
       let both = and_parts (not (eqb k c)) (is_open_at sides k) t in
       bits k ∙ and_from (not (eqb k c)) (bit_of old k) both.0 (m.marked k s both.1 r));
 }
-
-pub place_within : (choices : List Choice) (sides : List (Option Side)) (edges : List Edge) (marks : List ℕ) (c : ℕ) → AreMarked choices sides edges marks → c < length choices → c / 64 < length marks
-place_within choices sides edges marks c m lt = subst (λ k. c / 64 < k) (sym m.len) (word_within (length choices) c (omega (arith, lt)))

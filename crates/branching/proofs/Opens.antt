@@ -41,7 +41,7 @@ open_is_none (None ∷ xs) zero t = refl
 open_is_none (Some s ∷ xs) zero t = absurd (false≢true t)
 open_is_none (x ∷ xs) (suc c) t = open_is_none xs c t
 
-open_drop : (sides : List (Option Side)) (n i : ℕ) → is_open_at (drop n sides) i ≡ is_open_at sides (n + i)
+pub open_drop : (sides : List (Option Side)) (n i : ℕ) → is_open_at (drop n sides) i ≡ is_open_at sides (n + i)
 open_drop sides n i = ap (λ o. option_map_or is_none o false) (slice_get-drop sides n i)
 
 -- ---- the list of the open ones

@@ -1,6 +1,6 @@
 -- Open choices that are not marked, and the first one of which a side is refuted.
-use Rattle.std.proofs.Common.{◌≡◌, ◌↔◌, ℕ, zero, suc, ◌+◌, ◌<◌, Bool, true, false, List, [], ◌∷◌, length, Option, Some, None, refl, sym, ap, ◌∙◌, subst, inl, inr, arith}
-use Rattle.std.specs.Prelude.{slice_get, IsSome, IfSome, IfNone}
+use Rattle.std.proofs.Common.{◌≡◌, ℕ, zero, suc, ◌+◌, ◌-◌, ◌<◌, ◌≤◌, Bool, true, false, List, [], ◌∷◌, length, drop, Option, Some, None, refl, sym, ap, ◌∙◌, subst, inl, inr, arith}
+use Rattle.std.specs.Prelude.{slice_get, MatchOption, IfSome, IfNone}
 use Rattle.std.specs.List.{filter}
 use Rattle.std.proofs.lemmas.Bool.{cases_Bool, cases_lt, false≢true}
 use Rattle.reach_laws.specs.Reach.{Graph}
@@ -8,14 +8,14 @@ use Rattle.pruning_laws.specs.declared.side.Side.{Side}
 use Rattle.known_graph.specs.Bits.{bit_of, row_len}
 use Rattle.prune_ledger.specs.Ledger.{side_of}
 use Rattle.prune_ledger.proofs.Grown.{refuted_in}
-use Rattle.branching.specs.Bits.{IsNext, NoneFrom}
 use Rattle.branching.specs.View.{View, is_open_in, edges_in}
 use Rattle.branching.specs.Picks.{open_from}
-use Rattle.branching.specs.Opens.{is_open_at}
+use Rattle.branching.specs.Opens.{is_open_at, open_past}
 use Rattle.branching.specs.Held.{IsView, AreEdgesOf}
 use Rattle.branching.specs.Marked.{AreMarked}
+use Rattle.branching.specs.Markings.{IsUnmarked}
 use Rattle.branching.specs.Refuted.{is_forced_in, first_forced, AreUnforced}
-use Rattle.branching.proofs.Opens.{open_within}
+use Rattle.branching.proofs.Opens.{open_within, open_drop}
 use Rattle.branching.proofs.Refuting.{forced_of, first_passes, first_fails}
 
 -- ---- a choice without a mark
@@ -28,31 +28,56 @@ unmarked v g marks c a m free f = elim (cases_Bool (is_forced_in v c)) [
   | inr n ↦ n
 ]
 
-pub unforced_next : (v : View) (g : Graph) (marks : List ℕ) (from k : ℕ) → AreEdgesOf v g → AreMarked v.polygraph.choices v.sides g.edges marks → IsNext marks from k → AreUnforced v from k
-unforced_next v g marks from k a m n = record { each = λ c lo hi free. unmarked v g marks c a m free (n.first c lo hi) }
-
-pub unforced_from : (v : View) (g : Graph) (marks : List ℕ) (from : ℕ) → AreEdgesOf v g → AreMarked v.polygraph.choices v.sides g.edges marks → NoneFrom marks from → (to : ℕ) → AreUnforced v from to
-unforced_from v g marks from a m n to = record { each = λ c lo hi free. unmarked v g marks c a m free (n.clear c lo) }
-
 pub few_marks : (v : View) (marks : List ℕ) (g : Graph) → IsView v → AreMarked v.polygraph.choices v.sides g.edges marks → length marks < 4294967296
 unfolding row_len
 few_marks v marks g is m = let e = m.len in let f = is.whole.choices.few in omega (arith, e, f)
 
--- ---- the next one, by its number
-pub next_below : (v : View) (o : Option ℕ) (from k : ℕ) → AreUnforced v from k → IfSome o (λ c. c ≡ k) → IfSome o (λ c. AreUnforced v from c)
-next_below v None from k u value = value
-next_below v (Some c) from k u value = subst (AreUnforced v from) (sym value) u
+pub unforced_kept : (v : View) (g : Graph) (marks : List ℕ) (from to : ℕ) → AreEdgesOf v g → AreMarked v.polygraph.choices v.sides g.edges marks → IsUnmarked marks from to → AreUnforced v from to
+unforced_kept v g marks from to a m u = record { each = λ c lo hi free. unmarked v g marks c a m free (u.each c lo hi) }
 
-pub next_none : (v : View) (o : Option ℕ) (from k : ℕ) → IsView v → AreUnforced v from k → (IsSome o ↔ (k < 100000)) → IfNone o ((c : ℕ) → AreUnforced v from c)
-next_none v (Some c) from k is u some = _
-next_none v None from k is u some = λ to. record {
+pub some_kept : (v : View) (g : Graph) (marks : List ℕ) (from : ℕ) (o : Option ℕ) → AreEdgesOf v g → AreMarked v.polygraph.choices v.sides g.edges marks → IfSome o (IsUnmarked marks from) → IfSome o (AreUnforced v from)
+some_kept v g marks from None a m u = _
+some_kept v g marks from (Some c) a m u = unforced_kept v g marks from c a m u
+
+pub none_kept : (v : View) (g : Graph) (marks : List ℕ) (from : ℕ) (o : Option ℕ) → IsView v → AreEdgesOf v g → AreMarked v.polygraph.choices v.sides g.edges marks → IfNone o (IsUnmarked marks from 100000) → IfNone o ((to : ℕ) → AreUnforced v from to)
+none_kept v g marks from (Some c) is a m u = _
+none_kept v g marks from None is a m u = λ to. record {
   each = λ c lo hi free.
       (let within = open_within v.sides c free in
       let sided = is.sided in
       let few = is.whole.choices.few in
-      elim (cases_lt k 100000) [ inl lt ↦ absurd (false≢true (some.1 lt)) | inr ge ↦ u.each c lo (omega (arith, within, sided, few, ge)) free ]);
+      unmarked v g marks c a m free (u.each c lo (omega (arith, within, sided, few))));
 }
 
+-- ---- an open choice
+between : (sides : List (Option Side)) (k c i : ℕ) (rest : List ℕ) → open_from k sides ≡ c ∷ rest → k + i < c → is_open_at sides i ≡ false
+between [] k c i rest e lt = refl
+between (None ∷ xs) k c i rest e lt = let h : k ≡ c = cc in absurd (omega (arith, h, lt))
+between (Some s ∷ xs) k c zero rest e lt = refl
+between (Some s ∷ xs) k c (suc i) rest e lt = between xs (k + 1) c i rest e (omega (arith, lt))
+
+closed : (sides : List (Option Side)) (k i : ℕ) → open_from k sides ≡ [] → is_open_at sides i ≡ false
+closed [] k i e = refl
+closed (None ∷ xs) k i e = cc
+closed (Some s ∷ xs) k zero e = refl
+closed (Some s ∷ xs) k (suc i) e = closed xs (k + 1) i e
+
+never : (v : View) (from c : ℕ) → from ≤ c → is_open_at (drop from v.sides) (c - from) ≡ false → is_open_in v c ≡ true → ⊥
+never v from c lo f free =
+    let e : from + (c - from) ≡ c = omega (arith, lo) in
+    false≢true (sym f ∙ open_drop v.sides from (c - from) ∙ ap (is_open_at v.sides) e ∙ free)
+
+pub some_open : (v : View) (from : ℕ) (o : Option ℕ) → MatchOption o (open_past v.sides from ≡ []) (λ c. open_past v.sides from ≡ c ∷ open_past v.sides (c + 1)) → IfSome o (AreUnforced v from)
+some_open v from None m = _
+some_open v from (Some c) m = record {
+  each = λ j lo hi free. absurd (never v from j lo (between (drop from v.sides) from c (j - from) (open_past v.sides (c + 1)) m (omega (arith, lo, hi))) free);
+}
+
+pub none_open : (v : View) (from : ℕ) (o : Option ℕ) → MatchOption o (open_past v.sides from ≡ []) (λ c. open_past v.sides from ≡ c ∷ open_past v.sides (c + 1)) → IfNone o ((to : ℕ) → AreUnforced v from to)
+none_open v from (Some c) m = _
+none_open v from None m = λ to. record { each = λ j lo hi free. absurd (never v from j lo (closed (drop from v.sides) from (j - from) m) free) }
+
+-- ---- the choices up to a third one
 pub unforced_joined : (v : View) (a b c : ℕ) → AreUnforced v a b → AreUnforced v b c → AreUnforced v a c
 unforced_joined v a b c first second = record {
   each = λ n lo hi free. elim (cases_lt n b) [ inl lt ↦ first.each n lo lt free | inr ge ↦ second.each n ge hi free ];

@@ -7,7 +7,7 @@ use Rattle.reach_rows.specs.ReachRows.{AreRowsOf}
 use Rattle.prune_ledger.specs.Runs.{IsWhole}
 use Rattle.branching.specs.View.{View, edges_in}
 use Rattle.branching.specs.Picks.{size_of}
-use Rattle.branching.specs.Marked.{AreIncoming, AreMarked}
+use Rattle.branching.specs.Markings.{AreMarks}
 use Rattle.branching.specs.declared.view.CubeView.TheInside.{Inside}
 
 -- each choice is open or has a side, and the polygraph is whole
@@ -28,5 +28,4 @@ pub record IsHeld (k : Inside) : Type 0 where
   pub counted : k.counts ≡ map size_of k.reduced.now.poly.choices
   pub graph : AreEdgesOf (view_of k) k.graph
   pub rows : AreRowsOf k.rows k.graph
-  pub incoming : AreIncoming k.reduced.now.poly.nodes k.reduced.now.poly.choices k.incoming.items
-  pub marks : AreMarked k.reduced.now.poly.choices k.sides k.graph.edges k.marks.items
+  pub marks : AreMarks k.reduced.now.poly.nodes k.reduced.now.poly.choices k.sides k.graph.edges k.marks

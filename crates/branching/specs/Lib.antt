@@ -8,6 +8,7 @@ pub mod Meant
 pub mod Forced
 pub mod Sides
 pub mod Marked
+pub mod Markings
 pub mod Held
 pub mod Saved
 pub mod Orders

@@ -36,6 +36,8 @@ impl<A: Strategy, B: Strategy> Strategy for Alternate<A, B> {
 
     const NAME: &'static str = "alternate";
 
+    const USES_MARKS: bool = A::USES_MARKS || B::USES_MARKS;
+
     ghost picks = { λ s v. if is_even_depth v then A.picks s.0 v else B.picks s.1 v };
 
     ghost first_of = { λ s v c. if is_even_depth v then A.first_of s.0 v c else B.first_of s.1 v c };

@@ -24,6 +24,8 @@ impl Strategy for MostEdges {
 
     const NAME: &'static str = "most";
 
+    const USES_MARKS: bool = false;
+
     ghost picks = { λ _ v. most_edges v };
 
     ghost first_of = { λ _ _ _. One };
@@ -57,6 +59,8 @@ impl Strategy for LeastEdges {
     ghost use Rattle.branching.specs.Picked.{least_is_open, least_where_open};
 
     const NAME: &'static str = "least";
+
+    const USES_MARKS: bool = false;
 
     ghost picks = { λ _ v. least_edges v };
 

@@ -61,6 +61,8 @@ impl Strategy for ByWords {
 
     const NAME: &'static str = "words";
 
+    const USES_MARKS: bool = false;
+
     ghost picks = { λ s v. by_words s v };
 
     ghost first_of = { λ s v _. side_by_words s v };

@@ -18,6 +18,8 @@ impl Strategy for FirstOpen {
 
     const NAME: &'static str = "first";
 
+    const USES_MARKS: bool = false;
+
     ghost picks = { λ _ v. first_open v };
 
     ghost first_of = { λ _ _ _. One };

@@ -20,6 +20,8 @@ impl Strategy for Forced {
 
     const NAME: &'static str = "forced";
 
+    const USES_MARKS: bool = true;
+
     ghost picks = { λ _ v. forced_or_most v };
 
     ghost first_of = { λ _ v c. side_left v c };

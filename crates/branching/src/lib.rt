@@ -9,6 +9,7 @@ mod by_words;
 mod counts;
 mod first_open;
 mod forced;
+mod kept_marks;
 pub mod laws;
 mod marks;
 mod order;

@@ -15,6 +15,10 @@ pub trait Strategy: Sync {
     /// The strategy's word.
     const NAME: &'static str;
 
+    /// Whether the strategy looks for choices of which a side is refuted, so that a view is to keep marks of
+    /// these. Its answers are the same without them, and take longer.
+    const USES_MARKS: bool;
+
     /// The choice that is picked, by its number, where one is.
     ghost picks: { Self → View → Option ℕ };
 

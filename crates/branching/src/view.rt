@@ -13,15 +13,13 @@ ghost use Rattle.branching.specs.Picks.{edge_count};
 ghost use Rattle.branching.specs.Refuted.{is_refuted_in, is_forced_in, first_forced, AreUnforced};
 ghost use Rattle.branching.specs.Opens.{open_past};
 ghost use Rattle.branching.specs.Held.{IsView, AreEdgesOf};
-ghost use Rattle.branching.specs.Marked.{AreIncoming, AreMarked};
+ghost use Rattle.branching.specs.Markings.{AreMarks, AreBlank, HaveLists};
 ghost use Rattle.polygraph.specs.declared.index.TheConstants.{MAX_CHOICES};
 
-use crate::bits::{clear_bit, next_set};
 use crate::counts::EdgeCounts;
-use crate::marks::{Incoming, incoming_of, mark_refuted};
+use crate::kept_marks::Marks;
 use crate::sides::Sides;
 use known_graph::Known;
-use known_graph::bits::row_len;
 use polygraph::{Choice, ChoiceIx};
 use prune_ledger::{Reduced, Verdict, judge};
 use pruning_laws::Side;
@@ -33,8 +31,8 @@ use std::marker::Model;
 /// What a strategy sees of a cube: the choices of a polygraph, and of each the side that is decided, or
 /// none where it is open.
 ///
-/// It keeps up the known edges with those of the decided sides, which node reaches which by them, and a mark
-/// for each open choice of which they refute a side.
+/// It keeps up the known edges with those of the decided sides, which node reaches which by them, and, for a
+/// strategy that uses marks, a mark for each open choice of which they refute a side.
 #[derive(Drop)]
 pub struct CubeView<'a> {
     reduced: &'a Reduced,
@@ -42,8 +40,7 @@ pub struct CubeView<'a> {
     sides: Sides,
     graph: Known,
     rows: Rows,
-    incoming: Vec<Vec<Incoming>>,
-    marks: Vec<u64>,
+    marks: Marks,
 }
 
 impl<'a> Model for CubeView<'a> {
@@ -64,7 +61,7 @@ pub struct SavedView<'a> {
     sides: Sides,
     graph: Known,
     rows: Rows,
-    marks: Vec<u64>,
+    marks: Option<Vec<u64>>,
 }
 
 impl<'a> Model for SavedView<'a> {
@@ -84,16 +81,15 @@ impl<'a> CubeView<'a> {
         ensures opened { IfOk result (λ view. view ≡ opened reduced.now.poly) }
     {
         let poly = reduced.poly();
-        let nodes = poly.nodes();
-        Ok(CubeView {
-            reduced,
-            counts: EdgeCounts::new(alloc, poly.choices())?,
-            sides: Sides::open(alloc, poly.choices().len())?,
-            graph: poly.known().copy(alloc)?,
-            rows: reduced.rows().copy(alloc)?,
-            incoming: incoming_of(alloc, nodes, poly.choices())?,
-            marks: vec![in alloc; 0; row_len(poly.choices().len())]?,
-        })
+        let marks = Marks::blank(alloc, poly.nodes(), poly.choices())?;
+        open_view(alloc, reduced, marks)
+    }
+
+    /// The view of that cube for strategies that do not use marks: it spares the time and the memory for them.
+    pub fn without_marks(alloc: Global, reduced: &'a Reduced) -> Result<CubeView<'a>, AllocError>
+        ensures opened { IfOk result (λ view. view ≡ opened reduced.now.poly) }
+    {
+        open_view(alloc, reduced, Marks::Unkept)
     }
 
     /// Opens each choice again. It takes no memory.
@@ -104,7 +100,7 @@ impl<'a> CubeView<'a> {
         self.sides.reopen();
         self.graph.copy_from(reduced.poly().known());
         self.rows.copy_from(reduced.rows());
-        self.marks.as_mut_slice().fill(0);
+        self.marks.clear();
     }
 
     /// What is seen now, to go back to.
@@ -116,7 +112,7 @@ impl<'a> CubeView<'a> {
             sides: self.sides.copy(alloc)?,
             graph: self.graph.copy(alloc)?,
             rows: self.rows.copy(alloc)?,
-            marks: Vec::from_slice(alloc, &self.marks)?,
+            marks: self.marks.bits(alloc)?,
         })
     }
 
@@ -125,10 +121,11 @@ impl<'a> CubeView<'a> {
         requires polygraph { saved.now.polygraph ≡ self.old.polygraph }
         ensures restored { self.new ≡ saved.now }
     {
+        let count = self.sides.count();
         self.sides.copy_from(&saved.sides);
         self.graph.copy_from(&saved.graph);
         self.rows.copy_from(&saved.rows);
-        self.marks.as_mut_slice().copy_from_slice(&saved.marks);
+        self.marks.copy_from(&saved.marks, count);
     }
 
     /// Decides an open choice. It takes no memory.
@@ -138,15 +135,8 @@ impl<'a> CubeView<'a> {
     {
         let choices = self.reduced.poly().choices();
         let edges = choices[choice.get()].edges(side);
-        let marks = self.marks.as_mut_slice();
-        add_edges(
-            &self.incoming,
-            &mut self.graph,
-            &mut self.rows,
-            marks,
-            edges,
-        );
-        clear_bit(marks, choice.get());
+        add_edges(&mut self.graph, &mut self.rows, &mut self.marks, edges);
+        self.marks.remove(choice);
         self.sides.decide(choice, side);
     }
 
@@ -252,13 +242,17 @@ impl<'a> CubeView<'a> {
         None
     }
 
-    // The choice of least number from a number on that is marked; those below it are not open and forced.
+    // The choice of least number from a number on that is marked, or open where no marks are kept; those below
+    // it are not open and forced.
     fn next_marked(&self, from: usize) -> Option<ChoiceIx>
         ensures next { IfSome result (λ c. from ≤ c) }
         ensures below { IfSome result (λ c. AreUnforced self.now from c) }
         ensures none { IfNone result ((c : ℕ) → AreUnforced self.now from c) }
     {
-        ChoiceIx::new(next_set(&self.marks, from)?)
+        match &self.marks {
+            Marks::Unkept => self.sides.next_open(from),
+            Marks::Kept(kept) => kept.next(from),
+        }
     }
 
     /// A number of edges that no choice has fewer of, both sides together.
@@ -293,26 +287,39 @@ impl<'a> CubeView<'a> {
     }
 }
 
+// The view of the cube in which no choice is decided, with marks of which none is set.
+fn open_view<'a>(
+    alloc: Global,
+    reduced: &'a Reduced,
+    marks: Marks,
+) -> Result<CubeView<'a>, AllocError>
+    requires blank { AreBlank reduced.now.poly.nodes reduced.now.poly.choices marks }
+    ensures opened { IfOk result (λ view. view ≡ opened reduced.now.poly) }
+{
+    let poly = reduced.poly();
+    let _nodes = poly.nodes();
+    Ok(CubeView {
+        reduced,
+        counts: EdgeCounts::new(alloc, poly.choices())?,
+        sides: Sides::open(alloc, poly.choices().len())?,
+        graph: poly.known().copy(alloc)?,
+        rows: reduced.rows().copy(alloc)?,
+        marks,
+    })
+}
+
 // Adds these edges to a graph and to its rows, and marks the choices of which they refute a side.
-fn add_edges(
-    incoming: &[Vec<Incoming>],
-    graph: &mut Known,
-    rows: &mut Rows,
-    marks: &mut [u64],
-    edges: &[Edge],
-)
+fn add_edges(graph: &mut Known, rows: &mut Rows, marks: &mut Marks, edges: &[Edge])
     requires joined { AllByRecursion (Joins graph.old.nodes) edges.now }
     requires rows { AreRowsOf rows.old graph.old }
-    requires lists { length incoming.now ≡ graph.old.nodes + 1 }
+    requires lists { HaveLists (graph.old.nodes + 1) marks.old }
     ensures edges { AddsEdges graph.old graph.new edges.now }
     ensures rows { AreRowsOf rows.new graph.new }
-    ensures marks { (choices : List spec.Choice) (sides : List (Option side.Side)) → length sides ≡ length choices →
-        AreIncoming graph.old.nodes choices incoming.now → AreMarked choices sides graph.old.edges marks.old →
-        AreMarked choices sides graph.new.edges marks.new }
-    ensures len { length marks.new ≡ length marks.old }
+    ensures marks { (n : ℕ) (choices : List spec.Choice) (sides : List (Option side.Side)) → length sides ≡ length choices →
+        AreMarks n choices sides graph.old.edges marks.old → AreMarks n choices sides graph.new.edges marks.new }
 {
     for &edge in edges {
-        mark_refuted(incoming, rows, marks, edge.source(), edge.target());
+        marks.add_edge(rows, edge);
         graph.add_edge(edge.source(), edge.target());
         rows.add_edge(edge.source(), edge.target());
     }

@@ -136,6 +136,16 @@ way_of xs k x (Some p) e at lt =
 pub is_way : (xs : List TreeNode) (k : ℕ) (x : TreeNode) → slice_get xs k ≡ Some x → ((p : Origin) → x.origin ≡ Some p → p.parent < k) → IsWay (nodes_of xs) k x.origin
 is_way xs k x at lt = way_of xs k x x.origin refl at lt
 
+rooted : (nodes : List Node) (o : Option Origin) → IsWay nodes 0 o → cube_in nodes 0 ≡ []
+rooted nodes None w = w
+rooted nodes (Some o) w = let l = w.earlier in absurd (omega (arith, l))
+
+-- node 0 decides no choice
+pub root_way : (xs : List TreeNode) (d : TreeNode) → 0 < length xs → ((x : TreeNode) (p : Origin) → slice_get xs 0 ≡ Some x → x.origin ≡ Some p → p.parent < 0) → cube_in (nodes_of xs) 0 ≡ []
+root_way xs d lt ordered =
+    let at = get_some xs 0 d lt in
+    rooted (nodes_of xs) (get_or xs 0 d).origin (is_way xs 0 (get_or xs 0 d) at (λ p f. ordered (get_or xs 0 d) p at f))
+
 -- ---- a written mark
 abbrev pub remark : TreeNode → Mark → TreeNode
 remark x m = record { origin = x.origin; mark = m }

@@ -1,6 +1,6 @@
 -- The edges of a cube.
-use Rattle.std.proofs.Common.{◌≡◌, ◌⊎◌, ◌↔◌, ℕ, zero, suc, ◌+◌, ◌<◌, Bool, true, false, cond, eqb, ◌&&◌, ◌||◌, List, [], ◌∷◌, ◌++◌, length, get_or, take, drop, refl, sym, ap, ◌∙◌, subst, inl, inr, arith}
-use Rattle.std.specs.Prelude.{slice_get, slice_index, nat_lt}
+use Rattle.std.proofs.Common.{◌≡◌, ◌⊎◌, ◌↔◌, ℕ, zero, suc, ◌+◌, ◌<◌, Bool, true, false, cond, eqb, ◌&&◌, ◌||◌, List, [], ◌∷◌, ◌++◌, length, get_or, take, refl, sym, ap, ◌∙◌, subst, inl, inr, arith}
+use Rattle.std.specs.Prelude.{slice_get}
 use Rattle.std.specs.Option.{option_map_or}
 use Rattle.std.specs.List.{Contains}
 use Rattle.std.proofs.lemmas.Bool.{false≢true, or_cases, or_left, or_right, eq-eqb, ne_eqb}
@@ -11,10 +11,10 @@ use Rattle.pruning_laws.specs.declared.side.Side.{Side}
 use Rattle.pruning_laws.specs.declared.side.Side.TheVariants.{One, Two}
 use Rattle.pruning_laws.specs.Forced.{edges_of, Sides, kept_from}
 use Rattle.pruning_laws.specs.Ledger.{same_side, sides_in}
-use Rattle.known_graph.specs.Tests.{has_edge, leads, is_line}
+use Rattle.known_graph.specs.Tests.{has_edge}
 use Rattle.known_graph.proofs.Tested.{same_bool, edge_in, has_contained}
 use Rattle.cube_laws.specs.Cubes.{Cube, edges_under}
-use Rattle.cube_machine.specs.Sides.{side_in, cube_edges, HasEdges}
+use Rattle.cube_machine.specs.Sides.{side_in, cube_edges}
 use Rattle.cube_machine.proofs.Lists.{either_way, or_false}
 
 pub edge_append : (xs ys : List Edge) (e : Edge) → has_edge (xs ++ ys) e ≡ (has_edge xs e || has_edge ys e)
@@ -76,7 +76,7 @@ part_edge : (b : Bool) (xs : List Edge) (e : Edge) → has_edge (cond b xs []) e
 part_edge true xs e = refl
 part_edge false xs e = refl
 
-kept_edge : (sides : Sides) (k : ℕ) (h : Choice) (hs : List Choice) (e : Edge) → has_edge (kept_from sides k (h ∷ hs)) e ≡ (((sides k One && has_edge h.one e) || (sides k Two && has_edge h.two e)) || has_edge (kept_from sides (k + 1) hs) e)
+pub kept_edge : (sides : Sides) (k : ℕ) (h : Choice) (hs : List Choice) (e : Edge) → has_edge (kept_from sides k (h ∷ hs)) e ≡ (((sides k One && has_edge h.one e) || (sides k Two && has_edge h.two e)) || has_edge (kept_from sides (k + 1) hs) e)
 kept_edge sides k h hs e =
     edge_append (cond (sides k One) h.one [] ++ cond (sides k Two) h.two []) (kept_from sides (k + 1) hs) e
     ∙ ap (λ b. b || has_edge (kept_from sides (k + 1) hs) e)
@@ -160,11 +160,3 @@ under_is p cube e =
     edge_append p.known (cube_edges p cube) e
     ∙ ap (λ b. has_edge p.known e || b) (sym (cube_kept p cube e))
     ∙ sym (edge_append p.known (kept_from (sides_in cube) 0 p.choices) e)
-
--- ---- lists with the same edges
-leads_same : (a b : List Edge) → HasEdges a b → (u : ℕ) (line : List ℕ) (v : ℕ) → leads a u line v ≡ leads b u line v
-leads_same a b h u [] v = refl
-leads_same a b h u (w ∷ ws) v = λ i. h.same (u, w) i && leads_same a b h w ws v i
-
-pub line_same : (a b : List Edge) → HasEdges a b → (u : ℕ) (line : List ℕ) (v : ℕ) → is_line a u line v ≡ is_line b u line v
-line_same a b h u line v = ap (λ t. nat_lt 1 (length line) && (eqb (slice_index line 0) u && t)) (leads_same a b h u (drop 1 line) v)

@@ -23,6 +23,18 @@ get_pushed [] (suc j) y x e = absurd (none-some x e)
 get_pushed (z ∷ zs) zero y x e = inr e
 get_pushed (z ∷ zs) (suc j) y x e = elim (get_pushed zs j y x e) [ inl p ↦ inl (ap suc p.0, p.1) | inr q ↦ inr q ]
 
+pub get_put : {A : Type 0} (xs : List A) (k : ℕ) (x y : A) → slice_get xs k ≡ Some x → slice_get (slice_set xs k y) k ≡ Some y
+get_put [] k x y e = absurd (none-some x e)
+get_put (z ∷ zs) zero x y e = refl
+get_put (z ∷ zs) (suc k) x y e = get_put zs k x y e
+
+pub get_other : {A : Type 0} (xs : List A) (k j : ℕ) (y : A) → (k ≡ j → ⊥) → slice_get (slice_set xs k y) j ≡ slice_get xs j
+get_other [] k j y ne = refl
+get_other (z ∷ zs) zero zero y ne = absurd (ne refl)
+get_other (z ∷ zs) zero (suc j) y ne = refl
+get_other (z ∷ zs) (suc k) zero y ne = refl
+get_other (z ∷ zs) (suc k) (suc j) y ne = get_other zs k j y (λ e. ne (ap suc e))
+
 pub get_within : {A : Type 0} (xs : List A) (k : ℕ) (x : A) → slice_get xs k ≡ Some x → k < length xs
 get_within [] k x e = absurd (none-some x e)
 get_within (z ∷ zs) zero x e = omega arith
@@ -55,7 +67,7 @@ pub or_false : (b : Bool) → b ≡ (b || false)
 or_false true = refl
 or_false false = refl
 
-or_swap : (a b c : Bool) → (a || (b || c)) ≡ ((a || b) || c)
+pub or_swap : (a b c : Bool) → (a || (b || c)) ≡ ((a || b) || c)
 or_swap true b c = refl
 or_swap false b c = refl
 

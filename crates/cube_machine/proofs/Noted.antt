@@ -1,17 +1,21 @@
 -- What is noted of the seats' cubes stays right while the tree grows.
-use Rattle.std.proofs.Common.{◌≡◌, ℕ, zero, suc, false, List, [], ◌∷◌, ◌++◌, length, get_or, replicate, Option, None, Some, refl, sym, ap, ◌∙◌, subst, inl, inr, arith}
+use Rattle.std.proofs.Common.{◌≡◌, ℕ, zero, suc, false, List, [], ◌∷◌, ◌++◌, length, Option, None, Some, refl, sym, ap, ◌∙◌, subst, inl, inr, arith}
 use Rattle.std.specs.Prelude.{slice_get, slice_set}
 use Rattle.std.specs.Option.{option_map_or}
 use Rattle.std.proofs.lemmas.List.{length-append}
 use Rattle.cube_laws.specs.State.{Node, root}
-use Rattle.cube_laws.specs.Steps.{with_mark}
-use Rattle.cube_laws.specs.Cubes.{is_decided}
+use Rattle.pruning_laws.specs.declared.side.Side.{Side}
+use Rattle.pruning_laws.specs.declared.side.Side.TheVariants.{One, Two}
+use Rattle.cube_laws.specs.Steps.{with_mark, child}
+use Rattle.cube_laws.specs.Cubes.{Cube, is_decided}
 use Rattle.cube_laws.specs.declared.messages.Mark.{Mark}
 use Rattle.cube_laws.proofs.Nodes.{some-inj}
 use Rattle.cube_machine.specs.Ways.{cube_in}
-use Rattle.cube_machine.specs.Noted.{IsNoted, AreNoted}
+use Rattle.cube_machine.specs.Flags.{flag_at, is_odd}
+use Rattle.cube_machine.specs.Noted.{IsOnce, AreOnce, IsNoted, AreNoted}
 use Rattle.cube_machine.specs.declared.decided.Decided.{Decided}
 use Rattle.cube_machine.proofs.Lists.{get_written, get_pushed}
+use Rattle.cube_machine.proofs.Flags.{odd_none}
 use Rattle.cube_machine.proofs.Splits.{length_marked, cube_front}
 
 -- ---- a mark is written
@@ -33,17 +37,42 @@ pub noted_marked : (nodes : List Node) (count : ℕ) (table : List Decided) (id 
 noted_marked nodes count table id m t = record {
   noted = λ k d e. (let n = t.noted k d e in let w = n.within in let l = length_marked nodes id m in record {
     within = omega (arith, w, l);
-    each = λ c lt. n.each c lt ∙ ap (λ cube. is_decided cube c) (sym (cube_stays nodes id d.node m));
+    each = λ c side lt. n.each c side lt ∙ ap (λ cube. is_odd cube c side) (sym (cube_stays nodes id d.node m));
   });
   wide = t.wide;
 }
 
+pub once_marked : (nodes : List Node) (id : ℕ) (m : Mark) → AreOnce nodes → AreOnce (with_mark nodes id m)
+once_marked nodes id m t = record { each = λ k. subst IsOnce (sym (cube_stays nodes id k m)) (t.each k) }
+
 -- ---- nodes are added
+once_joined : (nodes more : List Node) → ((k : ℕ) → IsOnce (cube_in nodes k)) → ((k : ℕ) → IsOnce (cube_in more k)) → (k : ℕ) → IsOnce (cube_in (nodes ++ more) k)
+once_joined [] more a b k = b k
+once_joined (x ∷ xs) more a b zero = a 0
+once_joined (x ∷ xs) more a b (suc k) = once_joined xs more (λ j. a (suc j)) b k
+
+pub once_more : (nodes more : List Node) → AreOnce nodes → ((k : ℕ) → IsOnce (cube_in more k)) → AreOnce (nodes ++ more)
+once_more nodes more t b = record { each = once_joined nodes more t.each b }
+
+pub once_children : (id c : ℕ) (cube : Cube) → IsOnce cube → is_decided cube c ≡ false → (k : ℕ) → IsOnce (cube_in (child id cube c One ∷ child id cube c Two ∷ []) k)
+unfolding IsOnce
+once_children id c cube once free zero = (free, once)
+once_children id c cube once free (suc zero) = (free, once)
+once_children id c cube once free (suc (suc k)) = tt
+
+pub once_root : AreOnce (root ∷ [])
+unfolding IsOnce
+once_root = record { each = first }
+  where
+    first : (k : ℕ) → IsOnce (cube_in (root ∷ []) k)
+    first zero = tt
+    first (suc k) = tt
+
 pub noted_more : (nodes more : List Node) (count : ℕ) (table : List Decided) → AreNoted nodes count table → AreNoted (nodes ++ more) count table
 noted_more nodes more count table t = record {
   noted = λ k d e. (let n = t.noted k d e in let w = n.within in let l = length-append nodes more in record {
     within = omega (arith, w, l);
-    each = λ c lt. n.each c lt ∙ ap (λ cube. is_decided cube c) (sym (cube_front nodes more d.node w));
+    each = λ c side lt. n.each c side lt ∙ ap (λ cube. is_odd cube c side) (sym (cube_front nodes more d.node w));
   });
   wide = t.wide;
 }
@@ -62,15 +91,10 @@ noted_went nodes count table k old now t at n l = record {
 }
 
 -- ---- at first
-get_none : (n c : ℕ) → get_or (replicate n false) c false ≡ false
-get_none zero c = refl
-get_none (suc n) zero = refl
-get_none (suc n) (suc c) = get_none n c
-
-pub noted_none : (count : ℕ) (d : Decided) → d.node ≡ 0 → d.flags.items ≡ replicate count false → IsNoted (root ∷ []) d
+pub noted_none : (count : ℕ) (d : Decided) → d.node ≡ 0 → ((c : ℕ) (side : Side) → flag_at d.flags.items c side ≡ false) → IsNoted (root ∷ []) d
 noted_none count d at e = record {
   within = omega (arith, at);
-  each = λ c lt. ap (λ l. get_or l c false) e ∙ get_none count c ∙ ap (λ k. is_decided (cube_in (root ∷ []) k) c) (sym at);
+  each = λ c side lt. e c side ∙ sym (odd_none (cube_in (root ∷ []) d.node) c side (ap (cube_in (root ∷ [])) at));
 }
 
 pub noted_pushed : (nodes : List Node) (count : ℕ) (table : List Decided) (d : Decided) → AreNoted nodes count table → IsNoted nodes d → length d.flags.items ≡ count → AreNoted nodes count (table ++ d ∷ [])

@@ -1,6 +1,7 @@
 -- Orders that keep edges.
 use Rattle.std.proofs.Common.{◌≡◌, ◌↔◌, ℕ, zero, suc, ◌+◌, ◌<◌, ◌≤◌, Bool, true, false, eqb, ◌&&◌, List, [], ◌∷◌, length, get_or, Some, refl, sym, ap, ◌∙◌, inl, inr, arith}
-use Rattle.std.specs.Prelude.{nat_lt}
+use Rattle.std.specs.Prelude.{nat_lt, slice_get}
+use Rattle.std.specs.Option.{option_map_or}
 use Rattle.std.specs.List.{Contains, list_any, list_all, range_with_len}
 use Rattle.std.proofs.lemmas.Bool.{cases_Bool, and_parts, and_from, eq-eqb, lt-ltb, ltb-true}
 use Rattle.serializability.specs.Replay.{place_of, ListsOnce}
@@ -33,11 +34,11 @@ all_range t a zero h = refl
 all_range t a (suc n) h = and_from (t a) (list_all t (range_with_len (a + 1) n)) (h a (omega arith) (omega arith)) (all_range t (a + 1) n (λ v lo hi. h v (omega arith) (omega (arith, hi))))
 
 -- a row of answers
-pub all_noted : (t : ℕ → Bool) (a : ℕ) (ds : List Bool) → ((c : ℕ) → c < length ds → get_or ds c false ≡ t (a + c)) → list_all (λ d. d) ds ≡ list_all t (range_with_len a (length ds))
-all_noted t a [] h = refl
-all_noted t a (d ∷ ds) h =
+pub all_noted : {A : Type 0} (d : A → Bool) (t : ℕ → Bool) (a : ℕ) (ds : List A) → ((c : ℕ) → c < length ds → option_map_or d (slice_get ds c) false ≡ t (a + c)) → list_all d ds ≡ list_all t (range_with_len a (length ds))
+all_noted d t a [] h = refl
+all_noted d t a (x ∷ ds) h =
     let z : a + 0 ≡ a = omega arith in
-    (λ i. (h 0 (omega arith) ∙ ap t z) i && all_noted t (a + 1) ds (λ c lt. (let n : a + suc c ≡ a + 1 + c = omega arith in h (suc c) (omega (arith, lt)) ∙ ap t n)) i)
+    (λ i. (h 0 (omega arith) ∙ ap t z) i && all_noted d t (a + 1) ds (λ c lt. (let n : a + suc c ≡ a + 1 + c = omega arith in h (suc c) (omega (arith, lt)) ∙ ap t n)) i)
 
 -- ---- an order of the nodes
 pub once_listed : (n : ℕ) (order : List ℕ) → ListsOnce n order → lists_once n order ≡ true

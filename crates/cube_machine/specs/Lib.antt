@@ -2,6 +2,8 @@ pub mod Growth
 pub mod Ways
 pub mod Kept
 pub mod Sides
+pub mod Flags
+pub mod Listed
 pub mod Noted
 pub mod Machines
 pub mod Words

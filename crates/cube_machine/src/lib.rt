@@ -4,7 +4,7 @@
 //! A cube is a list of decided choices, each with its side. Contracts see the machine as the state of
 //! the written step. The tree in memory keeps of each node its parent and the one choice that led to it
 //! from there, so a cube is the way up; and it keeps which nodes are open, which one each seat holds and
-//! what the last cube of each seat decides, so that a step down the tree looks at one node.
+//! what the last cube of each seat decides, so that a step looks at what the next cube decides otherwise.
 #![tactic(auto)]
 
 mod budget;
@@ -15,6 +15,7 @@ mod order;
 mod origin;
 mod row;
 mod rules;
+mod side_edges;
 mod sides;
 mod tree;
 

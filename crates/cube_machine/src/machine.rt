@@ -15,7 +15,8 @@ use crate::decided::Decided;
 use crate::order::fits_graph;
 use crate::origin::Origin;
 use crate::row::Row;
-use crate::sides::{fill, is_cycle};
+use crate::side_edges::{SideEdge, is_cycle, side_edges};
+use crate::sides::fill;
 use crate::tree::{SEAT_SLOTS, Tree};
 use cube_laws::{Mark, Reply};
 use desk::seat_no::SeatNo;
@@ -35,9 +36,11 @@ pub struct CubeMachine<'a> {
     tree: Tree,
     closed: usize,
     budget: Budget,
-    // The edges of the cube that is tested.
+    // The edges of the cube that is solved.
     graph: Known,
-    // Of each seat which choices its cube decides.
+    // The edges of all sides, by their targets.
+    sides: Vec<Vec<SideEdge>>,
+    // Of each seat what its cube decides.
     decided: Vec<Decided>,
 }
 
@@ -49,7 +52,7 @@ impl<'a> Model for CubeMachine<'a> {
 
     ghost view = { λ m. record { polygraph = m.polygraph.now; nodes = m.tree.nodes; closed = m.closed; budget = m.budget } };
 
-    ghost invariant = { λ m. IsMachine m.polygraph.now m.tree m.closed m.budget m.graph m.decided.items };
+    ghost invariant = { λ m. IsMachine m.polygraph.now m.tree m.closed m.budget m.graph m.sides.items m.decided.items };
 }
 
 impl<'a> CubeMachine<'a> {
@@ -64,6 +67,7 @@ impl<'a> CubeMachine<'a> {
     {
         let tree = Tree::root(alloc, 2 * budget.get() + 1)?;
         let graph = polygraph.known().copy(alloc)?;
+        let sides = side_edges(alloc, polygraph)?;
         let decided = decided_of_seats(alloc, polygraph.choices().len())?;
         Ok(CubeMachine {
             polygraph,
@@ -72,6 +76,7 @@ impl<'a> CubeMachine<'a> {
             closed: 0,
             budget,
             graph,
+            sides,
             decided,
         })
     }
@@ -188,7 +193,7 @@ impl<'a> CubeMachine<'a> {
         }
         let decided = &mut self.decided[usize::from(seat.get())];
         decided.go_to(&self.tree, id);
-        !decided.flags[number]
+        !decided.decides(number)
     }
 
     // Refutes the cube that the seat holds.
@@ -200,7 +205,7 @@ impl<'a> CubeMachine<'a> {
         let Some(id) = self.tree.held(seat) else {
             return Reply::NoCube;
         };
-        if !self.is_cycle_at(id, line) {
+        if !self.is_cycle_at(seat, id, line) {
             return Reply::BadCycle;
         }
         self.tree.close(seat, id, Mark::Refuted);
@@ -208,14 +213,15 @@ impl<'a> CubeMachine<'a> {
         Reply::Closed
     }
 
-    // Whether these are the nodes of a cycle in the edges of a node's cube.
-    fn is_cycle_at(&mut self, id: usize, line: &[NodeIx]) -> bool
+    // Whether these are the nodes of a cycle in the edges of the cube of a node that the seat holds.
+    fn is_cycle_at(&mut self, seat: SeatNo, id: usize, line: &[NodeIx]) -> bool
         requires within { id < length self.old.nodes }
         ensures cycle { result ≡ is_cycle (edges_under self.old.polygraph (cube_at self.old id)) line.now }
         ensures same { self.new ≡ self.old }
     {
-        fill(&mut self.graph, self.polygraph, &self.tree, id);
-        is_cycle(&self.graph, line)
+        let decided = &mut self.decided[usize::from(seat.get())];
+        decided.go_to(&self.tree, id);
+        is_cycle(self.polygraph.known(), &self.sides, &decided.flags, line)
     }
 
     // Solves the cube that the seat holds.

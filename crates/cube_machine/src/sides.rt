@@ -6,7 +6,6 @@ ghost use Rattle.serializability.specs.Polygraph.{Edge};
 ghost use Rattle.polygraph.specs.Polygraphs.{Joins};
 ghost use Rattle.known_graph.specs.Tests.{has_edge};
 ghost use Rattle.cube_laws.specs.Cubes.{edges_under};
-ghost use Rattle.cube_laws.specs.Steps.{is_cycle};
 ghost use Rattle.cube_machine.specs.Ways.{cube_in};
 ghost use Rattle.cube_machine.specs.Sides.{side_in, HasEdges};
 
@@ -15,7 +14,6 @@ use known_graph::Known;
 use polygraph::{ChoiceIx, Polygraph};
 use pruning_laws::Side;
 use reach_laws::Edge;
-use serializability::NodeIx;
 
 /// Makes a graph that of the known edges and of the sides that the cube of a node decides. It takes no
 /// memory.
@@ -55,15 +53,5 @@ fn add_all(graph: &mut Known, edges: &[Edge])
 {
     for &edge in edges {
         graph.add_edge(edge.source(), edge.target());
-    }
-}
-
-/// Whether these are the nodes of a cycle in the graph, its first node repeated last.
-pub fn is_cycle(graph: &Known, line: &[NodeIx]) -> bool
-    ensures { result ≡ is_cycle graph.now.edges line.now }
-{
-    match line.first() {
-        Some(&first) => graph.is_line(first, line, first),
-        None => false,
     }
 }

@@ -96,6 +96,7 @@ impl Tree {
     pub fn origin(&self, id: usize) -> Option<Origin>
         requires within { id < length self.now.nodes }
         ensures way { IsWay self.now.nodes id result }
+        ensures root { cube_in self.now.nodes 0 ≡ [] }
     {
         self.nodes[id].origin
     }

@@ -1,23 +1,29 @@
-use Rattle.std.proofs.Common.{sym, ◌∙◌}
+use Rattle.std.proofs.Common.{◌≡◌, ◌⊎◌, ◌↔◌, ◌+◌, sym, ◌∙◌, subst}
+use Rattle.std.specs.List.{Contains}
 use Rattle.std.proofs.lemmas.List.{take_all}
+use Rattle.serializability.specs.Polygraph.{Edge}
 use Rattle.prune_ledger.proofs.Edges.{added_step}
 use Rattle.prune_ledger.proofs.KeptUp.{adds_from_added, added_rows}
-use Rattle.branching.proofs.Marked.{marked_more}
 use Rattle.branching.proofs.view.add_edges.Goals as goal
 
 pub loop-edge-preserved : goal.loop-edge-preserved
-loop-edge-preserved c = record {
-  edges = added_step c.args.graph.now c.loop-edge.graph c.add_edge.new.self c.args.edges.now c.loop-edge.edge-index c.edge-item.result c.source-in-loop-edge.result c.target-in-loop-edge.result
-      c.loop-edge-test.true c.edge-item.is c.source-in-loop-edge.ensures c.target-in-loop-edge.ensures c.loop-edge.invariant.edges c.add_edge.ensures.nodes c.add_edge.ensures.edges;
-  rows = added_rows c.loop-edge.rows c.add_edge-in-loop-edge.new.self c.loop-edge.graph c.add_edge.new.self c.source-in-loop-edge.result c.target-in-loop-edge.result c.source-in-loop-edge-2.result c.target-in-loop-edge-2.result
-      c.loop-edge.invariant.rows (c.source-in-loop-edge.ensures ∙ sym c.source-in-loop-edge-2.ensures) (c.target-in-loop-edge.ensures ∙ sym c.target-in-loop-edge-2.ensures) c.add_edge-in-loop-edge.ensures.rows
-      c.add_edge.ensures.nodes c.add_edge.ensures.edges;
-  marks = λ choices sides count incoming before.
-      marked_more c.loop-edge.rows c.loop-edge.graph c.add_edge.new.self choices sides c.args.graph.now.nodes c.args.incoming.now c.loop-edge.marks c.mark_refuted.new.marks c.source.result c.target.result
-      c.source-in-loop-edge.result c.target-in-loop-edge.result c.loop-edge.invariant.rows incoming count (c.source.ensures ∙ sym c.source-in-loop-edge.ensures) (c.target.ensures ∙ sym c.target-in-loop-edge.ensures)
-      c.add_edge.ensures.edges c.mark_refuted.ensures.keeps (c.mark_refuted.ensures.marked c.loop-edge.graph c.loop-edge.invariant.rows) (c.loop-edge.invariant.marks choices sides count incoming before);
-  len = c.mark_refuted.ensures.keeps.len ∙ c.loop-edge.invariant.len;
-}
+loop-edge-preserved c =
+    let old = c.loop-edge.graph in
+    let new = c.add_edge-in-loop-edge.new.self in
+    let u = c.source.result in
+    let v = c.target.result in
+    let nodes = c.add_edge-in-loop-edge.ensures.nodes in
+    let more = c.add_edge-in-loop-edge.ensures.edges in
+    record {
+      edges = added_step c.args.graph.now old new c.args.edges.now c.loop-edge.edge-index c.edge-item.result u v c.loop-edge-test.true c.edge-item.is c.source.ensures c.target.ensures c.loop-edge.invariant.edges nodes more;
+      rows = added_rows c.loop-edge.rows c.add_edge-in-loop-edge-2.new.self old new u v c.source-in-loop-edge.result c.target-in-loop-edge.result
+          c.loop-edge.invariant.rows (c.source.ensures ∙ sym c.source-in-loop-edge.ensures) (c.target.ensures ∙ sym c.target-in-loop-edge.ensures) c.add_edge-in-loop-edge-2.ensures.rows nodes more;
+      lists = c.add_edge.ensures.lists (c.args.graph.now.nodes + 1) c.loop-edge.invariant.lists;
+      marks = λ n choices sides count before.
+          c.add_edge.ensures.adds.each n choices sides old new count c.loop-edge.invariant.rows
+          (subst (λ (e : Edge). (x : Edge) → (Contains new.edges x ↔ (Contains old.edges x ⊎ (x ≡ e)))) (λ i. (c.source.ensures i, c.target.ensures i)) more)
+          (c.loop-edge.invariant.marks n choices sides count before);
+    }
 
 pub returns-clause-edges : goal.returns-clause-edges
 returns-clause-edges c = adds_from_added c.args.graph.now c.loop-edge.graph _ c.args.edges.now c.loop-edge.invariant.edges (take_all c.loop-edge.edge-index c.args.edges.now c.loop-edge-test.false)

@@ -1,16 +1,15 @@
-use Rattle.std.proofs.Common.{◌≡◌, List, Option, length, take}
+use Rattle.std.proofs.Common.{◌≡◌, ◌+◌, ℕ, List, Option, length, take}
 use Rattle.serializability.specs.Polygraph.{Choice}
 use Rattle.pruning_laws.specs.declared.side.Side.{Side}
 use Rattle.reach_rows.specs.ReachRows.{AreRowsOf}
 use Rattle.prune_ledger.proofs.Edges.{Added}
-use Rattle.branching.specs.Marked.{AreIncoming, AreMarked}
+use Rattle.branching.specs.Markings.{AreMarks, HaveLists}
 use Rattle.branching.proofs.view.add_edges.Given as goal
 
 abbrev pub invariant-loop-edge : goal.invariant-loop-edge
 invariant-loop-edge l = record {
   edges : Added l.fn.graph l.graph (take l.edge-index l.edges);
   rows : AreRowsOf l.rows l.graph;
-  marks : (choices : List Choice) (sides : List (Option Side)) → length sides ≡ length choices → AreIncoming l.fn.graph.nodes choices l.incoming → AreMarked choices sides l.fn.graph.edges l.fn.marks
-      → AreMarked choices sides l.graph.edges l.marks;
-  len : length l.marks ≡ length l.fn.marks;
+  lists : HaveLists (l.fn.graph.nodes + 1) l.marks;
+  marks : (n : ℕ) (choices : List Choice) (sides : List (Option Side)) → length sides ≡ length choices → AreMarks n choices sides l.fn.graph.edges l.fn.marks → AreMarks n choices sides l.graph.edges l.marks;
 }

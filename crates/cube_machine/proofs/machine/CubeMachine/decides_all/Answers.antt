@@ -1,6 +1,10 @@
-use Rattle.std.proofs.Common.{◌≡◌, ◌+◌, Some, ◌∙◌, sym, ap, arith}
+use Rattle.std.proofs.Common.{◌≡◌, ℕ, ◌+◌, ◌<◌, ◌||◌, length, Some, ◌∙◌, sym, ap, arith}
 use Rattle.std.specs.List.{list_all, range_with_len}
+use Rattle.pruning_laws.specs.declared.side.Side.{Side}
 use Rattle.cube_laws.specs.Cubes.{is_decided}
+use Rattle.cube_machine.specs.Flags.{is_odd}
+use Rattle.cube_machine.specs.declared.decided.SideFlags.{SideFlags}
+use Rattle.cube_machine.proofs.Flags.{flagged_is}
 use Rattle.cube_machine.specs.Ways.{cube_in}
 use Rattle.cube_machine.proofs.Lists.{get_some}
 use Rattle.cube_machine.proofs.Orders.{all_noted}
@@ -14,7 +18,8 @@ returns-clause-all c =
     let seats = c.self.invariant.seats in let r = c.get.ensures.range in let f = c.from.ensures in
     let at = get_some table k old (omega (arith, seats, r, f)) ∙ ap (λ d. Some d) (sym c.index_mut-decided.ensures.value) in
     let n = c.go_to.ensures.count ∙ c.self.invariant.noted.wide k old at in
+    let each = λ (v : ℕ) (side : Side) (lt : v < length now.flags.items). c.go_to.ensures.noted.each v side lt ∙ ap (λ id. is_odd (cube_in nodes id) v side) c.go_to.ensures.node in
     rw (← c.self.view_is)
     (c.all.ensures
-    ∙ all_noted t 0 now.flags.items (λ v lt. (let z : v ≡ 0 + v = omega arith in c.go_to.ensures.noted.each v lt ∙ ap (λ id. is_decided (cube_in nodes id) v) c.go_to.ensures.node ∙ ap t z))
+    ∙ all_noted (λ (f : SideFlags). f.one || f.two) t 0 now.flags.items (λ v lt. (let z : v ≡ 0 + v = omega arith in flagged_is now.flags.items (cube_in nodes c.args.id) v (c.self.invariant.once.each c.args.id) (λ side. each v side lt) ∙ ap t z))
     ∙ ap (λ m. list_all t (range_with_len 0 m)) n)

@@ -13,4 +13,4 @@ pub invariant_of-self : goal.invariant_of-self
 invariant_of-self c =
     let m = c.self-2.inside in
     let going = subst (λ (s : State). is_finished s ≡ false) (sym (c.self-2.view_is ∙ c.is_solution_at.ensures.same)) c.requires.going in
-    kept_closed m.polygraph.now m.tree c.close.new.self m.closed m.budget m.graph m.decided.items c.in-Some.id Solved c.self-2.invariant going c.close.ensures.nodes c.close.ensures.room
+    kept_closed m.polygraph.now m.tree c.close.new.self m.closed m.budget m.graph m.sides.items m.decided.items c.in-Some.id Solved c.self-2.invariant going c.close.ensures.nodes c.close.ensures.room

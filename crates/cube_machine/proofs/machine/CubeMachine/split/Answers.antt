@@ -1,10 +1,12 @@
-use Rattle.std.proofs.Common.{◌≡◌, ◌∙◌, false, sym, subst}
+use Rattle.std.proofs.Common.{◌≡◌, ◌∙◌, false, sym, ap, subst}
 use Rattle.pruning_laws.specs.declared.side.Side.TheVariants.{One, Two}
 use Rattle.cube_laws.specs.State.{State}
-use Rattle.cube_laws.specs.Steps.{is_finished, child}
+use Rattle.cube_laws.specs.Steps.{is_finished, child, can_split, cube_at}
 use Rattle.cube_laws.specs.declared.messages.Mark.TheVariants.{Split}
 use Rattle.cube_machine.specs.Ways.{cube_in}
+use Rattle.cube_laws.proofs.Grown.{splits_of}
 use Rattle.cube_machine.proofs.Splits.{held_within}
+use Rattle.cube_machine.proofs.Noted.{once_children}
 use Rattle.cube_machine.proofs.Kept.{kept_split}
 use Rattle.cube_machine.proofs.machine.CubeMachine.split.Goals as goal
 
@@ -15,4 +17,7 @@ pub invariant_of-self : goal.invariant_of-self
 invariant_of-self c =
     let m = c.self-2.inside in
     let going = subst (λ (s : State). is_finished s ≡ false) (sym (c.self-2.view_is ∙ c.can_split.ensures.same)) c.requires.going in
-    kept_split m.polygraph.now m.tree c.split.new.self m.closed m.budget m.graph m.decided.items c.in-Some.id (Split c.args.choice) (child c.in-Some.id (cube_in m.tree.nodes c.in-Some.id) c.args.choice One) (child c.in-Some.id (cube_in m.tree.nodes c.in-Some.id) c.args.choice Two) c.self-2.invariant going c.split.ensures.nodes c.split.ensures.room
+    let once = c.self-2.invariant.once.each c.in-Some.id in
+    let can = ap (λ (s : State). can_split s (cube_at s c.in-Some.id) c.args.choice) (c.self-2.view_is ∙ c.can_split.ensures.same) ∙ sym c.can_split.ensures.split ∙ c.if-not-can_split.false in
+    let free = (splits_of (record { polygraph = m.polygraph.now; nodes = m.tree.nodes; closed = m.closed; budget = m.budget }) (cube_in m.tree.nodes c.in-Some.id) c.args.choice can).free in
+    kept_split m.polygraph.now m.tree c.split.new.self m.closed m.budget m.graph m.sides.items m.decided.items c.in-Some.id (Split c.args.choice) (child c.in-Some.id (cube_in m.tree.nodes c.in-Some.id) c.args.choice One) (child c.in-Some.id (cube_in m.tree.nodes c.in-Some.id) c.args.choice Two) c.self-2.invariant going (once_children c.in-Some.id c.args.choice (cube_in m.tree.nodes c.in-Some.id) once free) c.split.ensures.nodes c.split.ensures.room

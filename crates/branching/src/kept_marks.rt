@@ -1,0 +1,139 @@
+//! Marks of choices, where a view keeps them.
+
+ghost use Rattle.std.specs.Prelude.{◌≡◌, ℕ, ◌+◌, ◌^◌, ◌/◌, ◌<◌, ◌≤◌, ◌==◌, ◌&&◌, not, length, IfOk, IfSome, IfNone};
+ghost use Rattle.std.specs.List.{AllByRecursion};
+ghost use Rattle.known_graph.specs.Bits.{bit_of, row_len};
+ghost use Rattle.polygraph.specs.Polygraphs.{JoinsBoth};
+ghost use Rattle.polygraph.specs.declared.index.TheConstants.{MAX_CHOICES};
+ghost use Rattle.serializability.specs.declared.node.TheConstants.{MAX_NODES};
+ghost use Rattle.branching.specs.Markings.{AreBlank, HaveLists, HaveRoom, HasRoom, HasBits, ClearsMarks, SavesMarks, TakesSaved, AddsMarks, RemovesMark, IsUnmarked};
+
+use crate::bits::{clear_bit, next_set, set_below};
+use crate::marks::{Incoming, incoming_of, mark_refuted};
+use known_graph::bits::row_len;
+use polygraph::{Choice, ChoiceIx};
+use reach_laws::Edge;
+use reach_rows::Rows;
+use std::alloc::{AllocError, Global};
+
+/// Marks of the open choices of which a side may be refuted.
+#[derive(Drop)]
+pub enum Marks {
+    /// None are kept: any open choice may have a side that is refuted.
+    Unkept,
+    /// The marks that are kept: an open choice without one has no such side.
+    Kept(KeptMarks),
+}
+
+/// Marks as bits, one for each choice, and the edges by which choices come to be marked.
+#[derive(Drop)]
+pub struct KeptMarks {
+    pub incoming: Vec<Vec<Incoming>>,
+    pub bits: Vec<u64>,
+}
+
+impl Marks {
+    /// Marks of these choices of a polygraph of so many nodes, with no choice marked.
+    pub fn blank(alloc: Global, nodes: usize, choices: &[Choice]) -> Result<Marks, AllocError>
+        requires nodes { nodes ≤ MAX_NODES }
+        requires few { length choices.now ≤ MAX_CHOICES }
+        requires joined { AllByRecursion (JoinsBoth nodes) choices.now }
+        ensures blank { IfOk result (AreBlank nodes choices.now) }
+    {
+        Ok(Marks::Kept(KeptMarks {
+            incoming: incoming_of(alloc, nodes, choices)?,
+            bits: vec![in alloc; 0; row_len(choices.len())]?,
+        }))
+    }
+
+    /// Takes each mark away.
+    pub fn clear(&mut self)
+        ensures clears { ClearsMarks self.old self.new }
+    {
+        match self {
+            Marks::Unkept => {}
+            Marks::Kept(kept) => kept.bits.as_mut_slice().fill(0),
+        }
+    }
+
+    /// The bits of the marks, where they are kept.
+    pub fn bits(&self, alloc: Global) -> Result<Option<Vec<u64>>, AllocError>
+        ensures saves { IfOk result (SavesMarks self.now) }
+    {
+        match self {
+            Marks::Unkept => Ok(None),
+            Marks::Kept(kept) => Ok(Some(Vec::from_slice(alloc, &kept.bits)?)),
+        }
+    }
+
+    /// Takes over the bits of marks, and marks each of so many choices where none were kept.
+    pub fn copy_from(&mut self, bits: &Option<Vec<u64>>, count: usize)
+        requires marks { HaveRoom count self.old }
+        requires bits { HasRoom count bits.now }
+        ensures takes { TakesSaved count bits.now self.old self.new }
+    {
+        match self {
+            Marks::Unkept => {}
+            Marks::Kept(kept) => copy_bits(kept.bits.as_mut_slice(), bits, count),
+        }
+    }
+
+    /// Marks the choices of which an edge more refutes a side that the edges of these rows do not.
+    pub fn add_edge(&mut self, rows: &Rows, edge: Edge)
+        requires lists { HaveLists (rows.now.nodes + 1) self.old }
+        ensures adds { AddsMarks rows.now edge self.old self.new }
+        ensures lists { (count : ℕ) → HaveLists count self.old → HaveLists count self.new }
+    {
+        match self {
+            Marks::Unkept => {}
+            Marks::Kept(kept) => {
+                let marks = kept.bits.as_mut_slice();
+                mark_refuted(&kept.incoming, rows, marks, edge.source(), edge.target());
+            }
+        }
+    }
+
+    /// Takes away the mark of a choice that is decided.
+    pub fn remove(&mut self, choice: ChoiceIx)
+        ensures removes { RemovesMark choice self.old self.new }
+    {
+        match self {
+            Marks::Unkept => {}
+            Marks::Kept(kept) => clear_within(kept.bits.as_mut_slice(), choice.get()),
+        }
+    }
+}
+
+impl KeptMarks {
+    /// The marked choice of least number from a number on.
+    pub fn next(&self, from: usize) -> Option<ChoiceIx>
+        requires short { length self.now.bits.items < 2 ^ 32 }
+        ensures from { IfSome result (λ c. from ≤ c) }
+        ensures below { IfSome result (IsUnmarked self.now.bits.items from) }
+        ensures none { IfNone result (IsUnmarked self.now.bits.items from MAX_CHOICES) }
+    {
+        ChoiceIx::new(next_set(&self.bits, from)?)
+    }
+}
+
+// Writes these bits over others, or sets those of so many choices where there are none.
+fn copy_bits(marks: &mut [u64], bits: &Option<Vec<u64>>, count: usize)
+    requires len { length marks.old ≡ row_len count }
+    requires bits { HasRoom count bits.now }
+    ensures bits { HasBits count bits.now marks.new }
+{
+    match bits {
+        Some(bits) => marks.copy_from_slice(bits),
+        None => set_below(marks, count),
+    }
+}
+
+// Clears the bit of this number; past the last word there is none.
+fn clear_within(words: &mut [u64], number: usize)
+    ensures bits { (k : ℕ) → bit_of words.new k ≡ (not (k == number) && bit_of words.old k) }
+    ensures len { length words.new ≡ length words.old }
+{
+    if number / 64 < words.len() {
+        clear_bit(words, number);
+    }
+}
