@@ -10,8 +10,8 @@ use Rattle.chain_laws.specs.Chains.{chain_choices}
 use Rattle.pruning_laws.specs.declared.side.Side.TheVariants.{One, Two}
 use Rattle.pruning_laws.specs.Forced.{Sides, open_from}
 use Rattle.log_definitions.specs.Numbers.{log_of}
-use Rattle.cobra_cli.specs.declared.basis.Basis.{Basis}
-use Rattle.cobra_cli.specs.Formulas.{plain_basis, IsReducedFormula, by_anomaly, by_cycle, by_pruning, by_choices, IsFormulaFrom}
+use Rattle.cobra_formulas.specs.declared.basis.Basis.{Basis}
+use Rattle.cobra_formulas.specs.Formulas.{plain_basis, IsReducedFormula, by_anomaly, by_cycle, by_pruning, by_choices, IsFormulaFrom}
 use Rattle.cobra_cli.specs.Statistics.{OpensNoMore}
 
 -- one piece more, behind those so far

@@ -1,9 +1,5 @@
-pub mod Taking
 pub mod Logs
 pub mod Named
 pub mod Answering
 pub mod Counting
-pub mod Told
-pub mod SameEdges
-pub mod Reduced
 pub mod OneFormula

@@ -22,13 +22,13 @@ use Rattle.dimacs.specs.Text.{text_of}
 use Rattle.dimacs.specs.declared.status.Status as dimacs
 use Rattle.dimacs.specs.declared.status.Status.TheVariants as claim
 use Rattle.order_text.specs.Text.{order_text}
-use Rattle.cobra_cli.specs.declared.basis.Basis.{Basis}
-use Rattle.cobra_cli.specs.declared.basis.Basis.TheVariants.{Anomalous, Chains}
-use Rattle.cobra_cli.specs.declared.status.Status.{Status}
-use Rattle.cobra_cli.specs.Formulas.{anomaly_number, IsReducedFormula, by_anomaly, by_cycle, by_pruning, by_choices, IsFormulaFrom, IsFormulaOf}
+use Rattle.cobra_formulas.specs.declared.basis.Basis.{Basis}
+use Rattle.cobra_formulas.specs.declared.basis.Basis.TheVariants.{Anomalous, Chains}
+use Rattle.cobra_answers.specs.declared.status.Status.{Status}
+use Rattle.cobra_formulas.specs.Formulas.{anomaly_number, IsReducedFormula, by_anomaly, by_cycle, by_pruning, by_choices, IsFormulaFrom, IsFormulaOf}
 use Rattle.cobra_cli.specs.Commands.{IsEncoding, IsAnswerTo, named_by, IsOrderText, IsDecoding, model, unsatisfiable, unknown, IsCounting}
 use Rattle.cobra_cli.specs.Statistics.{stats_text}
-use Rattle.cobra_cli.proofs.SameEdges.{cycle_among, known_among}
+use Rattle.cobra_formulas.proofs.SameEdges.{cycle_among, known_among}
 
 -- ---- what excludes what
 some_none : (o : Option Anomaly) (a : Anomaly) → o ≡ Some a → o ≡ None → ⊥

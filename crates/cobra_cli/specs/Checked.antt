@@ -9,7 +9,6 @@ use Rattle.log_definitions.specs.Serial.{IsSerialOrder}
 use Rattle.log_definitions.specs.Numbers.{log_of}
 use Rattle.order_cnf.specs.declared.fault.CnfFault.{CnfFault}
 use Rattle.order_cnf.specs.declared.fault.CnfFault.TheVariants as cnf
-use Rattle.polygraph.specs.declared.fault.PolyFault.{PolyFault}
 use Rattle.polygraph.specs.declared.fault.PolyFault.TheVariants as poly
 use Rattle.reduction.specs.Chained.{HasNoSerialOrder, IsUnpruned, IsKnownCycle}
 use Rattle.prune_ledger.specs.Pruned.{Remainder}
@@ -20,11 +19,11 @@ use Rattle.branch_search.specs.declared.answer.Answer.{Answer}
 use Rattle.branch_search.specs.declared.answer.Answer.TheVariants as answer
 use Rattle.branch_search.specs.declared.answer.Answer.TheVariants.{Yes, No}
 use Rattle.branch_search.specs.declared.tree.TreeNode.{TreeNode}
-use Rattle.cobra_cli.specs.Verdicts.{anomaly_text, cycle_text, dead_text, serial_text, refuted_text, spent_text}
-use Rattle.cobra_cli.specs.declared.status.Status.{Status}
-use Rattle.cobra_cli.specs.declared.status.Status.TheVariants.{Done, NotSerializable, Unknown}
-use Rattle.cobra_cli.specs.declared.fault.Fault.{Fault}
-use Rattle.cobra_cli.specs.declared.fault.Fault.TheVariants as fault
+use Rattle.cobra_answers.specs.Verdicts.{anomaly_text, cycle_text, dead_text, serial_text, refuted_text, spent_text}
+use Rattle.cobra_answers.specs.declared.status.Status.{Status}
+use Rattle.cobra_answers.specs.declared.status.Status.TheVariants.{Done, NotSerializable, Unknown}
+use Rattle.cobra_answers.specs.declared.fault.Fault.{Fault}
+use Rattle.cobra_answers.specs.declared.fault.Fault.TheVariants as fault
 
 -- The steps before the search let the sessions through (no anomaly, no cycle of known edges, at most 100,000 choices between chains, and
 -- a polygraph of the chains that is not dead), and a search of what they leave ends with this answer within the budget.
@@ -67,11 +66,6 @@ abbrev pub IsVerdict : ℕ → List ClientSession → Status → List ℕ → Ty
 IsVerdict budget ss Done text = IsSerialText budget ss text
 IsVerdict budget ss NotSerializable text = IsRefusalText budget ss text
 IsVerdict budget ss Unknown text = IsSpentText budget ss text
-
--- the fault of a polygraph that has too many choices, as a command tells it
-abbrev pub poly_refusal : PolyFault → Fault
-poly_refusal poly.TooManyChoices = fault.Formula cnf.TooManyChoices
-poly_refusal poly.Memory = fault.Memory
 
 -- of the limits only that of choices is told
 abbrev pub IsLimitExceeded : List ClientSession → CnfFault → Type 0

@@ -17,13 +17,13 @@ use Rattle.order_text.specs.Text.{order_text, AreNodes}
 use Rattle.order_text.specs.Faults as listing
 use Rattle.decode_order.specs.declared.fault.ReplayFault.TheVariants.{NotAPermutation, SessionOrder, ReadMismatch}
 use Rattle.decode_order.specs.Replaying.{replay_fault}
-use Rattle.cobra_cli.specs.declared.basis.Basis.{Basis}
-use Rattle.cobra_cli.specs.Formulas.{IsFormulaFrom, IsFormulaOf, IsFormulaFault}
+use Rattle.cobra_formulas.specs.declared.basis.Basis.{Basis}
+use Rattle.cobra_formulas.specs.Formulas.{IsFormulaFrom, IsFormulaOf, IsFormulaFault, IsHeadline}
 use Rattle.cobra_cli.specs.Statistics.{stats_text}
-use Rattle.cobra_cli.specs.declared.status.Status.{Status}
-use Rattle.cobra_cli.specs.declared.status.Status.TheVariants.{Done, Unknown}
-use Rattle.cobra_cli.specs.declared.fault.Fault.{Fault}
-use Rattle.cobra_cli.specs.declared.fault.Fault.TheVariants as fault
+use Rattle.cobra_answers.specs.declared.status.Status.{Status}
+use Rattle.cobra_answers.specs.declared.status.Status.TheVariants.{Done, Unknown}
+use Rattle.cobra_answers.specs.declared.fault.Fault.{Fault}
+use Rattle.cobra_answers.specs.declared.fault.Fault.TheVariants as fault
 
 -- the sessions have no formula, with `--plain` or without it, for this reason
 abbrev pub HasNoFormula : Bool → Fault → List ClientSession → Type 0
@@ -32,16 +32,6 @@ HasNoFormula plain fault.Memory ss = Unit {0}
 HasNoFormula plain _ ss = ⊥
 
 -- ---- encode
-
--- An assignment satisfies the formula exactly where a serial order explains the sessions.
-pub record IsHeadline (ss : List ClientSession) (f : Cnf) : Type 0 where
-  pub satisfied_where_serial : (order : List ℕ) → IsSerialOrder ss order → (values : List Bool) × Satisfies values f
-  pub serial_where_satisfied : (values : List Bool) → Satisfies values f → (order : List ℕ) × IsSerialOrder ss order
-
--- That holds of the formula, and the order that a satisfying assignment stands for is serial.
-pub record IsFaithful (ss : List ClientSession) (f : Cnf) : Type 0 where
-  pub headline : IsHeadline ss f
-  pub orders : (values : List Bool) → Satisfies values f → (order : List ℕ) → IsDecoded f.nodes (before f values) order → IsSerialOrder ss order
 
 -- the text of the formula that belongs to the sessions
 pub record IsEncoding (plain : Bool) (ss : List ClientSession) (status : Status) (text : List ℕ) : Type 0 where

@@ -1,9 +1,3 @@
-pub mod Sources
-pub mod Formulas
-pub mod Answers
 pub mod Statistics
 pub mod Commands
-pub mod Failures
-pub mod Refusals
-pub mod Verdicts
 pub mod Checked

@@ -5,8 +5,8 @@ use Rattle.serializability.specs.Formula.{Cnf}
 use Rattle.log_definitions.specs.WellFormed.{ops_in, keys_in}
 use Rattle.log_definitions.specs.Serial.{committed_in}
 use Rattle.log_definitions.specs.Numbers.{aborted_in}
-use Rattle.cobra_cli.specs.declared.basis.Basis.{Basis}
-use Rattle.cobra_cli.specs.declared.basis.Basis.TheVariants.{Anomalous, Bipaths, Chains}
+use Rattle.cobra_formulas.specs.declared.basis.Basis.{Basis}
+use Rattle.cobra_formulas.specs.declared.basis.Basis.TheVariants.{Anomalous, Bipaths, Chains}
 
 -- a word, a space and a number
 abbrev pub count_line : List ℕ → ℕ → List ℕ

@@ -5,17 +5,17 @@ ghost use Rattle.reduction.specs.Chained.{HasItsOrders};
 ghost use Rattle.reduction.specs.Outcome.{IsOpenHistory};
 ghost use Rattle.branch_search.specs.Answers.{SaysYes, SaysNo, ShowsNo, SaysUnknown, EndsRun};
 ghost use Rattle.branch_search.specs.Trees.{IsRefutationTree};
-ghost use Rattle.cobra_cli.specs.Verdicts.{refuted_text};
-ghost use Rattle.cobra_cli.specs.Answers.{IsTold, IsRefused};
+ghost use Rattle.cobra_answers.specs.Verdicts.{refuted_text};
+ghost use Rattle.cobra_answers.specs.Answers.{IsTold, IsRefused};
 ghost use Rattle.cobra_cli.specs.Checked.{IsVerdict, IsUndecided};
-ghost use Rattle.cobra_cli.specs.Failures.{failures_after};
+ghost use Rattle.cobra_answers.specs.Failures.{failures_after};
 
-use crate::fault::Fault;
 use crate::reading::read_log;
-use crate::reply::{Reply, tell};
-use crate::status::{Options, Status, StrategyName};
-use crate::verdict::{anomaly_text, cycle_text, serial_text, spent_text};
 use branch_search::{Answer, FirstOpen, Forced, LeastEdges, MostEdges, Tree, check_tree, search};
+use cobra_answers::{
+    Fault, Options, Reply, Status, StrategyName, anomaly_text, cycle_text, serial_text, spent_text,
+    tell,
+};
 use desk::gate::Gate;
 use dimacs::Sink;
 use prune_ledger::Reduced;

@@ -4,14 +4,13 @@ ghost use Rattle.std.specs.Prelude.{◌≡◌, IfOk, IfErr, OnOk};
 ghost use Rattle.std.specs.Io.KnownBytes.{Appends};
 ghost use Rattle.dimacs.specs.Text.{text_of};
 ghost use Rattle.order_cnf.specs.Data.{cnf_of};
-ghost use Rattle.cobra_cli.specs.Answers.{IsTold, IsRefused, IsCutAt};
+ghost use Rattle.cobra_answers.specs.Answers.{IsTold, IsRefused, IsCutAt};
 ghost use Rattle.cobra_cli.specs.Commands.{IsEncoding, HasNoFormula};
-ghost use Rattle.cobra_cli.specs.Failures.{failures_after};
+ghost use Rattle.cobra_answers.specs.Failures.{failures_after};
 
-use crate::fault::Fault;
 use crate::formula::formula_of;
 use crate::reading::read_log;
-use crate::status::{Options, Status};
+use cobra_answers::{Fault, Options, Status};
 use desk::gate::Gate;
 use dimacs::{Sink, write_formula};
 use order_cnf::Formula;

@@ -1,113 +1,18 @@
 //! The formula that belongs to a history.
 
-ghost use Rattle.std.specs.Prelude.{◌≡◌, ◌≤◌, length, Some, IfOk, IfErr, OnOk};
-ghost use Rattle.serializability.specs.Plain as plain;
-ghost use Rattle.serializability.specs.Anomalies.{anomaly_of};
-ghost use Rattle.log_definitions.specs.Numbers.{log_of, IsWellFormedList};
-ghost use Rattle.reduction.specs.Chained.{HasNoSerialOrder};
-ghost use Rattle.reduction.specs.Outcome.{IsCountedHistory};
+ghost use Rattle.std.specs.Prelude.{IfOk, IfErr};
 ghost use Rattle.order_cnf.specs.Data.{cnf_of};
-ghost use Rattle.order_cnf.specs.Limits.{IsFault};
-ghost use Rattle.cobra_cli.specs.Formulas.{formula_fault, IsPlainFormula, IsReducedWithin, IsReducedFault, IsFormulaFrom, IsFormulaFault};
-ghost use Rattle.cobra_cli.specs.Commands.{IsFaithful};
-ghost use Rattle.order_cnf.specs.declared.plain.TheConstants.{MAX_PLAIN_NODES};
+ghost use Rattle.cobra_formulas.specs.Formulas.{IsFormulaFrom, IsFormulaFault, IsFaithful};
 
-use crate::basis::{Basis, KNOWN_CYCLE, PRUNED_CYCLE, anomaly_number};
-use crate::status::Options;
-use anomalies::classify;
+use cobra_answers::Options;
+use cobra_formulas::{Belonging, plain_of, reduced_of};
 use desk::gate::Gate;
-use desk::seat_no::Workers;
-use order_cnf::{
-    CnfFault, Formula, MAX_PLAIN_NODES, contradiction, plain_formula, reduced_formula,
-};
-use prune_ledger::{Pruned, Reduced};
-use reduction::{Reduction, reduce};
+use order_cnf::CnfFault;
 use session_history::History;
 use std::alloc::Global;
 use std::sync::Wait;
 use std::thread::Threads;
 use std::time::Clock;
-
-/// A formula, and what it is made from.
-#[derive(Drop)]
-pub(crate) struct Belonging {
-    pub formula: Formula,
-    pub basis: Basis,
-}
-
-/// The contradiction, for the anomaly that is printed with this number.
-fn contradicted(alloc: Global, number: u8) -> Result<Belonging, CnfFault>
-    ensures formula { IfOk result (λ b. cnf_of b.formula ≡ plain.contradiction) }
-    ensures basis { IfOk result (λ b. b.basis ≡ Basis.Anomalous number) }
-    ensures fault { IfErr result (λ e. e ≡ CnfFault.Memory) }
-{
-    Ok(Belonging {
-        formula: contradiction(alloc)?,
-        basis: Basis::Anomalous(number),
-    })
-}
-
-/// The plain formula, or the contradiction where an anomaly stands.
-#[tactic(auto, unfolding(crate::specs::Formulas::formula_fault, log_definitions::specs::Numbers::plain_answer))]
-fn plain_of(alloc: Global, history: &History) -> Result<Belonging, CnfFault>
-    ensures made { IfOk result (λ b. IsPlainFormula history.now b.basis (cnf_of b.formula)) }
-    ensures faithful { IfOk result (λ b. IsFaithful history.now (cnf_of b.formula)) }
-    ensures fault { IfErr result (λ e. IsFault e (formula_fault history.now)) }
-    ensures few { OnOk result ((log_of history.now).nodes ≤ MAX_PLAIN_NODES) }
-{
-    if history.committed() > MAX_PLAIN_NODES {
-        return Err(CnfFault::TooManyForPlain);
-    }
-    match classify(alloc, history)? {
-        Some(anomaly) => contradicted(alloc, anomaly_number(anomaly)),
-        None => {
-            let formula = plain_formula(alloc, history)?;
-            let basis = Basis::Bipaths(formula.choices());
-            Ok(Belonging { formula, basis })
-        }
-    }
-}
-
-/// The reduced formula of what pruning left of the polygraph of the chains, which had so many choices.
-fn of_left(
-    alloc: Global,
-    _history: &History,
-    choices: usize,
-    reduced: Reduced,
-) -> Result<Belonging, CnfFault>
-    requires left { IsCountedHistory _history.now choices reduced }
-    ensures made { IfOk result (λ b. IsReducedWithin _history.now b.basis (cnf_of b.formula)) }
-    ensures faithful { IfOk result (λ b. IsFaithful _history.now (cnf_of b.formula)) }
-    ensures fault { IfErr result (IsReducedFault _history.now) }
-{
-    let _nodes = reduced.poly().nodes();
-    let left = reduced.poly().choices().len();
-    let pruned = Pruned::Open(reduced);
-    Ok(Belonging {
-        formula: reduced_formula(alloc, &pruned)?,
-        basis: Basis::Chains { all: choices, left },
-    })
-}
-
-/// The reduced formula, or the contradiction where an anomaly stands, a cycle of what is known, or pruning ends in one.
-fn reduced_of<R: Threads + Wait + Clock + Sync, G: Gate>(
-    rt: &R,
-    alloc: Global,
-    history: &History,
-    workers: Workers,
-    gate: &G,
-) -> Result<Belonging, CnfFault>
-    ensures made { IfOk result (λ b. IsReducedWithin history.now b.basis (cnf_of b.formula)) }
-    ensures faithful { IfOk result (λ b. IsFaithful history.now (cnf_of b.formula)) }
-    ensures fault { IfErr result (IsReducedFault history.now) }
-{
-    match reduce(rt, alloc, history, workers, gate)? {
-        Reduction::Anomalous(anomaly) => contradicted(alloc, anomaly_number(anomaly)),
-        Reduction::Cyclic(_) => contradicted(alloc, KNOWN_CYCLE),
-        Reduction::Dead(_) => contradicted(alloc, PRUNED_CYCLE),
-        Reduction::Open { choices, reduced } => of_left(alloc, history, choices, reduced),
-    }
-}
 
 /// The formula that belongs to a history: with `--plain` the plain one, without it the reduced one, and the contradiction where
 /// an anomaly stands. So many workers prune, each of which passes the gate before each of its turns.

@@ -3,8 +3,8 @@
 ghost use Rattle.std.specs.Prelude.{◌≡◌, ℕ, List, Bool};
 ghost use Rattle.session_log.specs.Text.{ClientSession};
 ghost use Rattle.serializability.specs.Formula.{Cnf};
-ghost use Rattle.cobra_cli.specs.declared.status.Status.{Status};
-ghost use Rattle.cobra_cli.specs.Formulas.{IsFormulaOf};
+ghost use Rattle.cobra_answers.specs.declared.status.Status.{Status};
+ghost use Rattle.cobra_formulas.specs.Formulas.{IsFormulaOf};
 ghost use Rattle.cobra_cli.specs.Commands.{IsEncoding, IsDecoding, IsCounting};
 
 /// Sessions have one formula with `--plain` and one without it: the same variables, the same clauses, and each assignment puts the

@@ -1,17 +1,15 @@
 //! How large a log and its formula are.
 
 ghost use Rattle.std.specs.Prelude.{◌≡◌, ◌-◌, ◌≤◌, ◌++◌, ◌∷◌, [], codes, decimal, IfOk, IfErr, OnOk};
-ghost use Rattle.cobra_cli.specs.Answers.{IsTold, IsRefused};
+ghost use Rattle.cobra_answers.specs.Answers.{IsTold, IsRefused};
 ghost use Rattle.cobra_cli.specs.Commands.{HasNoFormula, IsCounting};
-ghost use Rattle.cobra_cli.specs.Failures.{failures_after};
+ghost use Rattle.cobra_answers.specs.Failures.{failures_after};
 ghost use Rattle.cobra_cli.specs.Statistics.{count_line, basis_text, counts_text, OpensNoMore};
 
-use crate::basis::Basis;
-use crate::fault::Fault;
 use crate::formula::formula_of;
 use crate::reading::read_log;
-use crate::reply::{Reply, tell};
-use crate::status::{Options, Status};
+use cobra_answers::{Fault, Options, Reply, Status, tell};
+use cobra_formulas::Basis;
 use desk::gate::Gate;
 use dimacs::Sink;
 use itoa::Buffer;

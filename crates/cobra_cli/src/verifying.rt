@@ -5,14 +5,12 @@ ghost use Rattle.std.specs.List.{All};
 ghost use Rattle.serializability.specs.Replay.{IsSerial};
 ghost use Rattle.log_definitions.specs.Numbers.{log_of};
 ghost use Rattle.decode_order.specs.Replaying.{replay_fault, IsReplayFault};
-ghost use Rattle.cobra_cli.specs.Answers.{IsTold, IsRefused};
+ghost use Rattle.cobra_answers.specs.Answers.{IsTold, IsRefused};
 ghost use Rattle.cobra_cli.specs.Commands.{IsRefusal, IsVerified, IsNotVerified};
-ghost use Rattle.cobra_cli.specs.Failures.{failures_after};
+ghost use Rattle.cobra_answers.specs.Failures.{failures_after};
 
-use crate::fault::Fault;
 use crate::reading::read_log;
-use crate::reply::{Reply, tell};
-use crate::status::{Options, Status};
+use cobra_answers::{Fault, Options, Reply, Status, tell};
 use decode_order::{ReplayFault, replay};
 use desk::gate::Gate;
 use dimacs::Sink;

@@ -1,8 +1,8 @@
 use Rattle.std.proofs.Common.{refl}
 use Rattle.branch_search.specs.declared.answer.Answer.TheVariants.{Yes}
-use Rattle.cobra_cli.specs.declared.status.Status.TheVariants.{NotSerializable}
+use Rattle.cobra_answers.specs.declared.status.Status.TheVariants.{NotSerializable}
 use Rattle.cobra_cli.specs.Checked.{by_search}
-use Rattle.cobra_cli.specs.Verdicts.{refuted_text}
+use Rattle.cobra_answers.specs.Verdicts.{refuted_text}
 use Rattle.cobra_cli.proofs.Answering.{nodes_of_serial, searched_so, refuted_so, spent_so, verdict_is}
 use Rattle.cobra_cli.proofs.checking.search_verdict.Goals as goal
 

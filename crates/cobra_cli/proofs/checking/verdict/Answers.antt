@@ -1,6 +1,6 @@
 use Rattle.std.proofs.Common.{refl, sym, ap, ◌∙◌}
-use Rattle.cobra_cli.specs.Verdicts.{cycle_text, dead_text}
-use Rattle.cobra_cli.specs.declared.status.Status.TheVariants.{NotSerializable}
+use Rattle.cobra_answers.specs.Verdicts.{cycle_text, dead_text}
+use Rattle.cobra_answers.specs.declared.status.Status.TheVariants.{NotSerializable}
 use Rattle.cobra_cli.specs.Checked.{by_anomaly, by_cycle, by_pruning}
 use Rattle.cobra_cli.proofs.Answering.{verdict_is}
 use Rattle.cobra_cli.proofs.checking.verdict.Goals as goal

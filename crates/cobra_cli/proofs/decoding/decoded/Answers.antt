@@ -3,7 +3,7 @@ use Rattle.dimacs.specs.declared.answer.SolverAnswer.{SolverAnswer}
 use Rattle.dimacs.specs.declared.status.Status.TheVariants as claim
 use Rattle.dimacs.specs.Answer.{IsAnswer}
 use Rattle.order_cnf.specs.Data.{cnf_of}
-use Rattle.cobra_cli.specs.declared.status.Status.TheVariants.{Unknown}
+use Rattle.cobra_answers.specs.declared.status.Status.TheVariants.{Unknown}
 use Rattle.cobra_cli.specs.Commands.{unsatisfiable, unknown, unchecked_text, unknown_text}
 use Rattle.cobra_cli.proofs.Answering.{answer_to, belongs_so, decoding_is}
 use Rattle.cobra_cli.proofs.decoding.decoded.Goals as goal

@@ -1,0 +1,5 @@
+pub mod Sources
+pub mod Answers
+pub mod Failures
+pub mod Refusals
+pub mod Verdicts

@@ -1,0 +1,126 @@
+-- The line that is printed of a refusal, without its line feed, and its exit status.
+use Rattle.std.specs.Prelude.{ℕ, List, ◌++◌, codes, decimal}
+use Rattle.session_log.specs.declared.fault.Limit.{Limit}
+use Rattle.session_log.specs.declared.fault.Limit.TheVariants as limit
+use Rattle.session_log.specs.declared.fault.LogFault.{LogFault}
+use Rattle.session_log.specs.declared.fault.LogFault.TheVariants as log
+use Rattle.polygraph.specs.declared.fault.PolyFault.{PolyFault}
+use Rattle.polygraph.specs.declared.fault.PolyFault.TheVariants as poly
+use Rattle.order_cnf.specs.declared.fault.CnfFault.{CnfFault}
+use Rattle.order_cnf.specs.declared.fault.CnfFault.TheVariants as cnf
+use Rattle.dimacs.specs.declared.answer.AnswerFault.{AnswerFault}
+use Rattle.dimacs.specs.declared.answer.AnswerFault.TheVariants as answer
+use Rattle.order_text.specs.declared.fault.OrderFault.{OrderFault}
+use Rattle.order_text.specs.declared.fault.OrderFault.TheVariants as order
+use Rattle.cobra_answers.specs.declared.fault.Fault.{Fault}
+use Rattle.cobra_answers.specs.declared.fault.Fault.TheVariants as fault
+use Rattle.cobra_answers.specs.declared.stop.Stop.{Stop}
+use Rattle.cobra_answers.specs.declared.stop.Stop.TheVariants.{Refused, Words, Input, Output}
+
+-- the fault of a polygraph that has too many choices, as a command tells it
+abbrev pub poly_refusal : PolyFault → Fault
+poly_refusal poly.TooManyChoices = fault.Formula cnf.TooManyChoices
+poly_refusal poly.Memory = fault.Memory
+
+abbrev pub memory_line : List ℕ
+memory_line = codes "out of memory"
+
+abbrev pub input_line : List ℕ
+input_line = codes "device failed: input"
+
+abbrev pub output_line : List ℕ
+output_line = codes "device failed: output"
+
+abbrev pub limit_name : Limit → List ℕ
+limit_name limit.LogBytes = codes "log-bytes"
+limit_name limit.Sessions = codes "sessions"
+limit_name limit.Operations = codes "operations"
+limit_name limit.Committed = codes "committed"
+limit_name limit.Keys = codes "keys"
+
+abbrev pub log_refusal : LogFault → List ℕ
+log_refusal (log.BadLine line) = codes "refused: L1 line " ++ decimal line
+log_refusal (log.SessionTwice line) = codes "refused: L2 line " ++ decimal line
+log_refusal (log.OutsideTransaction line) = codes "refused: L3 line " ++ decimal line
+log_refusal (log.OpenTransaction line) = codes "refused: L4 line " ++ decimal line
+log_refusal (log.WriteZero line) = codes "refused: L5 line " ++ decimal line
+log_refusal (log.WriteTwice line) = codes "refused: L6 line " ++ decimal line
+log_refusal (log.OverLimit which) = codes "refused: L7 " ++ limit_name which
+log_refusal log.Memory = memory_line
+
+abbrev pub formula_refusal : CnfFault → List ℕ
+formula_refusal cnf.TooManyChoices = codes "refused: G1"
+formula_refusal cnf.TooManyForPlain = codes "refused: G2"
+formula_refusal cnf.FormulaTooLarge = codes "refused: G3"
+formula_refusal cnf.Memory = memory_line
+
+abbrev pub answer_refusal : AnswerFault → List ℕ
+answer_refusal (answer.BadLine line) = codes "refused: M1 line " ++ decimal line
+answer_refusal (answer.TwoStatus line) = codes "refused: M2 line " ++ decimal line
+answer_refusal answer.NoStatus = codes "refused: M3"
+answer_refusal (answer.OutOfRange line) = codes "refused: M4 line " ++ decimal line
+answer_refusal (answer.BothSigns line) = codes "refused: M5 line " ++ decimal line
+answer_refusal answer.Unclosed = codes "refused: M6"
+answer_refusal answer.Memory = memory_line
+answer_refusal answer.TooLong = codes "refused: M8"
+
+abbrev pub order_refusal : OrderFault → List ℕ
+order_refusal (order.BadLine line) = codes "refused: O1 line " ++ decimal line
+order_refusal (order.NoSuchTransaction line) = codes "refused: O2 line " ++ decimal line
+order_refusal order.TooLong = codes "refused: O3"
+order_refusal order.Memory = memory_line
+
+-- a code, and a transaction by the number of its session and its place there
+abbrev pub at_transaction : List ℕ → ℕ → ℕ → List ℕ
+at_transaction code session place = code ++ decimal session ++ codes "." ++ decimal place
+
+abbrev pub refusal : Fault → List ℕ
+refusal (fault.Log f) = log_refusal f
+refusal (fault.Formula f) = formula_refusal f
+refusal (fault.Answer f) = answer_refusal f
+refusal (fault.NotAModel clause) = codes "refused: E1 clause " ++ decimal clause
+refusal (fault.Order f) = order_refusal f
+refusal fault.NotAPermutation = codes "refused: P1"
+refusal (fault.SessionOrder session place) = at_transaction (codes "refused: P2 ") session place
+refusal (fault.ReadMismatch session place op) = at_transaction (codes "refused: P3 ") session place ++ codes " op " ++ decimal op
+refusal (fault.Device written) = output_line
+refusal fault.Memory = memory_line
+
+-- the line of a call that ends without an answer
+abbrev pub stop_line : Stop → List ℕ
+stop_line (Refused f) = refusal f
+stop_line Words = codes "error: invalid UTF-8 was detected in one or more arguments"
+stop_line Input = input_line
+stop_line Output = output_line
+
+-- ---- exit statuses: 2 for refused input, 4 for want of memory, 5 for a failed device
+abbrev pub log_status : LogFault → ℕ
+log_status log.Memory = 4
+log_status _ = 2
+
+abbrev pub formula_status : CnfFault → ℕ
+formula_status cnf.Memory = 4
+formula_status _ = 2
+
+abbrev pub answer_status : AnswerFault → ℕ
+answer_status answer.Memory = 4
+answer_status _ = 2
+
+abbrev pub order_status : OrderFault → ℕ
+order_status order.Memory = 4
+order_status _ = 2
+
+abbrev pub refusal_status : Fault → ℕ
+refusal_status (fault.Log f) = log_status f
+refusal_status (fault.Formula f) = formula_status f
+refusal_status (fault.Answer f) = answer_status f
+refusal_status (fault.Order f) = order_status f
+refusal_status (fault.Device written) = 5
+refusal_status fault.Memory = 4
+refusal_status _ = 2
+
+abbrev pub stop_status : Stop → ℕ
+stop_status (Refused f) = refusal_status f
+stop_status Words = 2
+stop_status Input = 5
+stop_status Output = 5

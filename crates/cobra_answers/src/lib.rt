@@ -1,0 +1,17 @@
+//! How a command ends: its status, why it is refused, and what it has to write. Here are also the texts of `check`, and where bytes
+//! come from.
+#![tactic(auto)]
+
+mod fault;
+mod reply;
+mod source;
+mod status;
+mod stop;
+mod verdict;
+
+pub use fault::Fault;
+pub use reply::{Reply, tell};
+pub use source::{CountedRead, ReadFault, Source, SourceFailed, read_all};
+pub use status::{Options, Status, StrategyName};
+pub use stop::Stop;
+pub use verdict::{anomaly_text, cycle_text, serial_text, spent_text};

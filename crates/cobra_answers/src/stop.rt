@@ -1,0 +1,238 @@
+//! Why a call of the program ends without an answer: the line that it prints of that, and its exit status.
+
+ghost use Rattle.std.specs.Prelude.{◌≡◌};
+ghost use Rattle.std.specs.Fmt.{WritesOnOk};
+ghost use Rattle.cobra_answers.specs.Refusals.{limit_name, log_refusal, formula_refusal, answer_refusal, order_refusal, refusal, log_status, formula_status, answer_status, order_status, refusal_status, stop_status};
+
+use crate::fault::Fault;
+use crate::source::ReadFault;
+use dimacs::AnswerFault;
+use order_cnf::CnfFault;
+use order_text::OrderFault;
+use session_log::{Limit, LogFault};
+use std::alloc::AllocError;
+use std::fmt;
+
+/// Why a call of the program ends without an answer. It is displayed as the line that the program prints of it, without its
+/// line feed, which takes no memory.
+#[derive(Clone, Copy, Debug, PartialEq, Eq)]
+pub enum Stop {
+    /// The command is refused.
+    Refused(Fault),
+    /// A word of the call is no text.
+    Words,
+    /// A file, or standard input, could not be read.
+    Input,
+    /// What the command wrote could not be handed on.
+    Output,
+}
+
+/// The exit statuses of refusals: of the input, for want of memory, and of a device.
+const REFUSED: u8 = 2;
+
+const OUT_OF_MEMORY: u8 = 4;
+
+const DEVICE_FAILED: u8 = 5;
+
+impl Stop {
+    /// The exit status of the program: 2 for refused words and input, 4 for want of memory, 5 for a failed device.
+    pub fn code(self) -> u8
+        ensures code { result ≡ stop_status self }
+    {
+        match self {
+            Stop::Refused(fault) => refusal_status(fault),
+            Stop::Words => REFUSED,
+            Stop::Input | Stop::Output => DEVICE_FAILED,
+        }
+    }
+}
+
+impl From<Fault> for Stop {
+    ghost use Rattle.cobra_answers.specs.declared.stop.Stop.TheVariants.{Refused};
+
+    ghost from_gives = { λ f e. e ≡ Refused f };
+
+    fn from(fault: Fault) -> Stop {
+        Stop::Refused(fault)
+    }
+}
+
+impl From<AllocError> for Stop {
+    ghost use Rattle.cobra_answers.specs.declared.fault.Fault.TheVariants.{Memory};
+    ghost use Rattle.cobra_answers.specs.declared.stop.Stop.TheVariants.{Refused};
+
+    ghost from_gives = { λ _ e. e ≡ Refused Memory };
+
+    fn from(_refused: AllocError) -> Stop {
+        Stop::Refused(Fault::Memory)
+    }
+}
+
+impl From<ReadFault> for Stop {
+    ghost use Rattle.cobra_answers.specs.Failures.{read_stop};
+
+    ghost from_gives = { λ f e. e ≡ read_stop f };
+
+    fn from(fault: ReadFault) -> Stop {
+        match fault {
+            ReadFault::Device => Stop::Input,
+            ReadFault::Memory => Stop::Refused(Fault::Memory),
+        }
+    }
+}
+
+fn log_status(fault: LogFault) -> u8
+    ensures status { result ≡ log_status fault }
+{
+    match fault {
+        LogFault::Memory => OUT_OF_MEMORY,
+        _ => REFUSED,
+    }
+}
+
+fn formula_status(fault: CnfFault) -> u8
+    ensures status { result ≡ formula_status fault }
+{
+    match fault {
+        CnfFault::Memory => OUT_OF_MEMORY,
+        _ => REFUSED,
+    }
+}
+
+fn answer_status(fault: AnswerFault) -> u8
+    ensures status { result ≡ answer_status fault }
+{
+    match fault {
+        AnswerFault::Memory => OUT_OF_MEMORY,
+        _ => REFUSED,
+    }
+}
+
+fn order_status(fault: OrderFault) -> u8
+    ensures status { result ≡ order_status fault }
+{
+    match fault {
+        OrderFault::Memory => OUT_OF_MEMORY,
+        _ => REFUSED,
+    }
+}
+
+/// The exit status of a refused command.
+fn refusal_status(fault: Fault) -> u8
+    ensures status { result ≡ refusal_status fault }
+{
+    match fault {
+        Fault::Log(fault) => log_status(fault),
+        Fault::Formula(fault) => formula_status(fault),
+        Fault::Answer(fault) => answer_status(fault),
+        Fault::Order(fault) => order_status(fault),
+        Fault::Device { .. } => DEVICE_FAILED,
+        Fault::Memory => OUT_OF_MEMORY,
+        _ => REFUSED,
+    }
+}
+
+fn limit_name(limit: Limit) -> &'static str
+    ensures name { result.now ≡ limit_name limit }
+{
+    match limit {
+        Limit::LogBytes => "log-bytes",
+        Limit::Sessions => "sessions",
+        Limit::Operations => "operations",
+        Limit::Committed => "committed",
+        Limit::Keys => "keys",
+    }
+}
+
+fn write_log_refusal<W: fmt::Write>(f: &mut fmt::Formatter<W>, fault: LogFault) -> fmt::Result
+    ensures text { WritesOnOk W.write_str_gives f.old result (log_refusal fault) f.new }
+{
+    match fault {
+        LogFault::BadLine { line } => write!(f, "refused: L1 line {line}"),
+        LogFault::SessionTwice { line } => write!(f, "refused: L2 line {line}"),
+        LogFault::OutsideTransaction { line } => write!(f, "refused: L3 line {line}"),
+        LogFault::OpenTransaction { line } => write!(f, "refused: L4 line {line}"),
+        LogFault::WriteZero { line } => write!(f, "refused: L5 line {line}"),
+        LogFault::WriteTwice { line } => write!(f, "refused: L6 line {line}"),
+        LogFault::OverLimit { which } => {
+            let name = limit_name(which);
+            write!(f, "refused: L7 {name}")
+        }
+        LogFault::Memory => write!(f, "out of memory"),
+    }
+}
+
+fn write_formula_refusal<W: fmt::Write>(f: &mut fmt::Formatter<W>, fault: CnfFault) -> fmt::Result
+    ensures text { WritesOnOk W.write_str_gives f.old result (formula_refusal fault) f.new }
+{
+    match fault {
+        CnfFault::TooManyChoices => write!(f, "refused: G1"),
+        CnfFault::TooManyForPlain => write!(f, "refused: G2"),
+        CnfFault::FormulaTooLarge => write!(f, "refused: G3"),
+        CnfFault::Memory => write!(f, "out of memory"),
+    }
+}
+
+fn write_answer_refusal<W: fmt::Write>(f: &mut fmt::Formatter<W>, fault: AnswerFault) -> fmt::Result
+    ensures text { WritesOnOk W.write_str_gives f.old result (answer_refusal fault) f.new }
+{
+    match fault {
+        AnswerFault::BadLine { line } => write!(f, "refused: M1 line {line}"),
+        AnswerFault::TwoStatus { line } => write!(f, "refused: M2 line {line}"),
+        AnswerFault::NoStatus => write!(f, "refused: M3"),
+        AnswerFault::OutOfRange { line } => write!(f, "refused: M4 line {line}"),
+        AnswerFault::BothSigns { line } => write!(f, "refused: M5 line {line}"),
+        AnswerFault::Unclosed => write!(f, "refused: M6"),
+        AnswerFault::Memory => write!(f, "out of memory"),
+        AnswerFault::TooLong => write!(f, "refused: M8"),
+    }
+}
+
+fn write_order_refusal<W: fmt::Write>(f: &mut fmt::Formatter<W>, fault: OrderFault) -> fmt::Result
+    ensures text { WritesOnOk W.write_str_gives f.old result (order_refusal fault) f.new }
+{
+    match fault {
+        OrderFault::BadLine { line } => write!(f, "refused: O1 line {line}"),
+        OrderFault::NoSuchTransaction { line } => write!(f, "refused: O2 line {line}"),
+        OrderFault::TooLong => write!(f, "refused: O3"),
+        OrderFault::Memory => write!(f, "out of memory"),
+    }
+}
+
+fn write_refusal<W: fmt::Write>(f: &mut fmt::Formatter<W>, fault: Fault) -> fmt::Result
+    ensures text { WritesOnOk W.write_str_gives f.old result (refusal fault) f.new }
+{
+    match fault {
+        Fault::Log(fault) => write_log_refusal(f, fault),
+        Fault::Formula(fault) => write_formula_refusal(f, fault),
+        Fault::Answer(fault) => write_answer_refusal(f, fault),
+        Fault::NotAModel { clause } => write!(f, "refused: E1 clause {clause}"),
+        Fault::Order(fault) => write_order_refusal(f, fault),
+        Fault::NotAPermutation => write!(f, "refused: P1"),
+        Fault::SessionOrder { session, place } => write!(f, "refused: P2 {session}.{place}"),
+        Fault::ReadMismatch { session, place, op } => {
+            write!(f, "refused: P3 {session}.{place} op {op}")
+        }
+        Fault::Device { .. } => write!(f, "device failed: output"),
+        Fault::Memory => write!(f, "out of memory"),
+    }
+}
+
+impl fmt::Display for Stop {
+    ghost use Rattle.std.specs.Prelude.{Some};
+    ghost use Rattle.cobra_answers.specs.Refusals.{stop_line};
+
+    ghost output = { λ stop. Some (stop_line stop) };
+
+    fn fmt<W: fmt::Write>(&self, f: &mut fmt::Formatter<W>) -> fmt::Result {
+        match self {
+            Stop::Refused(fault) => write_refusal(f, *fault),
+            Stop::Words => write!(
+                f,
+                "error: invalid UTF-8 was detected in one or more arguments"
+            ),
+            Stop::Input => write!(f, "device failed: input"),
+            Stop::Output => write!(f, "device failed: output"),
+        }
+    }
+}

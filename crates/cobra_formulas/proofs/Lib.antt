@@ -1,0 +1,3 @@
+pub mod SameEdges
+pub mod Reduced
+pub mod Plain
