@@ -1,6 +1,7 @@
 pub mod Cuts
 pub mod Digits
 pub mod Items
+pub mod Numerals
 pub mod Pieces
 pub mod ReadBack
 pub mod Sendings

@@ -1,6 +1,6 @@
 //! Bytes on their way to a sink, gathered so that a few large pieces go out.
 
-ghost use Rattle.std.specs.Prelude.{◌≡◌, ◌+◌, ◌≤◌, ◌↔◌, [], ◌++◌, length, codes, IsTrue, if◌then◌else◌, decimal};
+ghost use Rattle.std.specs.Prelude.{◌≡◌, ◌+◌, ◌≤◌, ◌↔◌, [], ◌++◌, length, get_or, take, codes, IsTrue, if◌then◌else◌, decimal};
 ghost use Rattle.order_cnf.specs.Clauses.{literals};
 ghost use Rattle.dimacs.specs.Text.{literal_text, clause_text, header};
 
@@ -101,12 +101,38 @@ impl Piece {
     /// Adds a numeral. Always as many bytes are copied, and those behind the numeral do not count.
     #[inline(always)]
     fn push_numeral(&mut self, numeral: &Numeral)
-        requires { length self.old + 11 ≤ 16384 }
-        ensures text { self.new ≡ self.old ++ (decimal numeral.now.variable ++ codes " ") }
-        ensures short { length self.new ≤ length self.old + 11 }
+        requires { length self.old + 8 ≤ 16384 }
+        ensures text { self.new
+            ≡ self.old ++ take (get_or numeral.now.bytes 7 0) numeral.now.bytes }
+        ensures short { length self.new ≤ length self.old + 8 }
     {
         self.bytes[self.len..self.len + NUMERAL_BYTES].copy_from_slice(numeral.bytes());
         self.len += numeral.len();
+    }
+
+    /// Adds a variable that is too great to be kept, and a space.
+    #[cold]
+    #[inline(never)]
+    fn push_great(&mut self, variable: u32)
+        requires { length self.old + 11 ≤ 16384 }
+        ensures text { self.new ≡ self.old ++ (decimal variable ++ codes " ") }
+        ensures short { length self.new ≤ length self.old + 11 }
+    {
+        self.push_number(variable);
+        self.push(b" ");
+    }
+
+    /// Adds a variable and a space.
+    #[inline(always)]
+    fn push_variable(&mut self, variable: u32, numerals: &mut Numerals)
+        requires { length self.old + 11 ≤ 16384 }
+        ensures text { self.new ≡ self.old ++ (decimal variable ++ codes " ") }
+        ensures short { length self.new ≤ length self.old + 11 }
+    {
+        match numerals.numeral(variable) {
+            Some(numeral) => self.push_numeral(numeral),
+            None => self.push_great(variable),
+        }
     }
 
     /// Adds a literal and a space.
@@ -117,7 +143,7 @@ impl Piece {
         ensures short { length self.new ≤ length self.old + 12 }
     {
         self.push_sign(literal.positive);
-        self.push_numeral(numerals.numeral(literal.variable));
+        self.push_variable(literal.variable, numerals);
     }
 
     /// Adds the first line of a text.
