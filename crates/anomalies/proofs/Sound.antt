@@ -12,13 +12,15 @@ use Rattle.serializability.specs.declared.event.Event.TheVariants.{Write}
 use Rattle.serializability.specs.Log.{Log}
 use Rattle.serializability.specs.Reads.{IsNumbered}
 use Rattle.serializability.proofs.Places.{Apart-from_IsDistinct}
-use Rattle.log_definitions.specs.WellFormed.{keys_in, key_of as op_key, txns_in, ops_in, written, is_committed}
+use Rattle.log_definitions.specs.Unknown.{txns_in, ops_in, is_committed, resolved}
+use Rattle.log_definitions.specs.WellFormed.{keys_in, key_of as op_key, written}
 use Rattle.log_definitions.specs.Serial.{ops_of}
 use Rattle.log_definitions.specs.Numbers.{events_of, log_of, IsWellFormedList}
 use Rattle.log_definitions.proofs.Keys.{Listed, all_listed, number_below}
-use Rattle.log_definitions.proofs.Nodes.{txn_ops, each_op}
+use Rattle.log_definitions.proofs.Settled.{txn_ops}
+use Rattle.log_definitions.proofs.Nodes.{each_op}
 use Rattle.log_definitions.proofs.Scanning.{rules_where_no_fault}
-use Rattle.log_definitions.proofs.Identities.{WriteOnce, WriteOnce-from_Apart, WriteOnce-filter, apart_at, one_writer, Has_written, same_write}
+use Rattle.log_definitions.proofs.Identities.{WriteOnce, once_resolved, WriteOnce-filter, apart_at, one_writer, Has_written, same_write}
 use Rattle.log_definitions.proofs.Numbered.{numbered}
 use Rattle.anomalies.specs.Usage.{key_of}
 
@@ -69,10 +71,11 @@ once_among keys ts once x y w a b in_a at_a in_b at_b =
 pub sound : (ss : List ClientSession) → IsWellFormedList ss → IsSound (log_of ss)
 unfolding log_of
 sound ss h =
-    let rules = rules_where_no_fault ss h.sessions in
-    let once : WriteOnce (txns_in ss) = WriteOnce-from_Apart (txns_in ss) (Apart-from_IsDistinct (written (ops_in ss)) rules.writes) in
+    let rules = rules_where_no_fault 1 ss h.sessions in
+    let txns = txns_in (resolved ss) in
+    let once : WriteOnce txns = once_resolved ss (Apart-from_IsDistinct (written (ops_in ss)) rules.writes) in
     record {
       numbered = numbered ss h;
-      aborted_once = once_among (keys_in ss) (filter (λ t. not (is_committed t)) (txns_in ss)) (WriteOnce-filter (λ t. not (is_committed t)) (txns_in ss) once);
+      aborted_once = once_among (keys_in ss) (filter (λ t. not (is_committed t)) txns) (WriteOnce-filter (λ t. not (is_committed t)) txns once);
       below = λ v. events_below (keys_in ss) (ops_of ss v) (each_op (λ o. Listed (keys_in ss) (op_key o)) ss (all_listed ss) v);
     }

@@ -6,10 +6,12 @@ use Rattle.std.proofs.lemmas.Bool.{eqb-true}
 use Rattle.std.proofs.lemmas.Slice.Eq.{bytes_eq-Decides}
 use Rattle.session_log.specs.Blocks.{blocks_of, block_text}
 use Rattle.session_log.specs.declared.block.Block.{Block as Place}
+use Rattle.session_log.specs.declared.version.Version.{Version}
+use Rattle.session_log.specs.declared.version.Version.TheVariants.{One, Two}
 use Rattle.desk.specs.declared.history.Entry.{Entry}
 use Rattle.desk.specs.History.{entry, IsLegal}
 use Rattle.desk.proofs.Tied.{get_set}
-use Rattle.gather.specs.Pieces.{Piece, IsPiece, is_piece_of, is_piece}
+use Rattle.gather.specs.Pieces.{Piece, IsPiece, same_version, is_piece_of, is_piece}
 use Rattle.gather.specs.Steps.{State, is_kept, is_held_by, put_reply, next_of, reply_of}
 use Rattle.gather.specs.Kept.{WasKept, AreKept}
 use Rattle.gather.specs.declared.messages.Mark.{Mark}
@@ -38,11 +40,26 @@ both : (a b : Bool) → (a && b) ≡ true → (a ≡ true) × (b ≡ true)
 both true b e = (refl, e)
 both false b e = absurd (cc)
 
+version_is : (v w : Version) → same_version v w ≡ true → v ≡ w
+version_is One One e = refl
+version_is One Two e = absurd (cc)
+version_is Two One e = absurd (cc)
+version_is Two Two e = refl
+
 piece_of : (log : List ℕ) (k : ℕ) (p : Piece) (o : Option Place) → slice_get (blocks_of log) k ≡ o → is_piece_of log p o ≡ true → IsPiece log k p
 piece_of log k p None here e = absurd (cc)
 piece_of log k p (Some b) here e =
-    let t = both (bytes_eq p.text (block_text log b)) (p.line == b.line) e in
-    record { block = b; here = here; piece = record { text = (bytes_eq-Decides p.text (block_text log b)).0 t.0; line = eqb-true p.line b.line t.1 } }
+    let all = both (bytes_eq p.text (block_text log b) && p.line == b.line) (same_version p.version b.version) e in
+    let t = both (bytes_eq p.text (block_text log b)) (p.line == b.line) all.0 in
+    record {
+      block = b;
+      here = here;
+      piece = record {
+        version = version_is p.version b.version all.1;
+        text = (bytes_eq-Decides p.text (block_text log b)).0 t.0;
+        line = eqb-true p.line b.line t.1;
+      };
+    }
 
 pub piece_where : (log : List ℕ) (k : ℕ) (p : Piece) → is_piece log k p ≡ true → IsPiece log k p
 piece_where log k p e = piece_of log k p (slice_get (blocks_of log) k) refl e

@@ -4,7 +4,8 @@ use Rattle.std.specs.Prelude.{slice_get}
 use Rattle.std.specs.Option.{option_or}
 use Rattle.std.specs.List.{AllByRecursion}
 use Rattle.std.proofs.lemmas.List.{map-append, take_all}
-use Rattle.session_log.specs.Text.{ClientSession, view, IsLegal, session_text, log_text}
+use Rattle.session_log.specs.Text.{ClientSession, view, IsLegal, IsHeldBy, session_text, log_text}
+use Rattle.session_log.specs.Version.{version_of}
 use Rattle.session_log.specs.declared.session.Session.{Session}
 use Rattle.session_log.specs.Lines.{lines}
 use Rattle.session_log.specs.Faults.{grammar_fault, first_fault, Start, IsFault}
@@ -13,8 +14,8 @@ use Rattle.session_log.specs.declared.block.Block.{Block}
 use Rattle.session_log.specs.declared.fault.LogFault.{LogFault}
 use Rattle.session_log.specs.declared.fault.LogFault.TheVariants as faults
 use Rattle.gather.specs.Pieces.{Piece, IsOutcome, IsRead, IsPiece}
-use Rattle.gather.proofs.Places.{take_at, drop_at, all_push, length_push}
-use Rattle.session_log.proofs.Together.{fault_by_blocks, joined}
+use Rattle.gather.proofs.Places.{contains_at, take_at, drop_at, all_push, length_push}
+use Rattle.session_log.proofs.Together.{block_version, fault_by_blocks, joined}
 
 -- this very fault
 is_fault : (f : LogFault) (whole : Option LogFault) → whole ≡ Some f → IsFault f whole
@@ -25,23 +26,31 @@ is_fault (faults.OutsideTransaction k) whole e = e
 is_fault (faults.OpenTransaction k) whole e = e
 is_fault (faults.WriteZero k) whole e = e
 is_fault (faults.WriteTwice k) whole e = e
+is_fault (faults.UnknownNotLast k) whole e = e
 is_fault (faults.OverLimit k) whole e = e
 
--- a session was read of the block
-session_of : (log : List ℕ) (k : ℕ) (p : Piece) (s : ClientSession) → IsPiece log k p → IsRead p → p.outcome ≡ Ok s → (b : Block) × (slice_get (blocks_of log) k ≡ Some b) × (block_fault log b ≡ None) × IsLegal s × (block_text log b ≡ session_text s)
-session_of log k p s h r o =
-    let got = subst (IsOutcome p.text p.line) o r.outcome in
+-- the first fault of the block, by its piece
+fault_in : (log : List ℕ) (k : ℕ) (p : Piece) (h : IsPiece log k p) → block_fault log h.block ≡ first_fault p.version p.line Start (lines p.text)
+fault_in log k p h =
     let b = h.block in
-    let fault : block_fault log b ≡ None = ap (λ t. first_fault b.line Start (lines t)) (sym h.piece.text) ∙ ap (λ n. first_fault n Start (lines p.text)) (sym h.piece.line) ∙ got.0 in
-    (b, h.here, fault, got.1, sym h.piece.text ∙ got.2)
+    ap (λ t. first_fault b.version b.line Start (lines t)) (sym h.piece.text)
+    ∙ (ap (λ n. first_fault b.version n Start (lines p.text)) (sym h.piece.line) ∙ ap (λ v. first_fault v p.line Start (lines p.text)) (sym h.piece.version))
+
+-- the piece has the log's version
+version_in : (log : List ℕ) (k : ℕ) (p : Piece) → IsPiece log k p → p.version ≡ version_of log
+version_in log k p h = h.piece.version ∙ block_version log h.block (contains_at (blocks_of log) k h.block h.here)
+
+-- a session was read of the block
+session_of : (log : List ℕ) (k : ℕ) (p : Piece) (s : ClientSession) → IsPiece log k p → IsRead p → p.outcome ≡ Ok s → (b : Block) × (slice_get (blocks_of log) k ≡ Some b) × (block_fault log b ≡ None) × IsLegal s × IsHeldBy (version_of log) s × (block_text log b ≡ session_text s)
+session_of log k p s h r o =
+    let got = subst (IsOutcome p.version p.text p.line) o r.outcome in
+    (h.block, h.here, fault_in log k p h ∙ got.0, got.1, subst (λ v. IsHeldBy v s) (version_in log k p h) got.2, sym h.piece.text ∙ got.3)
 
 -- a fault was found in the block
 fault_of : (log : List ℕ) (k : ℕ) (p : Piece) (f : LogFault) → IsPiece log k p → IsRead p → p.outcome ≡ Err f → (b : Block) × (slice_get (blocks_of log) k ≡ Some b) × (block_fault log b ≡ Some f)
 fault_of log k p f h r o =
-    let got = subst (IsOutcome p.text p.line) o r.outcome in
-    let b = h.block in
-    let fault : block_fault log b ≡ Some f = ap (λ t. first_fault b.line Start (lines t)) (sym h.piece.text) ∙ ap (λ n. first_fault n Start (lines p.text)) (sym h.piece.line) ∙ got.0 in
-    (b, h.here, fault)
+    let got = subst (IsOutcome p.version p.text p.line) o r.outcome in
+    (h.block, h.here, fault_in log k p h ∙ got.0)
 
 module _ {A B C : Type 0} (f : A → C) (g : B → C) where
   -- one more of both lists
@@ -61,18 +70,20 @@ module _ {A : Type 0} (h : A → Option LogFault) where
 -- the first k blocks were read as these sessions
 pub record IsReadTo (log : List ℕ) (k : ℕ) (ss : List ClientSession) : Type 0 where
   pub legal : AllByRecursion IsLegal ss
+  pub held : AllByRecursion (IsHeldBy (version_of log)) ss
   pub texts : map (block_text log) (take k (blocks_of log)) ≡ map session_text ss
   pub fault : grammar_fault log ≡ first_of (map (block_fault log) (drop k (blocks_of log)))
 
 pub none_read : (log : List ℕ) → IsReadTo log 0 []
-none_read log = record { legal = tt; texts = refl; fault = fault_by_blocks log }
+none_read log = record { legal = tt; held = tt; texts = refl; fault = fault_by_blocks log }
 
 one_more_read : (log : List ℕ) (k : ℕ) (ss : List ClientSession) (p : Piece) (s : ClientSession) → IsReadTo log k ss → IsPiece log k p → IsRead p → p.outcome ≡ Ok s → IsReadTo log (suc k) (ss ++ s ∷ [])
 one_more_read log k ss p s h piece r o =
     let x = session_of log k p s piece r o in
     let b = x.0 in record {
       legal = all_push IsLegal ss s h.legal x.3;
-      texts = one_more (block_text log) session_text (blocks_of log) ss k b s x.1 h.texts x.4;
+      held = all_push (IsHeldBy (version_of log)) ss s h.held x.4;
+      texts = one_more (block_text log) session_text (blocks_of log) ss k b s x.1 h.texts x.5;
       fault = further (block_fault log) (blocks_of log) k b (grammar_fault log) x.1 x.2 h.fault;
     }
 
@@ -88,7 +99,7 @@ one_refused log k ss p f h piece r o =
     let x = fault_of log k p f piece r o in
     is_fault f (grammar_fault log) (here (block_fault log) (blocks_of log) k x.0 (grammar_fault log) f x.1 x.2 h.fault)
 
-pub all_read : (log : List ℕ) (k : ℕ) (ss : List ClientSession) → IsReadTo log k ss → length (blocks_of log) ≤ k → log ≡ log_text ss
+pub all_read : (log : List ℕ) (k : ℕ) (ss : List ClientSession) → IsReadTo log k ss → length (blocks_of log) ≤ k → log ≡ log_text (version_of log) ss
 all_read log k ss h e = joined log ss (ap (map (block_text log)) (sym (take_all k (blocks_of log) e)) ∙ h.texts)
 
 -- the same fault of another sentence
@@ -100,6 +111,7 @@ fault_as (faults.OutsideTransaction k) o whole to h = to h
 fault_as (faults.OpenTransaction k) o whole to h = to h
 fault_as (faults.WriteZero k) o whole to h = to h
 fault_as (faults.WriteTwice k) o whole to h = to h
+fault_as (faults.UnknownNotLast k) o whole to h = to h
 fault_as (faults.OverLimit k) o whole to h = to h
 
 -- the size is judged first, then the grammar

@@ -2,7 +2,8 @@
 
 ghost use Rattle.std.specs.Prelude.{◌≡◌, ℕ, None, Some, IfOk, IfErr, IfSome, OnSome, map, length, slice_set, slice_index_or, ◌<◌};
 ghost use Rattle.std.specs.List.{AllByRecursion};
-ghost use Rattle.session_log.specs.Text.{view, IsLegal, log_text};
+ghost use Rattle.session_log.specs.Text.{view, IsLegal, IsHeldBy, log_text};
+ghost use Rattle.session_log.specs.Version.{version_of};
 ghost use Rattle.session_log.specs.Faults.{grammar_fault, IsFault};
 ghost use Rattle.session_log.specs.Blocks.{blocks_of, size_fault};
 ghost use Rattle.desk.specs.History.{IsLegal as IsLegalHistory};
@@ -24,7 +25,7 @@ use desk::naming::Naming;
 use desk::opened::Opened;
 use desk::seat::{Left, Seat};
 use desk::seat_no::Workers;
-use session_log::{Block, LogFault, Session, cut};
+use session_log::{Block, LogFault, Session, Version, cut};
 use std::alloc::{AllocError, Global};
 use std::marker::Brand;
 use std::sync::Wait;
@@ -32,8 +33,8 @@ use std::thread;
 use std::thread::Threads;
 use std::time::Clock;
 
-/// The sessions of a log in log order, or its first fault of size or grammar, whatever the
-/// schedule and the number of workers.
+/// The version of a log and its sessions in log order, or its first fault of size or grammar,
+/// whatever the schedule and the number of workers. The version holds each of the sessions.
 ///
 /// Each worker passes the gate before each of its turns. `Memory` may come in place of any fault.
 pub fn collect<R: Threads + Wait + Clock + Sync, G: Gate>(
@@ -42,15 +43,19 @@ pub fn collect<R: Threads + Wait + Clock + Sync, G: Gate>(
     log: &[u8],
     workers: Workers,
     gate: &G,
-) -> Result<Vec<Session>, LogFault>
+) -> Result<(Version, Vec<Session>), LogFault>
     ensures accepted { IfOk result (λ _. size_fault log.now ≡ None) }
-    ensures legal { IfOk result (λ ss. AllByRecursion IsLegal (map view ss.items)) }
-    ensures text { IfOk result (λ ss. log.now ≡ log_text (map view ss.items)) }
+    ensures version { IfOk result (λ read. read.0 ≡ version_of log.now) }
+    ensures legal { IfOk result (λ read. AllByRecursion IsLegal (map view read.1.items)) }
+    ensures held { IfOk result (λ read.
+        AllByRecursion (IsHeldBy (version_of log.now)) (map view read.1.items)) }
+    ensures text { IfOk result (λ read.
+        log.now ≡ log_text (version_of log.now) (map view read.1.items)) }
     ensures fault { IfErr result (λ f. IsFault f (reading_fault log.now)) }
 {
-    let blocks = cut(alloc, log)?;
+    let (version, blocks) = cut(alloc, log)?;
     let found = read_pieces(rt, alloc, log, blocks, workers, gate)?;
-    sessions_of(alloc, log, found)
+    Ok((version, sessions_of(alloc, log, found)?))
 }
 
 // What workers read of each block.
@@ -207,7 +212,9 @@ fn sessions_of<'a>(
     requires count { length found.items ≡ length (blocks_of _log.now) }
     requires pieces { ArePieces _log.now found.items }
     ensures legal { IfOk result (λ ss. AllByRecursion IsLegal (map view ss.items)) }
-    ensures text { IfOk result (λ ss. _log.now ≡ log_text (map view ss.items)) }
+    ensures held { IfOk result (λ ss.
+        AllByRecursion (IsHeldBy (version_of _log.now)) (map view ss.items)) }
+    ensures text { IfOk result (λ ss. _log.now ≡ log_text (version_of _log.now) (map view ss.items)) }
     ensures fault { IfErr result (λ f. IsFault f (grammar_fault _log.now)) }
 {
     let mut sessions = Vec::with_capacity(alloc, found.len())?;

@@ -107,7 +107,9 @@ fn is_piece_of<'a>(log: &[u8], block: &Block, parsed: &Parsed<'a>) -> bool
     requires { Contains (blocks_of log.now) block.now }
     ensures { result ≡ is_piece_of log.now parsed.now (Some block.now) }
 {
-    parsed.slice() == &log[block.start..block.stop] && parsed.line() == block.line
+    parsed.slice() == &log[block.start..block.stop]
+        && parsed.line() == block.line
+        && parsed.version() == block.version
 }
 
 fn is_open(mark: Mark) -> bool

@@ -5,16 +5,17 @@ ghost use Rattle.session_log.specs.Text.{view};
 ghost use Rattle.session_log.specs.Blocks.{blocks_of, block_text};
 ghost use Rattle.gather.specs.Pieces.{IsRead, IsPieceOf, is_piece};
 
-use session_log::{Block, LogFault, Session, parse_block};
+use session_log::{Block, LogFault, Session, Version, parse_block};
 use std::alloc::{AllocError, Global};
 use std::marker::Model;
 
-/// A block of a log by its bytes and its first line, with what reading it gave: its session, or
-/// its first fault, which is never `Memory`.
+/// A block of a log by its version, its bytes and its first line, with what reading it gave: its
+/// session, or its first fault, which is never `Memory`.
 ///
-/// `parse_piece` alone makes one. Contracts see the bytes, the line and the outcome.
+/// `parse_piece` alone makes one. Contracts see the version, the bytes, the line and the outcome.
 #[derive(Debug, Drop)]
 pub struct Parsed<'a> {
+    version: Version,
     slice: &'a [u8],
     line: usize,
     outcome: Result<Session, LogFault>,
@@ -26,12 +27,14 @@ impl<'a> Model for Parsed<'a> {
     ghost Value = { Piece };
 
     ghost view = { λ p. record {
+      version = p.version;
       text = p.slice.now;
       line = p.line;
       outcome = view_outcome p.outcome;
     } };
 
     ghost invariant = { λ p. IsRead (record {
+      version = p.version;
       text = p.slice.now;
       line = p.line;
       outcome = view_outcome p.outcome;
@@ -54,6 +57,7 @@ pub fn parse_piece<'a>(
         Err(fault) => Err(fault),
     };
     Ok(Parsed {
+        version: block.version,
         slice: &log[block.start..block.stop],
         line: block.line,
         outcome,
@@ -61,6 +65,13 @@ pub fn parse_piece<'a>(
 }
 
 impl<'a> Parsed<'a> {
+    /// The version of the log.
+    pub fn version(&self) -> Version
+        ensures { result ≡ self.now.version }
+    {
+        self.version
+    }
+
     /// The bytes.
     pub fn slice(&self) -> &'a [u8]
         ensures { result.now ≡ self.now.text }
@@ -75,13 +86,14 @@ impl<'a> Parsed<'a> {
         self.line
     }
 
-    /// The session that the bytes are the text of, or their first fault.
+    /// The session that the bytes are the text of, which the version holds, or their first fault.
     pub fn into_outcome(self) -> Result<Session, LogFault>
         ensures session { IfOk result (λ s. self.entry.outcome ≡ Ok (view s)) }
         ensures fault { IfErr result (λ f. self.entry.outcome ≡ Err f) }
         ensures read { IsRead self.entry }
     {
         let Parsed {
+            version: _,
             slice: _,
             line: _,
             outcome,

@@ -9,9 +9,10 @@ use Rattle.serializability.specs.Decoded.{before, IsDecoded}
 use Rattle.serializability.specs.Plain.{plain, contradiction}
 use Rattle.serializability.specs.Anomalies.{anomaly_of}
 use Rattle.serializability.proofs.PlainLaws.{plain_where_serial, plain_serial, plain_decodes}
-use Rattle.log_definitions.specs.Serial.{IsSerialOrder}
+use Rattle.log_definitions.specs.Serial.{IsSerialOrder, IsSomeOrder}
 use Rattle.log_definitions.specs.Numbers.{IsWellFormedList, log_of, formula_where, plain_answer}
 use Rattle.log_definitions.proofs.Numbered.{numbered}
+use Rattle.log_definitions.proofs.OnlyTaken.{serial_where_some}
 use Rattle.log_definitions.proofs.Renaming.{serial_numbered, serial_by_keys}
 use Rattle.anomaly_laws.proofs.Clean.{clean_from_none}
 use Rattle.anomaly_laws.proofs.Serial.{no_order}
@@ -21,6 +22,9 @@ clean_log ss h e = clean_from_none (log_of ss) (numbered ss h) e
 
 pub none_serial : (ss : List ClientSession) → IsWellFormedList ss → (a : Anomaly) → anomaly_of (log_of ss) ≡ Some a → (order : List ℕ) → IsSerialOrder ss order → ⊥
 none_serial ss h a e order s = no_order (log_of ss) (numbered ss h) a e order (serial_numbered ss order s)
+
+pub none_of_some : (ss : List ClientSession) → IsWellFormedList ss → (a : Anomaly) → anomaly_of (log_of ss) ≡ Some a → (order : List ℕ) → IsSomeOrder ss order → ⊥
+none_of_some ss h a e order s = let found = serial_where_some ss h (order, s) in none_serial ss h a e found.0 found.1
 
 never_both : (b : Bool) → (b || false) ≡ true → (not b || false) ≡ true → ⊥
 never_both true p q = false≢true q
@@ -56,3 +60,6 @@ answer_serial ss h values s order d = each_for ss h values (anomaly_of (log_of s
 pub answer_decodes : (ss : List ClientSession) → IsWellFormedList ss → (values : List Bool) → Satisfies values (plain_answer ss) → (order : List ℕ) × IsDecoded (plain_answer ss).nodes (before (plain_answer ss) values) order
 unfolding plain_answer
 answer_decodes ss h values s = decodes_for ss h values (anomaly_of (log_of ss)) refl s
+
+pub answer_where_some : (ss : List ClientSession) → IsWellFormedList ss → (order : List ℕ) → IsSomeOrder ss order → (values : List Bool) × Satisfies values (plain_answer ss)
+answer_where_some ss h order s = let found = serial_where_some ss h (order, s) in answer_where_serial ss h found.0 found.1

@@ -1,64 +1,106 @@
--- A text without a fault of the grammar is that of a list of legal sessions.
+-- A text without a fault of the grammar is that of a list of legal sessions, which its version holds.
 use Rattle.std.proofs.Common.{◌≡◌, ℕ, zero, suc, ◌+◌, ◌<◌, ◌^◌, Bool, true, false, cond, List, [], ◌∷◌, ◌++◌, map, Option, Some, None, Result, Ok, Err, refl, sym, ap, ◌∙◌, subst, arith, append_assoc}
 use Rattle.std.specs.List.{flat_map, AllByRecursion}
 use Rattle.session_log.specs.Lines.{lines}
-use Rattle.session_log.specs.Text.{ClientSession, Transaction, line_text, op_line, end_line, txn_lines, session_lines, text_of_lines, log_text, IsLegal, IsLegalTxn, IsLegalOp}
-use Rattle.session_log.specs.Faults.{Place, Start, Between, Inside, after, after_form, step, form_at, is_session_line, first_fault, going_on, grammar_fault}
+use Rattle.session_log.specs.Version.{header_text, first_line, has_unknown_line, version_of, body_of}
+use Rattle.session_log.specs.Text.{ClientSession, Transaction, line_text, op_line, end_line, txn_lines, session_lines, text_of_lines, log_text, is_unknown, IsKnown, IsKnownBeforeLast, IsLegal, IsLegalTxn, IsLegalOp, IsHeldBy}
+use Rattle.session_log.specs.Faults.{Place, Start, Between, Inside, Over, after, after_form, step, form_at, is_session_line, first_fault, going_on, grammar_fault}
 use Rattle.session_log.specs.Blocks.{text_of}
 use Rattle.session_log.specs.declared.line.Line.{Line}
 use Rattle.session_log.specs.declared.line.Line.TheVariants as line
 use Rattle.session_log.specs.declared.session.Op.{Op}
 use Rattle.session_log.specs.declared.session.Op.TheVariants.{Read, Write}
 use Rattle.session_log.specs.declared.session.Outcome.{Outcome}
-use Rattle.session_log.specs.declared.session.Outcome.TheVariants.{Commit, Abort}
+use Rattle.session_log.specs.declared.session.Outcome.TheVariants.{Commit, Abort, Unknown}
 use Rattle.session_log.specs.declared.fault.LogFault.{LogFault}
 use Rattle.session_log.specs.declared.fault.LogFault.TheVariants.{OpenTransaction}
+use Rattle.session_log.specs.declared.version.Version.{Version}
+use Rattle.session_log.specs.declared.version.Version.TheVariants.{One, Two}
 use Rattle.session_log.proofs.Steps.{form_bytes}
 use Rattle.session_log.proofs.Lying.{text_of_lines_is}
+use Rattle.session_log.proofs.Versions.{header_and_body}
 use Rattle.session_log.proofs.Whole.{log_by_lines}
 
+-- ---- the outcomes of a session's transactions
+-- the last of them alone may be unknown, and only where the version has such
+record MayEnd (v : Version) (ts : List Transaction) : Type 0 where
+  pub last : IsKnownBeforeLast ts
+  pub held : (number : ℕ) → IsHeldBy v (record { number = number; txns = ts })
+
+held_none : (v : Version) (number : ℕ) → IsHeldBy v (record { number = number; txns = [] })
+held_none One number = tt
+held_none Two number = tt
+
+may_end_none : (v : Version) → MayEnd v []
+may_end_none v = record { last = tt; held = held_none v }
+
+last_known : (t : Transaction) (ts : List Transaction) → IsKnown t → IsKnownBeforeLast ts → IsKnownBeforeLast (t ∷ ts)
+last_known t [] k h = tt
+last_known t (u ∷ ts) k h = (k, h)
+
+held_known : (v : Version) (number : ℕ) (t : Transaction) (ts : List Transaction) → IsKnown t → IsHeldBy v (record { number = number; txns = ts }) → IsHeldBy v (record { number = number; txns = t ∷ ts })
+held_known One number t ts k h = (k, h)
+held_known Two number t ts k h = tt
+
+may_end_known : (v : Version) (t : Transaction) (ts : List Transaction) → IsKnown t → MayEnd v ts → MayEnd v (t ∷ ts)
+may_end_known v t ts k h = record { last = last_known t ts k h.last; held = λ number. held_known v number t ts k (h.held number) }
+
+held_one : (v : Version) (number : ℕ) (t : Transaction) → has_unknown_line v ≡ true → IsHeldBy v (record { number = number; txns = t ∷ [] })
+held_one One number t e = cc
+held_one Two number t e = tt
+
+may_end_unknown : (v : Version) (t : Transaction) → has_unknown_line v ≡ true → MayEnd v (t ∷ [])
+may_end_unknown v t e = record { last = tt; held = λ number. held_one v number t e }
+
 -- ---- what lines stand for, from a place on
-record HoldsSessions (fs : List Line) : Type 0 where
+record HoldsSessions (v : Version) (fs : List Line) : Type 0 where
   pub sessions : List ClientSession
   pub legal : AllByRecursion IsLegal sessions
+  pub held : AllByRecursion (IsHeldBy v) sessions
   pub by_line : fs ≡ flat_map session_lines sessions
 
-record HoldsTxns (fs : List Line) : Type 0 where
+record HoldsTxns (v : Version) (fs : List Line) : Type 0 where
   pub txns : List Transaction
   pub sessions : List ClientSession
   pub legal_txns : AllByRecursion IsLegalTxn txns
+  pub ended : MayEnd v txns
   pub legal : AllByRecursion IsLegal sessions
+  pub held : AllByRecursion (IsHeldBy v) sessions
   pub by_line : fs ≡ flat_map txn_lines txns ++ flat_map session_lines sessions
 
-record HoldsOps (fs : List Line) : Type 0 where
+record HoldsOps (v : Version) (fs : List Line) : Type 0 where
   pub ops : List Op
   pub outcome : Outcome
   pub txns : List Transaction
   pub sessions : List ClientSession
   pub legal_ops : AllByRecursion IsLegalOp ops
   pub legal_txns : AllByRecursion IsLegalTxn txns
+  pub ended : (all : List Op) → MayEnd v (record { ops = all; outcome = outcome } ∷ txns)
   pub legal : AllByRecursion IsLegal sessions
+  pub held : AllByRecursion (IsHeldBy v) sessions
   pub by_line : fs ≡ map op_line ops ++ (end_line outcome ∷ (flat_map txn_lines txns ++ flat_map session_lines sessions))
 
-abbrev Holds : Place → List Line → Type 0
-Holds Start fs = HoldsSessions fs
-Holds Between fs = HoldsTxns fs
-Holds (Inside start) fs = HoldsOps fs
+abbrev Holds : Version → Place → List Line → Type 0
+Holds v Start fs = HoldsSessions v fs
+Holds v Between fs = HoldsTxns v fs
+Holds v (Inside start) fs = HoldsOps v fs
+Holds v Over fs = HoldsSessions v fs
 
 -- ---- one line more
-with_session : (k : ℕ) (fs : List Line) → 0 < k → k < 2 ^ 16 → HoldsTxns fs → HoldsSessions (line.Session k ∷ fs)
-with_session k fs low high r =
+with_session : (v : Version) (k : ℕ) (fs : List Line) → 0 < k → k < 2 ^ 16 → HoldsTxns v fs → HoldsSessions v (line.Session k ∷ fs)
+with_session v k fs low high r =
     record {
       sessions = record { number = k; txns = r.txns } ∷ r.sessions;
-      legal = (record { low = low; high = high; txns = r.legal_txns }, r.legal);
+      legal = (record { low = low; high = high; txns = r.legal_txns; known = r.ended.last }, r.legal);
+      held = (r.ended.held k, r.held);
       by_line = ap (λ l. line.Session k ∷ l) r.by_line;
     }
 
-between : (fs : List Line) → HoldsSessions fs → HoldsTxns fs
-between fs r = record { txns = []; sessions = r.sessions; legal_txns = tt; legal = r.legal; by_line = r.by_line }
+between : (v : Version) (fs : List Line) → HoldsSessions v fs → HoldsTxns v fs
+between v fs r = record { txns = []; sessions = r.sessions; legal_txns = tt; ended = may_end_none v; legal = r.legal; held = r.held; by_line = r.by_line }
 
-with_begin : (fs : List Line) → HoldsOps fs → HoldsTxns (line.Begin ∷ fs)
-with_begin fs r =
+with_begin : (v : Version) (fs : List Line) → HoldsOps v fs → HoldsTxns v (line.Begin ∷ fs)
+with_begin v fs r =
     let ops : List Line = map op_line r.ops in
     let end : List Line = end_line r.outcome ∷ [] in
     let txns : List Line = flat_map txn_lines r.txns in
@@ -67,12 +109,14 @@ with_begin fs r =
       txns = record { ops = r.ops; outcome = r.outcome } ∷ r.txns;
       sessions = r.sessions;
       legal_txns = (r.legal_ops, r.legal_txns);
+      ended = r.ended r.ops;
       legal = r.legal;
+      held = r.held;
       by_line = ap (λ l. line.Begin ∷ l) (r.by_line ∙ (sym (append_assoc ops end (txns ++ sessions)) ∙ sym (append_assoc (ops ++ end) txns sessions)));
     }
 
-with_op : (o : Op) (fs : List Line) → IsLegalOp o → HoldsOps fs → HoldsOps (op_line o ∷ fs)
-with_op o fs h r =
+with_op : (v : Version) (o : Op) (fs : List Line) → IsLegalOp o → HoldsOps v fs → HoldsOps v (op_line o ∷ fs)
+with_op v o fs h r =
     record {
       ops = o ∷ r.ops;
       outcome = r.outcome;
@@ -80,12 +124,14 @@ with_op o fs h r =
       sessions = r.sessions;
       legal_ops = (h, r.legal_ops);
       legal_txns = r.legal_txns;
+      ended = r.ended;
       legal = r.legal;
+      held = r.held;
       by_line = ap (λ l. op_line o ∷ l) r.by_line;
     }
 
-with_end : (o : Outcome) (fs : List Line) → HoldsTxns fs → HoldsOps (end_line o ∷ fs)
-with_end o fs r =
+with_end : (v : Version) (o : Outcome) (fs : List Line) → is_unknown o ≡ false → HoldsTxns v fs → HoldsOps v (end_line o ∷ fs)
+with_end v o fs known r =
     record {
       ops = [];
       outcome = o;
@@ -93,98 +139,137 @@ with_end o fs r =
       sessions = r.sessions;
       legal_ops = tt;
       legal_txns = r.legal_txns;
+      ended = λ all. may_end_known v (record { ops = all; outcome = o }) r.txns known r.ended;
       legal = r.legal;
+      held = r.held;
       by_line = ap (λ l. end_line o ∷ l) r.by_line;
     }
 
-at_place : (p q : Place) (fs : List Line) → ◌≡◌ {A = Result Place LogFault} (Ok p) (Ok q) → Holds q fs → Holds p fs
-at_place p q fs e h = let same : q ≡ p = cc in subst (λ place. Holds place fs) same h
+with_unknown : (v : Version) (fs : List Line) → has_unknown_line v ≡ true → HoldsSessions v fs → HoldsOps v (line.Unknown ∷ fs)
+with_unknown v fs e r =
+    record {
+      ops = [];
+      outcome = Unknown;
+      txns = [];
+      sessions = r.sessions;
+      legal_ops = tt;
+      legal_txns = tt;
+      ended = λ all. may_end_unknown v (record { ops = all; outcome = Unknown }) e;
+      legal = r.legal;
+      held = r.held;
+      by_line = ap (λ l. line.Unknown ∷ l) r.by_line;
+    }
 
-with_line : (n : ℕ) (p q : Place) (l : List ℕ × Bool) (f : Line) (fs : List Line) → form_at l ≡ Some f → after n p f ≡ Ok q → Holds q fs → Holds p (f ∷ fs)
-with_line n Start q l (line.Session k) fs e a h =
-    let legal = (form_bytes l (line.Session k) e).1 in
-    with_session k fs legal.0 legal.1 (at_place Between q fs a h)
-with_line n Start q l line.Begin fs e a h = cc
-with_line n Start q l (line.Read k w) fs e a h = cc
-with_line n Start q l (line.Write k w) fs e a h = cc
-with_line n Start q l line.Commit fs e a h = cc
-with_line n Start q l line.Abort fs e a h = cc
-with_line n Between q l (line.Session k) fs e a h =
-    let legal = (form_bytes l (line.Session k) e).1 in
-    between (line.Session k ∷ fs) (with_session k fs legal.0 legal.1 (at_place Between q fs a h))
-with_line n Between q l line.Begin fs e a h = with_begin fs (at_place (Inside n) q fs a h)
-with_line n Between q l (line.Read k w) fs e a h = cc
-with_line n Between q l (line.Write k w) fs e a h = cc
-with_line n Between q l line.Commit fs e a h = cc
-with_line n Between q l line.Abort fs e a h = cc
-with_line n (Inside b) q l (line.Session k) fs e a h = cc
-with_line n (Inside b) q l line.Begin fs e a h = cc
-with_line n (Inside b) q l (line.Read k w) fs e a h =
-    with_op (Read k w) fs (form_bytes l (line.Read k w) e).1 (at_place (Inside b) q fs a h)
-with_line n (Inside b) q l (line.Write k zero) fs e a h = cc
-with_line n (Inside b) q l (line.Write k (suc w)) fs e a h =
-    let legal = (form_bytes l (line.Write k (suc w)) e).1 in
-    with_op (Write k (suc w)) fs (legal.0, omega arith, legal.1) (at_place (Inside b) q fs a h)
-with_line n (Inside b) q l line.Commit fs e a h = with_end Commit fs (at_place Between q fs a h)
-with_line n (Inside b) q l line.Abort fs e a h = with_end Abort fs (at_place Between q fs a h)
+at_place : (v : Version) (p q : Place) (fs : List Line) → ◌≡◌ {A = Result Place LogFault} (Ok p) (Ok q) → Holds v q fs → Holds v p fs
+at_place v p q fs e h = let same : q ≡ p = cc in subst (λ place. Holds v place fs) same h
+
+with_line : (v : Version) (n : ℕ) (p q : Place) (l : List ℕ × Bool) (f : Line) (fs : List Line) → form_at v l ≡ Some f → after n p f ≡ Ok q → Holds v q fs → Holds v p (f ∷ fs)
+with_line v n Start q l (line.Session k) fs e a h =
+    let legal = (form_bytes v l (line.Session k) e).1 in
+    with_session v k fs legal.0 legal.1 (at_place v Between q fs a h)
+with_line v n Start q l line.Begin fs e a h = cc
+with_line v n Start q l (line.Read k w) fs e a h = cc
+with_line v n Start q l (line.Write k w) fs e a h = cc
+with_line v n Start q l line.Commit fs e a h = cc
+with_line v n Start q l line.Abort fs e a h = cc
+with_line v n Start q l line.Unknown fs e a h = cc
+with_line v n Between q l (line.Session k) fs e a h =
+    let legal = (form_bytes v l (line.Session k) e).1 in
+    between v (line.Session k ∷ fs) (with_session v k fs legal.0 legal.1 (at_place v Between q fs a h))
+with_line v n Between q l line.Begin fs e a h = with_begin v fs (at_place v (Inside n) q fs a h)
+with_line v n Between q l (line.Read k w) fs e a h = cc
+with_line v n Between q l (line.Write k w) fs e a h = cc
+with_line v n Between q l line.Commit fs e a h = cc
+with_line v n Between q l line.Abort fs e a h = cc
+with_line v n Between q l line.Unknown fs e a h = cc
+with_line v n (Inside b) q l (line.Session k) fs e a h = cc
+with_line v n (Inside b) q l line.Begin fs e a h = cc
+with_line v n (Inside b) q l (line.Read k w) fs e a h =
+    with_op v (Read k w) fs (form_bytes v l (line.Read k w) e).1 (at_place v (Inside b) q fs a h)
+with_line v n (Inside b) q l (line.Write k zero) fs e a h = cc
+with_line v n (Inside b) q l (line.Write k (suc w)) fs e a h =
+    let legal = (form_bytes v l (line.Write k (suc w)) e).1 in
+    with_op v (Write k (suc w)) fs (legal.0, omega arith, legal.1) (at_place v (Inside b) q fs a h)
+with_line v n (Inside b) q l line.Commit fs e a h = with_end v Commit fs refl (at_place v Between q fs a h)
+with_line v n (Inside b) q l line.Abort fs e a h = with_end v Abort fs refl (at_place v Between q fs a h)
+with_line v n (Inside b) q l line.Unknown fs e a h = with_unknown v fs (form_bytes v l line.Unknown e).1 (at_place v Over q fs a h)
+with_line v n Over q l (line.Session k) fs e a h =
+    let legal = (form_bytes v l (line.Session k) e).1 in
+    with_session v k fs legal.0 legal.1 (at_place v Between q fs a h)
+with_line v n Over q l line.Begin fs e a h = cc
+with_line v n Over q l (line.Read k w) fs e a h = cc
+with_line v n Over q l (line.Write k w) fs e a h = cc
+with_line v n Over q l line.Commit fs e a h = cc
+with_line v n Over q l line.Abort fs e a h = cc
+with_line v n Over q l line.Unknown fs e a h = cc
 
 -- ---- all lines
-record Formed (n : ℕ) (p q : Place) (l : List ℕ × Bool) : Type 0 where
+record Formed (v : Version) (n : ℕ) (p q : Place) (l : List ℕ × Bool) : Type 0 where
   pub form : Line
-  pub is : form_at l ≡ Some form
+  pub is : form_at v l ≡ Some form
   pub place : after n p form ≡ Ok q
 
-formed : (n : ℕ) (p q : Place) (l : List ℕ × Bool) (o : Option Line) → form_at l ≡ o → after_form n p o ≡ Ok q → Formed n p q l
-formed n p q l None e h = cc
-formed n p q l (Some f) e h = record { form = f; is = e; place = h }
+formed : (v : Version) (n : ℕ) (p q : Place) (l : List ℕ × Bool) (o : Option Line) → form_at v l ≡ o → after_form n p o ≡ Ok q → Formed v n p q l
+formed v n p q l None e h = cc
+formed v n p q l (Some f) e h = record { form = f; is = e; place = h }
 
-step_formed : (n : ℕ) (p q : Place) (l : List ℕ × Bool) → step n p l ≡ Ok q → Formed n p q l
+step_formed : (v : Version) (n : ℕ) (p q : Place) (l : List ℕ × Bool) → step v n p l ≡ Ok q → Formed v n p q l
 unfolding step
-step_formed n Start q l e = formed n Start q l (form_at l) refl e
-step_formed n Between q l e = formed n Between q l (form_at l) refl e
-step_formed n (Inside b) q l e = go (is_session_line l) e
+step_formed v n Start q l e = formed v n Start q l (form_at v l) refl e
+step_formed v n Between q l e = formed v n Between q l (form_at v l) refl e
+step_formed v n (Inside b) q l e = go (is_session_line l) e
   where
-    go : (t : Bool) → cond t (Err (OpenTransaction b)) (after_form n (Inside b) (form_at l)) ≡ Ok q → Formed n (Inside b) q l
+    go : (t : Bool) → cond t (Err (OpenTransaction b)) (after_form n (Inside b) (form_at v l)) ≡ Ok q → Formed v n (Inside b) q l
     go true e = cc
-    go false e = formed n (Inside b) q l (form_at l) refl e
+    go false e = formed v n (Inside b) q l (form_at v l) refl e
+step_formed v n Over q l e = formed v n Over q l (form_at v l) refl e
 
-record Stands (p : Place) (ls : List (List ℕ × Bool)) : Type 0 where
+record Stands (v : Version) (p : Place) (ls : List (List ℕ × Bool)) : Type 0 where
   pub by_form : List Line
-  pub holds : Holds p by_form
+  pub holds : Holds v p by_form
   pub bytes : text_of ls ≡ text_of_lines by_form
 
-stands : (ls : List (List ℕ × Bool)) (n : ℕ) (p : Place) → first_fault n p ls ≡ None → Stands p ls
-stands [] n Start e = record { by_form = []; holds = record { sessions = []; legal = tt; by_line = refl }; bytes = refl }
-stands [] n Between e = record { by_form = []; holds = record { txns = []; sessions = []; legal_txns = tt; legal = tt; by_line = refl }; bytes = refl }
-stands [] n (Inside b) e = cc
-stands (l ∷ ls) n p e = go (step n p l) refl e (stands ls (n + 1))
+no_session : (v : Version) → HoldsSessions v []
+no_session v = record { sessions = []; legal = tt; held = tt; by_line = refl }
+
+stands : (v : Version) (ls : List (List ℕ × Bool)) (n : ℕ) (p : Place) → first_fault v n p ls ≡ None → Stands v p ls
+stands v [] n Start e = record { by_form = []; holds = no_session v; bytes = refl }
+stands v [] n Between e = record { by_form = []; holds = between v [] (no_session v); bytes = refl }
+stands v [] n (Inside b) e = cc
+stands v [] n Over e = record { by_form = []; holds = no_session v; bytes = refl }
+stands v (l ∷ ls) n p e = go (step v n p l) refl e (stands v ls (n + 1))
   where
-    go : (r : Result Place LogFault) → step n p l ≡ r → going_on r (λ q. first_fault (n + 1) q ls) ≡ None → ((q : Place) → first_fault (n + 1) q ls ≡ None → Stands q ls) → Stands p (l ∷ ls)
+    go : (r : Result Place LogFault) → step v n p l ≡ r → going_on r (λ q. first_fault v (n + 1) q ls) ≡ None → ((q : Place) → first_fault v (n + 1) q ls ≡ None → Stands v q ls) → Stands v p (l ∷ ls)
     go (Err f) h e ih = cc
     go (Ok q) h e ih =
-        let f = step_formed n p q l h in
+        let f = step_formed v n p q l h in
         let later = ih q e in
         record {
           by_form = f.form ∷ later.by_form;
-          holds = with_line n p q l f.form later.by_form f.is f.place later.holds;
-          bytes = ap (λ bs. bs ++ text_of ls) (form_bytes l f.form f.is).0 ∙ ap (λ bs. (line_text f.form ++ 10 ∷ []) ++ bs) later.bytes;
+          holds = with_line v n p q l f.form later.by_form f.is f.place later.holds;
+          bytes = ap (λ bs. bs ++ text_of ls) (form_bytes v l f.form f.is).0 ∙ ap (λ bs. (line_text f.form ++ 10 ∷ []) ++ bs) later.bytes;
         }
 
 pub record IsTextOfSome (text : List ℕ) : Type 0 where
   pub sessions : List ClientSession
   pub legal : AllByRecursion IsLegal sessions
-  pub by_text : text ≡ log_text sessions
+  pub held : AllByRecursion (IsHeldBy (version_of text)) sessions
+  pub by_text : text ≡ log_text (version_of text) sessions
 
-pub grammar_fault_is : (text : List ℕ) → grammar_fault text ≡ first_fault 1 Start (lines text)
+pub grammar_fault_is : (text : List ℕ) → grammar_fault text ≡ first_fault (version_of text) (first_line (version_of text)) Start (lines (body_of text))
 unfolding grammar_fault
 grammar_fault_is text = refl
 
 pub sessions_where_no_fault : (text : List ℕ) → grammar_fault text ≡ None → IsTextOfSome text
 sessions_where_no_fault text e =
-    let all = stands (lines text) 1 Start (sym (grammar_fault_is text) ∙ e) in
-    let held : HoldsSessions all.by_form = all.holds in
+    let v = version_of text in
+    let all = stands v (lines (body_of text)) (first_line v) Start (sym (grammar_fault_is text) ∙ e) in
+    let found : HoldsSessions v all.by_form = all.holds in
+    let body : body_of text ≡ text_of_lines (flat_map session_lines found.sessions) =
+    sym (text_of_lines_is (body_of text)) ∙ (all.bytes ∙ ap text_of_lines found.by_line) in
     record {
-      sessions = held.sessions;
-      legal = held.legal;
-      by_text = sym (text_of_lines_is text) ∙ (all.bytes ∙ (ap text_of_lines held.by_line ∙ sym (log_by_lines held.sessions)));
+      sessions = found.sessions;
+      legal = found.legal;
+      held = found.held;
+      by_text = header_and_body text ∙ (ap (λ bs. header_text v ++ bs) body ∙ sym (log_by_lines v found.sessions));
     }

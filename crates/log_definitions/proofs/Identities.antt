@@ -3,16 +3,18 @@ use Rattle.std.proofs.Common.{◌≡◌, ℕ, zero, suc, ◌<◌, Bool, not, Lis
 use Rattle.std.specs.Prelude.{map, slice_get}
 use Rattle.std.specs.List.{filter, flat_map, AllByRecursion, Contains}
 use Rattle.std.proofs.lemmas.Bool.{cases_Bool}
-use Rattle.session_log.specs.Text.{Transaction}
+use Rattle.session_log.specs.Text.{ClientSession, Transaction}
 use Rattle.session_log.specs.declared.session.Op.{Op}
 use Rattle.session_log.specs.declared.session.Op.TheVariants as op
 use Rattle.serializability.specs.declared.event.Event.{Event}
 use Rattle.serializability.specs.declared.event.Event.TheVariants.{Read, Write}
 use Rattle.serializability.proofs.Places.{Has, Apart, Has-append_front, Has-append_back, Apart-not_both}
+use Rattle.log_definitions.specs.Unknown.{txns_in, ops_in, settled, taken, resolved}
 use Rattle.log_definitions.specs.WellFormed.{written}
 use Rattle.log_definitions.specs.Numbers.{events_of}
 use Rattle.log_definitions.proofs.Scanning.{written-append}
-use Rattle.log_definitions.proofs.Nodes.{txn_ops, each_kept, each_at}
+use Rattle.log_definitions.proofs.Settled.{txn_ops, ops_settled}
+use Rattle.log_definitions.proofs.Nodes.{each_kept, each_at}
 
 -- ---- in one transaction
 
@@ -74,7 +76,7 @@ same_write keys ops es a b p q x y w h e f g =
     one_place a b p q x y w (sym f ∙ g) (subst Apart (sym (written_events keys ops) ∙ ap written_in (sym e ∙ f)) h)
 
 -- ---- in several transactions
-abbrev Lacks : ℕ → Transaction → Type 0
+abbrev pub Lacks : ℕ → Transaction → Type 0
 Lacks w t = Has w (written t.ops) → ⊥
 
 -- no identity is written twice
@@ -106,6 +108,14 @@ WriteOnce-from_Apart (t ∷ ts) h =
       (λ w k. all_lack w ts (Apart-not_both w (written t.ops) (written (flat_map txn_ops ts)) all k)),
       WriteOnce-from_Apart ts (Apart_back (written t.ops) (written (flat_map txn_ops ts)) all),
     )
+
+pub once_settled : (chosen : ℕ → Bool) (ss : List ClientSession) → Apart (written (ops_in ss)) → WriteOnce (txns_in (settled chosen ss))
+once_settled chosen ss h =
+    WriteOnce-from_Apart (txns_in (settled chosen ss)) (subst (λ ops. Apart (written ops)) (sym (ops_settled chosen ss)) h)
+
+pub once_resolved : (ss : List ClientSession) → Apart (written (ops_in ss)) → WriteOnce (txns_in (resolved ss))
+unfolding resolved
+once_resolved ss h = once_settled (taken ss) ss h
 
 pub WriteOnce-filter : (p : Transaction → Bool) (ts : List Transaction) → WriteOnce ts → WriteOnce (filter p ts)
 WriteOnce-filter p [] h = tt

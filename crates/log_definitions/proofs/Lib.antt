@@ -1,9 +1,17 @@
+pub mod Members
+pub mod Settled
 pub mod Keys
 pub mod Nodes
 pub mod Renaming
+pub mod Taken
+pub mod Renumbered
+pub mod Dropped
+pub mod Chosen
+pub mod OnlyTaken
 pub mod Scanning
 pub mod Identities
 pub mod Together
+pub mod FewNodes
 pub mod Numbered
 pub mod Accepted
 pub mod Refused

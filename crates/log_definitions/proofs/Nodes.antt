@@ -1,4 +1,4 @@
--- The operations of the nodes are those of the committed transactions.
+-- The operations of the nodes are those of the transactions that count as committed.
 use Rattle.std.proofs.Common.{◌≡◌, ℕ, zero, suc, ◌+◌, Bool, List, [], ◌∷◌, ◌++◌, length, Option, Some, None, refl, sym, ap, ◌∙◌, subst, inl, inr}
 use Rattle.std.specs.Prelude.{map, slice_get}
 use Rattle.std.specs.List.{filter, flat_map, enumerate_from, AllByRecursion}
@@ -10,15 +10,13 @@ use Rattle.std.proofs.lemmas.Option.{slice_get-map}
 use Rattle.session_log.specs.Text.{ClientSession, Transaction}
 use Rattle.session_log.specs.declared.session.Op.{Op}
 use Rattle.serializability.proofs.Places.{length_mapped, each_of_flat_map}
-use Rattle.log_definitions.specs.WellFormed.{txns_in, ops_in, is_committed}
+use Rattle.log_definitions.specs.Unknown.{txns_in, ops_in, is_committed, resolved}
 use Rattle.log_definitions.specs.Serial.{Committed, committed_of, committed_in, node_of, ops_of}
+use Rattle.log_definitions.proofs.Settled.{txn_ops, ops_resolved}
 
-abbrev pub txn_ops : Transaction → List Op
-txn_ops t = t.ops
-
--- the committed transactions
+-- the transactions that count as committed
 abbrev pub kept_in : List ClientSession → List Transaction
-kept_in ss = filter is_committed (txns_in ss)
+kept_in ss = filter is_committed (txns_in (resolved ss))
 
 numbered_ops : (number n : ℕ) (ts : List Transaction) → map (λ (c : Committed). c.ops) (map (λ (p : ℕ × Transaction). record { session = number; place = p.0; ops = p.1.ops }) (filter (λ (p : ℕ × Transaction). is_committed p.1) (enumerate_from n ts))) ≡ map txn_ops (filter is_committed ts)
 numbered_ops number n [] = refl
@@ -27,15 +25,18 @@ numbered_ops number n (t ∷ ts) = elim (cases_Bool (is_committed t)) [
   | inr e ↦ rw e (numbered_ops number (n + 1) ts)
 ]
 
-committed_ops : (ss : List ClientSession) → map (λ (c : Committed). c.ops) (committed_in ss) ≡ map txn_ops (kept_in ss)
-unfolding committed_in
-committed_ops [] = refl
-committed_ops (s ∷ ss) =
+pub ops_of_each : (ss : List ClientSession) → map (λ (c : Committed). c.ops) (flat_map committed_of ss) ≡ map txn_ops (filter is_committed (txns_in ss))
+ops_of_each [] = refl
+ops_of_each (s ∷ ss) =
     map-append (λ (c : Committed). c.ops) (committed_of s) (flat_map committed_of ss)
     ∙ ap (λ l. l ++ map (λ (c : Committed). c.ops) (flat_map committed_of ss)) (numbered_ops s.number 1 s.txns)
-    ∙ ap (λ l. map txn_ops (filter is_committed s.txns) ++ l) (committed_ops ss)
-    ∙ sym (map-append txn_ops (filter is_committed s.txns) (kept_in ss))
+    ∙ ap (λ l. map txn_ops (filter is_committed s.txns) ++ l) (ops_of_each ss)
+    ∙ sym (map-append txn_ops (filter is_committed s.txns) (filter is_committed (txns_in ss)))
     ∙ ap (map txn_ops) (sym (filter-append is_committed s.txns (txns_in ss)))
+
+committed_ops : (ss : List ClientSession) → map (λ (c : Committed). c.ops) (committed_in ss) ≡ map txn_ops (kept_in ss)
+unfolding committed_in
+committed_ops ss = ops_of_each (resolved ss)
 
 pub committed_count : (ss : List ClientSession) → length (committed_in ss) ≡ length (kept_in ss)
 committed_count ss =
@@ -70,13 +71,14 @@ each_at P [] i x h e = cc
 each_at P (y ∷ ys) zero x h e = let same : y ≡ x = cc in subst P same h.0
 each_at P (y ∷ ys) (suc i) x h e = each_at P ys i x h.1 e
 
-each_op_at : (P : Op → Type 0) (o : Option Transaction) → ((t : Transaction) → o ≡ Some t → AllByRecursion P t.ops) → AllByRecursion P (option_map_or txn_ops o [])
-each_op_at P None h = tt
-each_op_at P (Some t) h = h t refl
+pub each_op_at : {X : Type 0} (P : Op → Type 0) (ops : X → List Op) (o : Option X) → ((x : X) → o ≡ Some x → AllByRecursion P (ops x)) → AllByRecursion P (option_map_or ops o [])
+each_op_at P ops None h = tt
+each_op_at P ops (Some x) h = h x refl
 
 pub each_op : (P : Op → Type 0) (ss : List ClientSession) → AllByRecursion P (ops_in ss) → (v : ℕ) → AllByRecursion P (ops_of ss v)
 each_op P ss h zero = subst (AllByRecursion P) (sym (no_ops ss)) tt
 each_op P ss h (suc i) =
     let Q : Transaction → Type 0 = λ t. AllByRecursion P t.ops in
-    let kept = each_kept Q is_committed (txns_in ss) (each_of_flat_map P txn_ops (txns_in ss) h) in
-    subst (AllByRecursion P) (sym (node_ops ss i)) (each_op_at P (slice_get (kept_in ss) i) (λ t e. each_at Q (kept_in ss) i t kept e))
+    let all = subst (AllByRecursion P) (sym (ops_resolved ss)) h in
+    let kept = each_kept Q is_committed (txns_in (resolved ss)) (each_of_flat_map P txn_ops (txns_in (resolved ss)) all) in
+    subst (AllByRecursion P) (sym (node_ops ss i)) (each_op_at P txn_ops (slice_get (kept_in ss) i) (λ t e. each_at Q (kept_in ss) i t kept e))

@@ -11,14 +11,17 @@ use Rattle.session_log.specs.declared.session.Outcome.TheVariants.{Commit}
 use Rattle.serializability.specs.declared.event.Event.{Event}
 use Rattle.serializability.specs.declared.event.Event.TheVariants.{Read, Write}
 use Rattle.serializability.specs.Reads.{IsNumbered}
-use Rattle.serializability.proofs.Places.{Apart-from_IsDistinct, each_from_flat_map, each_from_filter}
-use Rattle.log_definitions.specs.WellFormed.{keys_in, key_of, txns_in, ops_in, written, is_committed}
+use Rattle.serializability.proofs.Places.{Apart-from_IsDistinct, each_of_flat_map, each_from_flat_map, each_from_filter}
+use Rattle.log_definitions.specs.Unknown.{txns_in, ops_in, is_committed, resolved}
+use Rattle.log_definitions.specs.WellFormed.{keys_in, key_of, written}
 use Rattle.log_definitions.specs.Serial.{committed_in, ops_of}
 use Rattle.log_definitions.specs.Numbers.{events_of, aborted_in, log_of, IsWellFormedList}
+use Rattle.log_definitions.proofs.Members.{each_weaker}
 use Rattle.log_definitions.proofs.Keys.{Listed, all_listed, number_below}
-use Rattle.log_definitions.proofs.Nodes.{txn_ops, kept_in, committed_count, node_ops, each_op, each_at}
+use Rattle.log_definitions.proofs.Settled.{txn_ops, ops_resolved}
+use Rattle.log_definitions.proofs.Nodes.{kept_in, committed_count, node_ops, each_op, each_at}
 use Rattle.log_definitions.proofs.Scanning.{rules_where_no_fault}
-use Rattle.log_definitions.proofs.Identities.{WriteOnce, WriteOnce-from_Apart, WriteOnce-filter, apart_at, one_writer, parts_apart, Has_written, same_write, none_written, contained_at}
+use Rattle.log_definitions.proofs.Identities.{WriteOnce, once_resolved, WriteOnce-filter, apart_at, one_writer, parts_apart, Has_written, same_write, none_written, contained_at}
 use Rattle.log_definitions.proofs.Together.{together}
 
 -- ---- what holds of each event of a node
@@ -52,21 +55,17 @@ all_ops_legal : (ss : List ClientSession) → AllByRecursion IsLegal ss → AllB
 all_ops_legal ss h =
     each_from_flat_map IsLegalOp txn_ops (txns_in ss) (each_from_flat_map IsLegalTxn (λ (s : ClientSession). s.txns) ss (all_txns_legal ss h))
 
--- ---- what holds of each event of an aborted transaction
+-- ---- what holds of each event of a transaction that counts as aborted
 all_nonzero : (keys : List (List ℕ)) (ts : List Transaction) → AllByRecursion IsLegalTxn ts → AllByRecursion (AllByRecursion Nonzero) (map (events_of keys) (map txn_ops ts))
 all_nonzero keys [] h = tt
 all_nonzero keys (t ∷ ts) h = (writes_nonzero keys t.ops h.0, all_nonzero keys ts h.1)
 
 legal_kept : (p : Transaction → Bool) (ts : List Transaction) → AllByRecursion IsLegalTxn ts → AllByRecursion IsLegalTxn (filter p ts)
-legal_kept p ts h = each_from_filter IsLegalTxn p ts (each_weaker ts h)
-  where
-    each_weaker : (ts : List Transaction) → AllByRecursion IsLegalTxn ts → AllByRecursion (λ t. p t ≡ true → IsLegalTxn t) ts
-    each_weaker [] h = tt
-    each_weaker (t ∷ ts) h = ((λ _. h.0), each_weaker ts h.1)
+legal_kept p ts h = each_from_filter IsLegalTxn p ts (each_weaker IsLegalTxn (λ t. p t ≡ true → IsLegalTxn t) (λ t legal _. legal) ts h)
 
-aborted_legal : (ss : List ClientSession) → AllByRecursion IsLegal ss → AllByRecursion IsLegalTxn (filter (λ t. not (is_committed t)) (txns_in ss))
-aborted_legal ss h = legal_kept (λ t. not (is_committed t)) (txns_in ss)
-    (each_from_flat_map IsLegalTxn (λ (s : ClientSession). s.txns) ss (all_txns_legal ss h))
+aborted_legal : (ss : List ClientSession) → AllByRecursion IsLegal ss → AllByRecursion IsLegalTxn (filter (λ t. not (is_committed t)) (txns_in (resolved ss)))
+aborted_legal ss h = legal_kept (λ t. not (is_committed t)) (txns_in (resolved ss))
+    (each_of_flat_map IsLegalOp txn_ops (txns_in (resolved ss)) (subst (AllByRecursion IsLegalOp) (sym (ops_resolved ss)) (all_ops_legal ss h)))
 
 -- ---- the transaction of a node
 record IsNode (ss : List ClientSession) (v : ℕ) : Type 0 where
@@ -97,9 +96,10 @@ events_at ss v n = ap (events_of (keys_in ss)) n.has
 pub numbered : (ss : List ClientSession) → IsWellFormedList ss → IsNumbered (log_of ss)
 unfolding log_of
 numbered ss h =
-    let rules = rules_where_no_fault ss h.sessions in
-    let once : WriteOnce (txns_in ss) = WriteOnce-from_Apart (txns_in ss) (Apart-from_IsDistinct (written (ops_in ss)) rules.writes) in
-    let kept_once : WriteOnce (kept_in ss) = WriteOnce-filter is_committed (txns_in ss) once in
+    let rules = rules_where_no_fault 1 ss h.sessions in
+    let txns = txns_in (resolved ss) in
+    let once : WriteOnce txns = once_resolved ss (Apart-from_IsDistinct (written (ops_in ss)) rules.writes) in
+    let kept_once : WriteOnce (kept_in ss) = WriteOnce-filter is_committed txns once in
     let keys = keys_in ss in
     record {
       keys = λ v x w before r.
@@ -119,11 +119,11 @@ numbered ss h =
       aborted = λ v x y w before ops p c d.
           let one = node ss v p.0 p.1 in
           let in_one = Has_written keys one.txn.ops ((log_of ss).ops v) before p.2.0 x w (events_at ss v one) p.2.1 in
-          let lacking = each_at _ (kept_in ss) one.place one.txn (parts_apart is_committed (txns_in ss) once) one.stands in
+          let lacking = each_at _ (kept_in ss) one.place one.txn (parts_apart is_committed txns once) one.stands in
           none_written keys y w _ ops (lacking w in_one) c d;
       aborted_nonzero = λ x w ops c d.
           contained_at Nonzero ops d.0 (Write x w)
-          (contained_at (AllByRecursion Nonzero) (map (events_of keys) (aborted_in ss)) c.0 ops (all_nonzero keys (filter (λ t. not (is_committed t)) (txns_in ss)) (aborted_legal ss h.legal)) c.1 c.2)
+          (contained_at (AllByRecursion Nonzero) (map (events_of keys) (aborted_in ss)) c.0 ops (all_nonzero keys (filter (λ t. not (is_committed t)) txns) (aborted_legal ss h.legal)) c.1 c.2)
           d.1 d.2;
       together = together ss (Apart-from_IsDistinct (map (λ s. s.number) ss) rules.sessions);
     }

@@ -11,6 +11,7 @@ use Rattle.serializability.proofs.Places.{each_from_flat_map}
 use Rattle.log_definitions.specs.WellFormed.{keys_in, key_of}
 use Rattle.log_definitions.specs.Serial.{Map, set, initial, Replays, ops_of, IsSerialOrder}
 use Rattle.log_definitions.specs.Numbers.{number_in, event_of, events_of, log_of}
+use Rattle.log_definitions.proofs.Members.{each_member}
 use Rattle.log_definitions.proofs.Keys.{Listed, all_listed, numbers_differ}
 use Rattle.log_definitions.proofs.Nodes.{each_op}
 
@@ -44,11 +45,7 @@ ops_in_order keys ops (v ∷ order) =
 order_listed : (ss : List ClientSession) (order : List ℕ) → AllListed (keys_in ss) (flat_map (ops_of ss) order)
 order_listed ss order =
     let P : Op → Type 0 = λ o. Listed (keys_in ss) (key_of o) in
-    each_from_flat_map P (ops_of ss) order (each_node (each_op P ss (all_listed ss)) order)
-  where
-    each_node : {P : ℕ → Type 0} → ((v : ℕ) → P v) → (order : List ℕ) → AllByRecursion P order
-    each_node h [] = tt
-    each_node h (v ∷ order) = (h v, each_node h order)
+    each_from_flat_map P (ops_of ss) order (each_member (λ v. AllByRecursion P (ops_of ss v)) order (λ v _. each_op P ss (all_listed ss) v))
 
 pub serial_numbered : (ss : List ClientSession) (order : List ℕ) → IsSerialOrder ss order → IsSerial (log_of ss) order
 unfolding log_of

@@ -11,10 +11,11 @@ use Rattle.session_log.specs.declared.line.Line.TheVariants as line
 use Rattle.session_log.specs.declared.session.Op.{Op}
 use Rattle.session_log.specs.declared.session.Op.TheVariants.{Read, Write}
 use Rattle.session_log.specs.declared.session.Outcome.{Outcome}
-use Rattle.session_log.specs.declared.session.Outcome.TheVariants.{Commit, Abort}
+use Rattle.session_log.specs.declared.session.Outcome.TheVariants.{Commit, Abort, Unknown}
 use Rattle.session_log.specs.declared.fault.LogFault.{LogFault}
-use Rattle.log_definitions.specs.WellFormed.{log_lines, sessions_from, writes_from, repeated, session_twice, write_twice, session_fault, write_fault, limit_fault, list_fault, txns_in, ops_in, written, KeepsRules}
-use Rattle.log_definitions.proofs.Nodes.{txn_ops}
+use Rattle.log_definitions.specs.Unknown.{txns_in, ops_in}
+use Rattle.log_definitions.specs.WellFormed.{log_lines, sessions_from, writes_from, repeated, session_twice, write_twice, session_fault, write_fault, limit_fault, list_fault, written, KeepsRules}
+use Rattle.log_definitions.proofs.Settled.{txn_ops}
 
 -- ---- numbers of which none stood before
 abbrev numbers : List (ℕ × ℕ) → List ℕ
@@ -80,6 +81,7 @@ begun n (line.Read k w ∷ ls) = begun (n + 1) ls
 begun n (line.Write k w ∷ ls) = begun (n + 1) ls
 begun n (line.Commit ∷ ls) = begun (n + 1) ls
 begun n (line.Abort ∷ ls) = begun (n + 1) ls
+begun n (line.Unknown ∷ ls) = begun (n + 1) ls
 
 wrote : (n : ℕ) (ls : List Line) → numbers (writes_from n ls) ≡ flat_map writes ls
 wrote n [] = refl
@@ -89,10 +91,12 @@ wrote n (line.Read k w ∷ ls) = wrote (n + 1) ls
 wrote n (line.Write k w ∷ ls) = ap (λ l. w ∷ l) (wrote (n + 1) ls)
 wrote n (line.Commit ∷ ls) = wrote (n + 1) ls
 wrote n (line.Abort ∷ ls) = wrote (n + 1) ls
+wrote n (line.Unknown ∷ ls) = wrote (n + 1) ls
 
 begun_ops : (ops : List Op) (end : Outcome) → flat_map begins (map op_line ops ++ end_line end ∷ []) ≡ []
 begun_ops [] Commit = refl
 begun_ops [] Abort = refl
+begun_ops [] Unknown = refl
 begun_ops (Read k w ∷ ops) end = begun_ops ops end
 begun_ops (Write k w ∷ ops) end = begun_ops ops end
 
@@ -117,6 +121,7 @@ written-append (Write k w ∷ a) b = ap (λ l. w ∷ l) (written-append a b)
 wrote_ops : (ops : List Op) (end : Outcome) → flat_map writes (map op_line ops ++ end_line end ∷ []) ≡ written ops
 wrote_ops [] Commit = refl
 wrote_ops [] Abort = refl
+wrote_ops [] Unknown = refl
 wrote_ops (Read k w ∷ ops) end = wrote_ops ops end
 wrote_ops (Write k w ∷ ops) end = ap (λ l. w ∷ l) (wrote_ops ops end)
 
@@ -137,11 +142,11 @@ wrote_log (s ∷ ss) =
     ∙ sym (written-append (flat_map txn_ops s.txns) (ops_in ss))
     ∙ ap written (sym (flat_map-append txn_ops s.txns (txns_in ss)))
 
-begun_numbers : (ss : List ClientSession) → numbers (sessions_from 1 (log_lines ss)) ≡ map (λ s. s.number) ss
-begun_numbers ss = begun 1 (log_lines ss) ∙ begun_log ss
+begun_numbers : (n : ℕ) (ss : List ClientSession) → numbers (sessions_from n (log_lines ss)) ≡ map (λ s. s.number) ss
+begun_numbers n ss = begun n (log_lines ss) ∙ begun_log ss
 
-written_numbers : (ss : List ClientSession) → numbers (writes_from 1 (log_lines ss)) ≡ written (ops_in ss)
-written_numbers ss = wrote 1 (log_lines ss) ∙ wrote_log ss
+written_numbers : (n : ℕ) (ss : List ClientSession) → numbers (writes_from n (log_lines ss)) ≡ written (ops_in ss)
+written_numbers n ss = wrote n (log_lines ss) ∙ wrote_log ss
 
 -- ---- phase by phase
 neither : (a b : Option LogFault) → option_or a b ≡ None → (a ≡ None) × (b ≡ None)
@@ -166,32 +171,32 @@ within limit n f rest e = go (nat_lt limit n) refl e
 kept : (limit n : ℕ) (f : LogFault) (rest : Option LogFault) → n ≤ limit → cond (nat_lt limit n) (Some f) rest ≡ rest
 kept limit n f rest h = cond-false (nat_lt limit n) (Some f) rest (le-ltb limit n h)
 
-pub rules_where_no_fault : (ss : List ClientSession) → list_fault ss ≡ None → KeepsRules ss
+pub rules_where_no_fault : (n : ℕ) (ss : List ClientSession) → list_fault n ss ≡ None → KeepsRules ss
 unfolding list_fault
-rules_where_no_fault ss e =
-    let outer = neither (session_fault (session_twice (log_lines ss))) _ e in
-    let inner = neither (limit_fault ss) (write_fault (write_twice (log_lines ss))) outer.1 in
+rules_where_no_fault n ss e =
+    let outer = neither (session_fault (session_twice n (log_lines ss))) _ e in
+    let inner = neither (limit_fault ss) (write_fault (write_twice n (log_lines ss))) outer.1 in
     let one = within 200000 _ _ _ inner.0 in
     let two = within 400 _ _ _ one.1 in
     let three = within 10000 _ _ _ two.1 in
-    let numbered = distinct_where_unrepeated [] (sessions_from 1 (log_lines ss)) (no_session _ outer.0) in
-    let identified = distinct_where_unrepeated [] (writes_from 1 (log_lines ss)) (no_write _ inner.1) in
+    let numbered = distinct_where_unrepeated [] (sessions_from n (log_lines ss)) (no_session _ outer.0) in
+    let identified = distinct_where_unrepeated [] (writes_from n (log_lines ss)) (no_write _ inner.1) in
     record {
-      sessions = subst (IsDistinct nat_eq) (begun_numbers ss) numbered.1;
-      writes = subst (IsDistinct nat_eq) (written_numbers ss) identified.1;
+      sessions = subst (IsDistinct nat_eq) (begun_numbers n ss) numbered.1;
+      writes = subst (IsDistinct nat_eq) (written_numbers n ss) identified.1;
       operations = one.0;
       committed = two.0;
       keys = three.0;
     }
 
-pub no_fault_where_rules : (ss : List ClientSession) → KeepsRules ss → list_fault ss ≡ None
+pub no_fault_where_rules : (n : ℕ) (ss : List ClientSession) → KeepsRules ss → list_fault n ss ≡ None
 unfolding list_fault
-no_fault_where_rules ss h =
-    let sessions : session_twice (log_lines ss) ≡ None =
-    unrepeated_where_distinct [] (sessions_from 1 (log_lines ss)) (none_seen _) (subst (IsDistinct nat_eq) (sym (begun_numbers ss)) h.sessions) in
-    let writes : write_twice (log_lines ss) ≡ None =
-    unrepeated_where_distinct [] (writes_from 1 (log_lines ss)) (none_seen _) (subst (IsDistinct nat_eq) (sym (written_numbers ss)) h.writes) in
+no_fault_where_rules n ss h =
+    let sessions : session_twice n (log_lines ss) ≡ None =
+    unrepeated_where_distinct [] (sessions_from n (log_lines ss)) (none_seen _) (subst (IsDistinct nat_eq) (sym (begun_numbers n ss)) h.sessions) in
+    let writes : write_twice n (log_lines ss) ≡ None =
+    unrepeated_where_distinct [] (writes_from n (log_lines ss)) (none_seen _) (subst (IsDistinct nat_eq) (sym (written_numbers n ss)) h.writes) in
     let limits : limit_fault ss ≡ None = kept 200000 _ _ _ h.operations ∙ kept 400 _ _ _ h.committed ∙ kept 10000 _ _ _ h.keys in
-    ap (λ o. option_or (session_fault o) (option_or (limit_fault ss) (write_fault (write_twice (log_lines ss))))) sessions
-    ∙ ap (λ o. option_or o (write_fault (write_twice (log_lines ss)))) limits
+    ap (λ o. option_or (session_fault o) (option_or (limit_fault ss) (write_fault (write_twice n (log_lines ss))))) sessions
+    ∙ ap (λ o. option_or o (write_fault (write_twice n (log_lines ss)))) limits
     ∙ ap write_fault writes

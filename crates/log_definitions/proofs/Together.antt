@@ -7,8 +7,9 @@ use Rattle.std.proofs.lemmas.List.{map-append}
 use Rattle.std.proofs.lemmas.Option.{slice_get-map, unwrap_or-slice_get}
 use Rattle.session_log.specs.Text.{ClientSession, Transaction}
 use Rattle.serializability.proofs.Places.{Has, Apart, Has-append_cases, length_mapped}
-use Rattle.log_definitions.specs.WellFormed.{is_committed}
+use Rattle.log_definitions.specs.Unknown.{is_committed, resolved}
 use Rattle.log_definitions.specs.Serial.{Committed, committed_of, committed_in, node_of, session_of}
+use Rattle.log_definitions.proofs.Settled.{numbers_resolved}
 
 -- ---- lists of numbers whose equal elements lie together
 abbrev Grouped : List ℕ → Type 0
@@ -52,25 +53,27 @@ of_group number n [] h k = absurd k
 of_group number n (x ∷ xs) h (inl e) = sym h.0 ∙ e
 of_group number n (x ∷ xs) h (inr k) = of_group number n xs h.1 k
 
-numbers-cons : (s : ClientSession) (ss : List ClientSession) → session_numbers (committed_in (s ∷ ss)) ≡ session_numbers (committed_of s) ++ session_numbers (committed_in ss)
-unfolding committed_in
+abbrev node_numbers : List ClientSession → List ℕ
+node_numbers ss = session_numbers (flat_map committed_of ss)
+
+numbers-cons : (s : ClientSession) (ss : List ClientSession) → node_numbers (s ∷ ss) ≡ session_numbers (committed_of s) ++ node_numbers ss
 numbers-cons s ss = map-append (λ (c : Committed). c.session) (committed_of s) (flat_map committed_of ss)
 
-numbers-nil : session_numbers (committed_in []) ≡ []
-unfolding committed_in
-numbers-nil = refl
-
-a_session : (n : ℕ) (ss : List ClientSession) → Has n (session_numbers (committed_in ss)) → Has n (map (λ s. s.number) ss)
-a_session n [] h = subst (Has n) numbers-nil h
-a_session n (s ∷ ss) h = elim (Has-append_cases n (session_numbers (committed_of s)) (session_numbers (committed_in ss)) (subst (Has n) (numbers-cons s ss) h)) [
+a_session : (n : ℕ) (ss : List ClientSession) → Has n (node_numbers ss) → Has n (map (λ s. s.number) ss)
+a_session n [] h = h
+a_session n (s ∷ ss) h = elim (Has-append_cases n (session_numbers (committed_of s)) (node_numbers ss) (subst (Has n) (numbers-cons s ss) h)) [
   | inl k ↦ inl (of_group s.number n (session_numbers (committed_of s)) (committed_numbers s) k)
   | inr k ↦ inr (a_session n ss k)
 ]
 
+each_grouped : (ss : List ClientSession) → Apart (map (λ s. s.number) ss) → Grouped (node_numbers ss)
+each_grouped [] h = λ i j k ij jk lt e. absurd (omega arith)
+each_grouped (s ∷ ss) h =
+    subst Grouped (sym (numbers-cons s ss)) (Grouped-append s.number (session_numbers (committed_of s)) (node_numbers ss) (committed_numbers s) (λ k. h.0 (a_session s.number ss k)) (each_grouped ss h.1))
+
 grouped : (ss : List ClientSession) → Apart (map (λ s. s.number) ss) → Grouped (session_numbers (committed_in ss))
-grouped [] h = subst Grouped (sym numbers-nil) (λ i j k ij jk lt e. absurd (omega arith))
-grouped (s ∷ ss) h =
-    subst Grouped (sym (numbers-cons s ss)) (Grouped-append s.number (session_numbers (committed_of s)) (session_numbers (committed_in ss)) (committed_numbers s) (λ k. h.0 (a_session s.number ss k)) (grouped ss h.1))
+unfolding committed_in
+grouped ss h = each_grouped (resolved ss) (subst Apart (sym (numbers_resolved ss)) h)
 
 map_or-unwrap : {A : Type 0} (f : A → ℕ) (o : Option A) → option_map_or f o 0 ≡ unwrap_or (option_map f o) 0
 map_or-unwrap f None = refl

@@ -1,3 +1,4 @@
+pub mod Unknown
 pub mod WellFormed
 pub mod Serial
 pub mod Numbers

@@ -12,7 +12,8 @@ use Rattle.serializability.specs.Log.{Log}
 use Rattle.serializability.specs.Formula.{Cnf}
 use Rattle.serializability.specs.Plain.{plain, contradiction}
 use Rattle.serializability.specs.Anomalies.{anomaly_of}
-use Rattle.log_definitions.specs.WellFormed.{keys_in, is_committed, txns_in, list_fault}
+use Rattle.log_definitions.specs.Unknown.{is_committed, txns_in, resolved}
+use Rattle.log_definitions.specs.WellFormed.{keys_in, list_fault}
 use Rattle.log_definitions.specs.Serial.{committed_in, session_of, ops_of}
 
 -- the number of a key among these
@@ -26,9 +27,9 @@ event_of keys (op.Write key wid) = Write (number_in keys key) wid
 abbrev pub events_of : List (List ℕ) → List Op → List Event
 events_of keys ops = map (event_of keys) ops
 
--- the operations of each aborted transaction
+-- the operations of each transaction that counts as aborted
 abbrev pub aborted_in : List ClientSession → List (List Op)
-aborted_in ss = map (λ t. t.ops) (filter (λ t. not (is_committed t)) (txns_in ss))
+aborted_in ss = map (λ t. t.ops) (filter (λ t. not (is_committed t)) (txns_in (resolved ss)))
 
 -- the log of these sessions by its nodes
 unfoldable pub log_of : List ClientSession → Log
@@ -40,10 +41,11 @@ log_of ss = record {
   aborted = map (events_of (keys_in ss)) (aborted_in ss);
 }
 
--- sessions that are those of a well-formed log, but for the size of its text
+-- Sessions that are those of a well-formed log, but for the size of its text. That they have no fault from line 1 on is that they
+-- have none from any line (the law fault_from_any_line), so that this holds of the sessions of each version.
 pub record IsWellFormedList (ss : List ClientSession) : Type 0 where
   pub legal : AllByRecursion IsLegal ss
-  pub sessions : list_fault ss ≡ None
+  pub sessions : list_fault 1 ss ≡ None
 
 -- the plain formula of a log without an anomaly, and else the contradiction
 abbrev pub formula_where : Option Anomaly → Log → Cnf

@@ -1,5 +1,5 @@
--- The committed transactions of a log, replay on a plain map from keys to identities, and serial orders.
-use Rattle.std.specs.Prelude.{◌≡◌, ℕ, zero, suc, ◌<◌, ◌≤◌, if◌then◌else◌, List, [], ◌∷◌, length, slice_get, Option, None}
+-- The nodes of a log, replay on a plain map from keys to identities, and serial orders.
+use Rattle.std.specs.Prelude.{◌≡◌, ℕ, zero, suc, ◌<◌, ◌≤◌, if◌then◌else◌, List, [], ◌∷◌, length, slice_get, Bool, Option, None}
 use Rattle.std.specs.List.{flat_map, filter, enumerate_from}
 use Rattle.std.specs.Option.{option_map_or}
 use Rattle.std.specs.Prelude.{map}
@@ -8,11 +8,11 @@ use Rattle.session_log.specs.Text.{ClientSession}
 use Rattle.session_log.specs.declared.session.Op.{Op}
 use Rattle.session_log.specs.declared.session.Op.TheVariants.{Read, Write}
 use Rattle.serializability.specs.Replay.{Before, ListsOnce}
-use Rattle.log_definitions.specs.WellFormed.{is_committed}
+use Rattle.log_definitions.specs.Unknown.{is_committed, resolved, settled}
 
--- ---- the committed transactions
+-- ---- the nodes: the committed transactions, and those of unknown outcome that were taken
 
--- a committed transaction: the number of its session, its place in the session from 1, aborted ones counted, and its operations
+-- a node: the number of its session, its place in the session from 1, every transaction counted, and its operations
 pub record Committed : Type 0 where
   pub session : ℕ
   pub place : ℕ
@@ -25,7 +25,7 @@ committed_of s =
 
 -- by session in log order, then by place in the session
 unfoldable pub committed_in : List ClientSession → List Committed
-committed_in ss = flat_map committed_of ss
+committed_in ss = flat_map committed_of (resolved ss)
 
 -- node i, from 1, is the i-th of them; node 0 is none of them
 abbrev pub node_in : List Committed → ℕ → Option Committed
@@ -62,8 +62,13 @@ Replays map (Write key wid ∷ ops) = Replays (set map key wid) ops
 -- ---- serial orders
 
 -- The order lists nodes 1 to n once each, keeps each session's order, and its replay, transaction by transaction with nothing
--- in between, meets every read.
+-- in between, meets every read. So of the transactions of unknown outcome it lists exactly the taken ones.
 pub record IsSerialOrder (ss : List ClientSession) (order : List ℕ) : Type 0 where
   pub once : ListsOnce (length (committed_in ss)) order
   pub sessions : (a b : ℕ) → 0 < a → a < b → b ≤ length (committed_in ss) → session_of ss a ≡ session_of ss b → Before order a b
   pub reads : Replays initial (flat_map (ops_of ss) order)
+
+-- An order of the committed and some unknown transactions: these count as committed, and the other unknown ones as aborted.
+pub record IsSomeOrder (ss : List ClientSession) (order : List ℕ) : Type 0 where
+  pub chosen : ℕ → Bool
+  pub serial : IsSerialOrder (settled chosen ss) order

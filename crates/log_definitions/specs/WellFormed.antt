@@ -1,15 +1,14 @@
 -- What makes the text of legal sessions a well-formed log, and which fault is meant where several stand.
-use Rattle.std.specs.Prelude.{◌≡◌, ℕ, ◌+◌, ◌≤◌, Bool, true, false, if◌then◌else◌, nat_lt, nat_eq, List, [], ◌∷◌, ◌++◌, length, map, count_by, Option, Some, None}
+use Rattle.std.specs.Prelude.{◌≡◌, ℕ, ◌+◌, ◌≤◌, Bool, ◌&&◌, not, if◌then◌else◌, nat_lt, nat_eq, List, [], ◌∷◌, ◌++◌, length, map, count_by, Option, Some, None}
 use Rattle.std.specs.List.{flat_map, list_any, AllByRecursion, IsDistinct}
 use Rattle.std.specs.Option.{option_or}
 use Rattle.std.specs.Str.{bytes_eq}
-use Rattle.session_log.specs.Text.{ClientSession, Transaction, IsLegal, session_lines, log_text}
+use Rattle.session_log.specs.Text.{ClientSession, Transaction, IsLegal, IsHeldBy, session_lines, log_text}
+use Rattle.session_log.specs.Version.{first_line, version_of}
 use Rattle.session_log.specs.Blocks.{size_fault}
 use Rattle.session_log.specs.Faults.{grammar_fault}
 use Rattle.session_log.specs.declared.session.Op.{Op}
 use Rattle.session_log.specs.declared.session.Op.TheVariants.{Read, Write}
-use Rattle.session_log.specs.declared.session.Outcome.{Outcome}
-use Rattle.session_log.specs.declared.session.Outcome.TheVariants.{Commit, Abort}
 use Rattle.session_log.specs.declared.line.Line.{Line}
 use Rattle.session_log.specs.declared.line.Line.TheVariants as line
 use Rattle.session_log.specs.declared.fault.Limit.TheVariants as limit
@@ -17,6 +16,7 @@ use Rattle.session_log.specs.declared.fault.LogFault.{LogFault}
 use Rattle.session_log.specs.declared.fault.LogFault.TheVariants.{SessionTwice, WriteTwice, OverLimit, Memory}
 use Rattle.serializability.specs.declared.node.TheConstants.{MAX_NODES}
 use Rattle.session_log.specs.declared.limits.TheConstants.{MAX_KEYS, MAX_OPERATIONS}
+use Rattle.log_definitions.specs.Unknown.{txns_in, ops_in, is_committed, is_unknown}
 
 -- the lines of a log, by their forms
 abbrev pub log_lines : List ClientSession → List Line
@@ -39,18 +39,11 @@ abbrev pub repeated : List ℕ → List (ℕ × ℕ) → Option ℕ
 repeated seen [] = None
 repeated seen (x ∷ xs) = if list_any (nat_eq x.1) seen then Some x.0 else repeated (seen ++ x.1 ∷ []) xs
 
-abbrev pub session_twice : List Line → Option ℕ
-session_twice ls = repeated [] (sessions_from 1 ls)
+abbrev pub session_twice : ℕ → List Line → Option ℕ
+session_twice n ls = repeated [] (sessions_from n ls)
 
-abbrev pub write_twice : List Line → Option ℕ
-write_twice ls = repeated [] (writes_from 1 ls)
-
--- the transactions, and the operations of all of them
-abbrev pub txns_in : List ClientSession → List Transaction
-txns_in ss = flat_map (λ s. s.txns) ss
-
-abbrev pub ops_in : List ClientSession → List Op
-ops_in ss = flat_map (λ t. t.ops) (txns_in ss)
+abbrev pub write_twice : ℕ → List Line → Option ℕ
+write_twice n ls = repeated [] (writes_from n ls)
 
 abbrev pub key_of : Op → List ℕ
 key_of (Read key wid) = key
@@ -65,17 +58,14 @@ first_seen seen (key ∷ keys) = first_seen (if list_any (bytes_eq key) seen the
 unfoldable pub keys_in : List ClientSession → List (List ℕ)
 keys_in ss = first_seen [] (map key_of (ops_in ss))
 
-abbrev pub is_commit : Outcome → Bool
-is_commit Commit = true
-is_commit Abort = false
-
-abbrev pub is_committed : Transaction → Bool
-is_committed t = is_commit t.outcome
+-- the log says that the transaction was aborted; the others may be nodes
+abbrev pub is_aborted : Transaction → Bool
+is_aborted t = not (is_committed t) && not (is_unknown t)
 
 abbrev pub limit_fault : List ClientSession → Option LogFault
 limit_fault ss =
     if nat_lt MAX_OPERATIONS (length (ops_in ss)) then Some (OverLimit limit.Operations) else
-    (if nat_lt MAX_NODES (count_by is_committed (txns_in ss)) then Some (OverLimit limit.Committed) else
+    (if nat_lt MAX_NODES (count_by (λ t. not (is_aborted t)) (txns_in ss)) then Some (OverLimit limit.Committed) else
     (if nat_lt MAX_KEYS (length (keys_in ss)) then Some (OverLimit limit.Keys) else None))
 
 abbrev pub session_fault : Option ℕ → Option LogFault
@@ -86,24 +76,26 @@ abbrev pub write_fault : Option ℕ → Option LogFault
 write_fault None = None
 write_fault (Some n) = Some (WriteTwice n)
 
--- the first fault of legal sessions: a session number that stood before, then a limit, then an identity that was written before
-unfoldable pub list_fault : List ClientSession → Option LogFault
-list_fault ss =
-    option_or (session_fault (session_twice (log_lines ss))) (option_or (limit_fault ss) (write_fault (write_twice (log_lines ss))))
+-- the first fault of legal sessions, whose text begins at line n: a session number that stood before, then a limit, then an
+-- identity that was written before
+unfoldable pub list_fault : ℕ → List ClientSession → Option LogFault
+list_fault n ss =
+    option_or (session_fault (session_twice n (log_lines ss))) (option_or (limit_fault ss) (write_fault (write_twice n (log_lines ss))))
 
--- a well-formed log, and the sessions that it holds
+-- a well-formed log, which tells its version, and the sessions that it holds
 pub record IsWellFormed (text : List ℕ) (ss : List ClientSession) : Type 0 where
   pub legal : AllByRecursion IsLegal ss
-  pub lines : text ≡ log_text ss
+  pub held : AllByRecursion (IsHeldBy (version_of text)) ss
+  pub lines : text ≡ log_text (version_of text) ss
   pub size : size_fault text ≡ None
-  pub sessions : list_fault ss ≡ None
+  pub sessions : list_fault (first_line (version_of text)) ss ≡ None
 
 -- which fault a log is refused with: memory, or the first of those of the size, of the grammar and of the sessions
 pub data IsLogFault (text : List ℕ) : LogFault → Type 0 where
   memory : IsLogFault text Memory
   size : (f : LogFault) → size_fault text ≡ Some f → IsLogFault text f
   grammar : (f : LogFault) → size_fault text ≡ None → grammar_fault text ≡ Some f → IsLogFault text f
-  list : (f : LogFault) (ss : List ClientSession) → size_fault text ≡ None → AllByRecursion IsLegal ss → text ≡ log_text ss → list_fault ss ≡ Some f → IsLogFault text f
+  list : (f : LogFault) (ss : List ClientSession) → size_fault text ≡ None → AllByRecursion IsLegal ss → AllByRecursion (IsHeldBy (version_of text)) ss → text ≡ log_text (version_of text) ss → list_fault (first_line (version_of text)) ss ≡ Some f → IsLogFault text f
 
 -- the identities that operations write
 abbrev pub written : List Op → List ℕ
@@ -111,10 +103,10 @@ written [] = []
 written (Read key wid ∷ ops) = written ops
 written (Write key wid ∷ ops) = wid ∷ written ops
 
--- no two sessions have one number, no two writes one identity (aborted transactions included), and the limits are kept
+-- no two sessions have one number, no two writes one identity (those of every outcome), and the limits are kept
 pub record KeepsRules (ss : List ClientSession) : Type 0 where
   pub sessions : IsDistinct nat_eq (map (λ s. s.number) ss)
   pub writes : IsDistinct nat_eq (written (ops_in ss))
   pub operations : length (ops_in ss) ≤ MAX_OPERATIONS
-  pub committed : count_by is_committed (txns_in ss) ≤ MAX_NODES
+  pub committed : count_by (λ t. not (is_aborted t)) (txns_in ss) ≤ MAX_NODES
   pub keys : length (keys_in ss) ≤ MAX_KEYS

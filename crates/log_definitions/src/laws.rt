@@ -1,13 +1,17 @@
 //! Laws of the definitions, each the contract of a function that does nothing.
 
-ghost use Rattle.std.specs.Prelude.{◌≡◌, ◌≢◌, ◌↔◌, ℕ, List, None};
+ghost use Rattle.std.specs.Prelude.{◌≡◌, ◌≢◌, ◌↔◌, ℕ, ◌≤◌, Bool, IsTrue, List, None};
+ghost use Rattle.std.specs.List.{AllByRecursion};
 ghost use Rattle.session_log.specs.Text.{ClientSession};
+ghost use Rattle.session_log.specs.declared.session.Outcome.TheVariants.{Unknown};
 ghost use Rattle.session_log.specs.declared.fault.LogFault.{LogFault};
 ghost use Rattle.session_log.specs.declared.fault.LogFault.TheVariants.{Memory};
+ghost use Rattle.serializability.specs.declared.node.TheConstants.{MAX_NODES};
 ghost use Rattle.serializability.specs.Replay.{IsSerial};
 ghost use Rattle.serializability.specs.Reads.{IsNumbered};
+ghost use Rattle.log_definitions.specs.Unknown.{IsClosed, IsNeeded, IsWithin, settled, taken, resolved, txns_in};
 ghost use Rattle.log_definitions.specs.WellFormed.{IsWellFormed, IsLogFault, KeepsRules, list_fault};
-ghost use Rattle.log_definitions.specs.Serial.{IsSerialOrder};
+ghost use Rattle.log_definitions.specs.Serial.{IsSerialOrder, IsSomeOrder};
 ghost use Rattle.log_definitions.specs.Numbers.{IsWellFormedList, log_of};
 
 /// A log that has a fault other than memory has no sessions that make it well-formed.
@@ -41,5 +45,47 @@ pub fn numbered_where_well_formed()
 
 /// Sessions have no fault exactly where they keep each of the rules.
 pub fn distinct_in_words()
-    ensures { (ss : List ClientSession) → (list_fault ss ≡ None ↔ KeepsRules ss) }
+    ensures { (ss : List ClientSession) → (list_fault 1 ss ≡ None ↔ KeepsRules ss) }
+{}
+
+/// A well-formed log has no more nodes than the limit allows.
+pub fn nodes_within_limit()
+    ensures { (ss : List ClientSession) → IsWellFormedList ss → (log_of ss).nodes ≤ MAX_NODES }
+{}
+
+/// Sessions have a fault from one line on exactly where they have one from another.
+pub fn fault_from_any_line()
+    ensures { (n m : ℕ) (ss : List ClientSession) → (list_fault n ss ≡ None ↔ list_fault m ss ≡ None) }
+{}
+
+/// Sessions whose outcomes were all learnt stay as they are, and so do settled ones.
+pub fn learnt_outcomes_stay()
+    ensures learnt { (ss : List ClientSession) → AllByRecursion (λ t. t.outcome ≢ Unknown) (txns_in ss) → resolved ss ≡ ss }
+    ensures settled { (chosen : ℕ → Bool) (ss : List ClientSession) → resolved (settled chosen ss) ≡ settled chosen ss }
+{}
+
+/// The taken transactions count as committed. They hold each one that is needed, and every set that does so holds them.
+pub fn taken_are_least()
+    ensures resolved { (ss : List ClientSession) → resolved ss ≡ settled (taken ss) ss }
+    ensures closed { (ss : List ClientSession) → IsClosed ss (taken ss) }
+    ensures least { (ss : List ClientSession) (chosen : ℕ → Bool) → IsClosed ss chosen → IsWithin (taken ss) chosen }
+{}
+
+/// What is needed beside taken transactions is taken too.
+pub fn needed_are_taken()
+    ensures { (ss : List ClientSession) (chosen : ℕ → Bool) (n : ℕ) →
+        IsWithin chosen (taken ss) → IsNeeded ss chosen n → IsTrue (taken ss n) }
+{}
+
+/// Taken transactions beside which nothing is needed are all of them.
+pub fn closed_are_all_taken()
+    ensures { (ss : List ClientSession) (chosen : ℕ → Bool) →
+        IsWithin chosen (taken ss) → IsClosed ss chosen → settled chosen ss ≡ resolved ss }
+{}
+
+/// Some order of the committed transactions and of some whose outcome was not learnt is serial exactly where some order of the
+/// committed and the taken ones is.
+pub fn only_the_taken()
+    ensures { (ss : List ClientSession) → IsWellFormedList ss →
+        (((order : List ℕ) × IsSomeOrder ss order) ↔ ((order : List ℕ) × IsSerialOrder ss order)) }
 {}

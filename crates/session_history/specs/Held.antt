@@ -3,11 +3,14 @@ use Rattle.std.specs.Prelude.{◌≡◌, ℕ, ◌<◌, List, Option, map}
 use Rattle.std.specs.List.{filter_map, list_any}
 use Rattle.std.specs.Option.{option_map}
 use Rattle.std.specs.BTreeMap.{get}
+use Rattle.std.specs.BTreeSet.{contains}
+use Rattle.std.specs.Ordering.{nat_cmp}
 use Rattle.session_log.specs.Text.{ClientSession, view}
 use Rattle.serializability.specs.Log.{Log}
 use Rattle.serializability.specs.Reads.{external_read}
 use Rattle.serializability.specs.Polygraph.{committed}
 use Rattle.serializability.specs.Anomalies.{writes_as}
+use Rattle.log_definitions.specs.Unknown.{taken}
 use Rattle.log_definitions.specs.WellFormed.{keys_in}
 use Rattle.log_definitions.specs.Serial.{Committed, committed_in, node_of}
 use Rattle.log_definitions.specs.Numbers.{log_of, events_of, IsWellFormedList}
@@ -28,7 +31,8 @@ readers_in log x = filter_map (λ v. option_map (λ w. (v, w)) (external_read x 
 abbrev pub row_in : Log → ℕ → RowView
 row_in log x = record { writers = writers_in log x; readers = readers_in log x }
 
--- The table finds each write by its identity: that of a node, the last of its key there, and that of an aborted transaction.
+-- The table finds each write by its identity: that of a node, the last of its key there, and that of a transaction that counts
+-- as aborted.
 pub record FindsWrites (log : Log) (t : Writes) : Type 0 where
   pub nodes : (x w v : ℕ) → 0 < v → is_write x v (entry_of t w) ≡ writes_as x w (log.ops v)
   pub lasts : (x w v : ℕ) → 0 < v → is_last_write x v (entry_of t w) ≡ ends_with x w (log.ops v)
@@ -43,6 +47,7 @@ sessions_of h = map view h.sessions.items
 -- the sessions are those of a well-formed log, and the tables are theirs
 pub record IsHistory (h : Inside) : Type 0 where
   pub sound : IsWellFormedList (sessions_of h)
+  pub taken : (n : ℕ) → contains nat_cmp h.taken n ≡ taken (sessions_of h) n
   pub keys : h.keys.keys ≡ keys_in (sessions_of h)
   pub nodes : map node_view h.nodes.items ≡ map (numbered_node (keys_in (sessions_of h))) (committed_in (sessions_of h))
   pub names : (session place : ℕ) → get name_cmp h.names (session, place) ≡ node_named (sessions_of h) session place

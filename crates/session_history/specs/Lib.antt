@@ -8,3 +8,5 @@ pub mod Sources
 pub mod Naming
 pub mod Held
 pub mod Counted
+pub mod Worklist
+pub mod Tracked

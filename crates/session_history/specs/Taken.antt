@@ -1,13 +1,17 @@
 -- What is kept of transactions, one after the other.
-use Rattle.std.specs.Prelude.{◌≡◌, ℕ, ◌+◌, if◌then◌else◌, List, [], ◌∷◌, ◌++◌, length, map}
+use Rattle.std.specs.Prelude.{◌≡◌, ℕ, ◌+◌, if◌then◌else◌, List, [], ◌∷◌, ◌++◌, length, map, None}
 use Rattle.std.specs.List.{flat_map}
+use Rattle.std.specs.BTreeSet.{contains}
+use Rattle.std.specs.Ordering.{nat_cmp}
 use Rattle.session_log.specs.Text.{ClientSession, Transaction}
 use Rattle.session_log.specs.declared.line.Line.{Line}
 use Rattle.serializability.specs.declared.event.Event.{Event}
-use Rattle.log_definitions.specs.WellFormed.{first_seen, key_of, is_committed, writes_from}
+use Rattle.log_definitions.specs.Unknown.{is_committed, taken, resolved}
+use Rattle.log_definitions.specs.WellFormed.{first_seen, key_of, writes_from}
 use Rattle.log_definitions.specs.Numbers.{events_of}
 use Rattle.session_history.specs.declared.nodes.Node.{Node}
 use Rattle.session_history.specs.declared.nodes.Transactions.{Transactions}
+use Rattle.session_history.specs.declared.nodes.Accepted.{Accepted}
 use Rattle.session_history.specs.Written.{HasSeen, HasWrites}
 
 -- a transaction, with the number of its session and its place there
@@ -39,7 +43,7 @@ nodes_among keys (t ∷ ts) =
     if is_committed t.2 then record { session = t.0; place = t.1; events = events_of keys t.2.ops } ∷ nodes_among keys ts
     else nodes_among keys ts
 
--- each transaction's operations with its node, behind so many nodes, or with 0 where it was aborted
+-- each transaction's operations with its node, behind so many nodes, or with 0 where it counts as aborted
 abbrev pub numbered_from : ℕ → List (List ℕ) → List Placed → List (ℕ × List Event)
 numbered_from n keys [] = []
 numbered_from n keys (t ∷ ts) =
@@ -58,17 +62,22 @@ pub record Takes (old new : Transactions) (lines : List Line) (ts : List Placed)
   pub writes : (before : List (ℕ × List Event)) (more : List (List ℕ)) → HasWrites before old.writes
       → HasWrites (before ++ numbered_from (length old.nodes.items) (first_seen new.numbers.texts.items more) ts) new.writes
 
--- before the first line
-pub record IsStart (t : Transactions) : Type 0 where
+-- before this line
+pub record IsStart (n : ℕ) (t : Transactions) : Type 0 where
   pub keys : t.numbers.texts.items ≡ []
   pub nodes : t.nodes.items ≡ []
-  pub line : t.writes.line ≡ 1
+  pub line : t.writes.line ≡ n
   pub seen : HasSeen [] t.writes
   pub writes : HasWrites [] t.writes
 
 -- all that these transactions hold
-pub record HoldsAll (t : Transactions) (lines : List Line) (ts : List Placed) : Type 0 where
+pub record HoldsAll (t : Transactions) (ts : List Placed) : Type 0 where
   pub keys : t.numbers.texts.items ≡ first_seen [] (keys_among ts)
   pub nodes : map node_view t.nodes.items ≡ nodes_among t.numbers.texts.items ts
-  pub seen : HasSeen (writes_from 1 lines) t.writes
   pub writes : HasWrites (numbered_from 0 t.numbers.texts.items ts) t.writes
+
+-- all that the sessions hold, no identity of which is written twice, and those whose transaction of unknown outcome is taken
+pub record IsAccepted (ss : List ClientSession) (a : Accepted) : Type 0 where
+  pub taken : (n : ℕ) → contains nat_cmp a.taken n ≡ taken ss n
+  pub holds : HoldsAll a.all (placed_in (resolved ss))
+  pub once : a.all.writes.twice ≡ None

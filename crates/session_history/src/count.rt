@@ -1,11 +1,13 @@
 //! How much a log holds.
 
-ghost use Rattle.std.specs.Prelude.{◌≡◌, ◌+◌, ◌-◌, ◌^◌, length, map, count_by, min, ◌<◌, ◌≤◌};
-ghost use Rattle.std.specs.List.{flat_map};
-ghost use Rattle.session_log.specs.Text.{view, view_txn};
-ghost use Rattle.log_definitions.specs.WellFormed.{log_lines, ops_in, txns_in, is_committed};
+ghost use Rattle.std.specs.Prelude.{◌≡◌, ◌+◌, ◌-◌, ◌^◌, ◌++◌, ◌∷◌, [], List, length, map, count_by, min, ◌<◌, ◌≤◌};
+ghost use Rattle.session_log.specs.Text.{Transaction, view, view_txn};
+ghost use Rattle.log_definitions.specs.Unknown.{ops_in, txns_in};
+ghost use Rattle.log_definitions.specs.WellFormed.{log_lines};
 ghost use Rattle.session_history.specs.Taken.{HoldsAll, placed_in};
-ghost use Rattle.session_history.specs.Counted.{CountsAll};
+ghost use Rattle.session_history.specs.Worklist.{has_ended};
+ghost use Rattle.session_history.specs.Counted.{IsTally, CountsAll};
+ghost use Rattle.log_definitions.specs.Unknown.{resolved};
 ghost use Rattle.session_log.specs.declared.limits.TheConstants.{MAX_OPERATIONS};
 
 use crate::nodes::Transactions;
@@ -15,87 +17,95 @@ use session_log::{Outcome, Session, Txn};
 #[derive(Clone, Copy, Debug, PartialEq, Eq)]
 pub struct Counts {
     pub sessions: usize,
+    /// The transactions that the log says were committed.
     pub committed: usize,
+    /// The transactions that the log says were aborted.
     pub aborted: usize,
+    /// The transactions whose outcome the client never learnt.
+    pub unknown: usize,
+    /// Those of unknown outcome of which a committed or a taken one reads a write, and which so are nodes.
+    pub taken: usize,
     pub keys: usize,
     pub operations: usize,
 }
 
-fn with_ops(count: usize, session: &Session) -> usize
-    ensures { result ≡ min (count + length (flat_map (λ t. t.ops) (view session.now).txns)) (2 ^ 64 - 1) }
+/// Whether a transaction ended so.
+pub fn has_ended(txn: &Txn, outcome: Outcome) -> bool
+    ensures { result ≡ has_ended outcome (view_txn txn.now) }
 {
-    let mut total = count;
-    for txn in &session.txns {
-        total = total.saturating_add(txn.ops.len());
-    }
-    total
+    txn.outcome == outcome
 }
 
-/// The number of operations, up to `usize::MAX`.
-pub fn operation_count(sessions: &[Session]) -> usize
-    ensures { result ≡ min (length (ops_in (map view sessions.now))) (2 ^ 64 - 1) }
-{
-    let mut total = 0;
-    for session in sessions {
-        total = with_ops(total, session);
-    }
-    total
+/// How many transactions ended in each way, and how many operations they have, each up to `usize::MAX`.
+#[derive(Clone, Copy)]
+pub struct Tally {
+    pub committed: usize,
+    pub aborted: usize,
+    pub unknown: usize,
+    pub operations: usize,
 }
 
-fn is_committed(txn: &Txn) -> bool
-    ensures { result ≡ is_committed (view_txn txn.now) }
-{
-    matches!(txn.outcome, Outcome::Commit)
-}
-
-fn with_committed(count: usize, session: &Session) -> usize
-    ensures { result ≡ min (count + count_by is_committed (view session.now).txns) (2 ^ 64 - 1) }
-{
-    let mut total = count;
-    for txn in &session.txns {
-        if is_committed(txn) {
-            total = total.saturating_add(1);
+impl Tally {
+    /// With a transaction more.
+    fn plus(self, txn: &Txn) -> Tally
+        ensures { (txns : List Transaction) → IsTally txns self →
+            IsTally (txns ++ view_txn txn.now ∷ []) result }
+    {
+        let committed = usize::from(has_ended(txn, Outcome::Commit));
+        let aborted = usize::from(has_ended(txn, Outcome::Abort));
+        let unknown = usize::from(has_ended(txn, Outcome::Unknown));
+        Tally {
+            committed: self.committed.saturating_add(committed),
+            aborted: self.aborted.saturating_add(aborted),
+            unknown: self.unknown.saturating_add(unknown),
+            operations: self.operations.saturating_add(txn.ops.len()),
         }
     }
-    total
-}
 
-/// The number of committed transactions, up to `usize::MAX`.
-pub fn committed_count(sessions: &[Session]) -> usize
-    ensures { result ≡ min (count_by is_committed (txns_in (map view sessions.now))) (2 ^ 64 - 1) }
-{
-    let mut total = 0;
-    for session in sessions {
-        total = with_committed(total, session);
+    /// With a session more.
+    fn with_session(self, session: &Session) -> Tally
+        ensures { (txns : List Transaction) → IsTally txns self →
+            IsTally (txns ++ (view session.now).txns) result }
+    {
+        let mut tally = self;
+        for txn in &session.txns {
+            tally = tally.plus(txn);
+        }
+        tally
     }
-    total
-}
 
-/// The number of transactions, up to `usize::MAX`.
-fn txn_count(sessions: &[Session]) -> usize
-    ensures { result ≡ min (length (txns_in (map view sessions.now))) (2 ^ 64 - 1) }
-{
-    let mut total = 0;
-    for session in sessions {
-        total = usize::saturating_add(total, session.txns.len());
+    /// Of these sessions.
+    pub fn of(sessions: &[Session]) -> Tally
+        ensures { IsTally (txns_in (map view sessions.now)) result }
+    {
+        let mut tally = Tally {
+            committed: 0,
+            aborted: 0,
+            unknown: 0,
+            operations: 0,
+        };
+        for session in sessions {
+            tally = tally.with_session(session);
+        }
+        tally
     }
-    total
 }
 
 /// How much these sessions hold.
 pub fn counts_of(sessions: &[Session], all: &Transactions) -> Counts
     requires room { length (log_lines (map view sessions.now)) < 2 ^ 63 }
     requires few { length (ops_in (map view sessions.now)) ≤ MAX_OPERATIONS }
-    requires holds { HoldsAll all.now (log_lines (map view sessions.now))
-        (placed_in (map view sessions.now)) }
+    requires holds { HoldsAll all.now (placed_in (resolved (map view sessions.now))) }
     ensures { CountsAll (map view sessions.now) result }
 {
-    let committed = all.nodes.len();
+    let tally = Tally::of(sessions);
     Counts {
         sessions: sessions.len(),
-        committed,
-        aborted: txn_count(sessions) - committed,
+        committed: tally.committed,
+        aborted: tally.aborted,
+        unknown: tally.unknown,
+        taken: all.nodes.len() - tally.committed,
         keys: all.numbers.len(),
-        operations: operation_count(sessions),
+        operations: tally.operations,
     }
 }

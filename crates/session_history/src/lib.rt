@@ -1,5 +1,5 @@
-//! The history of a log: its committed transactions as nodes, with numbered keys, who wrote what and who read it from whom,
-//! and the anomaly that rules out every serial order, where there is one.
+//! The history of a log: its committed and taken transactions as nodes, with numbered keys, who wrote what and who read it from
+//! whom, and the anomaly that rules out every serial order, where there is one.
 #![tactic(auto)]
 
 mod count;
@@ -12,6 +12,7 @@ mod order;
 mod reads;
 mod rows;
 mod scan;
+mod taken;
 mod writes;
 
 pub use count::Counts;

@@ -1,38 +1,45 @@
 //! The history of a log.
 
-ghost use Rattle.std.specs.Prelude.{◌≡◌, ◌<◌, ◌≤◌, ◌^◌, None, Some, IfOk, IfErr, MatchOption, length, map, slice_get};
+ghost use Rattle.std.specs.Prelude.{◌≡◌, ℕ, ◌+◌, ◌<◌, ◌≤◌, ◌^◌, None, Some, IfOk, IfErr, MatchOption, length, map, count_by, slice_get};
 ghost use Rattle.std.specs.List.{AllByRecursion};
+ghost use Rattle.std.specs.BTreeSet.{contains};
+ghost use Rattle.std.specs.Ordering.{nat_cmp};
 ghost use Rattle.session_log.specs.Text.{view, IsLegal};
 ghost use Rattle.session_log.specs.Faults.{IsFault};
+ghost use Rattle.session_log.specs.Version.{first_line};
 ghost use Rattle.serializability.specs.Polygraph.{source};
-ghost use Rattle.log_definitions.specs.WellFormed.{log_lines, list_fault, keys_in, ops_in};
+ghost use Rattle.log_definitions.specs.Unknown.{txns_in, ops_in, is_committed, is_unknown, taken, resolved};
+ghost use Rattle.log_definitions.specs.WellFormed.{log_lines, list_fault, keys_in, is_aborted};
 ghost use Rattle.log_definitions.specs.Serial.{committed_in};
-ghost use Rattle.log_definitions.specs.Numbers.{log_of, aborted_in, IsWellFormedList};
-ghost use Rattle.session_history.specs.Taken.{HoldsAll, placed_in};
+ghost use Rattle.log_definitions.specs.Numbers.{log_of, IsWellFormedList};
+ghost use Rattle.session_history.specs.Taken.{IsAccepted};
 ghost use Rattle.session_history.specs.Writes.{IsUnwritten, IsWrite};
 ghost use Rattle.session_history.specs.Tables.{sources_of, writers_in, name_in, node_named};
 ghost use Rattle.serializability.specs.declared.node.TheConstants.{MAX_NODES};
 ghost use Rattle.session_log.specs.declared.limits.TheConstants.{MAX_KEYS};
 
-use crate::count::{Counts, committed_count, counts_of, operation_count};
+use crate::count::{Counts, Tally, counts_of};
 use crate::key_set::indexed;
 use crate::names::{Name, names_of};
-use crate::nodes::{Node, Transactions};
+use crate::nodes::{Accepted, Node, Transactions};
 use crate::reads::{ReadFrom, reads_of};
 use crate::rows::{Row, rows_of};
 use crate::scan::session_twice;
+use crate::taken::taken_among;
 use crate::writes::{Writes, Written};
 use indexmap::IndexSet;
 use serializability::{Event, MAX_NODES, NodeIx};
-use session_log::{Key, Limit, LogFault, MAX_KEYS, MAX_OPERATIONS, Session};
+use session_log::{Key, Limit, LogFault, MAX_KEYS, MAX_OPERATIONS, Session, Version};
 use std::alloc::{AllocError, Global};
-use std::collections::BTreeMap;
+use std::collections::{BTreeMap, BTreeSet};
 use std::marker::Model;
 
 /// The sessions of a well-formed log, with what they say of its nodes and keys.
 #[derive(Drop)]
 pub struct History {
     sessions: Vec<Session>,
+    /// The numbers of the sessions whose transaction of unknown outcome is taken.
+    taken: BTreeSet<usize>,
     /// A key's number is its index.
     keys: IndexSet<Key>,
     nodes: Vec<Node>,
@@ -62,26 +69,32 @@ impl History {
     ghost use Rattle.session_history.specs.Held.{node_kept};
 
     /// The history of these sessions, or the first fault that makes them no well-formed log: a session number that stands twice,
-    /// a limit, or an identity that is written twice.
-    pub fn build(alloc: Global, sessions: Vec<Session>) -> Result<History, LogFault>
+    /// a limit, or an identity that is written twice. Lines count from the first of a log of this version.
+    pub fn build(
+        alloc: Global,
+        version: Version,
+        sessions: Vec<Session>,
+    ) -> Result<History, LogFault>
         requires legal { AllByRecursion IsLegal (map view sessions.items) }
         requires room { length (log_lines (map view sessions.items)) < 2 ^ 63 }
         ensures history { IfOk result (λ h. h ≡ map view sessions.items) }
-        ensures accepted { IfOk result (λ _. list_fault (map view sessions.items) ≡ None) }
-        ensures fault { IfErr result (λ f. IsFault f (list_fault (map view sessions.items))) }
+        ensures accepted { IfOk result (λ _.
+            list_fault (first_line version) (map view sessions.items) ≡ None) }
+        ensures fault { IfErr result (λ f.
+            IsFault f (list_fault (first_line version) (map view sessions.items))) }
     {
-        let all = checked(alloc, &sessions)?;
-        Ok(History::of(alloc, sessions, all)?)
+        let accepted = checked(alloc, version, &sessions)?;
+        Ok(History::of(alloc, sessions, accepted)?)
     }
 
     /// The history of sound sessions, of which this is all that they hold.
-    fn of(alloc: Global, sessions: Vec<Session>, all: Transactions) -> Result<History, AllocError>
+    fn of(alloc: Global, sessions: Vec<Session>, accepted: Accepted) -> Result<History, AllocError>
         requires sound { IsWellFormedList (map view sessions.items) }
         requires room { length (log_lines (map view sessions.items)) < 2 ^ 63 }
-        requires holds { HoldsAll all (log_lines (map view sessions.items))
-            (placed_in (map view sessions.items)) }
+        requires accepted { IsAccepted (map view sessions.items) accepted }
         ensures { IfOk result (λ h. h ≡ map view sessions.items) }
     {
+        let Accepted { all, taken } = accepted;
         let counts = counts_of(&sessions, &all);
         let Transactions {
             numbers,
@@ -94,6 +107,7 @@ impl History {
         let keys = indexed(alloc, numbers.into_texts())?;
         Ok(History {
             sessions,
+            taken,
             keys,
             nodes,
             names,
@@ -104,7 +118,7 @@ impl History {
         })
     }
 
-    /// The number of nodes, which are the committed transactions, without node 0.
+    /// The number of nodes, which are the committed and the taken transactions, without node 0.
     pub fn committed(&self) -> usize
         ensures count { result ≡ (log_of self.now).nodes }
         ensures few { result ≤ MAX_NODES }
@@ -113,7 +127,7 @@ impl History {
         self.nodes.len()
     }
 
-    /// The write that has an identity, where the log has one: its key, its node, which is node 0 where its transaction was
+    /// The write that has an identity, where the log has one: its key, its node, which is node 0 where its transaction counts as
     /// aborted, and whether it is the last write of the key there.
     pub fn written(&self, wid: u64) -> Option<Written>
         ensures write { MatchOption result (IsUnwritten (log_of self.now) wid)
@@ -210,18 +224,28 @@ impl History {
         }
     }
 
-    /// The node of the transaction at this place of a session, where it is committed.
+    /// The node of the transaction at this place of a session, where it is committed or taken.
     pub fn node_at(&self, session: usize, place: usize) -> Option<NodeIx>
         ensures node { result ≡ node_named self.now session place }
     {
         self.names.get(&(session, place)).copied()
     }
 
+    /// Whether the session of this number ends in a transaction of unknown outcome that is taken: a committed or a taken
+    /// transaction reads a write of it.
+    pub fn taken(&self, session: usize) -> bool
+        ensures taken { result ≡ taken self.now session }
+    {
+        self.taken.contains(&session)
+    }
+
     /// How much it holds.
     pub fn counts(&self) -> Counts
         ensures sessions { result.sessions ≡ length self.now }
-        ensures committed { result.committed ≡ length (committed_in self.now) }
-        ensures aborted { result.aborted ≡ length (aborted_in self.now) }
+        ensures committed { result.committed ≡ count_by is_committed (txns_in self.now) }
+        ensures aborted { result.aborted ≡ count_by is_aborted (txns_in self.now) }
+        ensures unknown { result.unknown ≡ count_by is_unknown (txns_in self.now) }
+        ensures taken { result.committed + result.taken ≡ length (committed_in self.now) }
         ensures keys { result.keys ≡ length (keys_in self.now) }
         ensures operations { result.operations ≡ length (ops_in self.now) }
     {
@@ -239,33 +263,38 @@ impl History {
     }
 }
 
-/// What the transactions hold, where the sessions have no fault, or their first fault.
-fn checked(alloc: Global, sessions: &[Session]) -> Result<Transactions, LogFault>
+/// What the transactions hold, and the sessions whose transaction of unknown outcome is taken, where the sessions have no fault, or
+/// their first fault.
+fn checked(alloc: Global, version: Version, sessions: &[Session]) -> Result<Accepted, LogFault>
     requires room { length (log_lines (map view sessions.now)) < 2 ^ 63 }
-    ensures holds { IfOk result (λ all. HoldsAll all (log_lines (map view sessions.now))
-        (placed_in (map view sessions.now))) }
-    ensures accepted { IfOk result (λ _. list_fault (map view sessions.now) ≡ None) }
-    ensures fault { IfErr result (λ f. IsFault f (list_fault (map view sessions.now))) }
+    ensures holds { IfOk result (IsAccepted (map view sessions.now)) }
+    ensures accepted { IfOk result (λ _.
+        list_fault (first_line version) (map view sessions.now) ≡ None) }
+    ensures fault { IfErr result (λ f.
+        IsFault f (list_fault (first_line version) (map view sessions.now))) }
 {
-    if let Some(line) = session_twice(alloc, sessions)? {
+    let first = version.first_line();
+    if let Some(line) = session_twice(alloc, first, sessions)? {
         return Err(LogFault::SessionTwice { line });
     }
-    if operation_count(sessions) > MAX_OPERATIONS {
+    let tally = Tally::of(sessions);
+    if tally.operations > MAX_OPERATIONS {
         return Err(LogFault::OverLimit {
             which: Limit::Operations,
         });
     }
-    if committed_count(sessions) > MAX_NODES {
+    if tally.committed.saturating_add(tally.unknown) > MAX_NODES {
         return Err(LogFault::OverLimit {
             which: Limit::Committed,
         });
     }
-    let all = Transactions::of(alloc, sessions)?;
+    let taken = taken_among(alloc, sessions, tally.unknown)?;
+    let all = Transactions::of(alloc, first, sessions, &taken)?;
     if all.numbers.len() > MAX_KEYS {
         return Err(LogFault::OverLimit { which: Limit::Keys });
     }
     if let Some(line) = all.writes.twice() {
         return Err(LogFault::WriteTwice { line });
     }
-    Ok(all)
+    Ok(Accepted { all, taken })
 }

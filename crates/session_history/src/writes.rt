@@ -8,7 +8,7 @@ use serializability::{Event, NodeIx};
 use std::alloc::{AllocError, Global};
 use std::collections::BTreeMap;
 
-/// A write: its key, its node, which is 0 where its transaction was aborted, and whether it is the last of the key there.
+/// A write: its key, its node, which is 0 where its transaction counts as aborted, and whether it is the last of the key there.
 #[derive(Clone, Copy, Debug)]
 pub struct Written {
     pub key: usize,
@@ -31,9 +31,9 @@ impl Writes {
     ghost use Rattle.session_history.specs.Written.{HasSeen, HasWrites, IsTaking, entry_of, writes_at};
     ghost use Rattle.session_history.specs.Sources.{final_node};
 
-    /// No writes, before the first line.
-    pub fn new(alloc: Global) -> Writes
-        ensures line { result.line ≡ 1 }
+    /// No writes, before this line.
+    pub fn new(alloc: Global, line: usize) -> Writes
+        ensures line { result.line ≡ line }
         ensures seen { HasSeen [] result }
         ensures writes { HasWrites [] result }
     {
@@ -41,7 +41,7 @@ impl Writes {
             table: BTreeMap::new(alloc),
             twice: None,
             lasts: Vec::new(alloc),
-            line: 1,
+            line,
         }
     }
 
@@ -130,7 +130,7 @@ impl Writes {
         Ok(())
     }
 
-    /// Takes the lines of a transaction of this node, or of an aborted one.
+    /// Takes the lines of a transaction of this node, or of one that counts as aborted.
     pub fn add(&mut self, events: &[Event], node: NodeIx) -> Result<(), AllocError>
         requires { self.old.line + length events.now + 2 < 2 ^ 64 }
         ensures line { OnOk result (self.new.line ≡ self.old.line + (length events.now + 2)) }

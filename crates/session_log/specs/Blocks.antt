@@ -1,12 +1,14 @@
--- The blocks of a log: each begins at the first line, or at a line that begins with the bytes `session`.
-use Rattle.std.specs.Prelude.{ℕ, ◌+◌, ◌^◌, Bool, true, if◌then◌else◌, nat_lt, List, [], ◌∷◌, length, count_by, slice_range, Option, Some, None}
+-- The blocks of a log: each begins at the first line behind the header, or at a line that begins with the bytes `session`.
+use Rattle.std.specs.Prelude.{ℕ, ◌+◌, Bool, true, if◌then◌else◌, nat_lt, List, [], ◌∷◌, length, count_by, slice_range, Option, Some, None}
 use Rattle.std.specs.List.{flat_map}
 use Rattle.session_log.specs.Lines.{lines, bytes_of}
+use Rattle.session_log.specs.Version.{header_text, first_line, version_of, body_of}
 use Rattle.session_log.specs.Faults.{is_session_line, first_fault, Start}
 use Rattle.session_log.specs.declared.block.Block.{Block}
 use Rattle.session_log.specs.declared.fault.Limit.TheVariants as limit
 use Rattle.session_log.specs.declared.fault.LogFault.{LogFault}
 use Rattle.session_log.specs.declared.fault.LogFault.TheVariants.{OverLimit}
+use Rattle.session_log.specs.declared.version.Version.{Version}
 use Rattle.session_log.specs.declared.limits.TheConstants.{MAX_LOG_BYTES, MAX_SESSIONS}
 
 -- a block ends before these lines
@@ -29,13 +31,15 @@ abbrev pub text_of : List (List ℕ × Bool) → List ℕ
 text_of ls = flat_map bytes_of ls
 
 -- where each block lies, the first of which begins at this byte, with this line
-abbrev pub located : ℕ → ℕ → List (List (List ℕ × Bool)) → List Block
-located at n [] = []
-located at n (b ∷ bs) = record { start = at; stop = at + length (text_of b); line = n } ∷ located (at + length (text_of b)) (n + length b) bs
+abbrev pub located : Version → ℕ → ℕ → List (List (List ℕ × Bool)) → List Block
+located v at n [] = []
+located v at n (b ∷ bs) = record { version = v; start = at; stop = at + length (text_of b); line = n } ∷ located v (at + length (text_of b)) (n + length b) bs
 
 -- the blocks of a log
 unfoldable pub blocks_of : List ℕ → List Block
-blocks_of text = located 0 1 (blocks (lines text))
+blocks_of text =
+    let v = version_of text in
+    located v (length (header_text v)) (first_line v) (blocks (lines (body_of text)))
 
 -- the bytes of a block
 abbrev pub block_text : List ℕ → Block → List ℕ
@@ -43,7 +47,7 @@ block_text text b = slice_range text b.start b.stop
 
 -- the first fault of a block
 abbrev pub block_fault : List ℕ → Block → Option LogFault
-block_fault text b = first_fault b.line Start (lines (block_text text b))
+block_fault text b = first_fault b.version b.line Start (lines (block_text text b))
 
 -- the limits on the whole text
 unfoldable pub size_fault : List ℕ → Option LogFault

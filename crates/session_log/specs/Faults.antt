@@ -2,18 +2,22 @@
 use Rattle.std.specs.Prelude.{◌≡◌, ℕ, zero, suc, ◌+◌, Bool, false, if◌then◌else◌, nat_eq, List, [], ◌∷◌, codes, Option, Some, None, Result, Ok, Err}
 use Rattle.std.specs.List.{starts_with, AllByRecursion}
 use Rattle.session_log.specs.Lines.{form_of, lines}
+use Rattle.session_log.specs.Version.{version_of, body_of, first_line}
 use Rattle.session_log.specs.declared.line.Line.{Line}
 use Rattle.session_log.specs.declared.line.Line.TheVariants as line
 use Rattle.session_log.specs.declared.fault.LogFault.{LogFault}
 use Rattle.session_log.specs.declared.fault.Limit.TheVariants.{LogBytes, Sessions}
-use Rattle.session_log.specs.declared.fault.LogFault.TheVariants.{BadLine, OutsideTransaction, OpenTransaction, WriteZero, OverLimit, Memory}
+use Rattle.session_log.specs.declared.fault.LogFault.TheVariants.{BadLine, OutsideTransaction, OpenTransaction, WriteZero, UnknownNotLast, OverLimit, Memory}
+use Rattle.session_log.specs.declared.version.Version.{Version}
 
 -- where reading has come to: no session has begun; a session has, and no transaction is open;
--- the transaction is open whose `begin` is at this line
+-- the transaction is open whose `begin` is at this line; the session is over: no transaction is
+-- open and none may begin, since the outcome of the last is unknown
 pub data Place : Type 0 where
   Start : Place
   Between : Place
   Inside : ℕ → Place
+  Over : Place
 
 -- the place after line n, of this form, or its fault
 abbrev pub after : ℕ → Place → Line → Result Place LogFault
@@ -29,6 +33,10 @@ after n (Inside start) (line.Write _ zero) = Err (WriteZero n)
 after n (Inside start) (line.Write _ (suc _)) = Ok (Inside start)
 after n (Inside start) line.Commit = Ok Between
 after n (Inside start) line.Abort = Ok Between
+after n (Inside start) line.Unknown = Ok Over
+after n Over (line.Session _) = Ok Between
+after n Over line.Begin = Err (UnknownNotLast n)
+after n Over _ = Err (OutsideTransaction n)
 
 -- the same of a line that may have no form
 abbrev pub after_form : ℕ → Place → Option Line → Result Place LogFault
@@ -40,13 +48,13 @@ abbrev pub is_session_line : List ℕ × Bool → Bool
 is_session_line l = starts_with nat_eq l.0 (codes "session")
 
 -- the form of a line that has its LF
-abbrev pub form_at : List ℕ × Bool → Option Line
-form_at l = if l.1 then form_of l.0 else None
+abbrev pub form_at : Version → List ℕ × Bool → Option Line
+form_at v l = if l.1 then form_of v l.0 else None
 
 -- the same of the line as it stands: where a transaction is open, a line that begins so ends it too early
-unfoldable pub step : ℕ → Place → List ℕ × Bool → Result Place LogFault
-step n (Inside start) l = if is_session_line l then Err (OpenTransaction start) else after_form n (Inside start) (form_at l)
-step n p l = after_form n p (form_at l)
+unfoldable pub step : Version → ℕ → Place → List ℕ × Bool → Result Place LogFault
+step v n (Inside start) l = if is_session_line l then Err (OpenTransaction start) else after_form n (Inside start) (form_at v l)
+step v n p l = after_form n p (form_at v l)
 
 -- after the last line: the transaction that is open
 abbrev pub fault_at_end : Place → Option LogFault
@@ -59,13 +67,13 @@ going_on (Ok p) next = next p
 going_on (Err f) next = Some f
 
 -- the first fault of these lines, the first of which is line n, met in this place
-abbrev pub first_fault : ℕ → Place → List (List ℕ × Bool) → Option LogFault
-first_fault n p [] = fault_at_end p
-first_fault n p (l ∷ ls) = going_on (step n p l) (λ q. first_fault (n + 1) q ls)
+abbrev pub first_fault : Version → ℕ → Place → List (List ℕ × Bool) → Option LogFault
+first_fault v n p [] = fault_at_end p
+first_fault v n p (l ∷ ls) = going_on (step v n p l) (λ q. first_fault v (n + 1) q ls)
 
 -- the first fault of the grammar in a log
 unfoldable pub grammar_fault : List ℕ → Option LogFault
-grammar_fault text = first_fault 1 Start (lines text)
+grammar_fault text = first_fault (version_of text) (first_line (version_of text)) Start (lines (body_of text))
 
 -- no line begins with the bytes `session`
 abbrev pub NoSessionLine : List (List ℕ × Bool) → Type 0
@@ -100,4 +108,5 @@ IsGrammarFault (BadLine _) = Unit {0}
 IsGrammarFault (OutsideTransaction _) = Unit {0}
 IsGrammarFault (OpenTransaction _) = Unit {0}
 IsGrammarFault (WriteZero _) = Unit {0}
+IsGrammarFault (UnknownNotLast _) = Unit {0}
 IsGrammarFault _ = ⊥

@@ -6,8 +6,10 @@ use Rattle.std.specs.Str.{bytes_eq}
 use Rattle.std.specs.Char.{is_ascii_digit}
 use Rattle.std.specs.Str.Parse.{digits_value}
 use Rattle.session_log.specs.Key.{is_key}
+use Rattle.session_log.specs.Version.{has_unknown_line}
 use Rattle.session_log.specs.declared.line.Line.{Line}
 use Rattle.session_log.specs.declared.line.Line.TheVariants as line
+use Rattle.session_log.specs.declared.version.Version.{Version}
 
 -- a byte before lines; of each line there are its bytes without LF, and whether it has one
 abbrev pub onto_line : ℕ → List (List ℕ × Bool) → List (List ℕ × Bool)
@@ -49,12 +51,13 @@ keyed_of words = do
   wid ← number_of (drop (i + 1) words)
   if is_key (take i words) then Some (take i words, wid) else None
 
--- the form of a line, where it has one
-unfoldable pub form_of : List ℕ → Option Line
-form_of body =
+-- the form of a line, where this version has one for it
+unfoldable pub form_of : Version → List ℕ → Option Line
+form_of v body =
     if bytes_eq body (codes "begin") then Some line.Begin else
     (if bytes_eq body (codes "commit") then Some line.Commit else
     (if bytes_eq body (codes "abort") then Some line.Abort else
     (if starts_with nat_eq body (codes "session ") then session_of (drop 8 body) else
     (if starts_with nat_eq body (codes "r ") then keyed_of (drop 2 body) >>= (λ k. Some (line.Read k.0 k.1)) else
-    (if starts_with nat_eq body (codes "w ") then keyed_of (drop 2 body) >>= (λ k. Some (line.Write k.0 k.1)) else None)))))
+    (if starts_with nat_eq body (codes "w ") then keyed_of (drop 2 body) >>= (λ k. Some (line.Write k.0 k.1)) else
+    (if has_unknown_line v && bytes_eq body (codes "unknown") then Some line.Unknown else None))))))

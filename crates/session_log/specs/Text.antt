@@ -1,16 +1,19 @@
 -- The one text of each list of sessions. Its lines are this project's own; that each write has an
 -- identity, which the reads of it name, is after Cobra (Tan et al., OSDI 2020).
-use Rattle.std.specs.Prelude.{ℕ, ◌<◌, ◌^◌, List, [], ◌∷◌, ◌++◌, map, codes, decimal}
-use Rattle.std.specs.List.{flat_map, AllByRecursion}
+use Rattle.std.specs.Prelude.{◌≡◌, ℕ, ◌<◌, ◌^◌, Bool, true, false, if◌then◌else◌, List, [], ◌∷◌, ◌++◌, map, codes, decimal}
+use Rattle.std.specs.List.{flat_map, list_any, AllByRecursion}
 use Rattle.session_log.specs.Key.{IsKey}
+use Rattle.session_log.specs.Version.{header_text, has_unknown_line}
 use Rattle.session_log.specs.declared.line.Line.{Line}
 use Rattle.session_log.specs.declared.line.Line.TheVariants as line
 use Rattle.session_log.specs.declared.session.Op.{Op}
 use Rattle.session_log.specs.declared.session.Op.TheVariants.{Read, Write}
 use Rattle.session_log.specs.declared.session.Outcome.{Outcome}
-use Rattle.session_log.specs.declared.session.Outcome.TheVariants.{Commit, Abort}
+use Rattle.session_log.specs.declared.session.Outcome.TheVariants.{Commit, Abort, Unknown}
 use Rattle.session_log.specs.declared.session.Txn.{Txn}
 use Rattle.session_log.specs.declared.session.Session.{Session}
+use Rattle.session_log.specs.declared.version.Version.{Version}
+use Rattle.session_log.specs.declared.version.Version.TheVariants.{One, Two}
 
 -- a transaction, without where it lies in memory
 pub record Transaction : Type 0 where
@@ -39,8 +42,9 @@ op_line (Write key wid) = line.Write key wid
 abbrev pub end_line : Outcome → Line
 end_line Commit = line.Commit
 end_line Abort = line.Abort
+end_line Unknown = line.Unknown
 
--- a transaction: `begin`, its operations, `commit` or `abort`
+-- a transaction: `begin`, its operations, and the line that ends it
 abbrev pub txn_lines : Transaction → List Line
 txn_lines t = line.Begin ∷ map op_line t.ops ++ end_line t.outcome ∷ []
 
@@ -56,6 +60,7 @@ line_text (line.Read key wid) = codes "r " ++ key ++ 32 ∷ decimal wid
 line_text (line.Write key wid) = codes "w " ++ key ++ 32 ∷ decimal wid
 line_text line.Commit = codes "commit"
 line_text line.Abort = codes "abort"
+line_text line.Unknown = codes "unknown"
 
 -- a line with its LF
 abbrev pub full_line : Line → List ℕ
@@ -69,16 +74,17 @@ text_of_lines lines = flat_map full_line lines
 unfoldable pub session_text : ClientSession → List ℕ
 session_text s = text_of_lines (session_lines s)
 
--- the text of a list of sessions
-unfoldable pub log_text : List ClientSession → List ℕ
-log_text ss = flat_map session_text ss
+-- the text of a list of sessions in this version: its header, and then theirs
+unfoldable pub log_text : Version → List ClientSession → List ℕ
+log_text v ss = header_text v ++ flat_map session_text ss
 
--- what a line of each form holds
-abbrev pub IsLegalLine : Line → Type 0
-IsLegalLine (line.Session number) = (0 < number) × (number < 2 ^ 16)
-IsLegalLine (line.Read key wid) = IsKey key × (wid < 2 ^ 64)
-IsLegalLine (line.Write key wid) = IsKey key × (wid < 2 ^ 64)
-IsLegalLine _ = Unit {0}
+-- what a line of each form holds, and which version has it
+abbrev pub IsLegalLine : Version → Line → Type 0
+IsLegalLine v (line.Session number) = (0 < number) × (number < 2 ^ 16)
+IsLegalLine v (line.Read key wid) = IsKey key × (wid < 2 ^ 64)
+IsLegalLine v (line.Write key wid) = IsKey key × (wid < 2 ^ 64)
+IsLegalLine v line.Unknown = has_unknown_line v ≡ true
+IsLegalLine v _ = Unit {0}
 
 -- an operation that a log can hold: no write has identity 0, that of the initial value
 abbrev pub IsLegalOp : Op → Type 0
@@ -89,8 +95,37 @@ IsLegalOp (Write key wid) = IsKey key × (0 < wid) × (wid < 2 ^ 64)
 abbrev pub IsLegalTxn : Transaction → Type 0
 IsLegalTxn t = AllByRecursion IsLegalOp t.ops
 
+-- the client was not told how the transaction ended
+abbrev pub is_unknown : Outcome → Bool
+is_unknown Unknown = true
+is_unknown _ = false
+
+-- the client was told
+abbrev pub IsKnown : Transaction → Type 0
+IsKnown t = is_unknown t.outcome ≡ false
+
+-- each outcome but the last is known
+abbrev pub IsKnownBeforeLast : List Transaction → Type 0
+IsKnownBeforeLast [] = Unit {0}
+IsKnownBeforeLast (t ∷ []) = Unit {0}
+IsKnownBeforeLast (t ∷ u ∷ ts) = IsKnown t × IsKnownBeforeLast (u ∷ ts)
+
 -- a session that a log can hold
 pub record IsLegal (s : ClientSession) : Type 0 where
   pub low : 0 < s.number
   pub high : s.number < 2 ^ 16
   pub txns : AllByRecursion IsLegalTxn s.txns
+  pub known : IsKnownBeforeLast s.txns
+
+-- a session that a log of this version can hold: version 1 has no unknown outcomes
+abbrev pub IsHeldBy : Version → ClientSession → Type 0
+IsHeldBy One s = AllByRecursion IsKnown s.txns
+IsHeldBy Two s = Unit {0}
+
+-- an outcome of the session is unknown
+abbrev pub has_unknown : ClientSession → Bool
+has_unknown s = list_any (λ t. is_unknown t.outcome) s.txns
+
+-- the least version that holds these sessions
+abbrev pub least_version : List ClientSession → Version
+least_version ss = if list_any has_unknown ss then Two else One

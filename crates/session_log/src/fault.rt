@@ -35,6 +35,8 @@ pub enum LogFault {
     WriteZero { line: usize },
     /// Two writes have one identity: the line of the later one.
     WriteTwice { line: usize },
+    /// A transaction stands behind one whose outcome is unknown, in one session: the line of its `begin`.
+    UnknownNotLast { line: usize },
     /// A limit is passed.
     OverLimit { which: Limit },
     /// Memory was refused. It may come in place of any other fault.

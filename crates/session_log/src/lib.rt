@@ -12,6 +12,7 @@ mod parse;
 mod print;
 mod session;
 mod short_bytes;
+mod version;
 mod words;
 
 pub use block::{Block, cut, parse_block};
@@ -22,4 +23,5 @@ pub use line::Line;
 pub use parse::parse_lines;
 pub use print::print_log;
 pub use session::{Op, Outcome, Session, Txn};
+pub use version::Version;
 pub use words::{index_of, is_numeral, next_line, number_of};

@@ -7,6 +7,7 @@ ghost use Rattle.std.specs.Str.Parse.{digits_value};
 ghost use Rattle.session_log.specs.Lines.{is_numeral, number_of, session_of, keyed_of, form_of};
 
 use crate::key::Key;
+use crate::version::Version;
 use crate::words::{index_of, number_of};
 use std::alloc::{AllocError, Global};
 
@@ -22,6 +23,8 @@ pub enum Line {
     Write(Key, u64),
     Commit,
     Abort,
+    /// `unknown`.
+    Unknown,
 }
 
 #[tactic(auto, unfolding(crate::specs::Lines::session_of))]
@@ -53,10 +56,10 @@ fn keyed_of(alloc: Global, words: &[u8]) -> Result<Option<(Key, u64)>, AllocErro
     }
 }
 
-/// The form of a line without its LF, and `None` where it has none.
+/// The form of a line without its LF, and `None` where this version has none for it.
 #[tactic(auto, unfolding(crate::specs::Lines::form_of))]
-pub fn form_of(alloc: Global, body: &[u8]) -> Result<Option<Line>, AllocError>
-    ensures { IfOk result (λ o. o ≡ form_of body.now) }
+pub fn form_of(alloc: Global, version: Version, body: &[u8]) -> Result<Option<Line>, AllocError>
+    ensures { IfOk result (λ o. o ≡ form_of version body.now) }
 {
     if body == b"begin".as_slice() {
         return Ok(Some(Line::Begin));
@@ -81,6 +84,9 @@ pub fn form_of(alloc: Global, body: &[u8]) -> Result<Option<Line>, AllocError>
             Some((key, wid)) => Ok(Some(Line::Write(key, wid))),
             None => Ok(None),
         };
+    }
+    if version.has_unknown_line() && body == b"unknown".as_slice() {
+        return Ok(Some(Line::Unknown));
     }
     Ok(None)
 }

@@ -1,13 +1,15 @@
 //! The text of sessions.
 
 ghost use Rattle.std.specs.Prelude.{◌≡◌, ◌++◌, ◌∷◌, [], IfOk, OnOk, map, decimal, codes};
-ghost use Rattle.std.specs.List.{flat_map};
+ghost use Rattle.std.specs.List.{flat_map, list_any};
 ghost use Rattle.session_log.specs.Text.{view, view_txn, op_line, end_line, full_line};
 ghost use Rattle.session_log.specs.Text.{text_of_lines, txn_lines, session_text, log_text};
+ghost use Rattle.session_log.specs.Text.{is_unknown, least_version};
 ghost use Rattle.session_log.specs.declared.line.Line.TheVariants as line;
 
 use crate::key::Key;
 use crate::session::{Op, Outcome, Session, Txn};
+use crate::version::Version;
 use std::alloc::{AllocError, Global};
 
 fn put_number(alloc: Global, out: &mut Vec<u8>, n: u64) -> Result<(), AllocError>
@@ -53,6 +55,7 @@ fn put_end(out: &mut Vec<u8>, outcome: Outcome) -> Result<(), AllocError>
     match outcome {
         Outcome::Commit => out.extend_from_slice(b"commit\n")?,
         Outcome::Abort => out.extend_from_slice(b"abort\n")?,
+        Outcome::Unknown => out.extend_from_slice(b"unknown\n")?,
     }
     Ok(())
 }
@@ -66,7 +69,7 @@ fn put_begin(out: &mut Vec<u8>) -> Result<(), AllocError>
 }
 
 #[tactic(auto, unfolding(crate::specs::Text::line_text))]
-fn put_header(alloc: Global, out: &mut Vec<u8>, number: u16) -> Result<(), AllocError>
+fn put_number_line(alloc: Global, out: &mut Vec<u8>, number: u16) -> Result<(), AllocError>
     ensures { OnOk result (out.new.items ≡ out.old.items ++ full_line (line.Session number)) }
 {
     out.extend_from_slice(b"session ")?;
@@ -90,20 +93,44 @@ fn put_txn(alloc: Global, out: &mut Vec<u8>, txn: &Txn) -> Result<(), AllocError
 fn put_session(alloc: Global, out: &mut Vec<u8>, session: &Session) -> Result<(), AllocError>
     ensures { OnOk result (out.new.items ≡ out.old.items ++ session_text (view session.now)) }
 {
-    put_header(alloc, out, session.number)?;
+    put_number_line(alloc, out, session.number)?;
     for txn in &session.txns {
         put_txn(alloc, out, txn)?;
     }
     Ok(())
 }
 
-/// The text of these sessions, each by its lines. It is a log that is read as the same sessions
-/// where they are legal.
+fn any_unknown(txns: &[Txn]) -> bool
+    ensures { result ≡ list_any (λ t. is_unknown t.outcome) txns.now }
+{
+    txns.iter().any(|txn| txn.outcome.is_unknown())
+}
+
+fn any_with_unknown(sessions: &[Session]) -> bool
+    ensures { result ≡ list_any (λ s. list_any (λ t. is_unknown t.outcome) s.txns.items) sessions.now }
+{
+    sessions.iter().any(|session| any_unknown(&session.txns))
+}
+
+fn least_version(sessions: &[Session]) -> Version
+    ensures { result ≡ least_version (map view sessions.now) }
+{
+    if any_with_unknown(sessions) {
+        Version::Two
+    } else {
+        Version::One
+    }
+}
+
+/// The text of these sessions, each by its lines, in the least version that holds them. It is a
+/// log that is read as the same sessions where they are legal.
 #[tactic(auto, unfolding(crate::specs::Text::log_text))]
 pub fn print_log(alloc: Global, sessions: &[Session]) -> Result<Vec<u8>, AllocError>
-    ensures text { IfOk result (λ text. text.items ≡ log_text (map view sessions.now)) }
+    ensures text { let listed = map view sessions.now in
+        IfOk result (λ text. text.items ≡ log_text (least_version listed) listed) }
 {
     let mut out = Vec::new(alloc);
+    out.extend_from_slice(least_version(sessions).header())?;
     for session in sessions {
         put_session(alloc, &mut out, session)?;
     }

@@ -1,5 +1,8 @@
 //! What a client's log holds.
 
+ghost use Rattle.std.specs.Prelude.{◌≡◌};
+ghost use Rattle.session_log.specs.Text.{is_unknown};
+
 use crate::key::Key;
 
 /// An operation of a transaction.
@@ -19,6 +22,20 @@ const _: () = prove!(size_of::<Op>() == 32);
 pub enum Outcome {
     Commit,
     Abort,
+    /// The client was not told: it committed or it did not. In a legal session only the last transaction may end so.
+    Unknown,
+}
+
+impl Outcome {
+    /// Whether the client was not told.
+    pub fn is_unknown(self) -> bool
+        ensures { result ≡ is_unknown self }
+    {
+        match self {
+            Outcome::Unknown => true,
+            Outcome::Commit | Outcome::Abort => false,
+        }
+    }
 }
 
 /// A transaction: its operations in the order of the log, and how it ended.

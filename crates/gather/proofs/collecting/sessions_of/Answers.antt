@@ -37,3 +37,6 @@ returns-clause-text c =
 
 pub returns-clause-legal : goal.returns-clause-legal
 returns-clause-legal c = c.loop-piece.invariant.read.legal
+
+pub returns-clause-held : goal.returns-clause-held
+returns-clause-held c = c.loop-piece.invariant.read.held
