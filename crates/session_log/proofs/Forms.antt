@@ -18,6 +18,8 @@ use Rattle.session_log.specs.Lines.{is_numeral, number_of, session_of, keyed_of,
 use Rattle.session_log.specs.Text.{line_text, IsLegalLine}
 use Rattle.session_log.specs.declared.line.Line.{Line}
 use Rattle.session_log.specs.declared.line.Line.TheVariants as line
+use Rattle.session_log.specs.declared.version.Version.{Version}
+use Rattle.session_log.specs.Version.{has_unknown_line}
 
 -- numbers
 
@@ -122,8 +124,8 @@ session_complete n low high =
     rw (num, a, b) refl
 
 -- the law
-abbrev Sound : List ℕ → Line → Type 0
-Sound body f = (body ≡ line_text f) × IsLegalLine f
+abbrev Sound : Version → List ℕ → Line → Type 0
+Sound v body f = (body ≡ line_text f) × IsLegalLine v f
 
 chosen : {A : Type 0} (b : Bool) (x y z : A) → cond b x y ≡ z → ((b ≡ true) × (x ≡ z)) ⊎ ((b ≡ false) × (y ≡ z))
 chosen true x y z e = inl (refl, e)
@@ -132,70 +134,79 @@ chosen false x y z e = inr (refl, e)
 some_of : {A : Type 0} (x y : A) → Some x ≡ Some y → x ≡ y
 some_of x y e = cc
 
-word_sound : (body word : List ℕ) (f g : Line) → bytes_eq body word ≡ true → Some g ≡ Some f → word ≡ line_text g → IsLegalLine g → Sound body f
-word_sound body word f g b e text legal =
+word_sound : (v : Version) (body word : List ℕ) (f g : Line) → bytes_eq body word ≡ true → Some g ≡ Some f → word ≡ line_text g → IsLegalLine v g → Sound v body f
+word_sound v body word f g b e text legal =
     let same = (bytes_eq-Decides body word).0 b in
-    subst (Sound body) (some_of g f e) (same ∙ text, legal)
+    subst (Sound v body) (some_of g f e) (same ∙ text, legal)
 
-session_line_sound : (body : List ℕ) (f : Line) → starts_with nat_eq body (codes "session ") ≡ true → session_of (drop 8 body) ≡ Some f → Sound body f
+session_line_sound : (v : Version) (body : List ℕ) (f : Line) → starts_with nat_eq body (codes "session ") ≡ true → session_of (drop 8 body) ≡ Some f → Sound v body f
 unfolding line_text
-session_line_sound body f b e =
+session_line_sound v body f b e =
     let split = (starts_is Decides-eqb body (codes "session ") (starts_with nat_eq body (codes "session ")) refl).0 b in
     let s = session_sound (drop 8 body) f e in
-    subst (Sound body) (sym s.1) (split ∙ ap (λ w. codes "session " ++ w) s.2, (s.3, s.4))
+    subst (Sound v body) (sym s.1) (split ∙ ap (λ w. codes "session " ++ w) s.2, (s.3, s.4))
 
-read_line_sound : (body : List ℕ) (f : Line) → starts_with nat_eq body (codes "r ") ≡ true → option_and_then (λ (k : List ℕ × ℕ). Some (line.Read k.0 k.1)) (keyed_of (drop 2 body)) ≡ Some f → Sound body f
+read_line_sound : (v : Version) (body : List ℕ) (f : Line) → starts_with nat_eq body (codes "r ") ≡ true → option_and_then (λ (k : List ℕ × ℕ). Some (line.Read k.0 k.1)) (keyed_of (drop 2 body)) ≡ Some f → Sound v body f
 unfolding line_text
-read_line_sound body f b e =
+read_line_sound v body f b e =
     let split = (starts_is Decides-eqb body (codes "r ") (starts_with nat_eq body (codes "r ")) refl).0 b in
     option_and_then_some (λ (k : List ℕ × ℕ). Some (line.Read k.0 k.1)) (keyed_of (drop 2 body)) f e
     (λ k got last.
     let s = keyed_sound (drop 2 body) k.0 k.1 got in
-    subst (Sound body) (some_of (line.Read k.0 k.1) f last) (split ∙ ap (λ w. codes "r " ++ w) s.0, (s.1, s.2)))
+    subst (Sound v body) (some_of (line.Read k.0 k.1) f last) (split ∙ ap (λ w. codes "r " ++ w) s.0, (s.1, s.2)))
 
-write_line_sound : (body : List ℕ) (f : Line) → starts_with nat_eq body (codes "w ") ≡ true → option_and_then (λ (k : List ℕ × ℕ). Some (line.Write k.0 k.1)) (keyed_of (drop 2 body)) ≡ Some f → Sound body f
+write_line_sound : (v : Version) (body : List ℕ) (f : Line) → starts_with nat_eq body (codes "w ") ≡ true → option_and_then (λ (k : List ℕ × ℕ). Some (line.Write k.0 k.1)) (keyed_of (drop 2 body)) ≡ Some f → Sound v body f
 unfolding line_text
-write_line_sound body f b e =
+write_line_sound v body f b e =
     let split = (starts_is Decides-eqb body (codes "w ") (starts_with nat_eq body (codes "w ")) refl).0 b in
     option_and_then_some (λ (k : List ℕ × ℕ). Some (line.Write k.0 k.1)) (keyed_of (drop 2 body)) f e
     (λ k got last.
     let s = keyed_sound (drop 2 body) k.0 k.1 got in
-    subst (Sound body) (some_of (line.Write k.0 k.1) f last) (split ∙ ap (λ w. codes "w " ++ w) s.0, (s.1, s.2)))
+    subst (Sound v body) (some_of (line.Write k.0 k.1) f last) (split ∙ ap (λ w. codes "w " ++ w) s.0, (s.1, s.2)))
 
 -- by the tests of `form_of`, from the last
-w_sound : (body : List ℕ) (f : Line) → cond (starts_with nat_eq body (codes "w ")) (option_and_then (λ (k : List ℕ × ℕ). Some (line.Write k.0 k.1)) (keyed_of (drop 2 body))) None ≡ Some f → Sound body f
-w_sound body f e =
-    elim (chosen (starts_with nat_eq body (codes "w ")) (option_and_then (λ (k : List ℕ × ℕ). Some (line.Write k.0 k.1)) (keyed_of (drop 2 body))) None (Some f) e)
-    [ inl h ↦ write_line_sound body f h.0 h.1 | inr h ↦ absurd (cc h.1) ]
+w_sound : (v : Version) (body : List ℕ) (f : Line) (rest : Option Line) → (rest ≡ Some f → Sound v body f) → cond (starts_with nat_eq body (codes "w ")) (option_and_then (λ (k : List ℕ × ℕ). Some (line.Write k.0 k.1)) (keyed_of (drop 2 body))) rest ≡ Some f → Sound v body f
+w_sound v body f rest go e =
+    elim (chosen (starts_with nat_eq body (codes "w ")) (option_and_then (λ (k : List ℕ × ℕ). Some (line.Write k.0 k.1)) (keyed_of (drop 2 body))) rest (Some f) e)
+    [ inl h ↦ write_line_sound v body f h.0 h.1 | inr h ↦ go h.1 ]
 
-r_sound : (body : List ℕ) (f : Line) (rest : Option Line) → (rest ≡ Some f → Sound body f) → cond (starts_with nat_eq body (codes "r ")) (option_and_then (λ (k : List ℕ × ℕ). Some (line.Read k.0 k.1)) (keyed_of (drop 2 body))) rest ≡ Some f → Sound body f
-r_sound body f rest go e =
+r_sound : (v : Version) (body : List ℕ) (f : Line) (rest : Option Line) → (rest ≡ Some f → Sound v body f) → cond (starts_with nat_eq body (codes "r ")) (option_and_then (λ (k : List ℕ × ℕ). Some (line.Read k.0 k.1)) (keyed_of (drop 2 body))) rest ≡ Some f → Sound v body f
+r_sound v body f rest go e =
     elim (chosen (starts_with nat_eq body (codes "r ")) (option_and_then (λ (k : List ℕ × ℕ). Some (line.Read k.0 k.1)) (keyed_of (drop 2 body))) rest (Some f) e)
-    [ inl h ↦ read_line_sound body f h.0 h.1 | inr h ↦ go h.1 ]
+    [ inl h ↦ read_line_sound v body f h.0 h.1 | inr h ↦ go h.1 ]
 
-s_sound : (body : List ℕ) (f : Line) (rest : Option Line) → (rest ≡ Some f → Sound body f) → cond (starts_with nat_eq body (codes "session ")) (session_of (drop 8 body)) rest ≡ Some f → Sound body f
-s_sound body f rest go e =
+s_sound : (v : Version) (body : List ℕ) (f : Line) (rest : Option Line) → (rest ≡ Some f → Sound v body f) → cond (starts_with nat_eq body (codes "session ")) (session_of (drop 8 body)) rest ≡ Some f → Sound v body f
+s_sound v body f rest go e =
     elim (chosen (starts_with nat_eq body (codes "session ")) (session_of (drop 8 body)) rest (Some f) e)
-    [ inl h ↦ session_line_sound body f h.0 h.1 | inr h ↦ go h.1 ]
+    [ inl h ↦ session_line_sound v body f h.0 h.1 | inr h ↦ go h.1 ]
 
-word_or : (body word : List ℕ) (f g : Line) (rest : Option Line) → word ≡ line_text g → IsLegalLine g → (rest ≡ Some f → Sound body f) → cond (bytes_eq body word) (Some g) rest ≡ Some f → Sound body f
-word_or body word f g rest text legal go e =
+word_or : (v : Version) (body word : List ℕ) (f g : Line) (rest : Option Line) → word ≡ line_text g → IsLegalLine v g → (rest ≡ Some f → Sound v body f) → cond (bytes_eq body word) (Some g) rest ≡ Some f → Sound v body f
+word_or v body word f g rest text legal go e =
     elim (chosen (bytes_eq body word) (Some g) rest (Some f) e)
-    [ inl h ↦ word_sound body word f g h.0 h.1 text legal | inr h ↦ go h.1 ]
+    [ inl h ↦ word_sound v body word f g h.0 h.1 text legal | inr h ↦ go h.1 ]
 
-pub form_sound : (body : List ℕ) (f : Line) → form_of body ≡ Some f → (body ≡ line_text f) × IsLegalLine f
-unfolding form_of line_text
-form_sound body f e =
-    word_or body (codes "begin") f line.Begin _ refl tt
-    (word_or body (codes "commit") f line.Commit _ refl tt
-    (word_or body (codes "abort") f line.Abort _ refl tt
-    (s_sound body f _ (r_sound body f _ (w_sound body f))))) e
+-- the line that one version has
+unknown_sound : (v : Version) (body : List ℕ) (f : Line) → cond (has_unknown_line v && bytes_eq body (codes "unknown")) (Some line.Unknown) None ≡ Some f → Sound v body f
+unfolding line_text
+unknown_sound v body f e =
+    let found = cond_some (has_unknown_line v && bytes_eq body (codes "unknown")) line.Unknown f e in
+    let parts = and_parts (has_unknown_line v) (bytes_eq body (codes "unknown")) found.0 in
+    word_sound v body (codes "unknown") f line.Unknown parts.1 (ap (λ x. Some x) found.1) refl parts.0
 
-pub form_complete : (f : Line) → IsLegalLine f → form_of (line_text f) ≡ Some f
+pub form_sound : (v : Version) (body : List ℕ) (f : Line) → form_of v body ≡ Some f → (body ≡ line_text f) × IsLegalLine v f
 unfolding form_of line_text
-form_complete (line.Session n) h = session_complete n h.0 h.1
-form_complete line.Begin h = refl
-form_complete (line.Read k n) h = rw (keyed_complete k n h.0 h.1) refl
-form_complete (line.Write k n) h = rw (keyed_complete k n h.0 h.1) refl
-form_complete line.Commit h = refl
-form_complete line.Abort h = refl
+form_sound v body f e =
+    word_or v body (codes "begin") f line.Begin _ refl tt
+    (word_or v body (codes "commit") f line.Commit _ refl tt
+    (word_or v body (codes "abort") f line.Abort _ refl tt
+    (s_sound v body f _ (r_sound v body f _ (w_sound v body f _ (unknown_sound v body f)))))) e
+
+pub form_complete : (v : Version) (f : Line) → IsLegalLine v f → form_of v (line_text f) ≡ Some f
+unfolding form_of line_text
+form_complete v (line.Session n) h = session_complete n h.0 h.1
+form_complete v line.Begin h = refl
+form_complete v (line.Read k n) h = rw (keyed_complete k n h.0 h.1) refl
+form_complete v (line.Write k n) h = rw (keyed_complete k n h.0 h.1) refl
+form_complete v line.Commit h = refl
+form_complete v line.Abort h = refl
+form_complete v line.Unknown h = rw h refl

@@ -1,9 +1,9 @@
 -- The lines of a text, by its first LF.
-use Rattle.std.proofs.Common.{◌≡◌, ℕ, ◌+◌, ◌<◌, ◌≤◌, suc, Bool, true, false, cond, eqb, List, [], ◌∷◌, ◌++◌, length, take, drop, nat_lt, Some, None, refl, sym, ap, ◌∙◌, arith, ◌==◌, position, subst}
-use Rattle.std.proofs.lemmas.Bool.{eqb-true}
+use Rattle.std.proofs.Common.{◌≡◌, ℕ, ◌+◌, ◌<◌, ◌≤◌, suc, Bool, true, false, not, cond, eqb, List, [], ◌∷◌, ◌++◌, length, take, drop, nat_lt, Some, None, refl, sym, ap, ◌∙◌, arith, ◌==◌, position, subst}
+use Rattle.std.proofs.lemmas.Bool.{eqb-true, and_parts, not-true}
 use Rattle.std.proofs.lemmas.Bool.{ltb-false}
 use borrow.Author.Tests.{ltb-true}
-use Rattle.std.specs.List.{position_or_len}
+use Rattle.std.specs.List.{position_or_len, list_all}
 use Rattle.session_log.specs.Lines.{lines, onto_line}
 
 abbrev pub is_lf : ℕ → Bool
@@ -99,3 +99,16 @@ split_at_space = split_at 32
 
 pub lines_unended : (bs : List ℕ) → 0 < length bs → None ≡ position is_lf bs → lines bs ≡ (bs, false) ∷ lines []
 lines_unended bs h is = lines_last bs h (position_none is_lf bs is) ∙ ap (λ ls. (bs, false) ∷ ls) (sym lines-nil)
+
+-- no line has an LF inside
+abbrev pub is_other : ℕ → Bool
+is_other b = not (b == 10)
+
+-- a line and its LF
+pub lines_line : (body rest : List ℕ) → list_all is_other body ≡ true → lines (body ++ 10 ∷ rest) ≡ (body, true) ∷ lines rest
+unfolding lines
+lines_line [] rest h = refl
+lines_line (b ∷ body) rest h =
+    let parts = and_parts (is_other b) (list_all is_other body) h in
+    let ne = not-true (b == 10) parts.0 in
+    rw (ne, lines_line body rest parts.1) refl

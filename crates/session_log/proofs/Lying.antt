@@ -8,8 +8,10 @@ use Rattle.session_log.specs.Lines.{lines, bytes_of, onto_line}
 use Rattle.session_log.specs.Faults.{is_session_line, IsBlock}
 use Rattle.session_log.specs.Blocks.{ends_block, onto_block, blocks, text_of, located, blocks_of, block_text}
 use Rattle.session_log.specs.declared.block.Block.{Block}
-use Rattle.session_log.proofs.Lines.{lines-nil, lines-cons, lines-cons_lf}
-use Rattle.session_log.proofs.Whole.{is_other, lines_line}
+use Rattle.session_log.proofs.Lines.{lines-nil, lines-cons, lines-cons_lf, is_other, lines_line}
+use Rattle.session_log.proofs.Versions.{header_and_body, header_room}
+use Rattle.session_log.specs.Version.{header_text, first_line, version_of, body_of}
+use Rattle.session_log.specs.declared.version.Version.{Version}
 
 -- lines as a text has them: only the last may lack its LF, and then it is not empty
 abbrev pub AreLines : List (List ℕ × Bool) → Type 0
@@ -64,14 +66,14 @@ one_line body true h k = ap lines (append-nil (body ++ 10 ∷ [])) ∙ (lines_li
 one_line body false h (inl e) = cc
 one_line body false h (inr k) = ap lines (append-nil (body ++ []) ∙ append-nil body) ∙ unended body h k
 
-first_line : (body : List ℕ) (ended : Bool) (rest : List ℕ) → list_all is_other body ≡ true → ended ≡ true → lines (bytes_of (body, ended) ++ rest) ≡ (body, ended) ∷ lines rest
-first_line body true rest h e = ap lines (append_assoc body (10 ∷ []) rest) ∙ lines_line body rest h
-first_line body false rest h e = cc
+first_of_lines : (body : List ℕ) (ended : Bool) (rest : List ℕ) → list_all is_other body ≡ true → ended ≡ true → lines (bytes_of (body, ended) ++ rest) ≡ (body, ended) ∷ lines rest
+first_of_lines body true rest h e = ap lines (append_assoc body (10 ∷ []) rest) ∙ lines_line body rest h
+first_of_lines body false rest h e = cc
 
 pub lines_text_of : (ls : List (List ℕ × Bool)) → AreLines ls → lines (text_of ls) ≡ ls
 lines_text_of [] h = lines-nil
 lines_text_of (l ∷ []) h = one_line l.0 l.1 h.0 h.1
-lines_text_of (l ∷ m ∷ ls) h = first_line l.0 l.1 (text_of (m ∷ ls)) h.0 h.1 ∙ ap (λ x. l ∷ x) (lines_text_of (m ∷ ls) h.2)
+lines_text_of (l ∷ m ∷ ls) h = first_of_lines l.0 l.1 (text_of (m ∷ ls)) h.0 h.1 ∙ ap (λ x. l ∷ x) (lines_text_of (m ∷ ls) h.2)
 
 -- the blocks of such lines
 abbrev pub Good : List (List ℕ × Bool) → Type 0
@@ -150,9 +152,9 @@ bytes_some (l ∷ m ∷ ls) h =
     let len = length-append (bytes_of l) (text_of (m ∷ ls)) in
     omega (arith, some, later, len)
 
-pub lies_all : (text front : List ℕ) (gs : List (List (List ℕ × Bool))) (at n : ℕ) → text ≡ front ++ flat_map text_of gs → at ≡ length front → n ≤ at + 1 → AllByRecursion Good gs → AllByRecursion (Lies text) (located at n gs)
-lies_all text front [] at n e a m h = tt
-lies_all text front (g ∷ gs) at n e a m h =
+pub lies_all : (v : Version) (text front : List ℕ) (gs : List (List (List ℕ × Bool))) (at n : ℕ) → text ≡ front ++ flat_map text_of gs → at ≡ length front → n ≤ at + 1 → AllByRecursion Good gs → AllByRecursion (Lies text) (located v at n gs)
+lies_all v text front [] at n e a m h = tt
+lies_all v text front (g ∷ gs) at n e a m h =
     let len = length-append front (text_of g ++ flat_map text_of gs) in
     let len' = length-append (text_of g) (flat_map text_of gs) in
     let whole = ap length e in
@@ -166,11 +168,13 @@ lies_all text front (g ∷ gs) at n e a m h =
         line = m;
         block = subst IsBlock (sym (ap lines slice ∙ lines_text_of g h.0.1)) h.0.0;
       },
-      lies_all text (front ++ text_of g) gs (at + length (text_of g)) (n + length g) (e ∙ sym (append_assoc front (text_of g) (flat_map text_of gs))) (omega (arith, a, next)) (omega (arith, m, some)) h.1,
+      lies_all v text (front ++ text_of g) gs (at + length (text_of g)) (n + length g) (e ∙ sym (append_assoc front (text_of g) (flat_map text_of gs))) (omega (arith, a, next)) (omega (arith, m, some)) h.1,
     )
 
 pub lies : (text : List ℕ) (b : Block) → Contains (blocks_of text) b → Lies text b
 unfolding blocks_of
 lies text b h =
-    let all = lies_all text [] (blocks (lines text)) 0 1 (sym (text_of_lines_is text) ∙ sym (text_blocks (lines text))) refl (omega arith) (good_blocks (lines text) (are_lines text)) in
-    subst (Lies text) h.2 (All-from_recursion (Lies text) (located 0 1 (blocks (lines text))) all h.0 b h.1)
+    let v = version_of text in
+    let ls = lines (body_of text) in
+    let all = lies_all v text (header_text v) (blocks ls) (length (header_text v)) (first_line v) (header_and_body text ∙ ap (λ bs. header_text v ++ bs) (sym (text_of_lines_is (body_of text)) ∙ sym (text_blocks ls))) refl (header_room v) (good_blocks ls (are_lines (body_of text))) in
+    subst (Lies text) h.2 (All-from_recursion (Lies text) (located v (length (header_text v)) (first_line v) (blocks ls)) all h.0 b h.1)

@@ -3,10 +3,11 @@ use Rattle.std.proofs.Common.{◌≡◌, ℕ, ◌+◌, ◌<◌, ◌^◌, Bool, t
 use Rattle.std.specs.List.{starts_with}
 use Rattle.session_log.specs.Lines.{lines, bytes_of}
 use Rattle.session_log.specs.Text.{line_text, text_of_lines, IsLegalLine}
-use Rattle.session_log.specs.Faults.{Place, Start, Between, Inside, after, after_form, form_at, step, first_fault, is_session_line, IsBlock, NoSessionLine, IsFault, FailsAs, going_on}
+use Rattle.session_log.specs.Faults.{Place, Start, Between, Inside, Over, after, after_form, form_at, step, first_fault, is_session_line, IsBlock, NoSessionLine, IsFault, FailsAs, going_on}
 use Rattle.session_log.specs.Reading.{IsBodyLine}
 use Rattle.session_log.specs.declared.line.Line.{Line}
 use Rattle.session_log.specs.declared.line.Line.TheVariants as line
+use Rattle.session_log.specs.declared.version.Version.{Version}
 use Rattle.session_log.specs.declared.fault.LogFault.{LogFault}
 use Rattle.session_log.specs.declared.fault.LogFault.TheVariants as faults
 use Rattle.session_log.specs.Reading.{Adds, Takes, place_of, lines_of}
@@ -17,54 +18,57 @@ use Rattle.std.proofs.lemmas.List.{append-nil}
 use Rattle.std.proofs.lemmas.List.Concat.{flat_map-append}
 use Rattle.session_log.proofs.Forms.{form_sound}
 
-pub step_start : (n : ℕ) (l : List ℕ × Bool) → step n Start l ≡ after_form n Start (form_at l)
+pub step_start : (v : Version) (n : ℕ) (l : List ℕ × Bool) → step v n Start l ≡ after_form n Start (form_at v l)
 unfolding step
-step_start n l = refl
+step_start v n l = refl
 
-pub step_body : (n : ℕ) (p : Place) (l : List ℕ × Bool) → is_session_line l ≡ false → step n p l ≡ after_form n p (form_at l)
+pub step_body : (v : Version) (n : ℕ) (p : Place) (l : List ℕ × Bool) → is_session_line l ≡ false → step v n p l ≡ after_form n p (form_at v l)
 unfolding step
-step_body n Start l h = refl
-step_body n Between l h = refl
-step_body n (Inside b) l h = rw h refl
+step_body v n Start l h = refl
+step_body v n Between l h = refl
+step_body v n (Inside b) l h = rw h refl
+step_body v n Over l h = refl
 
 -- a form that is not a session's, of a line that does not begin as one
 session_starts : (k : ℕ) (body : List ℕ) → body ≡ line_text (line.Session k) → starts_with nat_eq body (codes "session") ≡ true
 unfolding line_text
 session_starts k body e = rw e refl
 
-form_body : (body : List ℕ) (f : Line) → starts_with nat_eq body (codes "session") ≡ false → body ≡ line_text f → IsBodyLine f
-form_body body (line.Session k) h e = absurd (cc (session_starts k body e))
-form_body body line.Begin h e = tt
-form_body body (line.Read k n) h e = tt
-form_body body (line.Write k n) h e = tt
-form_body body line.Commit h e = tt
-form_body body line.Abort h e = tt
+form_body : (v : Version) (body : List ℕ) (f : Line) → starts_with nat_eq body (codes "session") ≡ false → body ≡ line_text f → IsBodyLine f
+form_body v body (line.Session k) h e = absurd (cc (session_starts k body e))
+form_body v body line.Begin h e = tt
+form_body v body (line.Read k n) h e = tt
+form_body v body (line.Write k n) h e = tt
+form_body v body line.Commit h e = tt
+form_body v body line.Abort h e = tt
+form_body v body line.Unknown h e = tt
 
-pub body_line : (l : List ℕ × Bool) (f : Line) → is_session_line l ≡ false → form_at l ≡ Some f → IsBodyLine f
-body_line (body, true) f h e = form_body body f h (form_sound body f e).0
-body_line (body, false) f h e = cc
+pub body_line : (v : Version) (l : List ℕ × Bool) (f : Line) → is_session_line l ≡ false → form_at v l ≡ Some f → IsBodyLine f
+body_line v (body, true) f h e = form_body v body f h (form_sound v body f e).0
+body_line v (body, false) f h e = cc
 
 -- the bytes and what they hold
-pub form_bytes : (l : List ℕ × Bool) (f : Line) → form_at l ≡ Some f → (bytes_of l ≡ line_text f ++ 10 ∷ []) × IsLegalLine f
-form_bytes (body, true) f e = let s = form_sound body f e in (ap (λ xs. xs ++ 10 ∷ []) s.0, s.1)
-form_bytes (body, false) f e = cc
+pub form_bytes : (v : Version) (l : List ℕ × Bool) (f : Line) → form_at v l ≡ Some f → (bytes_of l ≡ line_text f ++ 10 ∷ []) × IsLegalLine v f
+form_bytes v (body, true) f e = let s = form_sound v body f e in (ap (λ xs. xs ++ 10 ∷ []) s.0, s.1)
+form_bytes v (body, false) f e = cc
 
 -- going on, and stopping
-pub fault_on : (n : ℕ) (p q : Place) (l : List ℕ × Bool) (ls rest : List (List ℕ × Bool)) → rest ≡ l ∷ ls → step n p l ≡ Ok q → first_fault n p rest ≡ first_fault (n + 1) q ls
-fault_on n p q l ls rest e h = ap (first_fault n p) e ∙ ap (λ r. going_on r (λ q. first_fault (n + 1) q ls)) h
+pub fault_on : (v : Version) (n : ℕ) (p q : Place) (l : List ℕ × Bool) (ls rest : List (List ℕ × Bool)) → rest ≡ l ∷ ls → step v n p l ≡ Ok q → first_fault v n p rest ≡ first_fault v (n + 1) q ls
+fault_on v n p q l ls rest e h = ap (first_fault v n p) e ∙ ap (λ r. going_on r (λ q. first_fault v (n + 1) q ls)) h
 
-stops : (n : ℕ) (p : Place) (l : List ℕ × Bool) (ls rest : List (List ℕ × Bool)) (f : LogFault) → rest ≡ l ∷ ls → step n p l ≡ Err f → first_fault n p rest ≡ Some f
-stops n p l ls rest f e h = ap (first_fault n p) e ∙ ap (λ r. going_on r (λ q. first_fault (n + 1) q ls)) h
+stops : (v : Version) (n : ℕ) (p : Place) (l : List ℕ × Bool) (ls rest : List (List ℕ × Bool)) (f : LogFault) → rest ≡ l ∷ ls → step v n p l ≡ Err f → first_fault v n p rest ≡ Some f
+stops v n p l ls rest f e h = ap (first_fault v n p) e ∙ ap (λ r. going_on r (λ q. first_fault v (n + 1) q ls)) h
 
-pub fault_stop : (n : ℕ) (p : Place) (l : List ℕ × Bool) (ls rest : List (List ℕ × Bool)) (f : LogFault) → rest ≡ l ∷ ls → FailsAs f (step n p l) → IsFault f (first_fault n p rest)
-fault_stop n p l ls rest faults.Memory e h = tt
-fault_stop n p l ls rest (faults.BadLine k) e h = stops n p l ls rest (faults.BadLine k) e h
-fault_stop n p l ls rest (faults.SessionTwice k) e h = stops n p l ls rest (faults.SessionTwice k) e h
-fault_stop n p l ls rest (faults.OutsideTransaction k) e h = stops n p l ls rest (faults.OutsideTransaction k) e h
-fault_stop n p l ls rest (faults.OpenTransaction k) e h = stops n p l ls rest (faults.OpenTransaction k) e h
-fault_stop n p l ls rest (faults.WriteZero k) e h = stops n p l ls rest (faults.WriteZero k) e h
-fault_stop n p l ls rest (faults.WriteTwice k) e h = stops n p l ls rest (faults.WriteTwice k) e h
-fault_stop n p l ls rest (faults.OverLimit k) e h = stops n p l ls rest (faults.OverLimit k) e h
+pub fault_stop : (v : Version) (n : ℕ) (p : Place) (l : List ℕ × Bool) (ls rest : List (List ℕ × Bool)) (f : LogFault) → rest ≡ l ∷ ls → FailsAs f (step v n p l) → IsFault f (first_fault v n p rest)
+fault_stop v n p l ls rest faults.Memory e h = tt
+fault_stop v n p l ls rest (faults.BadLine k) e h = stops v n p l ls rest (faults.BadLine k) e h
+fault_stop v n p l ls rest (faults.SessionTwice k) e h = stops v n p l ls rest (faults.SessionTwice k) e h
+fault_stop v n p l ls rest (faults.OutsideTransaction k) e h = stops v n p l ls rest (faults.OutsideTransaction k) e h
+fault_stop v n p l ls rest (faults.OpenTransaction k) e h = stops v n p l ls rest (faults.OpenTransaction k) e h
+fault_stop v n p l ls rest (faults.WriteZero k) e h = stops v n p l ls rest (faults.WriteZero k) e h
+fault_stop v n p l ls rest (faults.WriteTwice k) e h = stops v n p l ls rest (faults.WriteTwice k) e h
+fault_stop v n p l ls rest (faults.UnknownNotLast k) e h = stops v n p l ls rest (faults.UnknownNotLast k) e h
+fault_stop v n p l ls rest (faults.OverLimit k) e h = stops v n p l ls rest (faults.OverLimit k) e h
 
 pub same_fault : (f : LogFault) (a b : Option LogFault) → a ≡ b → IsFault f b → IsFault f a
 same_fault faults.Memory a b e h = tt
@@ -74,6 +78,7 @@ same_fault (faults.OutsideTransaction k) a b e h = e ∙ h
 same_fault (faults.OpenTransaction k) a b e h = e ∙ h
 same_fault (faults.WriteZero k) a b e h = e ∙ h
 same_fault (faults.WriteTwice k) a b e h = e ∙ h
+same_fault (faults.UnknownNotLast k) a b e h = e ∙ h
 same_fault (faults.OverLimit k) a b e h = e ∙ h
 
 -- a block is not empty
@@ -93,37 +98,37 @@ pub text_on : (front old new bytes rest after text : List ℕ) → text ≡ (fro
 text_on front old new bytes rest after text a b c = rw (a, b, c) (simp append_assoc)
 
 -- what `with_line` says, of the line as it stands
-pub takes : (n : ℕ) (old : Reading) (l : List ℕ × Bool) (f : Line) (new : Reading) → is_session_line l ≡ false → Some f ≡ form_at l → Adds n old f new → Takes n old l new
-takes n old l f new h e adds =
-    let b = form_bytes l f (sym e) in
+pub takes : (v : Version) (n : ℕ) (old : Reading) (l : List ℕ × Bool) (f : Line) (new : Reading) → is_session_line l ≡ false → Some f ≡ form_at v l → Adds n old f new → Takes v n old l new
+takes v n old l f new h e adds =
+    let b = form_bytes v l f (sym e) in
     record {
-      place = step_body n (place_of old) l h ∙ (ap (after_form n (place_of old)) (sym e) ∙ adds.place);
+      place = step_body v n (place_of old) l h ∙ (ap (after_form n (place_of old)) (sym e) ∙ adds.place);
       text = ap text_of_lines adds.lines ∙ (flat_map-append (λ l. line_text l ++ 10 ∷ []) (lines_of old) (f ∷ []) ∙ ap (λ t. text_of_lines (lines_of old) ++ t) (append-nil (line_text f ++ 10 ∷ []) ∙ sym b.0));
-      legal = λ before. adds.legal before b.1;
+      legal = λ before. adds.legal v before b.1;
     }
 
-pub takes_ok : (n : ℕ) (old : Reading) (l : List ℕ × Bool) (f : Line) (r : Result Reading LogFault) → is_session_line l ≡ false → Some f ≡ form_at l → IfOk r (λ new. Adds n old f new) → IfOk r (λ new. Takes n old l new)
-takes_ok n old l f (Ok new) h e a = takes n old l f new h e a
-takes_ok n old l f (Err x) h e a = tt
+pub takes_ok : (v : Version) (n : ℕ) (old : Reading) (l : List ℕ × Bool) (f : Line) (r : Result Reading LogFault) → is_session_line l ≡ false → Some f ≡ form_at v l → IfOk r (λ new. Adds n old f new) → IfOk r (λ new. Takes v n old l new)
+takes_ok v n old l f (Ok new) h e a = takes v n old l f new h e a
+takes_ok v n old l f (Err x) h e a = tt
 
-pub fails_ok : (n : ℕ) (p : Place) (l : List ℕ × Bool) (f : Line) (r : Result Reading LogFault) → is_session_line l ≡ false → Some f ≡ form_at l → IfErr r (λ x. FailsAs x (after n p f)) → IfErr r (λ x. FailsAs x (step n p l))
-fails_ok n p l f (Ok new) h e a = tt
-fails_ok n p l f (Err x) h e a = rw (step_body n p l h, ← e) a
+pub fails_ok : (v : Version) (n : ℕ) (p : Place) (l : List ℕ × Bool) (f : Line) (r : Result Reading LogFault) → is_session_line l ≡ false → Some f ≡ form_at v l → IfErr r (λ x. FailsAs x (after n p f)) → IfErr r (λ x. FailsAs x (step v n p l))
+fails_ok v n p l f (Ok new) h e a = tt
+fails_ok v n p l f (Err x) h e a = rw (step_body v n p l h, ← e) a
 
-pub no_form : (n : ℕ) (p : Place) (l : List ℕ × Bool) → is_session_line l ≡ false → None ≡ form_at l → step n p l ≡ Err (faults.BadLine n)
-no_form n p l h e = step_body n p l h ∙ ap (after_form n p) (sym e)
+pub no_form : (v : Version) (n : ℕ) (p : Place) (l : List ℕ × Bool) → is_session_line l ≡ false → None ≡ form_at v l → step v n p l ≡ Err (faults.BadLine n)
+no_form v n p l h e = step_body v n p l h ∙ ap (after_form n p) (sym e)
 
-pub form_is_body : (l : List ℕ × Bool) (f : Line) → is_session_line l ≡ false → Some f ≡ form_at l → IsBodyLine f
-form_is_body l f h e = body_line l f h (sym e)
+pub form_is_body : (v : Version) (l : List ℕ × Bool) (f : Line) → is_session_line l ≡ false → Some f ≡ form_at v l → IsBodyLine f
+form_is_body v l f h e = body_line v l f h (sym e)
 
 -- the end of the lines
-pub fault_end : (n : ℕ) (p : Place) (rest : List ℕ) → 0 ≡ length rest → first_fault n p (lines rest) ≡ fault_at_end p
+pub fault_end : (v : Version) (n : ℕ) (p : Place) (rest : List ℕ) → 0 ≡ length rest → first_fault v n p (lines rest) ≡ fault_at_end p
 unfolding lines
-fault_end n p [] e = refl
-fault_end n p (b ∷ bs) e = absurd (omega arith)
+fault_end v n p [] e = refl
+fault_end v n p (b ∷ bs) e = absurd (omega arith)
 
-pub legal_header : (body : List ℕ) (ended : Bool) (k : ℕ) → form_at (body, ended) ≡ Some (line.Session k) → (bytes_of (body, ended) ≡ line_text (line.Session k) ++ 10 ∷ []) × (0 < k) × (k < 2 ^ 16)
-legal_header body ended k e = let b = form_bytes (body, ended) (line.Session k) e in (b.0, b.1.0, b.1.1)
+pub legal_header : (v : Version) (body : List ℕ) (ended : Bool) (k : ℕ) → form_at v (body, ended) ≡ Some (line.Session k) → (bytes_of (body, ended) ≡ line_text (line.Session k) ++ 10 ∷ []) × (0 < k) × (k < 2 ^ 16)
+legal_header v body ended k e = let b = form_bytes v (body, ended) (line.Session k) e in (b.0, b.1.0, b.1.1)
 
-pub step_header : (n : ℕ) (l : List ℕ × Bool) (k : ℕ) → form_at l ≡ Some (line.Session k) → step n Start l ≡ Ok Between
-step_header n l k e = step_start n l ∙ ap (after_form n Start) e
+pub step_header : (v : Version) (n : ℕ) (l : List ℕ × Bool) (k : ℕ) → form_at v l ≡ Some (line.Session k) → step v n Start l ≡ Ok Between
+step_header v n l k e = step_start v n l ∙ ap (after_form n Start) e

@@ -1,5 +1,5 @@
 -- A legal list of sessions is accepted, and no other has its text.
-use Rattle.std.proofs.Common.{◌≡◌, ◌≢◌, ℕ, zero, suc, ◌+◌, ◌<◌, ◌^◌, Bool, true, false, not, List, [], ◌∷◌, ◌++◌, map, None, Ok, refl, sym, ap, ◌∙◌, arith, append_assoc, ◌==◌}
+use Rattle.std.proofs.Common.{◌≡◌, ◌≢◌, ℕ, zero, suc, ◌+◌, ◌<◌, ◌^◌, Bool, true, false, not, List, [], ◌∷◌, ◌++◌, map, None, Ok, refl, sym, ap, ◌∙◌, subst, arith, append_assoc, ◌==◌}
 use Rattle.std.specs.Char.{is_ascii_digit}
 use Rattle.std.specs.Fmt.{decimal}
 use Rattle.std.specs.List.{flat_map, AllByRecursion, list_all}
@@ -10,25 +10,25 @@ use Rattle.std.proofs.lemmas.List.Folds.{list_all-append}
 use Rattle.std.proofs.lemmas.Fmt.{digits_decimal}
 use Rattle.session_log.specs.Key.{is_key_byte, IsKey}
 use Rattle.session_log.specs.Lines.{lines}
-use Rattle.session_log.specs.Text.{ClientSession, Transaction, line_text, text_of_lines, op_line, end_line, txn_lines, session_lines, session_text, log_text, IsLegal, IsLegalLine, IsLegalTxn, IsLegalOp}
-use Rattle.session_log.specs.Faults.{Place, Start, Between, Inside, first_fault, grammar_fault, step, after, after_form, form_at, is_session_line}
+use Rattle.session_log.specs.Text.{ClientSession, Transaction, line_text, text_of_lines, op_line, end_line, txn_lines, session_lines, session_text, log_text, IsLegal, IsLegalLine, IsLegalTxn, IsLegalOp, IsKnown, IsKnownBeforeLast, IsHeldBy, is_unknown}
+use Rattle.session_log.specs.Faults.{Place, Start, Between, Inside, Over, first_fault, grammar_fault, step, after, after_form, form_at, is_session_line}
 use Rattle.session_log.specs.declared.line.Line.{Line}
 use Rattle.session_log.specs.declared.line.Line.TheVariants as line
 use Rattle.session_log.specs.declared.session.Op.{Op}
 use Rattle.session_log.specs.declared.session.Op.TheVariants.{Read, Write}
 use Rattle.session_log.specs.declared.session.Outcome.{Outcome}
-use Rattle.session_log.specs.declared.session.Outcome.TheVariants.{Commit, Abort}
+use Rattle.session_log.specs.declared.session.Outcome.TheVariants.{Commit, Abort, Unknown}
+use Rattle.session_log.specs.Version.{header_text, first_line, version_of, body_of, has_unknown_line}
+use Rattle.session_log.specs.declared.version.Version.{Version}
+use Rattle.session_log.specs.declared.version.Version.TheVariants.{One, Two}
 use Rattle.std.specs.Option.{option_map_or}
-use Rattle.session_log.proofs.Lines.{lines-nil}
+use Rattle.session_log.proofs.Lines.{lines-nil, is_other, lines_line}
+use Rattle.session_log.proofs.Versions.{version_of_log, body_of_log}
 use Rattle.session_log.proofs.Digits.{own}
 use Rattle.session_log.proofs.Forms.{form_complete}
 use Rattle.session_log.proofs.Steps.{step_body, fault_on}
 
 -- no line has an LF inside
-
-abbrev pub is_other : ℕ → Bool
-is_other b = not (b == 10)
-
 weaker : (p q : ℕ → Bool) → ((b : ℕ) → p b ≡ true → q b ≡ true) → (xs : List ℕ) → list_all p xs ≡ true → list_all q xs ≡ true
 weaker p q to [] h = refl
 weaker p q to (x ∷ xs) h =
@@ -57,7 +57,7 @@ both_other xs ys a b = list_all-append is_other xs ys ∙ and_from (list_all is_
 keyed_other : (k : List ℕ) (n : ℕ) → IsKey k → n < 2 ^ 64 → list_all is_other (k ++ 32 ∷ decimal n) ≡ true
 keyed_other k n h fits = both_other k (32 ∷ decimal n) (weaker is_key_byte is_other key_other k (and_parts _ (list_all is_key_byte k) h).1) (decimal_other n fits)
 
-line_other : (f : Line) → IsLegalLine f → list_all is_other (line_text f) ≡ true
+line_other : (f : Line) → IsLegalLine Two f → list_all is_other (line_text f) ≡ true
 unfolding line_text
 line_other (line.Session n) h = decimal_other n (omega (arith, h.1))
 line_other line.Begin h = refl
@@ -65,63 +65,60 @@ line_other (line.Read k n) h = keyed_other k n h.0 h.1
 line_other (line.Write k n) h = keyed_other k n h.0 h.1
 line_other line.Commit h = refl
 line_other line.Abort h = refl
-
--- a line and its LF
-pub lines_line : (body rest : List ℕ) → list_all is_other body ≡ true → lines (body ++ 10 ∷ rest) ≡ (body, true) ∷ lines rest
-unfolding lines
-lines_line [] rest h = refl
-lines_line (b ∷ body) rest h =
-    let parts = and_parts (is_other b) (list_all is_other body) h in
-    let ne = not-true (b == 10) parts.0 in
-    rw (ne, lines_line body rest parts.1) refl
+line_other line.Unknown h = refl
 
 abbrev stands : Line → List ℕ × Bool
 stands f = (line_text f, true)
 
-lines_text : (fs : List Line) → AllByRecursion IsLegalLine fs → lines (text_of_lines fs) ≡ map stands fs
+lines_text : (fs : List Line) → AllByRecursion (IsLegalLine Two) fs → lines (text_of_lines fs) ≡ map stands fs
 lines_text [] h = lines-nil
 lines_text (f ∷ fs) h =
     ap lines (append_assoc (line_text f) (10 ∷ []) (text_of_lines fs)) ∙ (lines_line (line_text f) (text_of_lines fs) (line_other f h.0) ∙ ap (λ ls. stands f ∷ ls) (lines_text fs h.1))
 
 -- the lines of a legal list of sessions
 
-legal_append : (fs gs : List Line) → AllByRecursion IsLegalLine fs → AllByRecursion IsLegalLine gs → AllByRecursion IsLegalLine (fs ++ gs)
+legal_append : (fs gs : List Line) → AllByRecursion (IsLegalLine Two) fs → AllByRecursion (IsLegalLine Two) gs → AllByRecursion (IsLegalLine Two) (fs ++ gs)
 legal_append [] gs a b = b
 legal_append (f ∷ fs) gs a b = (a.0, legal_append fs gs a.1 b)
 
-legal_op : (o : Op) → IsLegalOp o → IsLegalLine (op_line o)
-legal_op (Read k n) h = h
-legal_op (Write k n) h = (h.0, h.2)
+legal_op : (v : Version) (o : Op) → IsLegalOp o → IsLegalLine v (op_line o)
+legal_op v (Read k n) h = h
+legal_op v (Write k n) h = (h.0, h.2)
 
-legal_ops : (os : List Op) → AllByRecursion IsLegalOp os → AllByRecursion IsLegalLine (map op_line os)
+legal_ops : (os : List Op) → AllByRecursion IsLegalOp os → AllByRecursion (IsLegalLine Two) (map op_line os)
 legal_ops [] h = tt
-legal_ops (o ∷ os) h = (legal_op o h.0, legal_ops os h.1)
+legal_ops (o ∷ os) h = (legal_op Two o h.0, legal_ops os h.1)
 
-legal_end : (o : Outcome) → AllByRecursion IsLegalLine (end_line o ∷ [])
+legal_end : (o : Outcome) → AllByRecursion (IsLegalLine Two) (end_line o ∷ [])
 legal_end Commit = (tt, tt)
 legal_end Abort = (tt, tt)
+legal_end Unknown = (refl, tt)
 
-legal_txn : (t : Transaction) → IsLegalTxn t → AllByRecursion IsLegalLine (txn_lines t)
+legal_txn : (t : Transaction) → IsLegalTxn t → AllByRecursion (IsLegalLine Two) (txn_lines t)
 legal_txn t h = legal_append (line.Begin ∷ map op_line t.ops) (end_line t.outcome ∷ []) (tt, legal_ops t.ops h) (legal_end t.outcome)
 
-legal_txns : (ts : List Transaction) → AllByRecursion IsLegalTxn ts → AllByRecursion IsLegalLine (flat_map txn_lines ts)
+legal_txns : (ts : List Transaction) → AllByRecursion IsLegalTxn ts → AllByRecursion (IsLegalLine Two) (flat_map txn_lines ts)
 legal_txns [] h = tt
 legal_txns (t ∷ ts) h = legal_append (txn_lines t) (flat_map txn_lines ts) (legal_txn t h.0) (legal_txns ts h.1)
 
-legal_session : (s : ClientSession) → IsLegal s → AllByRecursion IsLegalLine (session_lines s)
+legal_session : (s : ClientSession) → IsLegal s → AllByRecursion (IsLegalLine Two) (session_lines s)
 legal_session s h = ((h.low, h.high), legal_txns s.txns h.txns)
 
-legal_sessions : (ss : List ClientSession) → AllByRecursion IsLegal ss → AllByRecursion IsLegalLine (flat_map session_lines ss)
+legal_sessions : (ss : List ClientSession) → AllByRecursion IsLegal ss → AllByRecursion (IsLegalLine Two) (flat_map session_lines ss)
 legal_sessions [] h = tt
 legal_sessions (s ∷ ss) h = legal_append (session_lines s) (flat_map session_lines ss) (legal_session s h.0) (legal_sessions ss h.1)
 
-pub log_by_lines : (ss : List ClientSession) → log_text ss ≡ text_of_lines (flat_map session_lines ss)
-unfolding log_text session_text
-log_by_lines [] = refl
-log_by_lines (s ∷ ss) = ap (λ t. session_text s ++ t) (log_by_lines ss) ∙ sym (flat_map-append (λ l. line_text l ++ 10 ∷ []) (session_lines s) (flat_map session_lines ss))
+pub texts_by_lines : (ss : List ClientSession) → flat_map session_text ss ≡ text_of_lines (flat_map session_lines ss)
+unfolding session_text
+texts_by_lines [] = refl
+texts_by_lines (s ∷ ss) = ap (λ t. session_text s ++ t) (texts_by_lines ss) ∙ sym (flat_map-append (λ l. line_text l ++ 10 ∷ []) (session_lines s) (flat_map session_lines ss))
 
-pub lines_log : (ss : List ClientSession) → AllByRecursion IsLegal ss → lines (log_text ss) ≡ map stands (flat_map session_lines ss)
-lines_log ss h = ap lines (log_by_lines ss) ∙ lines_text (flat_map session_lines ss) (legal_sessions ss h)
+pub log_by_lines : (v : Version) (ss : List ClientSession) → log_text v ss ≡ header_text v ++ text_of_lines (flat_map session_lines ss)
+unfolding log_text
+log_by_lines v ss = ap (λ t. header_text v ++ t) (texts_by_lines ss)
+
+pub lines_log : (v : Version) (ss : List ClientSession) → AllByRecursion IsLegal ss → lines (body_of (log_text v ss)) ≡ map stands (flat_map session_lines ss)
+lines_log v ss h = ap lines (body_of_log v ss ∙ texts_by_lines ss) ∙ lines_text (flat_map session_lines ss) (legal_sessions ss h)
 
 -- they are read back
 
@@ -136,13 +133,14 @@ add_line (line.Read k n) r = (add_op (Read k n) r.0, r.1)
 add_line (line.Write k n) r = (add_op (Write k n) r.0, r.1)
 add_line line.Commit r = (record { ops = []; outcome = Commit } ∷ r.0, r.1)
 add_line line.Abort r = (record { ops = []; outcome = Abort } ∷ r.0, r.1)
+add_line line.Unknown r = (record { ops = []; outcome = Unknown } ∷ r.0, r.1)
 
 abbrev read_back : List (List ℕ × Bool) → List Transaction × List ClientSession
 read_back [] = ([], [])
-read_back (l ∷ ls) = option_map_or (λ f. add_line f (read_back ls)) (form_at l) (read_back ls)
+read_back (l ∷ ls) = option_map_or (λ f. add_line f (read_back ls)) (form_at Two l) (read_back ls)
 
-read_line : (f : Line) (ls : List (List ℕ × Bool)) → IsLegalLine f → read_back (stands f ∷ ls) ≡ add_line f (read_back ls)
-read_line f ls h = ap (λ o. option_map_or (λ f. add_line f (read_back ls)) o (read_back ls)) (form_complete f h)
+read_line : (f : Line) (ls : List (List ℕ × Bool)) → IsLegalLine Two f → read_back (stands f ∷ ls) ≡ add_line f (read_back ls)
+read_line f ls h = ap (λ o. option_map_or (λ f. add_line f (read_back ls)) o (read_back ls)) (form_complete Two f h)
 
 read_op : (o : Op) (ls : List (List ℕ × Bool)) → IsLegalOp o → read_back (stands (op_line o) ∷ ls) ≡ (add_op o (read_back ls).0, (read_back ls).1)
 read_op (Read k n) ls h = read_line (line.Read k n) ls h
@@ -151,6 +149,7 @@ read_op (Write k n) ls h = read_line (line.Write k n) ls (h.0, h.2)
 read_end : (o : Outcome) (ls : List (List ℕ × Bool)) → read_back (stands (end_line o) ∷ ls) ≡ (record { ops = []; outcome = o } ∷ (read_back ls).0, (read_back ls).1)
 read_end Commit ls = read_line line.Commit ls tt
 read_end Abort ls = read_line line.Abort ls tt
+read_end Unknown ls = read_line line.Unknown ls refl
 
 read_ops : (os : List Op) (end : Outcome) (ls : List (List ℕ × Bool)) → AllByRecursion IsLegalOp os → read_back (map stands (map op_line os ++ end_line end ∷ []) ++ ls) ≡ (record { ops = os; outcome = end } ∷ (read_back ls).0, (read_back ls).1)
 read_ops [] end ls h = read_end end ls
@@ -174,25 +173,27 @@ read_sessions (s ∷ ss) h =
     ∙ (read_line (line.Session s.number) (map stands (flat_map txn_lines s.txns) ++ map stands (flat_map session_lines ss)) (h.0.low, h.0.high)
     ∙ ap (add_line (line.Session s.number)) (read_txns s.txns (map stands (flat_map session_lines ss)) h.0.txns (ap (λ (r : List Transaction × List ClientSession). r.0) later) ∙ ap (λ (r : List Transaction × List ClientSession). (s.txns, r.1)) later))
 
-pub log_text_injective : (a b : List ClientSession) → AllByRecursion IsLegal a → AllByRecursion IsLegal b → log_text a ≡ log_text b → a ≡ b
-log_text_injective a b h k e =
-    let one = ap read_back (lines_log a h) ∙ read_sessions a h in
-    let two = ap read_back (lines_log b k) ∙ read_sessions b k in
-    ap (λ (r : List Transaction × List ClientSession). r.1) (sym one ∙ (ap (λ t. read_back (lines t)) e ∙ two))
+pub log_text_injective : (v w : Version) (a b : List ClientSession) → AllByRecursion IsLegal a → AllByRecursion IsLegal b → log_text v a ≡ log_text w b → (v ≡ w) × (a ≡ b)
+log_text_injective v w a b h k e =
+    let one = ap read_back (lines_log v a h) ∙ read_sessions a h in
+    let two = ap read_back (lines_log w b k) ∙ read_sessions b k in (
+      sym (version_of_log v a) ∙ (ap version_of e ∙ version_of_log w b),
+      ap (λ (r : List Transaction × List ClientSession). r.1) (sym one ∙ (ap (λ t. read_back (lines (body_of t))) e ∙ two)),
+    )
 
 -- and no fault is met
 
-abbrev GoesOn : Place → List (List ℕ × Bool) → List (List ℕ × Bool) → Place → Type 0
-GoesOn p ls rest q = (n : ℕ) → (m : ℕ) × (first_fault n p ls ≡ first_fault m q rest)
+abbrev GoesOn : Version → Place → List (List ℕ × Bool) → List (List ℕ × Bool) → Place → Type 0
+GoesOn v p ls rest q = (n : ℕ) → (m : ℕ) × (first_fault v n p ls ≡ first_fault v m q rest)
 
-goes_then : (p q r : Place) (xs ys zs : List (List ℕ × Bool)) → GoesOn p xs ys q → GoesOn q ys zs r → GoesOn p xs zs r
-goes_then p q r xs ys zs a b n = let one = a n in let two = b one.0 in (two.0, one.1 ∙ two.1)
+goes_then : (v : Version) (p q r : Place) (xs ys zs : List (List ℕ × Bool)) → GoesOn v p xs ys q → GoesOn v q ys zs r → GoesOn v p xs zs r
+goes_then v p q r xs ys zs a b n = let one = a n in let two = b one.0 in (two.0, one.1 ∙ two.1)
 
-goes_line : (p q : Place) (f : Line) (ls : List (List ℕ × Bool)) → ((n : ℕ) → step n p (stands f) ≡ Ok q) → GoesOn p (stands f ∷ ls) ls q
-goes_line p q f ls h n = (n + 1, fault_on n p q (stands f) ls (stands f ∷ ls) refl (h n))
+goes_line : (v : Version) (p q : Place) (f : Line) (ls : List (List ℕ × Bool)) → ((n : ℕ) → step v n p (stands f) ≡ Ok q) → GoesOn v p (stands f ∷ ls) ls q
+goes_line v p q f ls h n = (n + 1, fault_on v n p q (stands f) ls (stands f ∷ ls) refl (h n))
 
-form_step : (n : ℕ) (p : Place) (f : Line) → is_session_line (stands f) ≡ false → IsLegalLine f → step n p (stands f) ≡ after n p f
-form_step n p f h k = step_body n p (stands f) h ∙ ap (after_form n p) (form_complete f k)
+form_step : (v : Version) (n : ℕ) (p : Place) (f : Line) → is_session_line (stands f) ≡ false → IsLegalLine v f → step v n p (stands f) ≡ after n p f
+form_step v n p f h k = step_body v n p (stands f) h ∙ ap (after_form n p) (form_complete v f k)
 
 is_session_line-op : (o : Op) → is_session_line (stands (op_line o)) ≡ false
 unfolding line_text
@@ -203,6 +204,7 @@ is_session_line-end : (o : Outcome) → is_session_line (stands (end_line o)) �
 unfolding line_text
 is_session_line-end Commit = refl
 is_session_line-end Abort = refl
+is_session_line-end Unknown = refl
 
 is_session_line-begin : is_session_line (stands line.Begin) ≡ false
 unfolding line_text
@@ -213,46 +215,99 @@ after_op n b (Read k w) h = refl
 after_op n b (Write k zero) h = absurd (omega (arith, h.1))
 after_op n b (Write k (suc w)) h = refl
 
-after_end : (n b : ℕ) (o : Outcome) → after n (Inside b) (end_line o) ≡ Ok Between
+-- the place behind a transaction, and what its outcome asks of the version
+abbrev end_place : Outcome → Place
+end_place Commit = Between
+end_place Abort = Between
+end_place Unknown = Over
+
+abbrev MayEnd : Version → Outcome → Type 0
+MayEnd v o = is_unknown o ≡ true → has_unknown_line v ≡ true
+
+after_end : (n b : ℕ) (o : Outcome) → after n (Inside b) (end_line o) ≡ Ok (end_place o)
 after_end n b Commit = refl
 after_end n b Abort = refl
+after_end n b Unknown = refl
 
-goes_ops : (b : ℕ) (os : List Op) (end : Outcome) (ls : List (List ℕ × Bool)) → AllByRecursion IsLegalOp os → GoesOn (Inside b) (map stands (map op_line os ++ end_line end ∷ []) ++ ls) ls Between
-goes_ops b [] end ls h = goes_line (Inside b) Between (end_line end) ls (λ n. form_step n (Inside b) (end_line end) (is_session_line-end end) (legal_end end).0 ∙ after_end n b end)
-goes_ops b (o ∷ os) end ls h =
-    goes_then (Inside b) (Inside b) Between (map stands (map op_line (o ∷ os) ++ end_line end ∷ []) ++ ls) (map stands (map op_line os ++ end_line end ∷ []) ++ ls) ls
-    (goes_line (Inside b) (Inside b) (op_line o) (map stands (map op_line os ++ end_line end ∷ []) ++ ls) (λ n. form_step n (Inside b) (op_line o) (is_session_line-op o) (legal_op o h.0) ∙ after_op n b o h.0))
-    (goes_ops b os end ls h.1)
+end_in : (v : Version) (o : Outcome) → MayEnd v o → IsLegalLine v (end_line o)
+end_in v Commit h = tt
+end_in v Abort h = tt
+end_in v Unknown h = h refl
 
-goes_txn : (t : Transaction) (ls : List (List ℕ × Bool)) → IsLegalTxn t → GoesOn Between (map stands (txn_lines t) ++ ls) ls Between
-goes_txn t ls h n =
-    let begun = fault_on n Between (Inside n) (stands line.Begin) (map stands (map op_line t.ops ++ end_line t.outcome ∷ []) ++ ls) _ refl (form_step n Between line.Begin is_session_line-begin tt) in
-    let others = goes_ops n t.ops t.outcome ls h (n + 1) in
+goes_ops : (v : Version) (b : ℕ) (os : List Op) (end : Outcome) (ls : List (List ℕ × Bool)) → AllByRecursion IsLegalOp os → MayEnd v end → GoesOn v (Inside b) (map stands (map op_line os ++ end_line end ∷ []) ++ ls) ls (end_place end)
+goes_ops v b [] end ls h m = goes_line v (Inside b) (end_place end) (end_line end) ls (λ n. form_step v n (Inside b) (end_line end) (is_session_line-end end) (end_in v end m) ∙ after_end n b end)
+goes_ops v b (o ∷ os) end ls h m =
+    goes_then v (Inside b) (Inside b) (end_place end) (map stands (map op_line (o ∷ os) ++ end_line end ∷ []) ++ ls) (map stands (map op_line os ++ end_line end ∷ []) ++ ls) ls
+    (goes_line v (Inside b) (Inside b) (op_line o) (map stands (map op_line os ++ end_line end ∷ []) ++ ls) (λ n. form_step v n (Inside b) (op_line o) (is_session_line-op o) (legal_op v o h.0) ∙ after_op n b o h.0))
+    (goes_ops v b os end ls h.1 m)
+
+goes_txn : (v : Version) (t : Transaction) (ls : List (List ℕ × Bool)) → IsLegalTxn t → MayEnd v t.outcome → GoesOn v Between (map stands (txn_lines t) ++ ls) ls (end_place t.outcome)
+goes_txn v t ls h m n =
+    let begun = fault_on v n Between (Inside n) (stands line.Begin) (map stands (map op_line t.ops ++ end_line t.outcome ∷ []) ++ ls) _ refl (form_step v n Between line.Begin is_session_line-begin tt) in
+    let others = goes_ops v n t.ops t.outcome ls h m (n + 1) in
     (others.0, begun ∙ others.1)
 
-goes_txns : (ts : List Transaction) (ls : List (List ℕ × Bool)) → AllByRecursion IsLegalTxn ts → GoesOn Between (map stands (flat_map txn_lines ts) ++ ls) ls Between
-goes_txns [] ls h n = (n, refl)
-goes_txns (t ∷ ts) ls h n =
-    let same = ap (λ x. x ++ ls) (map-append stands (txn_lines t) (flat_map txn_lines ts)) ∙ append_assoc (map stands (txn_lines t)) (map stands (flat_map txn_lines ts)) ls in
-    let all = goes_then Between Between Between (map stands (txn_lines t) ++ (map stands (flat_map txn_lines ts) ++ ls)) (map stands (flat_map txn_lines ts) ++ ls) ls (goes_txn t (map stands (flat_map txn_lines ts) ++ ls) h.0) (goes_txns ts ls h.1) n in
-    (all.0, ap (first_fault n Between) same ∙ all.1)
+-- no transaction is open
+abbrev IsOut : Place → Type 0
+IsOut (Inside b) = ⊥
+IsOut p = Unit {0}
 
-session_step : (n k : ℕ) (p : Place) → 0 < k → k < 2 ^ 16 → ((start : ℕ) → p ≢ Inside start) → step n p (stands (line.Session k)) ≡ Ok Between
+end_out : (o : Outcome) → IsOut (end_place o)
+end_out Commit = tt
+end_out Abort = tt
+end_out Unknown = tt
+
+known_place : (o : Outcome) → is_unknown o ≡ false → end_place o ≡ Between
+known_place Commit h = refl
+known_place Abort h = refl
+known_place Unknown h = cc
+
+txns_apart : (t : Transaction) (ts : List Transaction) (ls : List (List ℕ × Bool)) → map stands (flat_map txn_lines (t ∷ ts)) ++ ls ≡ map stands (txn_lines t) ++ (map stands (flat_map txn_lines ts) ++ ls)
+txns_apart t ts ls = ap (λ x. x ++ ls) (map-append stands (txn_lines t) (flat_map txn_lines ts)) ∙ append_assoc (map stands (txn_lines t)) (map stands (flat_map txn_lines ts)) ls
+
+goes_txns : (v : Version) (ts : List Transaction) (ls : List (List ℕ × Bool)) → AllByRecursion IsLegalTxn ts → IsKnownBeforeLast ts → AllByRecursion (λ (t : Transaction). MayEnd v t.outcome) ts → (q : Place) × IsOut q × GoesOn v Between (map stands (flat_map txn_lines ts) ++ ls) ls q
+goes_txns v [] ls h k m = (Between, tt, λ n. (n, refl))
+goes_txns v (t ∷ []) ls h k m =
+    (end_place t.outcome, end_out t.outcome, subst (λ xs. GoesOn v Between xs ls (end_place t.outcome)) (sym (txns_apart t [] ls)) (goes_txn v t ls h.0 m.0))
+goes_txns v (t ∷ u ∷ ts) ls h k m =
+    let later = goes_txns v (u ∷ ts) ls h.1 k.1 m.1 in
+    let rest : List (List ℕ × Bool) = map stands (flat_map txn_lines (u ∷ ts)) ++ ls in
+    let one : GoesOn v Between (map stands (txn_lines t) ++ rest) rest Between = subst (GoesOn v Between (map stands (txn_lines t) ++ rest) rest) (known_place t.outcome k.0) (goes_txn v t rest h.0 m.0) in
+    (later.0, later.1, subst (λ xs. GoesOn v Between xs ls later.0) (sym (txns_apart t (u ∷ ts) ls)) (goes_then v Between Between later.0 (map stands (txn_lines t) ++ rest) rest ls one later.2))
+
+session_step : (v : Version) (n k : ℕ) (p : Place) → 0 < k → k < 2 ^ 16 → IsOut p → step v n p (stands (line.Session k)) ≡ Ok Between
 unfolding step
-session_step n k Start low high out = ap (after_form n Start) (form_complete (line.Session k) (low, high))
-session_step n k Between low high out = ap (after_form n Between) (form_complete (line.Session k) (low, high))
-session_step n k (Inside b) low high out = absurd (out b refl)
+session_step v n k Start low high out = ap (after_form n Start) (form_complete v (line.Session k) (low, high))
+session_step v n k Between low high out = ap (after_form n Between) (form_complete v (line.Session k) (low, high))
+session_step v n k (Inside b) low high out = absurd out
+session_step v n k Over low high out = ap (after_form n Over) (form_complete v (line.Session k) (low, high))
 
-goes_sessions : (ss : List ClientSession) (p : Place) → ((start : ℕ) → p ≢ Inside start) → AllByRecursion IsLegal ss → (n : ℕ) → first_fault n p (map stands (flat_map session_lines ss)) ≡ None
-goes_sessions [] Start out h n = refl
-goes_sessions [] Between out h n = refl
-goes_sessions [] (Inside b) out h n = absurd (out b refl)
-goes_sessions (s ∷ ss) p out h n =
+-- the outcomes of a session that the version holds
+may_known : (v : Version) (ts : List Transaction) → AllByRecursion IsKnown ts → AllByRecursion (λ (t : Transaction). MayEnd v t.outcome) ts
+may_known v [] h = tt
+may_known v (t ∷ ts) h = (λ u. absurd (cc (u, h.0)), may_known v ts h.1)
+
+may_all : (ts : List Transaction) → AllByRecursion (λ (t : Transaction). MayEnd Two t.outcome) ts
+may_all [] = tt
+may_all (t ∷ ts) = (λ u. refl, may_all ts)
+
+may_held : (v : Version) (s : ClientSession) → IsHeldBy v s → AllByRecursion (λ (t : Transaction). MayEnd v t.outcome) s.txns
+may_held One s h = may_known One s.txns h
+may_held Two s h = may_all s.txns
+
+goes_sessions : (v : Version) (ss : List ClientSession) (p : Place) → IsOut p → AllByRecursion IsLegal ss → AllByRecursion (IsHeldBy v) ss → (n : ℕ) → first_fault v n p (map stands (flat_map session_lines ss)) ≡ None
+goes_sessions v [] Start out h k n = refl
+goes_sessions v [] Between out h k n = refl
+goes_sessions v [] (Inside b) out h k n = absurd out
+goes_sessions v [] Over out h k n = refl
+goes_sessions v (s ∷ ss) p out h k n =
     let rest : List (List ℕ × Bool) = map stands (flat_map txn_lines s.txns) ++ map stands (flat_map session_lines ss) in
-    let head = fault_on n p Between (stands (line.Session s.number)) rest (stands (line.Session s.number) ∷ rest) refl (session_step n s.number p h.0.low h.0.high out) in
-    let txns = goes_txns s.txns (map stands (flat_map session_lines ss)) h.0.txns (n + 1) in
-    ap (first_fault n p) (map-append stands (session_lines s) (flat_map session_lines ss)) ∙ (head ∙ (txns.1 ∙ goes_sessions ss Between (λ b e. cc) h.1 txns.0))
+    let head = fault_on v n p Between (stands (line.Session s.number)) rest (stands (line.Session s.number) ∷ rest) refl (session_step v n s.number p h.0.low h.0.high out) in
+    let txns = goes_txns v s.txns (map stands (flat_map session_lines ss)) h.0.txns h.0.known (may_held v s k.0) in
+    let behind = txns.2 (n + 1) in
+    ap (first_fault v n p) (map-append stands (session_lines s) (flat_map session_lines ss)) ∙ (head ∙ (behind.1 ∙ goes_sessions v ss txns.0 txns.1 h.1 k.1 behind.0))
 
-pub grammar_fault_none : (ss : List ClientSession) → AllByRecursion IsLegal ss → grammar_fault (log_text ss) ≡ None
+pub grammar_fault_none : (v : Version) (ss : List ClientSession) → AllByRecursion IsLegal ss → AllByRecursion (IsHeldBy v) ss → grammar_fault (log_text v ss) ≡ None
 unfolding grammar_fault
-grammar_fault_none ss h = ap (first_fault 1 Start) (lines_log ss h) ∙ goes_sessions ss Start (λ b e. cc) h 1
+grammar_fault_none v ss h k =
+    ap (first_fault (version_of (log_text v ss)) (first_line (version_of (log_text v ss))) Start) (lines_log v ss h) ∙ (ap (λ w. first_fault w (first_line w) Start (map stands (flat_map session_lines ss))) (version_of_log v ss) ∙ goes_sessions v ss Start tt h k (first_line v))

@@ -1,27 +1,43 @@
-use Rattle.std.proofs.Common.{ℕ, List, Bool, ◌≡◌, ◌+◌, ◌-◌, ◌++◌, length, sym, refl, ap, ◌∙◌, arith}
+use Rattle.std.proofs.Common.{ℕ, List, Bool, ◌≡◌, ◌+◌, ◌-◌, ◌++◌, length, sym, refl, ap, ◌∙◌, arith, length-append}
 use Rattle.std.proofs.lemmas.Bool.{eqb-true}
 use Rattle.std.specs.Prelude.{count_by}
 use Rattle.session_log.specs.Lines.{lines, bytes_of}
 use Rattle.session_log.specs.Faults.{is_session_line}
 use Rattle.session_log.specs.Blocks.{blocks_of}
-use Rattle.session_log.proofs.Cutting.{blocks_from, start_blocks, block_ends, block_goes_on, blocks_end, len_split, first_counted, session_counted, other_counted, too_many, few_enough}
+use Rattle.session_log.specs.Version.{header_text, first_line, version_of, body_of}
+use Rattle.session_log.proofs.Versions.{header_and_body, header_room}
+use Rattle.session_log.proofs.Cutting.{blocks_from, start_blocks, block_ends, block_goes_on, blocks_end, len_split, first_counted, session_counted, other_counted, too_many, few_enough, counted_behind}
 use Rattle.session_log.proofs.block.cut_lines.Goals as goal
 use Rattle.session_log.proofs.block.cut_lines.Goals.{then-starts_session+else-sessions-eq-MAX_SESSIONS+in_ok-push, else-starts_session}
+
+pub overflow_sub-at : goal.overflow_sub-at
+overflow_sub-at c =
+    let log = ap length (header_and_body c.args.log.now) ∙ length-append (header_text (version_of c.args.log.now)) (body_of c.args.log.now) in
+    let whole = ap length c.requires.body in
+    omega (arith, log, whole, c.next_line.ensures.shorter)
 
 pub loop-rest-init : goal.loop-rest-init
 loop-rest-init c =
     let body = c.next_line.result.0.now in
     let ended = c.next_line.result.1 in
     let rest = c.next_line.result.2.now in
+    let v = c.args.version in
     let is = c.next_line.ensures.line in
-    let len = len_split c.args.log.now (bytes_of (body, ended)) rest c.next_line.ensures.text in
-    let first = first_counted c.from-sessions.result c.starts_session.result (body, ended) (lines rest) (lines c.args.log.now) c.from-sessions.ensures c.starts_session.ensures is in
+    let log = ap length (header_and_body c.args.log.now) ∙ length-append (header_text (version_of c.args.log.now)) (body_of c.args.log.now) in
+    let header : length c.header-start.result.now ≡ length (header_text (version_of c.args.log.now)) = ap length (c.header-start.ensures ∙ ap header_text c.requires.version) in
+    let first : c.first_line-line.result ≡ first_line (version_of c.args.log.now) = c.first_line-line.ensures ∙ ap first_line c.requires.version in
+    let whole = ap length c.requires.body in
+    let len = len_split c.args.body.now (bytes_of (body, ended)) rest c.next_line.ensures.text in
+    let at : length c.args.log.now - length rest ≡ length c.header-start.result.now + length (bytes_of (body, ended)) = omega (arith, log, header, whole, len) in
+    let counted = first_counted c.from-sessions.result c.starts_session.result (body, ended) (lines rest) (lines c.args.body.now) c.from-sessions.ensures c.starts_session.ensures is in
+    let behind = counted_behind c.args.log.now c.args.body.now c.requires.body in
+    let room = header_room (version_of c.args.log.now) in
     record {
-      done = ap (λ o. o ++ blocks_from 0 1 (length c.args.log.now - length rest) 2 (lines rest)) c.in_ok-found.ensures.items ∙ start_blocks c.args.log.now (body, ended) (lines rest) (length c.args.log.now - length rest) 2 is (omega (arith, len)) refl;
-      counted = first.0;
-      few = first.1;
-      place = omega (arith, len);
-      room = omega (arith, len, c.next_line.ensures.shorter);
+      done = ap (λ o. o ++ blocks_from v (length c.header-start.result.now) c.first_line-line.result (length c.args.log.now - length rest) (c.first_line-line.result + 1) (lines rest)) c.in_ok-found.ensures.items ∙ start_blocks v c.args.log.now (body, ended) (lines rest) (length c.header-start.result.now) c.first_line-line.result (length c.args.log.now - length rest) (c.first_line-line.result + 1) c.requires.version (ap lines (sym c.requires.body) ∙ is) header first at refl;
+      counted = counted.0 ∙ sym behind;
+      few = counted.1;
+      place = omega (arith, log, whole, len);
+      room = omega (arith, at, header, first, room, len, c.next_line.ensures.shorter);
     }
 
 pub returns-then-sessions-eq-MAX_SESSIONS-clause-fault : goal.returns-then-sessions-eq-MAX_SESSIONS-clause-fault
@@ -45,10 +61,10 @@ loop-rest-preserved c =
       done = elim c.if-starts_session.branch [
         | then-starts_session+else-sessions-eq-MAX_SESSIONS+in_ok-push w ↦
             let yes = sym c.starts_session-in-loop-rest.ensures ∙ w.if-starts_session.true in
-            rw (w.start-is, w.line-is) (block_ends c.loop-rest.start c.loop-rest.line c.loop-rest.at c.loop-rest.n (body, ended) (lines rest) (lines c.loop-rest.rest.now) c.loop-rest.found.items c.if-starts_session.found.items (blocks_of c.args.log.now) (length c.args.log.now - length rest) (c.loop-rest.n + 1) c.loop-rest.invariant.done is yes (rw w.found-is w.in_ok-push.ensures.items) moved refl)
+            rw (w.start-is, w.line-is) (block_ends c.args.version c.loop-rest.start c.loop-rest.line c.loop-rest.at c.loop-rest.n (body, ended) (lines rest) (lines c.loop-rest.rest.now) c.loop-rest.found.items c.if-starts_session.found.items (blocks_of c.args.log.now) (length c.args.log.now - length rest) (c.loop-rest.n + 1) c.loop-rest.invariant.done is yes (rw w.found-is w.in_ok-push.ensures.items) moved refl)
         | else-starts_session w ↦
             let no = sym c.starts_session-in-loop-rest.ensures ∙ w.if-starts_session.false in
-            rw (w.start-is, w.line-is, w.found-is) (block_goes_on c.loop-rest.start c.loop-rest.line c.loop-rest.at c.loop-rest.n (body, ended) (lines rest) (lines c.loop-rest.rest.now) c.loop-rest.found.items (blocks_of c.args.log.now) (length c.args.log.now - length rest) (c.loop-rest.n + 1) c.loop-rest.invariant.done is no moved refl)
+            rw (w.start-is, w.line-is, w.found-is) (block_goes_on c.args.version c.loop-rest.start c.loop-rest.line c.loop-rest.at c.loop-rest.n (body, ended) (lines rest) (lines c.loop-rest.rest.now) c.loop-rest.found.items (blocks_of c.args.log.now) (length c.args.log.now - length rest) (c.loop-rest.n + 1) c.loop-rest.invariant.done is no moved refl)
       ];
       counted = elim c.if-starts_session.branch [
         | then-starts_session+else-sessions-eq-MAX_SESSIONS+in_ok-push w ↦
@@ -68,4 +84,4 @@ pub returns-clause-accepted : goal.returns-clause-accepted
 returns-clause-accepted c = few_enough c.args.log.now c.loop-rest.rest.now c.loop-rest.sessions c.requires.small c.loop-rest.invariant.counted c.loop-rest.invariant.few (sym (eqb-true (length c.loop-rest.rest.now) 0 (sym c.is_empty.ensures ∙ c.loop-rest-test.false)))
 
 pub returns-clause-blocks : goal.returns-clause-blocks
-returns-clause-blocks c = c.in_ok-push-2.ensures.items ∙ blocks_end c.loop-rest.start c.loop-rest.line c.loop-rest.at c.loop-rest.n c.loop-rest.rest.now c.loop-rest.found.items (blocks_of c.args.log.now) c.loop-rest.invariant.done (sym (eqb-true (length c.loop-rest.rest.now) 0 (sym c.is_empty.ensures ∙ c.loop-rest-test.false)))
+returns-clause-blocks c = c.in_ok-push-2.ensures.items ∙ blocks_end c.args.version c.loop-rest.start c.loop-rest.line c.loop-rest.at c.loop-rest.n c.loop-rest.rest.now c.loop-rest.found.items (blocks_of c.args.log.now) c.loop-rest.invariant.done (sym (eqb-true (length c.loop-rest.rest.now) 0 (sym c.is_empty.ensures ∙ c.loop-rest-test.false)))

@@ -9,10 +9,10 @@ use Rattle.session_log.proofs.block.cut_lines.Given as goal
 abbrev pub invariant-loop-rest : goal.invariant-loop-rest
 invariant-loop-rest l =
     record {
-      done : l.found.items ++ blocks_from l.start l.line l.at l.n (lines l.rest) ≡ blocks_of l.log;
-      counted : l.sessions + count_by is_session_line (lines l.rest) ≡ count_by is_session_line (lines l.log);
+      done : l.found.items ++ blocks_from l.fn.version l.start l.line l.at l.n (lines l.rest) ≡ blocks_of l.fn.log;
+      counted : l.sessions + count_by is_session_line (lines l.rest) ≡ count_by is_session_line (lines l.fn.log);
       few : l.sessions ≤ 64;
-      place : l.at + length l.rest ≡ length l.log;
+      place : l.at + length l.rest ≡ length l.fn.log;
       room : l.n ≤ l.at + 1;
     }
 

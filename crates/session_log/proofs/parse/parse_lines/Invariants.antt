@@ -9,9 +9,9 @@ use Rattle.session_log.proofs.parse.parse_lines.Given as goal
 abbrev pub invariant-loop-rest : goal.invariant-loop-rest
 invariant-loop-rest l =
     record {
-      fault : first_fault l.fn.first_line Start (lines l.text) ≡ first_fault (l.n + 1) (place_of l.reading) (lines l.rest);
+      fault : first_fault l.fn.version l.fn.first_line Start (lines l.text) ≡ first_fault l.fn.version (l.n + 1) (place_of l.reading) (lines l.rest);
       text : l.text ≡ text_of_lines (line.Session l.number ∷ lines_of l.reading) ++ l.rest;
-      legal : IsLegalReading l.reading;
+      legal : IsLegalReading l.fn.version l.reading;
       others : NoSessionLine (lines l.rest);
       room : l.n + length l.rest + 1 ≤ l.fn.first_line + length l.text;
     }

@@ -1,0 +1,90 @@
+-- A log is the header of its version and the body behind it.
+use Rattle.std.proofs.Common.{◌≡◌, ℕ, ◌+◌, ◌≤◌, Bool, true, false, List, [], ◌∷◌, ◌++◌, length, length-append, drop, nat_eq, refl, sym, ap, ◌∙◌, subst, arith, codes}
+use Rattle.std.specs.List.{flat_map, starts_with}
+use Rattle.std.proofs.lemmas.Bool.Decides.{Decides-eqb}
+use Rattle.std.proofs.lemmas.List.{drop_at}
+use Rattle.std.proofs.lemmas.Slice.Eq.{starts_is}
+use Rattle.session_log.specs.Lines.{lines}
+use Rattle.session_log.specs.Text.{ClientSession, line_text, session_text, log_text}
+use Rattle.session_log.specs.Version.{header_text, first_line, version_of, body_of}
+use Rattle.session_log.specs.declared.version.Version.{Version}
+use Rattle.session_log.specs.declared.version.Version.TheVariants.{One, Two}
+use Rattle.session_log.proofs.Lines.{lines-nil, lines_line}
+
+-- the version is told by the first bytes
+version_two : (text : List ℕ) → starts_with nat_eq text (header_text Two) ≡ true → version_of text ≡ Two
+unfolding version_of
+version_two text e = rw e refl
+
+version_one : (text : List ℕ) → starts_with nat_eq text (header_text Two) ≡ false → version_of text ≡ One
+unfolding version_of
+version_one text e = rw e refl
+
+abbrev Split : Version → List ℕ → Type 0
+Split v text = text ≡ header_text v ++ drop (length (header_text v)) text
+
+split_by : (text : List ℕ) (t : Bool) → starts_with nat_eq text (header_text Two) ≡ t → Split (version_of text) text
+split_by text true e = subst (λ v. Split v text) (sym (version_two text e)) ((starts_is Decides-eqb text (header_text Two) (starts_with nat_eq text (header_text Two)) refl).0 e)
+split_by text false e = subst (λ v. Split v text) (sym (version_one text e)) refl
+
+pub header_and_body : (text : List ℕ) → text ≡ header_text (version_of text) ++ body_of text
+unfolding body_of
+header_and_body text = split_by text (starts_with nat_eq text (header_text Two)) refl
+
+-- its lines
+header_then : (v : Version) (rest : List ℕ) → lines (header_text v ++ rest) ≡ lines (header_text v) ++ lines rest
+header_then One rest = sym (ap (λ ls. ls ++ lines rest) lines-nil)
+header_then Two rest = lines_line (codes "log 2") rest refl ∙ sym (ap (λ ls. ls ++ lines rest) (header_is))
+  where
+    header_is : lines (header_text Two) ≡ (codes "log 2", true) ∷ []
+    header_is = lines_line (codes "log 2") [] refl ∙ ap (λ ls. (codes "log 2", true) ∷ ls) lines-nil
+
+pub header_lines : (text : List ℕ) → lines text ≡ lines (header_text (version_of text)) ++ lines (body_of text)
+header_lines text = ap lines (header_and_body text) ∙ header_then (version_of text) (body_of text)
+
+pub first_is : (v : Version) → first_line v ≡ length (lines (header_text v)) + 1
+first_is One = sym (ap (λ ls. length ls + 1) lines-nil)
+first_is Two = sym (ap (λ ls. length ls + 1) (lines_line (codes "log 2") [] refl ∙ ap (λ ls. (codes "log 2", true) ∷ ls) lines-nil))
+
+-- the header has a byte for each line
+pub header_room : (v : Version) → first_line v ≤ length (header_text v) + 1
+header_room One = omega arith
+header_room Two = omega arith
+
+-- the version and the body of a text that was made
+pub header_is_two : (body : List ℕ) → version_of (header_text Two ++ body) ≡ Two
+unfolding version_of
+header_is_two body = refl
+
+no_header : (ss : List ClientSession) → version_of (log_text One ss) ≡ One
+unfolding version_of log_text session_text line_text
+no_header [] = refl
+no_header (s ∷ ss) = refl
+
+made_two : (ss : List ClientSession) → version_of (log_text Two ss) ≡ Two
+unfolding log_text
+made_two ss = header_is_two (flat_map session_text ss)
+
+pub version_of_log : (v : Version) (ss : List ClientSession) → version_of (log_text v ss) ≡ v
+version_of_log One ss = no_header ss
+version_of_log Two ss = made_two ss
+
+log_is : (v : Version) (ss : List ClientSession) → log_text v ss ≡ header_text v ++ flat_map session_text ss
+unfolding log_text
+log_is v ss = refl
+
+pub body_of_log : (v : Version) (ss : List ClientSession) → body_of (log_text v ss) ≡ flat_map session_text ss
+unfolding body_of
+body_of_log v ss =
+    ap (λ w. drop (length (header_text w)) (log_text v ss)) (version_of_log v ss) ∙ (ap (drop (length (header_text v))) (log_is v ss) ∙ drop_at (header_text v) (flat_map session_text ss) (length (header_text v)) refl)
+
+-- what stands behind a header that was found
+pub header_fits : (text header : List ℕ) (v : Version) → v ≡ version_of text → header ≡ header_text v → length header ≤ length text
+header_fits text header v a b =
+    let whole = ap length (header_and_body text) ∙ length-append (header_text (version_of text)) (body_of text) in
+    let same : length header ≡ length (header_text (version_of text)) = ap length (b ∙ ap header_text a) in
+    omega (arith, whole, same)
+
+pub body_behind : (text header : List ℕ) (v : Version) → v ≡ version_of text → header ≡ header_text v → drop (length header) text ≡ body_of text
+unfolding body_of
+body_behind text header v a b = ap (λ h. drop (length h) text) (b ∙ ap header_text a)
