@@ -2,4 +2,3 @@ pub mod Joined
 pub mod Steps
 pub mod Sets
 pub mod Between
-pub mod LogRoom

@@ -6,7 +6,9 @@ use Rattle.session_log.specs.Text.{ClientSession}
 use Rattle.serializability.specs.Formula.{Cnf, Satisfies}
 use Rattle.serializability.specs.Decoded.{before, IsDecoded}
 use Rattle.log_definitions.specs.Serial.{IsSerialOrder}
-use Rattle.log_definitions.specs.Numbers.{log_of}
+use Rattle.log_definitions.specs.Numbers.{log_of, IsWellFormedList}
+use Rattle.log_definitions.proofs.OnlyTaken.{serial_where_some}
+use Rattle.reduction.specs.Chained.{HasNoSerialOrder}
 use Rattle.dimacs.specs.Answer as answer
 use Rattle.dimacs.specs.Words.{Item}
 use Rattle.dimacs.specs.Text.{text_of}
@@ -25,7 +27,7 @@ use Rattle.cobra_answers.specs.declared.status.Status.TheVariants.{Done}
 use Rattle.cobra_formulas.specs.declared.basis.Basis.{Basis}
 use Rattle.cobra_formulas.specs.Formulas.{IsFormulaFrom, IsFormulaOf, IsFaithful}
 use Rattle.cobra_cli.specs.Commands.{IsEncoding, IsAnswerTo, named_by, IsOrderText, IsDecoding}
-use Rattle.cobra_cli.specs.Checked.{IsSearched, IsRefutedBy, IsSpentText, IsVerdict}
+use Rattle.cobra_cli.specs.Checked.{HasNoOrder, IsSearched, IsRefutedBy, IsSpentText, IsVerdict}
 
 pub serial_of : (ss : List ClientSession) (f : Cnf) → IsFaithful ss f → (values : List Bool) (order : List ℕ) → Satisfies values f → IsDecoded f.nodes (before f values) order → IsSerialOrder ss order
 serial_of ss f h values order s d = h.orders values s order d
@@ -61,6 +63,9 @@ pub decoding_is : (plain : Bool) (given : List ℕ) (ss : List ClientSession) (s
 decoding_is plain given ss status said text told e t h = subst (λ (s : Status). IsDecoding plain given ss s text) (sym e) (subst (λ (l : List ℕ). IsDecoding plain given ss said l) (sym t) h)
 
 -- ---- check
+pub no_order : (ss : List ClientSession) → IsWellFormedList ss → HasNoSerialOrder ss → HasNoOrder ss
+no_order ss well h = record { none = λ order s. (let d = serial_where_some ss well (order, s) in h.none d.0 d.1) }
+
 pub verdict_is : (budget : ℕ) (ss : List ClientSession) (status said : Status) (text told : List ℕ) → status ≡ said → text ≡ told → IsVerdict budget ss said told → IsVerdict budget ss status text
 verdict_is budget ss status said text told e t h = subst (λ (s : Status). IsVerdict budget ss s text) (sym e) (subst (λ (l : List ℕ). IsVerdict budget ss said l) (sym t) h)
 

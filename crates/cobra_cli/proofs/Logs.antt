@@ -1,20 +1,19 @@
 -- What the parts of reading say of a log.
 use Rattle.std.proofs.Common.{◌≡◌, ℕ, ◌<◌, ◌≤◌, ◌^◌, Bool, true, false, cond, List, [], ◌∷◌, ◌++◌, length, Option, Some, None, Result, Ok, Err, refl, sym, ap, ◌∙◌, subst, arith, length-append, nat_lt}
-use Rattle.std.specs.Prelude.{IfErr}
+use Rattle.std.specs.Prelude.{IfOk, IfErr}
 use Rattle.std.specs.List.{AllByRecursion}
 use Rattle.std.specs.Option.{option_or}
-use Rattle.std.proofs.lemmas.Bool.{ltb-false}
-use Rattle.session_log.specs.Text.{ClientSession, IsLegal, line_text, text_of_lines, log_text}
+use Rattle.session_log.specs.Text.{ClientSession, IsLegal, IsHeldBy, log_text}
+use Rattle.session_log.specs.Version.{version_of, first_line}
+use Rattle.session_log.specs.declared.version.Version.{Version}
 use Rattle.session_log.specs.Blocks.{size_fault}
 use Rattle.session_log.specs.Faults.{grammar_fault}
 use Rattle.session_log.specs.Faults.{IsFault}
-use Rattle.session_log.specs.declared.line.Line.{Line}
-use Rattle.session_log.specs.declared.fault.Limit.TheVariants as limit
 use Rattle.session_log.specs.declared.fault.LogFault.{LogFault}
 use Rattle.session_log.specs.declared.fault.LogFault.TheVariants as faults
-use Rattle.session_log.proofs.Whole.{log_by_lines}
 use Rattle.gather.specs.Pieces.{reading_fault}
-use Rattle.log_definitions.specs.WellFormed.{log_lines, list_fault, IsLogFault, memory, size, grammar, list}
+use Rattle.log_definitions.specs.WellFormed.{list_fault, IsWellFormed, IsLogFault, memory, size, grammar, list}
+use Rattle.session_history.specs.declared.log.History.{History}
 
 -- a fault, where memory is one apart
 named : {P : LogFault → Type 0} (whole : Option LogFault) (f : LogFault) → P faults.Memory → ((g : LogFault) → whole ≡ Some g → P g) → IsFault f whole → P f
@@ -25,6 +24,7 @@ named whole (faults.OutsideTransaction k) m to h = to (faults.OutsideTransaction
 named whole (faults.OpenTransaction k) m to h = to (faults.OpenTransaction k) h
 named whole (faults.WriteZero k) m to h = to (faults.WriteZero k) h
 named whole (faults.WriteTwice k) m to h = to (faults.WriteTwice k) h
+named whole (faults.UnknownNotLast k) m to h = to (faults.UnknownNotLast k) h
 named whole (faults.OverLimit k) m to h = to (faults.OverLimit k) h
 
 pub from_size : (text : List ℕ) (f : LogFault) → IsFault f (size_fault text) → IsLogFault text f
@@ -40,30 +40,20 @@ reading text f (Some g) e h = from_size text f (subst (IsFault f) (sym e) h)
 pub from_reading : (text : List ℕ) (f : LogFault) → IsFault f (reading_fault text) → IsLogFault text f
 from_reading text f h = reading text f (size_fault text) refl h
 
-pub from_list : (text : List ℕ) (ss : List ClientSession) (f : LogFault) → size_fault text ≡ None → AllByRecursion IsLegal ss → text ≡ log_text ss → IsFault f (list_fault ss) → IsLogFault text f
-from_list text ss f s l t h = named {P = IsLogFault text} (list_fault ss) f memory (λ g e. list g ss s l t e) h
+-- what a log was read as
+pub record IsRead (text : List ℕ) (ss : List ClientSession) : Type 0 where
+  pub size : size_fault text ≡ None
+  pub legal : AllByRecursion IsLegal ss
+  pub held : AllByRecursion (IsHeldBy (version_of text)) ss
+  pub lines : text ≡ log_text (version_of text) ss
 
-pub from_build : {X : Type 0} (text : List ℕ) (ss : List ClientSession) (r : Result X LogFault) → size_fault text ≡ None → AllByRecursion IsLegal ss → text ≡ log_text ss → IfErr r (λ f. IsFault f (list_fault ss)) → IfErr r (λ f. IsLogFault text f)
-from_build text ss (Ok x) s l t h = tt
-from_build text ss (Err f) s l t h = from_list text ss f s l t h
+from_list : (text : List ℕ) (ss : List ClientSession) (f : LogFault) → IsRead text ss → IsFault f (list_fault (first_line (version_of text)) ss) → IsLogFault text f
+from_list text ss f r h = named {P = IsLogFault text} (list_fault (first_line (version_of text)) ss) f memory (λ g e. list g ss r.size r.legal r.held r.lines e) h
 
--- a log has no more lines than bytes
-lines_bytes : (fs : List Line) → length fs ≤ length (text_of_lines fs)
-lines_bytes [] = omega arith
-lines_bytes (f ∷ fs) =
-    let ih = lines_bytes fs in
-    let a = length-append (line_text f ++ 10 ∷ []) (text_of_lines fs) in
-    let b = length-append (line_text f) (10 ∷ []) in
-    omega (arith, ih, a, b)
+pub from_build : {X : Type 0} (text : List ℕ) (ss : List ClientSession) (v : Version) (r : Result X LogFault) → IsRead text ss → v ≡ version_of text → IfErr r (λ f. IsFault f (list_fault (first_line v) ss)) → IfErr r (IsLogFault text)
+from_build text ss v (Ok x) read e h = tt
+from_build text ss v (Err f) read e h = from_list text ss f read (subst (λ w. IsFault f (list_fault (first_line w) ss)) e h)
 
-size_of : (text : List ℕ) (t : Bool) (rest : Option LogFault) → nat_lt (2 ^ 24) (length text) ≡ t → cond t (Some (faults.OverLimit limit.LogBytes)) rest ≡ None → length text ≤ 2 ^ 24
-size_of text true rest e h = cc
-size_of text false rest e h = ltb-false (2 ^ 24) (length text) e
-
-pub room : (text : List ℕ) (ss : List ClientSession) → size_fault text ≡ None → text ≡ log_text ss → length (log_lines ss) < 2 ^ 63
-unfolding size_fault
-room text ss s e =
-    let bytes = size_of text (nat_lt (2 ^ 24) (length text)) _ refl s in
-    let fewer = lines_bytes (log_lines ss) in
-    let same = ap length (e ∙ log_by_lines ss) in
-    omega (arith, bytes, fewer, same)
+pub from_accepted : (text : List ℕ) (ss : List ClientSession) (v : Version) (r : Result History LogFault) → IsRead text ss → v ≡ version_of text → IfOk r (λ h. h ≡ ss) → IfOk r (λ _. list_fault (first_line v) ss ≡ None) → IfOk r (λ h. IsWellFormed text h)
+from_accepted text ss v (Ok h) read e same none = subst (IsWellFormed text) (sym same) (record { legal = read.legal; held = read.held; lines = read.lines; size = read.size; sessions = subst (λ w. list_fault (first_line w) ss ≡ None) e none })
+from_accepted text ss v (Err f) read e same none = tt

@@ -2,6 +2,7 @@
 use Rattle.std.proofs.Common.{◌≡◌, ℕ, ◌+◌, Bool, true, false, List, length, get_or, Option, None, Some, refl, sym, ap, ◌∙◌, subst, inl, inr, arith}
 use Rattle.std.proofs.lemmas.List.{get_or_default, ext_get_or}
 use Rattle.session_log.specs.Text.{ClientSession}
+use Rattle.session_log.specs.declared.version.Version.{Version}
 use Rattle.serializability.specs.declared.anomaly.Anomaly.{Anomaly}
 use Rattle.serializability.specs.Log.{Log}
 use Rattle.serializability.specs.Polygraph.{Polygraph, arcs}
@@ -83,10 +84,10 @@ one_formula plain ss f g h k = (one_made plain ss h.basis k.basis f g h.made k.m
 pub one_encoding : (plain : Bool) (ss : List ClientSession) (s t : Status) (text other : List ℕ) → IsEncoding plain ss s text → IsEncoding plain ss t other → text ≡ other
 one_encoding plain ss s t text other h k = h.told ∙ ap (λ (f : Cnf). text_of f) (one_formula plain ss h.formula k.formula h.belongs k.belongs) ∙ sym k.told
 
-pub one_counting : (plain : Bool) (ss : List ClientSession) (s t : Status) (text other : List ℕ) → IsCounting plain ss s text → IsCounting plain ss t other → text ≡ other
-one_counting plain ss s t text other h k =
+pub one_counting : (plain : Bool) (v : Version) (ss : List ClientSession) (s t : Status) (text other : List ℕ) → IsCounting plain v ss s text → IsCounting plain v ss t other → text ≡ other
+one_counting plain v ss s t text other h k =
     let same = one_made plain ss h.basis k.basis h.formula k.formula h.made k.made in
-    h.told ∙ ap (λ (f : Cnf). stats_text ss h.basis f) same.1 ∙ ap (λ (b : Basis). stats_text ss b k.formula) same.0 ∙ sym k.told
+    h.told ∙ ap (λ (f : Cnf). stats_text v ss h.basis f) same.1 ∙ ap (λ (b : Basis). stats_text v ss b k.formula) same.0 ∙ sym k.told
 
 -- ---- one decoding: a node's rank is its place, so two orders of the same nodes with these ranks are one
 one_order : (n m : ℕ) (r : ℕ → ℕ → Bool) (a b : List ℕ) → IsDecoded n r a → IsDecoded n r b → ListsOnce m a → ListsOnce m b → a ≡ b

@@ -5,12 +5,12 @@ use Rattle.serializability.specs.declared.anomaly.Anomaly.{Anomaly}
 use Rattle.serializability.specs.Polygraph.{Polygraph}
 use Rattle.serializability.specs.Anomalies.{anomaly_of}
 use Rattle.pruning_laws.specs.Forced.{IsDead}
-use Rattle.log_definitions.specs.Serial.{IsSerialOrder}
+use Rattle.log_definitions.specs.Serial.{IsSerialOrder, IsSomeOrder}
 use Rattle.log_definitions.specs.Numbers.{log_of}
 use Rattle.order_cnf.specs.declared.fault.CnfFault.{CnfFault}
 use Rattle.order_cnf.specs.declared.fault.CnfFault.TheVariants as cnf
 use Rattle.polygraph.specs.declared.fault.PolyFault.TheVariants as poly
-use Rattle.reduction.specs.Chained.{HasNoSerialOrder, IsUnpruned, IsKnownCycle}
+use Rattle.reduction.specs.Chained.{IsUnpruned, IsKnownCycle}
 use Rattle.prune_ledger.specs.Pruned.{Remainder}
 use Rattle.reduction.specs.Outcome.{IsOpenHistory, IsReduceFault}
 use Rattle.branch_search.specs.Answers.{EndsRun}
@@ -52,9 +52,13 @@ pub record IsSerialText (budget : ℕ) (ss : List ClientSession) (text : List �
   pub serial : IsSerialOrder ss order
   pub told : text ≡ serial_text ss order
 
+-- no list of the committed transactions and of some of the unknown ones is an order that explains the sessions
+pub record HasNoOrder (ss : List ClientSession) : Type 0 where
+  pub none : (order : List ℕ) → IsSomeOrder ss order → ⊥
+
 -- that there is none, and why
 pub record IsRefusalText (budget : ℕ) (ss : List ClientSession) (text : List ℕ) : Type 0 where
-  pub none : HasNoSerialOrder ss
+  pub none : HasNoOrder ss
   pub reason : IsReason budget ss text
 
 -- that the search spent its budget, and found neither an order nor that there is none

@@ -1,6 +1,7 @@
 -- What each command says of sessions, and why it is refused.
 use Rattle.std.specs.Prelude.{◌≡◌, ℕ, List, codes, None, Some, Bool}
 use Rattle.session_log.specs.Text.{ClientSession}
+use Rattle.session_log.specs.declared.version.Version.{Version}
 use Rattle.serializability.specs.declared.literal.Literal.{Literal}
 use Rattle.serializability.specs.Formula.{Cnf, Satisfies}
 use Rattle.serializability.specs.Decoded.{before, IsDecoded}
@@ -137,10 +138,10 @@ IsNotVerified given f ss = IsReplayRefused given ss f
 
 -- ---- stats
 
--- the counts of the sessions, of what their formula is made from, and of the formula that belongs to them
-pub record IsCounting (plain : Bool) (ss : List ClientSession) (status : Status) (text : List ℕ) : Type 0 where
+-- the counts of the sessions of a log of this version, of what their formula is made from, and of the formula that belongs to them
+pub record IsCounting (plain : Bool) (v : Version) (ss : List ClientSession) (status : Status) (text : List ℕ) : Type 0 where
   pub basis : Basis
   pub formula : Cnf
   pub made : IsFormulaFrom plain ss basis formula
   pub ends : status ≡ Done
-  pub told : text ≡ stats_text ss basis formula
+  pub told : text ≡ stats_text v ss basis formula

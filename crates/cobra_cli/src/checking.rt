@@ -1,6 +1,7 @@
 //! Whether some serial order explains a log.
 
 ghost use Rattle.std.specs.Prelude.{◌≡◌, IfOk, IfErr};
+ghost use Rattle.log_definitions.specs.Numbers.{IsWellFormedList};
 ghost use Rattle.reduction.specs.Chained.{HasItsOrders};
 ghost use Rattle.reduction.specs.Outcome.{IsOpenHistory};
 ghost use Rattle.branch_search.specs.Answers.{SaysYes, SaysNo, ShowsNo, SaysUnknown, EndsRun};
@@ -92,6 +93,7 @@ fn search_verdict<G: Gate, R: Threads + Wait + Clock + Sync>(
     options: &Options,
     gate: &G,
 ) -> Result<Reply, AllocError>
+    requires well_formed { IsWellFormedList history.now }
     requires left { IsOpenHistory history.now reduced.now }
     ensures verdict { IfOk result (λ v.
         IsVerdict options.now.budget history.now v.status v.text.items) }

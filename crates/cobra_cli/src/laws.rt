@@ -2,6 +2,7 @@
 
 ghost use Rattle.std.specs.Prelude.{◌≡◌, ℕ, List, Bool};
 ghost use Rattle.session_log.specs.Text.{ClientSession};
+ghost use Rattle.session_log.specs.declared.version.Version.{Version};
 ghost use Rattle.serializability.specs.Formula.{Cnf};
 ghost use Rattle.cobra_answers.specs.declared.status.Status.{Status};
 ghost use Rattle.cobra_formulas.specs.Formulas.{IsFormulaOf};
@@ -14,12 +15,13 @@ pub fn one_formula()
         IsFormulaOf plain ss f → IsFormulaOf plain ss g → f ≡ g }
 {}
 
-/// What `encode` and `stats` write is fixed by the sessions and by whether `--plain` was asked for.
+/// What `encode` and `stats` write is fixed by the sessions and by whether `--plain` was asked for, that of `stats` by the log's version too.
 pub fn one_text()
     ensures encoding { (plain : Bool) (ss : List ClientSession) (s t : Status) (text other : List ℕ) →
         IsEncoding plain ss s text → IsEncoding plain ss t other → text ≡ other }
-    ensures counting { (plain : Bool) (ss : List ClientSession) (s t : Status) (text other : List ℕ) →
-        IsCounting plain ss s text → IsCounting plain ss t other → text ≡ other }
+    ensures counting { (plain : Bool) (v : Version) (ss : List ClientSession) (s t : Status)
+        (text other : List ℕ) →
+        IsCounting plain v ss s text → IsCounting plain v ss t other → text ≡ other }
 {}
 
 /// What `decode` writes, and how it ends, is fixed by the sessions, by the answer, and by whether `--plain` was asked for: an

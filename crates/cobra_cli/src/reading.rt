@@ -25,6 +25,6 @@ pub fn read_log<R: Threads + Wait + Clock + Sync, G: Gate>(
     ensures accepted { IfOk result (λ history. IsWellFormed log.now history) }
     ensures refused { IfErr result (IsLogFault log.now) }
 {
-    let sessions = collect(rt, alloc, log, workers, gate)?;
-    History::build(alloc, sessions)
+    let (version, sessions) = collect(rt, alloc, log, workers, gate)?;
+    History::build(alloc, version, sessions)
 }

@@ -4,7 +4,8 @@ ghost use Rattle.std.specs.Prelude.{◌≡◌, ◌-◌, ◌≤◌, ◌++◌, ◌
 ghost use Rattle.cobra_answers.specs.Answers.{IsTold, IsRefused};
 ghost use Rattle.cobra_cli.specs.Commands.{HasNoFormula, IsCounting};
 ghost use Rattle.cobra_answers.specs.Failures.{failures_after};
-ghost use Rattle.cobra_cli.specs.Statistics.{count_line, basis_text, counts_text, OpensNoMore};
+ghost use Rattle.cobra_cli.specs.Statistics.{count_line, basis_text, counts_text, unlearnt_text, OpensNoMore};
+ghost use Rattle.session_log.specs.Version.{version_of};
 
 use crate::formula::formula_of;
 use crate::reading::read_log;
@@ -13,7 +14,8 @@ use cobra_formulas::Basis;
 use desk::gate::Gate;
 use dimacs::Sink;
 use itoa::Buffer;
-use session_history::History;
+use session_history::{Counts, History};
+use session_log::Version;
 use std::alloc::{AllocError, Global};
 use std::sync::Wait;
 use std::thread::Threads;
@@ -43,14 +45,27 @@ fn put_anomaly(out: &mut Vec<u8>, number: u8) -> Result<(), AllocError>
     Ok(())
 }
 
-/// Appends the counts of a log.
-fn put_counts(out: &mut Vec<u8>, history: &History) -> Result<(), AllocError>
-    ensures text { OnOk result (out.new.items ≡ out.old.items ++ counts_text history.now) }
+/// Appends the counts of outcomes that the client never learnt, where a log of this version may have any.
+fn put_unlearnt(out: &mut Vec<u8>, version: Version, counts: Counts) -> Result<(), AllocError>
+    ensures text { OnOk result (out.new.items
+        ≡ out.old.items ++ unlearnt_text version counts.unknown counts.taken) }
+{
+    if version.has_unknown_line() {
+        put_count(out, b"unknown", counts.unknown)?;
+        put_count(out, b"taken", counts.taken)?;
+    }
+    Ok(())
+}
+
+/// Appends the counts of a log of this version.
+fn put_counts(out: &mut Vec<u8>, version: Version, history: &History) -> Result<(), AllocError>
+    ensures text { OnOk result (out.new.items ≡ out.old.items ++ counts_text version history.now) }
 {
     let counts = history.counts();
     put_count(out, b"sessions", counts.sessions)?;
     put_count(out, b"committed", counts.committed)?;
     put_count(out, b"aborted", counts.aborted)?;
+    put_unlearnt(out, version, counts)?;
     put_count(out, b"keys", counts.keys)?;
     put_count(out, b"operations", counts.operations)?;
     Ok(())
@@ -79,22 +94,23 @@ fn put_basis(out: &mut Vec<u8>, basis: Basis) -> Result<(), AllocError>
     }
 }
 
-/// What is to be said of the counts of a history and of its formula.
+/// What is to be said of the counts of a history, whose log is of this version, and of its formula.
 #[tactic(auto, unfolding(crate::specs::Statistics::stats_text))]
 fn counted<R: Threads + Wait + Clock + Sync, G: Gate>(
     rt: &R,
     alloc: Global,
+    version: Version,
     history: &History,
     options: &Options,
     gate: &G,
 ) -> Result<Reply, Fault>
     ensures counted { IfOk result (λ r.
-        IsCounting options.now.plain history.now r.status r.text.items) }
+        IsCounting options.now.plain version history.now r.status r.text.items) }
     ensures refused { IfErr result (λ f. HasNoFormula options.now.plain f history.now) }
 {
     let belonging = formula_of(rt, alloc, history, options, gate)?;
     let mut text = Vec::new(alloc);
-    put_counts(&mut text, history)?;
+    put_counts(&mut text, version, history)?;
     put_basis(&mut text, belonging.basis)?;
     put_count(&mut text, b"variables", belonging.formula.vars())?;
     put_count(&mut text, b"clauses", belonging.formula.count())?;
@@ -104,7 +120,8 @@ fn counted<R: Threads + Wait + Clock + Sync, G: Gate>(
     })
 }
 
-/// Writes how many sessions, committed and aborted transactions, keys and operations a log has; then its anomaly, or the number of
+/// Writes how many sessions, committed and aborted transactions, in version 2 how many transactions of unknown outcome and of these
+/// taken ones, and how many keys and operations a log has; then its anomaly, or the number of
 /// choices between chains, of those of them that pruning settled, and of those that are open, or with `--plain` the number of
 /// bipaths; and the variables and clauses of its formula: a line each, of a word, a space and a number.
 ///
@@ -118,13 +135,13 @@ pub fn stats<R: Threads + Wait + Clock + Sync, G: Gate, W: Sink>(
     gate: &G,
     sink: &mut W,
 ) -> Result<Status, Fault>
-    ensures told { IfOk result (IsTold (IsCounting options.now.plain)
+    ensures told { IfOk result (IsTold (IsCounting options.now.plain (version_of log.now))
         log.now (W.bytes sink.old) (W.bytes sink.new)) }
-    ensures refused { IfErr result (IsRefused (IsCounting options.now.plain) (HasNoFormula options.now.plain)
+    ensures refused { IfErr result (IsRefused (IsCounting options.now.plain (version_of log.now)) (HasNoFormula options.now.plain)
         log.now (W.bytes sink.old) (W.bytes sink.new)) }
     ensures count { W.failures sink.new ≡ failures_after (W.failures sink.old) result }
 {
     let history = read_log(rt, alloc, log, options.workers, gate)?;
-    let reply = counted(rt, alloc, &history, options, gate)?;
+    let reply = counted(rt, alloc, Version::of(log), &history, options, gate)?;
     tell(sink, &reply)
 }

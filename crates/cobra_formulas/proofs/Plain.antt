@@ -3,13 +3,13 @@ use Rattle.std.proofs.Common.{◌≡◌, sym, subst, List}
 use Rattle.session_log.specs.Text.{ClientSession}
 use Rattle.serializability.specs.Formula.{Cnf}
 use Rattle.log_definitions.specs.Numbers.{IsWellFormedList, plain_answer}
-use Rattle.headline.proofs.Answered.{answer_where_serial, answer_serial, answer_decodes}
+use Rattle.headline.proofs.Answered.{answer_where_some, answer_serial, answer_decodes}
 use Rattle.cobra_formulas.specs.Formulas.{IsFaithful}
 
 pub faithful_plain : (ss : List ClientSession) → IsWellFormedList ss → (f : Cnf) → f ≡ plain_answer ss → IsFaithful ss f
 faithful_plain ss h f e = subst (λ (g : Cnf). IsFaithful ss g) (sym e) (record {
   headline = record {
-    satisfied_where_serial = answer_where_serial ss h;
+    satisfied_where_some = answer_where_some ss h;
     serial_where_satisfied = λ values s. (let d = answer_decodes ss h values s in (d.0, answer_serial ss h values s d.0 d.1));
   };
   orders = answer_serial ss h;

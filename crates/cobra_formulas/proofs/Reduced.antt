@@ -17,7 +17,8 @@ use Rattle.reach_laws.proofs.Walks.{Contains-here, Contains-further}
 use Rattle.chain_laws.specs.Chains.{chain_polygraph, chain_choices}
 use Rattle.pruning_laws.specs.Forced.{Sides, edges_with, open_from, pruned}
 use Rattle.pruning_laws.specs.Ledger.{sides_in}
-use Rattle.log_definitions.specs.Numbers.{log_of, formula_where, plain_answer}
+use Rattle.log_definitions.specs.Numbers.{log_of, formula_where, plain_answer, IsWellFormedList}
+use Rattle.log_definitions.proofs.OnlyTaken.{serial_where_some}
 use Rattle.known_graph.specs.Graphs.{IsKnownGraph}
 use Rattle.polygraph.specs.Polygraphs.{IsPolygraph}
 use Rattle.reach_rows.specs.ReachRows.{AreRowsOf}
@@ -109,10 +110,10 @@ made_as ss b basis f formula e d h = subst (λ (x : Basis). IsReducedFormula ss 
 pub faithful_as : (ss : List ClientSession) (f g : Cnf) → f ≡ g → IsFaithful ss g → IsFaithful ss f
 faithful_as ss f g e h = subst (λ (x : Cnf). IsFaithful ss x) (sym e) h
 
-pub faithful_contradiction : (ss : List ClientSession) → HasNoSerialOrder ss → IsFaithful ss contradiction
-faithful_contradiction ss h = record {
+pub faithful_contradiction : (ss : List ClientSession) → IsWellFormedList ss → HasNoSerialOrder ss → IsFaithful ss contradiction
+faithful_contradiction ss well h = record {
   headline = record {
-    satisfied_where_serial = λ order s. absurd (h.none order s);
+    satisfied_where_some = λ order s. (let d = serial_where_some ss well (order, s) in absurd (h.none d.0 d.1));
     serial_where_satisfied = λ values s. absurd (contradicted values s);
   };
   orders = λ values s. absurd (contradicted values s);
@@ -125,10 +126,10 @@ reduced_nodes : (known : Known) (p : Polygraph) → (reduced known p).nodes ≡ 
 unfolding reduced
 reduced_nodes known p = refl
 
-pub faithful_reduced : (ss : List ClientSession) (known : Known) (p : Polygraph) → IsProper p → IsReach p.known known → HasItsOrders ss p → IsFaithful ss (reduced known p)
-faithful_reduced ss known p proper reach its = record {
+pub faithful_reduced : (ss : List ClientSession) → IsWellFormedList ss → (known : Known) (p : Polygraph) → IsProper p → IsReach p.known known → HasItsOrders ss p → IsFaithful ss (reduced known p)
+faithful_reduced ss well known p proper reach its = record {
   headline = record {
-    satisfied_where_serial = λ order s. fitting_satisfies p proper known reach order ((its.each order).0 s);
+    satisfied_where_some = λ order s. (let d = serial_where_some ss well (order, s) in fitting_satisfies p proper known reach d.0 ((its.each d.0).0 d.1));
     serial_where_satisfied = λ values s.
         (let d = formula_decodes p proper known reach values s in (d.0, (its.each d.0).1 (decoded_fits p proper known reach values s d.0 d.1)));
   };
@@ -137,9 +138,9 @@ faithful_reduced ss known p proper reach its = record {
 }
 
 -- ---- the ends of the steps
-pub contradicted_faithful : (ss : List ClientSession) (r : Result Belonging CnfFault) → HasNoSerialOrder ss → IfOk r (λ b. cnf_of b.formula ≡ contradiction) → IfOk r (λ b. IsFaithful ss (cnf_of b.formula))
-contradicted_faithful ss (Ok b) none e = faithful_as ss (cnf_of b.formula) contradiction e (faithful_contradiction ss none)
-contradicted_faithful ss (Err f) none e = tt
+pub contradicted_faithful : (ss : List ClientSession) (r : Result Belonging CnfFault) → IsWellFormedList ss → HasNoSerialOrder ss → IfOk r (λ b. cnf_of b.formula ≡ contradiction) → IfOk r (λ b. IsFaithful ss (cnf_of b.formula))
+contradicted_faithful ss (Ok b) well none e = faithful_as ss (cnf_of b.formula) contradiction e (faithful_contradiction ss well none)
+contradicted_faithful ss (Err f) well none e = tt
 
 pub contradicted_made : (ss : List ClientSession) (number : ℕ) (r : Result Belonging CnfFault) → IsReducedFormula ss (Anomalous number) contradiction → IfOk r (λ b. cnf_of b.formula ≡ contradiction) → IfOk r (λ b. b.basis ≡ Anomalous number) → IfOk r (λ b. IsReducedWithin ss b.basis (cnf_of b.formula))
 contradicted_made ss number (Ok b) h e same = record {

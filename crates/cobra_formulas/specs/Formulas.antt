@@ -15,7 +15,7 @@ use Rattle.serializability.specs.Anomalies.{anomaly_of}
 use Rattle.reach_laws.specs.Reach.{IsCyclic}
 use Rattle.chain_laws.specs.Chains.{chain_polygraph, chain_choices}
 use Rattle.pruning_laws.specs.Forced.{Sides, IsForced, IsDead, edges_with, open_from, pruned}
-use Rattle.log_definitions.specs.Serial.{IsSerialOrder}
+use Rattle.log_definitions.specs.Serial.{IsSerialOrder, IsSomeOrder}
 use Rattle.log_definitions.specs.Numbers.{log_of, plain_answer}
 use Rattle.polygraph.specs.declared.fault.PolyFault.TheVariants as poly
 use Rattle.reduction.specs.Chained.{IsCoalesced, IsKnownCycle}
@@ -117,9 +117,10 @@ IsFormulaFault false ss e = IsReducedFault ss e
 
 -- ---- what it says of the sessions
 
--- An assignment satisfies the formula exactly where a serial order explains the sessions.
+-- An assignment satisfies the formula exactly where a serial order explains the sessions: any order of the committed and of some unknown
+-- transactions is enough, and there is one of just the taken ones then.
 pub record IsHeadline (ss : List ClientSession) (f : Cnf) : Type 0 where
-  pub satisfied_where_serial : (order : List ℕ) → IsSerialOrder ss order → (values : List Bool) × Satisfies values f
+  pub satisfied_where_some : (order : List ℕ) → IsSomeOrder ss order → (values : List Bool) × Satisfies values f
   pub serial_where_satisfied : (values : List Bool) → Satisfies values f → (order : List ℕ) × IsSerialOrder ss order
 
 -- That holds of the formula, and the order that a satisfying assignment stands for is serial.

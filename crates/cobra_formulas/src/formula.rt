@@ -73,6 +73,7 @@ fn of_left(
     choices: usize,
     reduced: Reduced,
 ) -> Result<Belonging, CnfFault>
+    requires well_formed { IsWellFormedList _history.now }
     requires left { IsCountedHistory _history.now choices reduced }
     ensures made { IfOk result (λ b. IsReducedWithin _history.now b.basis (cnf_of b.formula)) }
     ensures faithful { IfOk result (λ b. IsFaithful _history.now (cnf_of b.formula)) }

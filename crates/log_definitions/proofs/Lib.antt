@@ -13,5 +13,6 @@ pub mod Identities
 pub mod Together
 pub mod FewNodes
 pub mod Numbered
+pub mod Room
 pub mod Accepted
 pub mod Refused

@@ -1,15 +1,18 @@
 -- No two nodes of a well-formed log have one name, and the numbers of a name are below 2 ^ 64.
-use Rattle.std.proofs.Common.{◌≡◌, ℕ, zero, suc, ◌+◌, ◌<◌, ◌≤◌, ◌^◌, Bool, true, false, List, [], ◌∷◌, ◌++◌, length, map, Some, refl, sym, ap, ◌∙◌, inl, inr, arith, ◌==◌, ◌&&◌, eq-eqb, length-append}
+use Rattle.std.proofs.Common.{◌≡◌, ℕ, zero, suc, ◌+◌, ◌<◌, ◌≤◌, ◌^◌, Bool, true, false, List, [], ◌∷◌, ◌++◌, length, map, Some, refl, sym, ap, ◌∙◌, subst, inl, inr, arith, ◌==◌, ◌&&◌, eq-eqb, length-append}
 use Rattle.std.specs.Prelude.{slice_get}
 use Rattle.std.specs.List.{find, filter, flat_map, enumerate_from, range_with_len, AllByRecursion}
 use Rattle.std.specs.Option.{option_map_or}
 use Rattle.std.proofs.lemmas.Bool.{cases_Bool, and_from, cond-true}
+use Rattle.std.proofs.lemmas.List.{length-map}
 use Rattle.session_log.specs.Text.{ClientSession, Transaction, IsLegal, txn_lines, session_lines}
 use Rattle.serializability.proofs.Places.{Has, Apart, Apart-from_IsDistinct, each_from_append, each_from_map, each_from_filter}
-use Rattle.log_definitions.specs.WellFormed.{is_committed, log_lines}
+use Rattle.log_definitions.specs.Unknown.{is_committed, settle, settled, taken, resolved}
+use Rattle.log_definitions.specs.WellFormed.{log_lines}
 use Rattle.log_definitions.specs.Serial.{Committed, committed_of, committed_in, node_of}
 use Rattle.log_definitions.specs.Numbers.{IsWellFormedList, log_of}
 use Rattle.log_definitions.proofs.Nodes.{each_at}
+use Rattle.log_definitions.proofs.Settled.{numbers_resolved}
 use Rattle.log_definitions.proofs.Scanning.{rules_where_no_fault}
 use Rattle.session_history.specs.Tables.{name_in, node_named}
 use Rattle.order_text.proofs.Reading.{IsNode, has_name, name_at, node_named-sound}
@@ -91,14 +94,17 @@ others : (c : Committed) (ds : List Committed) → AllByRecursion (IsNotOf c.ses
 others c [] h = tt
 others c (d ∷ ds) h = (λ s p. h.0 s, others c ds h.1)
 
-pub apart : (ss : List ClientSession) → Apart (map (λ s. s.number) ss) → AreApart (committed_in ss)
-unfolding committed_in
+apart : (ss : List ClientSession) → Apart (map (λ s. s.number) ss) → AreApart (flat_map committed_of ss)
 apart [] h = tt
 apart (s ∷ ss) h =
     let kept : List Placed = filter is_kept (enumerate_from 1 s.txns) in
     apart-append (committed_of s) (flat_map committed_of ss) (apart_in_session s.number 1 s.txns) (apart ss h.1)
     (each_from_map (λ c. AllByRecursion (IsOther c) (flat_map committed_of ss)) (made s.number) kept
     (each_of_all (λ t. AllByRecursion (IsOther (made s.number t)) (flat_map committed_of ss)) (λ t. others (made s.number t) (flat_map committed_of ss) (of_others s.number ss h.0)) kept))
+
+nodes_apart : (ss : List ClientSession) → Apart (map (λ (s : ClientSession). s.number) ss) → AreApart (committed_in ss)
+unfolding committed_in
+nodes_apart ss h = apart (resolved ss) (subst Apart (sym (numbers_resolved ss)) h)
 
 -- ---- numbers that fit
 abbrev pub Fits : ℕ → Committed → Type 0
@@ -112,15 +118,30 @@ fits_in_session : (m number : ℕ) (xs : List Placed) → number < 2 ^ 16 → Al
 fits_in_session m number [] low h = tt
 fits_in_session m number (x ∷ xs) low h = (λ _. (low, h.0), fits_in_session m number xs low h.1)
 
-each_fits : (m : ℕ) (ss : List ClientSession) → AllByRecursion IsLegal ss → AllByRecursion (λ s. length s.txns ≤ m) ss → AllByRecursion (Fits m) (committed_in ss)
-unfolding committed_in
-each_fits m [] legal h = tt
-each_fits m (s ∷ ss) legal h =
+abbrev Sized : ℕ → ClientSession → Type 0
+Sized m s = (s.number < 2 ^ 16) × (length s.txns ≤ m)
+
+each_fits : (m : ℕ) (ss : List ClientSession) → AllByRecursion (Sized m) ss → AllByRecursion (Fits m) (flat_map committed_of ss)
+each_fits m [] h = tt
+each_fits m (s ∷ ss) h =
     each_from_append (Fits m) (committed_of s) (flat_map committed_of ss)
     (each_from_map (Fits m) (made s.number) (filter is_kept (enumerate_from 1 s.txns))
     (each_from_filter (λ t. Fits m (made s.number t)) is_kept (enumerate_from 1 s.txns)
-    (fits_in_session m s.number (enumerate_from 1 s.txns) legal.0.high (placed_within m 1 s.txns (omega (arith, h.0))))))
-    (each_fits m ss legal.1 h.1)
+    (fits_in_session m s.number (enumerate_from 1 s.txns) h.0.0 (placed_within m 1 s.txns (omega (arith, h.0.1))))))
+    (each_fits m ss h.1)
+
+sized_settled : (m : ℕ) (chosen : ℕ → Bool) (ss : List ClientSession) → AllByRecursion (Sized m) ss → AllByRecursion (Sized m) (settled chosen ss)
+unfolding settled
+sized_settled m chosen [] h = tt
+sized_settled m chosen (s ∷ ss) h = ((h.0.0, omega (arith, h.0.1, length-map s.txns (settle (chosen s.number)))), sized_settled m chosen ss h.1)
+
+sized : (m : ℕ) (ss : List ClientSession) → AllByRecursion IsLegal ss → AllByRecursion (λ s. length s.txns ≤ m) ss → AllByRecursion (Sized m) ss
+sized m [] legal h = tt
+sized m (s ∷ ss) legal h = ((legal.0.high, h.0), sized m ss legal.1 h.1)
+
+nodes_fit : (m : ℕ) (ss : List ClientSession) → AllByRecursion IsLegal ss → AllByRecursion (λ s. length s.txns ≤ m) ss → AllByRecursion (Fits m) (committed_in ss)
+unfolding committed_in resolved
+nodes_fit m ss legal h = each_fits m (settled (taken ss) ss) (sized_settled m (taken ss) ss (sized m ss legal h))
 
 -- a session has no more transactions than lines
 lines_of_txns : (ts : List Transaction) → length ts ≤ length (flat_map txn_lines ts)
@@ -166,14 +187,14 @@ same_node ss well u v a b e =
     let one = node ss u a in
     let two = node ss v b in
     let names = sym (name_of-node ss u one.0 one.1) ∙ e ∙ name_of-node ss v two.0 two.1 in
-    let rules = rules_where_no_fault ss well.sessions in
-    let places = apart_at (committed_in ss) one.1.place two.1.place one.0 two.0 (apart ss (Apart-from_IsDistinct (map (λ s. s.number) ss) rules.sessions)) one.1.item two.1.item (ap (λ (p : ℕ × ℕ). p.0) names) (ap (λ (p : ℕ × ℕ). p.1) names) in
+    let rules = rules_where_no_fault 1 ss well.sessions in
+    let places = apart_at (committed_in ss) one.1.place two.1.place one.0 two.0 (nodes_apart ss (Apart-from_IsDistinct (map (λ s. s.number) ss) rules.sessions)) one.1.item two.1.item (ap (λ (p : ℕ × ℕ). p.0) names) (ap (λ (p : ℕ × ℕ). p.1) names) in
     one.1.next ∙ ap suc places ∙ sym two.1.next
 
 pub name_fits : (ss : List ClientSession) → IsWellFormedList ss → length (log_lines ss) < 2 ^ 63 → (v : ℕ) → IsNode ss v → ((name_in ss v).0 < 2 ^ 16) × ((name_in ss v).1 < 2 ^ 63)
 name_fits ss well room v h =
     let n = node ss v h in
-    let fits = each_at (Fits (length (log_lines ss))) (committed_in ss) n.1.place n.0 (each_fits (length (log_lines ss)) ss well.legal (few_txns ss)) n.1.item in
+    let fits = each_at (Fits (length (log_lines ss))) (committed_in ss) n.1.place n.0 (nodes_fit (length (log_lines ss)) ss well.legal (few_txns ss)) n.1.item in
     let name = name_of-node ss v n.0 n.1 in
     let one = ap (λ (p : ℕ × ℕ). p.0) name in
     let two = ap (λ (p : ℕ × ℕ). p.1) name in

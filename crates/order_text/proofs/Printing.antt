@@ -15,8 +15,7 @@ use Rattle.session_log.specs.Text.{ClientSession}
 use Rattle.session_log.specs.Lines.{lines, is_numeral, number_of}
 use Rattle.session_log.proofs.Digits.{own}
 use Rattle.session_log.proofs.Forms.{number_complete}
-use Rattle.session_log.proofs.Lines.{lines-nil}
-use Rattle.session_log.proofs.Whole.{lines_line}
+use Rattle.session_log.proofs.Lines.{lines-nil, lines_line}
 use Rattle.log_definitions.specs.WellFormed.{log_lines}
 use Rattle.log_definitions.specs.Numbers.{IsWellFormedList}
 use Rattle.session_history.specs.Tables.{name_in, node_named}

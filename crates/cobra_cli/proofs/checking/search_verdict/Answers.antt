@@ -3,7 +3,7 @@ use Rattle.branch_search.specs.declared.answer.Answer.TheVariants.{Yes}
 use Rattle.cobra_answers.specs.declared.status.Status.TheVariants.{NotSerializable}
 use Rattle.cobra_cli.specs.Checked.{by_search}
 use Rattle.cobra_answers.specs.Verdicts.{refuted_text}
-use Rattle.cobra_cli.proofs.Answering.{nodes_of_serial, searched_so, refuted_so, spent_so, verdict_is}
+use Rattle.cobra_cli.proofs.Answering.{nodes_of_serial, no_order, searched_so, refuted_so, spent_so, verdict_is}
 use Rattle.cobra_cli.proofs.checking.search_verdict.Goals as goal
 
 pub serial_text-requires : goal.serial_text-requires
@@ -25,7 +25,7 @@ returns-in_ok-refuted-in-No g c =
     record {
       verdict = verdict_is c.args.options.now.budget c.args.history.now _ NotSerializable _ refuted_text c.in_ok-refuted-in-No.ensures.status c.in_ok-refuted-in-No.ensures.text
           (record {
-            none = record { none = none };
+            none = no_order c.args.history.now c.requires.well_formed (record { none = none });
             reason = by_search c.in-No.tree (refuted_so c.args.options.now.budget c.args.history.now c.args.reduced.now c.in-No.tree c.requires.left (rw c.in-No.is at c.in_ok-order.ensures.ran) (rw c.in-No.is at c.in_ok-order.ensures.tree)) refl;
           });
     }

@@ -1,4 +1,5 @@
 use Rattle.std.proofs.lemmas.Result.{err_from_is_err_and}
+use Rattle.session_log.specs.Version.{version_of}
 use Rattle.cobra_cli.specs.Commands.{IsCounting, HasNoFormula}
 use Rattle.cobra_answers.specs.Answers.{by_log, by_command}
 use Rattle.cobra_answers.proofs.Telling.{told_all, cut_all, keeps}
@@ -16,10 +17,10 @@ returns-in_err-reply-clause-refused g c =
 
 pub returns-clause-told : goal.returns-clause-told
 returns-clause-told g c =
-    told_all (IsCounting c.args.options.now.plain) c.args.log.now c.in_ok-history.history _ _ c.in_ok-reply.reply.status c.in_ok-reply.reply.text.items c.tell.result
-    c.in_ok-history.ensures.accepted c.in_ok-reply.ensures.counted c.tell.ensures.status c.tell.ensures.told
+    told_all (IsCounting c.args.options.now.plain (version_of c.args.log.now)) c.args.log.now c.in_ok-history.history _ _ c.in_ok-reply.reply.status c.in_ok-reply.reply.text.items c.tell.result
+    c.in_ok-history.ensures.accepted (rw c.of.ensures at c.in_ok-reply.ensures.counted) c.tell.ensures.status c.tell.ensures.told
 
 pub returns-clause-refused : goal.returns-clause-refused
 returns-clause-refused g c =
-    cut_all (IsCounting c.args.options.now.plain) (HasNoFormula c.args.options.now.plain) c.args.log.now c.in_ok-history.history _ _ c.in_ok-reply.reply.status c.in_ok-reply.reply.text.items c.tell.result
-    c.in_ok-history.ensures.accepted c.in_ok-reply.ensures.counted c.tell.ensures.cut
+    cut_all (IsCounting c.args.options.now.plain (version_of c.args.log.now)) (HasNoFormula c.args.options.now.plain) c.args.log.now c.in_ok-history.history _ _ c.in_ok-reply.reply.status c.in_ok-reply.reply.text.items c.tell.result
+    c.in_ok-history.ensures.accepted (rw c.of.ensures at c.in_ok-reply.ensures.counted) c.tell.ensures.cut

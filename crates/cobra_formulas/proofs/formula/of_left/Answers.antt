@@ -30,4 +30,4 @@ returns-clause-faithful c =
     let proper = proper_polygraph r.poly polygraph graph left.reduced in
     let reach = listed_reach r.rows (record { nodes = r.poly.nodes; edges = r.poly.known }) left.rows in
     faithful_as ss (cnf_of c.in_ok-reduced_formula.field-0) (formula_of_rest r) c.in_ok-reduced_formula.ensures.formula
-    (faithful_reduced ss known r.poly proper reach c.requires.left.left.orders)
+    (faithful_reduced ss c.requires.well_formed known r.poly proper reach c.requires.left.left.orders)

@@ -10,7 +10,7 @@ plain_formula-requires c = record { clean = clean_log c.args.history.now c.commi
 
 pub returns-in-Some-clause-faithful : goal.returns-in-Some-clause-faithful
 returns-in-Some-clause-faithful c =
-    contradicted_faithful c.args.history.now c.contradicted.result
+    contradicted_faithful c.args.history.now c.contradicted.result c.committed.ensures.well_formed
     (record { none = none_serial c.args.history.now c.committed.ensures.well_formed c.in-Some.anomaly (sym c.in_ok-anomaly.ensures.anomaly ∙ c.in-Some.is) })
     c.contradicted.ensures.formula
 

@@ -1,17 +1,18 @@
--- A log has few lines, for the tests.
+-- A log has no more lines than bytes, and so few that their numbers fit.
 use Rattle.std.proofs.Common.{◌≡◌, ℕ, ◌<◌, ◌≤◌, ◌^◌, Bool, true, false, cond, List, [], ◌∷◌, ◌++◌, length, Option, Some, None, refl, ap, ◌∙◌, arith, length-append}
 use Rattle.std.specs.Prelude.{nat_lt}
 use Rattle.std.proofs.lemmas.Bool.{ltb-false}
 use Rattle.session_log.specs.Text.{ClientSession, line_text, text_of_lines, log_text}
+use Rattle.session_log.specs.Version.{header_text}
 use Rattle.session_log.specs.Blocks.{size_fault}
 use Rattle.session_log.specs.declared.line.Line.{Line}
 use Rattle.session_log.specs.declared.fault.Limit.TheVariants as limit
 use Rattle.session_log.specs.declared.fault.LogFault.{LogFault}
 use Rattle.session_log.specs.declared.fault.LogFault.TheVariants as faults
+use Rattle.session_log.specs.declared.version.Version.{Version}
 use Rattle.session_log.proofs.Whole.{log_by_lines}
 use Rattle.log_definitions.specs.WellFormed.{log_lines}
 
--- no more lines than bytes
 lines_bytes : (fs : List Line) → length fs ≤ length (text_of_lines fs)
 lines_bytes [] = omega arith
 lines_bytes (f ∷ fs) =
@@ -24,10 +25,10 @@ size_of : (text : List ℕ) (t : Bool) (rest : Option LogFault) → nat_lt (2 ^ 
 size_of text true rest e h = cc
 size_of text false rest e h = ltb-false (2 ^ 24) (length text) e
 
-pub room : (text : List ℕ) (ss : List ClientSession) → size_fault text ≡ None → text ≡ log_text ss → length (log_lines ss) < 2 ^ 63
+pub room : (v : Version) (text : List ℕ) (ss : List ClientSession) → size_fault text ≡ None → text ≡ log_text v ss → length (log_lines ss) < 2 ^ 63
 unfolding size_fault
-room text ss s e =
+room v text ss s e =
     let bytes = size_of text (nat_lt (2 ^ 24) (length text)) _ refl s in
     let fewer = lines_bytes (log_lines ss) in
-    let same = ap length (e ∙ log_by_lines ss) in
+    let same = ap length (e ∙ log_by_lines v ss) ∙ length-append (header_text v) (text_of_lines (log_lines ss)) in
     omega (arith, bytes, fewer, same)
