@@ -214,14 +214,11 @@ def encode(log, plain):
 
 def stats(log, plain):
     try:
-        sessions = read_log(log)
-        history = History(sessions)
+        history = History(read_log(log))
         formula = Formula(history, plain)
     except Refused as code:
         return refused(code)
-    transactions = [t for _, ts in sessions for t in ts]
-    lines = [('sessions', len(sessions)), ('committed', history.n), ('aborted', len(transactions) - history.n),
-             ('keys', len(history.keys)), ('operations', sum(len(ops) for ops, _ in transactions))]
+    lines = reference.log_counts(log, history)
     lines += [('anomaly', formula.anomaly)] if formula.anomaly else formula.counts
     lines += [('variables', formula.variables), ('clauses', len(formula.clauses))]
     return 0, ''.join('%s %s\n' % line for line in lines).encode(), b''

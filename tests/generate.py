@@ -1,26 +1,53 @@
-"""Small logs made from a seed: most are explained by some order, many are not, and many are damaged."""
-import random
+"""Small logs made from a seed: most are explained by some order, many are not, and many are damaged. They are of version 1, or of
+version 2, where sessions may end in a transaction whose outcome is unknown. And the logs of examples/."""
+import glob, os, random
+
+import reference
+
+EXAMPLES = os.path.join(os.path.dirname(os.path.abspath(__file__)), '..', 'examples')
+# Lines that are not the header of version 2, or are one more of it.
+HEADERS = [b'log 2 ', b' log 2', b'log  2', b'log 02', b'log 2\r', b'log\t2', b'log 1', b'log 22', b'log', b'log 2.0', b'Log 2', b'', b'log 2\nlog 2', b'\xef\xbb\xbflog 2']
 
 
-def text_of(sessions):
-    """The text of sessions: (number, [(operations, committed)])."""
-    out = []
+def versions(words):
+    """The versions of which a test makes logs: with --version-1 among its words the first alone."""
+    return (1,) if '--version-1' in words else (1, 2)
+
+
+def examples(versions):
+    """The name and the text of each example log of these versions."""
+    for path in sorted(glob.glob(os.path.join(EXAMPLES, '*.log'))):
+        with open(path, 'rb') as log:
+            text = log.read()
+        if reference.version_of(text) in versions:
+            yield os.path.basename(path), text
+
+
+def text_of(sessions, version=1):
+    """The text of sessions: (number, [(operations, outcome)])."""
+    out = [] if version == 1 else ['log %d' % version]
     for number, transactions in sessions:
         out.append('session %d' % number)
-        for ops, committed in transactions:
+        for ops, outcome in transactions:
             out.append('begin')
             out += ['%s %s %d' % op for op in ops]
-            out.append('commit' if committed else 'abort')
+            out.append(outcome)
     return ''.join(line + '\n' for line in out).encode()
 
 
-def small_log(seed):
-    """A log of at most six transactions over a few keys: replayed in a random order, and then often disturbed."""
+def small_log(seed, version=1):
+    """A log of at most six transactions over a few keys: replayed in a random order, and then often disturbed. In version 2 most
+    transactions have a session of their own, most sessions end in an unknown outcome, the store kept most of these transactions, and
+    others like to read what they wrote; or the log is a chain."""
     r = random.Random(seed)
+    if version == 2 and r.random() < 0.3:
+        return chained_log(r)
     keys = ['x', 'y', 'z'][:r.randint(1, 3)]
     count = r.randint(0, 6)
     sessions = [(number, []) for number in r.sample(range(1, 9), r.randint(1, 3))] if count else []
     owners = sorted(r.randrange(len(sessions)) for _ in range(count))
+    if version == 2 and r.random() < 0.7:
+        sessions, owners = [(number, []) for number in r.sample(range(1, 9), count)], list(range(count))
     turns = list(range(count))
     r.shuffle(turns)
     # in the order of the turns, but each session's transactions in its own order
@@ -31,13 +58,17 @@ def small_log(seed):
     for ts in ready.values():
         ts.sort()
     order = [ready[owners[t]].pop(0) for t in turns]
-    store, wid, made, versions = {}, 0, {}, {key: [0] for key in keys}
+    store, wid, made, versions, unlearnt = {}, 0, {}, {key: [0] for key in keys}, set()
     for t in order:
-        committed = r.random() < 0.85
+        kept = r.random() < 0.85
+        outcome = 'commit' if kept else 'abort'
+        if version == 2 and owners[t + 1:t + 2] != [owners[t]] and r.random() < 0.65:
+            outcome, kept = 'unknown', r.random() < 0.9
         ops, mine = [], dict(store)
         for _ in range(r.randint(0, 4)):
-            key = r.choice(keys)
-            if r.random() < 0.55:
+            near = [key for key in keys if mine.get(key) in unlearnt]
+            key = r.choice(near if near and r.random() < 0.7 else keys)
+            if r.random() < (0.8 if near else 0.55):
                 seen = mine.get(key, 0)
                 if r.random() < 0.12:
                     seen = r.choice(versions[key] + [wid + 50])
@@ -47,19 +78,78 @@ def small_log(seed):
                 mine[key] = wid
                 versions[key].append(wid)
                 ops.append(('w', key, wid))
-        if committed:
+        if kept:
             store = mine
-        made[t] = (ops, committed)
+        if outcome == 'unknown':
+            unlearnt |= {op[2] for op in ops if op[0] == 'w'}
+        made[t] = (ops, outcome)
     for t in range(count):
         sessions[owners[t]][1].append(made[t])
-    return text_of(sessions)
+    if version == 2 and r.random() < 0.3:
+        name_another(r, sessions)
+    return text_of(sessions, version)
 
 
-def damaged(seed):
-    """A small log with one or two of its bytes or lines disturbed."""
+def chained_log(r):
+    """At most six transactions of which each reads what the one before wrote, most of them unknown, in sessions in any order. In some
+    the first one reads what the last one wrote, and in some nobody is committed."""
+    count = r.randint(1, 5)
+    writes = [('w', r.choice('xy'), wid) for wid in range(1, count + 1)]
+    seen = [('r', *write[1:]) for write in writes]
+    chain = []
+    for place, write in enumerate(writes):
+        read = [seen[place - 1]] if place or r.random() < 0.15 else []
+        chain.append(([write] + read if r.random() < 0.2 else read + [write], r.choices(('unknown', 'commit', 'abort'), (14, 4, 1))[0]))
+    if r.random() < 0.85:
+        chain.append(([r.choice(seen)] if r.random() < 0.3 else [seen[-1]], 'commit'))
+    r.shuffle(chain)
+    sessions = [(number, [transaction]) for number, transaction in zip(r.sample(range(1, 9), len(chain)), chain)]
+    if r.random() < 0.3:
+        name_another(r, sessions)
+    return text_of(sessions, 2)
+
+
+def name_another(r, sessions):
+    """Lets a read name any write of its key in the log, above all one of an unknown transaction."""
+    transactions = [transaction for _, ts in sessions for transaction in ts]
+    reads = [(ops, place) for ops, _ in transactions for place, op in enumerate(ops) if op[0] == 'r']
+    if not reads:
+        return
+    ops, place = r.choice(reads)
+    key = ops[place][1]
+    written = {outcome: [op[2] for theirs, it in transactions if it == outcome for op in theirs if op[:2] == ('w', key)] for outcome in ('commit', 'abort', 'unknown')}
+    among = written['unknown'] if r.random() < 0.7 else sum(written.values(), [])
+    if among:
+        ops[place] = ('r', key, r.choice(among))
+
+
+def wrong_place(r, text):
+    """A log of version 2 with a fault that version 1 has not: of its header, or of an `unknown`."""
+    lines, way = text.split(b'\n'), r.randrange(6)
+    at = r.randrange(len(lines))
+    if way == 0:
+        lines[0] = r.choice(HEADERS)
+    elif way == 1:
+        lines.insert(at, lines.pop(0))
+    elif way == 2:
+        lines.insert(at, r.choice([b'unknown', b'unknown', b'unknown', b'unknown ', b'unknown 7', b'Unknown', b'unknow', b'log 2']))
+    elif way == 3:
+        return text[:r.randrange(8)]
+    else:
+        ends = [n for n, line in enumerate(lines) if line in (b'commit', b'abort') and (way == 5 or lines[n + 1] == b'begin')]
+        if ends:
+            lines[r.choice(ends)] = b'unknown'
+    return b'\n'.join(lines)
+
+
+def damaged(seed, version=1):
+    """A small log with one or two of its bytes or lines disturbed. What is made of version 2 may end as a log of version 1."""
     r = random.Random(seed)
-    text = small_log(seed)
+    text = small_log(seed, version)
     for _ in range(r.randint(1, 2)):
+        if version == 2 and r.random() < 0.4:
+            text = wrong_place(r, text)
+            continue
         kind = r.randrange(7)
         lines = text.split(b'\n')
         if kind == 0 and text:

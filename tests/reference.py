@@ -1,4 +1,4 @@
-"""A plain, slow reading of the definitions in docs/DEFINITIONS.md, made apart from the program: the faults of a log,
+"""A plain, slow reading of the definitions in docs/DEFINITIONS.md, made apart from the program: the faults of a log of either version,
 its anomalies, its serial orders by listing all orders, and the texts of its plain and its reduced formula and of their counts. It
 shares no code with the program."""
 import itertools, re
@@ -7,6 +7,8 @@ LIMITS = dict(bytes=16 * 1024 * 1024, sessions=64, operations=200000, committed=
 
 NUMBER = rb'(?:0|[1-9][0-9]*)'
 KEY = rb'[A-Za-z0-9_.:/-]{1,64}'
+SECOND = b'log 2\n'
+CLOSINGS = {1: (b'commit', b'abort'), 2: (b'commit', b'abort', b'unknown')}
 SESSION = re.compile(rb'session (' + NUMBER + rb')\Z')
 READ = re.compile(rb'r (' + KEY + rb') (' + NUMBER + rb')\Z')
 WRITE = re.compile(rb'w (' + KEY + rb') (' + NUMBER + rb')\Z')
@@ -16,14 +18,19 @@ class Refused(Exception):
     """The printed code of a refusal, as 'L4 line 2'."""
 
 
+def version_of(text):
+    """The version of a log: 2 where its first line is exactly `log 2`, else 1."""
+    return 2 if text.startswith(SECOND) else 1
+
+
 def lines_of(text):
     """The lines of a text, each with whether it has its line feed."""
     parts = text.split(b'\n')
     return [(part, True) for part in parts[:-1]] + ([(parts[-1], False)] if parts[-1] else [])
 
 
-def form_of(line):
-    if line in (b'begin', b'commit', b'abort'):
+def form_of(line, version):
+    if line == b'begin' or line in CLOSINGS[version]:
         return (line.decode(),)
     found = SESSION.match(line)
     if found:
@@ -36,24 +43,27 @@ def form_of(line):
 
 
 def read_log(text):
-    """The sessions of a well-formed log: (number, [(operations, committed)]); else Refused with the fault that stands first."""
+    """The sessions of a well-formed log: (number, [(operations, outcome)]), an outcome being the word that the log has for it; else
+    Refused with the fault that stands first."""
     if len(text) > LIMITS['bytes']:
         raise Refused('L7 log-bytes')
-    lines = lines_of(text)
+    version, lines = version_of(text), lines_of(text)
     if sum(line.startswith(b'session') for line, _ in lines) > LIMITS['sessions']:
         raise Refused('L7 sessions')
     sessions, opened, writes, numbers = [], None, [], []
-    for n, (line, ended) in enumerate(lines, 1):
+    for n, (line, ended) in list(enumerate(lines, 1))[0 if version == 1 else 1:]:
         if opened and line.startswith(b'session'):
             raise Refused('L4 line %d' % opened[0])
-        form = form_of(line) if ended else None
+        form = form_of(line, version) if ended else None
         if form is None:
             raise Refused('L1 line %d' % n)
         kind = form[0]
-        if (not sessions and kind != 'session') or (not opened and kind in ('r', 'w', 'commit', 'abort')):
+        if (not sessions and kind != 'session') or (not opened and kind not in ('session', 'begin')):
             raise Refused('L3 line %d' % n)
         if opened and kind == 'begin':
             raise Refused('L4 line %d' % opened[0])
+        if kind == 'begin' and sessions[-1][1] and sessions[-1][1][-1][1] == 'unknown':
+            raise Refused('L9 line %d' % n)
         if kind == 'w' and form[2] == 0:
             raise Refused('L5 line %d' % n)
         if kind == 'session':
@@ -66,7 +76,7 @@ def read_log(text):
             if kind == 'w':
                 writes.append((form[2], n))
         else:
-            sessions[-1][1].append((opened[1], kind == 'commit'))
+            sessions[-1][1].append((opened[1], kind))
             opened = None
     if opened:
         raise Refused('L4 line %d' % opened[0])
@@ -79,7 +89,7 @@ def read_log(text):
     operations = [o for ops, _ in transactions for o in ops]
     if len(operations) > LIMITS['operations']:
         raise Refused('L7 operations')
-    if sum(committed for _, committed in transactions) > LIMITS['committed']:
+    if sum(outcome != 'abort' for _, outcome in transactions) > LIMITS['committed']:
         raise Refused('L7 committed')
     if len({o[1] for o in operations}) > LIMITS['keys']:
         raise Refused('L7 keys')
@@ -91,19 +101,35 @@ def read_log(text):
     return sessions
 
 
+def named(sessions):
+    """Each transaction as (its session's number, its place), its operations and its outcome."""
+    return [((number, place), *transaction) for number, transactions in sessions for place, transaction in enumerate(transactions, 1)]
+
+
+def taken_of(sessions):
+    """The names of the taken transactions: the least set of unknown ones that has each with a write that a read of a committed or of
+    a taken one names, by key and identity."""
+    taken = set()
+    while True:
+        seen = {op[1:] for name, ops, outcome in named(sessions) if outcome == 'commit' or name in taken for op in ops if op[0] == 'r'}
+        more = {name for name, ops, outcome in named(sessions) if outcome == 'unknown' and any(op[0] == 'w' and op[1:] in seen for op in ops)}
+        if more == taken:
+            return taken
+        taken = more
+
+
 class History:
-    """The committed transactions of sessions as nodes 1 to n."""
+    """The committed and the taken transactions of sessions as nodes 1 to n. Unknown ones that are not taken count as aborted."""
 
     def __init__(self, sessions):
-        self.sessions = sessions
+        self.sessions, self.taken = sessions, taken_of(sessions)
         self.names, self.ops, self.aborted = [(0, 0)], [[]], []
-        for number, transactions in sessions:
-            for place, (ops, committed) in enumerate(transactions, 1):
-                if committed:
-                    self.names.append((number, place))
-                    self.ops.append(ops)
-                else:
-                    self.aborted.append(ops)
+        for name, ops, outcome in named(sessions):
+            if outcome == 'commit' or name in self.taken:
+                self.names.append(name)
+                self.ops.append(ops)
+            else:
+                self.aborted.append(ops)
         self.n = len(self.ops) - 1
         self.keys = []
         for _, transactions in sessions:
@@ -402,13 +428,19 @@ def formula_text(text, plain):
     return ''.join(line + '\n' for line in lines).encode()
 
 
+def log_counts(text, history):
+    """What `stats` counts in the log itself."""
+    transactions = named(history.sessions)
+    ended = lambda word: sum(outcome == word for _, _, outcome in transactions)
+    counts = [('sessions', len(history.sessions)), ('committed', ended('commit')), ('aborted', ended('abort'))]
+    if version_of(text) == 2:
+        counts += [('unknown', ended('unknown')), ('taken', len(history.taken))]
+    return counts + [('keys', len(history.keys)), ('operations', sum(len(ops) for _, ops, _ in transactions))]
+
+
 def stats_text(text, plain):
     """What `stats` writes for a log, with `--plain` or without it; else Refused."""
-    sessions = read_log(text)
-    history = History(sessions)
-    transactions = [t for _, ts in sessions for t in ts]
+    history = History(read_log(text))
     counts, variables, clauses = history.answer(plain)
-    lines = [('sessions', len(sessions)), ('committed', history.n), ('aborted', len(transactions) - history.n),
-             ('keys', len(history.keys)), ('operations', sum(len(ops) for ops, _ in transactions))]
-    lines += counts + [('variables', variables), ('clauses', len(clauses))]
+    lines = log_counts(text, history) + counts + [('variables', variables), ('clauses', len(clauses))]
     return ''.join('%s %s\n' % line for line in lines).encode()

@@ -1,24 +1,30 @@
 #!/usr/bin/env python3
-"""verdicts.py PROGRAM: what `check` says of small logs, against all orders and against the plain, slow reference beside this file.
+"""verdicts.py PROGRAM [--version-1]: what `check` says of small logs, against all orders and against the plain, slow reference beside
+this file.
 
-Each log of examples/ and a few thousand made ones go through `check` with each strategy and with 1 and 4 workers. An anomaly, a
-cycle and its place must be the reference's, to the byte; `serializable` must come with an order that explains every read, and only
-where there is one; where every cube is refuted no order may be serial. Logs of many open choices that a search has to go through
-are made besides, and some are searched with too small a budget. Last line: 'verdicts: N passed, M failed'."""
-import concurrent.futures, glob, os, random, subprocess, sys
+Each log of examples/ and a few thousand made ones, of both versions or with --version-1 of the first alone, go through `check` with each
+strategy and with 1 and 4 workers. An anomaly, a cycle and its place must be the reference's, to the byte; `serializable` must come with an
+order that explains every read, and only where there is one; where every cube is refuted no order may be serial. Logs of many open choices
+that a search has to go through are made besides, and some are searched with too small a budget. Last line: 'verdicts: N passed, M failed'."""
+import concurrent.futures, os, random, subprocess, sys
 
 HERE = os.path.dirname(os.path.abspath(__file__))
 sys.path.insert(0, HERE)
 import generate, reference
 
-MADE, SEARCHED = 2500, 600
+MADE, SEARCHED = {1: 2500, 2: 1500}, {1: 600, 2: 300}
 WAYS = [(strategy, workers) for strategy in ('first', 'most', 'least', 'forced') for workers in ('1', '4')] + [('forced', '16')]
 # Of these logs `first` leaves each unknown at the budget that is taken where none is said, and `forced` finds an order.
 BLIND = (1, 2, 4, 6)
 
 
-def searched_log(seed):
-    """Writers of two keys in sessions of their own, and readers of both: most choices stay open, and many of these have no order."""
+def outcome_of(r, version):
+    return 'unknown' if version == 2 and r.random() < 0.4 else 'commit'
+
+
+def searched_log(seed, version):
+    """Writers of two keys in sessions of their own, and readers of both: most choices stay open, and many of these have no order. In
+    version 2 some outcomes are unknown: of readers, and of writers that are then taken."""
     r = random.Random(seed)
     writers = [('x', 1), ('x', 2), ('y', 3), ('y', 4)] + [('x', 5)] * r.randint(0, 1)
     pairs = [(x, y) for x in (1, 2) for y in (3, 4)]
@@ -26,11 +32,12 @@ def searched_log(seed):
         pairs = r.sample(pairs, r.randint(1, 3)) + [(r.choice([1, 2, 0]), r.choice([3, 4]))]
     transactions = [[('w', key, wid)] for key, wid in writers] + [[('r', 'x', x), ('r', 'y', y)] for x, y in pairs]
     r.shuffle(transactions)
-    return generate.text_of([(number, [(ops, True)]) for number, ops in enumerate(transactions, 1)])
+    return generate.text_of([(number, [(ops, outcome_of(r, version))]) for number, ops in enumerate(transactions, 1)], version)
 
 
-def blind_log(seed):
-    """Two dozen blind writers of two keys, and readers of both, each transaction in a session of its own: serializable as it was made."""
+def blind_log(seed, version):
+    """Two dozen blind writers of two keys, and readers of both, each transaction in a session of its own: serializable as it was made. In
+    version 2 the outcome of each writer that somebody reads is unknown, which changes nothing in the answer."""
     r = random.Random(seed)
     store, transactions = {'x': 0, 'y': 0}, []
     for wid in range(1, 25):
@@ -40,7 +47,9 @@ def blind_log(seed):
         for _ in range(r.randint(0, 2)):
             transactions.append([('r', key, store[key]) for key in r.sample('xy', 2)])
     r.shuffle(transactions)
-    return generate.text_of([(number, [(ops, True)]) for number, ops in enumerate(transactions, 1)])
+    seen = {op[1:] for ops in transactions for op in ops if op[0] == 'r'}
+    outcomes = ['unknown' if version == 2 and ops[0][0] == 'w' and ops[0][1:] in seen else 'commit' for ops in transactions]
+    return generate.text_of([(number, [it]) for number, it in enumerate(zip(transactions, outcomes), 1)], version)
 
 
 def call(program, text, *words):
@@ -90,30 +99,27 @@ def judged(program, name, text):
     return ('found' if explained else 'refuted') if known is None else known.split()[2], found
 
 
-def judged_blind(program, seed):
-    text = blind_log(seed)
+def judged_blind(program, seed, version):
+    text = blind_log(seed, version)
     history = reference.History(reference.read_log(text))
     left = call(program, text, '--strategy', 'first', '--workers', '1')
-    found = [None if left == (3, 'unknown: 10000 closed\n', '') else 'blind log %d, first: %r' % (seed, left)]
+    found = [None if left == (3, 'unknown: 10000 closed\n', '') else 'blind log %d, version %d, first: %r' % (seed, version, left)]
     for workers in ('1', '4', '16'):
         status, said, _ = call(program, text, '--strategy', 'forced', '--workers', workers)
         fault = fault_in_order(history, status, said)
-        found.append(fault and 'blind log %d, forced, %s workers: %s' % (seed, workers, fault))
+        found.append(fault and 'blind log %d, version %d, forced, %s workers: %s' % (seed, version, workers, fault))
     return 'blind', found
 
 
 def main():
-    program = os.path.abspath(sys.argv[1])
-    logs = [('made log %d' % seed, generate.small_log(seed)) for seed in range(MADE)]
-    logs += [('searched log %d' % seed, searched_log(seed)) for seed in range(SEARCHED)]
-    for path in sorted(glob.glob(os.path.join(HERE, '..', 'examples', '*.log'))):
-        with open(path, 'rb') as log:
-            text = log.read()
-        if text.count(b'commit\n') <= 9:
-            logs.append((os.path.basename(path), text))
+    program, versions = os.path.abspath(sys.argv[1]), generate.versions(sys.argv)
+    logs = [(name, text) for name, text in generate.examples(versions) if text.count(b'commit\n') <= 9]
+    for version in versions:
+        logs += [('made log %d, version %d' % (seed, version), generate.small_log(seed, version)) for seed in range(MADE[version])]
+        logs += [('searched log %d, version %d' % (seed, version), searched_log(seed, version)) for seed in range(SEARCHED[version])]
     passed, failed, kinds = 0, 0, {}
     with concurrent.futures.ThreadPoolExecutor() as pool:
-        jobs = [(judged_blind, seed) for seed in BLIND] + [(judged, *log) for log in logs]
+        jobs = [(judged_blind, seed, version) for version in versions for seed in BLIND] + [(judged, *log) for log in logs]
         for kind, found in pool.map(lambda job: job[0](program, *job[1:]), jobs):
             kinds[kind] = kinds.get(kind, 0) + 1
             for fault in found:

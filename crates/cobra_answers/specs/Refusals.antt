@@ -45,6 +45,7 @@ log_refusal (log.OutsideTransaction line) = codes "refused: L3 line " ++ decimal
 log_refusal (log.OpenTransaction line) = codes "refused: L4 line " ++ decimal line
 log_refusal (log.WriteZero line) = codes "refused: L5 line " ++ decimal line
 log_refusal (log.WriteTwice line) = codes "refused: L6 line " ++ decimal line
+log_refusal (log.UnknownNotLast line) = codes "refused: L9 line " ++ decimal line
 log_refusal (log.OverLimit which) = codes "refused: L7 " ++ limit_name which
 log_refusal log.Memory = memory_line
 

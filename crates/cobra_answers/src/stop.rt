@@ -154,6 +154,7 @@ fn write_log_refusal<W: fmt::Write>(f: &mut fmt::Formatter<W>, fault: LogFault) 
         LogFault::OpenTransaction { line } => write!(f, "refused: L4 line {line}"),
         LogFault::WriteZero { line } => write!(f, "refused: L5 line {line}"),
         LogFault::WriteTwice { line } => write!(f, "refused: L6 line {line}"),
+        LogFault::UnknownNotLast { line } => write!(f, "refused: L9 line {line}"),
         LogFault::OverLimit { which } => {
             let name = limit_name(which);
             write!(f, "refused: L7 {name}")

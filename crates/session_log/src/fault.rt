@@ -14,7 +14,7 @@ pub enum Limit {
     Sessions,
     /// Reads and writes.
     Operations,
-    /// Committed transactions.
+    /// Committed transactions, and those whose outcome is unknown.
     Committed,
     /// Different keys.
     Keys,
