@@ -25,11 +25,14 @@ def bipaths(keys):
         yield 'commit'
 
 
-def operations(committed, long_keys):
-    """200,000 operations over 10,000 keys in this many committed transactions and 64 sessions, close to 16 MiB with long keys."""
+def operations(committed, long_keys, version=1):
+    """200,000 operations over 10,000 keys in this many committed transactions and 64 sessions, close to 16 MiB with long keys. In version
+    2 the last outcome of each session is unknown, and nobody reads these writes."""
     prefix = 'k' * (55 if long_keys else 1)
     each = 200000 // committed
     count = 0
+    if version == 2:
+        yield 'log 2'
     for t in range(committed):
         if t * 64 // committed != (t - 1) * 64 // committed or t == 0:
             yield 'session %d' % (t * 64 // committed + 1)
@@ -37,7 +40,20 @@ def operations(committed, long_keys):
         for _ in range(each):
             count += 1
             yield 'w %s%d %d' % (prefix, count * 7919 % 10000, 2 ** 63 + count * 104729 % 2 ** 60)
-        yield 'commit'
+        yield 'unknown' if version == 2 and t * 64 // committed != (t + 1) * 64 // committed else 'commit'
+
+
+def unknown_chain():
+    """Version 2: a transaction in each of 64 sessions that reads what the session before it wrote. The last one is committed, and so all
+    the others are taken, whose outcomes are unknown; each writes 156 keys of its own, 3,124 times."""
+    yield 'log 2'
+    for s in range(1, 65):
+        yield 'session %d' % s
+        yield 'begin'
+        yield 'r k%d %d' % (156 * s - 153, 10000 * s - 6876 if s > 1 else 0)
+        for i in range(3124):
+            yield 'w k%d %d' % (156 * s + i % 156, 10000 * s + i + 1)
+        yield 'unknown' if s < 64 else 'commit'
 
 
 def choices():
@@ -121,4 +137,6 @@ write('bipaths_41.log', bipaths(41))
 write('operations_100.log', operations(100, True))
 write('operations_400.log', operations(400, True))
 write('one_transaction.log', operations(1, True))
+write('unknown_100.log', operations(100, True, 2))
+write('unknown_chain.log', unknown_chain())
 write('begins.log', ['session 1'] + ['begin', 'commit'] * 390 + ['begin', 'abort'] * 1000000)

@@ -136,7 +136,7 @@ def wrong_place(r, text):
     elif way == 3:
         return text[:r.randrange(8)]
     else:
-        ends = [n for n, line in enumerate(lines) if line in (b'commit', b'abort') and (way == 5 or lines[n + 1] == b'begin')]
+        ends = [n for n, line in enumerate(lines) if line in (b'commit', b'abort') and (way == 5 or lines[n + 1:n + 2] == [b'begin'])]
         if ends:
             lines[r.choice(ends)] = b'unknown'
     return b'\n'.join(lines)

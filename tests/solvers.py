@@ -1,22 +1,22 @@
 #!/usr/bin/env python3
-"""solvers.py PROGRAM: the built program against real SAT solvers, against the plain, slow reference beside this file, and
+"""solvers.py PROGRAM [--version-1]: the built program against real SAT solvers, against the plain, slow reference beside this file, and
 against all orders of small logs.
 
 For each log of examples/ and a few hundred made ones, and for its reduced and its plain formula: the formula's text must be the
 reference's, byte for byte; each solver's answer goes back into `decode`; each order that comes out must be accepted by `verify`;
-where a solver says UNSATISFIABLE, no order of the at most seven transactions may be serial. Ten thousand small logs, most of them
-damaged, go through `stats` of both, whose refusals and counts must be the reference's.
+where a solver says UNSATISFIABLE, no order of the at most seven transactions may be serial. Thousands of small logs, most of them
+damaged, go through `stats` of both, whose refusals and counts must be the reference's. With --version-1 all logs are of version 1.
 
 The solvers are those that are installed, which .ci/install_solvers sees to. Where there is none, a small solver of this file's own
 takes their place, and the output says so. Last line: 'solvers: N passed, M failed'."""
-import glob, os, shutil, subprocess, sys, tempfile, concurrent.futures
+import os, shutil, subprocess, sys, tempfile, concurrent.futures
 
 HERE = os.path.dirname(os.path.abspath(__file__))
 sys.path.insert(0, HERE)
 import generate, reference
 
 SOLVERS = {'cadical': ['cadical', '-q'], 'picosat': ['picosat'], 'cryptominisat': ['cryptominisat5', '--verb', '0']}
-MADE, DAMAGED = 300, 10000
+MADE, DAMAGED = {1: 300, 2: 200}, {1: 10000, 2: 6000}
 
 
 def installed():
@@ -113,32 +113,31 @@ class Runs:
             names = [tuple(map(int, line.split())) for line in listed.decode().split('\n') if line]
             self.expect(history.is_serial([history.names.index(n) for n in names]), '%s: order of %s' % (name, solver))
 
-    def counts(self, seed):
+    def counts(self, made):
         """The refusal or the counts of a damaged log, as the reference has them, with both formulas."""
-        text = generate.damaged(seed)
-        told = []
+        text, told = generate.damaged(*made), []
         for plain in (False, True):
             try:
                 wanted = (0, reference.stats_text(text, plain), b'')
             except reference.Refused as refused:
                 wanted = (2, b'', ('refused: %s\n' % refused).encode())
             got = self.call('stats', *(['--plain'] if plain else []), stdin=text)
-            told.append((got == wanted, 'damaged log %d%s: %r, wanted %r' % (seed, ', plain' if plain else '', got, wanted)))
+            told.append((got == wanted, 'damaged log %d, version %d%s: %r, wanted %r' % (*made, ', plain' if plain else '', got, wanted)))
         return told
 
 
 def main():
-    program = os.path.abspath(sys.argv[1])
+    program, versions = os.path.abspath(sys.argv[1]), generate.versions(sys.argv)
     solvers = installed()
     with tempfile.TemporaryDirectory() as folder:
         runs = Runs(program, solvers, folder)
-        for path in sorted(glob.glob(os.path.join(HERE, '..', 'examples', '*.log'))):
-            with open(path, 'rb') as log:
-                runs.whole_way(os.path.basename(path), log.read())
-        for seed in range(MADE):
-            runs.whole_way('made log %d' % seed, generate.small_log(seed))
+        for name, text in generate.examples(versions):
+            runs.whole_way(name, text)
+        for version in versions:
+            for seed in range(MADE[version]):
+                runs.whole_way('made log %d, version %d' % (seed, version), generate.small_log(seed, version))
         with concurrent.futures.ThreadPoolExecutor() as pool:
-            for told in pool.map(runs.counts, range(DAMAGED)):
+            for told in pool.map(runs.counts, [(seed, version) for version in versions for seed in range(DAMAGED[version])]):
                 for holds, what in told:
                     runs.expect(holds, what)
     print('solvers: %s' % (', '.join(solvers) or 'none but the one of tests/solvers.py'))

@@ -1,11 +1,15 @@
 #!/usr/bin/env python3
-"""workers.py PROGRAM: what a command prints does not depend on the number of workers.
+"""workers.py PROGRAM [--version-1]: what a command prints does not depend on the number of workers.
 
-Logs at the limits, and logs that are refused, go through `encode` and `stats`, with `--plain` and without it, with 1, 3, 4 and 16
-workers; the answers must be equal, byte for byte. Last line: 'workers: N passed, M failed'."""
+Logs at the limits, and logs that are refused, of both versions or with --version-1 of the first alone, go through `encode` and `stats`,
+with `--plain` and without it, with 1, 3, 4 and 16 workers; the answers must be equal, byte for byte. Last line: 'workers: N passed, M
+failed'."""
 import glob, os, subprocess, sys, tempfile
 
 HERE = os.path.dirname(os.path.abspath(__file__))
+sys.path.insert(0, HERE)
+import generate, reference
+
 WORKERS = ['1', '3', '4', '16']
 REFUSED = {
     'open': b'session 1\nbegin\nw x 1\n',
@@ -18,6 +22,14 @@ REFUSED = {
     'two faults': b'session 1\nbegin\nsession 2\nbegin\nw x 0\ncommit\nsession 3\nrubbish\n',
     'many transactions': b'session 1\n' + b'begin\ncommit\n' * 401,
     'many sessions': b''.join(b'session %d\n' % n for n in range(1, 66)),
+    'header alone': b'log 2\n',
+    'header twice': b'log 2\nlog 2\n',
+    'unknown not last': b'log 2\nsession 1\nbegin\nw x 1\nunknown\nbegin\nw x 1\ncommit\n',
+    'unknown outside': b'log 2\nsession 1\nunknown\n',
+    'unknown not last, and a fault before it': b'log 2\nsession 1\nbegin\nw x 0\nunknown\nsession 2\nbegin\nunknown\nbegin\n',
+    'unknown, identity twice': b'log 2\nsession 1\nbegin\nw x 1\nunknown\nsession 2\nbegin\nw x 1\nunknown\n',
+    'unknown, session twice': b'log 2\nsession 1\nbegin\nunknown\nsession 1\n',
+    'many unknown transactions': b'log 2\n' + b''.join(b'session %d\n' % n + b'begin\ncommit\n' * 9 + b'begin\nunknown\n' for n in range(1, 42)),
 }
 
 
@@ -28,15 +40,17 @@ def answers(program, words, text):
 
 
 def main():
-    program = os.path.abspath(sys.argv[1])
+    program, versions = os.path.abspath(sys.argv[1]), generate.versions(sys.argv)
     passed, failed = 0, 0
     with tempfile.TemporaryDirectory() as folder:
         subprocess.run([sys.executable, os.path.join(HERE, '..', 'bench', 'make_logs.py'), folder], check=True)
-        logs = dict(REFUSED)
-        for path in sorted(glob.glob(os.path.join(folder, '*.log'))) + sorted(glob.glob(os.path.join(HERE, '..', 'examples', '*.log'))):
+        logs = {**REFUSED, **dict(generate.examples(versions))}
+        for path in sorted(glob.glob(os.path.join(folder, '*.log'))):
             with open(path, 'rb') as log:
-                logs[os.path.basename(path)] = log.read()
+                logs['bench ' + os.path.basename(path)] = log.read()
         for name, text in logs.items():
+            if reference.version_of(text) not in versions:
+                continue
             for words in (['encode'], ['stats'], ['encode', '--plain'], ['stats', '--plain']):
                 first, *others = answers(program, words, text)
                 if all(other == first for other in others):

@@ -2,6 +2,7 @@ ghost use Rattle.std.specs.Prelude.{◌≡◌, ◌↔◌, ℕ, List, IfOk, map};
 ghost use Rattle.std.specs.List.{AllByRecursion};
 ghost use Rattle.session_log.specs.Text.{view, IsLegal, log_text};
 ghost use Rattle.session_log.specs.Blocks.{blocks_of};
+ghost use Rattle.session_log.specs.Version.{version_of};
 ghost use Rattle.serializability.specs.Polygraph.{Fits};
 ghost use Rattle.serializability.specs.Reads.{IsClean};
 ghost use Rattle.log_definitions.specs.Numbers.{log_of};
@@ -58,7 +59,7 @@ const READER_OF_ONE: &str = "session 1\nbegin\nw x 1\ncommit\nsession 2\nbegin\n
 fn sessions_in(alloc: Global, log: &[u8], blocks: &[Block]) -> Result<Vec<Session>, LogFault>
     requires { blocks.now ≡ blocks_of log.now }
     ensures legal { IfOk result (λ ss. AllByRecursion IsLegal (map view ss.items)) }
-    ensures text { IfOk result (λ ss. log.now ≡ log_text (map view ss.items)) }
+    ensures text { IfOk result (λ ss. log.now ≡ log_text (version_of log.now) (map view ss.items)) }
 {
     let mut sessions = Vec::with_capacity(alloc, blocks.len())?;
     for block in blocks {
@@ -68,9 +69,9 @@ fn sessions_in(alloc: Global, log: &[u8], blocks: &[Block]) -> Result<Vec<Sessio
 }
 
 fn read(alloc: Global, log: &[u8]) -> Result<History, LogFault> {
-    let blocks = cut(alloc, log)?;
+    let (version, blocks) = cut(alloc, log)?;
     let sessions = sessions_in(alloc, log, &blocks)?;
-    History::build(alloc, sessions)
+    History::build(alloc, version, sessions)
 }
 
 // Shows that a history has no anomaly.

@@ -2,6 +2,7 @@ ghost use Rattle.std.specs.Prelude.{◌≡◌, IfOk, map};
 ghost use Rattle.std.specs.List.{AllByRecursion};
 ghost use Rattle.session_log.specs.Text.{view, IsLegal, log_text};
 ghost use Rattle.session_log.specs.Blocks.{blocks_of};
+ghost use Rattle.session_log.specs.Version.{version_of};
 
 use anomalies::classify;
 use coalesce::coalesce;
@@ -26,7 +27,7 @@ const READER_OF_ONE: &str =
 fn sessions_in(alloc: Global, log: &[u8], blocks: &[Block]) -> Result<Vec<Session>, LogFault>
     requires { blocks.now ≡ blocks_of log.now }
     ensures legal { IfOk result (λ ss. AllByRecursion IsLegal (map view ss.items)) }
-    ensures text { IfOk result (λ ss. log.now ≡ log_text (map view ss.items)) }
+    ensures text { IfOk result (λ ss. log.now ≡ log_text (version_of log.now) (map view ss.items)) }
 {
     let mut sessions = Vec::with_capacity(alloc, blocks.len())?;
     for block in blocks {
@@ -36,9 +37,9 @@ fn sessions_in(alloc: Global, log: &[u8], blocks: &[Block]) -> Result<Vec<Sessio
 }
 
 fn read(alloc: Global, log: &[u8]) -> Result<History, LogFault> {
-    let blocks = cut(alloc, log)?;
+    let (version, blocks) = cut(alloc, log)?;
     let sessions = sessions_in(alloc, log, &blocks)?;
-    History::build(alloc, sessions)
+    History::build(alloc, version, sessions)
 }
 
 // The polygraph of a log's bipaths, and that of its chains.

@@ -6,7 +6,7 @@ use known_graph::bits::has_bit;
 use reach_laws::Edge;
 use serializability::NodeIx;
 use session_history::History;
-use session_log::{Key, Op, Outcome, Session, Txn};
+use session_log::{Key, Op, Outcome, Session, Txn, Version};
 use std::alloc::Global;
 use std::test::Fail;
 
@@ -97,7 +97,7 @@ fn arcs_of_two(alloc: Global) -> Result<Known, Fail> {
     })?;
     let mut sessions = Vec::new(alloc);
     sessions.push(Session { number: 1, txns })?;
-    let history = History::build(alloc, sessions)?;
+    let history = History::build(alloc, Version::One, sessions)?;
     Ok(Known::of(alloc, &history)?)
 }
 

@@ -22,11 +22,15 @@ use std::time::{Clock, Duration};
 const THREE: &str =
     "session 1\nbegin\nw x 1\ncommit\nsession 2\nbegin\nw x 2\ncommit\nsession 3\nbegin\nr x 1\ncommit\n";
 
+// A session whose client was not told how its transaction ended, and one that reads what it wrote.
+const UNKNOWN: &str =
+    "log 2\nsession 1\nbegin\nw x 1\nunknown\nsession 2\nbegin\nr x 1\ncommit\n";
+
 #[test]
 fn each_event_has_its_reply(rt: HostRuntime) -> Result<(), Fail> {
     let alloc = rt.alloc();
     let log = THREE.as_bytes();
-    let blocks = cut(alloc, log).ok().ok_or("three blocks")?;
+    let (_, blocks) = cut(alloc, log).ok().ok_or("three blocks")?;
     let first = blocks.first().ok_or("a block")?;
     let one = SeatNo::new(1).ok_or("seat 1")?;
     let two = SeatNo::new(2).ok_or("seat 2")?;
@@ -57,7 +61,7 @@ fn each_event_has_its_reply(rt: HostRuntime) -> Result<(), Fail> {
 fn a_second_put_is_double(rt: HostRuntime) -> Result<(), Fail> {
     let alloc = rt.alloc();
     let log = THREE.as_bytes();
-    let blocks = cut(alloc, log).ok().ok_or("three blocks")?;
+    let (_, blocks) = cut(alloc, log).ok().ok_or("three blocks")?;
     let workers = Workers::new(1).ok_or("one worker")?;
     let machine = GatherMachine::opening(alloc, log, Vec::from_slice(alloc, &blocks)?)?;
     let opened = Opened::new(alloc, machine, workers)?;
@@ -97,7 +101,7 @@ fn put_twice<'a, J: Naming, R: Wait + Abort>(
 }
 
 fn read_alone(alloc: Global, log: &[u8]) -> Result<Vec<Session>, LogFault> {
-    let blocks = cut(alloc, log)?;
+    let (_, blocks) = cut(alloc, log)?;
     let mut sessions = Vec::with_capacity(alloc, blocks.len())?;
     for block in &blocks {
         sessions.push(parse_block(alloc, log, block)?)?;
@@ -133,7 +137,7 @@ fn reads_as<R: Threads + Wait + Clock + Abort + Sync>(
     for count in [1, 3, 16] {
         let workers = Workers::new(count).expect(rt, "workers");
         let read = collect(rt, alloc, log.as_bytes(), workers, &OpenGate);
-        let together = told(alloc, read).expect(rt, "memory");
+        let together = told(alloc, read.map(|read| read.1)).expect(rt, "memory");
         assert_eq!(rt; together.as_slice(), alone.as_slice());
     }
 }
@@ -171,6 +175,16 @@ fn logs_are_read_as_by_one_thread(rt: HostRuntime) {
         (
             "session 1\nsession 2\nbegin\nw x 0\ncommit\nsession 3\nr x 0\n",
             Some(LogFault::WriteZero { line: 4 }),
+        ),
+        (UNKNOWN, None),
+        ("log 2\nsession 1\nbegin\nw x 1\n", Some(LogFault::OpenTransaction { line: 3 })),
+        (
+            "log 2\nsession 1\nbegin\nunknown\nbegin\ncommit\n",
+            Some(LogFault::UnknownNotLast { line: 5 }),
+        ),
+        (
+            "session 1\nbegin\nunknown\n",
+            Some(LogFault::BadLine { line: 3 }),
         ),
     ] {
         reads_as(&rt, rt.alloc(), log, want);
@@ -240,7 +254,7 @@ fn both_workers_take_part(rt: HostRuntime) -> Result<(), Fail> {
             ran_out: AtomicBool::new(false),
         };
         let read = collect(&rt, alloc, THREE.as_bytes(), workers, &gate);
-        let text = told(alloc, read)?;
+        let text = told(alloc, read.map(|read| read.1))?;
         assert_eq!(rt; text.as_slice(), THREE.as_bytes());
         assert!(rt; !gate.ran_out.load(Ordering::SeqCst));
     }

@@ -1,5 +1,6 @@
 use session_log::{
-    Block, Key, Limit, LogFault, MAX_LOG_BYTES, Session, cut, parse_block, parse_lines, print_log,
+    Block, Key, Limit, LogFault, MAX_LOG_BYTES, Session, Version, cut, parse_block, parse_lines,
+    print_log,
 };
 use std::alloc::Global;
 use std::cmp::Ordering;
@@ -11,7 +12,7 @@ const THREE: &str =
 const KEY64: &str = "-./0123456789:ABCDEFGHIJKLMNOPQRSTUVWXYZ_abcdefghijklmnopqrstuvw";
 
 fn read(alloc: Global, log: &[u8]) -> Result<Vec<Session>, LogFault> {
-    let blocks = cut(alloc, log)?;
+    let (_, blocks) = cut(alloc, log)?;
     let mut sessions = Vec::with_capacity(alloc, blocks.len())?;
     for block in &blocks {
         sessions.push(parse_block(alloc, log, block)?)?;
@@ -58,6 +59,18 @@ fn refused_logs(rt: HostRuntime) {
             LogFault::BadLine { line: 3 },
         ),
         ("begin\n", LogFault::OutsideTransaction { line: 1 }),
+        ("session 1\nbegin\nunknown\n", LogFault::BadLine { line: 3 }),
+        ("log 2", LogFault::BadLine { line: 1 }),
+        ("log 2 \nsession 1\n", LogFault::BadLine { line: 1 }),
+        ("log 2\nlog 2\n", LogFault::BadLine { line: 2 }),
+        (
+            "log 2\nsession 1\nbegin\nunknown\nbegin\ncommit\n",
+            LogFault::UnknownNotLast { line: 5 },
+        ),
+        (
+            "log 2\nsession 1\nbegin\nunknown\nr x 0\n",
+            LogFault::OutsideTransaction { line: 5 },
+        ),
         (
             "session 1\nbegin\nbegin\n",
             LogFault::OpenTransaction { line: 2 },
@@ -113,12 +126,37 @@ fn printed(rt: HostRuntime) -> Result<(), Fail> {
 #[test]
 #[tactic(auto, unfolding(session_log::specs::Lines::lines))]
 fn pieces(rt: HostRuntime) -> Result<(), Fail> {
-    let session = parse_lines(rt.alloc(), b"session 7\nbegin\nw x 1\nabort\n", 9)
+    let session = parse_lines(rt.alloc(), Version::One, b"session 7\nbegin\nw x 1\nabort\n", 9)
         .ok()
         .ok_or("refused")?;
     assert_eq!(rt; session.number, 7);
-    let fault = parse_lines(rt.alloc(), b"session 7\nbegin\nx\n", 9).err();
+    let fault = parse_lines(rt.alloc(), Version::One, b"session 7\nbegin\nx\n", 9).err();
     assert_eq!(rt; fault, Some(LogFault::BadLine { line: 11 }));
+    Ok(())
+}
+
+#[test]
+fn version_two(rt: HostRuntime) -> Result<(), Fail> {
+    let log = b"log 2\nsession 1\nbegin\nw x 1\nunknown\n";
+    let (version, blocks) = cut(rt.alloc(), log).ok().ok_or("refused")?;
+    assert_eq!(rt; version, Version::Two);
+    assert_eq!(rt;
+        blocks.as_slice(),
+        [Block {
+            version: Version::Two,
+            start: 6,
+            stop: log.len(),
+            line: 2
+        }]
+        .as_slice()
+    );
+    let sessions = read(rt.alloc(), log).ok().ok_or("refused")?;
+    let printed = print_log(rt.alloc(), &sessions)?;
+    assert_eq!(rt; printed.as_slice(), log.as_slice());
+    // Where each outcome is known, the list is printed without a header.
+    let known = read(rt.alloc(), b"log 2\nsession 1\nbegin\ncommit\n").ok().ok_or("refused")?;
+    let printed = print_log(rt.alloc(), &known)?;
+    assert_eq!(rt; printed.as_slice(), b"session 1\nbegin\ncommit\n".as_slice());
     Ok(())
 }
 
@@ -128,7 +166,8 @@ fn limits(rt: HostRuntime) -> Result<(), Fail> {
     for _ in 0..64 {
         log.extend_from_slice(b"session 1\n")?;
     }
-    let blocks = cut(rt.alloc(), &log).ok().ok_or("refused")?;
+    let (version, blocks) = cut(rt.alloc(), &log).ok().ok_or("refused")?;
+    assert_eq!(rt; version, Version::One);
     assert_eq!(rt; blocks.len(), 64);
     log.extend_from_slice(b"session")?;
     let fault = cut(rt.alloc(), &log).err();
@@ -146,10 +185,11 @@ fn limits(rt: HostRuntime) -> Result<(), Fail> {
             which: Limit::LogBytes
         })
     );
-    let blocks = cut(rt.alloc(), &long[1..]).ok().ok_or("refused")?;
+    let (_, blocks) = cut(rt.alloc(), &long[1..]).ok().ok_or("refused")?;
     assert_eq!(rt;
         blocks.as_slice(),
         [Block {
+            version: Version::One,
             start: 0,
             stop: MAX_LOG_BYTES,
             line: 1

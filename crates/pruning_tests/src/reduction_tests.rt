@@ -38,8 +38,8 @@ fn read<R: Threads + Wait + Clock + Sync>(
     log: &[u8],
     workers: Workers,
 ) -> Result<History, LogFault> {
-    let sessions = collect(rt, alloc, log, workers, &OpenGate)?;
-    History::build(alloc, sessions)
+    let (version, sessions) = collect(rt, alloc, log, workers, &OpenGate)?;
+    History::build(alloc, version, sessions)
 }
 
 // What the steps make of a log, with so many workers.

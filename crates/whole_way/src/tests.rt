@@ -7,7 +7,7 @@ use cobra_cli::{
 use desk::{OpenGate, Workers};
 use dimacs::Counted;
 use history::{Anomaly, NodeIx, ReadAnomaly, classify};
-use session_log::{cut, parse_block, print_log};
+use session_log::{Version, cut, parse_block, print_log};
 use std::alloc::{AllocError, Global};
 use std::process::Abort;
 use std::sync::Wait;
@@ -602,7 +602,9 @@ fn what_is_printed_is_read_back(rt: HostRuntime) -> Result<(), Fail> {
     let log = read_all(rt.alloc(), &mut source, 100).expect(&rt, "the log is read");
     assert_eq!(rt; log.len(), 87);
     let mut sessions = Vec::new(rt.alloc());
-    for block in cut(rt.alloc(), &log).expect(&rt, "the log is cut") {
+    let (version, blocks) = cut(rt.alloc(), &log).expect(&rt, "the log is cut");
+    assert_eq!(rt; version, Version::One);
+    for block in blocks {
         sessions.push(parse_block(rt.alloc(), &log, &block).expect(&rt, "the block is read"))?;
     }
     let printed = print_log(rt.alloc(), &sessions)?;
