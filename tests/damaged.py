@@ -1,21 +1,24 @@
 #!/usr/bin/env python3
-"""damaged.py PROGRAM [SECONDS [SEED]] [--plain]: logs, answers and orders damaged at random, against the plain, slow readers beside
-this file.
+"""damaged.py PROGRAM [SECONDS [SEED]] [--plain] [--version-1]: logs, answers and orders damaged at random, against the plain, slow
+readers beside this file.
 
 For SECONDS (60) each processor makes small logs, answers and orders from the seed that is printed, or takes those of examples/,
 damages them (bytes and lines changed, cut, doubled, dropped, moved; other line ends, a byte order mark, NUL bytes, numbers at and
-past the limits, signs, leading zeros) and gives them to each command. Text and status must be the reference's, byte for byte; what
-`check` says must be what the reference allows. Each prefix of one log and of one answer is run once before. With --plain the plain
-formula alone is asked for. Last line: 'damaged: N passed, M failed'."""
-import glob, multiprocessing, os, random, subprocess, sys, tempfile, time
+past the limits, signs, leading zeros; headers, and outcomes that are unknown) and gives them to each command. Text and status must be the
+reference's, byte for byte; what `check` says must be what the reference allows. Each prefix of a log and of an answer is run once before.
+With --plain the plain formula alone is asked for, with --version-1 no log is of version 2. Last line: 'damaged: N passed, M failed'."""
+import multiprocessing, os, random, subprocess, sys, tempfile, time
 
 HERE = os.path.dirname(os.path.abspath(__file__))
 sys.path.insert(0, HERE)
 import answers, generate, reference, solvers
 
-PREFIX_LOG = b'session 1\nbegin\nw x 1\ncommit\nsession 2\nbegin\nw x 2\ncommit\nsession 3\nbegin\nr x 1\ncommit\n'
+TAIL = b'session 2\nbegin\nw x 2\ncommit\nsession 3\nbegin\nr x 1\ncommit\n'
+# For each version a log, after how many bytes it is well-formed, and after how many a transaction is open, with its line.
+PREFIX_LOGS = {
+    1: (b'session 1\nbegin\nw x 1\ncommit\n' + TAIL, (0, 10, 29, 39, 58, 68, 87), {16: 2, 22: 2, 45: 6, 51: 6, 74: 10, 80: 10}),
+    2: (b'log 2\nsession 1\nbegin\nw x 1\nunknown\n' + TAIL, (0, 6, 16, 36, 46, 65, 75, 94), {22: 3, 28: 3, 52: 7, 58: 7, 81: 11, 87: 11})}
 PREFIX_ANSWER = b's SATISFIABLE\nv 1 -2 3 0\n'
-WHOLE, OPEN = (0, 10, 29, 39, 58, 68, 87), {16: 2, 22: 2, 45: 6, 51: 6, 74: 10, 80: 10}
 NODES, SHOWN = 7, 20
 NUMBERS = [b'0', b'-0', b'00', b'01', b'+1', b'-1', b'1.0', b'', b'65535', b'65536', b'4294967295', b'4294967296', b'9223372036854775808',
            b'18446744073709551614', b'18446744073709551615', b'18446744073709551616', b'18446744073709551617', b'018446744073709551615',
@@ -23,7 +26,8 @@ NUMBERS = [b'0', b'-0', b'00', b'01', b'+1', b'-1', b'1.0', b'', b'65535', b'655
 LINES = {
     'log': [b'begin', b'commit', b'abort', b'session 1', b'session 0', b'session 65536', b'session', b'sessions 1', b'r x 01', b'w x 0', b'w  x 1',
             b'w x', b'', b' begin', b'begin ', b'w ' + b'k' * 64 + b' 77', b'w ' + b'k' * 65 + b' 77', b'r x 18446744073709551616', b'w x 18446744073709551615',
-            b'r x\xc3\xa4 1', b'r A-Z/a.z:0_9 0', b'Begin', b'log 2', b'unknown'],
+            b'r x\xc3\xa4 1', b'r A-Z/a.z:0_9 0', b'Begin', b'log 2', b'unknown', b'unknown', b'unknown 1',
+            b'abort 1', b'log 1', b'log 3'],
     'answer': [b's SATISFIABLE', b's UNSATISFIABLE', b's UNKNOWN', b's INDETERMINATE', b's', b's SAT', b's SATISFIABLE 1', b'v', b'v 0', b'v -0 0', b'v 1 -1',
                b' v 1 0', b'\tv 0', b'c', b'cc v 1 2', b'', b'   ', b'\t \t', b'v\t1\t 0 \t', b'v1 0', b'v --1 0', b'v - 0', b'v 1x 0', b'V 1 0', b'o 3', b'v 001 000'],
     'order': [b'0 0', b'0 1', b'1 0', b'1 1', b'1  1', b'1', b'', b' 1 1', b'1 1 ', b'1\t1', b'1 1 1', b'01 1', b'-1 1', b'+1 1', b'x 1', b'9 9']}
@@ -103,9 +107,15 @@ def changed_ends(r, kind, text):
     return text + r.choice((b'\n', b'\r', b'\0', b' ', b'\r\n', b'\x1a'))
 
 
+def changed_place(r, kind, text):
+    """Damage that only a log of version 2 can have; to others as to lines."""
+    return generate.wrong_place(r, text) if kind == 'log' and reference.version_of(text) == 2 else changed_lines(r, kind, text)
+
+
 def damaged(r, kind, text):
+    ways = (changed_bytes, changed_bytes, changed_lines, changed_lines, changed_place, changed_number, changed_ends)
     for _ in range(r.choice((1, 1, 1, 2, 3))):
-        text = r.choice((changed_bytes, changed_bytes, changed_lines, changed_lines, changed_number, changed_ends))(r, kind, text)
+        text = r.choice(ways)(r, kind, text)
     return text
 
 
@@ -162,10 +172,15 @@ def serial_order(history):
 
 
 def order_of(r, history, explained):
+    """An order of the nodes, and now and then of another transaction too."""
     nodes = list(explained or history.nodes)
     if r.random() < (0.2 if explained else 0.7):
         r.shuffle(nodes)
-    return answers.order_text(nodes, history)
+    lines = answers.order_text(nodes, history).splitlines(True)
+    others = [name for name, _, _ in reference.named(history.sessions) if name not in history.names]
+    if others and r.random() < 0.2:
+        lines.insert(r.randrange(len(lines) + 1), b'%d %d\n' % r.choice(others))
+    return b''.join(lines)
 
 
 # ---- one log
@@ -173,8 +188,8 @@ def order_of(r, history, explained):
 class Judge:
     """Runs the program on texts, and counts."""
 
-    def __init__(self, program, folder, plain_alone):
-        self.program, self.folder, self.plains = program, folder, (True,) if plain_alone else (False, True)
+    def __init__(self, program, folder, plain_alone, versions):
+        self.program, self.folder, self.plains, self.versions = program, folder, (True,) if plain_alone else (False, True), versions
         self.passed, self.failed, self.kinds = 0, [], {}
 
     def call(self, words, log, named=None, data=b''):
@@ -231,12 +246,19 @@ class Judge:
         wanted = answers.verify_with(history, order) if history else answers.verify(log, order)
         self.compare('verify', self.call(['verify'], log, '--order', order), wanted, log, order)
 
+    def hurt_log(self, r, text):
+        """A damaged log of one of the versions."""
+        while True:
+            hurt = damaged(r, 'log', text)
+            if reference.version_of(hurt) in self.versions:
+                return hurt
+
     def log(self, seed, examples):
         """One log with its damaged forms, its damaged answers and its damaged orders."""
         r = random.Random(seed)
-        text = r.choice(examples) if r.random() < 0.15 else generate.small_log(seed)
+        text = r.choice(examples) if r.random() < 0.15 else generate.small_log(seed, r.choice(self.versions))
         for _ in range(3):
-            hurt = damaged(r, 'log', text)
+            hurt = self.hurt_log(r, text)
             self.formulas(hurt)
             self.verdict(r, hurt)
         history = reference.History(reference.read_log(text))
@@ -250,12 +272,13 @@ class Judge:
         self.decoded(hurt, b's SATISFIABLE\nv 1 0\n', [(plain, None) for plain in self.plains])
         self.verified(hurt, order_of(r, history, explained), None)
 
-    def prefixes(self):
+    def prefixes(self, version):
         """Each prefix of one log, and of one answer to it."""
-        for stop in range(len(PREFIX_LOG) + 1):
-            log = PREFIX_LOG[:stop]
+        whole, well_formed, opened = PREFIX_LOGS[version]
+        for stop in range(len(whole) + 1):
+            log = whole[:stop]
             line = log.count(b'\n') + (not log.endswith(b'\n'))
-            wanted = None if stop in WHOLE else answers.refused('L4 line %d' % OPEN[stop] if stop in OPEN else 'L1 line %d' % line)
+            wanted = None if stop in well_formed else answers.refused('L4 line %d' % opened[stop] if stop in opened else 'L1 line %d' % line)
             for plain in self.plains:
                 words = ['--plain'] if plain else []
                 got = self.call(['encode'] + words, log)
@@ -268,22 +291,27 @@ class Judge:
             code = 'M3' if stop == 0 else 'M1 line 1' if stop <= 12 else 'M1 line 2' if stop == 19 else 'M6' if stop <= 23 else None
             for plain in self.plains:
                 words = ['--plain'] if plain else []
-                got = self.call(['decode'] + words, PREFIX_LOG, '--model', PREFIX_ANSWER[:stop])
-                wanted = answers.refused(code) if code else answers.decode(PREFIX_LOG, PREFIX_ANSWER, plain)
+                got = self.call(['decode'] + words, whole, '--model', PREFIX_ANSWER[:stop])
+                wanted = answers.refused(code) if code else answers.decode(whole, PREFIX_ANSWER, plain)
                 self.compare('prefix', got, wanted, words, PREFIX_ANSWER[:stop])
+
+
+def is_well_formed(text):
+    try:
+        reference.read_log(text)
+    except reference.Refused:
+        return False
+    return True
 
 
 def worked(job):
     """The counts of one process, which goes through seeds of its own until the time is up."""
-    program, plain_alone, seed, number, stop = job
-    examples = []
-    for path in sorted(glob.glob(os.path.join(HERE, '..', 'examples', '*.log'))):
-        with open(path, 'rb') as log:
-            examples.append(log.read())
+    program, plain_alone, versions, seed, number, stop = job
+    examples = [text for _, text in generate.examples(versions) if is_well_formed(text)]
     with tempfile.TemporaryDirectory() as folder:
-        judge, logs = Judge(program, folder, plain_alone), 0
-        if number == 0:
-            judge.prefixes()
+        judge, logs = Judge(program, folder, plain_alone, versions), 0
+        if number < len(versions):
+            judge.prefixes(versions[number])
         while time.monotonic() < stop and len(judge.failed) < SHOWN:
             made = '%d %d %d' % (seed, number, logs)
             try:
@@ -295,14 +323,15 @@ def worked(job):
 
 
 def main():
-    words = [word for word in sys.argv[1:] if word != '--plain']
+    words = [word for word in sys.argv[1:] if not word.startswith('--')]
     program = os.path.abspath(words[0])
     seconds = float(words[1]) if len(words) > 1 else 60
     seed = int(words[2]) if len(words) > 2 else random.SystemRandom().randrange(10 ** 9)
     print('damaged: seed %d' % seed, flush=True)
     count, stop = os.cpu_count() or 1, time.monotonic() + seconds
     with multiprocessing.Pool(count) as pool:
-        parts = pool.map(worked, [(program, '--plain' in sys.argv, seed, number, stop) for number in range(count)], 1)
+        jobs = [(program, '--plain' in sys.argv, generate.versions(sys.argv), seed, number, stop) for number in range(max(count, 2))]
+        parts = pool.map(worked, jobs, 1)
     passed, failed, kinds = sum(part[0] for part in parts), [fault for part in parts for fault in part[1]], {}
     for part in parts:
         for kind, n in part[2].items():

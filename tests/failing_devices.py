@@ -1,12 +1,16 @@
 #!/usr/bin/env python3
-"""failing_devices.py PROGRAM: each read and each write of each command fails in turn.
+"""failing_devices.py PROGRAM [--version-1]: each read and each write of each command fails in turn.
 
 The program runs with its Nth read failed, for N = 1, 2, .. until a run makes fewer: each such run must say `device failed: input`
 with status 5 and write nothing. Then its Nth write to standard output fails, or takes no byte, until a run makes fewer: what went out
 before must be the beginning of the whole text, and `device failed: output` is said with status 5. Reads and writes of one byte at
-a time must leave the whole text. Needs a C compiler, for a small library that stands before the C library's `read` and `write`. Last
-line: 'failing devices: N passed, M failed'."""
+a time must leave the whole text. Needs a C compiler, for a small library that stands before the C library's `read` and `write`. With
+--version-1 no log is of version 2. Last line: 'failing devices: N passed, M failed'."""
 import os, shutil, subprocess, sys, tempfile
+
+HERE = os.path.dirname(os.path.abspath(__file__))
+sys.path.insert(0, HERE)
+import generate
 
 SHIM = r'''
 #define _GNU_SOURCE
@@ -37,7 +41,9 @@ ssize_t write(int fd, const void *p, size_t n) {
 '''
 
 INPUT, OUTPUT = (5, b'', b'device failed: input\n'), (5, b'device failed: output\n')
-MODELS = {'two_writers.log': b's SATISFIABLE\nv 1 -2 3 0\n', 'two_chains.log': b's UNSATISFIABLE\nv 0\n', 'forced_choices.log': b's SATISFIABLE\nc none is needed\n'}
+MODELS = {'two_writers.log': b's SATISFIABLE\nv 1 -2 3 0\n', 'two_chains.log': b's UNSATISFIABLE\nv 0\n',
+          'forced_choices.log': b's SATISFIABLE\nc none is needed\n', 'unknown_read.log': b's SATISFIABLE\nv 1 -2 3 0\n'}
+CHECKED = ('forced_choices.log', 'forced_cycle.log', 'crossed_readers.log', 'lost_update.log', 'unknown_chain.log')
 MOST = 5000
 
 
@@ -93,20 +99,22 @@ class Sweeps:
         print('failing devices: %s: the runs that met no fault were number %d of reads, %s of writes' % (' '.join(map(os.path.basename, words)), reads or 0, ', '.join(str(n) for n in writes)), flush=True)
 
 
-def calls(folder):
+def calls(folder, names):
     """Each command, with 1 and with 4 workers: the log is a file, and then standard input."""
-    examples = os.path.join(os.path.dirname(os.path.abspath(__file__)), '..', 'examples')
     for name, model in MODELS.items():
-        log, answer, order = os.path.join(examples, name), os.path.join(folder, 'answer of ' + name), os.path.join(folder, 'order of ' + name)
+        if name not in names:
+            continue
+        log = os.path.join(generate.EXAMPLES, name)
+        answer, order = os.path.join(folder, 'answer of ' + name), os.path.join(folder, 'order of ' + name)
         with open(answer, 'wb') as out:
             out.write(model)
         for workers in ('1', '4'):
             for words in (['encode'], ['encode', '--plain'], ['stats'], ['decode', '--model', answer]):
                 yield [*words, '--workers', workers, log]
         yield ['verify', '--order', order, log]
-    for name in ('forced_choices.log', 'forced_cycle.log', 'crossed_readers.log', 'lost_update.log'):
-        for words in (['check', '--workers', '1'], ['check', '--workers', '4']):
-            yield [*words, os.path.join(examples, name)]
+    for name in CHECKED:
+        for words in (['check', '--workers', '1'], ['check', '--workers', '4']) if name in names else ():
+            yield [*words, os.path.join(generate.EXAMPLES, name)]
     large = os.path.join(folder, 'large.log')
     with open(large, 'wb') as out:
         out.write(b''.join(b'session %d\nbegin\nw k%d %d\ncommit\n' % (k, k, k) for k in range(1, 41)))
@@ -114,7 +122,7 @@ def calls(folder):
 
 
 def main():
-    program = os.path.abspath(sys.argv[1])
+    program, names = os.path.abspath(sys.argv[1]), dict(generate.examples(generate.versions(sys.argv)))
     compiler = shutil.which('cc') or shutil.which('clang') or shutil.which('gcc')
     if not compiler:
         print('failing devices: cannot be tried, there is no C compiler here')
@@ -125,7 +133,7 @@ def main():
             out.write(SHIM)
         subprocess.run([compiler, '-shared', '-fPIC', '-o', shim, source, '-ldl'], check=True)
         sweeps = Sweeps(program, folder, shim)
-        for words in calls(folder):
+        for words in calls(folder, names):
             if words[0] == 'verify':
                 found = subprocess.run([program, 'check', '--workers', '1', words[-1]], stdout=subprocess.PIPE).stdout
                 with open(words[2], 'wb') as out:

@@ -6,7 +6,8 @@ import reference
 
 EXAMPLES = os.path.join(os.path.dirname(os.path.abspath(__file__)), '..', 'examples')
 # Lines that are not the header of version 2, or are one more of it.
-HEADERS = [b'log 2 ', b' log 2', b'log  2', b'log 02', b'log 2\r', b'log\t2', b'log 1', b'log 22', b'log', b'log 2.0', b'Log 2', b'', b'log 2\nlog 2', b'\xef\xbb\xbflog 2']
+HEADERS = [b'log 2 ', b' log 2', b'log  2', b'log 02', b'log 2\r', b'log\t2', b'log 1', b'log 22', b'log', b'log 2.0', b'Log 2', b'',
+           b'log 2\nlog 2', b'\xef\xbb\xbflog 2']
 
 
 def versions(words):
@@ -117,8 +118,9 @@ def name_another(r, sessions):
         return
     ops, place = r.choice(reads)
     key = ops[place][1]
-    written = {outcome: [op[2] for theirs, it in transactions if it == outcome for op in theirs if op[:2] == ('w', key)] for outcome in ('commit', 'abort', 'unknown')}
-    among = written['unknown'] if r.random() < 0.7 else sum(written.values(), [])
+    written = [(op[2], outcome) for theirs, outcome in transactions for op in theirs if op[:2] == ('w', key)]
+    unknown_alone = r.random() < 0.7
+    among = [wid for wid, outcome in written if outcome == 'unknown' or not unknown_alone]
     if among:
         ops[place] = ('r', key, r.choice(among))
 

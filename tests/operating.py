@@ -1,24 +1,27 @@
 #!/usr/bin/env python3
-"""operating.py PROGRAM [--plain] [--all]: the program as an operator meets it.
+"""operating.py PROGRAM [--plain] [--all] [--version-1]: the program as an operator meets it.
 
 Logs of 16 MiB of bad shapes are answered within 128 MiB; pipes are closed, devices full, files directories, missing
 or unreadable, standard input is closed, the address space is limited from little to ample, threads are refused. Each run must end
 with the answer that it has with ample means or with a named refusal on standard error and its status, never by a signal, and never
-with half a text and status 0. With --plain the plain formula alone is asked for; with --all the cases of UNSETTLED run too. Last
-line: 'operating: N passed, M failed'."""
+with half a text and status 0. With --plain the plain formula alone is asked for; with --all the cases of UNSETTLED run too; with
+--version-1 no log is of version 2. Last line: 'operating: N passed, M failed'."""
 import os, resource, shutil, signal, subprocess, sys, tempfile, threading, time
 
 HERE = os.path.dirname(os.path.abspath(__file__))
 sys.path.insert(0, HERE)
-import answers
+import answers, generate
 
 BYTES, MEMORY, LATE = 16 * 1024 * 1024, 128 * 1024, 120
 LOG = b'session 1\nbegin\nw x 1\ncommit\nsession 2\nbegin\nw x 2\ncommit\nsession 3\nbegin\nr x 1\ncommit\n'
+# Logs with the same formulas and the same orders.
+LOGS = {1: LOG, 2: b'log 2\n' + LOG.replace(b'commit', b'unknown', 1)}
 MODELS = {True: b's SATISFIABLE\nv 1 2 3 4 5 -6 0\n', False: b's SATISFIABLE\nv 1 -2 3 0\n'}
 ORDER = b'1 1\n3 1\n2 1\n'
 BOTH = [(0, b'serializable\n' + order, b'') for order in (b'1 1\n3 1\n2 1\n', b'2 1\n1 1\n3 1\n')]
 INPUT, OUTPUT, NO_MEMORY = (5, b'', b'device failed: input\n'), (5, b'', b'device failed: output\n'), (4, b'', b'out of memory\n')
 LETTERS = 'ABCDEFGHIJKLMNOPQRSTUVWXYZabcdefghijklmnopqrstuvwxyz0123456789_.:/-'
+COUNTS = (b'sessions', b'committed', b'aborted', b'unknown', b'taken', b'keys', b'operations')
 NOBODY = 65534
 # The status of the system's loader where it finds no room for the libraries, before the program begins.
 UNLOADED = 127
@@ -34,21 +37,43 @@ def repeated(before, line):
         yield line * min(10000, count - at)
 
 
-def many_sessions(line):
+def many_sessions(line, outcome=b'commit'):
     """64 sessions, each of one transaction with one line repeated, 16 MiB together."""
     count = (BYTES // 64 - 40) // len(line)
     for number in range(1, 65):
-        yield b'session %d\nbegin\n' % number + line * count + b'commit\n'
+        yield b'session %d\nbegin\n' % number + line * count + outcome + b'\n'
 
 
-def many_keys(form, tails, count):
+def many_keys(form, tails, count, outcome='commit', number=1):
     """One transaction of `count` operations, on keys of 64 bytes that differ at their ends, with the longest identities."""
-    yield b'session 1\nbegin\n'
+    yield b'session %d\nbegin\n' % number
     tails, first = list(tails), 18446744073709551615
     for at in range(count):
         tail = tails[at % len(tails)]
         yield ('%s %s%s %d\n' % (form, 'k' * (64 - len(tail)), tail, first - at)).encode()
-    yield b'commit\n'
+    yield outcome.encode() + b'\n'
+
+
+def read_by_another(tails, count):
+    """An unknown transaction of many writes, each of a key of its own, and a committed one that reads them all."""
+    yield b'log 2\n'
+    yield from many_keys('w', tails, count, 'unknown')
+    yield from many_keys('r', tails, count, number=2)
+
+
+def shapes_of_version_2():
+    """The same of version 2 as `shapes` below."""
+    yield 'headers', repeated(b'', b'log 2\n'), 'L1 line 2'
+    yield 'one line behind the header', repeated(b'log 2\n', b'unknown'), 'L1 line 2'
+    yield 'line feeds behind the header', repeated(b'log 2\n', b'\n'), 'L1 line 2'
+    yield 'unknown lines', repeated(b'log 2\nsession 1\nbegin\n', b'unknown\n'), 'L3 line 5'
+    yield 'unknown transactions', repeated(b'log 2\nsession 1\n', b'begin\nunknown\n'), 'L9 line 5'
+    yield 'aborted transactions, version 2', repeated(b'log 2\nsession 1\n', b'begin\nabort\n'), [1, 0, (BYTES - 16) // 12, 0, 0, 0, 0]
+    yield '64 sessions of one unknown transaction', [b'log 2\n', *many_sessions(b'w x 1\n', b'unknown')], 'L7 operations'
+    tails = [a + b + c for a in LETTERS[:25] for b in LETTERS[:20] for c in LETTERS[:20]]
+    yield '10,000 long keys, unknown', [b'log 2\n', *many_keys('w', tails, 190600, 'unknown')], [1, 0, 0, 1, 0, 10000, 190600]
+    yield '10,000 long keys, unknown and read', read_by_another(tails, 10000), [2, 1, 0, 1, 1, 10000, 20000]
+    yield 'one byte too many, version 2', [b'log 2\n', b'a' * BYTES], 'L7 log-bytes'
 
 
 def shapes():
@@ -77,12 +102,13 @@ def shapes():
 
 
 class Runs:
-    def __init__(self, program, folder, plains, whole):
-        self.program, self.folder, self.plains, self.whole = program, folder, plains, whole
+    def __init__(self, program, folder, plains, whole, versions):
+        self.program, self.folder, self.plains, self.whole, self.versions = program, folder, plains, whole, versions
         self.passed, self.failed, self.left, self.told = 0, 0, 0, 0
         self.paths = {}
-        for name, data in (('log', LOG), ('model True', MODELS[True]), ('model False', MODELS[False]), ('order', ORDER), ('large', large_log())):
-            self.paths[name] = self.file(name, [data])
+        texts = {'log': LOG, 'model True': MODELS[True], 'model False': MODELS[False], 'order': ORDER, 'large': large_log()}
+        for name, data in [*texts.items(), *LOGS.items()]:
+            self.paths[name] = self.file('text %s' % name, [data])
 
     def file(self, name, pieces):
         path = os.path.join(self.folder, name.replace(' ', '_').replace('/', '_'))
@@ -119,22 +145,27 @@ class Runs:
             return None if got in wanted else '%r: %s, wanted %s' % (words, shown(got), ' or '.join(map(shown, wanted)))
         self.case(name, fault)
 
-    def calls(self, log, stdin=False):
-        """Each command on a log: its words, and what it says of LOG."""
-        file = [] if stdin else [log]
+    def calls(self, log, text=LOG):
+        """Each command on a log, or on standard input: its words, and what it says of the text."""
+        file = [log] if log else []
         for plain in self.plains:
             said = ['--plain'] if plain else []
-            yield ['encode', *said, *file], [answers.encode(LOG, plain)]
-            yield ['stats', *said, *file], [answers.stats(LOG, plain)]
-            yield ['decode', *said, '--model', self.paths['model %s' % plain], *file], [answers.decode(LOG, MODELS[plain], plain)]
-        yield ['verify', '--order', self.paths['order'], *file], [answers.verify(LOG, ORDER)]
+            yield ['encode', *said, *file], [answers.encode(text, plain)]
+            yield ['stats', *said, *file], [answers.stats(text, plain)]
+            yield ['decode', *said, '--model', self.paths['model %s' % plain], *file], [answers.decode(text, MODELS[plain], plain)]
+        yield ['verify', '--order', self.paths['order'], *file], [answers.verify(text, ORDER)]
         for workers in ('1', '4', '16'):
             yield ['check', '--workers', workers, *file], BOTH
+
+    def own_calls(self):
+        """Each command on a small log of each version."""
+        for version in self.versions:
+            yield from self.calls(self.paths[version], LOGS[version])
 
     # ---- logs of 16 MiB
 
     def large(self):
-        for name, pieces, said in shapes():
+        for name, pieces, said in [*shapes(), *(shapes_of_version_2() if 2 in self.versions else ())]:
             path = self.file('shape', pieces)
             for words, _ in self.calls(path):
                 name_of = '16 MiB, %s, %s' % (name, ' '.join(words[:-1]))
@@ -159,7 +190,7 @@ class Runs:
 
     def devices(self):
         ends = (('SIGPIPE as it comes', True), ('SIGPIPE ignored', False))
-        calls = [('', words) for words, _ in list(self.calls(self.paths['log'])) + list(self.large_calls())]
+        calls = [('', words) for words, _ in list(self.own_calls()) + list(self.large_calls())]
         calls += [('unheard help, ', words) for words in (['--help'], ['--version'], ['help', 'check'], ['check', '--help'])]
         for kind, words in calls:
             for name, restored in ends:
@@ -209,8 +240,8 @@ class Runs:
     def files(self):
         missing, unreadable = os.path.join(self.folder, 'missing'), self.file('unreadable', [LOG])
         os.chmod(unreadable, 0)
-        words = [('a directory', self.folder, {}), ('a missing file', missing, {}), ('no name', '', {}), ('a file below a file', self.paths['log'] + '/log', {}),
-                 ('a name too long', 'n' * 5000, {}), ('a file that fails', '/proc/self/mem', {})]
+        words = [('a directory', self.folder, {}), ('a missing file', missing, {}), ('no name', '', {}),
+                 ('a file below a file', self.paths['log'] + '/log', {}), ('a name too long', 'n' * 5000, {}), ('a file that fails', '/proc/self/mem', {})]
         if os.getuid() == 0:
             words.append(('an unreadable file', unreadable, {'preexec_fn': self.nobody}))
         else:
@@ -228,9 +259,11 @@ class Runs:
             call = ['decode', *(['--plain'] if plain else []), '--model', '/dev/zero', self.paths['log']]
             self.expect('endless model', call, answers.refused('M8'))
         self.expect('endless order', ['verify', '--order', '/dev/zero', self.paths['log']], answers.refused('O3'))
-        for call, wanted in self.calls('', stdin=True):
-            with open(self.paths['log'], 'rb') as log:
-                self.expect('log on standard input of %s' % call[0], call, *wanted, stdin=log)
+        for version in self.versions:
+            for call, wanted in self.calls(None, LOGS[version]):
+                with open(self.paths[version], 'rb') as log:
+                    self.expect('log on standard input of %s' % call[0], call, *wanted, stdin=log)
+        for call, _ in self.calls(None):
             descriptor = os.open(self.folder, os.O_RDONLY)
             self.expect('standard input a directory, %s' % call[0], call, INPUT, stdin=descriptor)
             os.close(descriptor)
@@ -238,11 +271,11 @@ class Runs:
             self.expect('standard input for writing, %s' % call[0], call, INPUT, stdin=descriptor)
             os.close(descriptor)
             self.expect('standard input closed, %s' % call[0], call, INPUT, preexec_fn=lambda: os.close(0))
-        for call, wanted in self.calls(self.paths['log']):
+        for call, wanted in self.own_calls():
             self.expect('standard input closed, a log that is named, %s' % call[0], call, *wanted, preexec_fn=lambda: os.close(0))
             self.expect('standard error closed, %s' % call[0], call, *wanted, preexec_fn=lambda: os.close(2))
         self.expect('standard error closed, missing log', ['check', missing], (5, b'', b''), preexec_fn=lambda: os.close(2))
-        for call, wanted in self.calls(self.paths['log']):
+        for call, wanted in self.own_calls():
             self.case('standard output closed, %s' % call[0], lambda: self.unheard_fault(call))
 
     def unheard_fault(self, call):
@@ -264,7 +297,7 @@ class Runs:
         starts = max(unloaded, default=1024) + 64
         print('operating: the system loads the program from an address space of %d KiB on' % starts)
         sizes = [starts + step for step in list(range(0, 4096, 128)) + list(range(4096, 40960, 1024)) + [1 << n for n in range(16, 22)]]
-        for words, wanted in self.calls(self.paths['log']):
+        for words, wanted in self.own_calls():
             for size in sizes:
                 self.expect('address space of the start and %d KiB, %s' % (size - starts, ' '.join(words[:3])), words, *wanted, NO_MEMORY, preexec_fn=limit(size))
             self.expect('ample address space, %s' % words[0], words, *wanted, preexec_fn=limit(4 << 20))
@@ -283,7 +316,7 @@ class Runs:
                 resource.setrlimit(resource.RLIMIT_NPROC, (count, count))
                 self.nobody()
             return before
-        for words, wanted in list(self.calls(self.paths['log'])) + [(words, [wanted]) for words, wanted in self.large_calls()]:
+        for words, wanted in list(self.own_calls()) + [(words, [wanted]) for words, wanted in self.large_calls()]:
             for count in list(range(1, 8)) + [17, 18, 1000]:
                 self.expect('%d threads, %s' % (count, ' '.join(words[:3])), words, *wanted, NO_MEMORY, preexec_fn=limit(count))
 
@@ -300,10 +333,14 @@ def answer_fault(words, got, said):
     if isinstance(said, str):
         return None if got == answers.refused(said) else '%s, wanted %s' % (shown(got), said)
     if words[0] == 'stats':
-        counts = b''.join(b'%s %d\n' % pair for pair in zip((b'sessions', b'committed', b'aborted', b'keys', b'operations'), said))
+        names = COUNTS if len(said) == len(COUNTS) else [name for name in COUNTS if name not in (b'unknown', b'taken')]
+        counts = b''.join(b'%s %d\n' % pair for pair in zip(names, said))
         return None if got[0] == 0 and got[1].startswith(counts) and not got[2] else '%s, wanted %r' % (shown(got), counts)
     if words[0] in ('encode', 'check'):
-        wanted = b'p cnf 0 0\n' if '--plain' not in words and words[0] == 'encode' else b'serializable\n' + b'1 1\n' * said[1]
+        # each node is its session's first transaction
+        nodes = said[1] + (said[4] if len(said) == len(COUNTS) else 0)
+        order = b''.join(b'%d 1\n' % number for number in range(1, nodes + 1))
+        wanted = b'p cnf 0 0\n' if '--plain' not in words and words[0] == 'encode' else b'serializable\n' + order
         right = got[1] == wanted or (words[0] == 'encode' and '--plain' in words and got[1].startswith(b'p cnf '))
         return None if (got[0], got[2]) == (0, b'') and right else shown(got)
     return None if got[0] in (0, 2) and (got[0] == 2) == bool(got[2]) else shown(got)
@@ -321,7 +358,7 @@ def main():
         os.chmod(folder, 0o755)
         program = shutil.copy(os.path.abspath(words[0]), os.path.join(folder, 'program'))
         os.chmod(program, 0o755)
-        runs = Runs(program, folder, plains, '--all' in sys.argv)
+        runs = Runs(program, folder, plains, '--all' in sys.argv, generate.versions(sys.argv))
         for part in (runs.files, runs.devices, runs.threads, runs.address_space, runs.large):
             before, began = runs.passed + runs.failed, time.monotonic()
             part()

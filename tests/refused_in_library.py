@@ -1,12 +1,12 @@
 #!/usr/bin/env python3
-"""refused_in_library.py KIT: each allocation of calls of the library is refused in turn.
+"""refused_in_library.py KIT [--version-1]: each allocation of calls of the library is refused in turn.
 
 A small program, tests/library_calls.txt, calls `encode`, `stats`, `check` and `decode` over bytes in memory, and a desk. It is built
 unproved by the toolchain in KIT, in about a minute, and then run with the Nth request for memory refused, for N = 1, 2, .. until runs
-make fewer, by 1 and by 4 workers, on example logs. Each call must end in its answer, which tests/answers.py works out, or in the
-refusal `Memory`; its sink must not have counted a failure, and holds the text, after a refused call a prefix of it. A desk must close
-with a history that is legal and has each call of each seat once, in order, and in some run an event must have come back. Needs a C
-compiler.
+make fewer, by 1 and by 4 workers, on example logs, with --version-1 of version 1 alone. Each call must end in its answer, which
+tests/answers.py works out, or in the refusal `Memory`; its sink must not have counted a failure, and holds the text, after a refused call
+a prefix of it. A desk must close with a history that is legal and has each call of each seat once, in order, and in some run an event must
+have come back. Needs a C compiler.
 
 Last line: 'refused in library: N passed, M failed'."""
 import concurrent.futures, os, shutil, subprocess, sys, tempfile, time
@@ -14,7 +14,7 @@ import concurrent.futures, os, shutil, subprocess, sys, tempfile, time
 HERE = os.path.dirname(os.path.abspath(__file__))
 TOP = os.path.dirname(HERE)
 sys.path[:0] = [HERE, os.path.join(TOP, 'tools')]
-import answers, build_unproved, reference
+import answers, build_unproved, generate, reference
 from refused_memory import REFUSES, c_compiler
 
 # Stands before the allocator that the program is linked with.
@@ -24,8 +24,9 @@ void *__real_realloc(void *, size_t); void *__wrap_realloc(void *p, size_t n) { 
 '''
 NAME = 'library_calls'
 BELOW = 'branch_search cobra_cli desk dimacs session_log'
-LOGS = ('lost_update', 'crossed_readers', 'chain', 'two_writers', 'forced_choices')
-MODELS = {'chain': b's SATISFIABLE\n', 'forced_choices': b's SATISFIABLE\n', 'two_writers': b's SATISFIABLE\nv 1 -2 3 0\n'}
+LOGS = ('lost_update', 'crossed_readers', 'chain', 'two_writers', 'forced_choices', 'unknown_read', 'unknown_chain')
+MODELS = {'chain': b's SATISFIABLE\n', 'forced_choices': b's SATISFIABLE\n', 'two_writers': b's SATISFIABLE\nv 1 -2 3 0\n',
+          'unknown_read': b's SATISFIABLE\nv 1 -2 3 0\n', 'unknown_chain': b's SATISFIABLE\n'}
 WORKERS = ('1', '4')
 MEMORY = ('Memory', 'Log(Memory)', 'Formula(Memory)', 'Answer(Memory)', 'Order(Memory)')
 # Runs side by side, of which none may meet a refusal any more at the end of a sweep.
@@ -136,10 +137,11 @@ class Verdict:
 
 def calls(folder):
     """Each call on each log: its words without the workers, and what it answers."""
+    logs = dict(generate.examples(generate.versions(sys.argv)))
     for name in LOGS:
-        path = os.path.join(TOP, 'examples', name + '.log')
-        with open(path, 'rb') as file:
-            log = file.read()
+        if name + '.log' not in logs:
+            continue
+        path, log = os.path.join(TOP, 'examples', name + '.log'), logs[name + '.log']
         yield 'encode', name, [path], Text('Done', answers.encode(log, False)[1].decode())
         yield 'stats', name, [path], Text('Done', answers.stats(log, False)[1].decode())
         yield 'check', name, [path], Verdict(log)

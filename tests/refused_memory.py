@@ -1,5 +1,5 @@
 #!/usr/bin/env python3
-"""refused_memory.py PROGRAM GRAPHS: each allocation of each command is refused in turn.
+"""refused_memory.py PROGRAM GRAPHS [--version-1]: each allocation of each command is refused in turn.
 
 The program runs with the Nth request for memory refused, for N = 1, 2, .. until it makes fewer. Each such run must either
 say `out of memory` with status 4 and write nothing, or do what it does with ample memory. Where two workers search a log of which
@@ -9,8 +9,12 @@ library that stands before the allocator of the C library.
 Once the first piece of a formula went out, a run in which every further request is refused must write the same text, and make none.
 
 GRAPHS is the program that times the crates of graphs. Of it each run must end by itself, and must not count other choices
-than it does with ample memory. Last line: 'refused memory: N passed, M failed'."""
+than it does with ample memory. With --version-1 no log is of version 2. Last line: 'refused memory: N passed, M failed'."""
 import os, shutil, subprocess, sys, tempfile
+
+HERE = os.path.dirname(os.path.abspath(__file__))
+sys.path.insert(0, HERE)
+import generate
 
 # Whether a request for memory is the one that is to be refused.
 REFUSES = r'''
@@ -69,14 +73,18 @@ def main():
             with open(paths[name], 'wb') as out:
                 out.write(data)
         subprocess.run([compiler, '-shared', '-fPIC', '-o', paths['shim.so'], paths['shim.c'], '-ldl'], check=True)
-        examples = os.path.join(os.path.dirname(os.path.abspath(__file__)), '..', 'examples')
+        known = dict(generate.examples(generate.versions(sys.argv)))
+        examples = lambda *names: [os.path.join(generate.EXAMPLES, name + '.log') for name in names if name + '.log' in known]
         calls = [['encode', '--plain', paths['log']], ['stats', '--plain', paths['log']],
                  ['decode', '--plain', '--model', paths['plain_answer'], paths['log']], ['verify', '--order', paths['order'], paths['log']]]
         calls += [['decode', '--workers', count, '--model', paths['answer'], paths['log']] for count in ('1', '4')]
-        calls += [[command, '--workers', count, log] for command in ('encode', 'stats') for count in ('1', '4')
-                  for log in [paths['log']] + [os.path.join(examples, name) for name in ('two_chains.log', 'forced_choices.log', 'crossed_readers.log')]]
-        calls += [['check', '--workers', count, log] for count in ('1', '2', '4')
-                  for log in [paths['log']] + [os.path.join(examples, name) for name in ('crossed_readers.log', 'forced_choices.log', 'forced_cycle.log', 'write_skew.log', 'lost_update.log')]]
+        logs = [paths['log'], *examples('two_chains', 'forced_choices', 'crossed_readers', 'unknown_chain')]
+        calls += [[command, '--workers', count, log] for command in ('encode', 'stats') for count in ('1', '4') for log in logs]
+        logs = [paths['log'], *examples('crossed_readers', 'forced_choices', 'forced_cycle', 'write_skew', 'lost_update', 'unknown_read')]
+        calls += [['check', '--workers', count, log] for count in ('1', '2', '4') for log in logs]
+        for log in examples('unknown_read'):
+            calls += [['encode', '--plain', log], ['stats', '--plain', log], ['verify', '--order', paths['order'], log],
+                      ['decode', '--workers', '4', '--model', paths['answer'], log], ['decode', '--plain', '--model', paths['plain_answer'], log]]
         for words in calls:
             wanted, refusals, left_to_another = None, 0, 0
             for n in range(MOST):

@@ -113,6 +113,14 @@ const LOST_UPDATE: &str =
 
 const ABORTED_WRITE: &str = "session 1\nbegin\nw x 1\nabort\n";
 
+/// The client of session 1 was never told how its transaction ended; session 2 read what it wrote.
+const UNKNOWN_WRITE_READ: &str =
+    "log 2\nsession 1\nbegin\nw x 1\nunknown\nsession 2\nbegin\nr x 1\ncommit\n";
+
+/// Nobody read what the transaction of unknown outcome wrote.
+const UNKNOWN_WRITE_UNREAD: &str =
+    "log 2\nsession 1\nbegin\nw x 1\nunknown\nsession 2\nbegin\nr x 0\ncommit\n";
+
 const ABORTED_READ: &str = "session 1\nbegin\nw x 1\nabort\nsession 2\nbegin\nr x 1\ncommit\n";
 
 const LATER_WRITE_READ: &str = "session 1\nbegin\nr x 1\ncommit\nbegin\nw x 1\ncommit\n";
@@ -373,6 +381,30 @@ fn reduced_formulas(rt: HostRuntime) -> Result<(), Fail> {
             LOST_UPDATE,
             0,
             "sessions 2\ncommitted 2\naborted 0\nkeys 1\noperations 4\nanomaly A7\nvariables 1\nclauses 2\n",
+        ),
+        (
+            Command::Decode("s SATISFIABLE\nv 0\n"),
+            UNKNOWN_WRITE_READ,
+            0,
+            "1 1\n2 1\n",
+        ),
+        (
+            Command::Stats,
+            UNKNOWN_WRITE_READ,
+            0,
+            "sessions 2\ncommitted 1\naborted 0\nunknown 1\ntaken 1\nkeys 1\noperations 2\nchoices 0\nforced 0\nopen 0\nvariables 0\nclauses 0\n",
+        ),
+        (
+            Command::Verify("2 1\n"),
+            UNKNOWN_WRITE_UNREAD,
+            0,
+            "accepted\n",
+        ),
+        (
+            Command::Stats,
+            UNKNOWN_WRITE_UNREAD,
+            0,
+            "sessions 2\ncommitted 1\naborted 0\nunknown 1\ntaken 0\nkeys 1\noperations 2\nchoices 0\nforced 0\nopen 0\nvariables 0\nclauses 0\n",
         ),
         (Command::Encode, ABORTED_WRITE, 0, "p cnf 0 0\n"),
         (Command::Encode, ONE_CHAIN, 0, "p cnf 0 0\n"),
