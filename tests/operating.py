@@ -45,20 +45,21 @@ def many_sessions(line, outcome=b'commit'):
 
 
 def many_keys(form, tails, count, outcome='commit', number=1):
-    """One transaction of `count` operations, on keys of 64 bytes that differ at their ends, with the longest identities."""
+    """One transaction of `count` operations, on keys of 64 bytes that differ at their ends, with the longest identities. Its reads name
+    the first write of their key."""
     yield b'session %d\nbegin\n' % number
     tails, first = list(tails), 18446744073709551615
     for at in range(count):
         tail = tails[at % len(tails)]
-        yield ('%s %s%s %d\n' % (form, 'k' * (64 - len(tail)), tail, first - at)).encode()
+        yield ('%s %s%s %d\n' % (form, 'k' * (64 - len(tail)), tail, first - (at if form == 'w' else at % len(tails)))).encode()
     yield outcome.encode() + b'\n'
 
 
 def read_by_another(tails, count):
-    """An unknown transaction of many writes, each of a key of its own, and a committed one that reads them all."""
+    """An unknown transaction that writes each key once, and a committed one that reads them, `count` operations together."""
     yield b'log 2\n'
-    yield from many_keys('w', tails, count, 'unknown')
-    yield from many_keys('r', tails, count, number=2)
+    yield from many_keys('w', tails, len(tails), 'unknown')
+    yield from many_keys('r', tails, count - len(tails), number=2)
 
 
 def shapes_of_version_2():
@@ -72,7 +73,7 @@ def shapes_of_version_2():
     yield '64 sessions of one unknown transaction', [b'log 2\n', *many_sessions(b'w x 1\n', b'unknown')], 'L7 operations'
     tails = [a + b + c for a in LETTERS[:25] for b in LETTERS[:20] for c in LETTERS[:20]]
     yield '10,000 long keys, unknown', [b'log 2\n', *many_keys('w', tails, 190600, 'unknown')], [1, 0, 0, 1, 0, 10000, 190600]
-    yield '10,000 long keys, unknown and read', read_by_another(tails, 10000), [2, 1, 0, 1, 1, 10000, 20000]
+    yield '10,000 long keys, unknown and read', read_by_another(tails, 190600), [2, 1, 0, 1, 1, 10000, 190600]
     yield 'one byte too many, version 2', [b'log 2\n', b'a' * BYTES], 'L7 log-bytes'
 
 

@@ -4,11 +4,13 @@
 It drops transactions, each with the reads of its writes, as long as the program's `check` still answers 'not serializable', first many at
 once, then one by one, and writes the smallest log that it found: to SMALLER, or to LOG with .small before its end. A log has no comments,
 so a second file, SMALLER.map, has a line for each line of the smaller log: its number, its number in LOG, its transaction, the same
-transaction's name in LOG (SESSION.PLACE, and - for a session's own line), and its text.
+transaction's name in LOG (SESSION.PLACE, and - for a session's own line and for the header), and its text. A log of version 2 keeps its
+header, and outcomes that are unknown stay so.
 
 Nothing of this is proved: the smaller log is another log. What `check` says of it is as proved as the program is."""
 import argparse, os, subprocess, sys
 
+HEADER = 'log 2'
 TOP = os.path.dirname(os.path.dirname(os.path.abspath(__file__)))
 NOT_SERIALIZABLE = 1
 
@@ -24,9 +26,12 @@ class Transaction:
 
 
 def read(text):
-    """The transactions of a well-formed log, in its order."""
-    found, session, place = [], None, 0
+    """The header of a well-formed log, as a line that is kept where there is one, and the log's transactions, in its order."""
+    header, found, session, place = [], [], None, 0
     for number, line in enumerate(text.splitlines(), 1):
+        if line == HEADER:
+            header.append((number, line, '- -'))
+            continue
         if line.startswith('session '):
             session, place = (number, line), 0
             continue
@@ -34,14 +39,15 @@ def read(text):
             place += 1
             found.append(Transaction(session, '%s.%d' % (session[1].split(' ')[1], place)))
         found[-1].lines.append((number, line))
-    return found
+    return header, found
 
 
-def kept_lines(all_transactions, kept):
-    """The lines of these transactions, without the reads of what the others wrote, under their session's line: number, text and names."""
+def kept_lines(header, all_transactions, kept):
+    """The header, and the lines of these transactions, without the reads of what the others wrote, under their session's line: number,
+    text and names."""
     left = set(map(id, kept))
     gone = set().union(*(it.written() for it in all_transactions if id(it) not in left))
-    lines, session, place = [], None, 0
+    lines, session, place = list(header), None, 0
     for it in kept:
         if it.session != session:
             session, place = it.session, 0
@@ -70,14 +76,14 @@ class Checker:
         return self.answer(text).returncode == NOT_SERIALIZABLE
 
 
-def shrink(transactions, refutes):
+def shrink(header, transactions, refutes):
     """Drops pieces of what is left, half of it at first, and smaller ones once no piece of a size can go."""
     kept, size = list(transactions), max(len(transactions) // 2, 1)
     while True:
         start, dropped = 0, False
         while start < len(kept):
             fewer = kept[:start] + kept[start + size:]
-            if refutes(text_of(kept_lines(transactions, fewer))):
+            if refutes(text_of(kept_lines(header, transactions, fewer))):
                 kept, dropped = fewer, True
             else:
                 start += size
@@ -102,9 +108,9 @@ def main():
     if first.returncode != NOT_SERIALIZABLE:
         sys.stderr.buffer.write(first.stdout.split(b'\n')[0] + b'\n' + first.stderr)
         sys.exit("shrink.py: check does not answer 'not serializable', so there is nothing to shrink (status %d)" % first.returncode)
-    transactions = read(text)
-    kept = shrink(transactions, checker.refutes)
-    lines = kept_lines(transactions, kept)
+    header, transactions = read(text)
+    kept = shrink(header, transactions, checker.refutes)
+    lines = kept_lines(header, transactions, kept)
     said = checker.answer(text_of(lines)).stdout.decode()
     with open(smaller, 'w', newline='\n') as out:
         out.write(text_of(lines))

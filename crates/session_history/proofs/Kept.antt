@@ -1,5 +1,5 @@
 -- What a history answers from its tables.
-use Rattle.std.proofs.Common.{◌≡◌, ℕ, suc, ◌+◌, ◌-◌, ◌<◌, ◌≤◌, ◌⊎◌, inl, inr, List, [], ◌∷◌, length, count_by, get_or, slice_get, Option, Some, None, refl, sym, ap, ◌∙◌, arith, is_some, nat_lt, Bor, IfSome}
+use Rattle.std.proofs.Common.{◌≡◌, ℕ, suc, ◌+◌, ◌-◌, ◌<◌, ◌≤◌, ◌⊎◌, inl, inr, List, [], ◌∷◌, length, get_or, slice_get, Option, Some, None, refl, sym, ap, ◌∙◌, arith, is_some, nat_lt, Bor, IfSome}
 use Rattle.std.specs.List.{filter_map, cons_option}
 use Rattle.std.specs.Option.{option_map, option_map_or}
 use Rattle.std.proofs.lemmas.Bool.{cases_lt, ltb-true, ltb-false}
@@ -9,20 +9,21 @@ use Rattle.session_log.specs.Text.{ClientSession}
 use Rattle.serializability.specs.Log.{Log}
 use Rattle.serializability.specs.Reads.{external_read}
 use Rattle.serializability.specs.Polygraph.{all_keys, source, writer_of}
-use Rattle.log_definitions.specs.WellFormed.{keys_in, is_committed}
+use Rattle.log_definitions.specs.WellFormed.{keys_in}
 use Rattle.log_definitions.specs.Serial.{Committed, committed_in, node_in, node_of}
 use Rattle.log_definitions.specs.Numbers.{events_of, log_of}
 use Rattle.session_history.specs.Tables.{sources_of, name_in}
-use Rattle.session_history.specs.Taken.{NumberedNode, node_view, placed_in}
+use Rattle.session_history.specs.Taken.{NumberedNode, node_view}
 use Rattle.session_history.specs.Rows.{row_view}
 use Rattle.session_history.specs.Sources.{reads_view}
 use Rattle.session_history.specs.Held.{numbered_node, node_kept, sessions_of, row_in, IsHistory}
 use Rattle.session_history.specs.declared.nodes.Node.{Node}
 use Rattle.session_history.specs.declared.rows.Row.{Row}
 use Rattle.session_history.specs.declared.log.History.TheInside.{Inside}
-use Rattle.session_history.proofs.Limits.{keeps_limits}
-use Rattle.session_history.proofs.Placings.{nodes_in, txns_placed, committed_placed}
-use Rattle.session_history.proofs.Tabled.{log_nodes, log_keys, log_ops, log_session, some_same, slice_get-map, ops_past}
+use Rattle.log_definitions.proofs.FewNodes.{few_nodes}
+use Rattle.log_definitions.proofs.Scanning.{rules_where_no_fault}
+use Rattle.session_history.proofs.Stepping.{some_same}
+use Rattle.session_history.proofs.Tabled.{log_nodes, log_keys, log_ops, log_session, slice_get-map, ops_past}
 
 module _ (h : Inside) (k : IsHistory h) where
   abbrev its : List ClientSession
@@ -32,15 +33,13 @@ module _ (h : Inside) (k : IsHistory h) where
   nodes_kept = sym (length-map h.nodes.items node_view) ∙ ap length k.nodes ∙ length-map (committed_in its) (numbered_node (keys_in its)) ∙ sym (log_nodes its)
 
   pub nodes_few : (log_of (sessions_of h)).nodes ≤ 400
-  nodes_few =
-      let e = log_nodes its ∙ sym (length-map (committed_in its) (numbered_node [])) ∙ ap length (sym (nodes_in [] its)) ∙ committed_placed [] (placed_in its) ∙ ap (count_by is_committed) (txns_placed its) in
-      omega (arith, e, (keeps_limits its k.sound.sessions).committed)
+  nodes_few = few_nodes its k.sound
 
   pub keys_kept : length h.keys.keys ≡ (log_of (sessions_of h)).keys
   keys_kept = ap length k.keys ∙ sym (log_keys its)
 
   pub keys_few : (log_of (sessions_of h)).keys ≤ 10000
-  keys_few = omega (arith, log_keys its, (keeps_limits its k.sound.sessions).keys)
+  keys_few = omega (arith, log_keys its, (rules_where_no_fault 1 its k.sound.sessions).keys)
 
   pub key_kept : (x : ℕ) (key : List ℕ) → slice_get h.keys.keys x ≡ Some key → slice_get (keys_in (sessions_of h)) x ≡ Some key
   key_kept x key e = ap (λ ks. slice_get ks x) (sym k.keys) ∙ e

@@ -1,4 +1,12 @@
+pub mod Stepping
 pub mod Seen
+pub mod Found
+pub mod Ended
+pub mod Grown
+pub mod Unknowns
+pub mod Once
+pub mod Worked
+pub mod AllTaken
 pub mod Writing
 pub mod Taking
 pub mod KeyRows
@@ -7,8 +15,8 @@ pub mod Named
 pub mod Twice
 pub mod Placings
 pub mod Tabled
+pub mod Totals
 pub mod Limits
 pub mod Kept
-pub mod Totals
 pub mod Identified
 pub mod Searched

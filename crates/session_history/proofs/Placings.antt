@@ -10,9 +10,11 @@ use Rattle.session_log.specs.Text.{ClientSession, Transaction}
 use Rattle.session_log.specs.declared.session.Op.{Op}
 use Rattle.session_log.specs.declared.session.Op.TheVariants as op
 use Rattle.serializability.specs.declared.event.Event.{Event}
-use Rattle.log_definitions.specs.WellFormed.{first_seen, key_of, keys_in, txns_in, is_committed}
+use Rattle.log_definitions.specs.Unknown.{is_committed, txns_in, settled, taken, resolved}
+use Rattle.log_definitions.specs.WellFormed.{first_seen, key_of, keys_in}
 use Rattle.log_definitions.specs.Serial.{Committed, committed_of, committed_in}
 use Rattle.log_definitions.specs.Numbers.{events_of}
+use Rattle.log_definitions.proofs.Settled.{ops_settled}
 use Rattle.session_history.specs.Taken.{Placed, placed_from, placed_in, NumberedNode, nodes_among, numbered_from, keys_among}
 use Rattle.session_history.specs.Rows.{event_key}
 use Rattle.session_history.specs.Held.{numbered_node}
@@ -57,9 +59,9 @@ nodes_in_flat keys (s ∷ ss) =
     ∙ ap (λ l. map (numbered_node keys) (committed_of s) ++ l) (nodes_in_flat keys ss)
     ∙ sym (map-append (numbered_node keys) (committed_of s) (flat_map committed_of ss))
 
-pub nodes_in : (keys : List (List ℕ)) (ss : List ClientSession) → nodes_among keys (placed_in ss) ≡ map (numbered_node keys) (committed_in ss)
+pub nodes_in : (keys : List (List ℕ)) (ss : List ClientSession) → nodes_among keys (placed_in (resolved ss)) ≡ map (numbered_node keys) (committed_in ss)
 unfolding committed_in
-nodes_in keys ss = nodes_in_flat keys ss
+nodes_in keys ss = nodes_in_flat keys (resolved ss)
 
 -- ---- transactions and keys
 
@@ -78,9 +80,14 @@ ops_of_placed : (ps : List Placed) → flat_map (λ p. p.2.ops) ps ≡ flat_map 
 ops_of_placed [] = refl
 ops_of_placed (p ∷ ps) = ap (λ l. p.2.ops ++ l) (ops_of_placed ps)
 
-pub keys_placed : (ss : List ClientSession) → first_seen [] (keys_among (placed_in ss)) ≡ keys_in ss
+pub keys_settled : (chosen : ℕ → Bool) (ss : List ClientSession) → first_seen [] (keys_among (placed_in (settled chosen ss))) ≡ keys_in ss
 unfolding keys_in
-keys_placed ss = ap (λ os. first_seen [] (map key_of os)) (ops_of_placed (placed_in ss) ∙ ap (flat_map (λ t. t.ops)) (txns_placed ss))
+keys_settled chosen ss =
+    ap (λ os. first_seen [] (map key_of os)) (ops_of_placed (placed_in (settled chosen ss)) ∙ ap (flat_map (λ t. t.ops)) (txns_placed (settled chosen ss)) ∙ ops_settled chosen ss)
+
+pub keys_placed : (ss : List ClientSession) → first_seen [] (keys_among (placed_in (resolved ss))) ≡ keys_in ss
+unfolding resolved
+keys_placed ss = keys_settled (taken ss) ss
 
 pub committed_placed : (keys : List (List ℕ)) (ps : List Placed) → length (nodes_among keys ps) ≡ count_by is_committed (map (λ (p : Placed). p.2) ps)
 committed_placed keys [] = refl
@@ -134,7 +141,7 @@ module _ (keys : List (List ℕ)) (test : List Event → Bool) where
       go false j f more same none =
           ap (λ c. (c && test (events_of keys t.2.ops)) || list_any (named v) (numbered_from n keys ts)) (ne_eqb 0 v (λ eq. absurd (omega arith))) ∙ same f
 
-  -- the aborted transactions
+  -- the transactions that count as aborted
   pub aborted_there : (n : ℕ) (ts : List Placed) → list_any (λ p. nat_eq p.0 0 && test p.1) (numbered_from n keys ts)
       ≡ list_any test (map (events_of keys) (map (λ t. t.ops) (filter (λ t. not (is_committed t)) (map (λ (p : Placed). p.2) ts))))
   aborted_there n [] = refl

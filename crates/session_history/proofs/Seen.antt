@@ -8,13 +8,14 @@ use Rattle.std.specs.Map.{lookup}
 use Rattle.std.specs.BTreeMap.{BTreeMap, get, is_at}
 use Rattle.std.proofs.lemmas.Bool.{false≢true, cond-true, cond-false, both_ways, or_right, or_left}
 use Rattle.std.proofs.lemmas.List.Folds.{list_any-append}
-use Rattle.std.proofs.lemmas.List.{take_more, map-append}
+use Rattle.std.proofs.lemmas.List.{map-append}
 use Rattle.serializability.specs.declared.event.Event.{Event}
 use Rattle.std.proofs.lemmas.Slice.Eq.{bytes_eq-Decides}
 use Rattle.log_definitions.specs.WellFormed.{first_seen, key_of}
 use Rattle.log_definitions.specs.Numbers.{number_in, event_of, events_of}
 use Rattle.session_log.specs.declared.session.Op.{Op}
 use Rattle.session_history.specs.Numbering.{number_among, KeepsPlaces}
+use Rattle.session_history.proofs.Stepping.{step_itself}
 
 pub seen_append : (s a b : List (List ℕ)) → first_seen s (a ++ b) ≡ first_seen (first_seen s a) b
 seen_append s [] b = refl
@@ -139,15 +140,12 @@ pub number_of_pushed : (xs ys : List (List ℕ)) (k j : List ℕ) (n : ℕ) → 
 number_of_pushed xs ys k j n h e same len later =
     len ∙ sym (ap (λ zs. number_in (first_seen zs later) k) (e ∙ ap (λ x. xs ++ x ∷ []) same) ∙ number_of_new xs k h later)
 
-taken_more : {X : Type 0} (xs : List X) (i : ℕ) (x : X) → i < length xs → x ≡ get_or xs i x → take (i + 1) xs ≡ take i xs ++ x ∷ []
-taken_more xs i x h e = take_more xs i x h ∙ ap (λ y. take i xs ++ y ∷ []) (sym e)
-
 -- one operation more
 pub keys_more : (xs ys zs : List (List ℕ)) (ops : List Op) (i : ℕ) (op : Op) → i < length ops → op ≡ get_or ops i op
     → ys ≡ first_seen xs (map key_of (take i ops)) → zs ≡ first_seen ys (key_of op ∷ []) → zs ≡ first_seen xs (map key_of (take (i + 1) ops))
 keys_more xs ys zs ops i op h e so_far more =
     more ∙ ap (λ ks. first_seen ks (key_of op ∷ [])) so_far ∙ sym (seen_append xs (map key_of (take i ops)) (key_of op ∷ []))
-    ∙ ap (first_seen xs) (sym (map-append key_of (take i ops) (op ∷ [])) ∙ ap (map key_of) (sym (taken_more ops i op h e)))
+    ∙ ap (first_seen xs) (sym (map-append key_of (take i ops) (op ∷ [])) ∙ ap (map key_of) (sym (step_itself ops i op h e)))
 
 pub events_more : (ys zs : List (List ℕ)) (ops : List Op) (i : ℕ) (op : Op) (old new : List Event) (event : Event) → i < length ops → op ≡ get_or ops i op
     → zs ≡ first_seen ys (key_of op ∷ [])
@@ -159,7 +157,7 @@ events_more ys zs ops i op old new event h e more so_far last pushed later =
     let keys : first_seen zs later ≡ first_seen ys (key_of op ∷ later) = ap (λ ks. first_seen ks later) more ∙ sym (seen_append ys (key_of op ∷ []) later) in
     pushed ∙ ap (λ es. es ++ event ∷ []) (so_far (key_of op ∷ later) ∙ ap (λ ks. events_of ks (take i ops)) (sym keys))
     ∙ ap (λ x. events_of (first_seen zs later) (take i ops) ++ x ∷ []) (last later)
-    ∙ sym (map-append (event_of (first_seen zs later)) (take i ops) (op ∷ [])) ∙ ap (events_of (first_seen zs later)) (sym (taken_more ops i op h e))
+    ∙ sym (map-append (event_of (first_seen zs later)) (take i ops) (op ∷ [])) ∙ ap (events_of (first_seen zs later)) (sym (step_itself ops i op h e))
 
 -- and from then on
 pub seen_stays : (later xs : List (List ℕ)) (q : List ℕ) → list_any (bytes_eq q) xs ≡ true → list_any (bytes_eq q) (first_seen xs later) ≡ true

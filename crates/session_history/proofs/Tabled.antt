@@ -2,6 +2,7 @@
 use Rattle.std.proofs.Common.{◌≡◌, ℕ, zero, suc, ◌+◌, ◌<◌, ◌≤◌, ◌⊎◌, inl, inr, Bool, true, false, not, ◌&&◌, cond, List, [], ◌∷◌, ◌++◌, length, length-append, map, count_by, get_or, slice_get, Option, Some, None, is_some, unwrap_or, refl, sym, ap, subst, ◌∙◌, arith, append_assoc, nat_eq, All, Vec, Global}
 use Rattle.std.specs.List.{filter, filter_map, cons_option, list_any, find, range_with_len, AllByRecursion}
 use Rattle.std.specs.Option.{option_map, option_map_or}
+use Rattle.std.proofs.Math.Path.{fun_ext}
 use Rattle.std.proofs.lemmas.Bool.{both_ways, eqb-true, eqb-false, eq-eqb, ne_eqb, cases_lt}
 use Rattle.std.proofs.lemmas.Option.{slice_get_past, slice_get-get_or}
 use Rattle.std.proofs.lemmas.List.Elements.{All-from_recursion}
@@ -12,7 +13,8 @@ use Rattle.serializability.specs.Log.{Log}
 use Rattle.serializability.specs.Reads.{last_write, external_read}
 use Rattle.serializability.specs.Polygraph.{committed, wrote, writer_of, source}
 use Rattle.serializability.specs.Anomalies.{writes_as}
-use Rattle.log_definitions.specs.WellFormed.{first_seen, keys_in, is_committed, txns_in, log_lines, list_fault, write_twice}
+use Rattle.log_definitions.specs.Unknown.{is_committed, txns_in, settled, taken, resolved}
+use Rattle.log_definitions.specs.WellFormed.{first_seen, keys_in}
 use Rattle.log_definitions.specs.Serial.{Committed, committed_in, node_in, node_of}
 use Rattle.log_definitions.specs.Numbers.{events_of, aborted_in, log_of}
 use Rattle.session_history.specs.Tables.{sources_of, node_named}
@@ -29,8 +31,8 @@ use Rattle.session_history.specs.declared.nodes.Node.{Node}
 use Rattle.session_history.specs.declared.rows.Row.{Row}
 use Rattle.session_history.specs.declared.writes.Written.{Written}
 use Rattle.session_history.specs.declared.writes.Writes.{Writes}
-use Rattle.session_history.proofs.Limits.{no_write_twice}
-use Rattle.session_history.proofs.Placings.{one_there, aborted_there, nodes_in, txns_placed, all_below, keys_placed, committed_placed}
+use Rattle.session_history.proofs.Stepping.{some_same}
+use Rattle.session_history.proofs.Placings.{one_there, aborted_there, nodes_in, txns_placed, all_below, keys_settled, keys_placed, committed_placed}
 use Rattle.session_history.proofs.KeyRows.{rows_same}
 
 -- ---- the log, field by field
@@ -162,9 +164,6 @@ module _ (ops : ℕ → List Event) (x : ℕ) where
 
 -- ---- all keys
 
-pub some_same : {X : Type 0} (a b : X) → Some a ≡ Some b → a ≡ b
-some_same a b e = cc
-
 rows_as_map_from : (f : ℕ → RowView) (x : ℕ) (rows : List Row) → ((i : ℕ) → i < length rows → option_map row_view (slice_get rows i) ≡ Some (f (x + i))) → map row_view rows ≡ map f (range_with_len x (length rows))
 rows_as_map_from f x [] h = refl
 rows_as_map_from f x (row ∷ rows) h =
@@ -229,23 +228,23 @@ test_by_node keys test cs k none = ap (λ o. option_map_or (λ (node : NumberedN
 
 -- a test of the transaction of node v
 pub tested_node : (ss : List ClientSession) (test : List Event → Bool) (v : ℕ) → 0 < v → test [] ≡ false
-    → list_any (λ p. nat_eq p.0 v && test p.1) (numbered_from 0 (keys_in ss) (placed_in ss)) ≡ test ((log_of ss).ops v)
+    → list_any (λ p. nat_eq p.0 v && test p.1) (numbered_from 0 (keys_in ss) (placed_in (resolved ss))) ≡ test ((log_of ss).ops v)
 tested_node ss test zero low none = absurd (omega arith)
 tested_node ss test (suc k) low none =
-    one_there (keys_in ss) test 0 (suc k) k (placed_in ss) (omega arith)
+    one_there (keys_in ss) test 0 (suc k) k (placed_in (resolved ss)) (omega arith)
     ∙ ap (λ ns. option_map_or (λ (node : NumberedNode). test node.events) (slice_get ns k) false) (nodes_in (keys_in ss) ss)
     ∙ test_by_node (keys_in ss) test (committed_in ss) k none
     ∙ ap test (sym (log_ops ss (suc k)))
 
-pub tested_aborted : (ss : List ClientSession) (test : List Event → Bool) → list_any (λ p. nat_eq p.0 0 && test p.1) (numbered_from 0 (keys_in ss) (placed_in ss)) ≡ list_any test (log_of ss).aborted
+pub tested_aborted : (ss : List ClientSession) (test : List Event → Bool) → list_any (λ p. nat_eq p.0 0 && test p.1) (numbered_from 0 (keys_in ss) (placed_in (resolved ss))) ≡ list_any test (log_of ss).aborted
 tested_aborted ss test =
-    aborted_there (keys_in ss) test 0 (placed_in ss)
-    ∙ ap (λ ts. list_any test (map (events_of (keys_in ss)) (map (λ t. t.ops) (filter (λ t. not (is_committed t)) ts)))) (txns_placed ss)
+    aborted_there (keys_in ss) test 0 (placed_in (resolved ss))
+    ∙ ap (λ ts. list_any test (map (events_of (keys_in ss)) (map (λ t. t.ops) (filter (λ t. not (is_committed t)) ts)))) (txns_placed (resolved ss))
     ∙ ap (list_any test) (sym (log_aborted ss))
 
-pub finds_writes : (ss : List ClientSession) (keys : List (List ℕ)) (t : Writes) → t.twice ≡ None → keys ≡ keys_in ss → HasWrites (numbered_from 0 keys (placed_in ss)) t → FindsWrites (log_of ss) t
+pub finds_writes : (ss : List ClientSession) (keys : List (List ℕ)) (t : Writes) → t.twice ≡ None → keys ≡ keys_in ss → HasWrites (numbered_from 0 keys (placed_in (resolved ss))) t → FindsWrites (log_of ss) t
 finds_writes ss keys t once e h =
-    let P : List (List ℕ) → Type 0 = λ ks. HasWrites (numbered_from 0 ks (placed_in ss)) t in
+    let P : List (List ℕ) → Type 0 = λ ks. HasWrites (numbered_from 0 ks (placed_in (resolved ss))) t in
     let k : P (keys_in ss) = subst P e h in
     record {
       nodes = λ x w v low. k.writes once x w v ∙ tested_node ss (writes_as x w) v low refl;
@@ -398,22 +397,32 @@ reads_by_log log t rows n reads e past h rows_are reads_are = record {
 
 -- ---- from all that the transactions hold
 
-module _ (ss : List ClientSession) (all : Transactions) (h : HoldsAll all (log_lines ss) (placed_in ss)) where
+pub keys_settled_held : (chosen : ℕ → Bool) (ss : List ClientSession) (all : Transactions) → HoldsAll all (placed_in (settled chosen ss)) → all.numbers.texts.items ≡ keys_in ss
+keys_settled_held chosen ss all h = h.keys ∙ keys_settled chosen ss
+
+-- where these are the taken ones
+pub taken_held : (chosen : ℕ → Bool) (ss : List ClientSession) (all : Transactions) → ((n : ℕ) → chosen n ≡ taken ss n) → HoldsAll all (placed_in (settled chosen ss)) → HoldsAll all (placed_in (resolved ss))
+unfolding resolved
+taken_held chosen ss all e h =
+    let P : (ℕ → Bool) → Type 0 = λ f. HoldsAll all (placed_in (settled f ss)) in
+    subst P (fun_ext e) h
+
+module _ (ss : List ClientSession) (all : Transactions) (h : HoldsAll all (placed_in (resolved ss))) where
   pub keys_held : all.numbers.texts.items ≡ keys_in ss
   keys_held = h.keys ∙ keys_placed ss
 
   pub nodes_held : map node_view all.nodes.items ≡ map (numbered_node (keys_in ss)) (committed_in ss)
-  nodes_held = h.nodes ∙ ap (λ ks. nodes_among ks (placed_in ss)) keys_held ∙ nodes_in (keys_in ss) ss
+  nodes_held = h.nodes ∙ ap (λ ks. nodes_among ks (placed_in (resolved ss))) keys_held ∙ nodes_in (keys_in ss) ss
 
   pub count_held : length all.nodes.items ≡ length (committed_in ss)
   count_held = sym (length-map all.nodes.items node_view) ∙ ap length nodes_held ∙ length-map (committed_in ss) (numbered_node (keys_in ss))
 
-  pub committed_held : length all.nodes.items ≡ count_by is_committed (txns_in ss)
+  pub committed_held : length all.nodes.items ≡ count_by is_committed (txns_in (resolved ss))
   committed_held =
-      count_held ∙ sym (length-map (committed_in ss) (numbered_node [])) ∙ ap length (sym (nodes_in [] ss)) ∙ committed_placed [] (placed_in ss) ∙ ap (count_by is_committed) (txns_placed ss)
+      count_held ∙ sym (length-map (committed_in ss) (numbered_node [])) ∙ ap length (sym (nodes_in [] ss)) ∙ committed_placed [] (placed_in (resolved ss)) ∙ ap (count_by is_committed) (txns_placed (resolved ss))
 
-  pub writes_held : list_fault ss ≡ None → FindsWrites (log_of ss) all.writes
-  writes_held sound = finds_writes ss all.numbers.texts.items all.writes (h.seen.twice ∙ no_write_twice ss sound) keys_held h.writes
+  pub writes_held : all.writes.twice ≡ None → FindsWrites (log_of ss) all.writes
+  writes_held once = finds_writes ss all.numbers.texts.items all.writes once keys_held h.writes
 
   pub rows_held : (keys : ℕ) (passed : List Node) (rows : List Row) → keys ≡ length all.numbers.texts.items → passed ≡ all.nodes.items
       → AreRows keys (λ x. row_from no_row x 1 (map (λ node. node.events.items) passed)) rows → AreRows (log_of ss).keys (row_in (log_of ss)) rows
@@ -429,11 +438,8 @@ module _ (ss : List ClientSession) (all : Transactions) (h : HoldsAll all (log_l
       let Q : List Row → Type 0 = λ rs. All (λ row. All (λ r. (0 < r.node) × (r.node ≤ n)) row.readers.items) rs in
       subst Q (sym same) (subst P (sym (number_held n e)) (readers_within (log_of ss) rows r))
 
-  pub reads_held : (n : ℕ) (rows passed : List Row) (reads : List (Vec ReadFrom Global)) → list_fault ss ≡ None → n ≡ length all.nodes.items → passed ≡ rows → AreRows (log_of ss).keys (row_in (log_of ss)) rows
+  pub reads_held : (n : ℕ) (rows passed : List Row) (reads : List (Vec ReadFrom Global)) → all.writes.twice ≡ None → n ≡ length all.nodes.items → passed ≡ rows → AreRows (log_of ss).keys (row_in (log_of ss)) rows
       → AreReads n (λ v. found_in 0 (λ x w. final_node (entry_of all.writes w) x) v (map readers_of passed)) reads → AreReads (log_of ss).nodes (sources_of (log_of ss)) reads
-  reads_held n rows passed reads sound e same r a =
+  reads_held n rows passed reads once e same r a =
       let P : List Row → Type 0 = λ rs. AreReads n (λ v. found_in 0 (λ x w. final_node (entry_of all.writes w) x) v (map readers_of rs)) reads in
-      reads_by_log (log_of ss) all.writes rows n reads (number_held n e) (ops_past ss) (writes_held sound) r (subst P same a)
-
-  pub twice_held : all.writes.twice ≡ write_twice (log_lines ss)
-  twice_held = h.seen.twice
+      reads_by_log (log_of ss) all.writes rows n reads (number_held n e) (ops_past ss) (writes_held once) r (subst P same a)

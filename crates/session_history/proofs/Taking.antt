@@ -1,7 +1,7 @@
 -- Transactions, one after the other.
 use Rattle.std.proofs.Common.{◌≡◌, ℕ, ◌+◌, ◌<◌, Bool, true, false, cond, List, [], ◌∷◌, ◌++◌, length, length-append, map, take, drop, get_or, count_by, refl, sym, ap, subst, ◌∙◌, arith, append_assoc}
 use Rattle.std.specs.List.{flat_map}
-use Rattle.std.proofs.lemmas.List.{append-nil, map-append, length-map, length-take, take_more, drop_more}
+use Rattle.std.proofs.lemmas.List.{append-nil, map-append, length-map, length-take, drop_more}
 use Rattle.std.proofs.lemmas.Grind.{flat_map-append}
 use Rattle.std.proofs.lemmas.List.Sums.{sum_by-cons, sum_by-append}
 use Rattle.session_log.specs.Text.{ClientSession, Transaction, view, view_txn, op_line, end_line, txn_lines, session_lines}
@@ -12,14 +12,16 @@ use Rattle.session_log.specs.declared.line.Line.TheVariants as line
 use Rattle.session_log.specs.declared.session.Op.{Op}
 use Rattle.session_log.specs.declared.session.Op.TheVariants.{Read, Write}
 use Rattle.session_log.specs.declared.session.Outcome.{Outcome}
-use Rattle.session_log.specs.declared.session.Outcome.TheVariants.{Commit, Abort}
+use Rattle.session_log.specs.declared.session.Outcome.TheVariants.{Commit, Abort, Unknown}
 use Rattle.serializability.specs.declared.event.Event.{Event}
-use Rattle.log_definitions.specs.WellFormed.{first_seen, key_of, is_commit, is_committed, writes_from, log_lines, txns_in}
+use Rattle.log_definitions.specs.Unknown.{is_committed, txns_in, settle, settled}
+use Rattle.log_definitions.specs.WellFormed.{first_seen, key_of, writes_from, log_lines}
 use Rattle.log_definitions.specs.Numbers.{events_of}
 use Rattle.session_history.specs.declared.nodes.Node.{Node}
 use Rattle.session_history.specs.declared.nodes.Transactions.{Transactions}
 use Rattle.session_history.specs.Written.{HasSeen, HasWrites, writes_at}
 use Rattle.session_history.specs.Taken.{Placed, placed_from, placed_in, NumberedNode, node_view, nodes_among, numbered_from, keys_among, Takes, IsStart, HoldsAll}
+use Rattle.session_history.proofs.Stepping.{step, step_in}
 use Rattle.session_history.proofs.Seen.{seen_append}
 
 -- ---- lines
@@ -38,17 +40,19 @@ writes_from-append n (line.Session k ∷ a) b = writes_from-append (n + 1) a b �
 writes_from-append n (line.Begin ∷ a) b = writes_from-append (n + 1) a b ∙ ap (λ m. writes_from (n + 1) a ++ writes_from m b) (omega arith)
 writes_from-append n (line.Commit ∷ a) b = writes_from-append (n + 1) a b ∙ ap (λ m. writes_from (n + 1) a ++ writes_from m b) (omega arith)
 writes_from-append n (line.Abort ∷ a) b = writes_from-append (n + 1) a b ∙ ap (λ m. writes_from (n + 1) a ++ writes_from m b) (omega arith)
+writes_from-append n (line.Unknown ∷ a) b = writes_from-append (n + 1) a b ∙ ap (λ m. writes_from (n + 1) a ++ writes_from m b) (omega arith)
 
 writes_in_txn : (keys : List (List ℕ)) (n : ℕ) (ops : List Op) (o : Outcome) → writes_from n (map op_line ops ++ end_line o ∷ []) ≡ writes_at n (events_of keys ops)
 writes_in_txn keys n [] Commit = refl
 writes_in_txn keys n [] Abort = refl
+writes_in_txn keys n [] Unknown = refl
 writes_in_txn keys n (Read k w ∷ ops) o = writes_in_txn keys (n + 1) ops o
 writes_in_txn keys n (Write k w ∷ ops) o = ap (λ xs. (n, w) ∷ xs) (writes_in_txn keys (n + 1) ops o)
 
 -- ---- one transaction
 
 -- what is passed on, of the operations and of their numbered form, is what is there
-module _ (old new : Transactions) (t : Transaction) (session place : ℕ) (passed : List Op) (events given : List Event)
+module _ (old new : Transactions) (t : Transaction) (is_taken : Bool) (session place : ℕ) (passed : List Op) (events given : List Event)
     (passed_is : passed ≡ t.ops) (given_is : given ≡ events)
     (keys : new.numbers.texts.items ≡ first_seen old.numbers.texts.items (map key_of passed))
     (numbered_passed : (later : List (List ℕ)) → events ≡ events_of (first_seen new.numbers.texts.items later) passed)
@@ -57,7 +61,7 @@ module _ (old new : Transactions) (t : Transaction) (session place : ℕ) (passe
   numbered : (later : List (List ℕ)) → given ≡ events_of (first_seen new.numbers.texts.items later) t.ops
   numbered later = given_is ∙ numbered_passed later ∙ ap (events_of (first_seen new.numbers.texts.items later)) passed_is
 
-  keys_one : new.numbers.texts.items ≡ first_seen old.numbers.texts.items (keys_among ((session, place, t) ∷ []))
+  keys_one : new.numbers.texts.items ≡ first_seen old.numbers.texts.items (keys_among ((session, place, settle is_taken t) ∷ []))
   keys_one = keys ∙ ap (λ os. first_seen old.numbers.texts.items (map key_of os)) (passed_is ∙ sym (append-nil t.ops))
 
   line_one : new.writes.line ≡ old.writes.line + length (txn_lines t)
@@ -71,36 +75,36 @@ module _ (old new : Transactions) (t : Transaction) (session place : ℕ) (passe
       let P : List (ℕ × ℕ) → Type 0 = λ ls. HasSeen (before ++ ls) new.writes in
       subst P (ap (writes_at (old.writes.line + 1)) (numbered []) ∙ sym (writes_in_txn (first_seen new.numbers.texts.items []) (old.writes.line + 1) t.ops t.outcome)) (seen_given before h)
 
-  pub takes_committed : (node : Node) (v : ℕ) → t.outcome ≡ Commit → v ≡ length old.nodes.items + 1
+  pub takes_committed : (node : Node) (v : ℕ) → is_committed (settle is_taken t) ≡ true → v ≡ length old.nodes.items + 1
       → new.nodes.items ≡ old.nodes.items ++ node ∷ [] → node_view node ≡ record { session = session; place = place; events = events }
       → ((txns : List (ℕ × List Event)) → HasWrites txns old.writes → HasWrites (txns ++ (v, given) ∷ []) new.writes)
-      → Takes old new (txn_lines t) ((session, place, t) ∷ [])
+      → Takes old new (txn_lines t) ((session, place, settle is_taken t) ∷ [])
   takes_committed node v is number pushed is_view writes = record {
     keys = keys_one;
     nodes = λ more. ap (map node_view) pushed ∙ map-append node_view old.nodes.items (node ∷ [])
         ∙ ap (λ n. map node_view old.nodes.items ++ n ∷ []) (is_view ∙ ap (λ es. record { session = session; place = place; events = es }) (sym given_is ∙ numbered more))
-        ∙ ap (λ o. map node_view old.nodes.items ++ cond (is_commit o) (record { session = session; place = place; events = events_of (first_seen new.numbers.texts.items more) t.ops } ∷ []) []) (sym is);
+        ∙ ap (λ b. map node_view old.nodes.items ++ cond b (record { session = session; place = place; events = events_of (first_seen new.numbers.texts.items more) t.ops } ∷ []) []) (sym is);
     line = line_one;
     seen = seen_one;
     writes = λ before more h.
         let P : List (ℕ × List Event) → Type 0 = λ ts. HasWrites (before ++ ts) new.writes in
         subst P (ap (λ n. (n, given) ∷ []) number ∙ ap (λ es. (length old.nodes.items + 1, es) ∷ []) (numbered more)
-        ∙ ap (λ o. cond (is_commit o) ((length old.nodes.items + 1, events_of (first_seen new.numbers.texts.items more) t.ops) ∷ []) ((0, events_of (first_seen new.numbers.texts.items more) t.ops) ∷ [])) (sym is)) (writes before h);
+        ∙ ap (λ b. cond b ((length old.nodes.items + 1, events_of (first_seen new.numbers.texts.items more) t.ops) ∷ []) ((0, events_of (first_seen new.numbers.texts.items more) t.ops) ∷ [])) (sym is)) (writes before h);
   }
 
-  pub takes_aborted : t.outcome ≡ Abort → new.nodes.items ≡ old.nodes.items
+  pub takes_aborted : is_committed (settle is_taken t) ≡ false → new.nodes.items ≡ old.nodes.items
       → ((txns : List (ℕ × List Event)) → HasWrites txns old.writes → HasWrites (txns ++ (0, given) ∷ []) new.writes)
-      → Takes old new (txn_lines t) ((session, place, t) ∷ [])
+      → Takes old new (txn_lines t) ((session, place, settle is_taken t) ∷ [])
   takes_aborted is same writes = record {
     keys = keys_one;
     nodes = λ more. ap (map node_view) same ∙ sym (append-nil (map node_view old.nodes.items))
-        ∙ ap (λ o. map node_view old.nodes.items ++ cond (is_commit o) (record { session = session; place = place; events = events_of (first_seen new.numbers.texts.items more) t.ops } ∷ []) []) (sym is);
+        ∙ ap (λ b. map node_view old.nodes.items ++ cond b (record { session = session; place = place; events = events_of (first_seen new.numbers.texts.items more) t.ops } ∷ []) []) (sym is);
     line = line_one;
     seen = seen_one;
     writes = λ before more h.
         let P : List (ℕ × List Event) → Type 0 = λ ts. HasWrites (before ++ ts) new.writes in
         subst P (ap (λ es. (0, es) ∷ []) (numbered more)
-        ∙ ap (λ o. cond (is_commit o) ((length old.nodes.items + 1, events_of (first_seen new.numbers.texts.items more) t.ops) ∷ []) ((0, events_of (first_seen new.numbers.texts.items more) t.ops) ∷ [])) (sym is)) (writes before h);
+        ∙ ap (λ b. cond b ((length old.nodes.items + 1, events_of (first_seen new.numbers.texts.items more) t.ops) ∷ []) ((0, events_of (first_seen new.numbers.texts.items more) t.ops) ∷ [])) (sym is)) (writes before h);
   }
 
 -- ---- one after the other
@@ -196,12 +200,14 @@ takes_header a b number numbers nodes writes = record {
 
 -- ---- from the first line on
 
-pub all_taken : (a b : Transactions) (lines : List Line) (ts : List Placed) → IsStart a → Takes a b lines ts → HoldsAll b lines ts
-all_taken a b lines ts s t = record {
+pub all_seen : (n : ℕ) (a b : Transactions) (lines : List Line) (ts : List Placed) → IsStart n a → Takes a b lines ts → HasSeen (writes_from n lines) b.writes
+all_seen n a b lines ts s t = let P : ℕ → Type 0 = λ m. HasSeen (writes_from m lines) b.writes in subst P s.line (t.seen [] s.seen)
+
+pub all_taken : (n : ℕ) (a b : Transactions) (lines : List Line) (ts : List Placed) → IsStart n a → Takes a b lines ts → HoldsAll b ts
+all_taken n a b lines ts s t = record {
   keys = t.keys ∙ ap (λ ks. first_seen ks (keys_among ts)) s.keys;
   nodes = t.nodes [] ∙ ap (λ ns. map node_view ns ++ nodes_among b.numbers.texts.items ts) s.nodes;
-  seen = let P : ℕ → Type 0 = λ n. HasSeen (writes_from n lines) b.writes in subst P s.line (t.seen [] s.seen);
-  writes = let P : ℕ → Type 0 = λ n. HasWrites (numbered_from n b.numbers.texts.items ts) b.writes in subst P (ap length s.nodes) (t.writes [] [] s.writes);
+  writes = let P : ℕ → Type 0 = λ m. HasWrites (numbered_from m b.numbers.texts.items ts) b.writes in subst P (ap length s.nodes) (t.writes [] [] s.writes);
 }
 
 -- ---- the loops
@@ -235,61 +241,72 @@ placed_from-append session n [] us = ap (λ m. placed_from session m us) (omega 
 placed_from-append session n (t ∷ ts) us = ap (λ ps. (session, n, t) ∷ ps) (placed_from-append session (n + 1) ts us ∙ ap (λ m. placed_from session (n + 1) ts ++ placed_from session m us) (omega arith))
 
 -- one more of a session's transactions
-pub txns_more : (a b c : Transactions) (txns : List Txn) (i : ℕ) (x : Txn) (session place : ℕ) → i < length txns → x ≡ get_or txns i x → place ≡ i + 1
-    → Takes a b (flat_map txn_lines (map view_txn (take i txns))) (placed_from session 1 (map view_txn (take i txns)))
-    → Takes b c (txn_lines (view_txn x)) ((session, place, view_txn x) ∷ [])
-    → Takes a c (flat_map txn_lines (map view_txn (take (i + 1) txns))) (placed_from session 1 (map view_txn (take (i + 1) txns)))
-txns_more a b c txns i x session place h at is_place so_far one =
+pub txns_more : (a b c : Transactions) (txns : List Txn) (i : ℕ) (x : Txn) (is_taken : Bool) (session place : ℕ) → i < length txns → x ≡ get_or txns i x → place ≡ i + 1
+    → Takes a b (flat_map txn_lines (map view_txn (take i txns))) (placed_from session 1 (map (settle is_taken) (map view_txn (take i txns))))
+    → Takes b c (txn_lines (view_txn x)) ((session, place, settle is_taken (view_txn x)) ∷ [])
+    → Takes a c (flat_map txn_lines (map view_txn (take (i + 1) txns))) (placed_from session 1 (map (settle is_taken) (map view_txn (take (i + 1) txns))))
+txns_more a b c txns i x is_taken session place h at is_place so_far one =
     let some = map view_txn (take i txns) in
-    let more : map view_txn (take (i + 1) txns) ≡ some ++ view_txn x ∷ [] = ap (map view_txn) (take_more txns i x h ∙ ap (λ y. take i txns ++ y ∷ []) (sym at)) ∙ map-append view_txn (take i txns) (x ∷ []) in
-    let count : length some ≡ i = length-map (take i txns) view_txn ∙ length-take i txns ∙ omega arith in
-    let P : List Line → List Placed → Type 0 = λ ls ps. Takes a c ls ps in
-    let lines : flat_map txn_lines some ++ txn_lines (view_txn x) ≡ flat_map txn_lines (map view_txn (take (i + 1) txns)) =
-    ap (λ ls. flat_map txn_lines some ++ ls) (sym (append-nil (txn_lines (view_txn x)))) ∙ sym (flat_map-append txn_lines some (view_txn x ∷ [])) ∙ ap (flat_map txn_lines) (sym more) in
-    let placed : placed_from session 1 some ++ (session, place, view_txn x) ∷ [] ≡ placed_from session 1 (map view_txn (take (i + 1) txns)) =
-    ap (λ n. placed_from session 1 some ++ (session, n, view_txn x) ∷ []) (omega (arith, is_place, count)) ∙ sym (placed_from-append session 1 some (view_txn x ∷ [])) ∙ ap (placed_from session 1) (sym more) in
-    let all = takes_more a b c (flat_map txn_lines some) (txn_lines (view_txn x)) (placed_from session 1 some) ((session, place, view_txn x) ∷ []) so_far one in
-    let Q : List Line → Type 0 = λ ls. Takes a c ls (placed_from session 1 some ++ (session, place, view_txn x) ∷ []) in
+    let front = map (settle is_taken) some in
+    let last : Placed = (session, place, settle is_taken (view_txn x)) in
+    let more = step view_txn txns txns i x refl h at in
+    let count = length-map some (settle is_taken) ∙ length-map (take i txns) view_txn ∙ length-take i txns in
+    let lines : flat_map txn_lines some ++ txn_lines (view_txn x) ≡ flat_map txn_lines (map view_txn (take (i + 1) txns)) = sym (step_in txn_lines view_txn txns txns i x refl h at) in
+    let placed : placed_from session 1 front ++ last ∷ [] ≡ placed_from session 1 (map (settle is_taken) (map view_txn (take (i + 1) txns))) =
+    ap (λ n. placed_from session 1 front ++ (session, n, settle is_taken (view_txn x)) ∷ []) (omega (arith, is_place, count)) ∙ sym (placed_from-append session 1 front (settle is_taken (view_txn x) ∷ []))
+    ∙ ap (placed_from session 1) (sym (ap (map (settle is_taken)) more ∙ map-append (settle is_taken) some (view_txn x ∷ []))) in
+    let all = takes_more a b c (flat_map txn_lines some) (txn_lines (view_txn x)) (placed_from session 1 front) (last ∷ []) so_far one in
+    let Q : List Line → Type 0 = λ ls. Takes a c ls (placed_from session 1 front ++ last ∷ []) in
     let R : List Placed → Type 0 = λ ps. Takes a c (flat_map txn_lines (map view_txn (take (i + 1) txns))) ps in
     subst R placed (subst Q lines all)
 
 -- what is left of a session's transactions
-pub txns_left : (txns : List Txn) (i : ℕ) (x : Txn) → i < length txns → x ≡ get_or txns i x
+pub txns_left : (txns : List Txn) (i : ℕ) (x : Txn) (is_taken : Bool) → i < length txns → x ≡ get_or txns i x
     → (length (flat_map txn_lines (map view_txn (drop i txns))) ≡ length (txn_lines (view_txn x)) + length (flat_map txn_lines (map view_txn (drop (i + 1) txns))))
-    × (count_by is_committed (map view_txn (drop i txns)) ≡ count_by is_committed (view_txn x ∷ []) + count_by is_committed (map view_txn (drop (i + 1) txns)))
-txns_left txns i x h at =
-    let left : map view_txn (drop i txns) ≡ view_txn x ∷ map view_txn (drop (i + 1) txns) = ap (map view_txn) (drop_more txns i x h ∙ ap (λ y. y ∷ drop (i + 1) txns) (sym at)) in (
+    × (count_by is_committed (map (settle is_taken) (map view_txn (drop i txns))) ≡ count_by is_committed (settle is_taken (view_txn x) ∷ []) + count_by is_committed (map (settle is_taken) (map view_txn (drop (i + 1) txns))))
+txns_left txns i x is_taken h at =
+    let left : map view_txn (drop i txns) ≡ view_txn x ∷ map view_txn (drop (i + 1) txns) = ap (map view_txn) (drop_more txns i x h ∙ ap (λ y. y ∷ drop (i + 1) txns) (sym at)) in
+    let rest = map (settle is_taken) (map view_txn (drop (i + 1) txns)) in (
       ap (λ ts. length (flat_map txn_lines ts)) left ∙ length-append (txn_lines (view_txn x)) (flat_map txn_lines (map view_txn (drop (i + 1) txns))),
-      ap (count_by is_committed) left ∙ sum_by-cons (λ u. cond (is_committed u) 1 0) (view_txn x) (map view_txn (drop (i + 1) txns))
-          ∙ ap (λ k. k + count_by is_committed (map view_txn (drop (i + 1) txns))) (omega arith),
+      ap (λ ts. count_by is_committed (map (settle is_taken) ts)) left ∙ sum_by-cons (λ u. cond (is_committed u) 1 0) (settle is_taken (view_txn x)) rest
+          ∙ ap (λ k. k + count_by is_committed rest) (omega arith),
     )
 
 -- ---- the sessions
 
+settled-append : (chosen : ℕ → Bool) (a b : List ClientSession) → settled chosen (a ++ b) ≡ settled chosen a ++ settled chosen b
+unfolding settled
+settled-append chosen a b = map-append _ a b
+
 -- one session more
-pub sessions_more : (a b c : Transactions) (sessions : List Session) (i : ℕ) (x : Session) → i < length sessions → x ≡ get_or sessions i x
-    → Takes a b (log_lines (map view (take i sessions))) (placed_in (map view (take i sessions)))
-    → Takes b c (session_lines (view x)) (placed_from x.number 1 (view x).txns)
-    → Takes a c (log_lines (map view (take (i + 1) sessions))) (placed_in (map view (take (i + 1) sessions)))
-sessions_more a b c sessions i x h at so_far one =
+pub sessions_more : (a b c : Transactions) (sessions : List Session) (i : ℕ) (x : Session) (chosen : ℕ → Bool) → i < length sessions → x ≡ get_or sessions i x
+    → Takes a b (log_lines (map view (take i sessions))) (placed_in (settled chosen (map view (take i sessions))))
+    → Takes b c (session_lines (view x)) (placed_from x.number 1 (map (settle (chosen x.number)) (view x).txns))
+    → Takes a c (log_lines (map view (take (i + 1) sessions))) (placed_in (settled chosen (map view (take (i + 1) sessions))))
+unfolding settled
+sessions_more a b c sessions i x chosen h at so_far one =
     let some = map view (take i sessions) in
-    let more : some ++ view x ∷ [] ≡ map view (take (i + 1) sessions) = sym (ap (map view) (take_more sessions i x h ∙ ap (λ y. take i sessions ++ y ∷ []) (sym at)) ∙ map-append view (take i sessions) (x ∷ [])) in
-    let P : List ClientSession → Type 0 = λ ss. Takes a c (log_lines ss) (placed_in ss) in
-    let Q : List Line → Type 0 = λ ls. Takes a c ls (placed_in some ++ placed_from x.number 1 (view x).txns) in
-    let R : List Placed → Type 0 = λ ps. Takes a c (log_lines (some ++ view x ∷ [])) ps in
-    let lines : log_lines some ++ session_lines (view x) ≡ log_lines (some ++ view x ∷ []) =
-    ap (λ ls. log_lines some ++ ls) (sym (append-nil (session_lines (view x)))) ∙ sym (flat_map-append session_lines some (view x ∷ [])) in
-    let placed : placed_in some ++ placed_from x.number 1 (view x).txns ≡ placed_in (some ++ view x ∷ []) =
-    ap (λ ls. placed_in some ++ ls) (sym (append-nil (placed_from x.number 1 (view x).txns))) ∙ sym (flat_map-append (λ s. placed_from s.number 1 s.txns) some (view x ∷ [])) in
-    subst P more (subst R placed (subst Q lines
-    (takes_more a b c (log_lines some) (session_lines (view x)) (placed_in some) (placed_from x.number 1 (view x).txns) so_far one)))
+    let own = placed_from x.number 1 (map (settle (chosen x.number)) (view x).txns) in
+    let lines : log_lines some ++ session_lines (view x) ≡ log_lines (map view (take (i + 1) sessions)) = sym (step_in session_lines view sessions sessions i x refl h at) in
+    let placed : placed_in (settled chosen some) ++ own ≡ placed_in (settled chosen (map view (take (i + 1) sessions))) =
+    ap (λ ls. placed_in (settled chosen some) ++ ls) (sym (append-nil own)) ∙ sym (flat_map-append (λ s. placed_from s.number 1 s.txns) (settled chosen some) (settled chosen (view x ∷ [])))
+    ∙ ap placed_in (sym (ap (settled chosen) (step view sessions sessions i x refl h at) ∙ settled-append chosen some (view x ∷ []))) in
+    let Q : List Line → Type 0 = λ ls. Takes a c ls (placed_in (settled chosen some) ++ own) in
+    let R : List Placed → Type 0 = λ ps. Takes a c (log_lines (map view (take (i + 1) sessions))) ps in
+    subst R placed (subst Q lines (takes_more a b c (log_lines some) (session_lines (view x)) (placed_in (settled chosen some)) own so_far one))
 
 -- what is left of the sessions
-pub sessions_left : (sessions : List Session) (i : ℕ) (x : Session) → i < length sessions → x ≡ get_or sessions i x
+pub sessions_left : (sessions : List Session) (i : ℕ) (x : Session) (chosen : ℕ → Bool) → i < length sessions → x ≡ get_or sessions i x
     → (length (log_lines (map view (drop i sessions))) ≡ length (session_lines (view x)) + length (log_lines (map view (drop (i + 1) sessions))))
-    × (count_by is_committed (txns_in (map view (drop i sessions))) ≡ count_by is_committed (view x).txns + count_by is_committed (txns_in (map view (drop (i + 1) sessions))))
-sessions_left sessions i x h at =
+    × (count_by is_committed (txns_in (settled chosen (map view (drop i sessions)))) ≡ count_by is_committed (map (settle (chosen x.number)) (view x).txns) + count_by is_committed (txns_in (settled chosen (map view (drop (i + 1) sessions)))))
+unfolding settled
+sessions_left sessions i x chosen h at =
     let left : map view (drop i sessions) ≡ view x ∷ map view (drop (i + 1) sessions) = ap (map view) (drop_more sessions i x h ∙ ap (λ y. y ∷ drop (i + 1) sessions) (sym at)) in (
       ap (λ ss. length (log_lines ss)) left ∙ length-append (session_lines (view x)) (log_lines (map view (drop (i + 1) sessions))),
-      ap (λ ss. count_by is_committed (txns_in ss)) left ∙ sum_by-append (λ u. cond (is_committed u) 1 0) (view x).txns (txns_in (map view (drop (i + 1) sessions))),
+      ap (λ ss. count_by is_committed (txns_in (settled chosen ss))) left ∙ sum_by-append (λ u. cond (is_committed u) 1 0) (map (settle (chosen x.number)) (view x).txns) (txns_in (settled chosen (map view (drop (i + 1) sessions)))),
     )
+
+-- none so far
+pub sessions_none : (chosen : ℕ → Bool) (a : Transactions) → Takes a a (log_lines []) (placed_in (settled chosen []))
+unfolding settled
+sessions_none chosen a = takes_none a

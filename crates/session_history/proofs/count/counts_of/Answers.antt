@@ -1,30 +1,32 @@
-use Rattle.std.proofs.Common.{arith, map, length, ap, sym}
+use Rattle.std.proofs.Common.{ap, sym, arith, map, length}
 use Rattle.std.proofs.lemmas.List.{length-map}
+use Rattle.std.proofs.lemmas.List.Sums.{count_by-le-length}
 use Rattle.session_log.specs.Text.{view}
-use Rattle.session_history.proofs.Totals.{aborted_counted, txns_below_lines}
+use Rattle.log_definitions.specs.Unknown.{is_committed, is_unknown, txns_in}
+use Rattle.log_definitions.specs.WellFormed.{is_aborted}
+use Rattle.session_history.proofs.Totals.{committed_nodes, txns_below_lines}
 use Rattle.session_history.proofs.Tabled.{keys_held, count_held, committed_held}
 use Rattle.session_history.proofs.count.counts_of.Goals as goal
 
 pub overflow_sub-result : goal.overflow_sub-result
 overflow_sub-result c =
     let ss = map view c.args.sessions.now in
-    let all = aborted_counted ss in
-    let few = txns_below_lines ss in
-    let nodes = committed_held ss c.args.all.now c.requires.holds in
-    omega (arith, all, few, nodes, c.txn_count.ensures, c.requires.room, c.len-committed.ensures, c.args.all.now.nodes.ok.0)
+    omega (arith, committed_nodes ss, committed_held ss c.args.all.now c.requires.holds, c.of-tally.ensures.committed, c.len.ensures, c.args.all.now.nodes.ok.0)
 
 pub returns : goal.returns
 returns c =
     let ss = map view c.args.sessions.now in
-    let all = aborted_counted ss in
     let few = txns_below_lines ss in
+    let least = committed_nodes ss in
     let nodes = committed_held ss c.args.all.now c.requires.holds in
     let count = count_held ss c.args.all.now c.requires.holds in
     let keys = ap length (keys_held ss c.args.all.now c.requires.holds) in
     record {
       sessions = sym (length-map c.args.sessions.now view);
-      committed = omega (arith, count, c.len-committed.ensures, c.args.all.now.nodes.ok.0);
-      aborted = omega (arith, all, few, nodes, c.txn_count.ensures, c.requires.room, c.len-committed.ensures, c.args.all.now.nodes.ok.0);
-      keys = omega (arith, keys, c.len.ensures);
-      operations = omega (arith, c.operation_count.ensures, c.requires.few);
+      committed = omega (arith, few, count_by-le-length is_committed (txns_in ss), c.of-tally.ensures.committed, c.requires.room);
+      aborted = omega (arith, few, count_by-le-length is_aborted (txns_in ss), c.of-tally.ensures.aborted, c.requires.room);
+      unknown = omega (arith, few, count_by-le-length is_unknown (txns_in ss), c.of-tally.ensures.unknown, c.requires.room);
+      nodes = omega (arith, least, nodes, count, c.of-tally.ensures.committed, c.len.ensures, c.args.all.now.nodes.ok.0);
+      keys = omega (arith, keys, c.len-2.ensures);
+      operations = omega (arith, c.of-tally.ensures.operations, c.requires.few);
     }

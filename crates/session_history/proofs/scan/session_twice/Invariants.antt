@@ -7,7 +7,7 @@ use Rattle.session_history.proofs.scan.session_twice.Given as goal
 
 abbrev pub invariant-loop-session : goal.invariant-loop-session
 invariant-loop-session l = record {
-  none : repeated [] (sessions_from 1 (log_lines (map view (take l.session-index l.sessions)))) ≡ None;
-  seen : (q : ℕ) → contains nat_cmp l.seen q ≡ list_any (λ p. q == p.1) (sessions_from 1 (log_lines (map view (take l.session-index l.sessions))));
-  line : l.line ≡ 1 + length (log_lines (map view (take l.session-index l.sessions)));
+  none : repeated [] (sessions_from l.first (log_lines (map view (take l.session-index l.sessions)))) ≡ None;
+  seen : (q : ℕ) → contains nat_cmp l.seen q ≡ list_any (λ p. q == p.1) (sessions_from l.first (log_lines (map view (take l.session-index l.sessions))));
+  line : l.line ≡ l.first + length (log_lines (map view (take l.session-index l.sessions)));
 }

@@ -2,6 +2,7 @@ use Rattle.std.proofs.Common.{◌≡◌, ◌<◌, arith, List, [], ◌∷◌, le
 use Rattle.std.specs.List.{flat_map}
 use Rattle.std.proofs.lemmas.List.{take_all}
 use Rattle.session_log.specs.declared.line.Line.TheVariants as line
+use Rattle.log_definitions.specs.Unknown.{settle}
 use Rattle.session_history.specs.Taken.{Takes, placed_from}
 use Rattle.session_log.specs.declared.session.Txn.{Txn}
 use Rattle.session_log.specs.Text.{view_txn, txn_lines}
@@ -15,7 +16,7 @@ add-requires-clause-few c =
     let x = c.txn-item.result in
     let P : List Txn → Type 0 = λ xs. i < length xs in
     let Q : List Txn → Type 0 = λ xs. x ≡ get_or xs i x in
-    let left = txns_left c.args.session.now.txns.items i x (subst P e c.loop-txn-test.true) (subst Q e c.txn-item.is) in
+    let left = txns_left c.args.session.now.txns.items i x c.args.is_taken (subst P e c.loop-txn-test.true) (subst Q e c.txn-item.is) in
     omega (arith, left.1, c.loop-txn.invariant.few)
 
 pub loop-txn-preserved : goal.loop-txn-preserved
@@ -28,12 +29,12 @@ loop-txn-preserved c =
     let Q : List Txn → Type 0 = λ xs. x ≡ get_or xs i x in
     let h : P txns = subst P e c.loop-txn-test.true in
     let at : Q txns = subst Q e c.txn-item.is in
-    let left = txns_left txns i x h at in
+    let left = txns_left txns i x c.args.is_taken h at in
     let count = nodes_counted c.loop-txn.self c.add.new.self _ _ c.in_ok-add.ensures.taken in
     record {
       place = omega arith;
       finds = c.in_ok-add.ensures.finds;
-      taken = txns_more _ c.loop-txn.self c.add.new.self txns i x c.args.session.now.number c.loop-txn.place h at c.loop-txn.invariant.place c.loop-txn.invariant.taken c.in_ok-add.ensures.taken;
+      taken = txns_more _ c.loop-txn.self c.add.new.self txns i x c.args.is_taken c.args.session.now.number c.loop-txn.place h at c.loop-txn.invariant.place c.loop-txn.invariant.taken c.in_ok-add.ensures.taken;
       room = omega (arith, left.0, c.loop-txn.invariant.room, c.in_ok-add.ensures.taken.line);
       few = omega (arith, left.1, c.loop-txn.invariant.few, count);
     }
@@ -44,7 +45,7 @@ returns-clause-taken c =
     let e = c.deref-txn-items.ensures.value in
     let begun = record c.args.self.now { writes = c.begin_session.new.self } in
     let number = c.args.session.now.number in
-    let P : List Txn → Type 0 = λ xs. Takes begun c.loop-txn.self (flat_map txn_lines (map view_txn xs)) (placed_from number 1 (map view_txn xs)) in
+    let P : List Txn → Type 0 = λ xs. Takes begun c.loop-txn.self (flat_map txn_lines (map view_txn xs)) (placed_from number 1 (map (settle c.args.is_taken) (map view_txn xs))) in
     let Q : List Txn → Type 0 = λ xs. take c.loop-txn.txn-index xs ≡ xs in
     takes_more c.args.self.now begun c.loop-txn.self (line.Session number ∷ []) _ [] _
     (takes_header c.args.self.now begun number refl refl c.begin_session.ensures)

@@ -1,7 +1,7 @@
 use Rattle.std.proofs.Common.{◌≡◌, ◌+◌, ◌<◌, ◌≤◌, ◌^◌, map, take, drop, length, count_by}
 use Rattle.std.specs.List.{flat_map}
 use Rattle.session_log.specs.Text.{view_txn, txn_lines}
-use Rattle.log_definitions.specs.WellFormed.{is_committed}
+use Rattle.log_definitions.specs.Unknown.{is_committed, settle}
 use Rattle.session_history.specs.Numbering.{FindsEach}
 use Rattle.session_history.specs.Taken.{Takes, placed_from}
 use Rattle.session_history.proofs.nodes.Transactions.add_session.Given as goal
@@ -10,7 +10,7 @@ abbrev pub invariant-loop-txn : goal.invariant-loop-txn
 invariant-loop-txn l = record {
   place : l.place ≡ l.txn-index + 1;
   finds : FindsEach l.self.numbers;
-  taken : Takes l.initial.self l.self (flat_map txn_lines (map view_txn (take l.txn-index l.session.txns.items))) (placed_from l.session.number 1 (map view_txn (take l.txn-index l.session.txns.items)));
+  taken : Takes l.initial.self l.self (flat_map txn_lines (map view_txn (take l.txn-index l.session.txns.items))) (placed_from l.session.number 1 (map (settle l.is_taken) (map view_txn (take l.txn-index l.session.txns.items))));
   room : l.self.writes.line + length (flat_map txn_lines (map view_txn (drop l.txn-index l.session.txns.items))) < 2 ^ 64;
-  few : length l.self.nodes.items + count_by is_committed (map view_txn (drop l.txn-index l.session.txns.items)) ≤ 400;
+  few : length l.self.nodes.items + count_by is_committed (map (settle l.is_taken) (map view_txn (drop l.txn-index l.session.txns.items))) ≤ 400;
 }

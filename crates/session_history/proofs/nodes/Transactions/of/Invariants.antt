@@ -1,6 +1,8 @@
-use Rattle.std.proofs.Common.{◌+◌, ◌<◌, ◌≤◌, ◌^◌, map, take, drop, length, count_by}
+use Rattle.std.proofs.Common.{◌+◌, ◌<◌, ◌≤◌, ◌^◌, map, take, drop, length, count_by, nat_cmp}
 use Rattle.session_log.specs.Text.{view}
-use Rattle.log_definitions.specs.WellFormed.{is_committed, log_lines, txns_in}
+use Rattle.std.specs.BTreeSet.{contains}
+use Rattle.log_definitions.specs.Unknown.{is_committed, txns_in, settled}
+use Rattle.log_definitions.specs.WellFormed.{log_lines}
 use Rattle.session_history.specs.Numbering.{FindsEach}
 use Rattle.session_history.specs.Taken.{Takes, placed_in}
 use Rattle.session_history.proofs.nodes.Transactions.of.Given as goal
@@ -8,7 +10,7 @@ use Rattle.session_history.proofs.nodes.Transactions.of.Given as goal
 abbrev pub invariant-loop-session : goal.invariant-loop-session
 invariant-loop-session l = record {
   finds : FindsEach l.all.numbers;
-  taken : Takes l.initial.all l.all (log_lines (map view (take l.session-index l.sessions))) (placed_in (map view (take l.session-index l.sessions)));
+  taken : Takes l.initial.all l.all (log_lines (map view (take l.session-index l.sessions))) (placed_in (settled (contains nat_cmp l.taken) (map view (take l.session-index l.sessions))));
   room : l.all.writes.line + length (log_lines (map view (drop l.session-index l.sessions))) < 2 ^ 64;
-  few : length l.all.nodes.items + count_by is_committed (txns_in (map view (drop l.session-index l.sessions))) ≤ 400;
+  few : length l.all.nodes.items + count_by is_committed (txns_in (settled (contains nat_cmp l.taken) (map view (drop l.session-index l.sessions)))) ≤ 400;
 }

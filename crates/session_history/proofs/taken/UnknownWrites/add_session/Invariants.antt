@@ -1,0 +1,8 @@
+use Rattle.std.proofs.Common.{◌++◌, List, map, take}
+use Rattle.session_log.specs.Text.{view, view_txn}
+use Rattle.session_history.specs.Worklist.{WriteAt, unknown_writes_of}
+use Rattle.session_history.specs.Tracked.{FindsLast}
+use Rattle.session_history.proofs.taken.UnknownWrites.add_session.Given as goal
+
+abbrev pub invariant-loop-txn : goal.invariant-loop-txn
+invariant-loop-txn l = (old : List WriteAt) → FindsLast old l.initial.self → FindsLast (old ++ unknown_writes_of (view l.session) (map view_txn (take l.txn-index l.session.txns.items))) l.self
