@@ -23,8 +23,7 @@ const THREE: &str =
     "session 1\nbegin\nw x 1\ncommit\nsession 2\nbegin\nw x 2\ncommit\nsession 3\nbegin\nr x 1\ncommit\n";
 
 // A session whose client was not told how its transaction ended, and one that reads what it wrote.
-const UNKNOWN: &str =
-    "log 2\nsession 1\nbegin\nw x 1\nunknown\nsession 2\nbegin\nr x 1\ncommit\n";
+const UNKNOWN: &str = "log 2\nsession 1\nbegin\nw x 1\nunknown\nsession 2\nbegin\nr x 1\ncommit\n";
 
 #[test]
 fn each_event_has_its_reply(rt: HostRuntime) -> Result<(), Fail> {
@@ -177,7 +176,10 @@ fn logs_are_read_as_by_one_thread(rt: HostRuntime) {
             Some(LogFault::WriteZero { line: 4 }),
         ),
         (UNKNOWN, None),
-        ("log 2\nsession 1\nbegin\nw x 1\n", Some(LogFault::OpenTransaction { line: 3 })),
+        (
+            "log 2\nsession 1\nbegin\nw x 1\n",
+            Some(LogFault::OpenTransaction { line: 3 }),
+        ),
         (
             "log 2\nsession 1\nbegin\nunknown\nbegin\ncommit\n",
             Some(LogFault::UnknownNotLast { line: 5 }),

@@ -126,9 +126,14 @@ fn printed(rt: HostRuntime) -> Result<(), Fail> {
 #[test]
 #[tactic(auto, unfolding(session_log::specs::Lines::lines))]
 fn pieces(rt: HostRuntime) -> Result<(), Fail> {
-    let session = parse_lines(rt.alloc(), Version::One, b"session 7\nbegin\nw x 1\nabort\n", 9)
-        .ok()
-        .ok_or("refused")?;
+    let session = parse_lines(
+        rt.alloc(),
+        Version::One,
+        b"session 7\nbegin\nw x 1\nabort\n",
+        9,
+    )
+    .ok()
+    .ok_or("refused")?;
     assert_eq!(rt; session.number, 7);
     let fault = parse_lines(rt.alloc(), Version::One, b"session 7\nbegin\nx\n", 9).err();
     assert_eq!(rt; fault, Some(LogFault::BadLine { line: 11 }));
@@ -154,9 +159,14 @@ fn version_two(rt: HostRuntime) -> Result<(), Fail> {
     let printed = print_log(rt.alloc(), &sessions)?;
     assert_eq!(rt; printed.as_slice(), log.as_slice());
     // Where each outcome is known, the list is printed without a header.
-    let known = read(rt.alloc(), b"log 2\nsession 1\nbegin\ncommit\n").ok().ok_or("refused")?;
+    let known = read(rt.alloc(), b"log 2\nsession 1\nbegin\ncommit\n")
+        .ok()
+        .ok_or("refused")?;
     let printed = print_log(rt.alloc(), &known)?;
-    assert_eq!(rt; printed.as_slice(), b"session 1\nbegin\ncommit\n".as_slice());
+    assert_eq!(rt;
+        printed.as_slice(),
+        b"session 1\nbegin\ncommit\n".as_slice()
+    );
     Ok(())
 }
 
