@@ -9,7 +9,7 @@ import concurrent.futures, hashlib, os, re, subprocess, sys, tempfile
 
 HERE = os.path.dirname(os.path.abspath(__file__))
 sys.path.insert(0, HERE)
-import generate, reference, solvers
+import generate, solvers
 
 KEPT = os.path.join(HERE, 'version_1.txt')
 MADE, DAMAGED, GROUP = 200, 400, 50
@@ -22,7 +22,7 @@ WRITTEN = {
     'wrong key': 'S1[w x 1] S2[r y 1]',
     'aborted alone': 'session 1/begin/w x 1/abort/',
     'sessions alone': 'session 7/session 3/',
-    'greatest numbers': 'S65535[w A-Z/a.z:0_9 18446744073709551615] S1[r A-Z/a.z:0_9 18446744073709551615]'.replace('Z/a', 'Z\0a'),
+    'greatest numbers': 'S65535[w A-Z.a:0_9 18446744073709551615] S1[r A-Z.a:0_9 18446744073709551615]',
     'two keys, crossed': 'S9[r x 2/w y 1] S8[r y 1/w x 2]',
     'open': 'session 1/begin/w x 1/',
     'identity twice': 'S1[w x 1] S2[w x 1]',
@@ -54,8 +54,14 @@ CHECKS = [('--strategy', name) for name in ('first', 'most', 'least', 'forced')]
 
 def written(words):
     """The text that WRITTEN has words for."""
-    lines = re.sub(r'S(\d+)\[(.*?)\] ?', r'session \1/begin/\2/commit/', words)
-    return lines.replace('/', '\n').replace('\0', '/').encode()
+    return re.sub(r'S(\d+)\[(.*?)\] ?', r'session \1/begin/\2/commit/', words).replace('/', '\n').encode()
+
+
+def places(log):
+    """A line of an order for each transaction of a log, also of a damaged one."""
+    for session in log.split(b'session ')[1:]:
+        for place in range(1, session.count(b'begin') + 1):
+            yield b'%s %d\n' % (session.split(b'\n')[0], place)
 
 
 def groups():
@@ -105,16 +111,11 @@ class Calls:
         return said
 
     def verify(self, log):
-        """With orders that are the same for each log, with the transactions as the log has them, and backwards."""
-        places = re.findall(rb'session \d+|begin', log)
-        names, number = [], b'1'
-        for line in places:
-            if line != b'begin':
-                number, place = line.split()[1], 0
-            else:
-                place = place + 1 if names else 1
-                names.append(b'%s %d\n' % (number, place))
-        return [self.call_with(log, order, 'verify', '--order') for order in (*ORDERS, b''.join(names), b''.join(names[::-1]))]
+        """With orders that are the same for each log, with all transactions as the log has them, and with the order that `check` finds,
+        forwards and backwards."""
+        found = self.call(log, 'check', '--workers', '1')[1].splitlines(True)[1:]
+        orders = [*ORDERS, b''.join(places(log)), b''.join(found), b''.join(found[::-1])]
+        return [self.call_with(log, order, 'verify', '--order') for order in orders]
 
 
 def digest(answers):

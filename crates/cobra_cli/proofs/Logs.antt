@@ -1,6 +1,6 @@
 -- What the parts of reading say of a log.
 use Rattle.std.proofs.Common.{◌≡◌, ℕ, ◌<◌, ◌≤◌, ◌^◌, Bool, true, false, cond, List, [], ◌∷◌, ◌++◌, length, Option, Some, None, Result, Ok, Err, refl, sym, ap, ◌∙◌, subst, arith, length-append, nat_lt}
-use Rattle.std.specs.Prelude.{IfOk, IfErr}
+use Rattle.std.specs.Prelude.{IfErr}
 use Rattle.std.specs.List.{AllByRecursion}
 use Rattle.std.specs.Option.{option_or}
 use Rattle.session_log.specs.Text.{ClientSession, IsLegal, IsHeldBy, log_text}
@@ -12,8 +12,7 @@ use Rattle.session_log.specs.Faults.{IsFault}
 use Rattle.session_log.specs.declared.fault.LogFault.{LogFault}
 use Rattle.session_log.specs.declared.fault.LogFault.TheVariants as faults
 use Rattle.gather.specs.Pieces.{reading_fault}
-use Rattle.log_definitions.specs.WellFormed.{list_fault, IsWellFormed, IsLogFault, memory, size, grammar, list}
-use Rattle.session_history.specs.declared.log.History.{History}
+use Rattle.log_definitions.specs.WellFormed.{list_fault, IsLogFault, memory, size, grammar, list}
 
 -- a fault, where memory is one apart
 named : {P : LogFault → Type 0} (whole : Option LogFault) (f : LogFault) → P faults.Memory → ((g : LogFault) → whole ≡ Some g → P g) → IsFault f whole → P f
@@ -53,7 +52,3 @@ from_list text ss f r h = named {P = IsLogFault text} (list_fault (first_line (v
 pub from_build : {X : Type 0} (text : List ℕ) (ss : List ClientSession) (v : Version) (r : Result X LogFault) → IsRead text ss → v ≡ version_of text → IfErr r (λ f. IsFault f (list_fault (first_line v) ss)) → IfErr r (IsLogFault text)
 from_build text ss v (Ok x) read e h = tt
 from_build text ss v (Err f) read e h = from_list text ss f read (subst (λ w. IsFault f (list_fault (first_line w) ss)) e h)
-
-pub from_accepted : (text : List ℕ) (ss : List ClientSession) (v : Version) (r : Result History LogFault) → IsRead text ss → v ≡ version_of text → IfOk r (λ h. h ≡ ss) → IfOk r (λ _. list_fault (first_line v) ss ≡ None) → IfOk r (λ h. IsWellFormed text h)
-from_accepted text ss v (Ok h) read e same none = subst (IsWellFormed text) (sym same) (record { legal = read.legal; held = read.held; lines = read.lines; size = read.size; sessions = subst (λ w. list_fault (first_line w) ss ≡ None) e none })
-from_accepted text ss v (Err f) read e same none = tt

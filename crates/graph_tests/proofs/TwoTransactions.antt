@@ -95,7 +95,7 @@ clean log t = record {
 }
 
 is_two : IsTwo (log_of two)
-unfolding log_of committed_in node_of keys_in
+unfolding log_of committed_in node_of keys_in resolved settled taken
 is_two = record { nodes = refl; keys = refl; first = refl; second = refl; session = refl }
 
 pub two_clean : IsClean (log_of two)
@@ -129,7 +129,7 @@ unfolding is_key_byte
 x_is_key = refl
 
 pub two_legal : AllByRecursion IsLegal two
-two_legal = (record { low = omega arith; high = omega arith; txns = (((x_is_key, omega arith), tt), (((x_is_key, omega arith, omega arith), tt), tt)) }, tt)
+two_legal = (record { low = omega arith; high = omega arith; txns = (((x_is_key, omega arith), tt), (((x_is_key, omega arith, omega arith), tt), tt)); known = (refl, tt) }, tt)
 
 pub two_small : length (log_lines two) < 2 ^ 63
 two_small = omega arith
