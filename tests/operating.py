@@ -6,7 +6,7 @@ or unreadable, standard input is closed, the address space is limited from littl
 with the answer that it has with ample means or with a named refusal on standard error and its status, never by a signal, and never
 with half a text and status 0. With --plain the plain formula alone is asked for; with --all the cases of UNSETTLED run too; with
 --version-1 no log is of version 2. Last line: 'operating: N passed, M failed'."""
-import os, resource, shutil, signal, subprocess, sys, tempfile, threading, time
+import itertools, os, resource, shutil, signal, subprocess, sys, tempfile, threading, time
 
 HERE = os.path.dirname(os.path.abspath(__file__))
 sys.path.insert(0, HERE)
@@ -55,11 +55,10 @@ def many_keys(form, tails, count, outcome='commit', number=1):
     yield outcome.encode() + b'\n'
 
 
-def read_by_another(tails, count):
-    """An unknown transaction that writes each key once, and a committed one that reads them, `count` operations together."""
+def behind_header(*parts):
     yield b'log 2\n'
-    yield from many_keys('w', tails, len(tails), 'unknown')
-    yield from many_keys('r', tails, count - len(tails), number=2)
+    for pieces in parts:
+        yield from pieces
 
 
 def shapes_of_version_2():
@@ -70,11 +69,12 @@ def shapes_of_version_2():
     yield 'unknown lines', repeated(b'log 2\nsession 1\nbegin\n', b'unknown\n'), 'L3 line 5'
     yield 'unknown transactions', repeated(b'log 2\nsession 1\n', b'begin\nunknown\n'), 'L9 line 5'
     yield 'aborted transactions, version 2', repeated(b'log 2\nsession 1\n', b'begin\nabort\n'), [1, 0, (BYTES - 16) // 12, 0, 0, 0, 0]
-    yield '64 sessions of one unknown transaction', [b'log 2\n', *many_sessions(b'w x 1\n', b'unknown')], 'L7 operations'
+    yield '64 sessions of one unknown transaction', behind_header(many_sessions(b'w x 1\n', b'unknown')), 'L7 operations'
     tails = [a + b + c for a in LETTERS[:25] for b in LETTERS[:20] for c in LETTERS[:20]]
-    yield '10,000 long keys, unknown', [b'log 2\n', *many_keys('w', tails, 190600, 'unknown')], [1, 0, 0, 1, 0, 10000, 190600]
-    yield '10,000 long keys, unknown and read', read_by_another(tails, 190600), [2, 1, 0, 1, 1, 10000, 190600]
-    yield 'one byte too many, version 2', [b'log 2\n', b'a' * BYTES], 'L7 log-bytes'
+    yield '10,000 long keys, unknown', behind_header(many_keys('w', tails, 190600, 'unknown')), [1, 0, 0, 1, 0, 10000, 190600]
+    unknown, reader = many_keys('w', tails, 10000, 'unknown'), many_keys('r', tails, 180600, number=2)
+    yield '10,000 long keys, unknown and read', behind_header(unknown, reader), [2, 1, 0, 1, 1, 10000, 190600]
+    yield 'one byte too many, version 2', behind_header([b'a' * (BYTES - 5)]), 'L7 log-bytes'
 
 
 def shapes():
@@ -166,7 +166,7 @@ class Runs:
     # ---- logs of 16 MiB
 
     def large(self):
-        for name, pieces, said in [*shapes(), *(shapes_of_version_2() if 2 in self.versions else ())]:
+        for name, pieces, said in itertools.chain(shapes(), shapes_of_version_2() if 2 in self.versions else ()):
             path = self.file('shape', pieces)
             for words, _ in self.calls(path):
                 name_of = '16 MiB, %s, %s' % (name, ' '.join(words[:-1]))

@@ -16,6 +16,7 @@ use Rattle.serializability.specs.Log.{Log}
 use Rattle.serializability.specs.Reads.{later, last_write, IsFinal, ReadsAfter, IsClean}
 use Rattle.log_definitions.specs.WellFormed.{keys_in, log_lines}
 use Rattle.log_definitions.specs.Serial.{committed_in, node_of}
+use Rattle.log_definitions.specs.Unknown.{resolved, settled, taken}
 use Rattle.log_definitions.specs.Numbers.{log_of}
 
 abbrev pub two : List ClientSession
