@@ -242,7 +242,8 @@ class Runs:
         missing, unreadable = os.path.join(self.folder, 'missing'), self.file('unreadable', [LOG])
         os.chmod(unreadable, 0)
         words = [('a directory', self.folder, {}), ('a missing file', missing, {}), ('no name', '', {}),
-                 ('a file below a file', self.paths['log'] + '/log', {}), ('a name too long', 'n' * 5000, {}), ('a file that fails', '/proc/self/mem', {})]
+                 ('a file below a file', self.paths['log'] + '/log', {}), ('a name too long', 'n' * 5000, {}),
+                 ('a file that fails', '/proc/self/mem', {})]
         if os.getuid() == 0:
             words.append(('an unreadable file', unreadable, {'preexec_fn': self.nobody}))
         else:
