@@ -148,7 +148,7 @@ class Runs:
 
     def calls(self, log, text=LOG):
         """Each command on a log, or on standard input: its words, and what it says of the text."""
-        file = [log] if log else []
+        file = [] if log is None else [log]
         for plain in self.plains:
             said = ['--plain'] if plain else []
             yield ['encode', *said, *file], [answers.encode(text, plain)]
