@@ -82,6 +82,6 @@ left_after old new v fresh bits small =
     left_falls (bit_of old) (bit_of new) (λ j t. bits j ∙ or_right (eqb j v) (bit_of old j) t)
     v fresh (bits v ∙ or_left (eqb v v) (bit_of old v) (eq-eqb v v refl)) 448 small
 
-pub row_len_small : (n : ℕ) → n ≤ 400 → row_len n ≤ 7
+pub row_len_small : (n : ℕ) → n ≤ 1000 → row_len n ≤ 16
 unfolding row_len
 row_len_small n h = omega arith

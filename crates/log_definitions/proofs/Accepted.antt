@@ -106,7 +106,7 @@ with_begin v fs r =
     let txns : List Line = flat_map txn_lines r.txns in
     let sessions : List Line = flat_map session_lines r.sessions in
     record {
-      txns = record { ops = r.ops; outcome = r.outcome } ∷ r.txns;
+      txns = record { ops = r.ops; outcome = r.outcome; begun = r.begun; ended = r.ended } ∷ r.txns;
       sessions = r.sessions;
       legal_txns = (r.legal_ops, r.legal_txns);
       ended = r.ended r.ops;

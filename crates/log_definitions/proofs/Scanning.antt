@@ -177,7 +177,7 @@ rules_where_no_fault n ss e =
     let outer = neither (session_fault (session_twice n (log_lines ss))) _ e in
     let inner = neither (limit_fault ss) (write_fault (write_twice n (log_lines ss))) outer.1 in
     let one = within 200000 _ _ _ inner.0 in
-    let two = within 400 _ _ _ one.1 in
+    let two = within 1000 _ _ _ one.1 in
     let three = within 10000 _ _ _ two.1 in
     let numbered = distinct_where_unrepeated [] (sessions_from n (log_lines ss)) (no_session _ outer.0) in
     let identified = distinct_where_unrepeated [] (writes_from n (log_lines ss)) (no_write _ inner.1) in
@@ -196,7 +196,7 @@ no_fault_where_rules n ss h =
     unrepeated_where_distinct [] (sessions_from n (log_lines ss)) (none_seen _) (subst (IsDistinct nat_eq) (sym (begun_numbers n ss)) h.sessions) in
     let writes : write_twice n (log_lines ss) ≡ None =
     unrepeated_where_distinct [] (writes_from n (log_lines ss)) (none_seen _) (subst (IsDistinct nat_eq) (sym (written_numbers n ss)) h.writes) in
-    let limits : limit_fault ss ≡ None = kept 200000 _ _ _ h.operations ∙ kept 400 _ _ _ h.committed ∙ kept 10000 _ _ _ h.keys in
+    let limits : limit_fault ss ≡ None = kept 200000 _ _ _ h.operations ∙ kept 1000 _ _ _ h.committed ∙ kept 10000 _ _ _ h.keys in
     ap (λ o. option_or (session_fault o) (option_or (limit_fault ss) (write_fault (write_twice n (log_lines ss))))) sessions
     ∙ ap (λ o. option_or o (write_fault (write_twice n (log_lines ss)))) limits
     ∙ ap write_fault writes

@@ -14,7 +14,7 @@ use Rattle.serializability.specs.Plain.{plain, contradiction}
 use Rattle.serializability.specs.Anomalies.{anomaly_of}
 use Rattle.log_definitions.specs.Unknown.{is_committed, txns_in, resolved}
 use Rattle.log_definitions.specs.WellFormed.{keys_in, list_fault}
-use Rattle.log_definitions.specs.Serial.{committed_in, session_of, ops_of}
+use Rattle.log_definitions.specs.Serial.{committed_in, session_of, ops_of, begun_of, ended_of}
 
 -- the number of a key among these
 abbrev pub number_in : List (List ℕ) → List ℕ → ℕ
@@ -38,6 +38,8 @@ log_of ss = record {
   keys = length (keys_in ss);
   session = session_of ss;
   ops = λ v. events_of (keys_in ss) (ops_of ss v);
+  begun = begun_of ss;
+  ended = ended_of ss;
   aborted = map (events_of (keys_in ss)) (aborted_in ss);
 }
 

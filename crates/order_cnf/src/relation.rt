@@ -158,7 +158,7 @@ impl Relation {
     /// The number of variables.
     pub(crate) fn variables(&self) -> u32
         ensures count { result ≡ length (pairs_in self.now) }
-        ensures few { result ≤ 80200 }
+        ensures few { result ≤ 500500 }
     {
         self.variables
     }

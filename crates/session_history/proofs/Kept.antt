@@ -32,7 +32,7 @@ module _ (h : Inside) (k : IsHistory h) where
   pub nodes_kept : length h.nodes.items ≡ (log_of (sessions_of h)).nodes
   nodes_kept = sym (length-map h.nodes.items node_view) ∙ ap length k.nodes ∙ length-map (committed_in its) (numbered_node (keys_in its)) ∙ sym (log_nodes its)
 
-  pub nodes_few : (log_of (sessions_of h)).nodes ≤ 400
+  pub nodes_few : (log_of (sessions_of h)).nodes ≤ 1000
   nodes_few = few_nodes its k.sound
 
   pub keys_kept : length h.keys.keys ≡ (log_of (sessions_of h)).keys

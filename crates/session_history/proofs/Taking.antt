@@ -83,7 +83,7 @@ module _ (old new : Transactions) (t : Transaction) (is_taken : Bool) (session p
     keys = keys_one;
     nodes = λ more. ap (map node_view) pushed ∙ map-append node_view old.nodes.items (node ∷ [])
         ∙ ap (λ n. map node_view old.nodes.items ++ n ∷ []) (is_view ∙ ap (λ es. record { session = session; place = place; events = es }) (sym given_is ∙ numbered more))
-        ∙ ap (λ b. map node_view old.nodes.items ++ cond b (record { session = session; place = place; events = events_of (first_seen new.numbers.texts.items more) t.ops } ∷ []) []) (sym is);
+        ∙ ap (λ b. map node_view old.nodes.items ++ cond b (record { session = session; place = place; events = events_of (first_seen new.numbers.texts.items more) t.ops; begun = t.begun; ended = t.ended } ∷ []) []) (sym is);
     line = line_one;
     seen = seen_one;
     writes = λ before more h.
@@ -98,7 +98,7 @@ module _ (old new : Transactions) (t : Transaction) (is_taken : Bool) (session p
   takes_aborted is same writes = record {
     keys = keys_one;
     nodes = λ more. ap (map node_view) same ∙ sym (append-nil (map node_view old.nodes.items))
-        ∙ ap (λ b. map node_view old.nodes.items ++ cond b (record { session = session; place = place; events = events_of (first_seen new.numbers.texts.items more) t.ops } ∷ []) []) (sym is);
+        ∙ ap (λ b. map node_view old.nodes.items ++ cond b (record { session = session; place = place; events = events_of (first_seen new.numbers.texts.items more) t.ops; begun = t.begun; ended = t.ended } ∷ []) []) (sym is);
     line = line_one;
     seen = seen_one;
     writes = λ before more h.
@@ -114,7 +114,7 @@ nodes_among-append keys [] b = refl
 nodes_among-append keys (t ∷ a) b = go (is_committed t.2) (nodes_among-append keys a b)
   where
     node : NumberedNode
-    node = record { session = t.0; place = t.1; events = events_of keys t.2.ops }
+    node = record { session = t.0; place = t.1; events = events_of keys t.2.ops; begun = t.2.begun; ended = t.2.ended }
 
     go : (c : Bool) → nodes_among keys (a ++ b) ≡ nodes_among keys a ++ nodes_among keys b
         → cond c (node ∷ nodes_among keys (a ++ b)) (nodes_among keys (a ++ b)) ≡ cond c (node ∷ nodes_among keys a) (nodes_among keys a) ++ nodes_among keys b
@@ -126,7 +126,7 @@ numbered_from-append n m keys [] b e = ap (λ k. numbered_from k keys b) (omega 
 numbered_from-append n m keys (t ∷ a) b e = go (is_committed t.2) e (numbered_from-append (n + 1) m keys a b) (numbered_from-append n m keys a b)
   where
     node : NumberedNode
-    node = record { session = t.0; place = t.1; events = events_of keys t.2.ops }
+    node = record { session = t.0; place = t.1; events = events_of keys t.2.ops; begun = t.2.begun; ended = t.2.ended }
 
     go : (c : Bool) → m ≡ n + length (cond c (node ∷ nodes_among keys a) (nodes_among keys a))
         → (m ≡ n + 1 + length (nodes_among keys a) → numbered_from (n + 1) keys (a ++ b) ≡ numbered_from (n + 1) keys a ++ numbered_from m keys b)
@@ -217,7 +217,7 @@ count_among keys [] = refl
 count_among keys (t ∷ ts) = go (is_committed t.2) (count_among keys ts) ∙ sym (sum_by-cons (λ u. cond (is_committed u.2) 1 0) t ts)
   where
     node : NumberedNode
-    node = record { session = t.0; place = t.1; events = events_of keys t.2.ops }
+    node = record { session = t.0; place = t.1; events = events_of keys t.2.ops; begun = t.2.begun; ended = t.2.ended }
 
     go : (c : Bool) → length (nodes_among keys ts) ≡ count_by (λ t. is_committed t.2) ts → length (cond c (node ∷ nodes_among keys ts) (nodes_among keys ts)) ≡ cond c 1 0 + count_by (λ t. is_committed t.2) ts
     go true e = omega (arith, e)
