@@ -4,10 +4,10 @@ use Rattle.std.proofs.lemmas.Bool.{and_parts, and_from, not-true, not_from_false
 use Rattle.std.specs.List.{flat_map, AllByRecursion}
 use Rattle.std.specs.Str.{bytes_eq}
 use Rattle.std.proofs.lemmas.List.{map-append}
+use Rattle.session_log.specs.Moments.{is_earlier}
 use Rattle.session_log.specs.Text.{ClientSession}
 use Rattle.session_log.specs.declared.session.Op.{Op}
 use Rattle.session_log.specs.declared.session.Op.TheVariants.{Read, Write}
-use Rattle.serializability.specs.Log.{is_earlier}
 use Rattle.serializability.specs.Replay.{Store, write, empty, Meets, IsSerial}
 use Rattle.serializability.proofs.Places.{each_from_flat_map}
 use Rattle.log_definitions.specs.WellFormed.{keys_in, key_of}

@@ -4,8 +4,8 @@ use Rattle.std.specs.Prelude.{map, slice_get, option_and_then}
 use Rattle.std.specs.List.{filter, flat_map}
 use Rattle.std.specs.Option.{option_map_or}
 use Rattle.std.proofs.lemmas.Bool.{cases_Bool, cases_eq, cases_order, false≢true}
+use Rattle.session_log.specs.Moments.{is_earlier}
 use Rattle.session_log.specs.declared.session.Op.{Op}
-use Rattle.serializability.specs.Log.{is_earlier}
 use Rattle.serializability.specs.Replay.{place_of, Before, ListsOnce}
 use Rattle.serializability.proofs.Places.{Has, Apart, Has-from_Contains, Contains-from_Has, Apart-from_IsDistinct, place_of-here, place_of-further}
 use Rattle.serializability.proofs.Listed.{Has_get, IsDistinct-from_Apart}

@@ -2,6 +2,7 @@
 use Rattle.std.specs.Prelude.{◌≡◌, ℕ, not, List, length, map, Option, Some, None}
 use Rattle.std.specs.List.{filter, position_or_len, AllByRecursion}
 use Rattle.std.specs.Str.{bytes_eq}
+use Rattle.session_log.specs.Moments.{is_earlier}
 use Rattle.session_log.specs.Text.{ClientSession, IsLegal}
 use Rattle.session_log.specs.declared.session.Op.{Op}
 use Rattle.session_log.specs.declared.session.Op.TheVariants as op
@@ -38,8 +39,7 @@ log_of ss = record {
   keys = length (keys_in ss);
   session = session_of ss;
   ops = λ v. events_of (keys_in ss) (ops_of ss v);
-  begun = begun_of ss;
-  ended = ended_of ss;
+  earlier = λ u v. is_earlier (ended_of ss u) (begun_of ss v);
   aborted = map (events_of (keys_in ss)) (aborted_in ss);
 }
 

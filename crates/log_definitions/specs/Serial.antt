@@ -4,10 +4,10 @@ use Rattle.std.specs.List.{flat_map, filter, enumerate_from}
 use Rattle.std.specs.Option.{option_map_or}
 use Rattle.std.specs.Prelude.{map}
 use Rattle.std.specs.Str.{bytes_eq}
+use Rattle.session_log.specs.Moments.{is_earlier}
 use Rattle.session_log.specs.Text.{ClientSession}
 use Rattle.session_log.specs.declared.session.Op.{Op}
 use Rattle.session_log.specs.declared.session.Op.TheVariants.{Read, Write}
-use Rattle.serializability.specs.Log.{is_earlier}
 use Rattle.serializability.specs.Replay.{Before, ListsOnce}
 use Rattle.log_definitions.specs.Unknown.{is_committed, resolved, settled}
 

@@ -4,7 +4,7 @@ use Rattle.std.specs.Prelude.{is_some, map}
 use Rattle.std.specs.List.{filter, flat_map, AllByRecursion}
 use Rattle.std.proofs.lemmas.Bool.{cases_eq, cases_lt, false≢true, or_cases, and_parts, and_from, or_right, or_left, not-true, not_from_false, eqb-false}
 use Rattle.serializability.specs.declared.event.Event.{Event}
-use Rattle.serializability.specs.Log.{Log, is_earlier, precedes}
+use Rattle.serializability.specs.Log.{Log, precedes}
 use Rattle.serializability.specs.Replay.{place_of, Before, ListsOnce, IsSerial, after, empty, Meets}
 use Rattle.serializability.specs.Reads.{later, last_write, IsFinal, ReadsAfter, IsClean}
 use Rattle.serializability.specs.Polygraph.{Edge, Choice, KeepsOne, Fits, bipath_polygraph, rival_choice, arcs, is_arc, bipaths, bipaths_at, is_rival, all_nodes, all_keys, committed, source, reads_from}
@@ -409,7 +409,7 @@ source_within log clean r x w lo hi e = elim (source_is log clean r x w lo hi e)
 ]
 
 precedes_apart : (log : Log) (u v : ℕ) → precedes log u v ≡ true → u ≢ v
-precedes_apart log u v t = eqb-false u v (not-true (eqb u v) (and_parts (not (eqb u v)) (is_earlier (log.ended u) (log.begun v)) t).0)
+precedes_apart log u v t = eqb-false u v (not-true (eqb u v) (and_parts (not (eqb u v)) (log.earlier u v) t).0)
 
 pub arc_apart : (log : Log) → IsClean log → (u v : ℕ) → v ≤ log.nodes → is_arc log (u, v) ≡ true → u ≢ v
 arc_apart log clean u v hv t same =
