@@ -76,13 +76,13 @@ module _ (old new : Transactions) (t : Transaction) (is_taken : Bool) (session p
       subst P (ap (writes_at (old.writes.line + 1)) (numbered []) ∙ sym (writes_in_txn (first_seen new.numbers.texts.items []) (old.writes.line + 1) t.ops t.outcome)) (seen_given before h)
 
   pub takes_committed : (node : Node) (v : ℕ) → is_committed (settle is_taken t) ≡ true → v ≡ length old.nodes.items + 1
-      → new.nodes.items ≡ old.nodes.items ++ node ∷ [] → node_view node ≡ record { session = session; place = place; events = events }
+      → new.nodes.items ≡ old.nodes.items ++ node ∷ [] → node_view node ≡ record { session = session; place = place; events = events; begun = t.begun; ended = t.ended }
       → ((txns : List (ℕ × List Event)) → HasWrites txns old.writes → HasWrites (txns ++ (v, given) ∷ []) new.writes)
       → Takes old new (txn_lines t) ((session, place, settle is_taken t) ∷ [])
   takes_committed node v is number pushed is_view writes = record {
     keys = keys_one;
     nodes = λ more. ap (map node_view) pushed ∙ map-append node_view old.nodes.items (node ∷ [])
-        ∙ ap (λ n. map node_view old.nodes.items ++ n ∷ []) (is_view ∙ ap (λ es. record { session = session; place = place; events = es }) (sym given_is ∙ numbered more))
+        ∙ ap (λ n. map node_view old.nodes.items ++ n ∷ []) (is_view ∙ ap (λ es. record { session = session; place = place; events = es; begun = t.begun; ended = t.ended }) (sym given_is ∙ numbered more))
         ∙ ap (λ b. map node_view old.nodes.items ++ cond b (record { session = session; place = place; events = events_of (first_seen new.numbers.texts.items more) t.ops; begun = t.begun; ended = t.ended } ∷ []) []) (sym is);
     line = line_one;
     seen = seen_one;
