@@ -36,6 +36,13 @@ fn replay_refusal(history: &History, order: &Order, fault: ReplayFault) -> Fault
                 place: name.place,
             }
         }
+        ReplayFault::MomentOrder { node } => {
+            let name = history.name_of(node);
+            Fault::MomentOrder {
+                session: name.session,
+                place: name.place,
+            }
+        }
         ReplayFault::ReadMismatch { node, op } => {
             let name = history.name_of(node);
             Fault::ReadMismatch {
