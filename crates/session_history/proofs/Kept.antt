@@ -10,7 +10,7 @@ use Rattle.serializability.specs.Log.{Log}
 use Rattle.serializability.specs.Reads.{external_read}
 use Rattle.serializability.specs.Polygraph.{all_keys, source, writer_of}
 use Rattle.log_definitions.specs.WellFormed.{keys_in}
-use Rattle.log_definitions.specs.Serial.{Committed, committed_in, node_in, node_of}
+use Rattle.log_definitions.specs.Serial.{Committed, committed_in, node_in, node_of, begun_of, ended_of}
 use Rattle.log_definitions.specs.Numbers.{events_of, log_of}
 use Rattle.session_history.specs.Tables.{sources_of, name_in}
 use Rattle.session_history.specs.Taken.{NumberedNode, node_view}
@@ -70,6 +70,20 @@ kept_session ss v (Some c) e = log_session ss v ∙ ap (λ o. option_map_or (λ 
 pub session_kept : (ss : List ClientSession) (v : ℕ) → (log_of ss).session v ≡ option_map_or (λ node. node.session) (node_kept ss v) 0
 unfolding node_of
 session_kept ss v = kept_session ss v (node_in (committed_in ss) v) refl
+
+kept_begun : (keys : List (List ℕ)) (o : Option Committed) → option_and_then o (λ c. c.begun) ≡ option_and_then (option_map (numbered_node keys) o) (λ node. node.begun)
+kept_begun keys None = refl
+kept_begun keys (Some c) = refl
+
+pub begun_kept : (ss : List ClientSession) (v : ℕ) → begun_of ss v ≡ option_and_then (node_kept ss v) (λ node. node.begun)
+begun_kept ss v = kept_begun (keys_in ss) (node_of ss v)
+
+kept_ended : (keys : List (List ℕ)) (o : Option Committed) → option_and_then o (λ c. c.ended) ≡ option_and_then (option_map (numbered_node keys) o) (λ node. node.ended)
+kept_ended keys None = refl
+kept_ended keys (Some c) = refl
+
+pub ended_kept : (ss : List ClientSession) (v : ℕ) → ended_of ss v ≡ option_and_then (node_kept ss v) (λ node. node.ended)
+ended_kept ss v = kept_ended (keys_in ss) (node_of ss v)
 
 committed_name : Committed → ℕ × ℕ
 committed_name c = (c.session, c.place)

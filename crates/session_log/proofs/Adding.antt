@@ -101,11 +101,11 @@ all_ended v Commit ended ts t e h k = all_more IsKnown ts t h (rw e refl)
 all_ended v Abort ended ts t e h k = all_more IsKnown ts t h (rw e refl)
 all_ended v Unknown ended ts t e h k = (known_last ts t h, k)
 
-moment_of : (v : Version) (moment : Option ℕ) → IsLegalMoment v moment → IsMoment moment
+pub moment_of : (v : Version) (moment : Option ℕ) → IsLegalMoment v moment → IsMoment moment
 moment_of v None h = tt
 moment_of v (Some m) h = h.0
 
-none_stated : (v : Version) (moment : Option ℕ) → IsLegalMoment v moment → has_moments v ≡ false → moment ≡ None
+pub none_stated : (v : Version) (moment : Option ℕ) → IsLegalMoment v moment → has_moments v ≡ false → moment ≡ None
 none_stated v None h no = refl
 none_stated v (Some m) h no = absurd (false≢true (sym no ∙ h.1))
 
