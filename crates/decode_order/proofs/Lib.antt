@@ -5,4 +5,5 @@ pub mod Mismatch
 pub mod Whole
 pub mod Marks
 pub mod Turns
+pub mod Moments
 pub mod Keys

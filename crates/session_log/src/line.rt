@@ -1,10 +1,11 @@
 //! One line of a log.
 
-ghost use Rattle.std.specs.Prelude.{◌≡◌, ◌^◌, ◌==◌, true, nat_lt, position, Some, None, IfOk, if◌then◌else◌};
+ghost use Rattle.std.specs.Prelude.{◌≡◌, ◌^◌, ◌==◌, true, nat_lt, position, Some, None, IfOk, if◌then◌else◌, option_and_then};
+ghost use Rattle.session_log.specs.declared.line.Line.TheVariants as line;
 ghost use Rattle.std.specs.List.{list_all};
 ghost use Rattle.std.specs.Char.{is_ascii_digit};
 ghost use Rattle.std.specs.Str.Parse.{digits_value};
-ghost use Rattle.session_log.specs.Lines.{◌>>=◌, is_numeral, number_of, session_of, keyed_of, form_of};
+ghost use Rattle.session_log.specs.Lines.{is_numeral, number_of, session_of, keyed_of, form_of};
 
 use crate::key::Key;
 use crate::version::Version;
@@ -43,7 +44,7 @@ fn session_of(word: &[u8]) -> Option<Line>
 
 // The line of a `begin` with the moment that a word writes.
 fn begin_of(word: &[u8]) -> Option<Line>
-    ensures { result ≡ (number_of word.now >>= (λ m. Some (Line.Begin (Some m)))) }
+    ensures { result ≡ (option_and_then (number_of word.now) (λ m. Some (line.Begin (Some m)))) }
 {
     let moment = number_of(word)?;
     Some(Line::Begin(Some(moment)))
@@ -51,7 +52,7 @@ fn begin_of(word: &[u8]) -> Option<Line>
 
 // The same of a `commit`.
 fn commit_of(word: &[u8]) -> Option<Line>
-    ensures { result ≡ (number_of word.now >>= (λ m. Some (Line.Commit (Some m)))) }
+    ensures { result ≡ (option_and_then (number_of word.now) (λ m. Some (line.Commit (Some m)))) }
 {
     let moment = number_of(word)?;
     Some(Line::Commit(Some(moment)))
