@@ -20,10 +20,10 @@ abbrev pub ops_at : List Committed → ℕ → List Op
 ops_at nodes v = option_map_or (λ node. node.ops) (node_in nodes v) []
 
 abbrev pub begun_at : List Committed → ℕ → Option ℕ
-begun_at nodes v = option_and_then (node_in nodes v) (λ node. node.begun)
+begun_at nodes v = option_and_then (λ node. node.begun) (node_in nodes v)
 
 abbrev pub ended_at : List Committed → ℕ → Option ℕ
-ended_at nodes v = option_and_then (node_in nodes v) (λ node. node.ended)
+ended_at nodes v = option_and_then (λ node. node.ended) (node_in nodes v)
 
 pub record Orders (nodes : List Committed) (order : List ℕ) : Type 0 where
   pub once : ListsOnce (length nodes) order
@@ -271,6 +271,6 @@ orders_kept ms order h reads = record {
         let q = place ms j (omega arith) in
         let apart : suc p.place ≢ suc q.place = λ same. ne (ap suc (sym p.ranked) ∙ ap (number ms) same ∙ ap suc q.ranked) in
         let same : is_earlier (ended_at (kept_nodes ms) (suc i)) (begun_at (kept_nodes ms) (suc j)) ≡ is_earlier (ended_at (all_nodes ms) (suc p.place)) (begun_at (all_nodes ms) (suc q.place)) =
-        ap (λ o. is_earlier (option_and_then o (λ (node : Committed). node.ended)) (begun_at (kept_nodes ms) (suc j))) (node_kept i p)
-        ∙ ap (λ o. is_earlier (ended_at (all_nodes ms) (suc p.place)) (option_and_then o (λ (node : Committed). node.begun))) (node_kept j q) in
+        ap (λ o. is_earlier (option_and_then (λ (node : Committed). node.ended) o) (begun_at (kept_nodes ms) (suc j))) (node_kept i p)
+        ∙ ap (λ o. is_earlier (ended_at (all_nodes ms) (suc p.place)) (option_and_then (λ (node : Committed). node.begun) o)) (node_kept j q) in
         before_kept i j p q (h.moments (suc p.place) (suc q.place) (omega arith) (omega (arith, p.within)) (omega arith) (omega (arith, q.within)) apart (sym same ∙ e))

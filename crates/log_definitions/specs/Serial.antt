@@ -46,10 +46,10 @@ abbrev pub ops_of : List ClientSession → ℕ → List Op
 ops_of ss v = option_map_or (λ node. node.ops) (node_of ss v) []
 
 abbrev pub begun_of : List ClientSession → ℕ → Option ℕ
-begun_of ss v = option_and_then (node_of ss v) (λ node. node.begun)
+begun_of ss v = option_and_then (λ node. node.begun) (node_of ss v)
 
 abbrev pub ended_of : List ClientSession → ℕ → Option ℕ
-ended_of ss v = option_and_then (node_of ss v) (λ node. node.ended)
+ended_of ss v = option_and_then (λ node. node.ended) (node_of ss v)
 
 -- ---- replay
 

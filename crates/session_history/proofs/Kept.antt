@@ -72,18 +72,18 @@ pub session_kept : (ss : List ClientSession) (v : ℕ) → (log_of ss).session v
 unfolding node_of
 session_kept ss v = kept_session ss v (node_in (committed_in ss) v) refl
 
-kept_begun : (keys : List (List ℕ)) (o : Option Committed) → option_and_then o (λ c. c.begun) ≡ option_and_then (option_map (numbered_node keys) o) (λ node. node.begun)
+kept_begun : (keys : List (List ℕ)) (o : Option Committed) → option_and_then (λ (c : Committed). c.begun) o ≡ option_and_then (λ (node : NumberedNode). node.begun) (option_map (numbered_node keys) o)
 kept_begun keys None = refl
 kept_begun keys (Some c) = refl
 
-pub begun_kept : (ss : List ClientSession) (v : ℕ) → begun_of ss v ≡ option_and_then (node_kept ss v) (λ node. node.begun)
+pub begun_kept : (ss : List ClientSession) (v : ℕ) → begun_of ss v ≡ option_and_then (λ (node : NumberedNode). node.begun) (node_kept ss v)
 begun_kept ss v = kept_begun (keys_in ss) (node_of ss v)
 
-kept_ended : (keys : List (List ℕ)) (o : Option Committed) → option_and_then o (λ c. c.ended) ≡ option_and_then (option_map (numbered_node keys) o) (λ node. node.ended)
+kept_ended : (keys : List (List ℕ)) (o : Option Committed) → option_and_then (λ (c : Committed). c.ended) o ≡ option_and_then (λ (node : NumberedNode). node.ended) (option_map (numbered_node keys) o)
 kept_ended keys None = refl
 kept_ended keys (Some c) = refl
 
-pub ended_kept : (ss : List ClientSession) (v : ℕ) → ended_of ss v ≡ option_and_then (node_kept ss v) (λ node. node.ended)
+pub ended_kept : (ss : List ClientSession) (v : ℕ) → ended_of ss v ≡ option_and_then (λ (node : NumberedNode). node.ended) (node_kept ss v)
 ended_kept ss v = kept_ended (keys_in ss) (node_of ss v)
 
 committed_name : Committed → ℕ × ℕ
