@@ -1,0 +1,73 @@
+#!/usr/bin/env python3
+"""collecting.py PROGRAM: logs that examples/collect_sqlite.py collects from real SQLite databases, as docs/COLLECTING.md says.
+
+Logs of the sound store must be serializable where `check` can tell, also where the outcome of each session's last committed transaction is said to be unknown,
+and `verify` must accept the order; of the logs of the store that is broken on purpose one at least must be refused. Where this Python has
+no sqlite3 nothing is run, and a line says so. Last line: 'collecting: N passed, M failed'."""
+import os, subprocess, sys, tempfile
+
+TOP = os.path.dirname(os.path.dirname(os.path.abspath(__file__)))
+COLLECTOR, RUNS = os.path.join(TOP, 'examples', 'collect_sqlite.py'), 3
+
+
+def unlearnt(log):
+    """The same log, where no client learnt how the last of its transactions that were committed ended, and went on."""
+    sessions = log.split(b'session ')[1:]
+    cut = [text[:text.rfind(b'commit\n')] + b'unknown\n' if b'commit\n' in text else text for text in sessions]
+    return b'log 2\n' + b''.join(b'session ' + text for text in cut)
+
+
+class Checks:
+    def __init__(self, program, folder):
+        self.program, self.order = program, os.path.join(folder, 'order')
+        self.passed, self.failed = 0, 0
+
+    def call(self, log, *words):
+        ran = subprocess.run([self.program, *words], input=log, stdout=subprocess.PIPE, stderr=subprocess.PIPE, timeout=600)
+        return ran.returncode, ran.stdout
+
+    def expect(self, holds, name):
+        self.passed, self.failed = self.passed + bool(holds), self.failed + (not holds)
+        if not holds:
+            print('FAILED', name)
+
+    def sound(self, name, log):
+        status, said = self.call(log, 'check', '--strategy', 'forced')
+        if status == 3:
+            return  # the budget is spent: nothing is said of the log
+        self.expect(status == 0 and said.startswith(b'serializable\n'), '%s: %d %r' % (name, status, said[:80]))
+        with open(self.order, 'wb') as out:
+            out.write(said.partition(b'\n')[2])
+        self.expect(self.call(log, 'verify', '--order', self.order) == (0, b'accepted\n'), '%s: its order' % name)
+
+
+def main():
+    try:
+        import sqlite3
+    except ImportError:
+        print('collecting: skipped, this Python has no sqlite3')
+        return 0
+    with tempfile.TemporaryDirectory() as folder:
+        checks, path, refused = Checks(os.path.abspath(sys.argv[1]), folder), os.path.join(folder, 'log'), 0
+        for run in range(RUNS):
+            for weak in ([], ['--weak']):
+                subprocess.run([sys.executable, COLLECTOR, *weak, path], check=True, timeout=600)
+                with open(path, 'rb') as file:
+                    log = file.read()
+                if weak:
+                    refused += is_refusal(checks.call(log, 'check'))
+                else:
+                    checks.sound('log %d' % run, log)
+                    checks.sound('log %d with unknown outcomes' % run, unlearnt(log))
+        checks.expect(refused > 0, 'no log of the weak store was refused')
+        print('collecting: SQLite %s, %d of %d logs of the weak store were refused' % (sqlite3.sqlite_version, refused, RUNS))
+    print('collecting: %d passed, %d failed' % (checks.passed, checks.failed))
+    return 1 if checks.failed else 0
+
+
+def is_refusal(answer):
+    return answer[0] == 1 and answer[1].startswith(b'not serializable')
+
+
+if __name__ == '__main__':
+    sys.exit(main())
