@@ -44,7 +44,7 @@ begun n old form new moment ops p f t q e =
             txns = rw t h.txns;
             current = rw (q, e) (tt, rw f at k);
             ended = rw (q, t) (rw p at h.ended);
-            moments = λ no. rw t (h.moments no);
+            moments = λ without. rw t (h.moments without);
           };
     }
 
@@ -58,10 +58,10 @@ with_op n old form new t ops o p f a lg same q e =
       legal = λ v h k.
           record {
             txns = rw same h.txns;
-            current = let open : IsLegalOpen v (progress.Inside t) = rw p at h.current in
-                rw (q, e) (all_more IsLegalOp t.ops.items o open.0 (lg v (rw f at k)), open.1);
+            current = let current : IsLegalOpen v (progress.Inside t) = rw p at h.current in
+                rw (q, e) (all_more IsLegalOp t.ops.items o current.0 (lg v (rw f at k)), current.1);
             ended = rw (q, same) (rw p at h.ended);
-            moments = λ no. rw same (h.moments no);
+            moments = λ without. rw same (h.moments without);
           };
     }
 
@@ -106,8 +106,8 @@ moment_of v None h = tt
 moment_of v (Some m) h = h.0
 
 pub none_stated : (v : Version) (moment : Option ℕ) → IsLegalMoment v moment → has_moments v ≡ false → moment ≡ None
-none_stated v None h no = refl
-none_stated v (Some m) h no = absurd (false≢true (sym no ∙ h.1))
+none_stated v None h without = refl
+none_stated v (Some m) h without = absurd (false≢true (sym without ∙ h.1))
 
 end_moment : (v : Version) (o : Outcome) (ended : Option ℕ) → IsTold o ended → IsLegalLine v (end_line o ended) → IsLegalMoment v ended
 end_moment v Commit ended told h = h
@@ -124,14 +124,14 @@ ended n old form new t o end told ordered p f q e =
       place = rw (p, f, q) (progress_after n t.line t.begun end o ordered);
       lines = rw (p, f, q, lines_all, none_open o) (append-nil (done ++ txn_lines last) ∙ sym (append_assoc done (line.Begin t.begun ∷ map op_line t.ops.items) (end_line o end ∷ [])));
       legal = λ v h k.
-          let open : IsLegalOpen v (progress.Inside t) = rw p at h.current in
+          let current : IsLegalOpen v (progress.Inside t) = rw p at h.current in
           let stated : IsLegalMoment v end = end_moment v o end told (rw f at k) in
           record {
             txns = rw all (all_more IsLegalTxn (map view_txn old.txns.items) last h.txns
-            (record { ops = open.0; begun = moment_of v t.begun open.1; ended = moment_of v end stated; told = told; ordered = ordered }));
+            (record { ops = current.0; begun = moment_of v t.begun current.1; ended = moment_of v end stated; told = told; ordered = ordered }));
             current = rw q (closed v o);
             ended = rw (q, all) (all_ended v o end (map view_txn old.txns.items) last refl (rw p at h.ended) (rw f at k));
-            moments = λ no. rw all (all_more HasNoMoments (map view_txn old.txns.items) last (h.moments no)
-            (none_stated v t.begun open.1 no, none_stated v end stated no));
+            moments = λ without. rw all (all_more HasNoMoments (map view_txn old.txns.items) last (h.moments without)
+            (none_stated v t.begun current.1 without, none_stated v end stated without));
           };
     }

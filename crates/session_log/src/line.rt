@@ -44,7 +44,7 @@ fn session_of(word: &[u8]) -> Option<Line>
 
 // The line of a `begin` with the moment that a word writes.
 fn begin_of(word: &[u8]) -> Option<Line>
-    ensures { result ≡ (option_and_then (number_of word.now) (λ m. Some (line.Begin (Some m)))) }
+    ensures { result ≡ option_and_then (λ m. Some (line.Begin (Some m))) (number_of word.now) }
 {
     let moment = number_of(word)?;
     Some(Line::Begin(Some(moment)))
@@ -52,7 +52,7 @@ fn begin_of(word: &[u8]) -> Option<Line>
 
 // The same of a `commit`.
 fn commit_of(word: &[u8]) -> Option<Line>
-    ensures { result ≡ (option_and_then (number_of word.now) (λ m. Some (line.Commit (Some m)))) }
+    ensures { result ≡ option_and_then (λ m. Some (line.Commit (Some m))) (number_of word.now) }
 {
     let moment = number_of(word)?;
     Some(Line::Commit(Some(moment)))
