@@ -46,7 +46,7 @@ abbrev AreLegalMoments : Version → Transaction → Type 0
 AreLegalMoments v t = IsLegalMoment v t.begun × IsLegalMoment v t.ended
 
 none_of : (v : Version) (t : Transaction) → has_moments v ≡ false → AreLegalMoments v t → HasNoMoments t
-none_of v t no h = (none_stated v t.begun h.0 no, none_stated v t.ended h.1 no)
+none_of v t without h = (none_stated v t.begun h.0 without, none_stated v t.ended h.1 without)
 
 held_known : (v : Version) (number : ℕ) (t : Transaction) (ts : List Transaction) → IsKnown t → AreLegalMoments v t → IsHeldBy v (record { number = number; txns = ts }) → IsHeldBy v (record { number = number; txns = t ∷ ts })
 held_known One number t ts k m h = ((k, h.0), (none_of One t refl m, h.1))
