@@ -1,14 +1,13 @@
--- The nodes of which it is stated when they began.
-use Rattle.std.specs.Prelude.{◌≡◌, ℕ, ◌<◌, ◌≤◌, List, map, Some}
-use Rattle.std.specs.List.{All, Contains, Sorted}
-use Rattle.std.specs.Ordering.{nat_cmp}
+-- The nodes of which it is stated when they ended.
+use Rattle.std.specs.Prelude.{◌≡◌, ◌↔◌, ℕ, ◌<◌, ◌≤◌, List, Some}
+use Rattle.std.specs.List.{Contains}
+use Rattle.std.specs.List.Sorted.{IsNonDecreasingBy}
 use Rattle.session_log.specs.Text.{ClientSession}
-use Rattle.log_definitions.specs.Serial.{begun_of}
+use Rattle.log_definitions.specs.Serial.{ended_of}
 use Rattle.log_definitions.specs.Numbers.{log_of}
-use Rattle.known_graph.specs.declared.moments.Begun.{Begun}
+use Rattle.known_graph.specs.declared.moments.Ended.{Ended}
 
 -- each of them with its moment, in the order of these
-pub record AreBegun (ss : List ClientSession) (begun : List Begun) : Type 0 where
-  pub only : All (λ b. (0 < b.node) × (b.node ≤ (log_of ss).nodes) × (begun_of ss b.node ≡ Some b.moment)) begun
-  pub each : (v moment : ℕ) → 0 < v → v ≤ (log_of ss).nodes → begun_of ss v ≡ Some moment → Contains (map (λ b. b.node) begun) v
-  pub sorted : Sorted nat_cmp (map (λ b. b.moment) begun)
+pub record AreEnded (ss : List ClientSession) (ended : List Ended) : Type 0 where
+  pub each : (e : Ended) → (Contains ended e ↔ ((0 < e.node) × (e.node ≤ (log_of ss).nodes) × (ended_of ss e.node ≡ Some e.moment)))
+  pub sorted : IsNonDecreasingBy (λ e. e.moment) ended
