@@ -9,7 +9,7 @@ use Rattle.decode_order.specs.declared.fault.ReplayFault.TheVariants.{NotAPermut
 use Rattle.decode_order.specs.Replaying.{lists_once, first_early, first_before_ended, first_mismatch, in_replay, session_fault, moment_fault, read_fault, replay_fault}
 use Rattle.decode_order.proofs.Counted.{lists_once_is, lists_once_from}
 use Rattle.decode_order.proofs.Early.{in_turn, none_early, sessions_kept, turn_from_sessions}
-use Rattle.decode_order.proofs.Moments.{in_time, none_before, moments_kept, time_from_moments}
+use Rattle.decode_order.proofs.Timed.{in_time, none_before, moments_kept, time_from_moments}
 use Rattle.decode_order.proofs.Mismatch.{meets_all, no_mismatch, ops-in_replay}
 
 -- ---- one after the other

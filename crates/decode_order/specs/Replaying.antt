@@ -73,12 +73,13 @@ abbrev pub read_fault : Option (ℕ × ℕ) → Option ReplayFault
 read_fault found = option_map (λ p. ReadMismatch p.0 p.1) found
 
 -- What is wrong: that the nodes are not listed once each, else the first one that stands before an earlier one of its session,
--- else the first one that stands before one that ended before it began, else the first read in replay that does not name what the map holds.
+-- else the first one that stands before one that ended before it began, else the first read in replay that does not name what the
+-- map holds.
 unfoldable pub replay_fault : Log → List ℕ → Option ReplayFault
 replay_fault log order =
     if lists_once log.nodes order
     then option_or (session_fault (first_early log.session order))
-      (option_or (moment_fault (first_before_ended log.earlier order)) (read_fault (first_mismatch empty (in_replay log.ops order))))
+    (option_or (moment_fault (first_before_ended log.earlier order)) (read_fault (first_mismatch empty (in_replay log.ops order))))
     else Some NotAPermutation
 
 -- memory may come in place of any answer

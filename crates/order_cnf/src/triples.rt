@@ -103,7 +103,7 @@ impl Cursor {
         requires cursor { IsCursor (relation.now.nodes + 1) self.now }
         requires found { self.now.third < relation.now.nodes + 1 }
         ensures value { result ≡ length (of_one relation.now self.now.first self.now.second (up_to self.now.third (relation.now.nodes + 1))) }
-        ensures few { result ≤ 802 }
+        ensures few { result ≤ 2002 }
     {
         let end = relation.nodes() + 1;
         let mut count = 0;

@@ -1,6 +1,6 @@
 //! The edges that a ledger keeps.
 
-ghost use Rattle.std.specs.Prelude.{◌≡◌, ◌++◌, ◌*◌, ◌/◌, ◌<◌, ◌≤◌, [], List};
+ghost use Rattle.std.specs.Prelude.{◌≡◌, ◌++◌, ◌+◌, ◌*◌, ◌/◌, ◌<◌, ◌≤◌, [], List};
 ghost use Rattle.serializability.specs.Polygraph.{Edge};
 ghost use Rattle.known_graph.specs.Tests.{has_edge};
 ghost use Rattle.known_graph.specs.declared.bits.TheConstants.{NODE_WORDS};
