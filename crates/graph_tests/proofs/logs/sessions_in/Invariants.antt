@@ -2,7 +2,7 @@ use Rattle.std.proofs.Common.{◌≡◌, map, take}
 use Rattle.std.specs.List.{AllByRecursion}
 use Rattle.session_log.specs.Text.{view, session_text, IsLegal}
 use Rattle.session_log.specs.Blocks.{block_text}
-use Rattle.graph_tests.proofs.coalesce_tests.sessions_in.Given as goal
+use Rattle.graph_tests.proofs.logs.sessions_in.Given as goal
 
 abbrev pub invariant-loop-block : goal.invariant-loop-block
 invariant-loop-block l = record {

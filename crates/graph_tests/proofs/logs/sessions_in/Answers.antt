@@ -4,7 +4,7 @@ use Rattle.std.proofs.lemmas.List.{take_all}
 use Rattle.session_log.specs.Text.{view, session_text, IsLegal}
 use Rattle.session_log.specs.Blocks.{block_text}
 use Rattle.session_log.proofs.Together.{joined}
-use Rattle.graph_tests.proofs.coalesce_tests.sessions_in.Goals as goal
+use Rattle.graph_tests.proofs.logs.sessions_in.Goals as goal
 
 pub loop-block-init : goal.loop-block-init
 loop-block-init c = record {

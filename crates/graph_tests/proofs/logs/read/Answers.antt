@@ -2,7 +2,7 @@ use Rattle.std.proofs.Common.{map}
 use Rattle.session_log.specs.Text.{view}
 use Rattle.session_log.specs.Version.{version_of}
 use Rattle.log_definitions.proofs.Room.{room}
-use Rattle.graph_tests.proofs.coalesce_tests.read.Goals as goal
+use Rattle.graph_tests.proofs.logs.read.Goals as goal
 
 pub build-requires : goal.build-requires
 build-requires c = record {
