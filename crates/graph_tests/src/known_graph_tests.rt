@@ -87,8 +87,8 @@ fn longer(rt: &impl Abort, line: &Vec<NodeIx>, next: NodeIx) -> Vec<NodeIx> {
     whole
 }
 
-// The walk that the rule names: with the fewest edges, the lexicographically least, found by trying all
-// lists of nodes 0 to 3; nothing where there is none.
+// The walk that the rule names: with the fewest edges, the lexicographically least, found among all walks through
+// nodes 0 to 3; nothing where there is none.
 fn least_walk(rt: &impl Abort, alloc: Global, known: &Known, u: NodeIx, v: NodeIx) -> Vec<NodeIx> {
     let first = vec![in alloc; u].expect(rt, "memory");
     let mut lines = vec![in alloc; first].expect(rt, "memory");
@@ -100,8 +100,10 @@ fn least_walk(rt: &impl Abort, alloc: Global, known: &Known, u: NodeIx, v: NodeI
                 return whole;
             }
             for next in 0..4 {
-                more.push(longer(rt, line, node(rt, next)))
-                    .expect(rt, "memory");
+                let extended = longer(rt, line, node(rt, next));
+                if known.check_walk(&extended) {
+                    more.push(extended).expect(rt, "memory");
+                }
             }
         }
         lines = more;
