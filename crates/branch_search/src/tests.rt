@@ -258,16 +258,20 @@ impl Holding {
     }
 }
 
+fn gate_holding(held: u8) -> Holding {
+    Holding {
+        held,
+        came: AtomicBool::new(false),
+        missed: AtomicBool::new(false),
+        turns: AtomicU64::new(0),
+    }
+}
+
 #[test]
 fn each_of_two_workers_takes_turns(rt: HostRuntime) -> Result<(), Fail> {
     let alloc = rt.alloc();
     for held in [1, 2] {
-        let gate = Holding {
-            held,
-            came: AtomicBool::new(false),
-            missed: AtomicBool::new(false),
-            turns: AtomicU64::new(0),
-        };
+        let gate = gate_holding(held);
         tree_of_eight(&rt, alloc, &FirstOpen, 2, &gate)?;
         assert!(rt; !gate.missed.load(Ordering::SeqCst));
         assert!(rt; gate.turns.load(Ordering::SeqCst) >= 7);
@@ -335,38 +339,10 @@ fn two_workers_pick_at_once(rt: HostRuntime) -> Result<(), Fail> {
     Ok(())
 }
 
-// Holds seat 2 at its turn 0 until seat 1 has a cube.
-#[derive(Drop)]
-struct Leaving {
-    taken: AtomicBool,
-    missed: AtomicBool,
-}
-
-impl Gate for Leaving {
-    fn pass<R: Wait + Clock>(&self, rt: &R, _seat: SeatNo, turn: u64) {
-        if turn == 0 {
-            self.wait(rt);
-        }
-    }
-}
-
-impl Leaving {
-    // Looks at most 10,000 times, a millisecond apart.
-    fn wait<R: Clock>(&self, rt: &R) {
-        for _ in 0..10_000 {
-            if self.taken.load(Ordering::SeqCst) {
-                return;
-            }
-            thread::sleep(rt, Duration::from_millis(1));
-        }
-        self.missed.store(true, Ordering::SeqCst);
-    }
-}
-
-// Seat 1 takes a cube, and leaves a little later with it in hand. Seat 2 works, and has to wait at first.
+// Seat 1 takes a cube, and leaves a little later with it in hand. Seat 2 works once seat 1 has the cube, and has to wait at first.
 fn leave_or_work<'b, 'a, J: Naming, R: Wait + Clock>(
     rt: &R,
-    job: Job<'b, 'a, FirstOpen, J, Leaving>,
+    job: Job<'b, 'a, FirstOpen, J, Holding>,
 ) -> Left<CubeMachine<'a>, J> {
     if job.seat.number().get() == 2 {
         return work(rt, job);
@@ -381,7 +357,7 @@ fn leave_or_work<'b, 'a, J: Naming, R: Wait + Clock>(
         gate,
     } = job;
     let taken = desk.call(rt, &mut seat, Event::TakeAny).is_ok();
-    gate.taken.store(taken, Ordering::SeqCst);
+    gate.came.store(taken, Ordering::SeqCst);
     let _ = thread::sleep(rt, Duration::from_millis(50));
     let (_, left) = desk.leave(rt, seat, Event::Release);
     left
@@ -389,7 +365,7 @@ fn leave_or_work<'b, 'a, J: Naming, R: Wait + Clock>(
 
 fn leave_and_work<'b, 'a, J: Naming + Send + Sync, R: Threads + Wait + Clock + Sync>(
     rt: &R,
-    jobs: Vec<Job<'b, 'a, FirstOpen, J, Leaving>>,
+    jobs: Vec<Job<'b, 'a, FirstOpen, J, Holding>>,
 ) -> Result<Vec<Left<CubeMachine<'a>, J>>, AllocError> {
     thread::map_vec(rt, jobs, &|job| leave_or_work(rt, job))
 }
@@ -400,7 +376,7 @@ fn search_after_a_leave<'a, J: Naming + Send + Sync, R: Threads + Wait + Clock +
     opened: Opened<CubeMachine<'a>>,
     reduced: &Reduced,
     row: &Row,
-    gate: &Leaving,
+    gate: &Holding,
 )
     requires names { J.names ≡ opened.1 }
     requires desk { J.desk ≡ opened.2 }
@@ -431,10 +407,7 @@ fn a_seat_leaves_with_a_cube_in_hand(rt: HostRuntime) -> Result<(), Fail> {
     let machine = CubeMachine::opening(alloc, reduced.poly(), budget, &row)?;
     let two = Workers::new(2).ok_or("workers")?;
     let opened = Opened::new(alloc, machine, two)?;
-    let gate = Leaving {
-        taken: AtomicBool::new(false),
-        missed: AtomicBool::new(false),
-    };
+    let gate = gate_holding(2);
     search_after_a_leave::<Brand, _>(&rt, alloc, opened, &reduced, &row, &gate);
     assert!(rt; !gate.missed.load(Ordering::SeqCst));
     Ok(())

@@ -3,7 +3,7 @@ ghost use Rattle.std.specs.List.{AllByRecursion};
 ghost use Rattle.polygraph.specs.Polygraphs.{Joins, JoinsBoth};
 
 use cube_laws::{Event, Mark, NodeLine, Reply};
-use cube_machine::{Budget, CubeMachine, MAX_BUDGET, Origin, Row};
+use cube_machine::{Budget, CubeMachine, Origin, Row};
 use desk::machine::Machine;
 use desk::seat_no::SeatNo;
 use known_graph::Known;

@@ -4,7 +4,6 @@ use anomalies::classify;
 use coalesce::coalesce;
 use known_graph::Known;
 use polygraph::{Edges, Polygraph, bipaths, order_fits};
-use serializability::NodeIx;
 use std::alloc::Global;
 use std::process::Abort;
 use std::test::Fail;

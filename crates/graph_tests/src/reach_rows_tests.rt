@@ -9,7 +9,6 @@ use std::sync::Wait;
 use std::sync::atomic::{AtomicBool, AtomicUsize, Ordering};
 use std::test::*;
 use std::thread;
-use std::thread::Threads;
 use std::time::{Clock, Duration};
 
 fn workers(rt: &impl Abort, count: u8) -> Workers {

@@ -58,7 +58,12 @@ fn refused_logs(rt: HostRuntime) {
         refuses(rt, alloc, log, LogFault::BadLine { line });
     }
     let outside = LogFault::OutsideTransaction { line: 5 };
-    refuses(rt, alloc, "log 2\nsession 1\nbegin\nunknown\nr x 0\n", outside);
+    refuses(
+        rt,
+        alloc,
+        "log 2\nsession 1\nbegin\nunknown\nr x 0\n",
+        outside,
+    );
     let open = LogFault::OpenTransaction { line: 2 };
     refuses(rt, alloc, "session 1\nbegin\nsession x", open);
     let ended = LogFault::EndsBeforeBegin { line: 4 };

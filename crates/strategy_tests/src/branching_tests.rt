@@ -103,12 +103,20 @@ fn reduced<R: Threads + Wait + Clock + Abort + Sync>(
     }
 }
 
+fn index(rt: &impl Abort, number: usize) -> ChoiceIx
+    ensures { result ≡ number }
+{
+    ChoiceIx::new(number).expect(rt, "a choice")
+}
+
 fn decide(rt: &impl Abort, view: &mut CubeView<'_>, number: usize, side: Side)
     ensures { view.new.polygraph ≡ view.old.polygraph }
 {
-    let choice = ChoiceIx::new(number).expect(rt, "a choice");
+    let choice = index(rt, number);
     assert!(rt; view.is_open(choice));
     view.decide(choice, side);
+    assert!(rt; number < view.count());
+    assert!(rt; view.side_of(choice) == Some(side));
 }
 
 // The strategy picks this choice and this side first.

@@ -2,7 +2,6 @@
 
 use crate::commands::{Command, ended, options};
 use crate::logs::{LOST_UPDATE, SETTLED};
-use cobra_cli::read_log;
 use desk::{Gate, SeatNo};
 use std::alloc::Global;
 use std::process::Abort;
@@ -39,21 +38,10 @@ fn passes<R: Threads + Wait + Clock + Sync + Abort>(
     gate.passed.load(Ordering::SeqCst)
 }
 
-// A log is read by one pass for each block and one that finds none left.
+// A log is read by one pass for each block and one that finds none left. Where an anomaly stands nothing is pruned; else whoever
+// prunes passes the gate too.
 #[test]
-fn reading(rt: HostRuntime) {
-    let gate = Counting {
-        passed: AtomicU64::new(0),
-    };
-    let workers = options(&rt, false, 1).workers;
-    let read = read_log(&rt, rt.alloc(), SETTLED.as_bytes(), workers, &gate);
-    assert!(rt; read.is_ok());
-    assert_eq!(rt; gate.passed.load(Ordering::SeqCst), 5);
-}
-
-// Where an anomaly stands nothing is pruned; else whoever prunes passes the gate too.
-#[test]
-fn pruning(rt: HostRuntime) {
+fn reading_and_pruning(rt: HostRuntime) {
     for command in [
         Command::Encode,
         Command::Decode("s UNKNOWN\n"),
