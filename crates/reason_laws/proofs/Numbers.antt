@@ -1,0 +1,135 @@
+-- What sessions say of a node, and what the log of their numbers says of it.
+use Rattle.std.proofs.Common.{◌≡◌, ℕ, suc, ◌+◌, ◌<◌, ◌≤◌, List, take, drop, length, None, Some, refl, sym, ap, ◌∙◌, subst, arith}
+use Rattle.std.specs.List.{AllByRecursion}
+use Rattle.session_log.specs.Moments.{is_earlier}
+use Rattle.session_log.specs.Text.{ClientSession}
+use Rattle.session_log.specs.declared.session.Op.{Op}
+use Rattle.session_log.specs.declared.session.Op.TheVariants.{Read, Write}
+use Rattle.serializability.specs.declared.event.Event.{Event}
+use Rattle.serializability.specs.Reads.{last_write, ReadsAfter, WritesAfter}
+use Rattle.anomaly_laws.proofs.Writes.{writes_at, some_last_write}
+use Rattle.log_definitions.specs.WellFormed.{keys_in, key_of}
+use Rattle.log_definitions.specs.Serial.{committed_in, session_of, ops_of, begun_of, ended_of}
+use Rattle.log_definitions.specs.Numbers.{number_in, events_of, log_of}
+use Rattle.log_definitions.proofs.Keys.{Listed, all_listed, number_below}
+use Rattle.log_definitions.proofs.Nodes.{each_op, each_at}
+use Rattle.reason_laws.specs.Reasons.{IsNode, IsOpAt, IsNoWriteOf, ReadsAt, WritesLastAt}
+use Rattle.reason_laws.proofs.Texts.{AllListed, each_taken, events_cut, one_key, none_written, wrote_last, last_written, read_first}
+
+-- ---- the log, field by field
+pub ops_is : (ss : List ClientSession) (v : ℕ) → (log_of ss).ops v ≡ events_of (keys_in ss) (ops_of ss v)
+unfolding log_of
+ops_is ss v = refl
+
+pub nodes_is : (ss : List ClientSession) → (log_of ss).nodes ≡ length (committed_in ss)
+unfolding log_of
+nodes_is ss = refl
+
+pub session_is : (ss : List ClientSession) (v : ℕ) → (log_of ss).session v ≡ session_of ss v
+unfolding log_of
+session_is ss v = refl
+
+pub earlier_is : (ss : List ClientSession) (u v : ℕ) → (log_of ss).earlier u v ≡ is_earlier (ended_of ss u) (begun_of ss v)
+unfolding log_of
+earlier_is ss u v = refl
+
+-- a node of the log
+pub within : (ss : List ClientSession) (v : ℕ) → IsNode ss v → v ≤ (log_of ss).nodes
+within ss v h = subst (λ n. v ≤ n) (sym (nodes_is ss)) h.1
+
+pub node_from : (ss : List ClientSession) (v : ℕ) → 0 < v → v ≤ (log_of ss).nodes → IsNode ss v
+node_from ss v lo hi = (lo, subst (λ n. v ≤ n) (nodes_is ss) hi)
+
+-- ---- keys
+
+ops_listed : (ss : List ClientSession) (v : ℕ) → AllListed (keys_in ss) (ops_of ss v)
+ops_listed ss v = each_op (λ o. Listed (keys_in ss) (key_of o)) ss (all_listed ss) v
+
+pub listed_at : (ss : List ClientSession) (v i : ℕ) (op : Op) → IsOpAt ss v i op → Listed (keys_in ss) (key_of op)
+listed_at ss v i op e = each_at (λ o. Listed (keys_in ss) (key_of o)) (ops_of ss v) i op (ops_listed ss v) e
+
+pub keys_is : (ss : List ClientSession) → (log_of ss).keys ≡ length (keys_in ss)
+unfolding log_of
+keys_is ss = refl
+
+pub key_within : (ss : List ClientSession) (v i : ℕ) (key : List ℕ) (wid : ℕ) → IsOpAt ss v i (Write key wid) → number_in (keys_in ss) key < (log_of ss).keys
+key_within ss v i key wid e =
+    subst (λ n. number_in (keys_in ss) key < n) (sym (keys_is ss)) (number_below (keys_in ss) key (listed_at ss v i (Write key wid) e))
+
+-- ---- from the sessions to the log
+-- the events before operation i of node v
+abbrev pub before_at : List ClientSession → ℕ → ℕ → List Event
+before_at ss v i = events_of (keys_in ss) (take i (ops_of ss v))
+
+abbrev pub behind_at : List ClientSession → ℕ → ℕ → List Event
+behind_at ss v i = events_of (keys_in ss) (drop (suc i) (ops_of ss v))
+
+pub reads_after : (ss : List ClientSession) (v i : ℕ) (key : List ℕ) (wid : ℕ) → IsNode ss v → IsOpAt ss v i (Read key wid) → ReadsAfter (log_of ss) v (before_at ss v i) (number_in (keys_in ss) key) wid
+reads_after ss v i key wid node e =
+    (node.0, within ss v node, (behind_at ss v i, ops_is ss v ∙ events_cut (keys_in ss) (ops_of ss v) i (Read key wid) e))
+
+pub writes_after : (ss : List ClientSession) (v i : ℕ) (key : List ℕ) (wid : ℕ) → IsNode ss v → IsOpAt ss v i (Write key wid) → WritesAfter (log_of ss) v (before_at ss v i) (number_in (keys_in ss) key) wid
+writes_after ss v i key wid node e =
+    (node.0, within ss v node, (behind_at ss v i, ops_is ss v ∙ events_cut (keys_in ss) (ops_of ss v) i (Write key wid) e))
+
+pub none_before : (ss : List ClientSession) (v i : ℕ) (key : List ℕ) (wid : ℕ) → ReadsAt ss v i key wid → last_write (number_in (keys_in ss) key) (before_at ss v i) ≡ None
+none_before ss v i key wid r =
+    none_written (keys_in ss) key (take i (ops_of ss v))
+    (each_taken (λ o. Listed (keys_in ss) (key_of o)) i (ops_of ss v) (ops_listed ss v)) r.external
+
+next_drop : (i : ℕ) (ops : List Op) → drop (i + 1) ops ≡ drop (suc i) ops
+next_drop i ops = let e : i + 1 ≡ suc i = omega arith in ap (λ n. drop n ops) e
+
+pub final_at : (ss : List ClientSession) (v i : ℕ) (key : List ℕ) (wid : ℕ) → WritesLastAt ss v i key wid → last_write (number_in (keys_in ss) key) ((log_of ss).ops v) ≡ Some wid
+final_at ss v i key wid w =
+    ap (last_write (number_in (keys_in ss) key)) (ops_is ss v)
+    ∙ wrote_last (keys_in ss) key wid i (ops_of ss v) (ops_listed ss v) w.write (subst (AllByRecursion (IsNoWriteOf key)) (next_drop i (ops_of ss v)) w.last)
+
+pub writes_some : (ss : List ClientSession) (v i : ℕ) (key : List ℕ) (wid : ℕ) → IsNode ss v → IsOpAt ss v i (Write key wid) → (y : ℕ) × (last_write (number_in (keys_in ss) key) ((log_of ss).ops v) ≡ Some y)
+writes_some ss v i key wid node e =
+    let w = writes_after ss v i key wid node e in
+    some_last_write (number_in (keys_in ss) key) wid ((log_of ss).ops v)
+    (writes_at (number_in (keys_in ss) key) wid ((log_of ss).ops v) (before_at ss v i) w.2.0 w.2.1)
+
+-- ---- from the log to the sessions
+pub record WritesIn (ss : List ClientSession) (v x w : ℕ) : Type 0 where
+  pub place : ℕ
+  pub key : List ℕ
+  pub number : number_in (keys_in ss) key ≡ x
+  pub is : WritesLastAt ss v place key w
+
+pub writes_in : (ss : List ClientSession) (v x w : ℕ) → last_write x ((log_of ss).ops v) ≡ Some w → WritesIn ss v x w
+writes_in ss v x w e =
+    let r = last_written (keys_in ss) x w (ops_of ss v) (sym (ap (last_write x) (ops_is ss v)) ∙ e) in
+    record {
+      place = r.place;
+      key = r.key;
+      number = r.number;
+      is = record { write = r.is; last = subst (AllByRecursion (IsNoWriteOf r.key)) (sym (next_drop r.place (ops_of ss v))) r.last };
+    }
+
+pub record ReadsIn (ss : List ClientSession) (v x w : ℕ) : Type 0 where
+  pub place : ℕ
+  pub key : List ℕ
+  pub number : number_in (keys_in ss) key ≡ x
+  pub is : ReadsAt ss v place key w
+
+pub reads_in : (ss : List ClientSession) (v x w : ℕ) (before : List Event) → ReadsAfter (log_of ss) v before x w → last_write x before ≡ None → ReadsIn ss v x w
+reads_in ss v x w before reads external =
+    let r = read_first (keys_in ss) x w (ops_of ss v) before reads.2.0 (sym (ops_is ss v) ∙ reads.2.1) external in
+    record { place = r.place; key = r.key; number = r.number; is = record { read = r.is; external = r.external } }
+
+-- of the key with this number
+pub writes_key : (ss : List ClientSession) (v x w : ℕ) (key : List ℕ) → number_in (keys_in ss) key ≡ x → last_write x ((log_of ss).ops v) ≡ Some w → (i : ℕ) × WritesLastAt ss v i key w
+writes_key ss v x w key n e =
+    let r = writes_in ss v x w e in
+    let write = r.is.write in
+    let same = one_key (keys_in ss) r.key key (listed_at ss v r.place (Write r.key w) write) (r.number ∙ sym n) in
+    (r.place, subst (λ k. WritesLastAt ss v r.place k w) same r.is)
+
+pub reads_key : (ss : List ClientSession) (v x w : ℕ) (key : List ℕ) (before : List Event) → number_in (keys_in ss) key ≡ x → ReadsAfter (log_of ss) v before x w → last_write x before ≡ None → (i : ℕ) × ReadsAt ss v i key w
+reads_key ss v x w key before n reads external =
+    let r = reads_in ss v x w before reads external in
+    let read = r.is.read in
+    let same = one_key (keys_in ss) r.key key (listed_at ss v r.place (Read r.key w) read) (r.number ∙ sym n) in
+    (r.place, subst (λ k. ReadsAt ss v r.place k w) same r.is)
