@@ -1,0 +1,5 @@
+pub mod Positions
+pub mod Ops
+pub mod Writers
+pub mod Least
+pub mod Overwrites

@@ -1,0 +1,27 @@
+-- Who reads a key from the chain of its initial value.
+use Rattle.std.specs.Prelude.{◌≡◌, ℕ, zero, suc, None, Some}
+use Rattle.serializability.specs.Log.{Log}
+use Rattle.serializability.specs.Polygraph.{source}
+use Rattle.serializability.specs.declared.event.Event.{Event}
+use Rattle.serializability.specs.declared.event.Event.TheVariants as event
+
+-- so many steps back along the sources of the key lead from v to node 0
+abbrev pub IsBackIn : Log → ℕ → ℕ → ℕ → Type 0
+IsBackIn log x zero v = v ≡ 0
+IsBackIn log x (suc steps) v = (u : ℕ) × ((source log v x ≡ Some u) × IsBackIn log x steps u)
+
+-- v is node 0, or a writer of the chain that begins with it, or reads from one of these
+pub record IsOfInitial (log : Log) (x v : ℕ) : Type 0 where
+  pub steps : ℕ
+  pub back : IsBackIn log x steps v
+
+-- v reads the key from one of these
+pub record FollowsInitial (log : Log) (x v : ℕ) : Type 0 where
+  pub from : ℕ
+  pub reads : source log v x ≡ Some from
+  pub initial : IsOfInitial log x from
+
+-- the operation of b, which reads the key from nobody, writes it, and a follows its initial value
+abbrev pub IsBeginning : Log → ℕ → ℕ → Event → Type 0
+IsBeginning log a b (event.Read x w) = ⊥
+IsBeginning log a b (event.Write x w) = (source log b x ≡ None) × FollowsInitial log x a

@@ -1,0 +1,85 @@
+//! Writes of a node that begin a chain behind that of a key's initial value.
+
+ghost use Rattle.std.specs.Prelude.{◌≡◌, ◌<◌, ◌≤◌, ◌↔◌, IsTrue, true, IfSome, IfNone, ℕ};
+ghost use Rattle.serializability.specs.Reads.{IsClean};
+ghost use Rattle.log_definitions.specs.Numbers.{log_of};
+ghost use Rattle.chain_laws.specs.Chains.{writes, NoneCloses};
+ghost use Rattle.session_history.specs.Rows.{event_key};
+ghost use Rattle.reason_laws.specs.Reasons.{IsNode, IsOfInitialBefore};
+ghost use Rattle.reasons.specs.Initials.{IsOfInitial, FollowsInitial, IsBeginning};
+ghost use Rattle.reasons.specs.Given.{NoneInitial};
+
+use serializability::{Event, NodeIx};
+use session_history::History;
+use write_chains::Chains;
+
+/// Whether the chain of this writer of the key begins with node 0. It takes as many steps as writers stand before it there.
+fn is_of_initial(history: &History, key: usize, writer: NodeIx) -> bool
+    requires clean { IsClean (log_of history.now) }
+    requires key { key < (log_of history.now).keys }
+    requires none_closes { NoneCloses (log_of history.now) key }
+    requires writer { (0 < writer) × (writer ≤ (log_of history.now).nodes)
+        × (writes (log_of history.now) key writer ≡ true) }
+    ensures { IsTrue result ↔ IsOfInitial (log_of history.now) key writer }
+{
+    let mut first = writer;
+    for step in 0..history.committed() + 1 {
+        let Some(source) = history.source_of(first, key) else {
+            return false;
+        };
+        if source == NodeIx::INITIAL {
+            return true;
+        }
+        first = source;
+    }
+    false
+}
+
+/// Whether a node reads the key from the chain of its initial value.
+fn follows_initial(chains: &Chains, key: usize, node: NodeIx) -> bool
+    requires clean { IsClean (log_of chains.now) }
+    requires key { key < (log_of chains.now).keys }
+    requires node { IsNode chains.now node }
+    ensures { IsTrue result ↔ FollowsInitial (log_of chains.now) key node }
+{
+    let history = chains.history();
+    // No chain of the key closes on itself.
+    let _others = chains.chains_of(key);
+    match history.source_of(node, key) {
+        Some(source) => source == NodeIx::INITIAL || is_of_initial(history, key, source),
+        None => false,
+    }
+}
+
+/// Whether an operation of `b` begins a chain behind that of the initial value of its key, which `a` reads from.
+fn is_beginning(chains: &Chains, a: NodeIx, b: NodeIx, event: Event) -> bool
+    requires clean { IsClean (log_of chains.now) }
+    requires first { IsNode chains.now a }
+    requires key { event_key event < (log_of chains.now).keys }
+    ensures { IsTrue result ↔ IsBeginning (log_of chains.now) a b event }
+{
+    match event {
+        Event::Read { .. } => false,
+        Event::Write { key, .. } => {
+            chains.history().source_of(b, key).is_none() && follows_initial(chains, key, a)
+        }
+    }
+}
+
+/// The first operation of `b` that begins a chain behind that of the initial value of its key, which `a` reads from.
+pub fn begins_behind_initial(chains: &Chains, a: NodeIx, b: NodeIx) -> Option<usize>
+    requires clean { IsClean (log_of chains.now) }
+    requires first { IsNode chains.now a }
+    requires second { IsNode chains.now b }
+    ensures is { IfSome result (λ begins. IsOfInitialBefore chains.now a b begins) }
+    ensures least { IfSome result (λ begins.
+        (j : ℕ) → IsOfInitialBefore chains.now a b j → begins ≤ j) }
+    ensures none { IfNone result (NoneInitial chains.now a b) }
+{
+    for (place, event) in chains.history().events_of(b).iter().enumerate() {
+        if is_beginning(chains, a, b, *event) {
+            return Some(place);
+        }
+    }
+    None
+}

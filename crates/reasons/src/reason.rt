@@ -1,0 +1,95 @@
+//! Why a node stands before another in each serial order.
+
+ghost use Rattle.std.specs.Prelude.{◌≡◌, ◌<◌, ◌≤◌, ◌≢◌, ◌↔◌, IsTrue, IfSome, IfNone};
+ghost use Rattle.serializability.specs.Reads.{IsClean};
+ghost use Rattle.log_definitions.specs.Numbers.{log_of};
+ghost use Rattle.reason_laws.specs.Reasons.{IsNode, AreOfSession, EndsBefore};
+ghost use Rattle.reasons.specs.Given.{IsReason, IsOfFirstKind, IsLeast, HaveNone};
+
+use crate::initial::begins_behind_initial;
+use crate::overwritten::overwritten_by;
+use crate::read::read_by;
+use serializability::NodeIx;
+use session_history::History;
+use write_chains::Chains;
+
+/// Why a node stands before another in each serial order. Operations count from 0.
+#[derive(Clone, Copy, Debug, PartialEq, Eq)]
+pub enum Reason {
+    /// Both are of one session.
+    Session,
+    /// Operation `read` of the second names the write that is operation `written` of the first.
+    Read { written: usize, read: usize },
+    /// Both read the same write of a key, by operation `read` of the first, and operation `overwrites` of the second writes the key.
+    Overwritten { read: usize, overwrites: usize },
+    /// The first belongs to the chain of a key's initial value, or reads from one that does; operation `begins` of the second,
+    /// which reads the key from nobody, writes it.
+    Initial { begins: usize },
+    /// The first ended before the second began.
+    Moments,
+}
+
+/// Whether both are of one session, and the first stands before the second in it.
+fn are_of_session(history: &History, a: NodeIx, b: NodeIx) -> bool
+    requires first { IsNode history.now a }
+    requires second { IsNode history.now b }
+    ensures { IsTrue result ↔ AreOfSession history.now a b }
+{
+    a.get() < b.get() && history.session_of(a) == history.session_of(b)
+}
+
+/// Whether the first ended before the second began.
+fn ended_before(history: &History, a: NodeIx, b: NodeIx) -> bool
+    requires first { IsNode history.now a }
+    requires second { IsNode history.now b }
+    requires apart { a ≢ b }
+    ensures { IsTrue result ↔ EndsBefore history.now a b }
+{
+    match history.ended_of(a) {
+        Some(end) => match history.begun_of(b) {
+            Some(begin) => end < begin,
+            None => false,
+        },
+        None => false,
+    }
+}
+
+/// Why `a` stands before `b` in each serial order, where the log shows it.
+pub fn reason_of(history: &History, chains: &Chains, a: NodeIx, b: NodeIx) -> Option<Reason>
+    requires clean { IsClean (log_of history.now) }
+    requires chains { chains.now ≡ history.now }
+    requires first { (0 < a) × (a ≤ (log_of history.now).nodes) }
+    requires second { (0 < b) × (b ≤ (log_of history.now).nodes) }
+    ensures holds { IfSome result (IsReason history.now a b) }
+    ensures first { IfSome result (IsOfFirstKind history.now a b) }
+    ensures least { IfSome result (IsLeast history.now a b) }
+    ensures none { IfNone result (HaveNone history.now a b) }
+{
+    if a == b {
+        return None;
+    }
+    if are_of_session(history, a, b) {
+        return Some(Reason::Session);
+    }
+    let nodes = history.committed();
+    prove!(a.get() <= nodes);
+    if let Some(found) = read_by(history, a, b) {
+        return Some(Reason::Read {
+            written: found.first,
+            read: found.second,
+        });
+    }
+    if let Some(found) = overwritten_by(history, a, b) {
+        return Some(Reason::Overwritten {
+            read: found.first,
+            overwrites: found.second,
+        });
+    }
+    if let Some(begins) = begins_behind_initial(chains, a, b) {
+        return Some(Reason::Initial { begins });
+    }
+    if ended_before(history, a, b) {
+        return Some(Reason::Moments);
+    }
+    None
+}
