@@ -3,3 +3,5 @@ pub mod Ops
 pub mod Writers
 pub mod Least
 pub mod Overwrites
+pub mod Walked
+pub mod Beginnings
