@@ -24,9 +24,11 @@ def measure(log, strategy, workers, budget):
     return best
 
 
-for log, budget in (('writers_25', 10000), ('writers_100', 10000), ('forks_0', 10000), ('forks_5', 10000), ('forks_20', 10000), ('operations_400', 10000), ('writers_400', 100000), ('choices_400', 10000), ('choices_400', 100000)):
+for log, budget in (('writers_25', 10000), ('writers_100', 10000), ('forks_0', 10000), ('forks_5', 10000), ('forks_20', 10000), ('operations_400', 10000), ('writers_400', 100000), ('choices_400', 10000), ('choices_400', 100000),
+                    ('writers_1000', 100000), ('choices_1000', 10000), ('choices_1000', 100000), ('one_session_1000', 10000), ('in_time_1000', 10000),
+                    ('beside_1000', 100000), ('reads_1000', 10000), ('operations_1000', 10000)):
     for strategy in ('first', 'most', 'least', 'forced'):
-        for workers in (1, 4) if strategy == 'first' else (1,):
+        for workers in (1, 2, 4) if strategy == 'first' else (1,):
             measure(log, strategy, workers, budget)
 
 
@@ -37,4 +39,5 @@ def closing(log):
 
 
 closing('crossed_392')
+closing('crossed_992')
 PY

@@ -33,9 +33,9 @@ for (graph, what, workers), all_times in times.items():
     print('  %-40s least %5d us, middle %5d us' % (what + (', ' + workers if workers else ''), all_times[0], all_times[len(all_times) // 2]))
 PY
 }
-echo "graphs of 400 nodes, each in 40 runs:"
+echo "graphs of 1,000 nodes, each in 40 runs:"
 run_often 40 made
-for log in bipaths_40 bipaths_41 choices_400 one_session_400 operations_400; do
+for log in bipaths_40 bipaths_41 choices_400 one_session_400 operations_400 choices_1000 one_session_1000 in_time_1000 beside_1000 reads_1000 operations_1000; do
     echo "$log:"
     run log "$folder/$log.log"
 done

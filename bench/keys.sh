@@ -11,7 +11,7 @@ python3 - "$program" "$folder" <<'PY'
 import os, subprocess, sys, time
 
 program, folder = sys.argv[1:]
-for name in ('harmless', 'one_mark', 'one_mark_and_colliding', 'one_mark_all_distinct'):
+for name in ('harmless', 'one_mark', 'one_mark_and_colliding', 'one_mark_all_distinct', 'harmless_1000', 'one_mark_and_colliding_1000'):
     log = os.path.join(folder, name + '.log')
     for workers in (1, 4):
         best, said = None, ''
@@ -21,5 +21,5 @@ for name in ('harmless', 'one_mark', 'one_mark_and_colliding', 'one_mark_all_dis
             took = time.time() - start
             best = took if best is None else min(best, took)
             said = (ran.stdout + ran.stderr).decode().strip().split('\n')[-1]
-        print('%-24s %10d bytes  %d workers  %7.3f s  status %d  %s' % (name, os.path.getsize(log), workers, best, ran.returncode, said), flush=True)
+        print('%-31s %10d bytes  %d workers  %7.3f s  status %d  %s' % (name, os.path.getsize(log), workers, best, ran.returncode, said), flush=True)
 PY

@@ -11,7 +11,7 @@ os.makedirs(folder, exist_ok=True)
 
 SEED, MULTIPLIER, WORD = 0x243F6A8885A308D3, 0x9E3779B97F4A7C15, 2 ** 64 - 1
 LEGAL = b'ABCDEFGHIJKLMNOPQRSTUVWXYZabcdefghijklmnopqrstuvwxyz0123456789_.:/-'
-LENGTH, KEYS, OPERATIONS, TXNS, SESSIONS = 64, 10000, 200000, 400, 60
+LENGTH, KEYS, OPERATIONS, SESSIONS = 64, 10000, 200000, 60
 
 
 def fold(a, b):
@@ -61,23 +61,26 @@ def numbered(front, count):
     return [front + b'%0*d' % (LENGTH - len(front), i) for i in range(count)]
 
 
-def write(name, keys):
-    """The keys in turn, each as often as the others, in 400 transactions of 60 sessions."""
+def write(name, keys, txns=400):
+    """The keys in turn, each as often as the others, in so many transactions of 60 sessions."""
     with open(os.path.join(folder, name), 'wb') as out:
         count = 0
-        for t in range(TXNS):
+        for t in range(txns):
             if t < SESSIONS:
                 out.write(b'session %d\n' % (t + 1))
-                for place in range(t, TXNS, SESSIONS):
+                for place in range(t, txns, SESSIONS):
                     out.write(b'begin\n')
-                    for _ in range(OPERATIONS // TXNS):
+                    for _ in range(OPERATIONS // txns):
                         count += 1
                         out.write(b'w %s %d\n' % (keys[count * 7919 % len(keys)], count * 104729 % 2 ** 30))
                     out.write(b'commit\n')
 
 
 front = one_mark()
-write('harmless.log', numbered(b'k', KEYS))
+harmless, slow = numbered(b'k', KEYS), colliding(front, KEYS)
+write('harmless.log', harmless)
 write('one_mark.log', numbered(front, KEYS))
-write('one_mark_and_colliding.log', colliding(front, KEYS))
+write('one_mark_and_colliding.log', slow)
+write('harmless_1000.log', harmless, 1000)
+write('one_mark_and_colliding_1000.log', slow, 1000)
 write('one_mark_all_distinct.log', numbered(front, OPERATIONS))

@@ -68,24 +68,64 @@ def choices():
         yield 'commit'
 
 
-def one_session(count):
-    """These transactions write x one after the other in one session: each choice between two of them is forced."""
-    yield 'session 1'
-    for t in range(count):
+def choices_of_eight_keys():
+    """1,000 transactions in 64 sessions that write five keys in turn, and the first ones three others too: 100,000 choices between
+    chains, some of them forced."""
+    others = ['f'] * 32 + ['g'] * 3 + ['h'] * 2
+    for t in range(1000):
+        if t == 0 or t * 64 // 1000 != (t - 1) * 64 // 1000:
+            yield 'session %d' % (t * 64 // 1000 + 1)
         yield 'begin'
-        yield 'w x %d' % (t + 1)
+        yield 'w %s %d' % ('abcde'[t % 5], t + 1)
+        if t < len(others):
+            yield 'w %s %d' % (others[t], t + 1001)
         yield 'commit'
 
 
-def writers(count):
-    """Each of these transactions writes x in a session of its own, in 60 sessions at the most: all choices between two sessions stay open."""
+def one_session(count, keys):
+    """These transactions write the keys in turn in one session: each choice between two of them is forced."""
+    yield 'session 1'
+    for t in range(count):
+        yield 'begin'
+        yield 'w %s %d' % (keys[t % len(keys)], t + 1)
+        yield 'commit'
+
+
+def writers(count, keys):
+    """Each of these transactions writes one of the keys in a session of its own, in 60 sessions at the most: all choices between two
+    sessions stay open."""
     for t in range(count):
         if t < 60:
             yield 'session %d' % (t + 1)
-            for place in range(t, count, 60):
+            for turn, place in enumerate(range(t, count, 60)):
                 yield 'begin'
-                yield 'w x %d' % (place + 1)
+                yield 'w %s %d' % (keys[(t + turn) % len(keys)], place + 1)
                 yield 'commit'
+
+
+def in_time(count, beside, operations):
+    """Version 3: these transactions are dealt to 64 sessions. Each states its moments, and is under way at once with so many of those
+    begun before it."""
+    yield 'log 3'
+    for s in range(64):
+        yield 'session %d' % (s + 1)
+        for t in range(s, count, 64):
+            yield 'begin %d' % (2 * t)
+            yield from operations(t)
+            yield 'commit %d' % (2 * (t + beside) + 1)
+
+
+def one_write(keys):
+    """The operations of a transaction that writes one of the keys."""
+    return lambda t: ['w %s %d' % (keys[t % len(keys)], t + 1)]
+
+
+def many_reads(t):
+    """The operations of one of 1,000 transactions: 10 writes of keys of its own, and 190 reads of others, as the transactions before it
+    left them."""
+    keys = [(t * 10 + 37 * i) % 10000 for i in range(1, 191)]
+    reads = ['r k%d %d' % (key, key + 1 if key < 10 * t else 0) for key in keys if key // 10 != t]
+    return ['w k%d %d' % (key, key + 1) for key in range(10 * t, 10 * t + 10)] + reads
 
 
 def forks(count):
@@ -124,18 +164,26 @@ def crossed(count, readers):
 
 
 write('choices_400.log', choices())
-write('one_session_400.log', one_session(400))
-write('writers_25.log', writers(25))
-write('writers_100.log', writers(100))
-write('writers_400.log', writers(400))
+write('choices_1000.log', choices_of_eight_keys())
+write('one_session_400.log', one_session(400, 'x'))
+write('one_session_1000.log', one_session(1000, 'abcde'))
+write('writers_25.log', writers(25, 'x'))
+write('writers_100.log', writers(100, 'x'))
+write('writers_400.log', writers(400, 'x'))
+write('writers_1000.log', writers(1000, 'abcde'))
+write('in_time_1000.log', in_time(1000, 0, one_write('abcde')))
+write('beside_1000.log', in_time(1000, 100, one_write('abcde')))
+write('reads_1000.log', in_time(1000, 0, many_reads))
 write('forks_0.log', forks(0))
 write('forks_5.log', forks(5))
 write('forks_20.log', forks(20))
 write('crossed_392.log', crossed(12, 15))
+write('crossed_992.log', crossed(12, 40))
 write('bipaths_40.log', bipaths(40))
 write('bipaths_41.log', bipaths(41))
 write('operations_100.log', operations(100, True))
 write('operations_400.log', operations(400, True))
+write('operations_1000.log', operations(1000, True))
 write('one_transaction.log', operations(1, True))
 write('unknown_100.log', operations(100, True, 2))
 write('unknown_chain.log', unknown_chain())

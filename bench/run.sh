@@ -27,6 +27,14 @@ for log in "$folder"/*.log; do
     measure "stats $name" "$log" "$program" stats --plain "$log"
     measure "encode $name" "$log" "$program" encode --plain "$log"
 done
-for count in 1 2 4; do
-    measure "stats operations_100, $count workers" "$folder/operations_100.log" "$program" stats --plain --workers $count "$folder/operations_100.log"
+for log in operations_100 operations_1000; do
+    for count in 1 2 4; do
+        measure "stats $log, $count workers" "$folder/$log.log" "$program" stats --plain --workers $count "$folder/$log.log"
+    done
+done
+# the reduced formula, without its text
+for log in choices_1000 one_session_1000 in_time_1000 beside_1000 reads_1000; do
+    for count in 1 2 4; do
+        measure "reduced $log, $count workers" "$folder/$log.log" "$program" stats --workers $count "$folder/$log.log"
+    done
 done

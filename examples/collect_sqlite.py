@@ -1,14 +1,15 @@
 #!/usr/bin/env python3
-"""collect_sqlite.py [--sessions N] [--transactions N] [--keys N] [--weak] OUT: a log of clients of a new SQLite database.
+"""collect_sqlite.py [--sessions N] [--transactions N] [--keys N] [--moments] [--weak] OUT: a log of clients of a new SQLite database.
 
 N clients (8) run at once, each with a connection of its own, which is its session. Each tries N transactions (40) of random reads and
-writes of N keys (10). With --weak the store is broken on purpose, and `check` should refuse most logs.
+writes of N keys (10). With --moments the log says when each transaction began and when it was committed, in nanoseconds of a clock that
+all clients share. With --weak the store is broken on purpose, and `check` should refuse most logs.
 
 docs/COLLECTING.md says why it is done this way. For another store, write the methods of the class Store anew."""
 import argparse, os, random, sqlite3, tempfile, time
 from concurrent.futures import ThreadPoolExecutor
 
-MAX_SESSIONS, MAX_COMMITTED, MAX_KEYS = 64, 400, 10000
+MAX_SESSIONS, MAX_COMMITTED, MAX_KEYS = 64, 1000, 10000
 
 
 class Store:
@@ -59,11 +60,17 @@ def identity(value):
     return int(value.split(' ')[0]) if value else 0
 
 
+def at_this_moment(word, arguments):
+    """A line of this word, with the moment at which this is called where the log has moments."""
+    return '%s %d' % (word, time.monotonic_ns()) if arguments.moments else word
+
+
 def client(store_class, path, number, arguments):
     """Runs one session, and gives its lines. An operation's line is added once the store has answered."""
     store, lines, writes = store_class(path), ['session %d' % number], 0
     for _ in range(arguments.transactions):
-        lines.append('begin')
+        # the clock is read before the store hears of it, and at its end once the store has answered: no stated time is shorter than the true one
+        lines.append(at_this_moment('begin', arguments))
         try:
             store.begin()
             for _ in range(random.randint(1, 6)):
@@ -82,7 +89,7 @@ def client(store_class, path, number, arguments):
                 lines.append('abort')
             else:
                 store.commit()
-                lines.append('commit')
+                lines.append(at_this_moment('commit', arguments))
         except sqlite3.OperationalError as refusal:
             # 'locked' is a refusal, and the rollback undoes the rest; after any other fault the outcome is open, and there is no log
             if 'locked' not in str(refusal):
@@ -97,6 +104,7 @@ def main():
     parser.add_argument('--sessions', type=int, default=8, metavar='N', help='how many clients run at once: 8')
     parser.add_argument('--transactions', type=int, default=40, metavar='N', help='how many transactions each of them tries: 40')
     parser.add_argument('--keys', type=int, default=10, metavar='N', help='how many keys there are: 10')
+    parser.add_argument('--moments', action='store_true', help='say when each transaction began and was committed')
     parser.add_argument('--weak', action='store_true', help='a store that is broken on purpose')
     parser.add_argument('out', metavar='OUT', help='the log')
     arguments = parser.parse_args()
@@ -113,6 +121,7 @@ def main():
             runs = [pool.submit(client, store_class, path, number, arguments) for number in range(1, arguments.sessions + 1)]
             sessions = [run.result() for run in runs]
     with open(arguments.out, 'w') as out:
+        out.write('log 3\n' if arguments.moments else '')
         out.writelines(line + '\n' for lines in sessions for line in lines)
 
 

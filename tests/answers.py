@@ -190,6 +190,9 @@ def replay(nodes, history):
     for place, node in enumerate(nodes):
         if any(later < node and history.names[later][0] == history.names[node][0] for later in nodes[place:]):
             raise Refused('P2 %s' % history.name(node))
+    for place, node in enumerate(nodes):
+        if any(history.ended_before(later, node) for later in nodes[place:]):
+            raise Refused('P5 %s' % history.name(node))
     store = {}
     for node in nodes:
         for number, (kind, key, wid) in enumerate(history.ops[node], 1):

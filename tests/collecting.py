@@ -1,10 +1,10 @@
 #!/usr/bin/env python3
 """collecting.py PROGRAM: logs that examples/collect_sqlite.py collects from real SQLite databases, as docs/COLLECTING.md says.
 
-Logs of the sound store must be serializable where `check` can tell, also where the outcome of each session's last committed transaction is said to be unknown,
-and `verify` must accept the order; of the logs of the store that is broken on purpose one at least must be refused. Where this Python has
-no sqlite3 nothing is run, and a line says so. Last line: 'collecting: N passed, M failed'."""
-import os, subprocess, sys, tempfile
+Logs of the sound store, without moments and with them, must be serializable where `check` can tell, also where the outcome of each session's
+last committed transaction is said to be unknown, and `verify` must accept the order; of the logs of the store that is broken on purpose one
+at least must be refused. Where this Python has no sqlite3 nothing is run, and a line says so. Last line: 'collecting: N passed, M failed'."""
+import os, re, subprocess, sys, tempfile
 
 TOP = os.path.dirname(os.path.dirname(os.path.abspath(__file__)))
 COLLECTOR, RUNS = os.path.join(TOP, 'examples', 'collect_sqlite.py'), 3
@@ -12,9 +12,9 @@ COLLECTOR, RUNS = os.path.join(TOP, 'examples', 'collect_sqlite.py'), 3
 
 def unlearnt(log):
     """The same log, where no client learnt how the last of its transactions that were committed ended, and went on."""
-    sessions = log.split(b'session ')[1:]
-    cut = [text[:text.rfind(b'commit\n')] + b'unknown\n' if b'commit\n' in text else text for text in sessions]
-    return b'log 2\n' + b''.join(b'session ' + text for text in cut)
+    header, *sessions = log.split(b'session ')
+    cut = [re.sub(rb'(.*)commit.*', rb'\1unknown\n', text, flags=re.DOTALL) for text in sessions]
+    return (header or b'log 2\n') + b''.join(b'session ' + text for text in cut)
 
 
 class Checks:
@@ -50,15 +50,16 @@ def main():
     with tempfile.TemporaryDirectory() as folder:
         checks, path, refused = Checks(os.path.abspath(sys.argv[1]), folder), os.path.join(folder, 'log'), 0
         for run in range(RUNS):
-            for weak in ([], ['--weak']):
-                subprocess.run([sys.executable, COLLECTOR, *weak, path], check=True, timeout=600)
+            for words in ([], ['--moments'], ['--weak']):
+                subprocess.run([sys.executable, COLLECTOR, *words, path], check=True, timeout=600)
                 with open(path, 'rb') as file:
                     log = file.read()
-                if weak:
+                if words == ['--weak']:
                     refused += is_refusal(checks.call(log, 'check'))
                 else:
-                    checks.sound('log %d' % run, log)
-                    checks.sound('log %d with unknown outcomes' % run, unlearnt(log))
+                    name = ' '.join(['log %d' % run, *words])
+                    checks.sound(name, log)
+                    checks.sound(name + ' with unknown outcomes', unlearnt(log))
         checks.expect(refused > 0, 'no log of the weak store was refused')
         print('collecting: SQLite %s, %d of %d logs of the weak store were refused' % (sqlite3.sqlite_version, refused, RUNS))
     print('collecting: %d passed, %d failed' % (checks.passed, checks.failed))

@@ -4,9 +4,10 @@ readers beside this file.
 
 For SECONDS (60) each processor makes small logs, answers and orders from the seed that is printed, or takes those of examples/,
 damages them (bytes and lines changed, cut, doubled, dropped, moved; other line ends, a byte order mark, NUL bytes, numbers at and
-past the limits, signs, leading zeros; headers, and outcomes that are unknown) and gives them to each command. Text and status must be the
-reference's, byte for byte; what `check` says must be what the reference allows. Each prefix of a log and of an answer is run once before.
-With --plain the plain formula alone is asked for, with --version-1 no log is of version 2. Last line: 'damaged: N passed, M failed'."""
+past the limits, signs, leading zeros; headers, outcomes that are unknown, and moments) and gives them to each command. Text and status must be
+the reference's, byte for byte; what `check` says must be what the reference allows. A log must have one formula in each version that has
+lines for it. Each prefix of a log and of an answer is run once before. With --plain the plain formula alone is asked for, with --version-1
+all logs are of version 1. Last line: 'damaged: N passed, M failed'."""
 import multiprocessing, os, random, subprocess, sys, tempfile, time
 
 HERE = os.path.dirname(os.path.abspath(__file__))
@@ -17,7 +18,8 @@ TAIL = b'session 2\nbegin\nw x 2\ncommit\nsession 3\nbegin\nr x 1\ncommit\n'
 # For each version a log, after how many bytes it is well-formed, and after how many a transaction is open, with its line.
 PREFIX_LOGS = {
     1: (b'session 1\nbegin\nw x 1\ncommit\n' + TAIL, (0, 10, 29, 39, 58, 68, 87), {16: 2, 22: 2, 45: 6, 51: 6, 74: 10, 80: 10}),
-    2: (b'log 2\nsession 1\nbegin\nw x 1\nunknown\n' + TAIL, (0, 6, 16, 36, 46, 65, 75, 94), {22: 3, 28: 3, 52: 7, 58: 7, 81: 11, 87: 11})}
+    2: (b'log 2\nsession 1\nbegin\nw x 1\nunknown\n' + TAIL, (0, 6, 16, 36, 46, 65, 75, 94), {22: 3, 28: 3, 52: 7, 58: 7, 81: 11, 87: 11}),
+    3: (b'log 3\nsession 1\nbegin 1\nw x 1\ncommit 2\n' + TAIL, (0, 6, 16, 39, 49, 68, 78, 97), {24: 3, 30: 3, 55: 7, 61: 7, 84: 11, 90: 11})}
 PREFIX_ANSWER = b's SATISFIABLE\nv 1 -2 3 0\n'
 NODES, SHOWN = 7, 20
 NUMBERS = [b'0', b'-0', b'00', b'01', b'+1', b'-1', b'1.0', b'', b'65535', b'65536', b'4294967295', b'4294967296', b'9223372036854775808',
@@ -27,7 +29,8 @@ LINES = {
     'log': [b'begin', b'commit', b'abort', b'session 1', b'session 0', b'session 65536', b'session', b'sessions 1', b'r x 01', b'w x 0', b'w  x 1',
             b'w x', b'', b' begin', b'begin ', b'w ' + b'k' * 64 + b' 77', b'w ' + b'k' * 65 + b' 77', b'r x 18446744073709551616', b'w x 18446744073709551615',
             b'r x\xc3\xa4 1', b'r A-Z/a.z:0_9 0', b'Begin', b'log 2', b'unknown', b'unknown', b'unknown 1',
-            b'abort 1', b'log 1', b'log 3'],
+            b'abort 1', b'log 1', b'log 3', b'log 4', b'begin 1', b'begin 0', b'begin 18446744073709551615', b'begin 01', b'begin  1',
+            b'begin 18446744073709551616', b'commit 1', b'commit 0', b'commit 18446744073709551615', b'commit 00', b'commit ', b'commit -1'],
     'answer': [b's SATISFIABLE', b's UNSATISFIABLE', b's UNKNOWN', b's INDETERMINATE', b's', b's SAT', b's SATISFIABLE 1', b'v', b'v 0', b'v -0 0', b'v 1 -1',
                b' v 1 0', b'\tv 0', b'c', b'cc v 1 2', b'', b'   ', b'\t \t', b'v\t1\t 0 \t', b'v1 0', b'v --1 0', b'v - 0', b'v 1x 0', b'V 1 0', b'o 3', b'v 001 000'],
     'order': [b'0 0', b'0 1', b'1 0', b'1 1', b'1  1', b'1', b'', b' 1 1', b'1 1 ', b'1\t1', b'1 1 1', b'01 1', b'-1 1', b'+1 1', b'x 1', b'9 9']}
@@ -108,8 +111,8 @@ def changed_ends(r, kind, text):
 
 
 def changed_place(r, kind, text):
-    """Damage that only a log of version 2 can have; to others as to lines."""
-    return generate.wrong_place(r, text) if kind == 'log' and reference.version_of(text) == 2 else changed_lines(r, kind, text)
+    """Damage that only a log of version 2 or 3 can have; to others as to lines."""
+    return generate.wrong_line(r, text) if kind == 'log' and reference.version_of(text) > 1 else changed_lines(r, kind, text)
 
 
 def damaged(r, kind, text):
@@ -154,7 +157,7 @@ def serial_order(history):
         if len(order) == history.n:
             return order
         for v in history.nodes:
-            if v in order or any(u < v and u not in order and history.names[u][0] == history.names[v][0] for u in history.nodes):
+            if v in order or any(u not in order and history.comes_before(u, v) for u in history.nodes):
                 continue
             after = dict(store)
             for kind, key, wid in history.ops[v]:
@@ -172,12 +175,15 @@ def serial_order(history):
 
 
 def order_of(r, history, explained):
-    """An order of the nodes, and now and then of another transaction too."""
+    """An order of the nodes, often with two of them exchanged, and now and then of another transaction too."""
     nodes = list(explained or history.nodes)
     if r.random() < (0.2 if explained else 0.7):
         r.shuffle(nodes)
+    elif len(nodes) > 1 and r.random() < 0.5:
+        at = r.randrange(len(nodes) - 1)
+        nodes[at:at + 2] = reversed(nodes[at:at + 2])
     lines = answers.order_text(nodes, history).splitlines(True)
-    others = [name for name, _, _ in reference.named(history.sessions) if name not in history.names]
+    others = [name for name, _ in reference.named(history.sessions) if name not in history.names]
     if others and r.random() < 0.2:
         lines.insert(r.randrange(len(lines) + 1), b'%d %d\n' % r.choice(others))
     return b''.join(lines)
@@ -246,6 +252,13 @@ class Judge:
         wanted = answers.verify_with(history, order) if history else answers.verify(log, order)
         self.compare('verify', self.call(['verify'], log, '--order', order), wanted, log, order)
 
+    def in_another_version(self, text, sessions):
+        """A log's own text, and its formula in the least version that has lines for it."""
+        self.compare('text', (0, generate.text_of(sessions, reference.version_of(text)), b''), (0, text, b''), text)
+        least = generate.text_of(sessions)
+        if least != text:
+            self.compare('least version', self.call(['encode'], least), self.call(['encode'], text), text)
+
     def hurt_log(self, r, text):
         """A damaged log of one of the versions."""
         while True:
@@ -261,14 +274,17 @@ class Judge:
             hurt = self.hurt_log(r, text)
             self.formulas(hurt)
             self.verdict(r, hurt)
-        history = reference.History(reference.read_log(text))
+        sessions = reference.read_log(text)
+        self.in_another_version(text, sessions)
+        history = reference.History(sessions)
         formulas = [(plain, answers.Formula(history, plain)) for plain in self.plains]
         for formula in formulas:
             for _ in range(2):
                 self.decoded(text, damaged(r, 'answer', answer_of(r, formula[1])), [formula])
         explained = serial_order(history) if history.n <= NODES else None
-        for _ in range(3):
+        for _ in range(2):
             self.verified(text, damaged(r, 'order', order_of(r, history, explained)), history)
+        self.verified(text, order_of(r, history, explained), history)
         self.decoded(hurt, b's SATISFIABLE\nv 1 0\n', [(plain, None) for plain in self.plains])
         self.verified(hurt, order_of(r, history, explained), None)
 
@@ -330,7 +346,7 @@ def main():
     print('damaged: seed %d' % seed, flush=True)
     count, stop = os.cpu_count() or 1, time.monotonic() + seconds
     with multiprocessing.Pool(count) as pool:
-        jobs = [(program, '--plain' in sys.argv, generate.versions(sys.argv), seed, number, stop) for number in range(max(count, 2))]
+        jobs = [(program, '--plain' in sys.argv, generate.versions(sys.argv), seed, number, stop) for number in range(max(count, 3))]
         parts = pool.map(worked, jobs, 1)
     passed, failed, kinds = sum(part[0] for part in parts), [fault for part in parts for fault in part[1]], {}
     for part in parts:

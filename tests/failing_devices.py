@@ -5,7 +5,7 @@ The program runs with its Nth read failed, for N = 1, 2, .. until a run makes fe
 with status 5 and write nothing. Then its Nth write to standard output fails, or takes no byte, until a run makes fewer: what went out
 before must be the beginning of the whole text, and `device failed: output` is said with status 5. Reads and writes of one byte at
 a time must leave the whole text. Needs a C compiler, for a small library that stands before the C library's `read` and `write`. With
---version-1 no log is of version 2. Last line: 'failing devices: N passed, M failed'."""
+--version-1 all logs are of version 1. Last line: 'failing devices: N passed, M failed'."""
 import os, shutil, subprocess, sys, tempfile
 
 HERE = os.path.dirname(os.path.abspath(__file__))
@@ -42,8 +42,9 @@ ssize_t write(int fd, const void *p, size_t n) {
 
 INPUT, OUTPUT = (5, b'', b'device failed: input\n'), (5, b'device failed: output\n')
 MODELS = {'two_writers.log': b's SATISFIABLE\nv 1 -2 3 0\n', 'two_chains.log': b's UNSATISFIABLE\nv 0\n',
-          'forced_choices.log': b's SATISFIABLE\nc none is needed\n', 'unknown_read.log': b's SATISFIABLE\nv 1 -2 3 0\n'}
-CHECKED = ('forced_choices.log', 'forced_cycle.log', 'crossed_readers.log', 'lost_update.log', 'unknown_chain.log')
+          'forced_choices.log': b's SATISFIABLE\nc none is needed\n', 'unknown_read.log': b's SATISFIABLE\nv 1 -2 3 0\n',
+          'overlap_in_time.log': b's SATISFIABLE\n'}
+CHECKED = ('forced_choices.log', 'forced_cycle.log', 'crossed_readers.log', 'lost_update.log', 'unknown_chain.log', 'stale_in_time.log')
 MOST = 5000
 
 

@@ -5,7 +5,7 @@ Logs of 16 MiB of bad shapes are answered within 128 MiB; pipes are closed, devi
 or unreadable, standard input is closed, the address space is limited from little to ample, threads are refused. Each run must end
 with the answer that it has with ample means or with a named refusal on standard error and its status, never by a signal, and never
 with half a text and status 0. With --plain the plain formula alone is asked for; with --all the cases of UNSETTLED run too; with
---version-1 no log is of version 2. Last line: 'operating: N passed, M failed'."""
+--version-1 all logs are of version 1. Last line: 'operating: N passed, M failed'."""
 import itertools, os, resource, shutil, signal, subprocess, sys, tempfile, threading, time
 
 HERE = os.path.dirname(os.path.abspath(__file__))
@@ -15,7 +15,8 @@ import answers, generate
 BYTES, MEMORY, LATE = 16 * 1024 * 1024, 128 * 1024, 120
 LOG = b'session 1\nbegin\nw x 1\ncommit\nsession 2\nbegin\nw x 2\ncommit\nsession 3\nbegin\nr x 1\ncommit\n'
 # Logs with the same formulas and the same orders.
-LOGS = {1: LOG, 2: b'log 2\n' + LOG.replace(b'commit', b'unknown', 1)}
+LOGS = {1: LOG, 2: b'log 2\n' + LOG.replace(b'commit', b'unknown', 1),
+        3: b'log 3\n' + LOG.replace(b'begin', b'begin 1').replace(b'commit', b'commit 2')}
 MODELS = {True: b's SATISFIABLE\nv 1 2 3 4 5 -6 0\n', False: b's SATISFIABLE\nv 1 -2 3 0\n'}
 ORDER = b'1 1\n3 1\n2 1\n'
 BOTH = [(0, b'serializable\n' + order, b'') for order in (b'1 1\n3 1\n2 1\n', b'2 1\n1 1\n3 1\n')]
@@ -55,8 +56,8 @@ def many_keys(form, tails, count, outcome='commit', number=1):
     yield outcome.encode() + b'\n'
 
 
-def behind_header(*parts):
-    yield b'log 2\n'
+def behind_header(*parts, header=b'log 2\n'):
+    yield header
     for pieces in parts:
         yield from pieces
 
@@ -75,6 +76,19 @@ def shapes_of_version_2():
     unknown, reader = many_keys('w', tails, 10000, 'unknown'), many_keys('r', tails, 180600, number=2)
     yield '10,000 long keys, unknown and read', behind_header(unknown, reader), [2, 1, 0, 1, 1, 10000, 190600]
     yield 'one byte too many, version 2', behind_header([b'a' * (BYTES - 5)]), 'L7 log-bytes'
+
+
+def shapes_of_version_3():
+    """The same of version 3."""
+    yield 'headers of version 3', repeated(b'', b'log 3\n'), 'L1 line 2'
+    yield 'one moment', repeated(b'log 3\nsession 1\nbegin 1', b'0'), 'L1 line 3'
+    yield 'transactions that end before they begin', repeated(b'log 3\nsession 1\n', b'begin 1\ncommit 0\n'), 'L10 line 4'
+    yield 'committed transactions with moments', repeated(b'log 3\nsession 1\n', b'begin 1\ncommit 1\n'), 'L7 committed'
+    aborted = b'begin 18446744073709551615\nabort\n'
+    yield 'aborted transactions with moments', repeated(b'log 3\nsession 1\n', aborted), [1, 0, (BYTES - 16) // len(aborted), 0, 0, 0, 0]
+    tails = [a + b + c for a in LETTERS[:25] for b in LETTERS[:20] for c in LETTERS[:20]]
+    keys = many_keys('w', tails, 190600, 'commit 18446744073709551615')
+    yield '10,000 long keys, with a moment', behind_header(keys, header=b'log 3\n'), [1, 1, 0, 0, 0, 10000, 190600]
 
 
 def shapes():
@@ -100,6 +114,9 @@ def shapes():
     yield '10,000 long keys', many_keys('w', tails, 190600), [1, 1, 0, 10000, 190600]
     yield 'one key too many', many_keys('w', tails + ['end'], 190600), 'L7 keys'
     yield 'one byte too many', [b'a' * BYTES, b'\n'], 'L7 log-bytes'
+
+
+SHAPES = {1: shapes, 2: shapes_of_version_2, 3: shapes_of_version_3}
 
 
 class Runs:
@@ -166,7 +183,7 @@ class Runs:
     # ---- logs of 16 MiB
 
     def large(self):
-        for name, pieces, said in itertools.chain(shapes(), shapes_of_version_2() if 2 in self.versions else ()):
+        for name, pieces, said in itertools.chain(*(SHAPES[version]() for version in self.versions)):
             path = self.file('shape', pieces)
             for words, _ in self.calls(path):
                 name_of = '16 MiB, %s, %s' % (name, ' '.join(words[:-1]))

@@ -1,17 +1,21 @@
-"""A plain, slow reading of the definitions in docs/DEFINITIONS.md, made apart from the program: the faults of a log of either version,
+"""A plain, slow reading of the definitions in docs/DEFINITIONS.md, made apart from the program: the faults of a log of each version,
 its anomalies, its serial orders by listing all orders, and the texts of its plain and its reduced formula and of their counts. It
 shares no code with the program."""
-import itertools, re
+import collections, itertools, re
 
-LIMITS = dict(bytes=16 * 1024 * 1024, sessions=64, operations=200000, committed=400, keys=10000, choices=100000, plain=100, clauses=20000000)
+LIMITS = dict(bytes=16 * 1024 * 1024, sessions=64, operations=200000, committed=1000, keys=10000, choices=100000, plain=100, clauses=20000000)
 
 NUMBER = rb'(?:0|[1-9][0-9]*)'
 KEY = rb'[A-Za-z0-9_.:/-]{1,64}'
-SECOND = b'log 2\n'
-CLOSINGS = {1: (b'commit', b'abort'), 2: (b'commit', b'abort', b'unknown')}
+HEADERS = {b'log 2\n': 2, b'log 3\n': 3}
+CLOSINGS = {1: (b'commit', b'abort'), 2: (b'commit', b'abort', b'unknown'), 3: (b'commit', b'abort', b'unknown')}
 SESSION = re.compile(rb'session (' + NUMBER + rb')\Z')
 READ = re.compile(rb'r (' + KEY + rb') (' + NUMBER + rb')\Z')
 WRITE = re.compile(rb'w (' + KEY + rb') (' + NUMBER + rb')\Z')
+MOMENT = re.compile(rb'(begin|commit) (' + NUMBER + rb')\Z')
+
+# The operations of a transaction, the word that the log has for its outcome, and the moments of its `begin` and its `commit`.
+Transaction = collections.namedtuple('Transaction', 'ops outcome begun ended', defaults=(None, None))
 
 
 class Refused(Exception):
@@ -19,8 +23,16 @@ class Refused(Exception):
 
 
 def version_of(text):
-    """The version of a log: 2 where its first line is exactly `log 2`, else 1."""
-    return 2 if text.startswith(SECOND) else 1
+    """The version of a log: 2 or 3 where its first line is exactly `log 2` or `log 3`, else 1."""
+    return HEADERS.get(text[:6], 1)
+
+
+def least_version(sessions):
+    """The least version that has lines for these sessions."""
+    transactions = [it for _, transactions in sessions for it in transactions]
+    if any(moment is not None for it in transactions for moment in (it.begun, it.ended)):
+        return 3
+    return 2 if any(it.outcome == 'unknown' for it in transactions) else 1
 
 
 def lines_of(text):
@@ -31,7 +43,10 @@ def lines_of(text):
 
 def form_of(line, version):
     if line == b'begin' or line in CLOSINGS[version]:
-        return (line.decode(),)
+        return (line.decode(), None)
+    found = MOMENT.match(line) if version == 3 else None
+    if found:
+        return (found.group(1).decode(), int(found.group(2))) if int(found.group(2)) < 2 ** 64 else None
     found = SESSION.match(line)
     if found:
         return ('session', int(found.group(1))) if 1 <= int(found.group(1)) <= 65535 else None
@@ -43,8 +58,7 @@ def form_of(line, version):
 
 
 def read_log(text):
-    """The sessions of a well-formed log: (number, [(operations, outcome)]), an outcome being the word that the log has for it; else
-    Refused with the fault that stands first."""
+    """The sessions of a well-formed log: (number, [Transaction]); else Refused with the fault that stands first."""
     if len(text) > LIMITS['bytes']:
         raise Refused('L7 log-bytes')
     version, lines = version_of(text), lines_of(text)
@@ -62,21 +76,23 @@ def read_log(text):
             raise Refused('L3 line %d' % n)
         if opened and kind == 'begin':
             raise Refused('L4 line %d' % opened[0])
-        if kind == 'begin' and sessions[-1][1] and sessions[-1][1][-1][1] == 'unknown':
+        if kind == 'begin' and sessions[-1][1] and sessions[-1][1][-1].outcome == 'unknown':
             raise Refused('L9 line %d' % n)
         if kind == 'w' and form[2] == 0:
             raise Refused('L5 line %d' % n)
+        if kind == 'commit' and None not in (form[1], opened[2]) and form[1] < opened[2]:
+            raise Refused('L10 line %d' % n)
         if kind == 'session':
             sessions.append((form[1], []))
             numbers.append((form[1], n))
         elif kind == 'begin':
-            opened = (n, [])
+            opened = (n, [], form[1])
         elif kind in ('r', 'w'):
             opened[1].append(form)
             if kind == 'w':
                 writes.append((form[2], n))
         else:
-            sessions[-1][1].append((opened[1], kind))
+            sessions[-1][1].append(Transaction(opened[1], kind, opened[2], form[1]))
             opened = None
     if opened:
         raise Refused('L4 line %d' % opened[0])
@@ -86,10 +102,10 @@ def read_log(text):
             raise Refused('L2 line %d' % n)
         seen.add(number)
     transactions = [t for _, ts in sessions for t in ts]
-    operations = [o for ops, _ in transactions for o in ops]
+    operations = [o for t in transactions for o in t.ops]
     if len(operations) > LIMITS['operations']:
         raise Refused('L7 operations')
-    if sum(outcome != 'abort' for _, outcome in transactions) > LIMITS['committed']:
+    if sum(t.outcome != 'abort' for t in transactions) > LIMITS['committed']:
         raise Refused('L7 committed')
     if len({o[1] for o in operations}) > LIMITS['keys']:
         raise Refused('L7 keys')
@@ -102,8 +118,8 @@ def read_log(text):
 
 
 def named(sessions):
-    """Each transaction as (its session's number, its place), its operations and its outcome."""
-    return [((number, place), *transaction) for number, transactions in sessions for place, transaction in enumerate(transactions, 1)]
+    """Each transaction behind its name: its session's number, and its place."""
+    return [((number, place), it) for number, transactions in sessions for place, it in enumerate(transactions, 1)]
 
 
 def taken_of(sessions):
@@ -111,8 +127,8 @@ def taken_of(sessions):
     a taken one names, by key and identity."""
     taken = set()
     while True:
-        seen = {op[1:] for name, ops, outcome in named(sessions) if outcome == 'commit' or name in taken for op in ops if op[0] == 'r'}
-        more = {name for name, ops, outcome in named(sessions) if outcome == 'unknown' and any(op[0] == 'w' and op[1:] in seen for op in ops)}
+        seen = {op[1:] for name, it in named(sessions) if it.outcome == 'commit' or name in taken for op in it.ops if op[0] == 'r'}
+        more = {name for name, it in named(sessions) if it.outcome == 'unknown' and any(op[0] == 'w' and op[1:] in seen for op in it.ops)}
         if more == taken:
             return taken
         taken = more
@@ -123,20 +139,18 @@ class History:
 
     def __init__(self, sessions):
         self.sessions, self.taken = sessions, taken_of(sessions)
-        self.names, self.ops, self.aborted = [(0, 0)], [[]], []
-        for name, ops, outcome in named(sessions):
-            if outcome == 'commit' or name in self.taken:
+        self.names, self.ops, self.moments, self.aborted, self.keys = [(0, 0)], [[]], [(None, None)], [], []
+        for name, it in named(sessions):
+            if it.outcome == 'commit' or name in self.taken:
                 self.names.append(name)
-                self.ops.append(ops)
+                self.ops.append(it.ops)
+                self.moments.append((it.begun, it.ended))
             else:
-                self.aborted.append(ops)
+                self.aborted.append(it.ops)
+            for op in it.ops:
+                if op[1] not in self.keys:
+                    self.keys.append(op[1])
         self.n = len(self.ops) - 1
-        self.keys = []
-        for _, transactions in sessions:
-            for ops, _ in transactions:
-                for op in ops:
-                    if op[1] not in self.keys:
-                        self.keys.append(op[1])
         self.nodes = range(1, self.n + 1)
 
     def last_write(self, ops, key):
@@ -187,8 +201,18 @@ class History:
                     return 'A7', x, source, both[0], both[1]
         return None
 
+    def ended_before(self, u, v):
+        """Whether a node ended before another one began, by the moments that both state."""
+        ended, begun = self.moments[u][1], self.moments[v][0]
+        return u != v and None not in (ended, begun) and ended < begun
+
+    def comes_before(self, u, v):
+        """Whether a node has to stand before another one whatever they read."""
+        return u < v and self.names[u][0] == self.names[v][0] or self.ended_before(u, v)
+
     def arcs(self):
         found = {(0, j) for j in self.nodes}
+        found |= {(u, v) for u in self.nodes for v in self.nodes if self.ended_before(u, v)}
         found |= {(a, a + 1) for a in self.nodes if a < self.n and self.names[a][0] == self.names[a + 1][0]}
         found |= {(self.source(r, key), r) for r in self.nodes for key in self.keys if self.source(r, key) is not None}
         return sorted(found)
@@ -385,7 +409,7 @@ class History:
         if sorted(order) != list(self.nodes):
             return False
         place = {v: p for p, v in enumerate(order)}
-        if any(self.names[a][0] == self.names[b][0] and place[a] > place[b] for a in self.nodes for b in self.nodes if a < b):
+        if any(self.comes_before(a, b) and place[a] > place[b] for a in self.nodes for b in self.nodes):
             return False
         store = {}
         for v in order:
@@ -405,7 +429,7 @@ class History:
             if not left:
                 return True
             for v in left:
-                if any(u < v and self.names[u][0] == self.names[v][0] for u in left):
+                if any(self.comes_before(u, v) for u in left):
                     continue
                 after = dict(store)
                 for kind, key, wid in self.ops[v]:
@@ -430,12 +454,12 @@ def formula_text(text, plain):
 
 def log_counts(text, history):
     """What `stats` counts in the log itself."""
-    transactions = named(history.sessions)
-    ended = lambda word: sum(outcome == word for _, _, outcome in transactions)
+    transactions = [it for _, it in named(history.sessions)]
+    ended = lambda word: sum(it.outcome == word for it in transactions)
     counts = [('sessions', len(history.sessions)), ('committed', ended('commit')), ('aborted', ended('abort'))]
-    if version_of(text) == 2:
+    if version_of(text) > 1:
         counts += [('unknown', ended('unknown')), ('taken', len(history.taken))]
-    return counts + [('keys', len(history.keys)), ('operations', sum(len(ops) for _, ops, _ in transactions))]
+    return counts + [('keys', len(history.keys)), ('operations', sum(len(it.ops) for it in transactions))]
 
 
 def stats_text(text, plain):

@@ -24,9 +24,9 @@ void *__real_realloc(void *, size_t); void *__wrap_realloc(void *p, size_t n) { 
 '''
 NAME = 'library_calls'
 BELOW = 'branch_search cobra_cli desk dimacs session_log'
-LOGS = ('lost_update', 'crossed_readers', 'chain', 'two_writers', 'forced_choices', 'unknown_read', 'unknown_chain')
+LOGS = ('lost_update', 'crossed_readers', 'chain', 'two_writers', 'forced_choices', 'unknown_read', 'unknown_chain', 'overlap_in_time', 'stale_in_time')
 MODELS = {'chain': b's SATISFIABLE\n', 'forced_choices': b's SATISFIABLE\n', 'two_writers': b's SATISFIABLE\nv 1 -2 3 0\n',
-          'unknown_read': b's SATISFIABLE\nv 1 -2 3 0\n', 'unknown_chain': b's SATISFIABLE\n'}
+          'unknown_read': b's SATISFIABLE\nv 1 -2 3 0\n', 'unknown_chain': b's SATISFIABLE\n', 'overlap_in_time': b's SATISFIABLE\n'}
 WORKERS = ('1', '4')
 MEMORY = ('Memory', 'Log(Memory)', 'Formula(Memory)', 'Answer(Memory)', 'Order(Memory)')
 # Runs side by side, of which none may meet a refusal any more at the end of a sweep.

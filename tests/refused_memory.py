@@ -9,7 +9,7 @@ library that stands before the allocator of the C library.
 Once the first piece of a formula went out, a run in which every further request is refused must write the same text, and make none.
 
 GRAPHS is the program that times the crates of graphs. Of it each run must end by itself, and must not count other choices
-than it does with ample memory. With --version-1 no log is of version 2. Last line: 'refused memory: N passed, M failed'."""
+than it does with ample memory. With --version-1 all logs are of version 1. Last line: 'refused memory: N passed, M failed'."""
 import os, shutil, subprocess, sys, tempfile
 
 HERE = os.path.dirname(os.path.abspath(__file__))
@@ -78,11 +78,11 @@ def main():
         calls = [['encode', '--plain', paths['log']], ['stats', '--plain', paths['log']],
                  ['decode', '--plain', '--model', paths['plain_answer'], paths['log']], ['verify', '--order', paths['order'], paths['log']]]
         calls += [['decode', '--workers', count, '--model', paths['answer'], paths['log']] for count in ('1', '4')]
-        logs = [paths['log'], *examples('two_chains', 'forced_choices', 'crossed_readers', 'unknown_chain')]
+        logs = [paths['log'], *examples('two_chains', 'forced_choices', 'crossed_readers', 'unknown_chain', 'overlap_in_time')]
         calls += [[command, '--workers', count, log] for command in ('encode', 'stats') for count in ('1', '4') for log in logs]
-        logs = [paths['log'], *examples('crossed_readers', 'forced_choices', 'forced_cycle', 'write_skew', 'lost_update', 'unknown_read')]
+        logs = [paths['log'], *examples('crossed_readers', 'forced_choices', 'forced_cycle', 'write_skew', 'lost_update', 'unknown_read', 'stale_in_time')]
         calls += [['check', '--workers', count, log] for count in ('1', '2', '4') for log in logs]
-        for log in examples('unknown_read'):
+        for log in examples('unknown_read', 'overlap_in_time'):
             calls += [['encode', '--plain', log], ['stats', '--plain', log], ['verify', '--order', paths['order'], log],
                       ['decode', '--workers', '4', '--model', paths['answer'], log], ['decode', '--plain', '--model', paths['plain_answer'], log]]
         for words in calls:

@@ -16,7 +16,7 @@ sys.path.insert(0, HERE)
 import generate, reference
 
 SOLVERS = {'cadical': ['cadical', '-q'], 'picosat': ['picosat'], 'cryptominisat': ['cryptominisat5', '--verb', '0']}
-MADE, DAMAGED = {1: 300, 2: 200}, {1: 10000, 2: 6000}
+MADE, DAMAGED = {1: 200, 2: 130, 3: 170}, {1: 6000, 2: 4000, 3: 6000}
 
 
 def installed():

@@ -2,7 +2,7 @@
 """verdicts.py PROGRAM [--version-1]: what `check` says of small logs, against all orders and against the plain, slow reference beside
 this file.
 
-Each log of examples/ and a few thousand made ones, of both versions or with --version-1 of the first alone, go through `check` with each
+Each log of examples/ and a few thousand made ones, of all versions or with --version-1 of the first alone, go through `check` with each
 strategy and with 1 and 4 workers. An anomaly, a cycle and its place must be the reference's, to the byte; `serializable` must come with an
 order that explains every read, and only where there is one; where every cube is refuted no order may be serial. Logs of many open choices
 that a search has to go through are made besides, and some are searched with too small a budget. Last line: 'verdicts: N passed, M failed'."""
@@ -11,20 +11,29 @@ import concurrent.futures, os, random, subprocess, sys
 HERE = os.path.dirname(os.path.abspath(__file__))
 sys.path.insert(0, HERE)
 import generate, reference
+from reference import Transaction
 
-MADE, SEARCHED = {1: 2500, 2: 1500}, {1: 600, 2: 300}
+MADE, SEARCHED = {1: 1600, 2: 1000, 3: 1400}, {1: 350, 2: 200, 3: 350}
 WAYS = [(strategy, workers) for strategy in ('first', 'most', 'least', 'forced') for workers in ('1', '4')] + [('forced', '16')]
 # Of these logs `first` leaves each unknown at the budget that is taken where none is said, and `forced` finds an order.
-BLIND = (1, 2, 4, 6)
+BLIND = {1: (1, 2, 4), 2: (1, 6), 3: (2, 4, 6)}
 
 
 def outcome_of(r, version):
     return 'unknown' if version == 2 and r.random() < 0.4 else 'commit'
 
 
+def some_moments(r, count):
+    """Moments for some of these transactions, of which each began when the one before it had ended."""
+    said = [(None, None)] * count
+    for turn, place in enumerate(r.sample(range(count), r.randint(2, 3))):
+        said[place] = 2 * turn, 2 * turn + 1
+    return said
+
+
 def searched_log(seed, version):
     """Writers of two keys in sessions of their own, and readers of both: most choices stay open, and many of these have no order. In
-    version 2 some outcomes are unknown: of readers, and of writers that are then taken."""
+    version 2 some outcomes are unknown: of readers, and of writers that are then taken. In version 3 some transactions state moments."""
     r = random.Random(seed)
     writers = [('x', 1), ('x', 2), ('y', 3), ('y', 4)] + [('x', 5)] * r.randint(0, 1)
     pairs = [(x, y) for x in (1, 2) for y in (3, 4)]
@@ -32,12 +41,15 @@ def searched_log(seed, version):
         pairs = r.sample(pairs, r.randint(1, 3)) + [(r.choice([1, 2, 0]), r.choice([3, 4]))]
     transactions = [[('w', key, wid)] for key, wid in writers] + [[('r', 'x', x), ('r', 'y', y)] for x, y in pairs]
     r.shuffle(transactions)
-    return generate.text_of([(number, [(ops, outcome_of(r, version))]) for number, ops in enumerate(transactions, 1)], version)
+    said = some_moments(r, len(transactions)) if version == 3 else [(None, None)] * len(transactions)
+    made = [Transaction(ops, outcome_of(r, version), *pair) for ops, pair in zip(transactions, said)]
+    return generate.text_of([(number, [it]) for number, it in enumerate(made, 1)], version)
 
 
 def blind_log(seed, version):
     """Two dozen blind writers of two keys, and readers of both, each transaction in a session of its own: serializable as it was made. In
-    version 2 the outcome of each writer that somebody reads is unknown, which changes nothing in the answer."""
+    version 2 the outcome of each writer that somebody reads is unknown, and in version 3 none ended before another began, which changes
+    nothing in the answer."""
     r = random.Random(seed)
     store, transactions = {'x': 0, 'y': 0}, []
     for wid in range(1, 25):
@@ -49,7 +61,8 @@ def blind_log(seed, version):
     r.shuffle(transactions)
     seen = {op[1:] for ops in transactions for op in ops if op[0] == 'r'}
     outcomes = ['unknown' if version == 2 and ops[0][0] == 'w' and ops[0][1:] in seen else 'commit' for ops in transactions]
-    return generate.text_of([(number, [it]) for number, it in enumerate(zip(transactions, outcomes), 1)], version)
+    made = [Transaction(*it, *((turn, 100 + turn) if version == 3 else ())) for turn, it in enumerate(zip(transactions, outcomes))]
+    return generate.text_of([(number, [it]) for number, it in enumerate(made, 1)], version)
 
 
 def call(program, text, *words):
@@ -113,13 +126,13 @@ def judged_blind(program, seed, version):
 
 def main():
     program, versions = os.path.abspath(sys.argv[1]), generate.versions(sys.argv)
-    logs = [(name, text) for name, text in generate.examples(versions) if text.count(b'commit\n') <= 9]
+    logs = [(name, text) for name, text in generate.examples(versions) if text.count(b'commit') <= 9]
     for version in versions:
         logs += [('made log %d, version %d' % (seed, version), generate.small_log(seed, version)) for seed in range(MADE[version])]
         logs += [('searched log %d, version %d' % (seed, version), searched_log(seed, version)) for seed in range(SEARCHED[version])]
     passed, failed, kinds = 0, 0, {}
     with concurrent.futures.ThreadPoolExecutor() as pool:
-        jobs = [(judged_blind, seed, version) for version in versions for seed in BLIND] + [(judged, *log) for log in logs]
+        jobs = [(judged_blind, seed, version) for version in versions for seed in BLIND[version]] + [(judged, *log) for log in logs]
         for kind, found in pool.map(lambda job: job[0](program, *job[1:]), jobs):
             kinds[kind] = kinds.get(kind, 0) + 1
             for fault in found:

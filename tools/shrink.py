@@ -4,13 +4,13 @@
 It drops transactions, each with the reads of its writes, as long as the program's `check` still answers 'not serializable', first many at
 once, then one by one, and writes the smallest log that it found: to SMALLER, or to LOG with .small before its end. A log has no comments,
 so a second file, SMALLER.map, has a line for each line of the smaller log: its number, its number in LOG, its transaction, the same
-transaction's name in LOG (SESSION.PLACE, and - for a session's own line and for the header), and its text. A log of version 2 keeps its
-header, and outcomes that are unknown stay so.
+transaction's name in LOG (SESSION.PLACE, and - for a session's own line and for the header), and its text. A log of version 2 or 3 keeps
+its header, outcomes that are unknown stay so, and moments stay as they are.
 
 Nothing of this is proved: the smaller log is another log. What `check` says of it is as proved as the program is."""
 import argparse, os, subprocess, sys
 
-HEADER = 'log 2'
+HEADERS = ('log 2', 'log 3')
 TOP = os.path.dirname(os.path.dirname(os.path.abspath(__file__)))
 NOT_SERIALIZABLE = 1
 
@@ -29,13 +29,13 @@ def read(text):
     """The header of a well-formed log, as a line that is kept where there is one, and the log's transactions, in its order."""
     header, found, session, place = [], [], None, 0
     for number, line in enumerate(text.splitlines(), 1):
-        if line == HEADER:
+        if line in HEADERS:
             header.append((number, line, '- -'))
             continue
         if line.startswith('session '):
             session, place = (number, line), 0
             continue
-        if line == 'begin':
+        if line.startswith('begin'):
             place += 1
             found.append(Transaction(session, '%s.%d' % (session[1].split(' ')[1], place)))
         found[-1].lines.append((number, line))

@@ -27,7 +27,7 @@ use known_graph::Known;
 use polygraph::ChoiceIx;
 use prune_ledger::{Pruned, Reduced, prune};
 use pruning_laws::Side;
-use session_history::{History, Order};
+use session_history::History;
 use session_log::{Block, LogFault, Session, cut, parse_block};
 use std::alloc::{AllocError, Global};
 use std::marker::Brand;
@@ -51,10 +51,6 @@ const EIGHT: &str = "session 1\nbegin\nw x 1\ncommit\nsession 2\nbegin\nw x 2\nc
 const SIX_WRITERS: &str = "session 1\nbegin\nw x 1\ncommit\nsession 2\nbegin\nw x 2\ncommit\n\
     session 3\nbegin\nw x 3\ncommit\nsession 4\nbegin\nw x 4\ncommit\n\
     session 5\nbegin\nw x 5\ncommit\nsession 6\nbegin\nw x 6\ncommit\n";
-
-// A writer, another, and a reader of the first: the second comes first or last.
-const READER_OF_ONE: &str = "session 1\nbegin\nw x 1\ncommit\nsession 2\nbegin\nw x 2\ncommit\n\
-    session 3\nbegin\nr x 1\ncommit\n";
 
 fn sessions_in(alloc: Global, log: &[u8], blocks: &[Block]) -> Result<Vec<Session>, LogFault>
     requires { blocks.now ≡ blocks_of log.now }
@@ -107,46 +103,24 @@ fn reduced_of<R: Threads + Wait + Clock + Sync>(
     }
 }
 
-// The answer for a log.
-fn answer_of<S: Strategy, G: Gate, R: Threads + Wait + Clock + Sync>(
+// The tree that a search of the eight transactions ends with.
+fn tree_of_eight<S: Strategy, G: Gate, R: Threads + Wait + Clock + Sync>(
     rt: &R,
     alloc: Global,
-    log: &str,
     strategy: &S,
     workers: u8,
-    budget: usize,
     gate: &G,
-) -> Result<Answer, Fail> {
-    let history = read(alloc, log.as_bytes())?;
+) -> Result<Tree, Fail> {
+    let history = read(alloc, EIGHT.as_bytes())?;
     let reduced = reduced_of(rt, alloc, &history)?;
     let workers = Workers::new(workers).ok_or("workers")?;
-    let budget = Budget::new(budget).ok_or("a budget")?;
-    Ok(search(
+    let budget = Budget::new(7).ok_or("a budget")?;
+    let answer = search(
         rt, alloc, &history, &reduced, strategy, workers, budget, gate,
-    )?)
-}
-
-// How many nodes were closed, where the answer is unknown.
-fn closed_in(answer: Answer) -> Option<usize> {
+    )?;
     match answer {
-        Answer::Unknown { closed } => Some(closed),
-        Answer::Yes(_) | Answer::No(_) => None,
-    }
-}
-
-// The tree, where the answer is no.
-fn tree_in(answer: Answer) -> Option<Tree> {
-    match answer {
-        Answer::No(tree) => Some(tree),
-        Answer::Yes(_) | Answer::Unknown { closed: _ } => None,
-    }
-}
-
-// The order, where the answer is yes.
-fn order_in(answer: Answer) -> Option<Order> {
-    match answer {
-        Answer::Yes(order) => Some(order),
-        Answer::No(_) | Answer::Unknown { closed: _ } => None,
+        Answer::No(tree) => Ok(tree),
+        Answer::Yes(_) | Answer::Unknown { closed: _ } => Err("not refuted")?,
     }
 }
 
@@ -160,148 +134,80 @@ fn leaf_count(tree: &Tree) -> usize {
         .count()
 }
 
-fn see_spent<S: Strategy, R: Threads + Wait + Clock + Abort + Sync>(
-    rt: &R,
-    alloc: Global,
-    strategy: &S,
-) -> Result<(), Fail> {
-    for workers in [1, 4] {
-        let answer = answer_of(rt, alloc, EIGHT, strategy, workers, 6, &OpenGate)?;
-        assert_eq!(rt; closed_in(answer), Some(6));
-    }
-    Ok(())
-}
-
-#[test]
-fn a_budget_of_6_is_spent(rt: HostRuntime) -> Result<(), Fail> {
-    let alloc = rt.alloc();
-    see_spent(&rt, alloc, &FirstOpen)?;
-    see_spent(&rt, alloc, &MostEdges)?;
-    see_spent(&rt, alloc, &LeastEdges)?;
-    let answer = answer_of(&rt, alloc, READER_OF_ONE, &FirstOpen, 1, 1, &OpenGate)?;
-    assert_eq!(rt; closed_in(answer), Some(1));
-    Ok(())
-}
-
-fn see_refuted<S: Strategy, R: Threads + Wait + Clock + Abort + Sync>(
-    rt: &R,
-    alloc: Global,
-    strategy: &S,
-) -> Result<(), Fail> {
-    for workers in [1, 2, 16] {
-        let answer = answer_of(rt, alloc, EIGHT, strategy, workers, 7, &OpenGate)?;
-        let tree = tree_in(answer).ok_or("not refuted")?;
-        assert_eq!(rt; tree.nodes().len(), 7);
-        assert_eq!(rt; leaf_count(&tree), 4);
-        let history = read(alloc, EIGHT.as_bytes())?;
-        let reduced = reduced_of(rt, alloc, &history)?;
-        assert!(rt; check_tree(reduced.poly(), &tree));
-        let again = Tree::from_nodes(tree.into_nodes());
-        assert_eq!(rt; leaf_count(&again), 4);
-    }
-    Ok(())
-}
-
 #[test]
 fn seven_nodes_refute_every_cube(rt: HostRuntime) -> Result<(), Fail> {
     let alloc = rt.alloc();
-    see_refuted(&rt, alloc, &FirstOpen)?;
-    see_refuted(&rt, alloc, &MostEdges)?;
-    see_refuted(&rt, alloc, &LeastEdges)?;
-    Ok(())
-}
-
-// What is changed in a tree, at its last node or the two last, which are leaves.
-#[derive(Clone, Copy)]
-enum Change {
-    AnotherLeafsCycle,
-    LeafRemoved,
-    SideChanged,
-    NoNodes,
-}
-
-fn alter(alloc: Global, nodes: &mut Vec<TreeNode>, change: Change) -> Result<(), Fail> {
-    let mut last = nodes.pop().ok_or("a node")?;
-    match change {
-        Change::AnotherLeafsCycle => {
-            let other = nodes.last().ok_or("a node")?;
-            if let Growth::Leaf(line) = &other.growth {
-                last.growth = Growth::Leaf(NodeLine::from_nodes(line.nodes().to_vec(alloc)?));
-            }
-            nodes.push(last)?;
-        }
-        Change::LeafRemoved => (),
-        Change::SideChanged => {
-            let decision = last.decision.ok_or("a decision")?;
-            last.decision = Some(Decision {
-                choice: decision.choice,
-                side: Side::One,
-            });
-            nodes.push(last)?;
-        }
-        Change::NoNodes => nodes.clear(),
+    let history = read(alloc, EIGHT.as_bytes())?;
+    let reduced = reduced_of(&rt, alloc, &history)?;
+    for workers in [1, 2, 16] {
+        let tree = tree_of_eight(&rt, alloc, &FirstOpen, workers, &OpenGate)?;
+        assert_eq!(rt; tree.nodes().len(), 7);
+        assert_eq!(rt; leaf_count(&tree), 4);
+        assert!(rt; check_tree(reduced.poly(), &tree));
     }
     Ok(())
 }
 
+// These nodes are no tree that shows that no order fits; they are given back.
+fn see_no_tree(rt: &impl Abort, reduced: &Reduced, nodes: Vec<TreeNode>) -> Vec<TreeNode> {
+    let tree = Tree::from_nodes(nodes);
+    assert!(rt; !check_tree(reduced.poly(), &tree));
+    tree.into_nodes()
+}
+
+// The cycle of a leaf, or nothing.
+fn cycle_of(rt: &impl Abort, alloc: Global, node: &TreeNode) -> NodeLine {
+    match &node.growth {
+        Growth::Leaf(line) => {
+            NodeLine::from_nodes(line.nodes().to_vec(alloc).expect(rt, "memory"))
+        }
+        Growth::Inner { .. } => NodeLine::from_nodes(Vec::new(alloc)),
+    }
+}
+
+// The last two nodes are leaves. The last one is taken away, then put back with the cycle of the other, then with its own but by
+// the other side.
 #[test]
 fn changed_trees_show_nothing(rt: HostRuntime) -> Result<(), Fail> {
     let alloc = rt.alloc();
     let history = read(alloc, EIGHT.as_bytes())?;
     let reduced = reduced_of(&rt, alloc, &history)?;
-    for how in [
-        Change::AnotherLeafsCycle,
-        Change::LeafRemoved,
-        Change::SideChanged,
-        Change::NoNodes,
-    ] {
-        let answer = answer_of(&rt, alloc, EIGHT, &FirstOpen, 1, 7, &OpenGate)?;
-        let mut nodes = tree_in(answer).ok_or("not refuted")?.into_nodes();
-        alter(alloc, &mut nodes, how)?;
-        assert!(rt; !check_tree(reduced.poly(), &Tree::from_nodes(nodes)));
-    }
+    see_no_tree(&rt, &reduced, Vec::new(alloc));
+    let mut nodes = tree_of_eight(&rt, alloc, &FirstOpen, 1, &OpenGate)?.into_nodes();
+    let mut last = nodes.pop().ok_or("a node")?;
+    let own = cycle_of(&rt, alloc, &last);
+    let mut nodes = see_no_tree(&rt, &reduced, nodes);
+    let other = cycle_of(&rt, alloc, nodes.last().ok_or("a node")?);
+    last.growth = Growth::Leaf(other);
+    nodes.push(last)?;
+    let mut nodes = see_no_tree(&rt, &reduced, nodes);
+    let mut last = nodes.pop().ok_or("a node")?;
+    let Decision { choice, side: _ } = last.decision.ok_or("a decision")?;
+    let side = Side::One;
+    last.decision = Some(Decision { choice, side });
+    last.growth = Growth::Leaf(own);
+    nodes.push(last)?;
+    see_no_tree(&rt, &reduced, nodes);
     Ok(())
 }
 
-// The step that spends the budget solves.
-#[test]
-fn a_cube_is_solved_as_the_budget_is_spent(rt: HostRuntime) -> Result<(), Fail> {
-    assert!(rt; is_replayed(&rt, rt.alloc(), READER_OF_ONE, &FirstOpen, 1, 2)?);
-    Ok(())
-}
-
-// Side one of the choice, by which the reader stands before the second writer, is searched first.
-#[test]
-fn first_sides_come_first(rt: HostRuntime) -> Result<(), Fail> {
-    let alloc = rt.alloc();
-    let answer = answer_of(&rt, alloc, READER_OF_ONE, &FirstOpen, 1, 3, &OpenGate)?;
-    let order = order_in(answer).ok_or("no order")?;
-    let numbers = order.nodes().iter().map(|node| node.get());
-    assert!(rt; numbers.eq([1, 3, 2]));
-    Ok(())
-}
-
-// Whether the answer for a log is an order that its replay accepts.
-fn is_replayed<S: Strategy, R: Threads + Wait + Clock + Sync>(
-    rt: &R,
-    alloc: Global,
-    log: &str,
-    strategy: &S,
-    workers: u8,
-    budget: usize,
-) -> Result<bool, Fail> {
-    let answer = answer_of(rt, alloc, log, strategy, workers, budget, &OpenGate)?;
-    let order = order_in(answer).ok_or("no order")?;
-    let history = read(alloc, log.as_bytes())?;
-    Ok(replay(alloc, &history, &order).is_ok())
-}
-
+// Fifteen choices are open, and a budget of many fewer cubes than there are suffices.
 #[test]
 fn orders_are_replayed(rt: HostRuntime) -> Result<(), Fail> {
     let alloc = rt.alloc();
-    assert!(rt; is_replayed(&rt, alloc, SIX_WRITERS, &FirstOpen, 1, 10_000)?);
-    assert!(rt; is_replayed(&rt, alloc, SIX_WRITERS, &FirstOpen, 4, 10_000)?);
-    assert!(rt; is_replayed(&rt, alloc, READER_OF_ONE, &FirstOpen, 2, 3)?);
+    let history = read(alloc, SIX_WRITERS.as_bytes())?;
+    let reduced = reduced_of(&rt, alloc, &history)?;
+    let budget = Budget::new(10_000).ok_or("a budget")?;
+    for count in [1, 4] {
+        let workers = Workers::new(count).ok_or("workers")?;
+        let answer = search(
+            &rt, alloc, &history, &reduced, &FirstOpen, workers, budget, &OpenGate,
+        )?;
+        match answer {
+            Answer::Yes(order) => assert!(rt; replay(alloc, &history, &order).is_ok()),
+            Answer::No(_) | Answer::Unknown { closed: _ } => Err("no order")?,
+        }
+    }
     Ok(())
 }
 
@@ -310,46 +216,23 @@ fn strategies_in_turn(rt: HostRuntime) -> Result<(), Fail> {
     let alloc = rt.alloc();
     let words = Vec::from_array(alloc, [5, 2, 7])?;
     let strategy = Alternate::new(MostEdges, ByWords::new(words));
-    assert!(rt; is_replayed(&rt, alloc, SIX_WRITERS, &strategy, 2, 10_000)?);
-    let answer = answer_of(&rt, alloc, EIGHT, &strategy, 2, 7, &OpenGate)?;
-    assert_eq!(rt; tree_in(answer).ok_or("not refuted")?.nodes().len(), 7);
+    let tree = tree_of_eight(&rt, alloc, &strategy, 2, &OpenGate)?;
+    assert_eq!(rt; tree.nodes().len(), 7);
     Ok(())
 }
 
-// Counts turns.
-#[derive(Drop)]
-struct Counting {
-    turns: AtomicU64,
-}
-
-impl Gate for Counting {
-    fn pass<R: Wait + Clock>(&self, _rt: &R, _seat: SeatNo, _turn: u64) {
-        self.turns.fetch_add(1, Ordering::SeqCst);
-    }
-}
-
-#[test]
-fn each_closed_node_takes_a_turn(rt: HostRuntime) -> Result<(), Fail> {
-    let alloc = rt.alloc();
-    let gate = Counting {
-        turns: AtomicU64::new(0),
-    };
-    let answer = answer_of(&rt, alloc, EIGHT, &FirstOpen, 2, 7, &gate)?;
-    assert!(rt; tree_in(answer).is_some());
-    assert!(rt; gate.turns.load(Ordering::SeqCst) >= 7);
-    Ok(())
-}
-
-// Holds a seat at its first turn 0 until the other has once come to a turn 1.
+// Holds a seat at its first turn 0 until the other has once come to a turn 1, and counts turns.
 #[derive(Drop)]
 struct Holding {
     held: u8,
     came: AtomicBool,
     missed: AtomicBool,
+    turns: AtomicU64,
 }
 
 impl Gate for Holding {
     fn pass<R: Wait + Clock>(&self, rt: &R, seat: SeatNo, turn: u64) {
+        self.turns.fetch_add(1, Ordering::SeqCst);
         if seat.get() != self.held {
             if turn == 1 {
                 self.came.store(true, Ordering::SeqCst);
@@ -375,18 +258,23 @@ impl Holding {
     }
 }
 
+fn gate_holding(held: u8) -> Holding {
+    Holding {
+        held,
+        came: AtomicBool::new(false),
+        missed: AtomicBool::new(false),
+        turns: AtomicU64::new(0),
+    }
+}
+
 #[test]
 fn each_of_two_workers_takes_turns(rt: HostRuntime) -> Result<(), Fail> {
     let alloc = rt.alloc();
     for held in [1, 2] {
-        let gate = Holding {
-            held,
-            came: AtomicBool::new(false),
-            missed: AtomicBool::new(false),
-        };
-        let answer = answer_of(&rt, alloc, EIGHT, &FirstOpen, 2, 7, &gate)?;
-        assert!(rt; tree_in(answer).is_some());
+        let gate = gate_holding(held);
+        tree_of_eight(&rt, alloc, &FirstOpen, 2, &gate)?;
         assert!(rt; !gate.missed.load(Ordering::SeqCst));
+        assert!(rt; gate.turns.load(Ordering::SeqCst) >= 7);
     }
     Ok(())
 }
@@ -446,44 +334,15 @@ fn two_workers_pick_at_once(rt: HostRuntime) -> Result<(), Fail> {
         begun: AtomicU64::new(0),
         missed: AtomicBool::new(false),
     };
-    let answer = answer_of(&rt, rt.alloc(), EIGHT, &strategy, 2, 7, &OpenGate)?;
-    assert!(rt; tree_in(answer).is_some());
+    tree_of_eight(&rt, rt.alloc(), &strategy, 2, &OpenGate)?;
     assert!(rt; !strategy.missed.load(Ordering::SeqCst));
     Ok(())
 }
 
-// Holds seat 2 at its turn 0 until seat 1 has a cube.
-#[derive(Drop)]
-struct Leaving {
-    taken: AtomicBool,
-    missed: AtomicBool,
-}
-
-impl Gate for Leaving {
-    fn pass<R: Wait + Clock>(&self, rt: &R, _seat: SeatNo, turn: u64) {
-        if turn == 0 {
-            self.wait(rt);
-        }
-    }
-}
-
-impl Leaving {
-    // Looks at most 10,000 times, a millisecond apart.
-    fn wait<R: Clock>(&self, rt: &R) {
-        for _ in 0..10_000 {
-            if self.taken.load(Ordering::SeqCst) {
-                return;
-            }
-            thread::sleep(rt, Duration::from_millis(1));
-        }
-        self.missed.store(true, Ordering::SeqCst);
-    }
-}
-
-// Seat 1 takes a cube, and leaves a little later with it in hand. Seat 2 works, and has to wait at first.
+// Seat 1 takes a cube, and leaves a little later with it in hand. Seat 2 works once seat 1 has the cube, and has to wait at first.
 fn leave_or_work<'b, 'a, J: Naming, R: Wait + Clock>(
     rt: &R,
-    job: Job<'b, 'a, FirstOpen, J, Leaving>,
+    job: Job<'b, 'a, FirstOpen, J, Holding>,
 ) -> Left<CubeMachine<'a>, J> {
     if job.seat.number().get() == 2 {
         return work(rt, job);
@@ -498,7 +357,7 @@ fn leave_or_work<'b, 'a, J: Naming, R: Wait + Clock>(
         gate,
     } = job;
     let taken = desk.call(rt, &mut seat, Event::TakeAny).is_ok();
-    gate.taken.store(taken, Ordering::SeqCst);
+    gate.came.store(taken, Ordering::SeqCst);
     let _ = thread::sleep(rt, Duration::from_millis(50));
     let (_, left) = desk.leave(rt, seat, Event::Release);
     left
@@ -506,7 +365,7 @@ fn leave_or_work<'b, 'a, J: Naming, R: Wait + Clock>(
 
 fn leave_and_work<'b, 'a, J: Naming + Send + Sync, R: Threads + Wait + Clock + Sync>(
     rt: &R,
-    jobs: Vec<Job<'b, 'a, FirstOpen, J, Leaving>>,
+    jobs: Vec<Job<'b, 'a, FirstOpen, J, Holding>>,
 ) -> Result<Vec<Left<CubeMachine<'a>, J>>, AllocError> {
     thread::map_vec(rt, jobs, &|job| leave_or_work(rt, job))
 }
@@ -517,7 +376,7 @@ fn search_after_a_leave<'a, J: Naming + Send + Sync, R: Threads + Wait + Clock +
     opened: Opened<CubeMachine<'a>>,
     reduced: &Reduced,
     row: &Row,
-    gate: &Leaving,
+    gate: &Holding,
 )
     requires names { J.names ≡ opened.1 }
     requires desk { J.desk ≡ opened.2 }
@@ -548,10 +407,7 @@ fn a_seat_leaves_with_a_cube_in_hand(rt: HostRuntime) -> Result<(), Fail> {
     let machine = CubeMachine::opening(alloc, reduced.poly(), budget, &row)?;
     let two = Workers::new(2).ok_or("workers")?;
     let opened = Opened::new(alloc, machine, two)?;
-    let gate = Leaving {
-        taken: AtomicBool::new(false),
-        missed: AtomicBool::new(false),
-    };
+    let gate = gate_holding(2);
     search_after_a_leave::<Brand, _>(&rt, alloc, opened, &reduced, &row, &gate);
     assert!(rt; !gate.missed.load(Ordering::SeqCst));
     Ok(())

@@ -27,6 +27,7 @@ cut_at Says Refuses log ss old new status text (fault.NotAModel k) w says cut = 
 cut_at Says Refuses log ss old new status text (fault.Order f) w says cut = absurd cut
 cut_at Says Refuses log ss old new status text fault.NotAPermutation w says cut = absurd cut
 cut_at Says Refuses log ss old new status text (fault.SessionOrder s p) w says cut = absurd cut
+cut_at Says Refuses log ss old new status text (fault.MomentOrder s p) w says cut = absurd cut
 cut_at Says Refuses log ss old new status text (fault.ReadMismatch s p o) w says cut = absurd cut
 cut_at Says Refuses log ss old new status text (fault.Device written) w says cut =
     by_device written (record { sessions = ss; well_formed = w; status = status; text = text; says = says; cut = cut })

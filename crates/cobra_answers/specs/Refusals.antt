@@ -46,6 +46,7 @@ log_refusal (log.OpenTransaction line) = codes "refused: L4 line " ++ decimal li
 log_refusal (log.WriteZero line) = codes "refused: L5 line " ++ decimal line
 log_refusal (log.WriteTwice line) = codes "refused: L6 line " ++ decimal line
 log_refusal (log.UnknownNotLast line) = codes "refused: L9 line " ++ decimal line
+log_refusal (log.EndsBeforeBegin line) = codes "refused: L10 line " ++ decimal line
 log_refusal (log.OverLimit which) = codes "refused: L7 " ++ limit_name which
 log_refusal log.Memory = memory_line
 
@@ -83,6 +84,7 @@ refusal (fault.NotAModel clause) = codes "refused: E1 clause " ++ decimal clause
 refusal (fault.Order f) = order_refusal f
 refusal fault.NotAPermutation = codes "refused: P1"
 refusal (fault.SessionOrder session place) = at_transaction (codes "refused: P2 ") session place
+refusal (fault.MomentOrder session place) = at_transaction (codes "refused: P5 ") session place
 refusal (fault.ReadMismatch session place op) = at_transaction (codes "refused: P3 ") session place ++ codes " op " ++ decimal op
 refusal (fault.Device written) = output_line
 refusal fault.Memory = memory_line

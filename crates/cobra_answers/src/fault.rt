@@ -41,6 +41,12 @@ pub enum Fault {
         session: u16,
         place: usize,
     },
+    /// The first listed transaction that stands before one that ended before it began.
+    #[error("transaction {session}.{place} stands before one that ended before it began")]
+    MomentOrder {
+        session: u16,
+        place: usize,
+    },
     /// The first read in replay that does not name what its key holds.
     #[error("operation {op} of transaction {session}.{place} reads another version")]
     ReadMismatch {

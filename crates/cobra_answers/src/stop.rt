@@ -155,6 +155,7 @@ fn write_log_refusal<W: fmt::Write>(f: &mut fmt::Formatter<W>, fault: LogFault) 
         LogFault::WriteZero { line } => write!(f, "refused: L5 line {line}"),
         LogFault::WriteTwice { line } => write!(f, "refused: L6 line {line}"),
         LogFault::UnknownNotLast { line } => write!(f, "refused: L9 line {line}"),
+        LogFault::EndsBeforeBegin { line } => write!(f, "refused: L10 line {line}"),
         LogFault::OverLimit { which } => {
             let name = limit_name(which);
             write!(f, "refused: L7 {name}")
@@ -211,6 +212,7 @@ fn write_refusal<W: fmt::Write>(f: &mut fmt::Formatter<W>, fault: Fault) -> fmt:
         Fault::Order(fault) => write_order_refusal(f, fault),
         Fault::NotAPermutation => write!(f, "refused: P1"),
         Fault::SessionOrder { session, place } => write!(f, "refused: P2 {session}.{place}"),
+        Fault::MomentOrder { session, place } => write!(f, "refused: P5 {session}.{place}"),
         Fault::ReadMismatch { session, place, op } => {
             write!(f, "refused: P3 {session}.{place} op {op}")
         }

@@ -24,6 +24,7 @@ named whole (faults.OpenTransaction k) m to h = to (faults.OpenTransaction k) h
 named whole (faults.WriteZero k) m to h = to (faults.WriteZero k) h
 named whole (faults.WriteTwice k) m to h = to (faults.WriteTwice k) h
 named whole (faults.UnknownNotLast k) m to h = to (faults.UnknownNotLast k) h
+named whole (faults.EndsBeforeBegin k) m to h = to (faults.EndsBeforeBegin k) h
 named whole (faults.OverLimit k) m to h = to (faults.OverLimit k) h
 
 pub from_size : (text : List ℕ) (f : LogFault) → IsFault f (size_fault text) → IsLogFault text f

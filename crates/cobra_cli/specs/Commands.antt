@@ -16,7 +16,7 @@ use Rattle.dimacs.specs.declared.status.Status.TheVariants as claim
 use Rattle.dimacs.specs.Answer as answer
 use Rattle.order_text.specs.Text.{order_text, AreNodes}
 use Rattle.order_text.specs.Faults as listing
-use Rattle.decode_order.specs.declared.fault.ReplayFault.TheVariants.{NotAPermutation, SessionOrder, ReadMismatch}
+use Rattle.decode_order.specs.declared.fault.ReplayFault.TheVariants.{NotAPermutation, SessionOrder, MomentOrder, ReadMismatch}
 use Rattle.decode_order.specs.Replaying.{replay_fault}
 use Rattle.cobra_formulas.specs.declared.basis.Basis.{Basis}
 use Rattle.cobra_formulas.specs.Formulas.{IsFormulaFrom, IsFormulaOf, IsFormulaFault, IsHeadline}
@@ -121,6 +121,8 @@ abbrev pub IsRefusal : List ClientSession → List ℕ → Fault → Type 0
 IsRefusal ss order fault.NotAPermutation = replay_fault (log_of ss) order ≡ Some NotAPermutation
 IsRefusal ss order (fault.SessionOrder session place) =
     (v : ℕ) × ((replay_fault (log_of ss) order ≡ Some (SessionOrder v)) × (name_in ss v ≡ (session, place)))
+IsRefusal ss order (fault.MomentOrder session place) =
+    (v : ℕ) × ((replay_fault (log_of ss) order ≡ Some (MomentOrder v)) × (name_in ss v ≡ (session, place)))
 IsRefusal ss order (fault.ReadMismatch session place op) =
     (v : ℕ) × ((replay_fault (log_of ss) order ≡ Some (ReadMismatch v op)) × (name_in ss v ≡ (session, place)))
 IsRefusal ss order fault.Memory = Unit {0}

@@ -36,6 +36,13 @@ fn replay_refusal(history: &History, order: &Order, fault: ReplayFault) -> Fault
                 place: name.place,
             }
         }
+        ReplayFault::MomentOrder { node } => {
+            let name = history.name_of(node);
+            Fault::MomentOrder {
+                session: name.session,
+                place: name.place,
+            }
+        }
         ReplayFault::ReadMismatch { node, op } => {
             let name = history.name_of(node);
             Fault::ReadMismatch {
@@ -73,7 +80,7 @@ fn verified(alloc: Global, history: &History, order: &[u8]) -> Result<Reply, Fau
 /// Writes `accepted` exactly where an order file lists a serial order of the log.
 ///
 /// # Errors
-/// The log's first fault; the order file's, O1 to O3; then P1, P2 or P3 of the order's replay; the sink's failure; want of
+/// The log's first fault; the order file's, O1 to O3; then P1, P2, P5 or P3 of the order's replay; the sink's failure; want of
 /// memory.
 pub fn verify<R: Threads + Wait + Clock + Sync, G: Gate, W: Sink>(
     rt: &R,

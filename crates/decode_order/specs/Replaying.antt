@@ -7,7 +7,7 @@ use Rattle.serializability.specs.declared.event.Event.TheVariants.{Read, Write}
 use Rattle.serializability.specs.Log.{Log}
 use Rattle.serializability.specs.Replay.{Store, empty, after}
 use Rattle.decode_order.specs.declared.fault.ReplayFault.{ReplayFault}
-use Rattle.decode_order.specs.declared.fault.ReplayFault.TheVariants.{NotAPermutation, SessionOrder, ReadMismatch, Memory}
+use Rattle.decode_order.specs.declared.fault.ReplayFault.TheVariants.{NotAPermutation, SessionOrder, MomentOrder, ReadMismatch, Memory}
 
 -- each of nodes 1 to n is listed once, and nothing else is
 abbrev pub lists_once : ℕ → List ℕ → Bool
@@ -19,6 +19,12 @@ abbrev pub first_early : (ℕ → ℕ) → List ℕ → Option ℕ
 first_early session [] = None
 first_early session (v ∷ behind) =
     if list_any (λ u. nat_lt u v && (session u == session v)) behind then Some v else first_early session behind
+
+-- the first listed node that stands before one that ended before it began
+abbrev pub first_before_ended : (ℕ → ℕ → Bool) → List ℕ → Option ℕ
+first_before_ended earlier [] = None
+first_before_ended earlier (v ∷ behind) =
+    if list_any (λ u. earlier u v) behind then Some v else first_before_ended earlier behind
 
 -- the key that an operation reads or writes
 abbrev pub key_of : Event → ℕ
@@ -58,16 +64,22 @@ first_mismatch store (p ∷ ps) =
 abbrev pub session_fault : Option ℕ → Option ReplayFault
 session_fault found = option_map (λ v. SessionOrder v) found
 
+-- the fault of a node that stands before one that ended before it began, where there is one
+abbrev pub moment_fault : Option ℕ → Option ReplayFault
+moment_fault found = option_map (λ v. MomentOrder v) found
+
 -- the fault of a read that does not meet the map, by its node and number, where there is one
 abbrev pub read_fault : Option (ℕ × ℕ) → Option ReplayFault
 read_fault found = option_map (λ p. ReadMismatch p.0 p.1) found
 
 -- What is wrong: that the nodes are not listed once each, else the first one that stands before an earlier one of its session,
--- else the first read in replay that does not name what the map holds.
+-- else the first one that stands before one that ended before it began, else the first read in replay that does not name what the
+-- map holds.
 unfoldable pub replay_fault : Log → List ℕ → Option ReplayFault
 replay_fault log order =
     if lists_once log.nodes order
-    then option_or (session_fault (first_early log.session order)) (read_fault (first_mismatch empty (in_replay log.ops order)))
+    then option_or (session_fault (first_early log.session order))
+    (option_or (moment_fault (first_before_ended log.earlier order)) (read_fault (first_mismatch empty (in_replay log.ops order))))
     else Some NotAPermutation
 
 -- memory may come in place of any answer

@@ -32,6 +32,8 @@ pub enum ReplayFault {
     NotAPermutation,
     /// The first listed node that stands before an earlier one of its session.
     SessionOrder { node: NodeIx },
+    /// The first listed node that stands before one that ended before it began.
+    MomentOrder { node: NodeIx },
     /// The first read in replay that does not name what the map holds, by its node and its number
     /// among that node's operations, from 1.
     ReadMismatch { node: NodeIx, op: usize },

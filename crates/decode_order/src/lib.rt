@@ -6,6 +6,7 @@ mod decode;
 mod fault;
 pub mod laws;
 mod listing;
+mod moments;
 mod node;
 mod reads;
 mod serial;

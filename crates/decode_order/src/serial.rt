@@ -7,6 +7,7 @@ ghost use Rattle.decode_order.specs.Replaying.{replay_fault, IsReplayFault};
 
 use crate::fault::ReplayFault;
 use crate::listing::lists_once;
+use crate::moments::first_before_ended;
 use crate::reads::first_mismatch;
 use crate::sessions::first_early;
 use serializability::NodeIx;
@@ -14,7 +15,8 @@ use session_history::{History, Order};
 use std::alloc::{AllocError, Global};
 
 /// Whether an order of a history's nodes is serial: it lists nodes 1 to n once each, keeps the order
-/// of each session, and its replay on a plain map gives every read the identity that it names.
+/// of each session and that of the stated moments, and its replay on a plain map gives every read the
+/// identity that it names.
 ///
 /// The time is linear in the number of nodes, keys and operations.
 pub fn replay(alloc: Global, history: &History, order: &Order) -> Result<(), ReplayFault>
@@ -42,6 +44,9 @@ fn first_fault(
     }
     if let Some(node) = first_early(alloc, history, order)? {
         return Ok(Some(ReplayFault::SessionOrder { node }));
+    }
+    if let Some(node) = first_before_ended(history, order) {
+        return Ok(Some(ReplayFault::MomentOrder { node }));
     }
     let mismatch = first_mismatch(alloc, history, order)?;
     Ok(mismatch.map(|(node, op)| ReplayFault::ReadMismatch { node, op }))

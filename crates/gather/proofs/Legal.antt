@@ -7,7 +7,7 @@ use Rattle.std.proofs.lemmas.Slice.Eq.{bytes_eq-Decides}
 use Rattle.session_log.specs.Blocks.{blocks_of, block_text}
 use Rattle.session_log.specs.declared.block.Block.{Block as Place}
 use Rattle.session_log.specs.declared.version.Version.{Version}
-use Rattle.session_log.specs.declared.version.Version.TheVariants.{One, Two}
+use Rattle.session_log.specs.declared.version.Version.TheVariants.{One, Two, Three}
 use Rattle.desk.specs.declared.history.Entry.{Entry}
 use Rattle.desk.specs.History.{entry, IsLegal}
 use Rattle.desk.proofs.Tied.{get_set}
@@ -43,8 +43,13 @@ both false b e = absurd (cc)
 version_is : (v w : Version) → same_version v w ≡ true → v ≡ w
 version_is One One e = refl
 version_is One Two e = absurd (cc)
+version_is One Three e = absurd (cc)
 version_is Two One e = absurd (cc)
 version_is Two Two e = refl
+version_is Two Three e = absurd (cc)
+version_is Three One e = absurd (cc)
+version_is Three Two e = absurd (cc)
+version_is Three Three e = refl
 
 piece_of : (log : List ℕ) (k : ℕ) (p : Piece) (o : Option Place) → slice_get (blocks_of log) k ≡ o → is_piece_of log p o ≡ true → IsPiece log k p
 piece_of log k p None here e = absurd (cc)

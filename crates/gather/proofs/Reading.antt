@@ -27,6 +27,7 @@ is_fault (faults.OpenTransaction k) whole e = e
 is_fault (faults.WriteZero k) whole e = e
 is_fault (faults.WriteTwice k) whole e = e
 is_fault (faults.UnknownNotLast k) whole e = e
+is_fault (faults.EndsBeforeBegin k) whole e = e
 is_fault (faults.OverLimit k) whole e = e
 
 -- the first fault of the block, by its piece
@@ -112,6 +113,7 @@ fault_as (faults.OpenTransaction k) o whole to h = to h
 fault_as (faults.WriteZero k) o whole to h = to h
 fault_as (faults.WriteTwice k) o whole to h = to h
 fault_as (faults.UnknownNotLast k) o whole to h = to h
+fault_as (faults.EndsBeforeBegin k) o whole to h = to h
 fault_as (faults.OverLimit k) o whole to h = to h
 
 -- the size is judged first, then the grammar

@@ -11,7 +11,7 @@ use Rattle.session_log.specs.declared.session.Session.{Session}
 use Rattle.session_log.specs.declared.fault.LogFault.{LogFault}
 use Rattle.session_log.specs.declared.fault.LogFault.TheVariants.{Memory}
 use Rattle.session_log.specs.declared.version.Version.{Version}
-use Rattle.session_log.specs.declared.version.Version.TheVariants.{One, Two}
+use Rattle.session_log.specs.declared.version.Version.TheVariants.{One, Two, Three}
 
 -- what was read of a piece of a log: the log's version, the piece's bytes, the line of the log that is its first, and the session
 -- that it holds or its first fault
@@ -44,9 +44,9 @@ pub record IsPieceOf (log : List ℕ) (block : Block) (p : Piece) : Type 0 where
 
 abbrev pub same_version : Version → Version → Bool
 same_version One One = true
-same_version One Two = false
-same_version Two One = false
 same_version Two Two = true
+same_version Three Three = true
+same_version _ _ = false
 
 -- the same as a test
 abbrev pub is_piece_of : List ℕ → Piece → Option Block → Bool

@@ -1,4 +1,4 @@
-//! Times the crates of graphs, for `bench/graphs.sh`: `graph_bench made` takes graphs of 400 nodes, dense and
+//! Times the crates of graphs, for `bench/graphs.sh`: `graph_bench made` takes graphs of 1,000 nodes, dense and
 //! sparse ones, `graph_bench log FILE` the history of a log, and `graph_bench prune FILE` lists what pruning keeps.
 #![tactic(auto)]
 

@@ -1,17 +1,11 @@
-ghost use Rattle.std.specs.Prelude.{◌≡◌, IfOk, map};
-ghost use Rattle.std.specs.List.{AllByRecursion};
-ghost use Rattle.session_log.specs.Text.{view, IsLegal, log_text};
-ghost use Rattle.session_log.specs.Blocks.{blocks_of};
-ghost use Rattle.session_log.specs.Version.{version_of};
-
+use crate::logs::read;
+use crate::node::node;
 use anomalies::classify;
 use coalesce::coalesce;
 use known_graph::Known;
-use polygraph::{Choice, Polygraph, bipaths, order_fits};
-use serializability::NodeIx;
-use session_history::History;
-use session_log::{Block, LogFault, Session, cut, parse_block};
+use polygraph::{Edges, Polygraph, bipaths, order_fits};
 use std::alloc::Global;
+use std::process::Abort;
 use std::test::Fail;
 use write_chains::chains;
 
@@ -23,24 +17,6 @@ const TWO_WRITERS: &str = "session 1\nbegin\nw x 1\ncommit\nsession 2\nbegin\nw 
 
 const READER_OF_ONE: &str =
     "session 1\nbegin\nw x 1\ncommit\nsession 2\nbegin\nw x 2\ncommit\nsession 3\nbegin\nr x 1\ncommit\n";
-
-fn sessions_in(alloc: Global, log: &[u8], blocks: &[Block]) -> Result<Vec<Session>, LogFault>
-    requires { blocks.now ≡ blocks_of log.now }
-    ensures legal { IfOk result (λ ss. AllByRecursion IsLegal (map view ss.items)) }
-    ensures text { IfOk result (λ ss. log.now ≡ log_text (version_of log.now) (map view ss.items)) }
-{
-    let mut sessions = Vec::with_capacity(alloc, blocks.len())?;
-    for block in blocks {
-        sessions.push(parse_block(alloc, log, block)?)?;
-    }
-    Ok(sessions)
-}
-
-fn read(alloc: Global, log: &[u8]) -> Result<History, LogFault> {
-    let (version, blocks) = cut(alloc, log)?;
-    let sessions = sessions_in(alloc, log, &blocks)?;
-    History::build(alloc, version, sessions)
-}
 
 // The polygraph of a log's bipaths, and that of its chains.
 #[tactic(auto, using(headline::proofs::Answered::clean_log))]
@@ -59,51 +35,43 @@ fn polygraphs(alloc: Global, log: &str) -> Result<(Polygraph, Polygraph), Fail> 
     }
 }
 
-fn nodes(alloc: Global, numbers: &[usize]) -> Result<Vec<NodeIx>, Fail> {
-    let mut nodes = Vec::new(alloc);
-    for number in numbers {
-        nodes.push(NodeIx::new(*number).ok_or("no node")?)?;
-    }
-    Ok(nodes)
+// The ends of the one edge of a side.
+fn ends(rt: &impl Abort, side: &Edges) -> (usize, usize) {
+    assert_eq!(rt; side.as_slice().len(), 1);
+    let edge = side.as_slice().first().expect(rt, "an edge");
+    (edge.source().get(), edge.target().get())
 }
 
-// The nodes of the first edge of each side.
-fn ends(choice: &Choice) -> Option<[usize; 4]> {
-    let (one, two) = (choice.one().first()?, choice.two().first()?);
-    Some([
-        one.source().get(),
-        one.target().get(),
-        two.source().get(),
-        two.target().get(),
-    ])
+// There is one choice, with one edge a side.
+fn see_choice(rt: &impl Abort, polygraph: Polygraph, one: (usize, usize), two: (usize, usize)) {
+    let (_known, mut choices) = polygraph.into_parts();
+    let (first, second) = choices.pop().expect(rt, "a choice").into_sides();
+    assert!(rt; choices.is_empty());
+    assert_eq!(rt; ends(rt, &first), one);
+    assert_eq!(rt; ends(rt, &second), two);
+}
+
+fn see_order(rt: &impl Abort, alloc: Global, polygraph: &Polygraph, order: &[usize], fits: bool) {
+    let mut nodes = Vec::new(alloc);
+    for number in order {
+        nodes.push(node(rt, *number)).expect(rt, "memory");
+    }
+    assert_eq!(rt; order_fits(polygraph, &nodes), fits);
 }
 
 #[test]
 fn chains_for_their_writers(rt: HostRuntime) -> Result<(), Fail> {
-    let (plain, coalesced) = polygraphs(rt.alloc(), TWO_CHAINS)?;
+    let alloc = rt.alloc();
+    let (plain, coalesced) = polygraphs(alloc, TWO_CHAINS)?;
     assert_eq!(rt; plain.choices().len(), 10);
-    assert_eq!(rt; coalesced.choices().len(), 1);
-    for (numbers, fits) in [([1, 2, 5, 3, 4, 6], true), ([1, 3, 2, 5, 4, 6], false)] {
-        let order = nodes(rt.alloc(), &numbers)?;
-        assert_eq!(rt; order_fits(&plain, &order), fits, "{numbers:?}");
-        assert_eq!(rt; order_fits(&coalesced, &order), fits, "{numbers:?}");
-    }
-    Ok(())
-}
-
-#[test]
-fn one_choice_each(rt: HostRuntime) -> Result<(), Fail> {
-    for (log, want) in [
-        (TWO_CHAINS, [5, 3, 6, 1]),
-        (TWO_WRITERS, [1, 2, 2, 1]),
-        (READER_OF_ONE, [3, 2, 2, 1]),
-    ] {
-        let (_plain, coalesced) = polygraphs(rt.alloc(), log)?;
-        assert_eq!(rt; coalesced.choices().len(), 1);
-        let choice = coalesced.choices().first().ok_or("no choice")?;
-        assert_eq!(rt; choice.one().len(), 1);
-        assert_eq!(rt; choice.two().len(), 1);
-        assert_eq!(rt; ends(choice), Some(want), "{log}");
-    }
+    see_order(&rt, alloc, &plain, &[1, 2, 5, 3, 4, 6], true);
+    see_order(&rt, alloc, &coalesced, &[1, 2, 5, 3, 4, 6], true);
+    see_order(&rt, alloc, &plain, &[1, 3, 2, 5, 4, 6], false);
+    see_order(&rt, alloc, &coalesced, &[1, 3, 2, 5, 4, 6], false);
+    see_choice(&rt, coalesced, (5, 3), (6, 1));
+    let (_plain, coalesced) = polygraphs(alloc, TWO_WRITERS)?;
+    see_choice(&rt, coalesced, (1, 2), (2, 1));
+    let (_plain, coalesced) = polygraphs(alloc, READER_OF_ONE)?;
+    see_choice(&rt, coalesced, (3, 2), (2, 1));
     Ok(())
 }

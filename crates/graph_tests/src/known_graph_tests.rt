@@ -1,302 +1,197 @@
-ghost use Rattle.std.specs.Prelude.{◌≡◌, ◌∷◌, [], IfOk};
-
-use crate::node::node;
+use crate::logs::read;
+use crate::node::{join, node};
+use anomalies::classify;
 use known_graph::Known;
-use known_graph::bits::has_bit;
-use reach_laws::Edge;
 use serializability::NodeIx;
-use session_history::History;
-use session_log::{Key, Op, Outcome, Session, Txn, Version};
 use std::alloc::Global;
+use std::process::Abort;
 use std::test::Fail;
 
-fn node_ix(number: usize) -> Result<NodeIx, Fail> {
-    Ok(NodeIx::new(number).ok_or("no node")?)
+// A session whose first transaction reads what its second one writes.
+const READ_BEFORE_WRITTEN: &str = "session 1\nbegin\nr x 1\ncommit\nbegin\nw x 1\ncommit\n";
+
+// Each of three transactions begins when the one before it has ended.
+const IN_TURN: &str =
+    "log 3\nsession 1\nbegin 1\nw x 1\ncommit 2\nsession 2\nbegin 3\nw x 2\ncommit 4\n\
+    session 3\nbegin 5\nr x 1\ncommit 6\n";
+
+// The same, where the third begins at the moment at which the second ends.
+const AT_ONCE: &str =
+    "log 3\nsession 1\nbegin 1\nw x 1\ncommit 2\nsession 2\nbegin 3\nw x 2\ncommit 4\n\
+    session 3\nbegin 4\nr x 1\ncommit 6\n";
+
+// The arcs of a log without an anomaly.
+#[tactic(auto, using(headline::proofs::Answered::clean_log))]
+fn arcs(alloc: Global, log: &str) -> Result<Known, Fail> {
+    let history = read(alloc, log.as_bytes())?;
+    let _nodes = history.committed();
+    match classify(alloc, &history)? {
+        Some(_) => Err("an anomaly")?,
+        None => Ok(Known::of(alloc, &history)?),
+    }
 }
 
-// Adds an edge between nodes of the graph.
-fn add(known: &mut Known, u: usize, v: usize) -> Result<(), Fail> {
-    let u = node_ix(u)?;
-    let v = node_ix(v)?;
-    if u.get() <= known.nodes() && v.get() <= known.nodes() {
-        known.add_edge(u, v);
+fn see_edges(rt: &impl Abort, alloc: Global, known: &Known, want: &[(usize, usize)]) {
+    let edges = known.edges(alloc).expect(rt, "memory");
+    assert_eq!(rt; edges.len(), want.len());
+    for (edge, ends) in edges.iter().zip(want) {
+        assert_eq!(rt; (edge.source().get(), edge.target().get()), *ends);
     }
+}
+
+#[test]
+fn arcs_of_logs(rt: HostRuntime) -> Result<(), Fail> {
+    let alloc = rt.alloc();
+    let known = arcs(alloc, READ_BEFORE_WRITTEN)?;
+    see_edges(&rt, alloc, &known, &[(0, 1), (0, 2), (1, 2), (2, 1)]);
+    let want = [node(&rt, 1), node(&rt, 2), node(&rt, 1)];
+    assert_eq!(rt; cycle(&rt, alloc, &known).as_slice(), want.as_slice());
+    let known = arcs(alloc, IN_TURN)?;
+    let want = [(0, 1), (0, 2), (0, 3), (1, 2), (1, 3), (2, 3)];
+    see_edges(&rt, alloc, &known, &want);
+    let known = arcs(alloc, AT_ONCE)?;
+    let want = [(0, 1), (0, 2), (0, 3), (1, 2), (1, 3)];
+    see_edges(&rt, alloc, &known, &want);
     Ok(())
 }
 
-fn numbers(alloc: Global, line: &[NodeIx]) -> Result<Vec<usize>, Fail> {
-    let mut numbers = Vec::new(alloc);
-    for v in line {
-        numbers.push(v.get())?;
-    }
-    Ok(numbers)
+#[test]
+fn moments_of_nodes(rt: HostRuntime) -> Result<(), Fail> {
+    let history = read(rt.alloc(), IN_TURN.as_bytes())?;
+    assert_eq!(rt; history.begun_of(node(&rt, 2)), Some(3));
+    assert_eq!(rt; history.ended_of(node(&rt, 2)), Some(4));
+    assert_eq!(rt; history.begun_of(node(&rt, 0)), None);
+    Ok(())
 }
 
 // The cycle that is found, or nothing.
-fn cycle(alloc: Global, known: &Known) -> Result<Vec<usize>, Fail> {
-    match known.find_cycle(alloc)? {
-        Some(line) => numbers(alloc, &line),
-        None => Ok(Vec::new(alloc)),
+fn cycle(rt: &impl Abort, alloc: Global, known: &Known) -> Vec<NodeIx> {
+    match known.find_cycle(alloc).expect(rt, "memory") {
+        Some(line) => line,
+        None => Vec::new(alloc),
     }
 }
 
 // The walk that is found, or nothing.
-fn walk(alloc: Global, known: &Known, u: usize, v: usize) -> Result<Vec<usize>, Fail> {
-    let u = node_ix(u)?;
-    let v = node_ix(v)?;
-    if u.get() > known.nodes() || v.get() > known.nodes() {
-        return Ok(Vec::new(alloc));
-    }
-    match known.walk(alloc, u, v)? {
-        Some(line) => numbers(alloc, &line),
-        None => Ok(Vec::new(alloc)),
+fn walk(rt: &impl Abort, alloc: Global, known: &Known, u: NodeIx, v: NodeIx) -> Vec<NodeIx> {
+    assert!(rt; u.get() <= known.nodes() && v.get() <= known.nodes());
+    match known.walk(alloc, u, v).expect(rt, "memory") {
+        Some(line) => line,
+        None => Vec::new(alloc),
     }
 }
 
-// The nodes to which edges lead from one.
-fn row(alloc: Global, known: &Known, u: usize) -> Result<Vec<usize>, Fail> {
-    let u = node_ix(u)?;
-    let mut ends = Vec::new(alloc);
-    if u.get() <= known.nodes() {
-        for v in 0..448 {
-            if has_bit(known.row_words(u), v) {
-                ends.push(v)?;
-            }
-        }
-    }
-    Ok(ends)
+fn longer(rt: &impl Abort, line: &Vec<NodeIx>, next: NodeIx) -> Vec<NodeIx> {
+    let mut whole = line.clone().expect(rt, "memory");
+    whole.push(next).expect(rt, "memory");
+    whole
 }
 
-// A key, of one byte.
-fn key(alloc: Global) -> Result<Key, Fail>
-    ensures { IfOk result (λ k. k ≡ 120 ∷ []) }
-{
-    Ok(Key::new(alloc, b"x")?.ok_or("no key")?)
-}
-
-// The arcs of one session of two transactions, of which the first reads what the second writes.
-fn arcs_of_two(alloc: Global) -> Result<Known, Fail> {
-    let mut reads = Vec::new(alloc);
-    reads.push(Op::Read {
-        key: key(alloc)?,
-        wid: 1,
-    })?;
-    let mut writes = Vec::new(alloc);
-    writes.push(Op::Write {
-        key: key(alloc)?,
-        wid: 1,
-    })?;
-    let mut txns = Vec::new(alloc);
-    txns.push(Txn {
-        ops: reads,
-        outcome: Outcome::Commit,
-    })?;
-    txns.push(Txn {
-        ops: writes,
-        outcome: Outcome::Commit,
-    })?;
-    let mut sessions = Vec::new(alloc);
-    sessions.push(Session { number: 1, txns })?;
-    let history = History::build(alloc, Version::One, sessions)?;
-    Ok(Known::of(alloc, &history)?)
-}
-
-#[test]
-fn session_against_its_read(rt: HostRuntime) -> Result<(), Fail> {
-    let alloc = rt.alloc();
-    let known = arcs_of_two(alloc)?;
-    assert_eq!(rt; known.nodes(), 2);
-    for u in 0..4 {
-        for v in 0..4 {
-            let arc = (u == 0 && (v == 1 || v == 2)) || (u == 1 && v == 2) || (u == 2 && v == 1);
-            assert_eq!(rt; known.has_edge(node(u), node(v)), arc, "{u} {v}");
-        }
-    }
-    let arcs = [
-        Edge::new(node(0), node(1)),
-        Edge::new(node(0), node(2)),
-        Edge::new(node(1), node(2)),
-        Edge::new(node(2), node(1)),
-    ];
-    assert_eq!(rt; known.edges(alloc)?.as_slice(), arcs.as_slice());
-    assert_eq!(rt; cycle(alloc, &known)?.as_slice(), [1, 2, 1].as_slice());
-    assert_eq!(rt; walk(alloc, &known, 0, 2)?.as_slice(), [0, 2].as_slice());
-    assert_eq!(rt; walk(alloc, &known, 2, 0)?.as_slice(), [].as_slice());
-    Ok(())
-}
-
-// Two transactions that read what the other overwrites.
-#[test]
-fn write_skew(rt: HostRuntime) -> Result<(), Fail> {
-    let alloc = rt.alloc();
-    let arcs = Known::new(alloc, 2)?;
-    assert_eq!(rt; cycle(alloc, &arcs)?.as_slice(), [].as_slice());
-    let mut known = arcs.copy(alloc)?;
-    add(&mut known, 2, 1)?;
-    add(&mut known, 1, 2)?;
-    assert_eq!(rt; cycle(alloc, &known)?.as_slice(), [1, 2, 1].as_slice());
-    assert_eq!(rt; cycle(alloc, &arcs)?.as_slice(), [].as_slice());
-    Ok(())
-}
-
-// A ring of all nodes but node 0, which lie in several words of a row.
-#[test]
-fn long_ring(rt: HostRuntime) -> Result<(), Fail> {
-    let alloc = rt.alloc();
-    let mut known = Known::new(alloc, 400)?;
-    let mut ring = Vec::new(alloc);
-    for u in 1..400 {
-        add(&mut known, u, u + 1)?;
-        ring.push(u)?;
-    }
-    assert_eq!(rt; cycle(alloc, &known)?.as_slice(), [].as_slice());
-    add(&mut known, 400, 1)?;
-    ring.push(400)?;
-    ring.push(1)?;
-    assert_eq!(rt; cycle(alloc, &known)?.as_slice(), ring.as_slice());
-    assert_eq!(rt;
-        walk(alloc, &known, 399, 2)?.as_slice(),
-        [399, 400, 1, 2].as_slice()
-    );
-    let mut line = Vec::new(alloc);
-    for u in &ring {
-        line.push(node_ix(*u)?)?;
-    }
-    assert!(rt; known.check_walk(&line));
-    line.push(node_ix(3)?)?;
-    assert!(rt; !known.check_walk(&line));
-    Ok(())
-}
-
-// The walk that the rule names: with the fewest edges, the lexicographically least, found by trying all
-// lists of so many nodes; nothing where there is none.
-fn least_walk(
-    alloc: Global,
-    known: &Known,
-    first: NodeIx,
-    last: NodeIx,
-    count: usize,
-) -> Result<Vec<usize>, Fail> {
-    let mut lines = vec![in alloc; vec![in alloc; first]?]?;
-    for _ in 0..count {
-        let mut longer = Vec::new(alloc);
+// The walk that the rule names: with the fewest edges, the lexicographically least, found among all walks through
+// nodes 0 to 3; nothing where there is none.
+fn least_walk(rt: &impl Abort, alloc: Global, known: &Known, u: NodeIx, v: NodeIx) -> Vec<NodeIx> {
+    let first = vec![in alloc; u].expect(rt, "memory");
+    let mut lines = vec![in alloc; first].expect(rt, "memory");
+    for _ in 0..4 {
+        let mut more = Vec::new(alloc);
         for line in &lines {
-            let mut whole = line.clone()?;
-            whole.push(last)?;
+            let whole = longer(rt, line, v);
             if known.check_walk(&whole) {
-                return numbers(alloc, &whole);
+                return whole;
             }
-            for next in 0..count {
-                let mut more = line.clone()?;
-                more.push(node_ix(next)?)?;
-                longer.push(more)?;
+            for next in 0..4 {
+                let extended = longer(rt, line, node(rt, next));
+                if known.check_walk(&extended) {
+                    more.push(extended).expect(rt, "memory");
+                }
             }
         }
-        lines = longer;
+        lines = more;
     }
-    Ok(Vec::new(alloc))
+    Vec::new(alloc)
 }
 
 // The cycle that the rule names: of the least node that lies on one, the least walk.
-fn least_cycle(alloc: Global, known: &Known, count: usize) -> Result<Vec<usize>, Fail> {
-    for start in 0..count {
-        let first = node_ix(start)?;
-        let line = least_walk(alloc, known, first, first, count)?;
+fn least_cycle(rt: &impl Abort, alloc: Global, known: &Known) -> Vec<NodeIx> {
+    for start in 0..4 {
+        let line = least_walk(rt, alloc, known, node(rt, start), node(rt, start));
         if !line.is_empty() {
-            return Ok(line);
+            return line;
         }
     }
-    Ok(Vec::new(alloc))
+    Vec::new(alloc)
 }
 
-// All graphs of nodes 0 to 3.
-#[test]
-fn cycle_and_walks_by_the_rule(rt: HostRuntime) -> Result<(), Fail> {
-    let alloc = rt.alloc();
-    for code in 0..4096u32 {
-        let mut known = Known::new(alloc, 3)?;
-        let mut rest = code;
-        for u in 1..4 {
-            for v in 0..4 {
-                if rest % 2 == 1 {
-                    add(&mut known, u, v)?;
-                }
-                rest /= 2;
+// A graph of nodes 0 to 3, of which each bit of the code is an edge.
+fn coded(rt: &impl Abort, alloc: Global, code: u32) -> Known {
+    let mut known = Known::new(alloc, 3).expect(rt, "memory");
+    let mut rest = code;
+    for u in 1..4 {
+        for v in 0..4 {
+            if rest % 2 == 1 {
+                join(rt, &mut known, u, v);
             }
+            rest /= 2;
         }
-        let least = least_cycle(alloc, &known, 4)?;
+    }
+    known
+}
+
+#[test]
+fn cycle_and_walks_by_the_rule(rt: HostRuntime) {
+    let rt = &rt;
+    let alloc = rt.alloc();
+    for code in 0..4096 {
+        let known = coded(rt, alloc, code);
+        let least = least_cycle(rt, alloc, &known);
         assert_eq!(rt;
-            cycle(alloc, &known)?.as_slice(),
+            cycle(rt, alloc, &known).as_slice(),
             least.as_slice(),
             "{code}"
         );
         for v in 0..4 {
-            let least = least_walk(alloc, &known, node(1), node(v), 4)?;
-            assert_eq!(rt;
-                walk(alloc, &known, 1, v)?.as_slice(),
-                least.as_slice(),
-                "{code} {v}"
-            );
+            let least = least_walk(rt, alloc, &known, node(rt, 1), node(rt, v));
+            let found = walk(rt, alloc, &known, node(rt, 1), node(rt, v));
+            assert_eq!(rt; found.as_slice(), least.as_slice(), "{code} {v}");
         }
     }
-    Ok(())
 }
 
 // A graph of 70 nodes with 60 edges more, from a fixed sequence of numbers.
-fn scattered(alloc: Global, number: &mut u32) -> Result<Known, Fail> {
-    let mut known = Known::new(alloc, 70)?;
+fn scattered(rt: &impl Abort, alloc: Global, number: &mut u32) -> Known {
+    let mut known = Known::new(alloc, 70).expect(rt, "memory");
     for _ in 0..60 {
         *number = number.wrapping_mul(1_664_525).wrapping_add(1_013_904_223);
         let (u, v) = (*number >> 8 & 63, *number >> 16 & 63);
-        add(&mut known, u as usize + 1, v as usize + 1)?;
+        join(rt, &mut known, u as usize + 1, v as usize + 1);
     }
-    Ok(known)
+    known
 }
 
 // The walk from the first node that reaches itself.
-fn first_cycle(alloc: Global, known: &Known) -> Result<Vec<usize>, Fail> {
+fn first_cycle(rt: &impl Abort, alloc: Global, known: &Known) -> Vec<NodeIx> {
     for v in 0..71 {
-        let line = walk(alloc, known, v, v)?;
+        let line = walk(rt, alloc, known, node(rt, v), node(rt, v));
         if !line.is_empty() {
-            return Ok(line);
+            return line;
         }
     }
-    Ok(Vec::new(alloc))
+    Vec::new(alloc)
 }
 
 // The least node that lies on a cycle is the first from which a walk leads back.
 #[test]
-fn cycles_of_larger_graphs(rt: HostRuntime) -> Result<(), Fail> {
+fn cycles_of_larger_graphs(rt: HostRuntime) {
+    let rt = &rt;
     let alloc = rt.alloc();
     let mut number = 1;
     let (mut some, mut none) = (false, false);
     for _ in 0..60 {
-        let known = scattered(alloc, &mut number)?;
-        let first = first_cycle(alloc, &known)?;
-        assert_eq!(rt; cycle(alloc, &known)?.as_slice(), first.as_slice());
+        let known = scattered(rt, alloc, &mut number);
+        let first = first_cycle(rt, alloc, &known);
+        assert_eq!(rt; cycle(rt, alloc, &known).as_slice(), first.as_slice());
         some = some || !first.is_empty();
         none = none || first.is_empty();
     }
     assert!(rt; some && none);
-    Ok(())
-}
-
-// Edges from each node to each greater one, and one edge back at the end.
-#[test]
-fn late_cycle(rt: HostRuntime) -> Result<(), Fail> {
-    let alloc = rt.alloc();
-    let mut known = Known::new(alloc, 100)?;
-    for u in 1..101 {
-        for v in u + 1..101 {
-            add(&mut known, u, v)?;
-        }
-    }
-    assert_eq!(rt; cycle(alloc, &known)?.as_slice(), [].as_slice());
-    add(&mut known, 100, 98)?;
-    assert_eq!(rt; cycle(alloc, &known)?.as_slice(), [98, 100, 98].as_slice());
-    add(&mut known, 70, 70)?;
-    assert_eq!(rt; cycle(alloc, &known)?.as_slice(), [70, 70].as_slice());
-    add(&mut known, 3, 0)?;
-    assert_eq!(rt; cycle(alloc, &known)?.as_slice(), [0, 3, 0].as_slice());
-    Ok(())
 }

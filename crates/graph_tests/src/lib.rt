@@ -6,8 +6,8 @@ mod coalesce_tests;
 #[cfg(test)]
 mod known_graph_tests;
 #[cfg(test)]
-mod node;
+mod logs;
 #[cfg(test)]
-mod polygraph_tests;
+mod node;
 #[cfg(test)]
 mod reach_rows_tests;

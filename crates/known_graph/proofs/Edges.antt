@@ -195,7 +195,7 @@ set_edges n old new u v hu hv s e = (
 
 -- ---- only edges from node 0
 pub record HasFirstRow (n : ℕ) (words : List ℕ) : Type 0 where
-  pub few : n ≤ 400
+  pub few : n ≤ 1000
   pub places : length words ≡ (n + 1) * row_len n
   pub bits : (k : ℕ) → bit_of words k ≡ (nat_lt 0 k && nat_le k n)
 

@@ -77,11 +77,11 @@ may_be g s v h r = elim (cases_Bool (bit_of s.closed v)) [
 ]
 
 -- ---- a node that was entered
-pub left_after : (old new : List ℕ) (v : ℕ) → bit_of old v ≡ false → ((k : ℕ) → bit_of new k ≡ (eqb k v || bit_of old k)) → v < 448 → left_of (bit_of new) 448 < left_of (bit_of old) 448
+pub left_after : (old new : List ℕ) (v : ℕ) → bit_of old v ≡ false → ((k : ℕ) → bit_of new k ≡ (eqb k v || bit_of old k)) → v < 1024 → left_of (bit_of new) 1024 < left_of (bit_of old) 1024
 left_after old new v fresh bits small =
     left_falls (bit_of old) (bit_of new) (λ j t. bits j ∙ or_right (eqb j v) (bit_of old j) t)
-    v fresh (bits v ∙ or_left (eqb v v) (bit_of old v) (eq-eqb v v refl)) 448 small
+    v fresh (bits v ∙ or_left (eqb v v) (bit_of old v) (eq-eqb v v refl)) 1024 small
 
-pub row_len_small : (n : ℕ) → n ≤ 400 → row_len n ≤ 7
+pub row_len_small : (n : ℕ) → n ≤ 1000 → row_len n ≤ 16
 unfolding row_len
 row_len_small n h = omega arith

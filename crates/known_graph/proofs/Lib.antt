@@ -12,6 +12,7 @@ pub mod Searched
 pub mod Walked
 pub mod ReadSources
 pub mod ArcSets
+pub mod EndedNodes
 pub mod Rests
 pub mod Rows
 pub mod Tested

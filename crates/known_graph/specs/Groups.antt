@@ -30,4 +30,4 @@ left_of p (suc n) = left_one (p n) + left_of p n
 
 -- at most so many steps are left: each node is entered once, and each group joined or closed once
 abbrev pub work_left : Search → ℕ
-work_left s = 2 * left_of (bit_of s.seen) 448 + length s.path.items
+work_left s = 2 * left_of (bit_of s.seen) 1024 + length s.path.items

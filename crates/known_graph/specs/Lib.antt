@@ -5,3 +5,4 @@ pub mod Graphs
 pub mod Tree
 pub mod Tests
 pub mod Groups
+pub mod Moments

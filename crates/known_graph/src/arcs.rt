@@ -8,6 +8,7 @@ ghost use Rattle.log_definitions.specs.Numbers.{log_of};
 ghost use Rattle.known_graph.specs.Graphs.{IsKnownGraph, arc_graph};
 
 use crate::graph::Known;
+use crate::moments::{add_moment_arcs, ended_nodes};
 use crate::node::node;
 use serializability::NodeIx;
 use session_history::History;
@@ -52,10 +53,12 @@ impl Known {
     {
         let nodes = history.committed();
         let mut known = Known::new(alloc, nodes)?;
+        let ended = ended_nodes(alloc, history)?;
         for number in 1..nodes + 1 {
             let v = node(number);
             add_session_arc(&mut known, history, v);
             add_read_arcs(&mut known, history, v);
+            add_moment_arcs(&mut known, history, &ended, v);
         }
         Ok(known)
     }

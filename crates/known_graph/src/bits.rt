@@ -3,8 +3,13 @@
 ghost use Rattle.std.specs.Prelude.{◌≡◌, ◌↔◌, ℕ, ◌+◌, ◌/◌, ◌^◌, ◌<◌, ◌≤◌, ◌==◌, ◌&&◌, ◌||◌, true, false, not, nat_lt, nat_le, length, IsTrue, IfSome, IfNone};
 ghost use Rattle.known_graph.specs.Bits.{bit_of, row_len};
 
-/// A bit for each of nodes 0 to 400.
-pub type NodeBits = [u64; 7];
+use serializability::MAX_NODES;
+
+/// How many words hold a bit for each node that there can be.
+pub const NODE_WORDS: usize = MAX_NODES / 64 + 1;
+
+/// A bit for each of nodes 0 to 1,000.
+pub type NodeBits = [u64; NODE_WORDS];
 
 /// How many words hold a bit for each of nodes 0 to n.
 pub fn row_len(nodes: usize) -> usize

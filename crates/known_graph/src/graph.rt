@@ -14,7 +14,7 @@ use serializability::NodeIx;
 use std::alloc::{AllocError, Global};
 use std::marker::Model;
 
-/// Known edges between nodes 0 to n of a history, where n is at most 400. An edge leads from node 0 to
+/// Known edges between nodes 0 to n of a history, where n is at most 1,000. An edge leads from node 0 to
 /// each other node.
 #[derive(Drop)]
 pub struct Known {

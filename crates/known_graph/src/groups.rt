@@ -6,7 +6,7 @@ ghost use Rattle.known_graph.specs.Bits.{bit_of};
 ghost use Rattle.known_graph.specs.Graphs.{IsKnownGraph};
 ghost use Rattle.known_graph.specs.Groups.{IsGroup, IsSearch, work_left};
 
-use crate::bits::{NodeBits, first_open, has_bit, is_within, join_words, set_bit};
+use crate::bits::{NODE_WORDS, NodeBits, first_open, has_bit, is_within, join_words, set_bit};
 use crate::graph::Known;
 use crate::node::node;
 use serializability::NodeIx;
@@ -26,9 +26,9 @@ impl Group {
         requires node { v ≤ known.now.nodes }
         ensures group { IsGroup known.now result }
     {
-        let mut nodes = [0; 7];
+        let mut nodes = [0; NODE_WORDS];
         set_bit(&mut nodes, v.get());
-        let mut ends = [0; 7];
+        let mut ends = [0; NODE_WORDS];
         join_words(&mut ends, known.row_words(v));
         Group { nodes, ends }
     }
@@ -68,9 +68,9 @@ impl Search {
     {
         let mut search = Search {
             path: Vec::with_capacity(alloc, known.nodes() + 1)?,
-            seen: [0; 7],
-            closed: [0; 7],
-            round: [0; 7],
+            seen: [0; NODE_WORDS],
+            closed: [0; NODE_WORDS],
+            round: [0; NODE_WORDS],
         };
         search.enter(known, NodeIx::INITIAL)?;
         while let Some(group) = search.path.pop() {

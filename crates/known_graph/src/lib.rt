@@ -8,6 +8,7 @@ mod edge_list;
 mod graph;
 mod groups;
 pub mod laws;
+mod moments;
 mod node;
 mod reached;
 mod walks;

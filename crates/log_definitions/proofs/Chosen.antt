@@ -84,7 +84,7 @@ others_lack chosen ss key wid apart c =
 nonzero : (ss : List ClientSession) (s : ClientSession) (t : Transaction) (key : List ℕ) (wid : ℕ) → AllByRecursion IsLegal ss → Contains ss s → Contains s.txns t → Contains t.ops (Write key wid) → 0 < wid
 nonzero ss s t key wid legal at_s at_t at_o =
     let txns = (member IsLegal ss s legal at_s).txns in
-    (member IsLegalOp t.ops (Write key wid) (member IsLegalTxn s.txns t txns at_t) at_o).1
+    (member IsLegalOp t.ops (Write key wid) (member IsLegalTxn s.txns t txns at_t).ops at_o).1
 
 pub chosen_closed : (chosen : ℕ → Bool) (ss : List ClientSession) (order : List ℕ) → AllByRecursion IsLegal ss → Apart (written (ops_in ss)) → Orders (nodes_where chosen ss) order → IsClosed ss chosen
 chosen_closed chosen ss order legal apart h = record { each = λ n need. subst (λ m. chosen m ≡ true) need.number (of_session n need) }

@@ -21,7 +21,7 @@ may_be_node t = not (is_aborted t)
 may_be : (b : Bool) (t : Transaction) → is_committed (settle b t) ≡ true → may_be_node t ≡ true
 may_be b t e = go t.outcome e
   where
-    go : (o : Outcome) → is_commit (settled_as b o) ≡ true → may_be_node (record { ops = t.ops; outcome = o }) ≡ true
+    go : (o : Outcome) → is_commit (settled_as b o) ≡ true → may_be_node (record { ops = t.ops; outcome = o; begun = t.begun; ended = t.ended }) ≡ true
     go Commit e = refl
     go Abort e = e
     go Unknown e = refl

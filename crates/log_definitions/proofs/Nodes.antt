@@ -18,7 +18,7 @@ use Rattle.log_definitions.proofs.Settled.{txn_ops, ops_resolved}
 abbrev pub kept_in : List ClientSession → List Transaction
 kept_in ss = filter is_committed (txns_in (resolved ss))
 
-numbered_ops : (number n : ℕ) (ts : List Transaction) → map (λ (c : Committed). c.ops) (map (λ (p : ℕ × Transaction). record { session = number; place = p.0; ops = p.1.ops }) (filter (λ (p : ℕ × Transaction). is_committed p.1) (enumerate_from n ts))) ≡ map txn_ops (filter is_committed ts)
+numbered_ops : (number n : ℕ) (ts : List Transaction) → map (λ (c : Committed). c.ops) (map (λ (p : ℕ × Transaction). record { session = number; place = p.0; ops = p.1.ops; begun = p.1.begun; ended = p.1.ended }) (filter (λ (p : ℕ × Transaction). is_committed p.1) (enumerate_from n ts))) ≡ map txn_ops (filter is_committed ts)
 numbered_ops number n [] = refl
 numbered_ops number n (t ∷ ts) = elim (cases_Bool (is_committed t)) [
   | inl e ↦ rw e (ap (λ l. t.ops ∷ l) (numbered_ops number (n + 1) ts))

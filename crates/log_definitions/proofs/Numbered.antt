@@ -1,5 +1,5 @@
 -- What holds of the numbers of a well-formed log.
-use Rattle.std.proofs.Common.{◌≡◌, Bool, true, not, ℕ, zero, suc, ◌<◌, ◌≤◌, List, [], ◌∷◌, ◌++◌, length, get_or, Some, refl, sym, ap, ◌∙◌, subst, arith}
+use Rattle.std.proofs.Common.{◌≡◌, Bool, true, not, ℕ, zero, suc, ◌<◌, ◌≤◌, List, [], ◌∷◌, ◌++◌, length, get_or, Some, None, refl, sym, ap, ◌∙◌, subst, arith}
 use Rattle.std.specs.Prelude.{map, slice_get}
 use Rattle.std.specs.List.{AllByRecursion, filter}
 use Rattle.std.specs.Option.{option_map_or}
@@ -51,19 +51,23 @@ all_txns_legal : (ss : List ClientSession) → AllByRecursion IsLegal ss → All
 all_txns_legal [] h = tt
 all_txns_legal (s ∷ ss) h = (h.0.txns, all_txns_legal ss h.1)
 
+abbrev HasLegalOps : Transaction → Type 0
+HasLegalOps t = AllByRecursion IsLegalOp (txn_ops t)
+
 all_ops_legal : (ss : List ClientSession) → AllByRecursion IsLegal ss → AllByRecursion IsLegalOp (ops_in ss)
 all_ops_legal ss h =
-    each_from_flat_map IsLegalOp txn_ops (txns_in ss) (each_from_flat_map IsLegalTxn (λ (s : ClientSession). s.txns) ss (all_txns_legal ss h))
+    each_from_flat_map IsLegalOp txn_ops (txns_in ss)
+    (each_weaker IsLegalTxn HasLegalOps (λ t legal. legal.ops) (txns_in ss) (each_from_flat_map IsLegalTxn (λ (s : ClientSession). s.txns) ss (all_txns_legal ss h)))
 
 -- ---- what holds of each event of a transaction that counts as aborted
-all_nonzero : (keys : List (List ℕ)) (ts : List Transaction) → AllByRecursion IsLegalTxn ts → AllByRecursion (AllByRecursion Nonzero) (map (events_of keys) (map txn_ops ts))
+all_nonzero : (keys : List (List ℕ)) (ts : List Transaction) → AllByRecursion HasLegalOps ts → AllByRecursion (AllByRecursion Nonzero) (map (events_of keys) (map txn_ops ts))
 all_nonzero keys [] h = tt
 all_nonzero keys (t ∷ ts) h = (writes_nonzero keys t.ops h.0, all_nonzero keys ts h.1)
 
-legal_kept : (p : Transaction → Bool) (ts : List Transaction) → AllByRecursion IsLegalTxn ts → AllByRecursion IsLegalTxn (filter p ts)
-legal_kept p ts h = each_from_filter IsLegalTxn p ts (each_weaker IsLegalTxn (λ t. p t ≡ true → IsLegalTxn t) (λ t legal _. legal) ts h)
+legal_kept : (p : Transaction → Bool) (ts : List Transaction) → AllByRecursion HasLegalOps ts → AllByRecursion HasLegalOps (filter p ts)
+legal_kept p ts h = each_from_filter HasLegalOps p ts (each_weaker HasLegalOps (λ t. p t ≡ true → HasLegalOps t) (λ t legal _. legal) ts h)
 
-aborted_legal : (ss : List ClientSession) → AllByRecursion IsLegal ss → AllByRecursion IsLegalTxn (filter (λ t. not (is_committed t)) (txns_in (resolved ss)))
+aborted_legal : (ss : List ClientSession) → AllByRecursion IsLegal ss → AllByRecursion HasLegalOps (filter (λ t. not (is_committed t)) (txns_in (resolved ss)))
 aborted_legal ss h = legal_kept (λ t. not (is_committed t)) (txns_in (resolved ss))
     (each_of_flat_map IsLegalOp txn_ops (txns_in (resolved ss)) (subst (AllByRecursion IsLegalOp) (sym (ops_resolved ss)) (all_ops_legal ss h)))
 
@@ -79,7 +83,7 @@ node : (ss : List ClientSession) (v : ℕ) → 0 < v → v ≤ length (committed
 node ss zero lo hi = absurd (omega arith)
 node ss (suc i) lo hi =
     let count = committed_count ss in
-    let none : Transaction = record { ops = []; outcome = Commit } in
+    let none : Transaction = record { ops = []; outcome = Commit; begun = None; ended = None } in
     let at : slice_get (kept_in ss) i ≡ Some (get_or (kept_in ss) i none) = slice_get-get_or (kept_in ss) i none (omega (arith, count, hi)) in
     record {
       place = i;

@@ -29,19 +29,19 @@ mark false kept node ms = ms
 abbrev marks : ℕ → Bool → Bool → ℕ → List Transaction → List Marked
 marks number a b n [] = []
 marks number a b n (t ∷ ts) =
-    mark (is_committed (settle a t)) (is_committed (settle b t)) (record { session = number; place = n; ops = t.ops }) (marks number a b (n + 1) ts)
+    mark (is_committed (settle a t)) (is_committed (settle b t)) (record { session = number; place = n; ops = t.ops; begun = t.begun; ended = t.ended }) (marks number a b (n + 1) ts)
 
 abbrev marked : (ℕ → Bool) → (ℕ → Bool) → List ClientSession → List Marked
 marked these those ss = flat_map (λ s. marks s.number (these s.number) (those s.number) 1 s.txns) ss
 
 abbrev nodes_from : ℕ → Bool → ℕ → List Transaction → List Committed
 nodes_from number a n ts =
-    map (λ t. record { session = number; place = t.0; ops = t.1.ops }) (filter (λ t. is_committed t.1) (enumerate_from n (map (settle a) ts)))
+    map (λ t. record { session = number; place = t.0; ops = t.1.ops; begun = t.1.begun; ended = t.1.ended }) (filter (λ t. is_committed t.1) (enumerate_from n (map (settle a) ts)))
 
 all_marks : (number : ℕ) (a b : Bool) (n : ℕ) (ts : List Transaction) → all_nodes (marks number a b n ts) ≡ nodes_from number a n ts
 all_marks number a b n [] = refl
 all_marks number a b n (t ∷ ts) = elim (cases_Bool (is_committed (settle a t))) [
-  | inl e ↦ rw e (ap (λ l. record { session = number; place = n; ops = t.ops } ∷ l) (all_marks number a b (n + 1) ts))
+  | inl e ↦ rw e (ap (λ l. record { session = number; place = n; ops = t.ops; begun = t.begun; ended = t.ended } ∷ l) (all_marks number a b (n + 1) ts))
   | inr e ↦ rw e (all_marks number a b (n + 1) ts)
 ]
 
@@ -49,7 +49,7 @@ kept_marks : (number : ℕ) (a b : Bool) (n : ℕ) (ts : List Transaction) → (
 kept_marks number a b n [] h = refl
 kept_marks number a b n (t ∷ ts) h = elim (cases_Bool (is_committed (settle b t))) [
   | inl e ↦ let f : is_committed (settle a t) ≡ true = counts_more b a t.outcome h e in
-      rw (e, f) (ap (λ l. record { session = number; place = n; ops = t.ops } ∷ l) (kept_marks number a b (n + 1) ts h))
+      rw (e, f) (ap (λ l. record { session = number; place = n; ops = t.ops; begun = t.begun; ended = t.ended } ∷ l) (kept_marks number a b (n + 1) ts h))
   | inr e ↦ elim (cases_Bool (is_committed (settle a t))) [
     | inl f ↦ rw (e, f) (kept_marks number a b (n + 1) ts h)
     | inr f ↦ rw (e, f) (kept_marks number a b (n + 1) ts h)
@@ -172,11 +172,11 @@ fewer_chosen these those ss order closed h orders =
 
 orders_from_serial : (ss : List ClientSession) (order : List ℕ) → IsSerialOrder ss order → Orders (committed_in ss) order
 unfolding node_of
-orders_from_serial ss order h = record { once = h.once; sessions = h.sessions; reads = h.reads }
+orders_from_serial ss order h = record { once = h.once; sessions = h.sessions; moments = h.moments; reads = h.reads }
 
 serial_from_orders : (ss : List ClientSession) (order : List ℕ) → Orders (committed_in ss) order → IsSerialOrder ss order
 unfolding node_of
-serial_from_orders ss order h = record { once = h.once; sessions = h.sessions; reads = h.reads }
+serial_from_orders ss order h = record { once = h.once; sessions = h.sessions; moments = h.moments; reads = h.reads }
 
 -- the nodes of sessions, and those of settled ones
 nodes_are : (ss : List ClientSession) → committed_in ss ≡ nodes_where (taken ss) ss

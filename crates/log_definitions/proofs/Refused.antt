@@ -1,6 +1,8 @@
 -- A log has a fault other than memory exactly where no sessions make it well-formed.
-use Rattle.std.proofs.Common.{◌≡◌, ◌≢◌, ℕ, zero, suc, ◌+◌, Bool, true, false, cond, List, [], ◌∷◌, Option, Some, None, Result, Ok, Err, refl, sym, ap, ◌∙◌}
+use Rattle.std.proofs.Common.{◌≡◌, ◌≢◌, ℕ, zero, suc, ◌+◌, Bool, true, false, cond, List, [], ◌∷◌, Option, Some, None, Result, Ok, Err, refl, sym, ap, ◌∙◌, inl, inr}
 use Rattle.std.specs.Option.{option_or}
+use Rattle.std.proofs.lemmas.Bool.{cases_Bool}
+use Rattle.session_log.specs.Moments.{is_earlier}
 use Rattle.session_log.specs.Text.{ClientSession}
 use Rattle.session_log.specs.Lines.{lines}
 use Rattle.session_log.specs.Version.{first_line, version_of, body_of}
@@ -10,7 +12,7 @@ use Rattle.session_log.specs.declared.line.Line.{Line}
 use Rattle.session_log.specs.declared.line.Line.TheVariants as line
 use Rattle.session_log.specs.declared.fault.Limit.{Limit}
 use Rattle.session_log.specs.declared.fault.LogFault.{LogFault}
-use Rattle.session_log.specs.declared.fault.LogFault.TheVariants.{OverLimit, OpenTransaction, Memory}
+use Rattle.session_log.specs.declared.fault.LogFault.TheVariants.{OverLimit, OpenTransaction, EndsBeforeBegin, Memory}
 use Rattle.session_log.specs.declared.version.Version.{Version}
 use Rattle.session_log.proofs.Whole.{grammar_fault_none, log_text_injective}
 use Rattle.log_definitions.specs.WellFormed.{IsLogFault, memory, size, grammar, list, IsWellFormed, list_fault, session_fault, write_fault, session_twice, write_twice, limit_fault, log_lines}
@@ -68,32 +70,35 @@ list_fault_named n ss =
 
 after_named : (n : ℕ) (p : Place) (f : Line) → after n p f ≡ Err Memory → ⊥
 after_named n Start (line.Session k) e = cc
-after_named n Start line.Begin e = cc
+after_named n Start (line.Begin m) e = cc
 after_named n Start (line.Read k w) e = cc
 after_named n Start (line.Write k w) e = cc
-after_named n Start line.Commit e = cc
+after_named n Start (line.Commit m) e = cc
 after_named n Start line.Abort e = cc
 after_named n Start line.Unknown e = cc
 after_named n Between (line.Session k) e = cc
-after_named n Between line.Begin e = cc
+after_named n Between (line.Begin m) e = cc
 after_named n Between (line.Read k w) e = cc
 after_named n Between (line.Write k w) e = cc
-after_named n Between line.Commit e = cc
+after_named n Between (line.Commit m) e = cc
 after_named n Between line.Abort e = cc
 after_named n Between line.Unknown e = cc
-after_named n (Inside b) (line.Session k) e = cc
-after_named n (Inside b) line.Begin e = cc
-after_named n (Inside b) (line.Read k w) e = cc
-after_named n (Inside b) (line.Write k zero) e = cc
-after_named n (Inside b) (line.Write k (suc w)) e = cc
-after_named n (Inside b) line.Commit e = cc
-after_named n (Inside b) line.Abort e = cc
-after_named n (Inside b) line.Unknown e = cc
+after_named n (Inside b begun) (line.Session k) e = cc
+after_named n (Inside b begun) (line.Begin m) e = cc
+after_named n (Inside b begun) (line.Read k w) e = cc
+after_named n (Inside b begun) (line.Write k zero) e = cc
+after_named n (Inside b begun) (line.Write k (suc w)) e = cc
+after_named n (Inside b begun) (line.Commit m) e = elim (cases_Bool (is_earlier m begun)) [
+  | inl t ↦ let named : ◌≡◌ {A = Result Place LogFault} (Err (EndsBeforeBegin n)) (Err Memory) = rw t at e in cc named
+  | inr f ↦ let named : ◌≡◌ {A = Result Place LogFault} (Ok Between) (Err Memory) = rw f at e in cc named
+]
+after_named n (Inside b begun) line.Abort e = cc
+after_named n (Inside b begun) line.Unknown e = cc
 after_named n Over (line.Session k) e = cc
-after_named n Over line.Begin e = cc
+after_named n Over (line.Begin m) e = cc
 after_named n Over (line.Read k w) e = cc
 after_named n Over (line.Write k w) e = cc
-after_named n Over line.Commit e = cc
+after_named n Over (line.Commit m) e = cc
 after_named n Over line.Abort e = cc
 after_named n Over line.Unknown e = cc
 
@@ -105,17 +110,17 @@ step_named : (v : Version) (n : ℕ) (p : Place) (l : List ℕ × Bool) → step
 unfolding step
 step_named v n Start l e = form_named n Start (form_at v l) e
 step_named v n Between l e = form_named n Between (form_at v l) e
-step_named v n (Inside b) l e = go (is_session_line l) e
+step_named v n (Inside b begun) l e = go (is_session_line l) e
   where
-    go : (t : Bool) → cond t (Err (OpenTransaction b)) (after_form n (Inside b) (form_at v l)) ≡ Err Memory → ⊥
+    go : (t : Bool) → cond t (Err (OpenTransaction b)) (after_form n (Inside b begun) (form_at v l)) ≡ Err Memory → ⊥
     go true e = cc
-    go false e = form_named n (Inside b) (form_at v l) e
+    go false e = form_named n (Inside b begun) (form_at v l) e
 step_named v n Over l e = form_named n Over (form_at v l) e
 
 first_fault_named : (v : Version) (ls : List (List ℕ × Bool)) (n : ℕ) (p : Place) → first_fault v n p ls ≡ Some Memory → ⊥
 first_fault_named v [] n Start e = cc
 first_fault_named v [] n Between e = cc
-first_fault_named v [] n (Inside b) e = cc
+first_fault_named v [] n (Inside b begun) e = cc
 first_fault_named v [] n Over e = cc
 first_fault_named v (l ∷ ls) n p e = go (step v n p l) refl e (first_fault_named v ls (n + 1))
   where

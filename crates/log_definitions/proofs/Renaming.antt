@@ -1,15 +1,17 @@
 -- A replay on keys is one on their numbers.
-use Rattle.std.proofs.Common.{◌≡◌, ℕ, cond, List, [], ◌∷◌, ◌++◌, refl, sym, ap, ◌∙◌, subst}
+use Rattle.std.proofs.Common.{◌≡◌, ℕ, cond, eqb, not, List, [], ◌∷◌, ◌++◌, refl, sym, ap, ◌∙◌, subst, ne_eqb}
+use Rattle.std.proofs.lemmas.Bool.{and_parts, and_from, not-true, not_from_false, eqb-false}
 use Rattle.std.specs.List.{flat_map, AllByRecursion}
 use Rattle.std.specs.Str.{bytes_eq}
 use Rattle.std.proofs.lemmas.List.{map-append}
+use Rattle.session_log.specs.Moments.{is_earlier}
 use Rattle.session_log.specs.Text.{ClientSession}
 use Rattle.session_log.specs.declared.session.Op.{Op}
 use Rattle.session_log.specs.declared.session.Op.TheVariants.{Read, Write}
 use Rattle.serializability.specs.Replay.{Store, write, empty, Meets, IsSerial}
 use Rattle.serializability.proofs.Places.{each_from_flat_map}
 use Rattle.log_definitions.specs.WellFormed.{keys_in, key_of}
-use Rattle.log_definitions.specs.Serial.{Map, set, initial, Replays, ops_of, IsSerialOrder}
+use Rattle.log_definitions.specs.Serial.{Map, set, initial, Replays, ops_of, begun_of, ended_of, IsSerialOrder}
 use Rattle.log_definitions.specs.Numbers.{number_in, event_of, events_of, log_of}
 use Rattle.log_definitions.proofs.Members.{each_member}
 use Rattle.log_definitions.proofs.Keys.{Listed, all_listed, numbers_differ}
@@ -53,6 +55,9 @@ serial_numbered ss order h =
     record {
       once = h.once;
       sessions = h.sessions;
+      moments = λ a b lo hi blo bhi t.
+          let both = and_parts (not (eqb a b)) (is_earlier (ended_of ss a) (begun_of ss b)) t in
+          h.moments a b lo hi blo bhi (eqb-false a b (not-true (eqb a b) both.0)) both.1;
       reads = subst (Meets empty) (ops_in_order (keys_in ss) (ops_of ss) order) (meets_numbered (keys_in ss) initial empty (flat_map (ops_of ss) order) (λ k l. refl) (order_listed ss order) h.reads);
     }
 
@@ -62,5 +67,7 @@ serial_by_keys ss order h =
     record {
       once = h.once;
       sessions = h.sessions;
+      moments = λ a b lo hi blo bhi ne e.
+          h.moments a b lo hi blo bhi (and_from (not (eqb a b)) (is_earlier (ended_of ss a) (begun_of ss b)) (not_from_false (eqb a b) (ne_eqb a b ne)) e);
       reads = replays_numbered (keys_in ss) initial empty (flat_map (ops_of ss) order) (λ k l. refl) (order_listed ss order) (subst (Meets empty) (sym (ops_in_order (keys_in ss) (ops_of ss) order)) h.reads);
     }

@@ -1,9 +1,10 @@
 -- Some nodes of a list are kept: an order of all of them becomes an order of the kept ones, by their own numbers.
-use Rattle.std.proofs.Common.{◌≡◌, ℕ, zero, suc, ◌<◌, ◌≤◌, Bool, true, false, List, [], ◌∷◌, ◌++◌, length, get_or, refl, sym, ap, ◌∙◌, subst, inl, inr, arith}
-use Rattle.std.specs.Prelude.{map, slice_get}
+use Rattle.std.proofs.Common.{◌≡◌, ◌≢◌, ℕ, zero, suc, ◌<◌, ◌≤◌, Bool, true, false, List, [], ◌∷◌, ◌++◌, length, get_or, Option, refl, sym, ap, ◌∙◌, subst, inl, inr, arith}
+use Rattle.std.specs.Prelude.{map, slice_get, option_and_then}
 use Rattle.std.specs.List.{filter, flat_map}
 use Rattle.std.specs.Option.{option_map_or}
 use Rattle.std.proofs.lemmas.Bool.{cases_Bool, cases_eq, cases_order, false≢true}
+use Rattle.session_log.specs.Moments.{is_earlier}
 use Rattle.session_log.specs.declared.session.Op.{Op}
 use Rattle.serializability.specs.Replay.{place_of, Before, ListsOnce}
 use Rattle.serializability.proofs.Places.{Has, Apart, Has-from_Contains, Contains-from_Has, Apart-from_IsDistinct, place_of-here, place_of-further}
@@ -18,9 +19,16 @@ session_at nodes v = option_map_or (λ node. node.session) (node_in nodes v) 0
 abbrev pub ops_at : List Committed → ℕ → List Op
 ops_at nodes v = option_map_or (λ node. node.ops) (node_in nodes v) []
 
+abbrev pub begun_at : List Committed → ℕ → Option ℕ
+begun_at nodes v = option_and_then (λ node. node.begun) (node_in nodes v)
+
+abbrev pub ended_at : List Committed → ℕ → Option ℕ
+ended_at nodes v = option_and_then (λ node. node.ended) (node_in nodes v)
+
 pub record Orders (nodes : List Committed) (order : List ℕ) : Type 0 where
   pub once : ListsOnce (length nodes) order
   pub sessions : (a b : ℕ) → 0 < a → a < b → b ≤ length nodes → session_at nodes a ≡ session_at nodes b → Before order a b
+  pub moments : (a b : ℕ) → 0 < a → a ≤ length nodes → 0 < b → b ≤ length nodes → a ≢ b → is_earlier (ended_at nodes a) (begun_at nodes b) ≡ true → Before order a b
   pub reads : Replays initial (flat_map (ops_at nodes) order)
 
 -- ---- nodes, each with the mark whether it is kept
@@ -217,11 +225,24 @@ pub orders_kept : (ms : List Marked) (order : List ℕ) → Orders (all_nodes ms
 orders_kept ms order h reads = record {
   once = once_kept ms order h.once;
   sessions = sessions;
+  moments = moments;
   reads = subst (Replays initial) (sym (ops_in_order ms order)) reads;
 }
   where
+    node_kept : (j : ℕ) (p : Place ms j) → slice_get (kept_nodes ms) j ≡ slice_get (all_nodes ms) p.place
+    node_kept j p = ap (slice_get (kept_nodes ms)) (sym p.ranked) ∙ kept_at ms p.place p.kept
+
     session_kept : (j : ℕ) (p : Place ms j) → session_at (kept_nodes ms) (suc j) ≡ session_at (all_nodes ms) (suc p.place)
-    session_kept j p = ap (λ o. option_map_or (λ (node : Committed). node.session) o 0) (ap (slice_get (kept_nodes ms)) (sym p.ranked) ∙ kept_at ms p.place p.kept)
+    session_kept j p = ap (λ o. option_map_or (λ (node : Committed). node.session) o 0) (node_kept j p)
+
+    before_kept : (i j : ℕ) (p : Place ms i) (q : Place ms j) → Before order (suc p.place) (suc q.place) → Before (renumbered ms order) (suc i) (suc j)
+    before_kept i j p q before =
+        let u = suc p.place in
+        let v = suc q.place in
+        let kept = still_before ms order u v p.kept q.kept (omega (arith, before, behind_zero order u (omega arith), behind_zero order v (omega arith))) in
+        let named = subst (λ w. place_of (renumbered ms order) (number ms u) < place_of (renumbered ms order) w) (ap suc q.ranked) kept in
+        let all = subst (λ w. place_of (renumbered ms order) w < place_of (renumbered ms order) (suc j)) (ap suc p.ranked) named in
+        omega (arith, all, behind_zero (renumbered ms order) (suc i) (omega arith), behind_zero (renumbered ms order) (suc j) (omega arith))
 
     in_order : (i j : ℕ) (p : Place ms i) (q : Place ms j) → i < j → p.place < q.place
     in_order i j p q lt = elim (cases_order p.place q.place) [
@@ -240,8 +261,16 @@ orders_kept ms order h reads = record {
         let q = place ms j (omega arith) in
         let u = suc p.place in
         let v = suc q.place in
-        let before = h.sessions u v (omega arith) (omega (arith, in_order i j p q (omega arith))) (omega (arith, q.within)) (sym (session_kept i p) ∙ e ∙ session_kept j q) in
-        let kept = still_before ms order u v p.kept q.kept (omega (arith, before, behind_zero order u (omega arith), behind_zero order v (omega arith))) in
-        let named = subst (λ w. place_of (renumbered ms order) (number ms u) < place_of (renumbered ms order) w) (ap suc q.ranked) kept in
-        let all = subst (λ w. place_of (renumbered ms order) w < place_of (renumbered ms order) (suc j)) (ap suc p.ranked) named in
-        omega (arith, all, behind_zero (renumbered ms order) (suc i) (omega arith), behind_zero (renumbered ms order) (suc j) (omega arith))
+        before_kept i j p q (h.sessions u v (omega arith) (omega (arith, in_order i j p q (omega arith))) (omega (arith, q.within)) (sym (session_kept i p) ∙ e ∙ session_kept j q))
+
+    moments : (a b : ℕ) → 0 < a → a ≤ length (kept_nodes ms) → 0 < b → b ≤ length (kept_nodes ms) → a ≢ b → is_earlier (ended_at (kept_nodes ms) a) (begun_at (kept_nodes ms) b) ≡ true → Before (renumbered ms order) a b
+    moments zero b lo hi blo bhi ne e = absurd (omega arith)
+    moments (suc i) zero lo hi blo bhi ne e = absurd (omega arith)
+    moments (suc i) (suc j) lo hi blo bhi ne e =
+        let p = place ms i (omega arith) in
+        let q = place ms j (omega arith) in
+        let apart : suc p.place ≢ suc q.place = λ same. ne (ap suc (sym p.ranked) ∙ ap (number ms) same ∙ ap suc q.ranked) in
+        let same : is_earlier (ended_at (kept_nodes ms) (suc i)) (begun_at (kept_nodes ms) (suc j)) ≡ is_earlier (ended_at (all_nodes ms) (suc p.place)) (begun_at (all_nodes ms) (suc q.place)) =
+        ap (λ o. is_earlier (option_and_then (λ (node : Committed). node.ended) o) (begun_at (kept_nodes ms) (suc j))) (node_kept i p)
+        ∙ ap (λ o. is_earlier (ended_at (all_nodes ms) (suc p.place)) (option_and_then (λ (node : Committed). node.begun) o)) (node_kept j q) in
+        before_kept i j p q (h.moments (suc p.place) (suc q.place) (omega arith) (omega (arith, p.within)) (omega arith) (omega (arith, q.within)) apart (sym same ∙ e))

@@ -76,35 +76,35 @@ writes _ = []
 begun : (n : ℕ) (ls : List Line) → numbers (sessions_from n ls) ≡ flat_map begins ls
 begun n [] = refl
 begun n (line.Session k ∷ ls) = ap (λ l. k ∷ l) (begun (n + 1) ls)
-begun n (line.Begin ∷ ls) = begun (n + 1) ls
+begun n (line.Begin m ∷ ls) = begun (n + 1) ls
 begun n (line.Read k w ∷ ls) = begun (n + 1) ls
 begun n (line.Write k w ∷ ls) = begun (n + 1) ls
-begun n (line.Commit ∷ ls) = begun (n + 1) ls
+begun n (line.Commit m ∷ ls) = begun (n + 1) ls
 begun n (line.Abort ∷ ls) = begun (n + 1) ls
 begun n (line.Unknown ∷ ls) = begun (n + 1) ls
 
 wrote : (n : ℕ) (ls : List Line) → numbers (writes_from n ls) ≡ flat_map writes ls
 wrote n [] = refl
 wrote n (line.Session k ∷ ls) = wrote (n + 1) ls
-wrote n (line.Begin ∷ ls) = wrote (n + 1) ls
+wrote n (line.Begin m ∷ ls) = wrote (n + 1) ls
 wrote n (line.Read k w ∷ ls) = wrote (n + 1) ls
 wrote n (line.Write k w ∷ ls) = ap (λ l. w ∷ l) (wrote (n + 1) ls)
-wrote n (line.Commit ∷ ls) = wrote (n + 1) ls
+wrote n (line.Commit m ∷ ls) = wrote (n + 1) ls
 wrote n (line.Abort ∷ ls) = wrote (n + 1) ls
 wrote n (line.Unknown ∷ ls) = wrote (n + 1) ls
 
-begun_ops : (ops : List Op) (end : Outcome) → flat_map begins (map op_line ops ++ end_line end ∷ []) ≡ []
-begun_ops [] Commit = refl
-begun_ops [] Abort = refl
-begun_ops [] Unknown = refl
-begun_ops (Read k w ∷ ops) end = begun_ops ops end
-begun_ops (Write k w ∷ ops) end = begun_ops ops end
+begun_ops : (ops : List Op) (end : Outcome) (ended : Option ℕ) → flat_map begins (map op_line ops ++ end_line end ended ∷ []) ≡ []
+begun_ops [] Commit ended = refl
+begun_ops [] Abort ended = refl
+begun_ops [] Unknown ended = refl
+begun_ops (Read k w ∷ ops) end ended = begun_ops ops end ended
+begun_ops (Write k w ∷ ops) end ended = begun_ops ops end ended
 
 begun_txns : (ts : List Transaction) → flat_map begins (flat_map txn_lines ts) ≡ []
 begun_txns [] = refl
 begun_txns (t ∷ ts) =
     flat_map-append begins (txn_lines t) (flat_map txn_lines ts)
-    ∙ ap (λ l. l ++ flat_map begins (flat_map txn_lines ts)) (begun_ops t.ops t.outcome) ∙ begun_txns ts
+    ∙ ap (λ l. l ++ flat_map begins (flat_map txn_lines ts)) (begun_ops t.ops t.outcome t.ended) ∙ begun_txns ts
 
 begun_log : (ss : List ClientSession) → flat_map begins (log_lines ss) ≡ map (λ s. s.number) ss
 begun_log [] = refl
@@ -118,18 +118,18 @@ written-append [] b = refl
 written-append (Read k w ∷ a) b = written-append a b
 written-append (Write k w ∷ a) b = ap (λ l. w ∷ l) (written-append a b)
 
-wrote_ops : (ops : List Op) (end : Outcome) → flat_map writes (map op_line ops ++ end_line end ∷ []) ≡ written ops
-wrote_ops [] Commit = refl
-wrote_ops [] Abort = refl
-wrote_ops [] Unknown = refl
-wrote_ops (Read k w ∷ ops) end = wrote_ops ops end
-wrote_ops (Write k w ∷ ops) end = ap (λ l. w ∷ l) (wrote_ops ops end)
+wrote_ops : (ops : List Op) (end : Outcome) (ended : Option ℕ) → flat_map writes (map op_line ops ++ end_line end ended ∷ []) ≡ written ops
+wrote_ops [] Commit ended = refl
+wrote_ops [] Abort ended = refl
+wrote_ops [] Unknown ended = refl
+wrote_ops (Read k w ∷ ops) end ended = wrote_ops ops end ended
+wrote_ops (Write k w ∷ ops) end ended = ap (λ l. w ∷ l) (wrote_ops ops end ended)
 
 wrote_txns : (ts : List Transaction) → flat_map writes (flat_map txn_lines ts) ≡ written (flat_map txn_ops ts)
 wrote_txns [] = refl
 wrote_txns (t ∷ ts) =
     flat_map-append writes (txn_lines t) (flat_map txn_lines ts)
-    ∙ ap (λ l. l ++ flat_map writes (flat_map txn_lines ts)) (wrote_ops t.ops t.outcome)
+    ∙ ap (λ l. l ++ flat_map writes (flat_map txn_lines ts)) (wrote_ops t.ops t.outcome t.ended)
     ∙ ap (λ l. written t.ops ++ l) (wrote_txns ts)
     ∙ sym (written-append t.ops (flat_map txn_ops ts))
 
@@ -177,7 +177,7 @@ rules_where_no_fault n ss e =
     let outer = neither (session_fault (session_twice n (log_lines ss))) _ e in
     let inner = neither (limit_fault ss) (write_fault (write_twice n (log_lines ss))) outer.1 in
     let one = within 200000 _ _ _ inner.0 in
-    let two = within 400 _ _ _ one.1 in
+    let two = within 1000 _ _ _ one.1 in
     let three = within 10000 _ _ _ two.1 in
     let numbered = distinct_where_unrepeated [] (sessions_from n (log_lines ss)) (no_session _ outer.0) in
     let identified = distinct_where_unrepeated [] (writes_from n (log_lines ss)) (no_write _ inner.1) in
@@ -196,7 +196,7 @@ no_fault_where_rules n ss h =
     unrepeated_where_distinct [] (sessions_from n (log_lines ss)) (none_seen _) (subst (IsDistinct nat_eq) (sym (begun_numbers n ss)) h.sessions) in
     let writes : write_twice n (log_lines ss) ≡ None =
     unrepeated_where_distinct [] (writes_from n (log_lines ss)) (none_seen _) (subst (IsDistinct nat_eq) (sym (written_numbers n ss)) h.writes) in
-    let limits : limit_fault ss ≡ None = kept 200000 _ _ _ h.operations ∙ kept 400 _ _ _ h.committed ∙ kept 10000 _ _ _ h.keys in
+    let limits : limit_fault ss ≡ None = kept 200000 _ _ _ h.operations ∙ kept 1000 _ _ _ h.committed ∙ kept 10000 _ _ _ h.keys in
     ap (λ o. option_or (session_fault o) (option_or (limit_fault ss) (write_fault (write_twice n (log_lines ss))))) sessions
     ∙ ap (λ o. option_or o (write_fault (write_twice n (log_lines ss)))) limits
     ∙ ap write_fault writes

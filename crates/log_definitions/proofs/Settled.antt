@@ -62,7 +62,7 @@ outcome_stays b Unknown h = absurd (h refl)
 txns_stay : (b : Bool) (ts : List Transaction) → AllByRecursion IsLearnt ts → map (settle b) ts ≡ ts
 txns_stay b [] h = refl
 txns_stay b (t ∷ ts) h =
-    ap (λ o. record { ops = t.ops; outcome = o } ∷ map (settle b) ts) (outcome_stays b t.outcome h.0) ∙ ap (λ l. t ∷ l) (txns_stay b ts h.1)
+    ap (λ o. record { ops = t.ops; outcome = o; begun = t.begun; ended = t.ended } ∷ map (settle b) ts) (outcome_stays b t.outcome h.0) ∙ ap (λ l. t ∷ l) (txns_stay b ts h.1)
 
 learnt_stay : (chosen : ℕ → Bool) (ss : List ClientSession) → AllByRecursion IsLearnt (txns_in ss) → settled chosen ss ≡ ss
 unfolding settled

@@ -41,7 +41,7 @@ Grouped-append n (x ∷ xs) ys h absent g (suc i) (suc j) (suc k) ij jk lt e =
 abbrev session_numbers : List Committed → List ℕ
 session_numbers nodes = map (λ (c : Committed). c.session) nodes
 
-all_of_session : (number : ℕ) (ts : List (ℕ × Transaction)) → AllByRecursion (λ n. n ≡ number) (session_numbers (map (λ (p : ℕ × Transaction). record { session = number; place = p.0; ops = p.1.ops }) ts))
+all_of_session : (number : ℕ) (ts : List (ℕ × Transaction)) → AllByRecursion (λ n. n ≡ number) (session_numbers (map (λ (p : ℕ × Transaction). record { session = number; place = p.0; ops = p.1.ops; begun = p.1.begun; ended = p.1.ended }) ts))
 all_of_session number [] = tt
 all_of_session number (t ∷ ts) = (refl, all_of_session number ts)
 

@@ -2,6 +2,7 @@
 use Rattle.std.specs.Prelude.{◌≡◌, ℕ, not, List, length, map, Option, Some, None}
 use Rattle.std.specs.List.{filter, position_or_len, AllByRecursion}
 use Rattle.std.specs.Str.{bytes_eq}
+use Rattle.session_log.specs.Moments.{is_earlier}
 use Rattle.session_log.specs.Text.{ClientSession, IsLegal}
 use Rattle.session_log.specs.declared.session.Op.{Op}
 use Rattle.session_log.specs.declared.session.Op.TheVariants as op
@@ -14,7 +15,7 @@ use Rattle.serializability.specs.Plain.{plain, contradiction}
 use Rattle.serializability.specs.Anomalies.{anomaly_of}
 use Rattle.log_definitions.specs.Unknown.{is_committed, txns_in, resolved}
 use Rattle.log_definitions.specs.WellFormed.{keys_in, list_fault}
-use Rattle.log_definitions.specs.Serial.{committed_in, session_of, ops_of}
+use Rattle.log_definitions.specs.Serial.{committed_in, session_of, ops_of, begun_of, ended_of}
 
 -- the number of a key among these
 abbrev pub number_in : List (List ℕ) → List ℕ → ℕ
@@ -38,6 +39,7 @@ log_of ss = record {
   keys = length (keys_in ss);
   session = session_of ss;
   ops = λ v. events_of (keys_in ss) (ops_of ss v);
+  earlier = λ u v. is_earlier (ended_of ss u) (begun_of ss v);
   aborted = map (events_of (keys_in ss)) (aborted_in ss);
 }
 

@@ -1,9 +1,10 @@
 -- The nodes of a log, replay on a plain map from keys to identities, and serial orders.
-use Rattle.std.specs.Prelude.{◌≡◌, ℕ, zero, suc, ◌<◌, ◌≤◌, if◌then◌else◌, List, [], ◌∷◌, length, slice_get, Bool, Option, None}
+use Rattle.std.specs.Prelude.{◌≡◌, ◌≢◌, true, ℕ, zero, suc, ◌<◌, ◌≤◌, if◌then◌else◌, List, [], ◌∷◌, length, slice_get, Bool, Option, None, option_and_then}
 use Rattle.std.specs.List.{flat_map, filter, enumerate_from}
 use Rattle.std.specs.Option.{option_map_or}
 use Rattle.std.specs.Prelude.{map}
 use Rattle.std.specs.Str.{bytes_eq}
+use Rattle.session_log.specs.Moments.{is_earlier}
 use Rattle.session_log.specs.Text.{ClientSession}
 use Rattle.session_log.specs.declared.session.Op.{Op}
 use Rattle.session_log.specs.declared.session.Op.TheVariants.{Read, Write}
@@ -12,15 +13,18 @@ use Rattle.log_definitions.specs.Unknown.{is_committed, resolved, settled}
 
 -- ---- the nodes: the committed transactions, and those of unknown outcome that were taken
 
--- a node: the number of its session, its place in the session from 1, every transaction counted, and its operations
+-- a node: the number of its session, its place in the session from 1, every transaction counted, its operations, and the moments
+-- at which it began and ended, where they are stated
 pub record Committed : Type 0 where
   pub session : ℕ
   pub place : ℕ
   pub ops : List Op
+  pub begun : Option ℕ
+  pub ended : Option ℕ
 
 abbrev pub committed_of : ClientSession → List Committed
 committed_of s =
-    map (λ t. record { session = s.number; place = t.0; ops = t.1.ops })
+    map (λ t. record { session = s.number; place = t.0; ops = t.1.ops; begun = t.1.begun; ended = t.1.ended })
     (filter (λ t. is_committed t.1) (enumerate_from 1 s.txns))
 
 -- by session in log order, then by place in the session
@@ -40,6 +44,12 @@ session_of ss v = option_map_or (λ node. node.session) (node_of ss v) 0
 
 abbrev pub ops_of : List ClientSession → ℕ → List Op
 ops_of ss v = option_map_or (λ node. node.ops) (node_of ss v) []
+
+abbrev pub begun_of : List ClientSession → ℕ → Option ℕ
+begun_of ss v = option_and_then (λ node. node.begun) (node_of ss v)
+
+abbrev pub ended_of : List ClientSession → ℕ → Option ℕ
+ended_of ss v = option_and_then (λ node. node.ended) (node_of ss v)
 
 -- ---- replay
 
@@ -61,11 +71,12 @@ Replays map (Write key wid ∷ ops) = Replays (set map key wid) ops
 
 -- ---- serial orders
 
--- The order lists nodes 1 to n once each, keeps each session's order, and its replay, transaction by transaction with nothing
--- in between, meets every read. So of the transactions of unknown outcome it lists exactly the taken ones.
+-- The order lists nodes 1 to n once each, keeps each session's order and the order of the stated moments (a node that ended before
+-- another began stands before it), and its replay, transaction by transaction with nothing in between, meets every read. So of the transactions of unknown outcome it lists exactly the taken ones.
 pub record IsSerialOrder (ss : List ClientSession) (order : List ℕ) : Type 0 where
   pub once : ListsOnce (length (committed_in ss)) order
   pub sessions : (a b : ℕ) → 0 < a → a < b → b ≤ length (committed_in ss) → session_of ss a ≡ session_of ss b → Before order a b
+  pub moments : (a b : ℕ) → 0 < a → a ≤ length (committed_in ss) → 0 < b → b ≤ length (committed_in ss) → a ≢ b → is_earlier (ended_of ss a) (begun_of ss b) ≡ true → Before order a b
   pub reads : Replays initial (flat_map (ops_of ss) order)
 
 -- An order of the committed and some unknown transactions: these count as committed, and the other unknown ones as aborted.

@@ -35,7 +35,7 @@ settled_as is_chosen Abort = Abort
 settled_as is_chosen Unknown = if is_chosen then Commit else Abort
 
 abbrev pub settle : Bool → Transaction → Transaction
-settle is_chosen t = record { ops = t.ops; outcome = settled_as is_chosen t.outcome }
+settle is_chosen t = record { ops = t.ops; outcome = settled_as is_chosen t.outcome; begun = t.begun; ended = t.ended }
 
 unfoldable pub settled : (ℕ → Bool) → List ClientSession → List ClientSession
 settled chosen ss = map (λ s. record { number = s.number; txns = map (settle (chosen s.number)) s.txns }) ss

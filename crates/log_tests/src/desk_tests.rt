@@ -1,7 +1,6 @@
 ghost use Rattle.std.specs.Prelude.{◌≡◌, ℕ, ◌+◌, ◌<◌, ◌^◌, Some};
 
 use desk::desk::{Desk, NotAll};
-use desk::gate::{Gate, OpenGate};
 use desk::history::Entry;
 use desk::laws;
 use desk::machine::Machine;
@@ -60,22 +59,15 @@ impl Machine for Adder {
 }
 
 #[test]
-fn numbers_are_1_to_16(rt: HostRuntime) {
-    for (number, fits) in [(0, false), (1, true), (16, true), (17, false), (255, false)] {
-        assert_eq!(rt; SeatNo::new(number).is_some(), fits, "seat {number}");
-        assert_eq!(rt; Workers::new(number).is_some(), fits, "{number} workers");
-    }
-    laws::valid_after_every_history::<Adder>();
-}
-
-#[test]
 fn two_threads_make_one_history(rt: HostRuntime) -> Result<(), Fail> {
     let workers = Workers::new(2).ok_or("two workers")?;
     let opened = Opened::new(rt.alloc(), Adder { sum: 5 }, workers)?;
     add_together::<Brand, _>(&rt, rt.alloc(), opened);
+    laws::valid_after_every_history::<Adder>();
     Ok(())
 }
 
+// Seat 2 calls at once and has to wait for a sum of 8, which seat 1 makes a little later.
 fn add_together<J: Naming + Send + Sync, R: Threads + Wait + Clock + Abort + Sync>(
     rt: &R,
     alloc: Global,
@@ -89,8 +81,11 @@ fn add_together<J: Naming + Send + Sync, R: Threads + Wait + Clock + Abort + Syn
     let first = seats.pop().expect(rt, "seat 1");
     let (first, second) = join(
         rt,
-        || add_often(rt, &desk, first, 3, &OpenGate),
-        || add_often(rt, &desk, second, 4, &OpenGate),
+        || {
+            thread::sleep(rt, Duration::from_millis(50));
+            add_often(rt, &desk, first, 3, 0)
+        },
+        || add_often(rt, &desk, second, 4, 8),
     );
     let lefts = Vec::from_array(alloc, [first, second]).expect(rt, "memory");
     let closed = desk.close(lefts).ok().expect(rt, "all have left");
@@ -99,60 +94,29 @@ fn add_together<J: Naming + Send + Sync, R: Threads + Wait + Clock + Abort + Syn
     assert_eq!(rt; sum_after(rt, 5, &closed.history), closed.machine.sum);
 }
 
-// A hundred calls, and a last one.
-fn add_often<J: Naming, G: Gate, R: Wait + Clock + Abort>(
+// A hundred calls, and a last one, which does not wait.
+fn add_often<J: Naming, R: Wait + Abort>(
     rt: &R,
     desk: &Desk<Adder, J>,
     mut seat: Seat<Adder, J>,
     amount: u64,
-    gate: &G,
+    at_least: u64,
 ) -> Left<Adder, J> {
-    for turn in 0..100 {
-        gate.pass(rt, seat.number(), turn);
-        add(rt, desk, &mut seat, amount, 0);
+    for _ in 0..100 {
+        add(rt, desk, &mut seat, amount, at_least);
     }
     leave(rt, desk, seat, amount)
 }
 
-// The sum after a history, each of whose replies is the sum before it.
-fn sum_after<R: Abort>(rt: &R, opening: u64, history: &[Entry<Amount, u64>]) -> u64 {
+// The sum after a history, each of whose replies is the sum before it, for which the call did not have to wait.
+fn sum_after(rt: &impl Abort, opening: u64, history: &[Entry<Amount, u64>]) -> u64 {
     let mut sum = opening;
     for entry in history {
         assert_eq!(rt; entry.reply, sum);
+        assert!(rt; entry.event.at_least <= sum || entry.event.at_least == u64::MAX);
         sum = sum.wrapping_add(entry.event.amount);
     }
     sum
-}
-
-#[test]
-fn a_call_waits_for_another_seat(rt: HostRuntime) -> Result<(), Fail> {
-    let workers = Workers::new(2).ok_or("two workers")?;
-    let opened = Opened::new(rt.alloc(), Adder { sum: 0 }, workers)?;
-    wait_for_first::<Brand, _>(&rt, rt.alloc(), opened);
-    Ok(())
-}
-
-// Seat 2 calls at once and has to wait for a sum of 7, seat 1 adds 7 a little later.
-fn wait_for_first<J: Naming + Send + Sync, R: Threads + Wait + Clock + Abort + Sync>(
-    rt: &R,
-    alloc: Global,
-    opened: Opened<Adder>,
-)
-    requires names { J.names ≡ opened.1 }
-    requires desk { J.desk ≡ opened.2 }
-{
-    let (desk, mut seats) = Desk::<Adder, J>::open(alloc, opened).expect(rt, "memory");
-    let mut second = seats.pop().expect(rt, "seat 2");
-    let mut first = seats.pop().expect(rt, "seat 1");
-    let (early, late) = join(
-        rt,
-        || {
-            thread::sleep(rt, Duration::from_millis(50));
-            add(rt, &desk, &mut first, 7, 0)
-        },
-        || add(rt, &desk, &mut second, 1, 7),
-    );
-    assert_eq!(rt; (early, late), (0, 7));
 }
 
 #[test]
@@ -171,7 +135,7 @@ fn close_too_early<J: Naming, R: Wait + Abort>(rt: &R, alloc: Global, opened: Op
     let third = seats.pop().expect(rt, "seat 3");
     let second = seats.pop().expect(rt, "seat 2");
     let first = seats.pop().expect(rt, "seat 1");
-    let first = add_twice(rt, &desk, first);
+    let first = leave(rt, &desk, first, 20);
     let third = leave(rt, &desk, third, 10);
     let lefts = Vec::from_array(alloc, [third, first]).expect(rt, "memory");
     let NotAll {
@@ -184,20 +148,9 @@ fn close_too_early<J: Naming, R: Wait + Abort>(rt: &R, alloc: Global, opened: Op
         .push(leave(rt, &desk, second, 40))
         .expect(rt, "memory");
     let closed = desk.close(lefts).ok().expect(rt, "all have left");
-    assert_eq!(rt; sum_after(rt, 0, &closed.history), 77);
+    assert_eq!(rt; sum_after(rt, 0, &closed.history), 70);
     let seats = closed.history.iter().map(|entry| entry.seat.get());
-    assert!(rt; seats.eq([1, 1, 1, 3, 2]));
-}
-
-// The second call sees what the first one changed.
-fn add_twice<J: Naming, R: Wait + Abort>(
-    rt: &R,
-    desk: &Desk<Adder, J>,
-    mut seat: Seat<Adder, J>,
-) -> Left<Adder, J> {
-    assert_eq!(rt; add(rt, desk, &mut seat, 5, 0), 0);
-    assert_eq!(rt; add(rt, desk, &mut seat, 2, 0), 5);
-    leave(rt, desk, seat, 20)
+    assert!(rt; seats.eq([1, 3, 2]));
 }
 
 // An event that was refused for memory comes back, and is sent again.

@@ -1,6 +1,7 @@
 ghost use Rattle.std.specs.Prelude.{◌≡◌};
 ghost use Rattle.session_log.specs.Blocks.{blocks_of};
 
+use crate::session_log_tests::{THREE, read};
 use desk::desk::Desk;
 use desk::gate::{Gate, OpenGate};
 use desk::machine::Machine;
@@ -8,8 +9,8 @@ use desk::naming::Naming;
 use desk::opened::Opened;
 use desk::seat_no::{SeatNo, Workers};
 use gather::{Event, GatherMachine, Reply, collect, parse_piece};
-use session_log::{Block, Limit, LogFault, Session, cut, parse_block, print_log};
-use std::alloc::{AllocError, Global};
+use session_log::{Block, LogFault, Session, cut, print_log};
+use std::alloc::Global;
 use std::marker::Brand;
 use std::process::Abort;
 use std::sync::Wait;
@@ -19,11 +20,22 @@ use std::thread;
 use std::thread::Threads;
 use std::time::{Clock, Duration};
 
-const THREE: &str =
-    "session 1\nbegin\nw x 1\ncommit\nsession 2\nbegin\nw x 2\ncommit\nsession 3\nbegin\nr x 1\ncommit\n";
-
 // A session whose client was not told how its transaction ended, and one that reads what it wrote.
 const UNKNOWN: &str = "log 2\nsession 1\nbegin\nw x 1\nunknown\nsession 2\nbegin\nr x 1\ncommit\n";
+
+const MOMENTS: &str = "log 3\nsession 1\nbegin 1\ncommit 1\nsession 2\nbegin 0\nabort\n";
+
+fn see<'a>(
+    rt: &impl Abort,
+    machine: &mut GatherMachine<'a>,
+    seat: u8,
+    event: &Event<'a>,
+    want: Reply,
+) {
+    let seat = SeatNo::new(seat).expect(rt, "a seat");
+    let reply = machine.step(seat, event);
+    assert_eq!(rt; reply, want);
+}
 
 #[test]
 fn each_event_has_its_reply(rt: HostRuntime) -> Result<(), Fail> {
@@ -31,8 +43,6 @@ fn each_event_has_its_reply(rt: HostRuntime) -> Result<(), Fail> {
     let log = THREE.as_bytes();
     let (_, blocks) = cut(alloc, log).ok().ok_or("three blocks")?;
     let first = blocks.first().ok_or("a block")?;
-    let one = SeatNo::new(1).ok_or("seat 1")?;
-    let two = SeatNo::new(2).ok_or("seat 2")?;
     let put = Event::Put {
         block: 0,
         parsed: parse_piece(alloc, log, first)?,
@@ -42,17 +52,17 @@ fn each_event_has_its_reply(rt: HostRuntime) -> Result<(), Fail> {
         parsed: parse_piece(alloc, log, first)?,
     };
     let mut machine = GatherMachine::opening(alloc, log, Vec::from_slice(alloc, &blocks)?)?;
-    assert_eq!(rt; machine.step(one, &Event::Take), Reply::Block(0));
-    assert_eq!(rt; machine.step(two, &Event::Take), Reply::Block(1));
-    assert_eq!(rt; machine.step(one, &Event::Take), Reply::Block(0));
-    assert_eq!(rt; machine.step(two, &put), Reply::Stranger);
-    assert_eq!(rt; machine.step(one, &put), Reply::Kept);
-    assert_eq!(rt; machine.step(one, &put), Reply::Double);
-    assert_eq!(rt; machine.step(two, &Event::Release), Reply::Released);
-    assert_eq!(rt; machine.step(one, &Event::Take), Reply::Block(1));
-    assert_eq!(rt; machine.step(two, &Event::Take), Reply::Block(2));
-    assert_eq!(rt; machine.step(two, &elsewhere), Reply::Stranger);
-    assert!(rt; !machine.waits(two, &Event::Take));
+    let machine = &mut machine;
+    see(&rt, machine, 1, &Event::Take, Reply::Block(0));
+    see(&rt, machine, 2, &Event::Take, Reply::Block(1));
+    see(&rt, machine, 1, &Event::Take, Reply::Block(0));
+    see(&rt, machine, 2, &put, Reply::Stranger);
+    see(&rt, machine, 1, &put, Reply::Kept);
+    see(&rt, machine, 1, &put, Reply::Double);
+    see(&rt, machine, 2, &Event::Release, Reply::Released);
+    see(&rt, machine, 1, &Event::Take, Reply::Block(1));
+    see(&rt, machine, 2, &Event::Take, Reply::Block(2));
+    see(&rt, machine, 2, &elsewhere, Reply::Stranger);
     Ok(())
 }
 
@@ -99,122 +109,89 @@ fn put_twice<'a, J: Naming, R: Wait + Abort>(
     assert_eq!(rt; closed.history.len(), 5);
 }
 
-fn read_alone(alloc: Global, log: &[u8]) -> Result<Vec<Session>, LogFault> {
-    let (_, blocks) = cut(alloc, log)?;
-    let mut sessions = Vec::with_capacity(alloc, blocks.len())?;
-    for block in &blocks {
-        sessions.push(parse_block(alloc, log, block)?)?;
-    }
-    Ok(sessions)
-}
-
-// The text of the sessions, or the fault by its name.
-fn told(alloc: Global, read: Result<Vec<Session>, LogFault>) -> Result<Vec<u8>, AllocError> {
+// What was read is this fault, or the sessions of this text.
+fn see_read(
+    rt: &impl Abort,
+    alloc: Global,
+    read: Result<Vec<Session>, LogFault>,
+    text: &str,
+    fault: Option<LogFault>,
+) {
     match read {
-        Ok(sessions) => print_log(alloc, &sessions),
-        Err(fault) => {
-            let name = format!(in alloc; "{fault:?}")?;
-            Vec::from_slice(alloc, name.as_bytes())
+        Ok(sessions) => {
+            let printed = print_log(alloc, &sessions).expect(rt, "memory");
+            assert_eq!(rt; printed.as_slice(), text.as_bytes());
+            assert!(rt; fault.is_none());
         }
+        Err(found) => assert_eq!(rt; Some(found), fault),
     }
 }
 
-// Reads a log with 1, 3 and 16 workers and alone, and sees the same each time: this fault, or the
-// log's own text.
+// Reads a log alone and with 1, 3 and 16 workers, and sees the same each time: this fault, or the log's own text.
 fn reads_as<R: Threads + Wait + Clock + Abort + Sync>(
     rt: &R,
     alloc: Global,
     log: &str,
-    want: Option<LogFault>,
+    fault: Option<LogFault>,
 ) {
-    let alone = told(alloc, read_alone(alloc, log.as_bytes())).expect(rt, "memory");
-    let want = match want {
-        None => Vec::from_slice(alloc, log.as_bytes()).expect(rt, "memory"),
-        Some(fault) => told(alloc, Err(fault)).expect(rt, "memory"),
-    };
-    assert_eq!(rt; alone.as_slice(), want.as_slice());
+    see_read(rt, alloc, read(alloc, log.as_bytes()), log, fault);
     for count in [1, 3, 16] {
         let workers = Workers::new(count).expect(rt, "workers");
-        let read = collect(rt, alloc, log.as_bytes(), workers, &OpenGate);
-        let together = told(alloc, read.map(|read| read.1)).expect(rt, "memory");
-        assert_eq!(rt; together.as_slice(), alone.as_slice());
+        let together = collect(rt, alloc, log.as_bytes(), workers, &OpenGate);
+        see_read(rt, alloc, together.map(|read| read.1), log, fault);
     }
 }
 
 #[test]
 fn logs_are_read_as_by_one_thread(rt: HostRuntime) {
-    for (log, want) in [
-        ("", None),
-        (THREE, None),
-        ("session 1\nsession 1\n", None),
-        (
-            "session 1\nbegin\nw x 1\ncommit\nsession 2\nbegin\nw x 1\ncommit\n",
-            None,
-        ),
+    let rt = &rt;
+    let alloc = rt.alloc();
+    for log in [
+        "",
+        THREE,
+        UNKNOWN,
+        MOMENTS,
+        "session 1\nsession 1\n",
+        "session 1\nbegin\nw x 1\ncommit\nsession 2\nbegin\nw x 1\ncommit\n",
+    ] {
+        reads_as(rt, alloc, log, None);
+    }
+    for (log, fault) in [
         (
             "session 1\nbegin\nw x 1\n",
-            Some(LogFault::OpenTransaction { line: 2 }),
+            LogFault::OpenTransaction { line: 2 },
         ),
         (
             "session 1\nbegin\nw x 01\ncommit\n",
-            Some(LogFault::BadLine { line: 3 }),
+            LogFault::BadLine { line: 3 },
         ),
         (
             "session 1\nbegin\nw x 0\ncommit\n",
-            Some(LogFault::WriteZero { line: 3 }),
+            LogFault::WriteZero { line: 3 },
         ),
         (
             "session 1\nr x 0\n",
-            Some(LogFault::OutsideTransaction { line: 2 }),
+            LogFault::OutsideTransaction { line: 2 },
         ),
         (
             "session 1\nbegin\nw x 1\ncommit",
-            Some(LogFault::BadLine { line: 4 }),
+            LogFault::BadLine { line: 4 },
         ),
         (
             "session 1\nsession 2\nbegin\nw x 0\ncommit\nsession 3\nr x 0\n",
-            Some(LogFault::WriteZero { line: 4 }),
-        ),
-        (UNKNOWN, None),
-        (
-            "log 2\nsession 1\nbegin\nw x 1\n",
-            Some(LogFault::OpenTransaction { line: 3 }),
+            LogFault::WriteZero { line: 4 },
         ),
         (
             "log 2\nsession 1\nbegin\nunknown\nbegin\ncommit\n",
-            Some(LogFault::UnknownNotLast { line: 5 }),
+            LogFault::UnknownNotLast { line: 5 },
         ),
         (
-            "session 1\nbegin\nunknown\n",
-            Some(LogFault::BadLine { line: 3 }),
+            "log 3\nsession 1\nsession 2\nbegin 5\ncommit 4\n",
+            LogFault::EndsBeforeBegin { line: 5 },
         ),
     ] {
-        reads_as(&rt, rt.alloc(), log, want);
+        reads_as(rt, alloc, log, Some(fault));
     }
-}
-
-#[test]
-fn many_sessions_and_transactions(rt: HostRuntime) -> Result<(), Fail> {
-    let alloc = rt.alloc();
-    let mut sessions = String::new(alloc);
-    for _ in 0..64 {
-        sessions.push_str("session 9\n")?;
-    }
-    reads_as(&rt, alloc, sessions.as_str(), None);
-    sessions.push_str("session 9\n")?;
-    let which = Limit::Sessions;
-    reads_as(
-        &rt,
-        alloc,
-        sessions.as_str(),
-        Some(LogFault::OverLimit { which }),
-    );
-    let mut transactions = String::from_str(alloc, "session 1\n")?;
-    for _ in 0..401 {
-        transactions.push_str("begin\ncommit\n")?;
-    }
-    reads_as(&rt, alloc, transactions.as_str(), None);
-    Ok(())
 }
 
 // Holds one seat at its first turn until the other one has come to its second.
@@ -256,8 +233,7 @@ fn both_workers_take_part(rt: HostRuntime) -> Result<(), Fail> {
             ran_out: AtomicBool::new(false),
         };
         let read = collect(&rt, alloc, THREE.as_bytes(), workers, &gate);
-        let text = told(alloc, read.map(|read| read.1))?;
-        assert_eq!(rt; text.as_slice(), THREE.as_bytes());
+        see_read(&rt, alloc, read.map(|read| read.1), THREE, None);
         assert!(rt; !gate.ran_out.load(Ordering::SeqCst));
     }
     Ok(())

@@ -1,17 +1,24 @@
-use session_log::{
-    Block, Key, Limit, LogFault, MAX_LOG_BYTES, Session, Version, cut, parse_block, parse_lines,
-    print_log,
-};
+use session_log::{LogFault, Session, Version, cut, is_earlier, parse_block, print_log};
 use std::alloc::Global;
-use std::cmp::Ordering;
-use std::test::Fail;
+use std::process::Abort;
+use std::test::*;
 
-const THREE: &str =
+pub const THREE: &str =
     "session 1\nbegin\nw x 1\ncommit\nsession 2\nbegin\nw x 2\ncommit\nsession 3\nbegin\nr x 1\ncommit\n";
 
-const KEY64: &str = "-./0123456789:ABCDEFGHIJKLMNOPQRSTUVWXYZ_abcdefghijklmnopqrstuvw";
+// With the longest key, of each byte that a key may have.
+const EVERY_FORM: &str =
+    "session 65535\nbegin\nr -./0123456789:ABCDEFGHIJKLMNOPQRSTUVWXYZ_abcdefghijklmnopqrstuvw 0\n\
+    w -./0123456789:ABCDEFGHIJKLMNOPQRSTUVWXYZ_abcdefghijklmnopqrstuvw 1\nabort\nbegin\ncommit\n\
+    session 1\nbegin\nr x 18446744073709551615\ncommit\n";
 
-fn read(alloc: Global, log: &[u8]) -> Result<Vec<Session>, LogFault> {
+const UNKNOWN: &str = "log 2\nsession 1\nbegin\nw x 1\nunknown\n";
+
+const MOMENTS: &str =
+    "log 3\nsession 1\nbegin 0\nr x 0\ncommit 18446744073709551615\nbegin 5\ncommit 5\n\
+    begin 7\nabort\nbegin\ncommit 8\nbegin 9\nw x 1\nunknown\nsession 2\nbegin\ncommit\n";
+
+pub fn read(alloc: Global, log: &[u8]) -> Result<Vec<Session>, LogFault> {
     let (_, blocks) = cut(alloc, log)?;
     let mut sessions = Vec::with_capacity(alloc, blocks.len())?;
     for block in &blocks {
@@ -20,209 +27,112 @@ fn read(alloc: Global, log: &[u8]) -> Result<Vec<Session>, LogFault> {
     Ok(sessions)
 }
 
+fn refuses(rt: &impl Abort, alloc: Global, log: &str, fault: LogFault) {
+    assert_eq!(rt; read(alloc, log.as_bytes()).err(), Some(fault), "{log:?}");
+}
+
 #[test]
 fn refused_logs(rt: HostRuntime) {
-    for (log, want) in [
+    let rt = &rt;
+    let alloc = rt.alloc();
+    for (log, line) in [
+        ("session 65536\n", 1),
+        ("session 1\n\n", 2),
+        ("session 1\nbegin\nr x 18446744073709551616\ncommit\n", 3),
+        ("session 1\nbegin\nr  1\ncommit\n", 3),
         (
-            "session 1\nbegin\nw x 1\n",
-            LogFault::OpenTransaction { line: 2 },
+            "session 1\nbegin\nr -./0123456789:ABCDEFGHIJKLMNOPQRSTUVWXYZ_abcdefghijklmnopqrstuvwx 1\ncommit\n",
+            3,
         ),
-        (
-            "session 1\nbegin\nw x 01\ncommit\n",
-            LogFault::BadLine { line: 3 },
-        ),
-        (
-            "session 1\nbegin\nw x 0\ncommit\n",
-            LogFault::WriteZero { line: 3 },
-        ),
-        (
-            "session 1\nr x 0\n",
-            LogFault::OutsideTransaction { line: 2 },
-        ),
-        (
-            "session 1\nbegin\nw x 1\ncommit",
-            LogFault::BadLine { line: 4 },
-        ),
-        ("session 0\n", LogFault::BadLine { line: 1 }),
-        ("session 65536\n", LogFault::BadLine { line: 1 }),
-        ("session 1\n\n", LogFault::BadLine { line: 2 }),
-        (
-            "session 1\nbegin\nr x 18446744073709551616\ncommit\n",
-            LogFault::BadLine { line: 3 },
-        ),
-        (
-            "session 1\nbegin\nr  1\ncommit\n",
-            LogFault::BadLine { line: 3 },
-        ),
-        (
-            "session 1\nbegin\ncommit\r\n",
-            LogFault::BadLine { line: 3 },
-        ),
-        ("begin\n", LogFault::OutsideTransaction { line: 1 }),
-        ("session 1\nbegin\nunknown\n", LogFault::BadLine { line: 3 }),
-        ("log 2", LogFault::BadLine { line: 1 }),
-        ("log 2 \nsession 1\n", LogFault::BadLine { line: 1 }),
-        ("log 2\nlog 2\n", LogFault::BadLine { line: 2 }),
-        (
-            "log 2\nsession 1\nbegin\nunknown\nbegin\ncommit\n",
-            LogFault::UnknownNotLast { line: 5 },
-        ),
-        (
-            "log 2\nsession 1\nbegin\nunknown\nr x 0\n",
-            LogFault::OutsideTransaction { line: 5 },
-        ),
-        (
-            "session 1\nbegin\nbegin\n",
-            LogFault::OpenTransaction { line: 2 },
-        ),
-        (
-            "session 1\nbegin\nsession x",
-            LogFault::OpenTransaction { line: 2 },
-        ),
-        (
-            "session 1\nbegin\nabort\nsession 2\nbegin\nw y 0\n",
-            LogFault::WriteZero { line: 6 },
-        ),
+        ("session 1\nbegin\ncommit\r\n", 3),
+        ("session 1\nbegin\nunknown\n", 3),
+        ("log 2", 1),
+        ("log 2\nlog 2\n", 2),
+        ("log 2\nsession 1\nbegin 1\ncommit\n", 3),
+        ("log 3\nsession 1\nbegin 01\ncommit\n", 3),
+        ("log 3\nsession 1\nbegin \ncommit\n", 3),
+        ("log 3\nsession 1\nbegin 18446744073709551616\ncommit\n", 3),
+        ("log 3\nsession 1\nbegin 1 2\ncommit\n", 3),
+        ("log 3\nsession 1\nbegin 1\nabort 1\n", 4),
     ] {
-        match read(rt.alloc(), log.as_bytes()) {
-            Ok(_) => assert!(rt; false, "{log:?} is accepted"),
-            Err(fault) => assert_eq!(rt; fault, want, "{log:?}"),
-        }
+        refuses(rt, alloc, log, LogFault::BadLine { line });
+    }
+    let outside = LogFault::OutsideTransaction { line: 5 };
+    refuses(
+        rt,
+        alloc,
+        "log 2\nsession 1\nbegin\nunknown\nr x 0\n",
+        outside,
+    );
+    let open = LogFault::OpenTransaction { line: 2 };
+    refuses(rt, alloc, "session 1\nbegin\nsession x", open);
+    let ended = LogFault::EndsBeforeBegin { line: 4 };
+    refuses(rt, alloc, "log 3\nsession 1\nbegin 5\ncommit 4\n", ended);
+}
+
+// What the log of three sessions gives when it is cut after some bytes.
+fn fault_of_cut(length: usize) -> Option<LogFault> {
+    match length {
+        0 | 10 | 29 | 39 | 58 | 68 | 87 => None,
+        16 | 22 => Some(LogFault::OpenTransaction { line: 2 }),
+        45 | 51 => Some(LogFault::OpenTransaction { line: 6 }),
+        74 | 80 => Some(LogFault::OpenTransaction { line: 10 }),
+        1..=9 => Some(LogFault::BadLine { line: 1 }),
+        11..=15 => Some(LogFault::BadLine { line: 2 }),
+        17..=21 => Some(LogFault::BadLine { line: 3 }),
+        23..=28 => Some(LogFault::BadLine { line: 4 }),
+        30..=38 => Some(LogFault::BadLine { line: 5 }),
+        40..=44 => Some(LogFault::BadLine { line: 6 }),
+        46..=50 => Some(LogFault::BadLine { line: 7 }),
+        52..=57 => Some(LogFault::BadLine { line: 8 }),
+        59..=67 => Some(LogFault::BadLine { line: 9 }),
+        69..=73 => Some(LogFault::BadLine { line: 10 }),
+        75..=79 => Some(LogFault::BadLine { line: 11 }),
+        _ => Some(LogFault::BadLine { line: 12 }),
     }
 }
 
 #[test]
-fn prefixes(rt: HostRuntime) {
+fn logs_are_cut(rt: HostRuntime) {
     let log = THREE.as_bytes();
     assert_eq!(rt; log.len(), 87);
-    for k in 0..88usize {
-        if k > log.len() {
-            continue;
-        }
-        let whole = [0, 10, 29, 39, 58, 68, 87].contains(&k);
-        let open = [16, 22, 45, 51, 74, 80].contains(&k);
-        match read(rt.alloc(), &log[..k]) {
-            Ok(_) => assert!(rt; whole, "{k} is accepted"),
-            Err(LogFault::OpenTransaction { .. }) => assert!(rt; open, "{k} is open"),
-            Err(LogFault::BadLine { .. }) => assert!(rt; !whole && !open, "{k} has a bad line"),
-            Err(_) => assert!(rt; false, "{k}"),
-        }
+    for length in 0..=87 {
+        let read = read(rt.alloc(), &log[..length]);
+        assert_eq!(rt; read.err(), fault_of_cut(length));
     }
 }
 
+// The sessions of a log are printed as this text.
+fn prints(rt: &impl Abort, alloc: Global, log: &str, want: &str) {
+    let sessions = read(alloc, log.as_bytes()).expect(rt, "a log");
+    let text = print_log(alloc, &sessions).expect(rt, "memory");
+    assert_eq!(rt; text.as_slice(), want.as_bytes(), "{log:?}");
+}
+
 #[test]
-fn printed(rt: HostRuntime) -> Result<(), Fail> {
-    let every_form = format!(in rt.alloc();
-        "session 65535\nbegin\nr {KEY64} 0\nw {KEY64} 1\nabort\nbegin\ncommit\nsession 1\nbegin\nr x 18446744073709551615\ncommit\n"
-    )?;
-    for log in [THREE, every_form.as_str(), ""] {
-        let sessions = read(rt.alloc(), log.as_bytes()).ok().ok_or("refused")?;
-        let text = print_log(rt.alloc(), &sessions)?;
-        assert_eq!(rt; text.as_slice(), log.as_bytes());
+fn printed(rt: HostRuntime) {
+    let rt = &rt;
+    let alloc = rt.alloc();
+    for log in ["", THREE, EVERY_FORM, UNKNOWN, MOMENTS] {
+        prints(rt, alloc, log, log);
     }
-    Ok(())
+    let known = "session 1\nbegin\ncommit\n";
+    prints(rt, alloc, "log 2\nsession 1\nbegin\ncommit\n", known);
+    prints(rt, alloc, "log 3\nsession 1\nbegin\ncommit\n", known);
+    prints(
+        rt,
+        alloc,
+        "log 3\nsession 1\nbegin\nw x 1\nunknown\n",
+        UNKNOWN,
+    );
+    let ended = "log 3\nsession 1\nbegin\ncommit 0\n";
+    prints(rt, alloc, ended, ended);
 }
 
 #[test]
-#[tactic(auto, unfolding(session_log::specs::Lines::lines))]
-fn pieces(rt: HostRuntime) -> Result<(), Fail> {
-    let session = parse_lines(
-        rt.alloc(),
-        Version::One,
-        b"session 7\nbegin\nw x 1\nabort\n",
-        9,
-    )
-    .ok()
-    .ok_or("refused")?;
-    assert_eq!(rt; session.number, 7);
-    let fault = parse_lines(rt.alloc(), Version::One, b"session 7\nbegin\nx\n", 9).err();
-    assert_eq!(rt; fault, Some(LogFault::BadLine { line: 11 }));
-    Ok(())
-}
-
-#[test]
-fn version_two(rt: HostRuntime) -> Result<(), Fail> {
-    let log = b"log 2\nsession 1\nbegin\nw x 1\nunknown\n";
-    let (version, blocks) = cut(rt.alloc(), log).ok().ok_or("refused")?;
-    assert_eq!(rt; version, Version::Two);
-    assert_eq!(rt;
-        blocks.as_slice(),
-        [Block {
-            version: Version::Two,
-            start: 6,
-            stop: log.len(),
-            line: 2
-        }]
-        .as_slice()
-    );
-    let sessions = read(rt.alloc(), log).ok().ok_or("refused")?;
-    let printed = print_log(rt.alloc(), &sessions)?;
-    assert_eq!(rt; printed.as_slice(), log.as_slice());
-    // Where each outcome is known, the list is printed without a header.
-    let known = read(rt.alloc(), b"log 2\nsession 1\nbegin\ncommit\n")
-        .ok()
-        .ok_or("refused")?;
-    let printed = print_log(rt.alloc(), &known)?;
-    assert_eq!(rt;
-        printed.as_slice(),
-        b"session 1\nbegin\ncommit\n".as_slice()
-    );
-    Ok(())
-}
-
-#[test]
-fn limits(rt: HostRuntime) -> Result<(), Fail> {
-    let mut log = Vec::new(rt.alloc());
-    for _ in 0..64 {
-        log.extend_from_slice(b"session 1\n")?;
-    }
-    let (version, blocks) = cut(rt.alloc(), &log).ok().ok_or("refused")?;
-    assert_eq!(rt; version, Version::One);
-    assert_eq!(rt; blocks.len(), 64);
-    log.extend_from_slice(b"session")?;
-    let fault = cut(rt.alloc(), &log).err();
-    assert_eq!(rt;
-        fault,
-        Some(LogFault::OverLimit {
-            which: Limit::Sessions
-        })
-    );
-    let long = vec![in rt.alloc(); b'x'; MAX_LOG_BYTES + 1]?;
-    let fault = cut(rt.alloc(), &long).err();
-    assert_eq!(rt;
-        fault,
-        Some(LogFault::OverLimit {
-            which: Limit::LogBytes
-        })
-    );
-    let (_, blocks) = cut(rt.alloc(), &long[1..]).ok().ok_or("refused")?;
-    assert_eq!(rt;
-        blocks.as_slice(),
-        [Block {
-            version: Version::One,
-            start: 0,
-            stop: MAX_LOG_BYTES,
-            line: 1
-        }]
-        .as_slice()
-    );
-    Ok(())
-}
-
-#[test]
-fn keys(rt: HostRuntime) -> Result<(), Fail> {
-    let long = format!(in rt.alloc(); "{KEY64}x")?;
-    for bytes in ["", "a b", "a\n", "é", long.as_str()] {
-        let key = Key::new(rt.alloc(), bytes.as_bytes())?;
-        assert!(rt; key.is_none(), "{bytes:?} is a key");
-    }
-    let key = Key::new(rt.alloc(), KEY64.as_bytes())?.ok_or("no key")?;
-    let same = key.to_owned_key(rt.alloc())?;
-    assert_eq!(rt; same.as_bytes(), KEY64.as_bytes());
-    assert_eq!(rt; key, same);
-    let longer = Key::new(rt.alloc(), b"xy")?.ok_or("no key")?;
-    let shorter = Key::new(rt.alloc(), b"x")?.ok_or("no key")?;
-    assert_eq!(rt; shorter.cmp(&longer), Ordering::Less);
-    assert_eq!(rt; longer.cmp(&key), Ordering::Greater);
-    Ok(())
+fn versions_and_moments(rt: HostRuntime) {
+    assert!(rt; Version::of(b"log 3\n") == Version::Three && Version::of(b"log 3") == Version::One);
+    assert!(rt; Version::Three.has_moments() && !Version::Two.has_moments());
+    assert!(rt; is_earlier(Some(1), Some(2)) && !is_earlier(Some(2), Some(2)));
+    assert!(rt; !is_earlier(None, Some(2)) && !is_earlier(Some(1), None));
 }

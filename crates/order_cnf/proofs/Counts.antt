@@ -23,9 +23,9 @@ pub filtered : {X : Type 0} (p : X → Bool) (xs : List X) → length (filter p 
 filtered p [] = omega arith
 filtered p (x ∷ xs) = one_less (p x) x (filter p xs) (length xs) (filtered p xs)
 
-pub few_pairs : (r : Relation) → r.nodes ≤ 400 → length (pairs_in r) ≤ 80200
+pub few_pairs : (r : Relation) → r.nodes ≤ 1000 → length (pairs_in r) ≤ 500500
 few_pairs r few =
     let m = r.nodes + 1 in
     let all = pairs_of (range_with_len 0 m) in
-    let most : m * m ≤ 401 * m = mul-le m m 401 m (omega (arith, few)) (omega arith) in
+    let most : m * m ≤ 1001 * m = mul-le m m 1001 m (omega (arith, few)) (omega arith) in
     omega (arith, filtered (is_free (known_in r)) all, pairs_twice m 0, most, few)

@@ -3,6 +3,11 @@ pub mod Counts
 pub mod Each
 pub mod Faults
 pub mod Terms
+pub mod Counted
+pub mod WordBits
+pub mod Filled
+pub mod Cycles
+pub mod Skipped
 pub mod Walks
 pub mod Numbered
 pub mod Parts

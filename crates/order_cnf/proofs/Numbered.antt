@@ -220,7 +220,7 @@ number_known r table count low high lt hi k kept = record {
 }
 
 -- all are numbered
-pub numbered_table : (r : Relation) (table : List ℕ) (count low high : ℕ) → r.nodes ≤ 400 → IsStrict (known_in r) → r.nodes + 1 ≤ low → IsNumbered r table count low high → IsTable r table
+pub numbered_table : (r : Relation) (table : List ℕ) (count low high : ℕ) → r.nodes ≤ 1000 → IsStrict (known_in r) → r.nodes + 1 ≤ low → IsNumbered r table count low high → IsTable r table
 numbered_table r table count low high few strict end k = record {
   few = few;
   strict = strict;
@@ -235,6 +235,6 @@ numbered_count r table count low end k =
     ∙ ap (λ l. k.done ++ free_of r l) (up_to_last (low + 1) (r.nodes + 1) (omega (arith, end))) in
     omega (arith, k.counted, ap length last, length-append k.done [])
 
-pub few_numbered : (r : Relation) (table : List ℕ) (count low high : ℕ) → r.nodes ≤ 400 → IsNumbered r table count low high → count ≤ 80200
+pub few_numbered : (r : Relation) (table : List ℕ) (count low high : ℕ) → r.nodes ≤ 1000 → IsNumbered r table count low high → count ≤ 500500
 few_numbered r table count low high few k =
     omega (arith, few_pairs r few, k.counted, ap length k.split, length-append k.done (free_with r low (up_to high (r.nodes + 1)) ++ free_of r (up_to (low + 1) (r.nodes + 1))))

@@ -108,7 +108,7 @@ nodes_of : (log : Log) → (plain log).nodes ≡ log.nodes
 unfolding plain
 nodes_of log = refl
 
-pub plain_is_formula : (log : Log) → IsClean log → log.nodes ≤ 400 → length (plain log).clauses ≤ 20000000 → IsFormula (plain log)
+pub plain_is_formula : (log : Log) → IsClean log → log.nodes ≤ 1000 → length (plain log).clauses ≤ 20000000 → IsFormula (plain log)
 unfolding plain
 plain_is_formula log clean few size = record {
   few_nodes = few;
@@ -119,7 +119,7 @@ plain_is_formula log clean few size = record {
 }
 
 -- ---- the polygraph of a log has it
-has_plain : (log : Log) → IsClean log → log.nodes ≤ 400 → HasPlain (bipath_polygraph log)
+has_plain : (log : Log) → IsClean log → log.nodes ≤ 1000 → HasPlain (bipath_polygraph log)
 unfolding plain
 has_plain log clean few = record {
   few = few;
@@ -128,7 +128,7 @@ has_plain log clean few = record {
   sound = plain_is_formula log clean few;
 }
 
-pub made_plain : (log : Log) (p : Polygraph) → IsClean log → log.nodes ≤ 400 → p ≡ bipath_polygraph log → HasPlain p
+pub made_plain : (log : Log) (p : Polygraph) → IsClean log → log.nodes ≤ 1000 → p ≡ bipath_polygraph log → HasPlain p
 made_plain log p clean few same = subst HasPlain (sym same) (has_plain log clean few)
 
 pub plain_same : (log : Log) (p : Polygraph) → p ≡ bipath_polygraph log → plain_of p ≡ plain log

@@ -3,7 +3,6 @@ use Rattle.std.proofs.Common.{◌≡◌, ◌≢◌, inl, inr, refl, sym, ap, ◌
 use Rattle.std.specs.Prelude.{map}
 use Rattle.std.specs.List.{filter, list_any}
 use Rattle.std.proofs.lemmas.Bool.{cases_Bool, cases_order, false≢true, or_parts, and_parts, not-true, lt-ltb, le-ltb}
-use Rattle.std.proofs.lemmas.List.{length-append}
 use Rattle.serializability.specs.declared.literal.Literal.{Literal}
 use Rattle.serializability.specs.Polygraph.{Edge}
 use Rattle.serializability.specs.Pairs.{is_free, edge_literal, edge_clause, pair_place}
@@ -113,12 +112,6 @@ triple_of r i j k a b c d e f ea eb ec ed ee ef =
     ap (λ t. clause_of (t ∷ e ∷ f ∷ [])) ed ∙ ap (λ t. clause_of (term_of r i j ∷ t ∷ f ∷ [])) ee ∙ ap (λ t. clause_of (term_of r i j ∷ term_of r j k ∷ t ∷ [])) ef
     ∙ sym (edge_clause_is r ((i, j) ∷ (j, k) ∷ (k, i) ∷ [])) in
     ap (λ l. l ++ clause_of (d ∷ e ∷ f ∷ [])) first ∙ ap (λ l. edge_clause (known_in r) (pairs_in r) ((j, i) ∷ (k, j) ∷ (i, k) ∷ []) ++ l) second
-
-pub triple_number : (r : Relation) (i j k m n : ℕ) (a b c d e f : Term) → a ≡ term_of r j i → b ≡ term_of r k j → c ≡ term_of r i k → d ≡ term_of r i j → e ≡ term_of r j k → f ≡ term_of r k i
-    → m ≡ length (clause_of (a ∷ b ∷ c ∷ [])) → n ≡ length (clause_of (d ∷ e ∷ f ∷ [])) → m + n ≡ length (clauses_at r (i, j, k))
-triple_number r i j k m n a b c d e f ea eb ec ed ee ef em en =
-    ap (λ x. x + n) em ∙ ap (λ x. length (clause_of (a ∷ b ∷ c ∷ [])) + x) en
-    ∙ sym (length-append (clause_of (a ∷ b ∷ c ∷ [])) (clause_of (d ∷ e ∷ f ∷ []))) ∙ ap length (triple_of r i j k a b c d e f ea eb ec ed ee ef)
 
 pub triple_is : (r : Relation) (i j k : ℕ) (a b c d e f : Term) (x y : Option Clause) → a ≡ term_of r j i → b ≡ term_of r k j → c ≡ term_of r i k → d ≡ term_of r i j → e ≡ term_of r j k → f ≡ term_of r k i
     → given x ≡ clause_of (a ∷ b ∷ c ∷ []) → given y ≡ clause_of (d ∷ e ∷ f ∷ []) → given x ++ given y ≡ clauses_at r (i, j, k)
@@ -283,26 +276,3 @@ by_same e x h = rw h refl
 
 pub before_same : (r : Relation) (values : List Bool) (u v : ℕ) → u ≡ v → false ≡ is_before (known_in r) (pairs_in r) values u v
 before_same r values u v e = by_same (eqb u v) _ (eq-eqb u v e)
-
--- ---- how many clauses a triple has
-empty_when : (b : Bool) (l : List Literal) → b ≡ true → 0 ≡ length (cond b [] (l ∷ []))
-empty_when true l h = refl
-empty_when false l h = absurd (false≢true h)
-
-one_when : (b : Bool) (l : List Literal) → b ≡ false → 1 ≡ length (cond b [] (l ∷ []))
-one_when true l h = absurd (false≢true (sym h))
-one_when false l h = refl
-
-any_three : (x y z t : Bool) → ((x || y) || z) ≡ t → (x || (y || (z || false))) ≡ t
-any_three true y z t h = h
-any_three false true z t h = h
-any_three false false true t h = h
-any_three false false false t h = h
-
-pub no_clause : (a b c : Term) → ((is_true a || is_true b) || is_true c) ≡ true → 0 ≡ length (clause_of (a ∷ b ∷ c ∷ []))
-unfolding clause_of
-no_clause a b c h = empty_when (list_any is_true (a ∷ b ∷ c ∷ [])) (literals_in (a ∷ b ∷ c ∷ [])) (any_three (is_true a) (is_true b) (is_true c) true h)
-
-pub one_clause : (a b c : Term) → ((is_true a || is_true b) || is_true c) ≡ false → 1 ≡ length (clause_of (a ∷ b ∷ c ∷ []))
-unfolding clause_of
-one_clause a b c h = one_when (list_any is_true (a ∷ b ∷ c ∷ [])) (literals_in (a ∷ b ∷ c ∷ [])) (any_three (is_true a) (is_true b) (is_true c) false h)

@@ -39,7 +39,7 @@ none_of_two : (r : Relation) (i : ℕ) (nodes : List ℕ) → nodes ≡ [] → o
 unfolding of_two
 none_of_two r i nodes e = ap (λ l. flat_map (clauses_at r) (map (with_first i) (pairs_of l))) e
 
-none_of_one : (r : Relation) (i j : ℕ) (nodes : List ℕ) → nodes ≡ [] → of_one r i j nodes ≡ []
+pub none_of_one : (r : Relation) (i j : ℕ) (nodes : List ℕ) → nodes ≡ [] → of_one r i j nodes ≡ []
 unfolding of_one
 none_of_one r i j nodes e = ap (λ l. flat_map (clauses_at r) (map (triple_with i j) l)) e
 
@@ -57,7 +57,7 @@ first_of_two r i j nodes rest e =
     ∙ flat_map-append (clauses_at r) (map (with_first i) (map (pair_with j) rest)) (map (with_first i) (pairs_of rest))
     ∙ ap (λ l. flat_map (clauses_at r) l ++ flat_map (clauses_at r) (map (with_first i) (pairs_of rest))) (with_two i j rest)
 
-first_of_one : (r : Relation) (i j k : ℕ) (nodes rest : List ℕ) → nodes ≡ k ∷ rest → of_one r i j nodes ≡ clauses_at r (i, j, k) ++ of_one r i j rest
+pub first_of_one : (r : Relation) (i j k : ℕ) (nodes rest : List ℕ) → nodes ≡ k ∷ rest → of_one r i j nodes ≡ clauses_at r (i, j, k) ++ of_one r i j rest
 unfolding of_one
 first_of_one r i j k nodes rest e = ap (λ l. flat_map (clauses_at r) (map (triple_with i j) l)) e
 
@@ -130,20 +130,12 @@ row_left r i j k =
     length-append one rest
     ∙ sym (ap (λ l. length one + length (l ++ rest)) (none_of_one r i j (up_to (r.nodes + 1) (r.nodes + 1)) (up_to_last (r.nodes + 1) (r.nodes + 1) (omega arith))))
 
-pub triple_left : (r : Relation) (i j k end : ℕ) → end ≡ r.nodes + 1 → k < end → length (of_one r i j (up_to k (r.nodes + 1))) ≡ length (clauses_at r (i, j, k)) + length (of_one r i j (up_to (k + 1) (r.nodes + 1)))
-triple_left r i j k end e lt =
-    ap length (first_of_one r i j k (up_to k (r.nodes + 1)) (up_to (k + 1) (r.nodes + 1)) (up_to_first k (r.nodes + 1) (omega (arith, e, lt))))
-    ∙ length-append (clauses_at r (i, j, k)) (of_one r i j (up_to (k + 1) (r.nodes + 1)))
-
 pub row_counted : (r : Relation) (i j k end row left count all : ℕ) → end ≡ r.nodes + 1 → row ≡ length (of_one r i j (up_to k (r.nodes + 1))) → length (cursor_left r (record { first = i; second = j; third = k })) ≡ left → count + left ≡ all
     → count + row + length (cursor_left r (record { first = i; second = j; third = end })) ≡ all
 row_counted r i j k end row left count all e er el ea =
     let same : length (cursor_left r (record { first = i; second = j; third = end })) ≡ length (cursor_left r (record { first = i; second = j; third = r.nodes + 1 })) =
     ap (λ n. length (cursor_left r (record { first = i; second = j; third = n }))) e in
     omega (arith, row_left r i j k, same, er, el, ea)
-
-pub row_done : (r : Relation) (i j k : ℕ) → r.nodes + 1 ≤ k → length (of_one r i j (up_to k (r.nodes + 1))) ≡ 0
-row_done r i j k h = ap length (none_of_one r i j (up_to k (r.nodes + 1)) (up_to_last k (r.nodes + 1) h))
 
 -- ---- the clauses of a triple, where it has them
 pub pair_first : (r : Relation) (i j k : ℕ) (a b : Option Clause) (start : List (List Literal)) → given a ++ given b ≡ clauses_at r (i, j, k) → k < r.nodes + 1 → cursor_left r (record { first = i; second = j; third = k }) ≡ start

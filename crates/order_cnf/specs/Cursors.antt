@@ -7,7 +7,7 @@ use Rattle.order_cnf.specs.Streams.{of_three, of_two, of_one, up_to}
 
 -- where the third is a node below the end, the three ascend
 pub record IsCursor (end : ℕ) (c : Cursor) : Type 0 where
-  pub few : end ≤ 401
+  pub few : end ≤ 1001
   pub ascend : c.third < end → (c.first < c.second) × (c.second < c.third)
   pub first : c.first ≤ c.second
   pub second : c.second ≤ end
@@ -22,4 +22,4 @@ cursor_left r c =
 
 -- at most so many steps are left
 abbrev pub steps_left : Cursor → ℕ
-steps_left c = (402 - c.first) * 262144 + (402 - c.second) * 512 + (402 - c.third)
+steps_left c = (1002 - c.first) * 1048576 + (1002 - c.second) * 1024 + (1002 - c.third)

@@ -12,5 +12,5 @@ data_of f = data_with f.layout f.variables f.choices
 pub record IsHeld (f : Inside) : Type 0 where
   pub formula : IsFormula (cnf_with f.layout f.variables)
   pub numbered : length (pairs_in f.layout.relation) ≤ f.variables
-  pub few_variables : f.variables ≤ 180200
+  pub few_variables : f.variables ≤ 600500
   pub counted : f.count ≡ length f.layout.clauses

@@ -1,6 +1,7 @@
 pub mod Clauses
 pub mod Data
 pub mod Tables
+pub mod Cycles
 pub mod Streams
 pub mod Cursors
 pub mod Layouts

@@ -21,7 +21,7 @@ use std::marker::Model;
 
 /// A formula over the order of nodes 0 to n, in clauses of one to three literals, each of which is made when it is asked for.
 ///
-/// It has at most 400 nodes and 20,000,000 clauses, and each assignment that satisfies it stands for
+/// It has at most 1,000 nodes and 20,000,000 clauses, and each assignment that satisfies it stands for
 /// an order of the nodes.
 #[derive(Drop)]
 pub struct Formula {
@@ -49,7 +49,7 @@ impl Formula {
     pub(crate) fn of(layout: Layout, variables: u32, choices: usize) -> Result<Formula, CnfFault>
         requires sound { length layout.clauses ≤ MAX_CLAUSES → IsFormula (cnf_with layout variables) }
         requires numbered { length (pairs_in layout.relation) ≤ variables }
-        requires few { variables ≤ 180200 }
+        requires few { variables ≤ 600500 }
         ensures formula { IfOk result (λ f. f ≡ data_with layout variables choices) }
         ensures fits { IfOk result (λ _. size_fault (cnf_with layout variables) ≡ None) }
         ensures fault { IfErr result (λ e. size_fault (cnf_with layout variables) ≡ Some e) }
@@ -78,7 +78,7 @@ impl Formula {
     /// The number of variables, which are numbered from 1.
     pub fn vars(&self) -> usize
         ensures count { result ≡ self.now.variables }
-        ensures few { result ≤ 180200 }
+        ensures few { result ≤ 600500 }
     {
         self.variables as usize
     }

@@ -7,6 +7,7 @@ mod clause;
 mod fault;
 mod formula;
 mod layout;
+mod open_pairs;
 mod plain;
 mod reduced;
 mod relation;

@@ -1,16 +1,20 @@
 //! What is known of each pair of nodes: which comes first, or the variable that says it.
 
 ghost use Rattle.std.specs.Prelude.{◌≡◌, ◌≢◌, ◌<◌, ◌≤◌, true, false, [], length, IfOk};
+ghost use Rattle.known_graph.specs.Bits.{row_len};
 ghost use Rattle.serializability.specs.declared.literal.Literal.{Literal};
 ghost use Rattle.serializability.specs.Pairs.{is_free};
 ghost use Rattle.serializability.specs.Decoded.{is_before};
 ghost use Rattle.order_cnf.specs.Clauses.{IsWithin};
+ghost use Rattle.order_cnf.specs.Cycles.{is_open_cycle, IsWord};
 ghost use Rattle.order_cnf.specs.Data.{is_listed};
 ghost use Rattle.order_cnf.specs.Tables.{Relation as Data, IsStrict, IsTable, known_in, pairs_in, rows_known, term_of};
 ghost use Rattle.serializability.specs.declared.node.TheConstants.{MAX_NODES};
 
 use crate::clause::literal_is_true;
+use crate::open_pairs::{OpenPairs, bit_place};
 use crate::term::Term;
+use known_graph::bits::{has_bit, row_len};
 use reach_laws::Edge;
 use reach_rows::Rows;
 use serializability::{Literal, NodeIx};
@@ -28,10 +32,13 @@ pub(crate) struct Relation {
     table: Vec<u32>,
     /// How many variables there are.
     variables: u32,
+    /// The pairs of which it is not known that the first stands before the second.
+    pairs: OpenPairs,
 }
 
 impl Model for Relation {
     ghost use Rattle.std.specs.Prelude.{◌≡◌, length};
+    ghost use Rattle.order_cnf.specs.Cycles.{AreOpenPairs};
     ghost use Rattle.order_cnf.specs.Tables.{Relation as Data, IsTable, pairs_in, rows_known};
 
     ghost Value = { Data };
@@ -39,7 +46,8 @@ impl Model for Relation {
     ghost view = { λ r. record { nodes = r.nodes; known = rows_known r.rows } };
 
     ghost invariant = { λ r. IsTable (record { nodes = r.nodes; known = rows_known r.rows }) r.table.items
-        × (r.variables ≡ length (pairs_in (record { nodes = r.nodes; known = rows_known r.rows }))) };
+        × (r.variables ≡ length (pairs_in (record { nodes = r.nodes; known = rows_known r.rows })))
+        × AreOpenPairs (record { nodes = r.nodes; known = rows_known r.rows }) r.pairs };
 }
 
 /// The node with this number.
@@ -51,7 +59,7 @@ fn node(number: usize) -> NodeIx
 }
 
 /// Whether these rows say that u stands before v.
-fn is_known(rows: &Option<Rows>, u: usize, v: usize) -> bool
+pub(crate) fn is_known(rows: &Option<Rows>, u: usize, v: usize) -> bool
     requires few { (u ≤ MAX_NODES) × (v ≤ MAX_NODES) }
     ensures value { result ≡ is_listed (rows_known rows.now) u v }
 {
@@ -138,11 +146,13 @@ impl Relation {
         ensures relation { IfOk result (λ r. r ≡ record { nodes = nodes; known = rows_known rows }) }
     {
         let Numbering { table, variables } = number_pairs(alloc, nodes, &rows)?;
+        let pairs = OpenPairs::of(alloc, nodes, &rows)?;
         Ok(Relation {
             nodes,
             rows,
             table,
             variables,
+            pairs,
         })
     }
 
@@ -158,7 +168,7 @@ impl Relation {
     /// The number of variables.
     pub(crate) fn variables(&self) -> u32
         ensures count { result ≡ length (pairs_in self.now) }
-        ensures few { result ≤ 80200 }
+        ensures few { result ≤ 500500 }
     {
         self.variables
     }
@@ -191,6 +201,18 @@ impl Relation {
         } else {
             self.terms(v, u).1
         }
+    }
+
+    /// Of the 64 nodes from 64 * place on, those k for which it is known of no edge of the cycle u, v, k that it is so, as bits.
+    pub(crate) fn open_cycles(&self, u: usize, v: usize, place: usize) -> u64
+        requires within { (u ≤ self.now.nodes) × (v ≤ self.now.nodes) × (place < row_len self.now.nodes) }
+        ensures word { IsWord (is_open_cycle self.now u v) place result }
+    {
+        if !has_bit(&self.pairs.by_first, bit_place(self.nodes, u, v)) {
+            return 0;
+        }
+        let len = row_len(self.nodes);
+        self.pairs.by_first[v * len + place] & self.pairs.by_second[u * len + place]
     }
 
     /// Whether u stands before v, as it is known or as these values of the variables have it.

@@ -16,7 +16,7 @@ use std::marker::Model;
 
 /// The literal of the side behind the one of this literal: a choice's variable is negated with its first side.
 fn turned(literal: Literal) -> Literal
-    requires few { literal.variable ≤ 200000 }
+    requires few { literal.variable ≤ 650000 }
     ensures value { result ≡ turned literal }
 {
     if literal.positive {
@@ -68,7 +68,7 @@ impl<'a> Model for Sides<'a> {
     ghost view = { λ s. sides_left s.relation.now s.literal s.count s.edges.now s.counts.now };
 
     ghost invariant = { λ s. AllByRecursion (IsUnturned s.relation.now) s.edges.now
-        × (rank_of s.literal + length s.counts.now ≤ 400001) };
+        × (rank_of s.literal + length s.counts.now ≤ 1300001) };
 }
 
 impl<'a> Sides<'a> {

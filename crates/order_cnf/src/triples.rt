@@ -1,13 +1,15 @@
 //! The clauses that make a relation of nodes an order.
 
-ghost use Rattle.std.specs.Prelude.{◌≡◌, ◌↔◌, ◌<◌, ◌≤◌, ◌+◌, ◌++◌, ◌∷◌, [], length, not, IsTrue, IsSome, IfSome, None};
-ghost use Rattle.order_cnf.specs.Tables.{Relation as Data, clause_of, is_true, given};
+ghost use Rattle.std.specs.Prelude.{◌≡◌, ◌≢◌, ◌↔◌, ◌<◌, ◌≤◌, ◌+◌, ◌/◌, ◌++◌, [], length, not, nat_le, IsTrue, IsSome, IfSome, IfNone, None};
+ghost use Rattle.known_graph.specs.Bits.{row_len};
+ghost use Rattle.order_cnf.specs.Cycles.{is_open_from, IsWord};
+ghost use Rattle.order_cnf.specs.Tables.{Relation as Data, given};
 ghost use Rattle.order_cnf.specs.Streams.{clauses_at, of_three, of_one, up_to, IsStep};
 ghost use Rattle.serializability.specs.declared.literal.TheConstants.{MAX_CLAUSES};
 
 use crate::clause::{Clause, clause_of};
 use crate::relation::Relation;
-use crate::term::Term;
+use known_graph::bits::row_len;
 use std::marker::Model;
 
 /// The clauses of one triple of nodes: no cycle through them, either way round. A clause that holds by what is known is left
@@ -28,39 +30,47 @@ pub(crate) fn triple_clauses(
     (clause_of(ji, kj, ik), clause_of(ij, jk, ki))
 }
 
-/// Whether it is known to be so.
-#[inline]
-fn is_true(term: Term) -> bool
-    ensures value { result ≡ is_true term }
+/// Of the 64 nodes from 64 * place on, those that are not before `from`, as bits.
+fn nodes_from(from: usize, place: usize) -> u64
+    requires behind { from / 64 ≤ place }
+    ensures word { IsWord (nat_le from) place result }
 {
-    matches!(term, Term::True)
-}
-
-/// How many clauses say "one of these": one, where none is known to be so.
-#[inline]
-#[tactic(auto, using(crate::proofs::Terms::no_clause, crate::proofs::Terms::one_clause))]
-fn clause_count(a: Term, b: Term, c: Term) -> usize
-    ensures value { result ≡ length (clause_of (a ∷ b ∷ c ∷ [])) }
-    ensures few { result ≤ 1 }
-{
-    if is_true(a) || is_true(b) || is_true(c) {
-        0
+    if from / 64 < place {
+        u64::MAX
     } else {
-        1
+        u64::MAX << (from % 64)
     }
 }
 
-/// How many clauses one triple of nodes has.
-#[inline]
-fn triple_count(relation: &Relation, i: usize, j: usize, k: usize) -> usize
-    requires within { (i < j) × (j < k) × (k ≤ relation.now.nodes) }
-    ensures value { result ≡ length (clauses_at relation.now (i, j, k)) }
-    ensures few { result ≤ 2 }
+/// Of the 64 nodes from 64 * place on, those that are not before `from` and for which it is known of no edge of their cycle with
+/// u and v that it is so, as bits.
+fn open_from(relation: &Relation, u: usize, v: usize, from: usize, place: usize) -> u64
+    requires nodes { (u ≤ relation.now.nodes) × (v ≤ relation.now.nodes) }
+    requires behind { from / 64 ≤ place }
+    requires within { place < row_len relation.now.nodes }
+    ensures word { IsWord (is_open_from relation.now u v from) place result }
 {
-    let (ij, ji) = relation.terms(i, j);
-    let (jk, kj) = relation.terms(j, k);
-    let (ik, ki) = relation.terms(i, k);
-    clause_count(ji, kj, ik) + clause_count(ij, jk, ki)
+    relation.open_cycles(u, v, place) & nodes_from(from, place)
+}
+
+/// The first node from `from` on that has a clause with i and j, where there is one.
+fn next_open(relation: &Relation, i: usize, j: usize, from: usize) -> Option<usize>
+    requires nodes { (i ≤ relation.now.nodes) × (j ≤ relation.now.nodes) }
+    requires within { from ≤ relation.now.nodes }
+    ensures node { IfSome result (λ k. (from ≤ k) × (k ≤ relation.now.nodes)) }
+    ensures some { IfSome result (λ k. clauses_at relation.now (i, j, k) ≢ []) }
+    ensures passed { IfSome result (λ k. of_one relation.now i j (up_to k (relation.now.nodes + 1)) ≡ of_one relation.now i j (up_to from (relation.now.nodes + 1))) }
+    ensures none { IfNone result (of_one relation.now i j (up_to from (relation.now.nodes + 1)) ≡ []) }
+{
+    for place in from / 64..row_len(relation.nodes()) {
+        let one = open_from(relation, j, i, from, place);
+        let other = open_from(relation, i, j, from, place);
+        let either = one | other;
+        if either != 0 {
+            return Some(place * 64 + either.trailing_zeros() as usize);
+        }
+    }
+    None
 }
 
 /// Where a walk over all triples of nodes has come to: the next one is (first, second, third), where third is a node.
@@ -98,17 +108,39 @@ impl Cursor {
         true
     }
 
+    /// Goes on to the next triple that has a clause, and says whether there is one.
+    fn advance(&mut self, relation: &Relation) -> bool
+        requires cursor { IsCursor (relation.now.nodes + 1) self.old }
+        ensures cursor { IsCursor (relation.now.nodes + 1) self.new }
+        ensures found { IsTrue result → self.new.third ≤ relation.now.nodes }
+        ensures some { IsTrue result → clauses_at relation.now (self.new.first, self.new.second, self.new.third) ≢ [] }
+        ensures same { cursor_left relation.now self.new ≡ cursor_left relation.now self.old }
+        ensures none { IsTrue (not result) → cursor_left relation.now self.old ≡ [] }
+        ensures steps { steps_left self.new ≤ steps_left self.old }
+    {
+        let end = relation.nodes() + 1;
+        while self.settle(end) {
+            if let Some(third) = next_open(relation, self.first, self.second, self.third) {
+                self.third = third;
+                return true;
+            }
+            self.third = end;
+        }
+        false
+    }
+
     /// How many clauses the triples of the first and the second node have, from the third on.
     fn row_count(&self, relation: &Relation) -> usize
         requires cursor { IsCursor (relation.now.nodes + 1) self.now }
         requires found { self.now.third < relation.now.nodes + 1 }
         ensures value { result ≡ length (of_one relation.now self.now.first self.now.second (up_to self.now.third (relation.now.nodes + 1))) }
-        ensures few { result ≤ 802 }
+        ensures few { result ≤ 2002 }
     {
-        let end = relation.nodes() + 1;
         let mut count = 0;
-        for third in self.third..end {
-            count += triple_count(relation, self.first, self.second, third);
+        for place in self.third / 64..row_len(relation.nodes()) {
+            let one = open_from(relation, self.second, self.first, self.third, place);
+            let other = open_from(relation, self.first, self.second, self.third, place);
+            count += one.count_ones() as usize + other.count_ones() as usize;
         }
         count
     }
@@ -120,8 +152,7 @@ impl Cursor {
         ensures value { given result.0 ++ (given result.1 ++ cursor_left relation.now self.new) ≡ cursor_left relation.now self.old }
         ensures none { result.0 ≡ None → (result.1 ≡ None) × (cursor_left relation.now self.new ≡ []) }
     {
-        let end = relation.nodes() + 1;
-        while self.settle(end) {
+        while self.advance(relation) {
             let (one, other) = triple_clauses(relation, self.first, self.second, self.third);
             self.third += 1;
             if one.is_some() {

@@ -250,7 +250,7 @@ short_clauses p proper known is =
     let f = reduced known p in
     each_mapped (IsClause f.variables) (λ c. (0 < length c) × (length c ≤ 3)) f.clauses (λ c k. (k.some, k.few)) (clauses_are p proper known is)
 
-pub is_formula : (p : Polygraph) → IsProper p → (known : Known) → IsReach p.known known → p.nodes ≤ 400 → length (reduced known p).clauses ≤ 20000000 → IsFormula (reduced known p)
+pub is_formula : (p : Polygraph) → IsProper p → (known : Known) → IsReach p.known known → p.nodes ≤ 1000 → length (reduced known p).clauses ≤ 20000000 → IsFormula (reduced known p)
 unfolding reduced
 is_formula p proper known is few_nodes few_clauses = record {
   few_nodes = few_nodes;

@@ -26,7 +26,7 @@ abbrev Placed : Type 0
 Placed = ℕ × Transaction
 
 abbrev made : ℕ → Placed → Committed
-made number t = record { session = number; place = t.0; ops = t.1.ops }
+made number t = record { session = number; place = t.0; ops = t.1.ops; begun = t.1.begun; ended = t.1.ended }
 
 abbrev is_kept : Placed → Bool
 is_kept t = is_committed t.1

@@ -41,7 +41,7 @@ Apart-push (x ∷ xs) v a absent = (
 
 -- ---- nodes that were placed so far
 pub record PlacedSoFar (n : ℕ) (order : List ℕ) (i : ℕ) (places : List ℕ) : Type 0 where
-  pub room : length places ≡ 401
+  pub room : length places ≡ 1001
   pub placed : (v : ℕ) → v ≤ n → Has v (take i order) → get_or places v 0 ≡ suc (place_of (take i order) v)
   pub unplaced : (v : ℕ) → v ≤ n → (Has v (take i order) → ⊥) → get_or places v 0 ≡ 0
   pub apart : Apart (take i order)
@@ -80,7 +80,7 @@ front_placed n line places v lo hi room new o = record {
 pub not_placed : (n : ℕ) (order : List ℕ) (i v : ℕ) (places : List ℕ) → v ≤ n → get_or places v 0 ≡ 0 → PlacedSoFar n order i places → Has v (take i order) → ⊥
 not_placed n order i v places hi z o h = omega (arith, z, o.placed v hi h)
 
-pub placed_more : (n : ℕ) (order : List ℕ) (i v : ℕ) (places : List ℕ) → n ≤ 400 → i < length order → get_or order i v ≡ v → 0 < v → v ≤ n → get_or places v 0 ≡ 0 → PlacedSoFar n order i places →
+pub placed_more : (n : ℕ) (order : List ℕ) (i v : ℕ) (places : List ℕ) → n ≤ 1000 → i < length order → get_or order i v ≡ v → 0 < v → v ≤ n → get_or places v 0 ≡ 0 → PlacedSoFar n order i places →
     PlacedSoFar n order (i + 1) (slice_set places v (i + 1))
 placed_more n order i v places few lt here lo hi z o =
     let len : length (take i order) ≡ i = length-take-le i order (omega arith) in
@@ -110,7 +110,7 @@ zeroes zero v = refl
 zeroes (suc n) zero = refl
 zeroes (suc n) (suc v) = zeroes n v
 
-pub nothing_placed : (n : ℕ) (order places : List ℕ) → length places ≡ 401 → ((v : ℕ) → get_or places v 0 ≡ 0) → PlacedSoFar n order 0 places
+pub nothing_placed : (n : ℕ) (order places : List ℕ) → length places ≡ 1001 → ((v : ℕ) → get_or places v 0 ≡ 0) → PlacedSoFar n order 0 places
 nothing_placed n order places room zeroes = record {
   room = room;
   placed = λ v hi h. absurd h;

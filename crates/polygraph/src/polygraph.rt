@@ -13,7 +13,7 @@ use crate::index::ChoiceIx;
 use known_graph::Known;
 use std::marker::Model;
 
-/// Edges that are known, and choices, between nodes 0 to n of a history, where n is at most 400. It has
+/// Edges that are known, and choices, between nodes 0 to n of a history, where n is at most 1,000. It has
 /// at most 100,000 choices, and each edge of a choice joins two different nodes.
 #[derive(Drop)]
 pub struct Polygraph {

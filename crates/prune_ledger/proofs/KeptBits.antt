@@ -22,25 +22,25 @@ edge_append : (xs ys : List Edge) (e : Edge) → has_edge (xs ++ ys) e ≡ (has_
 edge_append xs ys e = list_any-append (λ (x : Edge). eqb x.0 e.0 && eqb x.1 e.1) xs ys
 
 -- ---- bits
-pub place_is : (a b u v : ℕ) → a ≡ u → b ≡ v → a * 448 + b ≡ edge_place u v
+pub place_is : (a b u v : ℕ) → a ≡ u → b ≡ v → a * 1024 + b ≡ edge_place u v
 unfolding edge_place
-place_is a b u v p q = λ i. p i * 448 + q i
+place_is a b u v p q = λ i. p i * 1024 + q i
 
 -- two edges have one place only where they are the same
-same_place : (u v a b : ℕ) → v ≤ 400 → b ≤ 400 → eqb (edge_place u v) (edge_place a b) ≡ (eqb a u && eqb b v)
+same_place : (u v a b : ℕ) → v ≤ 1000 → b ≤ 1000 → eqb (edge_place u v) (edge_place a b) ≡ (eqb a u && eqb b v)
 unfolding edge_place
 same_place u v a b hv hb =
-    same_bool (eqb (u * 448 + v) (a * 448 + b)) (eqb a u && eqb b v)
-    (λ t. (let same = same_from_place u v a b 448 (omega (arith, hv)) (omega (arith, hb)) (eqb-true (u * 448 + v) (a * 448 + b) t) in
+    same_bool (eqb (u * 1024 + v) (a * 1024 + b)) (eqb a u && eqb b v)
+    (λ t. (let same = same_from_place u v a b 1024 (omega (arith, hv)) (omega (arith, hb)) (eqb-true (u * 1024 + v) (a * 1024 + b) t) in
     and_from (eqb a u) (eqb b v) (eq-eqb a u (sym same.0)) (eq-eqb b v (sym same.1))))
     (λ t. (let both = and_parts (eqb a u) (eqb b v) t in
-    eq-eqb (u * 448 + v) (a * 448 + b) (λ i. (let p = sym (eqb-true a u both.0) in p i) * 448 + (let q = sym (eqb-true b v both.1) in q i))))
+    eq-eqb (u * 1024 + v) (a * 1024 + b) (λ i. (let p = sym (eqb-true a u both.0) in p i) * 1024 + (let q = sym (eqb-true b v both.1) in q i))))
 
 pub no_edges : (n : ℕ) → HasEdges (record { words = replicate n 0 }) []
 no_edges n = record { same = λ u v hu hv. bit_of-zeros n (edge_place u v) }
 
 -- the bit of an edge says whether it is one of them
-pub edge_bit : (kept : KeptEdges) (edges : List Edge) (u v place : ℕ) → place ≡ edge_place u v → u ≤ 400 → v ≤ 400 → HasEdges kept edges → bit_of kept.words place ≡ has_edge edges (u, v)
+pub edge_bit : (kept : KeptEdges) (edges : List Edge) (u v place : ℕ) → place ≡ edge_place u v → u ≤ 1000 → v ≤ 1000 → HasEdges kept edges → bit_of kept.words place ≡ has_edge edges (u, v)
 edge_bit kept edges u v place is hu hv h = ap (bit_of kept.words) is ∙ h.same u v hu hv
 
 or_last : (a b : Bool) → (b || a) ≡ (a || (b || false))
@@ -50,7 +50,7 @@ or_last false true = refl
 or_last false false = refl
 
 -- one edge more
-pub edge_added : (old new : KeptEdges) (edges : List Edge) (d : Edge) → d.1 ≤ 400 → ((k : ℕ) → bit_of new.words k ≡ (eqb k (edge_place d.0 d.1) || bit_of old.words k)) → HasEdges old edges → HasEdges new (edges ++ d ∷ [])
+pub edge_added : (old new : KeptEdges) (edges : List Edge) (d : Edge) → d.1 ≤ 1000 → ((k : ℕ) → bit_of new.words k ≡ (eqb k (edge_place d.0 d.1) || bit_of old.words k)) → HasEdges old edges → HasEdges new (edges ++ d ∷ [])
 edge_added old new edges d small bits h = record {
   same = λ u v hu hv.
       bits (edge_place u v)
@@ -60,7 +60,7 @@ edge_added old new edges d small bits h = record {
 }
 
 -- one more of a list
-pub edge_more : (old now next : KeptEdges) (part : List Edge) (k : ℕ) (d : Edge) (u v place : ℕ) → k < length part → d ≡ get_or part k d → u ≡ d.0 → v ≡ d.1 → place ≡ edge_place u v → v ≤ 400
+pub edge_more : (old now next : KeptEdges) (part : List Edge) (k : ℕ) (d : Edge) (u v place : ℕ) → k < length part → d ≡ get_or part k d → u ≡ d.0 → v ≡ d.1 → place ≡ edge_place u v → v ≤ 1000
     → ((before : List Edge) → HasEdges old before → HasEdges now (before ++ take k part)) → ((j : ℕ) → bit_of next.words j ≡ (eqb j place || bit_of now.words j))
     → (before : List Edge) → HasEdges old before → HasEdges next (before ++ take (k + 1) part)
 edge_more old now next part k d u v place lt is p q at small f bits before h =
@@ -68,7 +68,7 @@ edge_more old now next part k d u v place lt is p q at small f bits before h =
     let whole : (before ++ take k part) ++ d ∷ [] ≡ before ++ take (k + 1) part =
     append_assoc before (take k part) (d ∷ []) ∙ ap (λ (l : List Edge). before ++ l) (ap (λ (x : Edge). take k part ++ x ∷ []) is ∙ sym (take_more part k d lt)) in
     subst (HasEdges next) whole
-    (edge_added now next (before ++ take k part) d (subst (λ n. n ≤ 400) q small) (λ j. bits j ∙ ap (λ n. eqb j n || bit_of now.words j) this) (f before h))
+    (edge_added now next (before ++ take k part) d (subst (λ n. n ≤ 1000) q small) (λ j. bits j ∙ ap (λ n. eqb j n || bit_of now.words j) this) (f before h))
 
 -- ---- the edges that entries keep
 abbrev pub kept_of : Polygraph → LedgerEntry → List Edge

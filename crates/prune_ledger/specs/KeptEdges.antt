@@ -9,11 +9,11 @@ use Rattle.prune_ledger.specs.declared.kept.KeptEdges.{KeptEdges}
 use Rattle.prune_ledger.specs.declared.ledger.LedgerEntry.{LedgerEntry}
 use Rattle.serializability.specs.declared.node.TheConstants.{MAX_NODES}
 
--- the number of the bit of the edge from u to v: a row of 448 bits for each node
+-- the number of the bit of the edge from u to v: a row of 1,024 bits for each node
 unfoldable pub edge_place : ℕ → ℕ → ℕ
-edge_place u v = u * 448 + v
+edge_place u v = u * 1024 + v
 
--- of the edges between nodes 0 to 400, those in the list have their bit set, and no others
+-- of the edges between nodes 0 to 1,000, those in the list have their bit set, and no others
 pub record HasEdges (kept : KeptEdges) (edges : List Edge) : Type 0 where
   pub same : (u v : ℕ) → u ≤ MAX_NODES → v ≤ MAX_NODES → bit_of kept.words (edge_place u v) ≡ has_edge edges (u, v)
 

@@ -1,22 +1,20 @@
 //! The edges that a ledger keeps.
 
-ghost use Rattle.std.specs.Prelude.{◌≡◌, ◌++◌, ◌*◌, ◌/◌, ◌<◌, ◌≤◌, [], List};
+ghost use Rattle.std.specs.Prelude.{◌≡◌, ◌++◌, ◌+◌, ◌*◌, ◌/◌, ◌<◌, ◌≤◌, [], List};
 ghost use Rattle.serializability.specs.Polygraph.{Edge};
 ghost use Rattle.known_graph.specs.Tests.{has_edge};
+ghost use Rattle.known_graph.specs.declared.bits.TheConstants.{NODE_WORDS};
 ghost use Rattle.prune_ledger.specs.KeptEdges.{edge_place, HasEdges};
 ghost use Rattle.serializability.specs.declared.node.TheConstants.{MAX_NODES};
 
-use known_graph::bits::{has_bit, set_bit};
+use known_graph::bits::{NODE_WORDS, has_bit, set_bit};
 use reach_laws::Edge;
 use serializability::{MAX_NODES, NodeIx};
 
-// A row has a bit for each of nodes 0 to 400.
-const ROW_WORDS: usize = 7;
+// There is a row for each of nodes 0 to 1,000.
+const WORDS: usize = (MAX_NODES + 1) * NODE_WORDS;
 
-// There is a row for each of nodes 0 to 400.
-const WORDS: usize = (MAX_NODES + 1) * ROW_WORDS;
-
-/// Edges between nodes 0 to 400, as a bit for each pair of nodes. They take no heap memory.
+/// Edges between nodes 0 to 1,000, as a bit for each pair of nodes. They take no heap memory.
 #[derive(Drop)]
 pub struct KeptEdges {
     words: [u64; WORDS],
@@ -25,10 +23,10 @@ pub struct KeptEdges {
 // The number of the bit of an edge.
 fn edge_place(u: NodeIx, v: NodeIx) -> usize
     ensures place { result ≡ edge_place u v }
-    ensures within { result / 64 < 401 * 7 }
+    ensures within { result / 64 < (MAX_NODES + 1) * NODE_WORDS }
     ensures nodes { (u ≤ MAX_NODES) × (v ≤ MAX_NODES) }
 {
-    u.get() * (ROW_WORDS * 64) + v.get()
+    u.get() * (NODE_WORDS * 64) + v.get()
 }
 
 impl KeptEdges {

@@ -1,10 +1,7 @@
 use desk::gate::OpenGate;
 use desk::seat_no::Workers;
 use gather::collect;
-use polygraph::PolyFault;
-use prune_ledger::{Ledger, Reduced};
 use reduction::{Reduction, reduce};
-use serializability::{Anomaly, NodeIx};
 use session_history::History;
 use session_log::LogFault;
 use std::alloc::Global;
@@ -32,7 +29,8 @@ const DEAD: &str = "session 1\nbegin\nw a 1\ncommit\nbegin\nw a 2\nw b 3\nw c 4\
     session 2\nbegin\nr a 1\nw b 5\ncommit\nsession 3\nbegin\nr b 5\nw c 6\ncommit\n\
     session 4\nbegin\nr c 6\nr d 7\ncommit\n";
 
-fn read<R: Threads + Wait + Clock + Sync>(
+/// The history of a log, read by so many workers.
+pub fn read<R: Threads + Wait + Clock + Sync>(
     rt: &R,
     alloc: Global,
     log: &[u8],
@@ -42,112 +40,32 @@ fn read<R: Threads + Wait + Clock + Sync>(
     History::build(alloc, version, sessions)
 }
 
-// What the steps make of a log, with so many workers.
-fn reduced<R: Threads + Wait + Clock + Abort + Sync>(
+// What the steps make of a log with one worker and with four, by its name.
+fn reduces_to<R: Threads + Wait + Clock + Abort + Sync>(
     rt: &R,
     alloc: Global,
     log: &str,
-    count: u8,
-) -> Result<Reduction, PolyFault> {
-    let workers = Workers::new(count).expect(rt, "workers");
-    let history = read(rt, alloc, log.as_bytes(), workers).expect(rt, "a history");
-    reduce(rt, alloc, &history, workers, &OpenGate)
-}
-
-fn anomaly(rt: &impl Abort, reduction: Reduction) -> Anomaly {
-    match reduction {
-        Reduction::Anomalous(anomaly) => anomaly,
-        _ => panic!(rt; "no anomaly"),
-    }
-}
-
-fn cycle(rt: &impl Abort, reduction: Reduction) -> Vec<NodeIx> {
-    match reduction {
-        Reduction::Cyclic(line) => line,
-        _ => panic!(rt; "no cycle"),
-    }
-}
-
-fn ledger(rt: &impl Abort, reduction: Reduction) -> Ledger {
-    match reduction {
-        Reduction::Dead(ledger) => ledger,
-        _ => panic!(rt; "not dead"),
-    }
-}
-
-fn left(rt: &impl Abort, reduction: Reduction) -> Reduced {
-    match reduction {
-        Reduction::Open { reduced, .. } => reduced,
-        _ => panic!(rt; "nothing left"),
-    }
-}
-
-fn node(rt: &impl Abort, number: usize) -> NodeIx {
-    NodeIx::new(number).expect(rt, "a node")
-}
-
-#[test]
-fn a_lost_update(rt: HostRuntime) {
+    want: &str,
+) {
     for count in [1, 4] {
-        let found = reduced(&rt, rt.alloc(), LOST_UPDATE, count).expect(&rt, "an answer");
-        let want = Anomaly::LostUpdate {
-            key: 0,
-            source: node(&rt, 0),
-            first: node(&rt, 1),
-            second: node(&rt, 2),
+        let workers = Workers::new(count).expect(rt, "workers");
+        let history = read(rt, alloc, log.as_bytes(), workers).expect(rt, "a history");
+        let name = match reduce(rt, alloc, &history, workers, &OpenGate) {
+            Ok(Reduction::Anomalous(_)) => "anomaly",
+            Ok(Reduction::Cyclic(_)) => "cycle",
+            Ok(Reduction::Dead(_)) => "dead",
+            Ok(Reduction::Open { .. }) => "open",
+            Err(_) => "no answer",
         };
-        assert!(rt; anomaly(&rt, found) == want);
+        assert_eq!(rt; name, want);
     }
 }
 
 #[test]
-fn cycles_of_arcs_and_of_known_edges(rt: HostRuntime) {
-    let want = [node(&rt, 1), node(&rt, 2), node(&rt, 1)];
-    for log in [READ_BEFORE_WRITTEN, WRITE_SKEW] {
-        for count in [1, 4] {
-            let found = reduced(&rt, rt.alloc(), log, count).expect(&rt, "an answer");
-            let line = cycle(&rt, found);
-            assert_eq!(rt; line.as_slice(), want.as_slice());
-        }
-    }
-}
-
-#[test]
-fn nothing_left_to_choose(rt: HostRuntime) {
-    for count in [1, 4] {
-        let found = reduced(&rt, rt.alloc(), SETTLED, count).expect(&rt, "an answer");
-        let reduced = left(&rt, found);
-        assert_eq!(rt; reduced.poly().choices().len(), 0);
-        assert_eq!(rt; reduced.ledger().entries.len(), 3);
-    }
-}
-
-#[test]
-fn pruning_ends_in_a_cycle(rt: HostRuntime) {
-    for count in [1, 4] {
-        let found = reduced(&rt, rt.alloc(), DEAD, count).expect(&rt, "an answer");
-        assert!(rt; ledger(&rt, found).cycle.is_some());
-    }
-}
-
-// One session of 400 transactions, each of which writes two keys.
-fn many_writers(alloc: Global) -> Result<String, Fail> {
-    let mut log = String::new(alloc);
-    log.push_str("session 1\n")?;
-    for number in 1..401u32 {
-        let other = number + 400;
-        let block = format!(in alloc; "begin\nw x {number}\nw y {other}\ncommit\n")?;
-        log.push_str(&block)?;
-    }
-    Ok(log)
-}
-
-#[test]
-fn too_many_choices(rt: HostRuntime) -> Result<(), Fail> {
-    let log = many_writers(rt.alloc())?;
-    match reduced(&rt, rt.alloc(), &log, 1) {
-        Ok(_) => panic!(&rt; "an answer"),
-        Err(fault) => assert_eq!(rt; fault, PolyFault::TooManyChoices),
-    }
-    Ok(())
+fn one_worker_or_several_make_the_same(rt: HostRuntime) {
+    reduces_to(&rt, rt.alloc(), LOST_UPDATE, "anomaly");
+    reduces_to(&rt, rt.alloc(), READ_BEFORE_WRITTEN, "cycle");
+    reduces_to(&rt, rt.alloc(), WRITE_SKEW, "cycle");
+    reduces_to(&rt, rt.alloc(), DEAD, "dead");
+    reduces_to(&rt, rt.alloc(), SETTLED, "open");
 }

@@ -23,7 +23,7 @@ use std::sync::Wait;
 use std::thread::Threads;
 use std::time::Clock;
 
-/// Which of nodes 0 to n reaches which, where n is at most 400. Contracts see a graph in which an edge
+/// Which of nodes 0 to n reaches which, where n is at most 1,000. Contracts see a graph in which an edge
 /// leads from each node to each that it reaches.
 #[derive(Drop)]
 pub struct Rows {

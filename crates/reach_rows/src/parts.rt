@@ -20,7 +20,7 @@ use std::time::Clock;
 /// About how much work a source is: one, and one more for each of its edges.
 fn work_of(known: &Known, source: NodeIx) -> usize
     requires node { source ≤ known.now.nodes }
-    ensures few { result ≤ 500 }
+    ensures few { result ≤ 1_100 }
 {
     let _nodes = known.nodes();
     let mut work = 1;
@@ -32,7 +32,7 @@ fn work_of(known: &Known, source: NodeIx) -> usize
 
 /// How much work all sources are.
 fn whole_work(known: &Known) -> usize
-    ensures few { result ≤ 200_500 }
+    ensures few { result ≤ 1_101_100 }
 {
     let mut work = 0;
     for source in 0..known.nodes() + 1 {
@@ -45,7 +45,7 @@ fn whole_work(known: &Known) -> usize
 /// that lies before the one, and then before the other.
 fn source_after(known: &Known, from: usize, before: &mut usize, work: usize) -> usize
     requires from { from ≤ known.now.nodes + 1 }
-    requires few { work ≤ 200_500 }
+    requires few { work ≤ 1_101_100 }
     ensures forth { from ≤ result }
     ensures within { result ≤ known.now.nodes + 1 }
 {

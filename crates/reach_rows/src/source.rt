@@ -3,11 +3,12 @@
 ghost use Rattle.std.specs.Prelude.{◌≡◌, ◌↔◌, ℕ, ◌+◌, ◌≤◌, true, length, OnOk};
 ghost use Rattle.reach_laws.specs.Reach.{Reaches};
 ghost use Rattle.known_graph.specs.Bits.{bit_of, row_len};
+ghost use Rattle.known_graph.specs.declared.bits.TheConstants.{NODE_WORDS};
 ghost use Rattle.reach_rows.specs.Sources.{Spreads, AreReachRows};
 ghost use Rattle.serializability.specs.declared.node.TheConstants.{MAX_NODES};
 
 use known_graph::Known;
-use known_graph::bits::{NodeBits, first_open, join_words, row_len, set_bit};
+use known_graph::bits::{NODE_WORDS, NodeBits, first_open, join_words, row_len, set_bit};
 use serializability::NodeIx;
 use std::alloc::AllocError;
 
@@ -22,13 +23,13 @@ pub fn node(number: usize) -> NodeIx
 /// Sets in a row the bits of all nodes that its nodes reach.
 fn spread(known: &Known, row: &mut [u64])
     requires row { row_len known.now.nodes ≤ length row.old }
-    requires few { length row.old ≤ 7 }
+    requires few { length row.old ≤ NODE_WORDS }
     requires nodes { (k : ℕ) → bit_of row.old k ≡ true → k ≤ known.now.nodes }
     ensures spread { Spreads known.now.edges row.old row.new }
     ensures len { length row.new ≡ length row.old }
 {
     let _nodes = known.nodes();
-    let mut done: NodeBits = [0; 7];
+    let mut done: NodeBits = [0; NODE_WORDS];
     while let Some(number) = first_open(row, &done) {
         set_bit(&mut done, number);
         join_words(row, known.row_words(node(number)));
@@ -39,10 +40,10 @@ fn spread(known: &Known, row: &mut [u64])
 fn reach_row(known: &Known, source: NodeIx) -> NodeBits
     requires node { source ≤ known.now.nodes }
     ensures reach { (v : ℕ) → ((bit_of result v ≡ true) ↔ Reaches known.now.edges source v) }
-    ensures len { length result ≡ 7 }
+    ensures len { length result ≡ NODE_WORDS }
 {
     let _nodes = known.nodes();
-    let mut row: NodeBits = [0; 7];
+    let mut row: NodeBits = [0; NODE_WORDS];
     join_words(&mut row, known.row_words(source));
     spread(known, &mut row);
     row

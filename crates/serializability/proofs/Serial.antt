@@ -1,10 +1,10 @@
 -- An order is serial exactly when it fits the arcs and the bipaths.
-use Rattle.std.proofs.Common.{◌≡◌, ◌≢◌, ◌⊎◌, ℕ, zero, suc, ◌+◌, ◌<◌, ◌≤◌, true, false, eqb, not, ◌&&◌, List, [], ◌∷◌, ◌++◌, length, Option, None, Some, refl, sym, ap, ◌∙◌, subst, inl, inr, arith, unwrap_or, eqb-true, eq-eqb, ne_eqb, append_assoc}
+use Rattle.std.proofs.Common.{◌≡◌, ◌≢◌, ◌⊎◌, ℕ, zero, suc, ◌+◌, ◌<◌, ◌≤◌, true, false, eqb, not, ◌&&◌, ◌||◌, List, [], ◌∷◌, ◌++◌, length, Option, None, Some, refl, sym, ap, ◌∙◌, subst, inl, inr, arith, unwrap_or, eqb-true, eq-eqb, ne_eqb, append_assoc}
 use Rattle.std.specs.Prelude.{is_some, map}
 use Rattle.std.specs.List.{filter, flat_map, AllByRecursion}
 use Rattle.std.proofs.lemmas.Bool.{cases_eq, cases_lt, false≢true, or_cases, and_parts, and_from, or_right, or_left, not-true, not_from_false, eqb-false}
 use Rattle.serializability.specs.declared.event.Event.{Event}
-use Rattle.serializability.specs.Log.{Log}
+use Rattle.serializability.specs.Log.{Log, precedes}
 use Rattle.serializability.specs.Replay.{place_of, Before, ListsOnce, IsSerial, after, empty, Meets}
 use Rattle.serializability.specs.Reads.{later, last_write, IsFinal, ReadsAfter, IsClean}
 use Rattle.serializability.specs.Polygraph.{Edge, Choice, KeepsOne, Fits, bipath_polygraph, rival_choice, arcs, is_arc, bipaths, bipaths_at, is_rival, all_nodes, all_keys, committed, source, reads_from}
@@ -178,23 +178,35 @@ arc_from_session log u e =
     let same : eqb (log.session u) (log.session (suc u)) ≡ true = eq-eqb _ _ e in
     let e' : eqb (suc u) 0 ≡ false = ne_eqb (suc u) 0 (λ z. omega (arith, z)) in
     and_from (not (eqb (suc u) 0)) _ (not_from_false (eqb (suc u) 0) e')
-    (or_right (eqb u 0) _ (or_left _ (reads_from log (suc u) u) (and_from (eqb (u + 1) (suc u)) _ next same)))
+    (or_right (eqb u 0) _ (or_left _ (reads_from log (suc u) u || precedes log u (suc u)) (and_from (eqb (u + 1) (suc u)) _ next same)))
 
 pub arc_from_read : (log : Log) (r u : ℕ) → 0 < r → reads_from log r u ≡ true → is_arc log (u, r) ≡ true
 arc_from_read log r u lo t =
     let e : eqb r 0 ≡ false = ne_eqb r 0 (λ z. omega (arith, z)) in
-    and_from (not (eqb r 0)) _ (not_from_false (eqb r 0) e) (or_right (eqb u 0) _ (or_right _ (reads_from log r u) t))
+    and_from (not (eqb r 0)) _ (not_from_false (eqb r 0) e)
+    (or_right (eqb u 0) _ (or_right _ (reads_from log r u || precedes log u r) (or_left (reads_from log r u) (precedes log u r) t)))
 
-pub arc_cases : (log : Log) (u v : ℕ) → is_arc log (u, v) ≡ true → (0 < v) × (((u ≡ 0) ⊎ ((u + 1 ≡ v) × (log.session u ≡ log.session v))) ⊎ (reads_from log v u ≡ true))
+pub arc_from_moments : (log : Log) (u v : ℕ) → 0 < v → precedes log u v ≡ true → is_arc log (u, v) ≡ true
+arc_from_moments log u v lo t =
+    let e : eqb v 0 ≡ false = ne_eqb v 0 (λ z. omega (arith, z)) in
+    and_from (not (eqb v 0)) _ (not_from_false (eqb v 0) e)
+    (or_right (eqb u 0) _ (or_right _ (reads_from log v u || precedes log u v) (or_right (reads_from log v u) (precedes log u v) t)))
+
+-- why there is an arc to v
+abbrev pub HasReason : Log → ℕ → ℕ → Type 0
+HasReason log u v =
+    ((u ≡ 0) ⊎ ((u + 1 ≡ v) × (log.session u ≡ log.session v))) ⊎ ((reads_from log v u ≡ true) ⊎ (precedes log u v ≡ true))
+
+pub arc_cases : (log : Log) (u v : ℕ) → is_arc log (u, v) ≡ true → (0 < v) × HasReason log u v
 arc_cases log u v t =
     let p = and_parts (not (eqb v 0)) _ t in
     let pos : 0 < v = elim (cases_lt 0 v) [ inl h ↦ h | inr h ↦ absurd (eqb-false v 0 (not-true (eqb v 0) p.0) (omega (arith, h))) ] in (
       pos,
       elim (or_cases (eqb u 0) _ p.1) [
         | inl z ↦ inl (inl (eqb-true u 0 z))
-        | inr q ↦ elim (or_cases ((eqb (u + 1) v) && (eqb (log.session u) (log.session v))) (reads_from log v u) q) [
+        | inr q ↦ elim (or_cases ((eqb (u + 1) v) && (eqb (log.session u) (log.session v))) (reads_from log v u || precedes log u v) q) [
           | inl s ↦ let b = and_parts (eqb (u + 1) v) (eqb (log.session u) (log.session v)) s in inl (inr (eqb-true (u + 1) v b.0, eqb-true (log.session u) (log.session v) b.1))
-          | inr s ↦ inr s
+          | inr s ↦ inr (or_cases (reads_from log v u) (precedes log u v) s)
         ]
       ],
     )
@@ -262,13 +274,16 @@ serial_arcs log clean order s u v hu hv t =
           | inl z ↦ absurd (nz z)
           | inr h' ↦ s.sessions u v lo (omega (arith, h'.0)) hv h'.1
         ]
-        | inr reads ↦
-            let f = reads_from_is log v u reads in
-            let c = cut_at log.nodes order s.once v a.0 hv in
-            elim (source_in_front log clean order s v f.0 u c (source_is log clean v f.0 u a.0 hv f.1)) [
-              | inl z ↦ absurd (nz z.0)
-              | inr l ↦ before_from_front order v c u lo (subst (λ n. Has n c.front) l.1.1 (writer_has log f.0 l.0 c.front l.1.0))
-            ]
+        | inr h ↦ elim h [
+          | inl reads ↦
+              let f = reads_from_is log v u reads in
+              let c = cut_at log.nodes order s.once v a.0 hv in
+              elim (source_in_front log clean order s v f.0 u c (source_is log clean v f.0 u a.0 hv f.1)) [
+                | inl z ↦ absurd (nz z.0)
+                | inr l ↦ before_from_front order v c u lo (subst (λ n. Has n c.front) l.1.1 (writer_has log f.0 l.0 c.front l.1.0))
+              ]
+          | inr ended ↦ s.moments u v lo hu a.0 hv ended
+        ]
       ]
     ]
 
@@ -393,6 +408,9 @@ source_within log clean r x w lo hi e = elim (source_is log clean r x w lo hi e)
   | inr wr ↦ wr.1
 ]
 
+precedes_apart : (log : Log) (u v : ℕ) → precedes log u v ≡ true → u ≢ v
+precedes_apart log u v t = eqb-false u v (not-true (eqb u v) (and_parts (not (eqb u v)) (log.earlier u v) t).0)
+
 pub arc_apart : (log : Log) → IsClean log → (u v : ℕ) → v ≤ log.nodes → is_arc log (u, v) ≡ true → u ≢ v
 arc_apart log clean u v hv t same =
     let a = arc_cases log u v t in
@@ -401,9 +419,10 @@ arc_apart log clean u v hv t same =
         | inl z ↦ omega (arith, z, same, a.0)
         | inr s ↦ omega (arith, s.0, same)
       ]
-      | inr reads ↦
-          let f = reads_from_is log v u reads in
-          (source_is log clean v f.0 u a.0 hv f.1).other same
+      | inr h ↦ elim h [
+        | inl reads ↦ let f = reads_from_is log v u reads in (source_is log clean v f.0 u a.0 hv f.1).other same
+        | inr ended ↦ precedes_apart log u v ended same
+      ]
     ]
 
 -- ---- both ways
@@ -420,5 +439,6 @@ fitting_serial log clean order f =
     record {
       once = f.once;
       sessions = sessions_kept log clean order arcs';
+      moments = λ a b lo hi blo bhi t. arcs' a b hi bhi (arc_from_moments log a b blo t);
       reads = all_met log clean order f.once arcs' (bipaths_kept log order f.choices);
     }

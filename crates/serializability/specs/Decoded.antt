@@ -33,7 +33,7 @@ pub record IsDecoded (n : ℕ) (r : ℕ → ℕ → Bool) (order : List ℕ) : T
   pub nodes : All (λ v. (0 < v) × (v ≤ n)) order
   pub each : EachIndex order (λ p. count_by (λ u. r u (slice_index order p)) (range_with_len 0 (n + 1)) ≡ p + 1)
 
--- a formula of at most 400 nodes and 20,000,000 clauses, each satisfying assignment of which stands for an order of the nodes
+-- a formula of at most 1,000 nodes and 20,000,000 clauses, each satisfying assignment of which stands for an order of the nodes
 pub record IsFormula (f : Cnf) : Type 0 where
   pub few_nodes : f.nodes ≤ MAX_NODES
   pub few_clauses : length f.clauses ≤ MAX_CLAUSES

@@ -2,7 +2,7 @@
 use Rattle.std.specs.Prelude.{◌⊎◌, ℕ, ◌+◌, ◌==◌, ◌&&◌, ◌||◌, not, List, [], ◌∷◌, Option, None, Some, Bool, false, unwrap_or, is_some, map}
 use Rattle.std.specs.List.{find, filter, flat_map, list_any, range_with_len, AllByRecursion}
 use Rattle.std.specs.Option.{option_map, option_map_or}
-use Rattle.serializability.specs.Log.{Log}
+use Rattle.serializability.specs.Log.{Log, precedes}
 use Rattle.serializability.specs.Replay.{Before, ListsOnce}
 use Rattle.serializability.specs.Reads.{last_write, external_read}
 
@@ -58,9 +58,11 @@ source log r x = option_map (writer_of log x) (external_read x (log.ops r))
 abbrev pub reads_from : Log → ℕ → ℕ → Bool
 reads_from log r w = list_any (λ x. option_map_or (λ u. u == w) (source log r x) false) (all_keys log)
 
--- an arc: from node 0, to the next of the session, or from a writer to its reader
+-- an arc: from node 0, to the next of the session, from a writer to its reader, or to a node that began behind the end of another
 abbrev pub is_arc : Log → Edge → Bool
-is_arc log e = not (e.1 == 0) && ((e.0 == 0) || (((e.0 + 1 == e.1) && (log.session e.0 == log.session e.1)) || reads_from log e.1 e.0))
+is_arc log e =
+    not (e.1 == 0)
+    && ((e.0 == 0) || (((e.0 + 1 == e.1) && (log.session e.0 == log.session e.1)) || (reads_from log e.1 e.0 || precedes log e.0 e.1)))
 
 -- by (from, to)
 abbrev pub arcs : Log → List Edge

@@ -1,10 +1,10 @@
 -- Replay on a plain map, and serial orders.
-use Rattle.std.specs.Prelude.{◌≡◌, ℕ, suc, ◌<◌, ◌≤◌, ◌==◌, if◌then◌else◌, List, [], ◌∷◌}
+use Rattle.std.specs.Prelude.{◌≡◌, true, ℕ, suc, ◌<◌, ◌≤◌, ◌==◌, if◌then◌else◌, List, [], ◌∷◌}
 use Rattle.std.specs.List.{flat_map, Contains, All, IsDistinct}
 use Rattle.std.specs.Bool.{nat_eq}
 use Rattle.serializability.specs.declared.event.Event.{Event}
 use Rattle.serializability.specs.declared.event.Event.TheVariants.{Read, Write}
-use Rattle.serializability.specs.Log.{Log}
+use Rattle.serializability.specs.Log.{Log, precedes}
 
 -- a map from keys to identities
 abbrev pub Store : Type 0
@@ -43,8 +43,9 @@ pub record ListsOnce (n : ℕ) (order : List ℕ) : Type 0 where
   pub each : (v : ℕ) → 0 < v → v ≤ n → Contains order v
   pub distinct : IsDistinct nat_eq order
 
--- the order explains every read, and keeps the order of each session
+-- the order explains every read, and keeps the order of each session and that of the stated moments
 pub record IsSerial (log : Log) (order : List ℕ) : Type 0 where
   pub once : ListsOnce log.nodes order
   pub sessions : (a b : ℕ) → 0 < a → a < b → b ≤ log.nodes → log.session a ≡ log.session b → Before order a b
+  pub moments : (a b : ℕ) → 0 < a → a ≤ log.nodes → 0 < b → b ≤ log.nodes → precedes log a b ≡ true → Before order a b
   pub reads : Meets empty (flat_map log.ops order)

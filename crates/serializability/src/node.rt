@@ -6,7 +6,7 @@ ghost use Rattle.serializability.specs.declared.node.TheConstants.{MAX_NODES};
 use std::marker::Model;
 
 /// The greatest node number, and the greatest number of committed transactions of a log.
-pub const MAX_NODES: usize = 400;
+pub const MAX_NODES: usize = 1_000;
 
 /// A node of a history: 0 is the initial transaction, and 1 to n are the committed transactions.
 #[derive(Clone, Copy, Debug, PartialEq, Eq)]
@@ -28,7 +28,7 @@ impl NodeIx {
     /// The initial transaction.
     pub const INITIAL: NodeIx = NodeIx { number: 0 };
 
-    /// The node with this number, where it is one of 0 to 400.
+    /// The node with this number, where it is one of 0 to 1,000.
     pub fn new(number: usize) -> Option<NodeIx>
         ensures some { IsSome result ↔ (number ≤ MAX_NODES) }
         ensures value { IfSome result (λ v. v ≡ number) }

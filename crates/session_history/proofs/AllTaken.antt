@@ -116,5 +116,5 @@ none_taken ss e n = sym (same_truth (taken ss n) false (λ t. taken_least ss (λ
       each = λ m need.
           let all = each_of_flat_map (λ (t : Transaction). is_unknown t ≡ false) (λ (s : ClientSession). s.txns) ss (none_counted is_unknown (txns_in ss) e) in
           let f = member (λ (t : Transaction). is_unknown t ≡ false) need.session.txns need.txn (member (λ (s : ClientSession). AllByRecursion (λ (t : Transaction). is_unknown t ≡ false) s.txns) ss need.session all need.is_session) need.is_txn in
-          absurd (false≢true (sym f ∙ ap (λ o. is_unknown (record { ops = need.txn.ops; outcome = o })) need.outcome));
+          absurd (false≢true (sym f ∙ ap (λ o. is_unknown (record { ops = need.txn.ops; outcome = o; begun = need.txn.begun; ended = need.txn.ended })) need.outcome));
     }

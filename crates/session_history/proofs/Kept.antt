@@ -1,5 +1,6 @@
 -- What a history answers from its tables.
 use Rattle.std.proofs.Common.{◌≡◌, ℕ, suc, ◌+◌, ◌-◌, ◌<◌, ◌≤◌, ◌⊎◌, inl, inr, List, [], ◌∷◌, length, get_or, slice_get, Option, Some, None, refl, sym, ap, ◌∙◌, arith, is_some, nat_lt, Bor, IfSome}
+use Rattle.std.specs.Prelude.{option_and_then}
 use Rattle.std.specs.List.{filter_map, cons_option}
 use Rattle.std.specs.Option.{option_map, option_map_or}
 use Rattle.std.proofs.lemmas.Bool.{cases_lt, ltb-true, ltb-false}
@@ -10,7 +11,7 @@ use Rattle.serializability.specs.Log.{Log}
 use Rattle.serializability.specs.Reads.{external_read}
 use Rattle.serializability.specs.Polygraph.{all_keys, source, writer_of}
 use Rattle.log_definitions.specs.WellFormed.{keys_in}
-use Rattle.log_definitions.specs.Serial.{Committed, committed_in, node_in, node_of}
+use Rattle.log_definitions.specs.Serial.{Committed, committed_in, node_in, node_of, begun_of, ended_of}
 use Rattle.log_definitions.specs.Numbers.{events_of, log_of}
 use Rattle.session_history.specs.Tables.{sources_of, name_in}
 use Rattle.session_history.specs.Taken.{NumberedNode, node_view}
@@ -32,7 +33,7 @@ module _ (h : Inside) (k : IsHistory h) where
   pub nodes_kept : length h.nodes.items ≡ (log_of (sessions_of h)).nodes
   nodes_kept = sym (length-map h.nodes.items node_view) ∙ ap length k.nodes ∙ length-map (committed_in its) (numbered_node (keys_in its)) ∙ sym (log_nodes its)
 
-  pub nodes_few : (log_of (sessions_of h)).nodes ≤ 400
+  pub nodes_few : (log_of (sessions_of h)).nodes ≤ 1000
   nodes_few = few_nodes its k.sound
 
   pub keys_kept : length h.keys.keys ≡ (log_of (sessions_of h)).keys
@@ -70,6 +71,20 @@ kept_session ss v (Some c) e = log_session ss v ∙ ap (λ o. option_map_or (λ 
 pub session_kept : (ss : List ClientSession) (v : ℕ) → (log_of ss).session v ≡ option_map_or (λ node. node.session) (node_kept ss v) 0
 unfolding node_of
 session_kept ss v = kept_session ss v (node_in (committed_in ss) v) refl
+
+kept_begun : (keys : List (List ℕ)) (o : Option Committed) → option_and_then (λ (c : Committed). c.begun) o ≡ option_and_then (λ (node : NumberedNode). node.begun) (option_map (numbered_node keys) o)
+kept_begun keys None = refl
+kept_begun keys (Some c) = refl
+
+pub begun_kept : (ss : List ClientSession) (v : ℕ) → begun_of ss v ≡ option_and_then (λ (node : NumberedNode). node.begun) (node_kept ss v)
+begun_kept ss v = kept_begun (keys_in ss) (node_of ss v)
+
+kept_ended : (keys : List (List ℕ)) (o : Option Committed) → option_and_then (λ (c : Committed). c.ended) o ≡ option_and_then (λ (node : NumberedNode). node.ended) (option_map (numbered_node keys) o)
+kept_ended keys None = refl
+kept_ended keys (Some c) = refl
+
+pub ended_kept : (ss : List ClientSession) (v : ℕ) → ended_of ss v ≡ option_and_then (λ (node : NumberedNode). node.ended) (node_kept ss v)
+ended_kept ss v = kept_ended (keys_in ss) (node_of ss v)
 
 committed_name : Committed → ℕ × ℕ
 committed_name c = (c.session, c.place)

@@ -23,7 +23,7 @@ use Rattle.session_history.proofs.Seen.{number_below, seen_here, seen_stays}
 -- ---- nodes
 
 nodes_of_session : (keys : List (List ℕ)) (number n : ℕ) (ts : List Transaction) → nodes_among keys (placed_from number n ts)
-    ≡ map (numbered_node keys) (map (λ t. record { session = number; place = t.0; ops = t.1.ops }) (filter (λ t. is_committed t.1) (enumerate_from n ts)))
+    ≡ map (numbered_node keys) (map (λ t. record { session = number; place = t.0; ops = t.1.ops; begun = t.1.begun; ended = t.1.ended }) (filter (λ t. is_committed t.1) (enumerate_from n ts)))
 nodes_of_session keys number n [] = refl
 nodes_of_session keys number n (t ∷ ts) = go (is_committed t) (nodes_of_session keys number (n + 1) ts)
   where
@@ -31,12 +31,12 @@ nodes_of_session keys number n (t ∷ ts) = go (is_committed t) (nodes_of_sessio
     rest = filter (λ u. is_committed u.1) (enumerate_from (n + 1) ts)
 
     of : ℕ × Transaction → Committed
-    of u = record { session = number; place = u.0; ops = u.1.ops }
+    of u = record { session = number; place = u.0; ops = u.1.ops; begun = u.1.begun; ended = u.1.ended }
 
     go : (b : Bool) → nodes_among keys (placed_from number (n + 1) ts) ≡ map (numbered_node keys) (map of rest)
-        → cond b (record { session = number; place = n; events = events_of keys t.ops } ∷ nodes_among keys (placed_from number (n + 1) ts)) (nodes_among keys (placed_from number (n + 1) ts))
+        → cond b (record { session = number; place = n; events = events_of keys t.ops; begun = t.begun; ended = t.ended } ∷ nodes_among keys (placed_from number (n + 1) ts)) (nodes_among keys (placed_from number (n + 1) ts))
         ≡ map (numbered_node keys) (map of (cond b ((n, t) ∷ rest) rest))
-    go true e = ap (λ l. record { session = number; place = n; events = events_of keys t.ops } ∷ l) e
+    go true e = ap (λ l. record { session = number; place = n; events = events_of keys t.ops; begun = t.begun; ended = t.ended } ∷ l) e
     go false e = e
 
 nodes_among-append : (keys : List (List ℕ)) (a b : List Placed) → nodes_among keys (a ++ b) ≡ nodes_among keys a ++ nodes_among keys b
@@ -44,7 +44,7 @@ nodes_among-append keys [] b = refl
 nodes_among-append keys (t ∷ a) b = go (is_committed t.2) (nodes_among-append keys a b)
   where
     node : NumberedNode
-    node = record { session = t.0; place = t.1; events = events_of keys t.2.ops }
+    node = record { session = t.0; place = t.1; events = events_of keys t.2.ops; begun = t.2.begun; ended = t.2.ended }
 
     go : (c : Bool) → nodes_among keys (a ++ b) ≡ nodes_among keys a ++ nodes_among keys b
         → cond c (node ∷ nodes_among keys (a ++ b)) (nodes_among keys (a ++ b)) ≡ cond c (node ∷ nodes_among keys a) (nodes_among keys a) ++ nodes_among keys b
@@ -94,7 +94,7 @@ committed_placed keys [] = refl
 committed_placed keys (t ∷ ts) = go (is_committed t.2) (committed_placed keys ts) ∙ sym (sum_by-cons (λ u. cond (is_committed u) 1 0) t.2 (map (λ (p : Placed). p.2) ts))
   where
     node : NumberedNode
-    node = record { session = t.0; place = t.1; events = events_of keys t.2.ops }
+    node = record { session = t.0; place = t.1; events = events_of keys t.2.ops; begun = t.2.begun; ended = t.2.ended }
 
     go : (c : Bool) → length (nodes_among keys ts) ≡ count_by is_committed (map (λ (p : Placed). p.2) ts) → length (cond c (node ∷ nodes_among keys ts) (nodes_among keys ts)) ≡ cond c 1 0 + count_by is_committed (map (λ (p : Placed). p.2) ts)
     go true e = omega (arith, e)
@@ -122,7 +122,7 @@ module _ (keys : List (List ℕ)) (test : List Event → Bool) where
   one_there n v k (t ∷ ts) e = go (is_committed t.2) k e (λ i f. one_there (n + 1) v i ts f) (λ f. one_there n v k ts f) (λ f. none_before (n + 1) v ts (omega (arith, e)) f)
     where
       node : NumberedNode
-      node = record { session = t.0; place = t.1; events = events_of keys t.2.ops }
+      node = record { session = t.0; place = t.1; events = events_of keys t.2.ops; begun = t.2.begun; ended = t.2.ended }
 
       or_none : (b : Bool) → (b || false) ≡ b
       or_none true = refl
@@ -186,7 +186,7 @@ nodes_below keys (t ∷ ts) h = go (is_committed t.2) (events_below keys t.2.ops
     split = let P : List (List ℕ) → Type 0 = λ ks. AllByRecursion (λ k. list_any (bytes_eq k) keys ≡ true) ks in subst P (map-append key_of t.2.ops (flat_map (λ p. p.2.ops) ts)) h
 
     go : (b : Bool) → AllByRecursion (λ e. event_key e < length keys) (events_of keys t.2.ops) → AllByRecursion (λ node. AllByRecursion (λ e. event_key e < length keys) node.events) (nodes_among keys ts)
-        → AllByRecursion (λ node. AllByRecursion (λ e. event_key e < length keys) node.events) (cond b (record { session = t.0; place = t.1; events = events_of keys t.2.ops } ∷ nodes_among keys ts) (nodes_among keys ts))
+        → AllByRecursion (λ node. AllByRecursion (λ e. event_key e < length keys) node.events) (cond b (record { session = t.0; place = t.1; events = events_of keys t.2.ops; begun = t.2.begun; ended = t.2.ended } ∷ nodes_among keys ts) (nodes_among keys ts))
     go true f g = (f, g)
     go false f g = g
 

@@ -1,5 +1,5 @@
 -- Transactions, one after the other.
-use Rattle.std.proofs.Common.{◌≡◌, ℕ, ◌+◌, ◌<◌, Bool, true, false, cond, List, [], ◌∷◌, ◌++◌, length, length-append, map, take, drop, get_or, count_by, refl, sym, ap, subst, ◌∙◌, arith, append_assoc}
+use Rattle.std.proofs.Common.{◌≡◌, ℕ, ◌+◌, ◌<◌, Bool, true, false, cond, List, [], ◌∷◌, ◌++◌, length, length-append, map, Option, take, drop, get_or, count_by, refl, sym, ap, subst, ◌∙◌, arith, append_assoc}
 use Rattle.std.specs.List.{flat_map}
 use Rattle.std.proofs.lemmas.List.{append-nil, map-append, length-map, length-take, drop_more}
 use Rattle.std.proofs.lemmas.Grind.{flat_map-append}
@@ -28,7 +28,7 @@ use Rattle.session_history.proofs.Seen.{seen_append}
 
 pub length-txn_lines : (t : Transaction) → length (txn_lines t) ≡ length t.ops + 2
 length-txn_lines t =
-    let a = length-append (line.Begin ∷ map op_line t.ops) (end_line t.outcome ∷ []) in
+    let a = length-append (line.Begin t.begun ∷ map op_line t.ops) (end_line t.outcome t.ended ∷ []) in
     let b = length-map t.ops op_line in
     omega (arith, a, b)
 
@@ -37,17 +37,17 @@ writes_from-append n [] b = ap (λ m. writes_from m b) (omega arith)
 writes_from-append n (line.Write k w ∷ a) b = ap (λ xs. (n, w) ∷ xs) (writes_from-append (n + 1) a b ∙ ap (λ m. writes_from (n + 1) a ++ writes_from m b) (omega arith))
 writes_from-append n (line.Read k w ∷ a) b = writes_from-append (n + 1) a b ∙ ap (λ m. writes_from (n + 1) a ++ writes_from m b) (omega arith)
 writes_from-append n (line.Session k ∷ a) b = writes_from-append (n + 1) a b ∙ ap (λ m. writes_from (n + 1) a ++ writes_from m b) (omega arith)
-writes_from-append n (line.Begin ∷ a) b = writes_from-append (n + 1) a b ∙ ap (λ m. writes_from (n + 1) a ++ writes_from m b) (omega arith)
-writes_from-append n (line.Commit ∷ a) b = writes_from-append (n + 1) a b ∙ ap (λ m. writes_from (n + 1) a ++ writes_from m b) (omega arith)
+writes_from-append n (line.Begin _ ∷ a) b = writes_from-append (n + 1) a b ∙ ap (λ m. writes_from (n + 1) a ++ writes_from m b) (omega arith)
+writes_from-append n (line.Commit _ ∷ a) b = writes_from-append (n + 1) a b ∙ ap (λ m. writes_from (n + 1) a ++ writes_from m b) (omega arith)
 writes_from-append n (line.Abort ∷ a) b = writes_from-append (n + 1) a b ∙ ap (λ m. writes_from (n + 1) a ++ writes_from m b) (omega arith)
 writes_from-append n (line.Unknown ∷ a) b = writes_from-append (n + 1) a b ∙ ap (λ m. writes_from (n + 1) a ++ writes_from m b) (omega arith)
 
-writes_in_txn : (keys : List (List ℕ)) (n : ℕ) (ops : List Op) (o : Outcome) → writes_from n (map op_line ops ++ end_line o ∷ []) ≡ writes_at n (events_of keys ops)
-writes_in_txn keys n [] Commit = refl
-writes_in_txn keys n [] Abort = refl
-writes_in_txn keys n [] Unknown = refl
-writes_in_txn keys n (Read k w ∷ ops) o = writes_in_txn keys (n + 1) ops o
-writes_in_txn keys n (Write k w ∷ ops) o = ap (λ xs. (n, w) ∷ xs) (writes_in_txn keys (n + 1) ops o)
+writes_in_txn : (keys : List (List ℕ)) (n : ℕ) (ops : List Op) (o : Outcome) (ended : Option ℕ) → writes_from n (map op_line ops ++ end_line o ended ∷ []) ≡ writes_at n (events_of keys ops)
+writes_in_txn keys n [] Commit ended = refl
+writes_in_txn keys n [] Abort ended = refl
+writes_in_txn keys n [] Unknown ended = refl
+writes_in_txn keys n (Read k w ∷ ops) o ended = writes_in_txn keys (n + 1) ops o ended
+writes_in_txn keys n (Write k w ∷ ops) o ended = ap (λ xs. (n, w) ∷ xs) (writes_in_txn keys (n + 1) ops o ended)
 
 -- ---- one transaction
 
@@ -73,17 +73,17 @@ module _ (old new : Transactions) (t : Transaction) (is_taken : Bool) (session p
   seen_one : (before : List (ℕ × ℕ)) → HasSeen before old.writes → HasSeen (before ++ writes_from old.writes.line (txn_lines t)) new.writes
   seen_one before h =
       let P : List (ℕ × ℕ) → Type 0 = λ ls. HasSeen (before ++ ls) new.writes in
-      subst P (ap (writes_at (old.writes.line + 1)) (numbered []) ∙ sym (writes_in_txn (first_seen new.numbers.texts.items []) (old.writes.line + 1) t.ops t.outcome)) (seen_given before h)
+      subst P (ap (writes_at (old.writes.line + 1)) (numbered []) ∙ sym (writes_in_txn (first_seen new.numbers.texts.items []) (old.writes.line + 1) t.ops t.outcome t.ended)) (seen_given before h)
 
   pub takes_committed : (node : Node) (v : ℕ) → is_committed (settle is_taken t) ≡ true → v ≡ length old.nodes.items + 1
-      → new.nodes.items ≡ old.nodes.items ++ node ∷ [] → node_view node ≡ record { session = session; place = place; events = events }
+      → new.nodes.items ≡ old.nodes.items ++ node ∷ [] → node_view node ≡ record { session = session; place = place; events = events; begun = t.begun; ended = t.ended }
       → ((txns : List (ℕ × List Event)) → HasWrites txns old.writes → HasWrites (txns ++ (v, given) ∷ []) new.writes)
       → Takes old new (txn_lines t) ((session, place, settle is_taken t) ∷ [])
   takes_committed node v is number pushed is_view writes = record {
     keys = keys_one;
     nodes = λ more. ap (map node_view) pushed ∙ map-append node_view old.nodes.items (node ∷ [])
-        ∙ ap (λ n. map node_view old.nodes.items ++ n ∷ []) (is_view ∙ ap (λ es. record { session = session; place = place; events = es }) (sym given_is ∙ numbered more))
-        ∙ ap (λ b. map node_view old.nodes.items ++ cond b (record { session = session; place = place; events = events_of (first_seen new.numbers.texts.items more) t.ops } ∷ []) []) (sym is);
+        ∙ ap (λ n. map node_view old.nodes.items ++ n ∷ []) (is_view ∙ ap (λ es. record { session = session; place = place; events = es; begun = t.begun; ended = t.ended }) (sym given_is ∙ numbered more))
+        ∙ ap (λ b. map node_view old.nodes.items ++ cond b (record { session = session; place = place; events = events_of (first_seen new.numbers.texts.items more) t.ops; begun = t.begun; ended = t.ended } ∷ []) []) (sym is);
     line = line_one;
     seen = seen_one;
     writes = λ before more h.
@@ -98,7 +98,7 @@ module _ (old new : Transactions) (t : Transaction) (is_taken : Bool) (session p
   takes_aborted is same writes = record {
     keys = keys_one;
     nodes = λ more. ap (map node_view) same ∙ sym (append-nil (map node_view old.nodes.items))
-        ∙ ap (λ b. map node_view old.nodes.items ++ cond b (record { session = session; place = place; events = events_of (first_seen new.numbers.texts.items more) t.ops } ∷ []) []) (sym is);
+        ∙ ap (λ b. map node_view old.nodes.items ++ cond b (record { session = session; place = place; events = events_of (first_seen new.numbers.texts.items more) t.ops; begun = t.begun; ended = t.ended } ∷ []) []) (sym is);
     line = line_one;
     seen = seen_one;
     writes = λ before more h.
@@ -114,7 +114,7 @@ nodes_among-append keys [] b = refl
 nodes_among-append keys (t ∷ a) b = go (is_committed t.2) (nodes_among-append keys a b)
   where
     node : NumberedNode
-    node = record { session = t.0; place = t.1; events = events_of keys t.2.ops }
+    node = record { session = t.0; place = t.1; events = events_of keys t.2.ops; begun = t.2.begun; ended = t.2.ended }
 
     go : (c : Bool) → nodes_among keys (a ++ b) ≡ nodes_among keys a ++ nodes_among keys b
         → cond c (node ∷ nodes_among keys (a ++ b)) (nodes_among keys (a ++ b)) ≡ cond c (node ∷ nodes_among keys a) (nodes_among keys a) ++ nodes_among keys b
@@ -126,7 +126,7 @@ numbered_from-append n m keys [] b e = ap (λ k. numbered_from k keys b) (omega 
 numbered_from-append n m keys (t ∷ a) b e = go (is_committed t.2) e (numbered_from-append (n + 1) m keys a b) (numbered_from-append n m keys a b)
   where
     node : NumberedNode
-    node = record { session = t.0; place = t.1; events = events_of keys t.2.ops }
+    node = record { session = t.0; place = t.1; events = events_of keys t.2.ops; begun = t.2.begun; ended = t.2.ended }
 
     go : (c : Bool) → m ≡ n + length (cond c (node ∷ nodes_among keys a) (nodes_among keys a))
         → (m ≡ n + 1 + length (nodes_among keys a) → numbered_from (n + 1) keys (a ++ b) ≡ numbered_from (n + 1) keys a ++ numbered_from m keys b)
@@ -217,7 +217,7 @@ count_among keys [] = refl
 count_among keys (t ∷ ts) = go (is_committed t.2) (count_among keys ts) ∙ sym (sum_by-cons (λ u. cond (is_committed u.2) 1 0) t ts)
   where
     node : NumberedNode
-    node = record { session = t.0; place = t.1; events = events_of keys t.2.ops }
+    node = record { session = t.0; place = t.1; events = events_of keys t.2.ops; begun = t.2.begun; ended = t.2.ended }
 
     go : (c : Bool) → length (nodes_among keys ts) ≡ count_by (λ t. is_committed t.2) ts → length (cond c (node ∷ nodes_among keys ts) (nodes_among keys ts)) ≡ cond c 1 0 + count_by (λ t. is_committed t.2) ts
     go true e = omega (arith, e)

@@ -23,7 +23,7 @@ unfolding one_if
 others_counted [] = refl
 others_counted (t ∷ ts) = omega (arith, more (λ u. not (is_aborted u)) t ts, more is_committed t ts, more is_unknown t ts, others_counted ts, own t.outcome)
   where
-    own : (o : Outcome) → let u : Transaction = record { ops = t.ops; outcome = o } in one_if (not (is_aborted u)) ≡ one_if (is_committed u) + one_if (is_unknown u)
+    own : (o : Outcome) → let u : Transaction = record { ops = t.ops; outcome = o; begun = t.begun; ended = t.ended } in one_if (not (is_aborted u)) ≡ one_if (is_committed u) + one_if (is_unknown u)
     own Commit = refl
     own Abort = refl
     own Unknown = refl
@@ -38,7 +38,7 @@ settled_txn : (b : Bool) (t : Transaction) → Between (one_if (is_committed t))
 unfolding one_if
 settled_txn b t = go b t.outcome
   where
-    go : (b : Bool) (o : Outcome) → let u : Transaction = record { ops = t.ops; outcome = o } in Between (one_if (is_committed u)) (one_if (is_committed (settle b u))) (one_if (is_unknown u))
+    go : (b : Bool) (o : Outcome) → let u : Transaction = record { ops = t.ops; outcome = o; begun = t.begun; ended = t.ended } in Between (one_if (is_committed u)) (one_if (is_committed (settle b u))) (one_if (is_unknown u))
     go b Commit = record { least = omega arith; most = omega arith }
     go b Abort = record { least = omega arith; most = omega arith }
     go true Unknown = record { least = omega arith; most = omega arith }

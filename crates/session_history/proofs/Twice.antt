@@ -1,5 +1,5 @@
 -- The first session number that stood before.
-use Rattle.std.proofs.Common.{◌≡◌, ℕ, ◌+◌, ◌<◌, Bool, true, false, ◌||◌, cond, List, [], ◌∷◌, ◌++◌, length, length-append, map, take, drop, get_or, Some, None, refl, sym, ap, ◌∙◌, arith, nat_eq, nat_cmp}
+use Rattle.std.proofs.Common.{◌≡◌, ℕ, ◌+◌, ◌<◌, Bool, true, false, ◌||◌, cond, List, [], ◌∷◌, ◌++◌, length, length-append, map, take, drop, get_or, Option, Some, None, refl, sym, ap, ◌∙◌, arith, nat_eq, nat_cmp}
 use Rattle.std.specs.List.{flat_map, list_any}
 use Rattle.std.specs.BTreeMap.{is_at}
 use Rattle.std.specs.Cmp.{unsigned_ties}
@@ -23,21 +23,21 @@ sessions_from-append n [] b = ap (λ m. sessions_from m b) (omega arith)
 sessions_from-append n (line.Session k ∷ a) b = ap (λ xs. (n, k) ∷ xs) (sessions_from-append (n + 1) a b ∙ ap (λ m. sessions_from (n + 1) a ++ sessions_from m b) (omega arith))
 sessions_from-append n (line.Write k w ∷ a) b = sessions_from-append (n + 1) a b ∙ ap (λ m. sessions_from (n + 1) a ++ sessions_from m b) (omega arith)
 sessions_from-append n (line.Read k w ∷ a) b = sessions_from-append (n + 1) a b ∙ ap (λ m. sessions_from (n + 1) a ++ sessions_from m b) (omega arith)
-sessions_from-append n (line.Begin ∷ a) b = sessions_from-append (n + 1) a b ∙ ap (λ m. sessions_from (n + 1) a ++ sessions_from m b) (omega arith)
-sessions_from-append n (line.Commit ∷ a) b = sessions_from-append (n + 1) a b ∙ ap (λ m. sessions_from (n + 1) a ++ sessions_from m b) (omega arith)
+sessions_from-append n (line.Begin _ ∷ a) b = sessions_from-append (n + 1) a b ∙ ap (λ m. sessions_from (n + 1) a ++ sessions_from m b) (omega arith)
+sessions_from-append n (line.Commit _ ∷ a) b = sessions_from-append (n + 1) a b ∙ ap (λ m. sessions_from (n + 1) a ++ sessions_from m b) (omega arith)
 sessions_from-append n (line.Abort ∷ a) b = sessions_from-append (n + 1) a b ∙ ap (λ m. sessions_from (n + 1) a ++ sessions_from m b) (omega arith)
 sessions_from-append n (line.Unknown ∷ a) b = sessions_from-append (n + 1) a b ∙ ap (λ m. sessions_from (n + 1) a ++ sessions_from m b) (omega arith)
 
-none_in_txn : (n : ℕ) (ops : List Op) (o : Outcome) → sessions_from n (map op_line ops ++ end_line o ∷ []) ≡ []
-none_in_txn n [] Commit = refl
-none_in_txn n [] Abort = refl
-none_in_txn n [] Unknown = refl
-none_in_txn n (Read k w ∷ ops) o = none_in_txn (n + 1) ops o
-none_in_txn n (Write k w ∷ ops) o = none_in_txn (n + 1) ops o
+none_in_txn : (n : ℕ) (ops : List Op) (o : Outcome) (ended : Option ℕ) → sessions_from n (map op_line ops ++ end_line o ended ∷ []) ≡ []
+none_in_txn n [] Commit ended = refl
+none_in_txn n [] Abort ended = refl
+none_in_txn n [] Unknown ended = refl
+none_in_txn n (Read k w ∷ ops) o ended = none_in_txn (n + 1) ops o ended
+none_in_txn n (Write k w ∷ ops) o ended = none_in_txn (n + 1) ops o ended
 
 none_in_txns : (n : ℕ) (ts : List Transaction) → sessions_from n (flat_map txn_lines ts) ≡ []
 none_in_txns n [] = refl
-none_in_txns n (t ∷ ts) = sessions_from-append n (txn_lines t) (flat_map txn_lines ts) ∙ ap (λ xs. xs ++ sessions_from (n + length (txn_lines t)) (flat_map txn_lines ts)) (none_in_txn (n + 1) t.ops t.outcome) ∙ none_in_txns (n + length (txn_lines t)) ts
+none_in_txns n (t ∷ ts) = sessions_from-append n (txn_lines t) (flat_map txn_lines ts) ∙ ap (λ xs. xs ++ sessions_from (n + length (txn_lines t)) (flat_map txn_lines ts)) (none_in_txn (n + 1) t.ops t.outcome t.ended) ∙ none_in_txns (n + length (txn_lines t)) ts
 
 one_in_session : (n : ℕ) (s : ClientSession) → sessions_from n (session_lines s) ≡ (n, s.number) ∷ []
 one_in_session n s = ap (λ xs. (n, s.number) ∷ xs) (none_in_txns (n + 1) s.txns)

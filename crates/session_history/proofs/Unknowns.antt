@@ -53,7 +53,7 @@ each_from_writes P s (Write key wid ∷ ops) h = (h.0, each_from_writes P s ops 
 unknown_is : (t : Transaction) → is_unknown t ≡ true → t.outcome ≡ Unknown
 unknown_is t e = go t.outcome e
   where
-    go : (o : Outcome) → is_unknown (record { ops = t.ops; outcome = o }) ≡ true → o ≡ Unknown
+    go : (o : Outcome) → is_unknown (record { ops = t.ops; outcome = o; begun = t.begun; ended = t.ended }) ≡ true → o ≡ Unknown
     go Commit f = absurd (false≢true f)
     go Abort f = absurd (false≢true f)
     go Unknown f = refl
@@ -67,7 +67,7 @@ each_of_unknown P ss h = each_weaker _ _ (λ s k. each_weaker _ _ (λ t. own s t
     own : (s : ClientSession) (t : Transaction) → AllByRecursion P (writes_in s t) → t.outcome ≡ Unknown → AllByRecursion (EachWrite P s) t.ops
     own s t k e =
         let Q : Bool → Type 0 = λ b. AllByRecursion P (cond b (writes_of s t.ops) []) in
-        each_of_writes P s t.ops (subst Q (ap (λ o. is_unknown (record { ops = t.ops; outcome = o })) e) k)
+        each_of_writes P s t.ops (subst Q (ap (λ o. is_unknown (record { ops = t.ops; outcome = o; begun = t.begun; ended = t.ended })) e) k)
 
 each_from_unknown : (P : WriteAt → Type 0) (ss : List ClientSession) → AllByRecursion (λ s. AllByRecursion (λ t. t.outcome ≡ Unknown → AllByRecursion (EachWrite P s) t.ops) s.txns) ss → AllByRecursion P (unknown_writes ss)
 each_from_unknown P ss h = each_from_flat_map P (λ (s : ClientSession). unknown_writes_of s s.txns) ss (each_weaker _ _ (λ s k. each_from_flat_map P (writes_in s) s.txns (each_weaker _ _ (λ t. own s t) s.txns k)) ss h)

@@ -39,7 +39,7 @@ pub record FindsWrites (log : Log) (t : Writes) : Type 0 where
   pub aborted : (x w : ℕ) → is_write x 0 (entry_of t w) ≡ list_any (writes_as x w) log.aborted
 
 abbrev pub numbered_node : List (List ℕ) → Committed → NumberedNode
-numbered_node keys node = record { session = node.session; place = node.place; events = events_of keys node.ops }
+numbered_node keys node = record { session = node.session; place = node.place; events = events_of keys node.ops; begun = node.begun; ended = node.ended }
 
 abbrev pub sessions_of : Inside → List ClientSession
 sessions_of h = map view h.sessions.items

@@ -1,5 +1,5 @@
 -- What is kept of transactions, one after the other.
-use Rattle.std.specs.Prelude.{◌≡◌, ℕ, ◌+◌, if◌then◌else◌, List, [], ◌∷◌, ◌++◌, length, map, None}
+use Rattle.std.specs.Prelude.{◌≡◌, ℕ, ◌+◌, if◌then◌else◌, List, [], ◌∷◌, ◌++◌, length, map, Option, None}
 use Rattle.std.specs.List.{flat_map}
 use Rattle.std.specs.BTreeSet.{contains}
 use Rattle.std.specs.Ordering.{nat_cmp}
@@ -32,15 +32,18 @@ pub record NumberedNode : Type 0 where
   pub session : ℕ
   pub place : ℕ
   pub events : List Event
+  pub begun : Option ℕ
+  pub ended : Option ℕ
 
 abbrev pub node_view : Node → NumberedNode
-node_view node = record { session = node.session; place = node.place; events = node.events.items }
+node_view node = record { session = node.session; place = node.place; events = node.events.items; begun = node.begun; ended = node.ended }
 
 -- the nodes of these transactions, where the keys have these numbers
 abbrev pub nodes_among : List (List ℕ) → List Placed → List NumberedNode
 nodes_among keys [] = []
 nodes_among keys (t ∷ ts) =
-    if is_committed t.2 then record { session = t.0; place = t.1; events = events_of keys t.2.ops } ∷ nodes_among keys ts
+    if is_committed t.2 then
+    record { session = t.0; place = t.1; events = events_of keys t.2.ops; begun = t.2.begun; ended = t.2.ended } ∷ nodes_among keys ts
     else nodes_among keys ts
 
 -- each transaction's operations with its node, behind so many nodes, or with 0 where it counts as aborted

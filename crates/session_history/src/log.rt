@@ -10,7 +10,7 @@ ghost use Rattle.session_log.specs.Version.{first_line};
 ghost use Rattle.serializability.specs.Polygraph.{source};
 ghost use Rattle.log_definitions.specs.Unknown.{txns_in, ops_in, is_committed, is_unknown, taken, resolved};
 ghost use Rattle.log_definitions.specs.WellFormed.{log_lines, list_fault, keys_in, is_aborted};
-ghost use Rattle.log_definitions.specs.Serial.{committed_in};
+ghost use Rattle.log_definitions.specs.Serial.{committed_in, begun_of, ended_of};
 ghost use Rattle.log_definitions.specs.Numbers.{log_of, IsWellFormedList};
 ghost use Rattle.session_history.specs.Taken.{IsAccepted};
 ghost use Rattle.session_history.specs.Writes.{IsUnwritten, IsWrite};
@@ -222,6 +222,20 @@ impl History {
             Some(node) => node.session,
             None => 0,
         }
+    }
+
+    /// The moment at which a node began, where the log states it.
+    pub fn begun_of(&self, node: NodeIx) -> Option<u64>
+        ensures moment { result ≡ begun_of self.now node }
+    {
+        self.node(node)?.begun
+    }
+
+    /// The moment at which a node ended, where the log states it.
+    pub fn ended_of(&self, node: NodeIx) -> Option<u64>
+        ensures moment { result ≡ ended_of self.now node }
+    {
+        self.node(node)?.ended
     }
 
     /// The node of the transaction at this place of a session, where it is committed or taken.

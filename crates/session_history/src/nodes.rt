@@ -15,12 +15,14 @@ use session_log::{Outcome, Session, Txn};
 use std::alloc::{AllocError, Global};
 use std::collections::BTreeSet;
 
-/// A committed or taken transaction: the number of its session, its place in the session from 1, and its operations.
+/// A committed or taken transaction: the number of its session, its place in the session from 1, its operations, and its moments.
 #[derive(Debug, Drop)]
 pub struct Node {
     pub session: u16,
     pub place: usize,
     pub events: Vec<Event>,
+    pub begun: Option<u64>,
+    pub ended: Option<u64>,
 }
 
 /// The node with this number.
@@ -104,6 +106,8 @@ impl Transactions {
             session,
             place,
             events,
+            begun: txn.begun,
+            ended: txn.ended,
         })?;
         Ok(())
     }

@@ -1,9 +1,10 @@
 -- The start and the end of a block's lines.
-use Rattle.std.proofs.Common.{◌≡◌, ◌⊎◌, inl, inr, ℕ, List, [], ◌∷◌, ◌++◌, length, map, Option, Some, None, refl, sym, ap, ◌∙◌, subst, arith}
+use Rattle.std.proofs.Common.{◌≡◌, ◌⊎◌, inl, inr, ℕ, false, List, [], ◌∷◌, ◌++◌, length, map, Option, Some, None, refl, sym, ap, ◌∙◌, subst, arith}
 use Rattle.std.specs.List.{flat_map, AllByRecursion}
 use Rattle.std.proofs.lemmas.List.{append-nil}
 use Rattle.session_log.specs.Lines.{lines}
-use Rattle.session_log.specs.Text.{line_text, text_of_lines, txn_lines, session_text, view_txn, Transaction, IsLegalTxn, IsKnown, IsKnownBeforeLast, IsHeldBy}
+use Rattle.session_log.specs.Text.{line_text, text_of_lines, txn_lines, session_text, view_txn, Transaction, IsLegalTxn, IsKnown, IsKnownBeforeLast, HasNoMoments, IsHeldBy}
+use Rattle.session_log.specs.Version.{has_moments}
 use Rattle.session_log.specs.Faults.{first_fault, fault_at_end}
 use Rattle.session_log.specs.Reading.{place_at, place_of, lines_of, open_lines, IsLegalReading, IsLegalOpen, AreEnded}
 use Rattle.session_log.specs.declared.line.Line.TheVariants as line
@@ -12,7 +13,7 @@ use Rattle.session_log.specs.declared.fault.LogFault.TheVariants as faults
 use Rattle.session_log.specs.declared.parse.OpenTxn.{OpenTxn}
 use Rattle.session_log.specs.declared.parse.Progress.TheVariants as progress
 use Rattle.session_log.specs.declared.parse.Progress.{Progress}
-use Rattle.session_log.specs.declared.version.Version.TheVariants.{One, Two}
+use Rattle.session_log.specs.declared.version.Version.TheVariants.{One, Two, Three}
 use Rattle.session_log.specs.declared.version.Version.{Version}
 use Rattle.session_log.specs.declared.parse.Reading.{Reading}
 use Rattle.session_log.proofs.Steps.{fault_end}
@@ -31,8 +32,9 @@ pub start_legal : (v : Version) (r : Reading) → r.txns.items ≡ [] → r.prog
 start_legal v r a b =
     record {
       txns = subst (λ ts. AllByRecursion IsLegalTxn (map view_txn ts)) (sym a) tt;
-      current = subst IsLegalOpen (sym b) tt;
+      current = subst (IsLegalOpen v) (sym b) tt;
       ended = none_ended v r.progress (map view_txn r.txns.items) b (ap (map view_txn) a);
+      moments = λ without. subst (λ ts. AllByRecursion HasNoMoments (map view_txn ts)) (sym a) tt;
     }
 
 pub end_fault : (v : Version) (n : ℕ) (r : Reading) (t : OpenTxn) (rest : List ℕ) (whole : Option LogFault) → whole ≡ first_fault v n (place_of r) (lines rest) → 0 ≡ length rest → r.progress ≡ progress.Inside t → whole ≡ Some (faults.OpenTransaction t.line)
@@ -65,14 +67,15 @@ ended_before v progress.Over ts c h = h.0
 pub end_known : (v : Version) (r : Reading) → IsClosed r.progress → IsLegalReading v r → IsKnownBeforeLast (map view_txn r.txns.items)
 end_known v r c h = ended_before v r.progress (map view_txn r.txns.items) c h.ended
 
-ended_held : (v : Version) (p : Progress) (k : ℕ) (ts : List Transaction) → IsClosed p → AreEnded v p ts → IsHeldBy v (record { number = k; txns = ts })
-ended_held Two p k ts c h = tt
-ended_held One progress.Between k ts c h = h
-ended_held One (progress.Inside t) k ts c h = absurd c
-ended_held One progress.Over k ts c h = absurd (cc h.1)
+ended_held : (v : Version) (p : Progress) (k : ℕ) (ts : List Transaction) → IsClosed p → AreEnded v p ts → (has_moments v ≡ false → AllByRecursion HasNoMoments ts) → IsHeldBy v (record { number = k; txns = ts })
+ended_held Three p k ts c h m = tt
+ended_held Two p k ts c h m = m refl
+ended_held One progress.Between k ts c h m = (h, m refl)
+ended_held One (progress.Inside t) k ts c h m = absurd c
+ended_held One progress.Over k ts c h m = absurd (cc h.1)
 
 pub end_held : (v : Version) (r : Reading) (k : ℕ) → IsClosed r.progress → IsLegalReading v r → IsHeldBy v (record { number = k; txns = map view_txn r.txns.items })
-end_held v r k c h = ended_held v r.progress k (map view_txn r.txns.items) c h.ended
+end_held v r k c h = ended_held v r.progress k (map view_txn r.txns.items) c h.ended h.moments
 
 no_rest : (rest : List ℕ) → 0 ≡ length rest → rest ≡ []
 no_rest [] e = refl

@@ -14,7 +14,7 @@ use Rattle.std.proofs.lemmas.Bool.{le-ltb, lt-ltb}
 use Rattle.session_log.specs.declared.block.Block.{Block}
 use Rattle.session_log.specs.Version.{header_text, first_line, version_of, body_of}
 use Rattle.session_log.specs.declared.version.Version.{Version}
-use Rattle.session_log.specs.declared.version.Version.TheVariants.{One, Two}
+use Rattle.session_log.specs.declared.version.Version.TheVariants.{One, Two, Three}
 use Rattle.session_log.proofs.Lines.{lines-nil, lines_line}
 use Rattle.session_log.proofs.Versions.{header_lines}
 
@@ -127,6 +127,7 @@ other_counted n m l ls rest h e i =
 header_counted : (v : Version) → count_by is_session_line (lines (header_text v)) ≡ 0
 header_counted One = ap (count_by is_session_line) lines-nil
 header_counted Two = ap (count_by is_session_line) (lines_line (codes "log 2") [] refl ∙ ap (λ ls. (codes "log 2", true) ∷ ls) lines-nil)
+header_counted Three = ap (count_by is_session_line) (lines_line (codes "log 3") [] refl ∙ ap (λ ls. (codes "log 3", true) ∷ ls) lines-nil)
 
 pub counted_behind : (text body : List ℕ) → body ≡ body_of text → count_by is_session_line (lines text) ≡ count_by is_session_line (lines body)
 counted_behind text body b =

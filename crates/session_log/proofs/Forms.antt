@@ -5,7 +5,7 @@ use Rattle.std.specs.Char.{is_ascii_digit}
 use Rattle.std.specs.Fmt.{decimal}
 use Rattle.std.specs.Str.{bytes_eq}
 use Rattle.std.specs.Str.Parse.{digits_value}
-use Rattle.std.proofs.lemmas.Bool.{ltb-true, leb-true, le-leb, lt-ltb, eqb-true, eq-eqb, and_parts, and_from, or_cases, or_left, or_right, not-true, not_from_false, ne_eqb, cond-true}
+use Rattle.std.proofs.lemmas.Bool.{ltb-true, leb-true, le-leb, lt-ltb, eqb-true, eq-eqb, and_parts, and_from, or_cases, or_left, or_right, not-true, not_from_false, ne_eqb, cond-true, false≢true}
 use Rattle.std.proofs.lemmas.Bool.Decides.{Decides-eqb}
 use Rattle.std.proofs.lemmas.Option.{cond_some, option_and_then_some}
 use Rattle.std.proofs.lemmas.Slice.Eq.{bytes_eq-Decides, starts_is}
@@ -19,7 +19,8 @@ use Rattle.session_log.specs.Text.{line_text, IsLegalLine}
 use Rattle.session_log.specs.declared.line.Line.{Line}
 use Rattle.session_log.specs.declared.line.Line.TheVariants as line
 use Rattle.session_log.specs.declared.version.Version.{Version}
-use Rattle.session_log.specs.Version.{has_unknown_line}
+use Rattle.session_log.specs.declared.version.Version.TheVariants.{One, Two, Three}
+use Rattle.session_log.specs.Version.{has_unknown_line, has_moments}
 
 -- numbers
 
@@ -185,28 +186,74 @@ word_or v body word f g rest text legal go e =
     elim (chosen (bytes_eq body word) (Some g) rest (Some f) e)
     [ inl h ↦ word_sound v body word f g h.0 h.1 text legal | inr h ↦ go h.1 ]
 
--- the line that one version has
-unknown_sound : (v : Version) (body : List ℕ) (f : Line) → cond (has_unknown_line v && bytes_eq body (codes "unknown")) (Some line.Unknown) None ≡ Some f → Sound v body f
+-- the lines that not each version has
+unknown_sound : (v : Version) (body : List ℕ) (f : Line) (rest : Option Line) → (rest ≡ Some f → Sound v body f) → cond (has_unknown_line v && bytes_eq body (codes "unknown")) (Some line.Unknown) rest ≡ Some f → Sound v body f
 unfolding line_text
-unknown_sound v body f e =
-    let found = cond_some (has_unknown_line v && bytes_eq body (codes "unknown")) line.Unknown f e in
-    let parts = and_parts (has_unknown_line v) (bytes_eq body (codes "unknown")) found.0 in
-    word_sound v body (codes "unknown") f line.Unknown parts.1 (ap (λ x. Some x) found.1) refl parts.0
+unknown_sound v body f rest go e =
+    elim (chosen (has_unknown_line v && bytes_eq body (codes "unknown")) (Some line.Unknown) rest (Some f) e) [
+      | inl h ↦ let parts = and_parts (has_unknown_line v) (bytes_eq body (codes "unknown")) h.0 in
+          word_sound v body (codes "unknown") f line.Unknown parts.1 h.1 refl parts.0
+      | inr h ↦ go h.1
+    ]
+
+-- a word with a moment behind it, which `with_moment` makes a line of
+moment_sound : (v : Version) (body word : List ℕ) (with_moment : ℕ → Line) (f : Line) → ((m : ℕ) → line_text (with_moment m) ≡ word ++ decimal m)
+    → ((m : ℕ) → m < 2 ^ 64 → has_moments v ≡ true → IsLegalLine v (with_moment m))
+    → (has_moments v && starts_with nat_eq body word) ≡ true → option_and_then (λ m. Some (with_moment m)) (number_of (drop (length word) body)) ≡ Some f → Sound v body f
+moment_sound v body word with_moment f text legal b e =
+    let parts = and_parts (has_moments v) (starts_with nat_eq body word) b in
+    let split = (starts_is Decides-eqb body word (starts_with nat_eq body word) refl).0 parts.1 in
+    option_and_then_some (λ m. Some (with_moment m)) (number_of (drop (length word) body)) f e
+    (λ m got last.
+    let s = number_sound (drop (length word) body) m got in
+    subst (Sound v body) (some_of (with_moment m) f last) (split ∙ (ap (λ w. word ++ w) s.0 ∙ sym (text m)), legal m s.1 parts.0))
+
+begin_text : (m : ℕ) → line_text (line.Begin (Some m)) ≡ codes "begin " ++ decimal m
+unfolding line_text
+begin_text m = refl
+
+commit_text : (m : ℕ) → line_text (line.Commit (Some m)) ≡ codes "commit " ++ decimal m
+unfolding line_text
+commit_text m = refl
+
+begin_sound : (v : Version) (body : List ℕ) (f : Line) (rest : Option Line) → (rest ≡ Some f → Sound v body f) → cond (has_moments v && starts_with nat_eq body (codes "begin ")) (option_and_then (λ m. Some (line.Begin (Some m))) (number_of (drop 6 body))) rest ≡ Some f → Sound v body f
+begin_sound v body f rest go e =
+    elim (chosen (has_moments v && starts_with nat_eq body (codes "begin ")) (option_and_then (λ m. Some (line.Begin (Some m))) (number_of (drop 6 body))) rest (Some f) e)
+    [ inl h ↦ moment_sound v body (codes "begin ") (λ m. line.Begin (Some m)) f begin_text (λ m small has. (small, has)) h.0 h.1 | inr h ↦ go h.1 ]
+
+commit_sound : (v : Version) (body : List ℕ) (f : Line) → cond (has_moments v && starts_with nat_eq body (codes "commit ")) (option_and_then (λ m. Some (line.Commit (Some m))) (number_of (drop 7 body))) None ≡ Some f → Sound v body f
+commit_sound v body f e =
+    elim (chosen (has_moments v && starts_with nat_eq body (codes "commit ")) (option_and_then (λ m. Some (line.Commit (Some m))) (number_of (drop 7 body))) None (Some f) e)
+    [ inl h ↦ moment_sound v body (codes "commit ") (λ m. line.Commit (Some m)) f commit_text (λ m small has. (small, has)) h.0 h.1 | inr h ↦ cc h.1 ]
 
 pub form_sound : (v : Version) (body : List ℕ) (f : Line) → form_of v body ≡ Some f → (body ≡ line_text f) × IsLegalLine v f
 unfolding form_of line_text
 form_sound v body f e =
-    word_or v body (codes "begin") f line.Begin _ refl tt
-    (word_or v body (codes "commit") f line.Commit _ refl tt
+    word_or v body (codes "begin") f (line.Begin None) _ refl tt
+    (word_or v body (codes "commit") f (line.Commit None) _ refl tt
     (word_or v body (codes "abort") f line.Abort _ refl tt
-    (s_sound v body f _ (r_sound v body f _ (w_sound v body f _ (unknown_sound v body f)))))) e
+    (s_sound v body f _ (r_sound v body f _ (w_sound v body f _ (unknown_sound v body f _ (begin_sound v body f _ (commit_sound v body f)))))))) e
+
+begin_complete : (v : Version) (m : ℕ) → m < 2 ^ 64 → has_moments v ≡ true → form_of v (line_text (line.Begin (Some m))) ≡ Some (line.Begin (Some m))
+unfolding form_of line_text
+begin_complete One m h has = absurd (false≢true has)
+begin_complete Two m h has = absurd (false≢true has)
+begin_complete Three m h has = rw (number_complete m h) refl
+
+commit_complete : (v : Version) (m : ℕ) → m < 2 ^ 64 → has_moments v ≡ true → form_of v (line_text (line.Commit (Some m))) ≡ Some (line.Commit (Some m))
+unfolding form_of line_text
+commit_complete One m h has = absurd (false≢true has)
+commit_complete Two m h has = absurd (false≢true has)
+commit_complete Three m h has = rw (number_complete m h) refl
 
 pub form_complete : (v : Version) (f : Line) → IsLegalLine v f → form_of v (line_text f) ≡ Some f
 unfolding form_of line_text
 form_complete v (line.Session n) h = session_complete n h.0 h.1
-form_complete v line.Begin h = refl
+form_complete v (line.Begin None) h = refl
+form_complete v (line.Begin (Some m)) h = begin_complete v m h.0 h.1
 form_complete v (line.Read k n) h = rw (keyed_complete k n h.0 h.1) refl
 form_complete v (line.Write k n) h = rw (keyed_complete k n h.0 h.1) refl
-form_complete v line.Commit h = refl
+form_complete v (line.Commit None) h = refl
+form_complete v (line.Commit (Some m)) h = commit_complete v m h.0 h.1
 form_complete v line.Abort h = refl
 form_complete v line.Unknown h = rw h refl

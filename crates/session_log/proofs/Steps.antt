@@ -26,7 +26,7 @@ pub step_body : (v : Version) (n : ℕ) (p : Place) (l : List ℕ × Bool) → i
 unfolding step
 step_body v n Start l h = refl
 step_body v n Between l h = refl
-step_body v n (Inside b) l h = rw h refl
+step_body v n (Inside b begun) l h = rw h refl
 step_body v n Over l h = refl
 
 -- a form that is not a session's, of a line that does not begin as one
@@ -36,10 +36,10 @@ session_starts k body e = rw e refl
 
 form_body : (v : Version) (body : List ℕ) (f : Line) → starts_with nat_eq body (codes "session") ≡ false → body ≡ line_text f → IsBodyLine f
 form_body v body (line.Session k) h e = absurd (cc (session_starts k body e))
-form_body v body line.Begin h e = tt
+form_body v body (line.Begin m) h e = tt
 form_body v body (line.Read k n) h e = tt
 form_body v body (line.Write k n) h e = tt
-form_body v body line.Commit h e = tt
+form_body v body (line.Commit m) h e = tt
 form_body v body line.Abort h e = tt
 form_body v body line.Unknown h e = tt
 
@@ -68,6 +68,7 @@ fault_stop v n p l ls rest (faults.OpenTransaction k) e h = stops v n p l ls res
 fault_stop v n p l ls rest (faults.WriteZero k) e h = stops v n p l ls rest (faults.WriteZero k) e h
 fault_stop v n p l ls rest (faults.WriteTwice k) e h = stops v n p l ls rest (faults.WriteTwice k) e h
 fault_stop v n p l ls rest (faults.UnknownNotLast k) e h = stops v n p l ls rest (faults.UnknownNotLast k) e h
+fault_stop v n p l ls rest (faults.EndsBeforeBegin k) e h = stops v n p l ls rest (faults.EndsBeforeBegin k) e h
 fault_stop v n p l ls rest (faults.OverLimit k) e h = stops v n p l ls rest (faults.OverLimit k) e h
 
 pub same_fault : (f : LogFault) (a b : Option LogFault) → a ≡ b → IsFault f b → IsFault f a
@@ -79,6 +80,7 @@ same_fault (faults.OpenTransaction k) a b e h = e ∙ h
 same_fault (faults.WriteZero k) a b e h = e ∙ h
 same_fault (faults.WriteTwice k) a b e h = e ∙ h
 same_fault (faults.UnknownNotLast k) a b e h = e ∙ h
+same_fault (faults.EndsBeforeBegin k) a b e h = e ∙ h
 same_fault (faults.OverLimit k) a b e h = e ∙ h
 
 -- a block is not empty

@@ -58,10 +58,10 @@ block_version text b h =
 other_starts : (body : List ℕ) (f : Line) → body ≡ line_text f → starts_with nat_eq body (codes "session") ≡ true → (k : ℕ) × (f ≡ line.Session k)
 unfolding line_text
 other_starts body (line.Session k) e h = (k, refl)
-other_starts body line.Begin e h = absurd (let x = rw e at h in cc)
+other_starts body (line.Begin m) e h = absurd (let x = rw e at h in cc)
 other_starts body (line.Read k n) e h = absurd (let x = rw e at h in cc)
 other_starts body (line.Write k n) e h = absurd (let x = rw e at h in cc)
-other_starts body line.Commit e h = absurd (let x = rw e at h in cc)
+other_starts body (line.Commit m) e h = absurd (let x = rw e at h in cc)
 other_starts body line.Abort e h = absurd (let x = rw e at h in cc)
 other_starts body line.Unknown e h = absurd (let x = rw e at h in cc)
 
@@ -74,7 +74,7 @@ IsBetween _ = ⊥
 same_session : (n k : ℕ) (p : Place) → IsBetween p → after_form n p (Some (line.Session k)) ≡ after_form n Start (Some (line.Session k))
 same_session n k Start i = absurd i
 same_session n k Between i = refl
-same_session n k (Inside b) i = absurd i
+same_session n k (Inside b begun) i = absurd i
 same_session n k Over i = refl
 
 same_after : (v : Version) (n : ℕ) (p : Place) (body : List ℕ) (o : Option Line) → IsBetween p → form_of v body ≡ o → starts_with nat_eq body (codes "session") ≡ true → after_form n p o ≡ after_form n Start o
@@ -86,7 +86,7 @@ same_after v n p body (Some f) i e h =
 same_step : (v : Version) (n : ℕ) (p : Place) (l : List ℕ × Bool) → IsBetween p → is_session_line l ≡ true → step v n p l ≡ step v n Start l
 unfolding step
 same_step v n Start l i h = absurd i
-same_step v n (Inside b) l i h = absurd i
+same_step v n (Inside b begun) l i h = absurd i
 same_step v n Between (body, true) i h = same_after v n Between body (form_of v body) i refl h
 same_step v n Between (body, false) i h = refl
 same_step v n Over (body, true) i h = same_after v n Over body (form_of v body) i refl h
@@ -97,12 +97,12 @@ at_block : (v : Version) (n m : ℕ) (p : Place) (rest : List (List ℕ × Bool)
 unfolding step
 at_block v n m Start [] e h = refl
 at_block v n m Between [] e h = refl
-at_block v n m (Inside b) [] e h = refl
+at_block v n m (Inside b begun) [] e h = refl
 at_block v n m Over [] e h = refl
 at_block v n m Start (l ∷ ls) e h = ap (λ k. first_fault v k Start (l ∷ ls)) e
 at_block v n m Between (l ∷ ls) e h = ap (λ r. going_on r (λ q. first_fault v (n + 1) q ls)) (same_step v n Between l tt h) ∙ ap (λ k. first_fault v k Start (l ∷ ls)) e
 at_block v n m Over (l ∷ ls) e h = ap (λ r. going_on r (λ q. first_fault v (n + 1) q ls)) (same_step v n Over l tt h) ∙ ap (λ k. first_fault v k Start (l ∷ ls)) e
-at_block v n m (Inside b) (l ∷ ls) e h = rw h refl
+at_block v n m (Inside b begun) (l ∷ ls) e h = rw h refl
 
 -- the faults of the blocks, the first of which begins with line n
 abbrev later : Version → ℕ → List (List (List ℕ × Bool)) → Option LogFault

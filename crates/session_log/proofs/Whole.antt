@@ -1,5 +1,5 @@
 -- A legal list of sessions is accepted, and no other has its text.
-use Rattle.std.proofs.Common.{◌≡◌, ◌≢◌, ℕ, zero, suc, ◌+◌, ◌<◌, ◌^◌, Bool, true, false, not, List, [], ◌∷◌, ◌++◌, map, None, Ok, refl, sym, ap, ◌∙◌, subst, arith, append_assoc, ◌==◌}
+use Rattle.std.proofs.Common.{◌≡◌, ◌≢◌, ℕ, zero, suc, ◌+◌, ◌<◌, ◌^◌, Bool, true, false, not, List, [], ◌∷◌, ◌++◌, map, Option, None, Some, Ok, refl, sym, ap, ◌∙◌, subst, arith, append_assoc, ◌==◌}
 use Rattle.std.specs.Char.{is_ascii_digit}
 use Rattle.std.specs.Fmt.{decimal}
 use Rattle.std.specs.List.{flat_map, AllByRecursion, list_all}
@@ -10,7 +10,8 @@ use Rattle.std.proofs.lemmas.List.Folds.{list_all-append}
 use Rattle.std.proofs.lemmas.Fmt.{digits_decimal}
 use Rattle.session_log.specs.Key.{is_key_byte, IsKey}
 use Rattle.session_log.specs.Lines.{lines}
-use Rattle.session_log.specs.Text.{ClientSession, Transaction, line_text, text_of_lines, op_line, end_line, txn_lines, session_lines, session_text, log_text, IsLegal, IsLegalLine, IsLegalTxn, IsLegalOp, IsKnown, IsKnownBeforeLast, IsHeldBy, is_unknown}
+use Rattle.session_log.specs.Moments.{is_earlier, IsMoment}
+use Rattle.session_log.specs.Text.{ClientSession, Transaction, line_text, text_of_lines, op_line, end_line, txn_lines, session_lines, session_text, log_text, IsLegal, IsLegalLine, IsLegalMoment, IsLegalTxn, IsLegalOp, IsTold, IsKnown, IsKnownBeforeLast, HasNoMoments, IsHeldBy, is_unknown}
 use Rattle.session_log.specs.Faults.{Place, Start, Between, Inside, Over, first_fault, grammar_fault, step, after, after_form, form_at, is_session_line}
 use Rattle.session_log.specs.declared.line.Line.{Line}
 use Rattle.session_log.specs.declared.line.Line.TheVariants as line
@@ -20,7 +21,7 @@ use Rattle.session_log.specs.declared.session.Outcome.{Outcome}
 use Rattle.session_log.specs.declared.session.Outcome.TheVariants.{Commit, Abort, Unknown}
 use Rattle.session_log.specs.Version.{header_text, first_line, version_of, body_of, has_unknown_line}
 use Rattle.session_log.specs.declared.version.Version.{Version}
-use Rattle.session_log.specs.declared.version.Version.TheVariants.{One, Two}
+use Rattle.session_log.specs.declared.version.Version.TheVariants.{One, Two, Three}
 use Rattle.std.specs.Option.{option_map_or}
 use Rattle.session_log.proofs.Lines.{lines-nil, is_other, lines_line}
 use Rattle.session_log.proofs.Versions.{version_of_log, body_of_log}
@@ -57,27 +58,29 @@ both_other xs ys a b = list_all-append is_other xs ys ∙ and_from (list_all is_
 keyed_other : (k : List ℕ) (n : ℕ) → IsKey k → n < 2 ^ 64 → list_all is_other (k ++ 32 ∷ decimal n) ≡ true
 keyed_other k n h fits = both_other k (32 ∷ decimal n) (weaker is_key_byte is_other key_other k (and_parts _ (list_all is_key_byte k) h).1) (decimal_other n fits)
 
-line_other : (f : Line) → IsLegalLine Two f → list_all is_other (line_text f) ≡ true
+line_other : (f : Line) → IsLegalLine Three f → list_all is_other (line_text f) ≡ true
 unfolding line_text
 line_other (line.Session n) h = decimal_other n (omega (arith, h.1))
-line_other line.Begin h = refl
+line_other (line.Begin None) h = refl
+line_other (line.Begin (Some m)) h = decimal_other m h.0
 line_other (line.Read k n) h = keyed_other k n h.0 h.1
 line_other (line.Write k n) h = keyed_other k n h.0 h.1
-line_other line.Commit h = refl
+line_other (line.Commit None) h = refl
+line_other (line.Commit (Some m)) h = decimal_other m h.0
 line_other line.Abort h = refl
 line_other line.Unknown h = refl
 
 abbrev stands : Line → List ℕ × Bool
 stands f = (line_text f, true)
 
-lines_text : (fs : List Line) → AllByRecursion (IsLegalLine Two) fs → lines (text_of_lines fs) ≡ map stands fs
+lines_text : (fs : List Line) → AllByRecursion (IsLegalLine Three) fs → lines (text_of_lines fs) ≡ map stands fs
 lines_text [] h = lines-nil
 lines_text (f ∷ fs) h =
     ap lines (append_assoc (line_text f) (10 ∷ []) (text_of_lines fs)) ∙ (lines_line (line_text f) (text_of_lines fs) (line_other f h.0) ∙ ap (λ ls. stands f ∷ ls) (lines_text fs h.1))
 
 -- the lines of a legal list of sessions
 
-legal_append : (fs gs : List Line) → AllByRecursion (IsLegalLine Two) fs → AllByRecursion (IsLegalLine Two) gs → AllByRecursion (IsLegalLine Two) (fs ++ gs)
+legal_append : (fs gs : List Line) → AllByRecursion (IsLegalLine Three) fs → AllByRecursion (IsLegalLine Three) gs → AllByRecursion (IsLegalLine Three) (fs ++ gs)
 legal_append [] gs a b = b
 legal_append (f ∷ fs) gs a b = (a.0, legal_append fs gs a.1 b)
 
@@ -85,26 +88,30 @@ legal_op : (v : Version) (o : Op) → IsLegalOp o → IsLegalLine v (op_line o)
 legal_op v (Read k n) h = h
 legal_op v (Write k n) h = (h.0, h.2)
 
-legal_ops : (os : List Op) → AllByRecursion IsLegalOp os → AllByRecursion (IsLegalLine Two) (map op_line os)
+legal_ops : (os : List Op) → AllByRecursion IsLegalOp os → AllByRecursion (IsLegalLine Three) (map op_line os)
 legal_ops [] h = tt
-legal_ops (o ∷ os) h = (legal_op Two o h.0, legal_ops os h.1)
+legal_ops (o ∷ os) h = (legal_op Three o h.0, legal_ops os h.1)
 
-legal_end : (o : Outcome) → AllByRecursion (IsLegalLine Two) (end_line o ∷ [])
-legal_end Commit = (tt, tt)
-legal_end Abort = (tt, tt)
-legal_end Unknown = (refl, tt)
+stated : (moment : Option ℕ) → IsMoment moment → IsLegalMoment Three moment
+stated None h = tt
+stated (Some m) h = (h, refl)
 
-legal_txn : (t : Transaction) → IsLegalTxn t → AllByRecursion (IsLegalLine Two) (txn_lines t)
-legal_txn t h = legal_append (line.Begin ∷ map op_line t.ops) (end_line t.outcome ∷ []) (tt, legal_ops t.ops h) (legal_end t.outcome)
+end_stated : (o : Outcome) (ended : Option ℕ) → IsMoment ended → IsLegalLine Three (end_line o ended)
+end_stated Commit ended h = stated ended h
+end_stated Abort ended h = tt
+end_stated Unknown ended h = refl
 
-legal_txns : (ts : List Transaction) → AllByRecursion IsLegalTxn ts → AllByRecursion (IsLegalLine Two) (flat_map txn_lines ts)
+legal_txn : (t : Transaction) → IsLegalTxn t → AllByRecursion (IsLegalLine Three) (txn_lines t)
+legal_txn t h = legal_append (line.Begin t.begun ∷ map op_line t.ops) (end_line t.outcome t.ended ∷ []) (stated t.begun h.begun, legal_ops t.ops h.ops) (end_stated t.outcome t.ended h.ended, tt)
+
+legal_txns : (ts : List Transaction) → AllByRecursion IsLegalTxn ts → AllByRecursion (IsLegalLine Three) (flat_map txn_lines ts)
 legal_txns [] h = tt
 legal_txns (t ∷ ts) h = legal_append (txn_lines t) (flat_map txn_lines ts) (legal_txn t h.0) (legal_txns ts h.1)
 
-legal_session : (s : ClientSession) → IsLegal s → AllByRecursion (IsLegalLine Two) (session_lines s)
+legal_session : (s : ClientSession) → IsLegal s → AllByRecursion (IsLegalLine Three) (session_lines s)
 legal_session s h = ((h.low, h.high), legal_txns s.txns h.txns)
 
-legal_sessions : (ss : List ClientSession) → AllByRecursion IsLegal ss → AllByRecursion (IsLegalLine Two) (flat_map session_lines ss)
+legal_sessions : (ss : List ClientSession) → AllByRecursion IsLegal ss → AllByRecursion (IsLegalLine Three) (flat_map session_lines ss)
 legal_sessions [] h = tt
 legal_sessions (s ∷ ss) h = legal_append (session_lines s) (flat_map session_lines ss) (legal_session s h.0) (legal_sessions ss h.1)
 
@@ -124,39 +131,52 @@ lines_log v ss h = ap lines (body_of_log v ss ∙ texts_by_lines ss) ∙ lines_t
 
 abbrev add_op : Op → List Transaction → List Transaction
 add_op o [] = []
-add_op o (t ∷ ts) = record { ops = o ∷ t.ops; outcome = t.outcome } ∷ ts
+add_op o (t ∷ ts) = record { ops = o ∷ t.ops; outcome = t.outcome; begun = t.begun; ended = t.ended } ∷ ts
+
+abbrev add_begin : Option ℕ → List Transaction → List Transaction
+add_begin begun [] = []
+add_begin begun (t ∷ ts) = record { ops = t.ops; outcome = t.outcome; begun = begun; ended = t.ended } ∷ ts
+
+abbrev ended_so : Outcome → Option ℕ → Transaction
+ended_so outcome ended = record { ops = []; outcome = outcome; begun = None; ended = ended }
 
 abbrev add_line : Line → List Transaction × List ClientSession → List Transaction × List ClientSession
 add_line (line.Session n) r = ([], record { number = n; txns = r.0 } ∷ r.1)
-add_line line.Begin r = r
+add_line (line.Begin begun) r = (add_begin begun r.0, r.1)
 add_line (line.Read k n) r = (add_op (Read k n) r.0, r.1)
 add_line (line.Write k n) r = (add_op (Write k n) r.0, r.1)
-add_line line.Commit r = (record { ops = []; outcome = Commit } ∷ r.0, r.1)
-add_line line.Abort r = (record { ops = []; outcome = Abort } ∷ r.0, r.1)
-add_line line.Unknown r = (record { ops = []; outcome = Unknown } ∷ r.0, r.1)
+add_line (line.Commit ended) r = (ended_so Commit ended ∷ r.0, r.1)
+add_line line.Abort r = (ended_so Abort None ∷ r.0, r.1)
+add_line line.Unknown r = (ended_so Unknown None ∷ r.0, r.1)
 
 abbrev read_back : List (List ℕ × Bool) → List Transaction × List ClientSession
 read_back [] = ([], [])
-read_back (l ∷ ls) = option_map_or (λ f. add_line f (read_back ls)) (form_at Two l) (read_back ls)
+read_back (l ∷ ls) = option_map_or (λ f. add_line f (read_back ls)) (form_at Three l) (read_back ls)
 
-read_line : (f : Line) (ls : List (List ℕ × Bool)) → IsLegalLine Two f → read_back (stands f ∷ ls) ≡ add_line f (read_back ls)
-read_line f ls h = ap (λ o. option_map_or (λ f. add_line f (read_back ls)) o (read_back ls)) (form_complete Two f h)
+read_line : (f : Line) (ls : List (List ℕ × Bool)) → IsLegalLine Three f → read_back (stands f ∷ ls) ≡ add_line f (read_back ls)
+read_line f ls h = ap (λ o. option_map_or (λ f. add_line f (read_back ls)) o (read_back ls)) (form_complete Three f h)
 
 read_op : (o : Op) (ls : List (List ℕ × Bool)) → IsLegalOp o → read_back (stands (op_line o) ∷ ls) ≡ (add_op o (read_back ls).0, (read_back ls).1)
 read_op (Read k n) ls h = read_line (line.Read k n) ls h
 read_op (Write k n) ls h = read_line (line.Write k n) ls (h.0, h.2)
 
-read_end : (o : Outcome) (ls : List (List ℕ × Bool)) → read_back (stands (end_line o) ∷ ls) ≡ (record { ops = []; outcome = o } ∷ (read_back ls).0, (read_back ls).1)
-read_end Commit ls = read_line line.Commit ls tt
-read_end Abort ls = read_line line.Abort ls tt
-read_end Unknown ls = read_line line.Unknown ls refl
+read_end : (o : Outcome) (ended : Option ℕ) (ls : List (List ℕ × Bool)) → IsMoment ended → IsTold o ended → read_back (stands (end_line o ended) ∷ ls) ≡ (ended_so o ended ∷ (read_back ls).0, (read_back ls).1)
+read_end Commit ended ls h told = read_line (line.Commit ended) ls (stated ended h)
+read_end Abort ended ls h told = read_line line.Abort ls tt ∙ ap (λ e. (ended_so Abort e ∷ (read_back ls).0, (read_back ls).1)) (sym told)
+read_end Unknown ended ls h told = read_line line.Unknown ls refl ∙ ap (λ e. (ended_so Unknown e ∷ (read_back ls).0, (read_back ls).1)) (sym told)
 
-read_ops : (os : List Op) (end : Outcome) (ls : List (List ℕ × Bool)) → AllByRecursion IsLegalOp os → read_back (map stands (map op_line os ++ end_line end ∷ []) ++ ls) ≡ (record { ops = os; outcome = end } ∷ (read_back ls).0, (read_back ls).1)
-read_ops [] end ls h = read_end end ls
-read_ops (o ∷ os) end ls h = read_op o (map stands (map op_line os ++ end_line end ∷ []) ++ ls) h.0 ∙ ap (λ (r : List Transaction × List ClientSession). (add_op o r.0, r.1)) (read_ops os end ls h.1)
+-- a transaction without its `begin`
+abbrev begun_lines : Transaction → List Line
+begun_lines t = map op_line t.ops ++ end_line t.outcome t.ended ∷ []
+
+read_ops : (os : List Op) (o : Outcome) (ended : Option ℕ) (ls : List (List ℕ × Bool)) → AllByRecursion IsLegalOp os → IsMoment ended → IsTold o ended → read_back (map stands (map op_line os ++ end_line o ended ∷ []) ++ ls) ≡ (record { ops = os; outcome = o; begun = None; ended = ended } ∷ (read_back ls).0, (read_back ls).1)
+read_ops [] o ended ls h m told = read_end o ended ls m told
+read_ops (x ∷ os) o ended ls h m told = read_op x (map stands (map op_line os ++ end_line o ended ∷ []) ++ ls) h.0 ∙ ap (λ (r : List Transaction × List ClientSession). (add_op x r.0, r.1)) (read_ops os o ended ls h.1 m told)
 
 read_txn : (t : Transaction) (ls : List (List ℕ × Bool)) → IsLegalTxn t → read_back (map stands (txn_lines t) ++ ls) ≡ (t ∷ (read_back ls).0, (read_back ls).1)
-read_txn t ls h = read_line line.Begin (map stands (map op_line t.ops ++ end_line t.outcome ∷ []) ++ ls) tt ∙ read_ops t.ops t.outcome ls h
+read_txn t ls h =
+    read_line (line.Begin t.begun) (map stands (begun_lines t) ++ ls) (stated t.begun h.begun)
+    ∙ ap (add_line (line.Begin t.begun)) (read_ops t.ops t.outcome t.ended ls h.ops h.ended h.told)
 
 read_txns : (ts : List Transaction) (ls : List (List ℕ × Bool)) → AllByRecursion IsLegalTxn ts → (read_back ls).0 ≡ [] → read_back (map stands (flat_map txn_lines ts) ++ ls) ≡ (ts, (read_back ls).1)
 read_txns [] ls h e = ap (λ xs. (xs, (read_back ls).1)) e
@@ -200,56 +220,63 @@ unfolding line_text
 is_session_line-op (Read k n) = refl
 is_session_line-op (Write k n) = refl
 
-is_session_line-end : (o : Outcome) → is_session_line (stands (end_line o)) ≡ false
+is_session_line-end : (o : Outcome) (ended : Option ℕ) → is_session_line (stands (end_line o ended)) ≡ false
 unfolding line_text
-is_session_line-end Commit = refl
-is_session_line-end Abort = refl
-is_session_line-end Unknown = refl
+is_session_line-end Commit ended = refl
+is_session_line-end Abort ended = refl
+is_session_line-end Unknown ended = refl
 
-is_session_line-begin : is_session_line (stands line.Begin) ≡ false
+is_session_line-begin : (begun : Option ℕ) → is_session_line (stands (line.Begin begun)) ≡ false
 unfolding line_text
-is_session_line-begin = refl
+is_session_line-begin begun = refl
 
-after_op : (n b : ℕ) (o : Op) → IsLegalOp o → after n (Inside b) (op_line o) ≡ Ok (Inside b)
-after_op n b (Read k w) h = refl
-after_op n b (Write k zero) h = absurd (omega (arith, h.1))
-after_op n b (Write k (suc w)) h = refl
+after_op : (n b : ℕ) (begun : Option ℕ) (o : Op) → IsLegalOp o → after n (Inside b begun) (op_line o) ≡ Ok (Inside b begun)
+after_op n b begun (Read k w) h = refl
+after_op n b begun (Write k zero) h = absurd (omega (arith, h.1))
+after_op n b begun (Write k (suc w)) h = refl
 
--- the place behind a transaction, and what its outcome asks of the version
+-- the place behind a transaction, and what it asks of the version
 abbrev end_place : Outcome → Place
 end_place Commit = Between
 end_place Abort = Between
 end_place Unknown = Over
 
-abbrev MayEnd : Version → Outcome → Type 0
-MayEnd v o = is_unknown o ≡ true → has_unknown_line v ≡ true
+record IsHeld (v : Version) (t : Transaction) : Type 0 where
+  pub outcome : is_unknown t.outcome ≡ true → has_unknown_line v ≡ true
+  pub begun : IsLegalMoment v t.begun
+  pub ended : IsLegalMoment v t.ended
 
-after_end : (n b : ℕ) (o : Outcome) → after n (Inside b) (end_line o) ≡ Ok (end_place o)
-after_end n b Commit = refl
-after_end n b Abort = refl
-after_end n b Unknown = refl
+after_end : (n b : ℕ) (begun ended : Option ℕ) (o : Outcome) → is_earlier ended begun ≡ false → after n (Inside b begun) (end_line o ended) ≡ Ok (end_place o)
+after_end n b begun ended Commit h = rw h refl
+after_end n b begun ended Abort h = refl
+after_end n b begun ended Unknown h = refl
 
-end_in : (v : Version) (o : Outcome) → MayEnd v o → IsLegalLine v (end_line o)
-end_in v Commit h = tt
-end_in v Abort h = tt
-end_in v Unknown h = h refl
+end_in : (v : Version) (o : Outcome) (ended : Option ℕ) → (is_unknown o ≡ true → has_unknown_line v ≡ true) → IsLegalMoment v ended → IsLegalLine v (end_line o ended)
+end_in v Commit ended h m = m
+end_in v Abort ended h m = tt
+end_in v Unknown ended h m = h refl
 
-goes_ops : (v : Version) (b : ℕ) (os : List Op) (end : Outcome) (ls : List (List ℕ × Bool)) → AllByRecursion IsLegalOp os → MayEnd v end → GoesOn v (Inside b) (map stands (map op_line os ++ end_line end ∷ []) ++ ls) ls (end_place end)
-goes_ops v b [] end ls h m = goes_line v (Inside b) (end_place end) (end_line end) ls (λ n. form_step v n (Inside b) (end_line end) (is_session_line-end end) (end_in v end m) ∙ after_end n b end)
-goes_ops v b (o ∷ os) end ls h m =
-    goes_then v (Inside b) (Inside b) (end_place end) (map stands (map op_line (o ∷ os) ++ end_line end ∷ []) ++ ls) (map stands (map op_line os ++ end_line end ∷ []) ++ ls) ls
-    (goes_line v (Inside b) (Inside b) (op_line o) (map stands (map op_line os ++ end_line end ∷ []) ++ ls) (λ n. form_step v n (Inside b) (op_line o) (is_session_line-op o) (legal_op v o h.0) ∙ after_op n b o h.0))
-    (goes_ops v b os end ls h.1 m)
+goes_ops : (v : Version) (b : ℕ) (t : Transaction) (os : List Op) (ls : List (List ℕ × Bool)) → AllByRecursion IsLegalOp os → is_earlier t.ended t.begun ≡ false → IsHeld v t → GoesOn v (Inside b t.begun) (map stands (map op_line os ++ end_line t.outcome t.ended ∷ []) ++ ls) ls (end_place t.outcome)
+goes_ops v b t [] ls h ordered m =
+    goes_line v (Inside b t.begun) (end_place t.outcome) (end_line t.outcome t.ended) ls (λ n.
+    form_step v n (Inside b t.begun) (end_line t.outcome t.ended) (is_session_line-end t.outcome t.ended) (end_in v t.outcome t.ended m.outcome m.ended)
+    ∙ after_end n b t.begun t.ended t.outcome ordered)
+goes_ops v b t (o ∷ os) ls h ordered m =
+    let at : Place = Inside b t.begun in
+    let rest : List (List ℕ × Bool) = map stands (map op_line os ++ end_line t.outcome t.ended ∷ []) ++ ls in
+    goes_then v at at (end_place t.outcome) (stands (op_line o) ∷ rest) rest ls
+    (goes_line v at at (op_line o) rest (λ n. form_step v n at (op_line o) (is_session_line-op o) (legal_op v o h.0) ∙ after_op n b t.begun o h.0))
+    (goes_ops v b t os ls h.1 ordered m)
 
-goes_txn : (v : Version) (t : Transaction) (ls : List (List ℕ × Bool)) → IsLegalTxn t → MayEnd v t.outcome → GoesOn v Between (map stands (txn_lines t) ++ ls) ls (end_place t.outcome)
+goes_txn : (v : Version) (t : Transaction) (ls : List (List ℕ × Bool)) → IsLegalTxn t → IsHeld v t → GoesOn v Between (map stands (txn_lines t) ++ ls) ls (end_place t.outcome)
 goes_txn v t ls h m n =
-    let begun = fault_on v n Between (Inside n) (stands line.Begin) (map stands (map op_line t.ops ++ end_line t.outcome ∷ []) ++ ls) _ refl (form_step v n Between line.Begin is_session_line-begin tt) in
-    let others = goes_ops v n t.ops t.outcome ls h m (n + 1) in
+    let begun = fault_on v n Between (Inside n t.begun) (stands (line.Begin t.begun)) (map stands (begun_lines t) ++ ls) _ refl (form_step v n Between (line.Begin t.begun) (is_session_line-begin t.begun) m.begun) in
+    let others = goes_ops v n t t.ops ls h.ops h.ordered m (n + 1) in
     (others.0, begun ∙ others.1)
 
 -- no transaction is open
 abbrev IsOut : Place → Type 0
-IsOut (Inside b) = ⊥
+IsOut (Inside b begun) = ⊥
 IsOut p = Unit {0}
 
 end_out : (o : Outcome) → IsOut (end_place o)
@@ -265,7 +292,7 @@ known_place Unknown h = cc
 txns_apart : (t : Transaction) (ts : List Transaction) (ls : List (List ℕ × Bool)) → map stands (flat_map txn_lines (t ∷ ts)) ++ ls ≡ map stands (txn_lines t) ++ (map stands (flat_map txn_lines ts) ++ ls)
 txns_apart t ts ls = ap (λ x. x ++ ls) (map-append stands (txn_lines t) (flat_map txn_lines ts)) ∙ append_assoc (map stands (txn_lines t)) (map stands (flat_map txn_lines ts)) ls
 
-goes_txns : (v : Version) (ts : List Transaction) (ls : List (List ℕ × Bool)) → AllByRecursion IsLegalTxn ts → IsKnownBeforeLast ts → AllByRecursion (λ (t : Transaction). MayEnd v t.outcome) ts → (q : Place) × IsOut q × GoesOn v Between (map stands (flat_map txn_lines ts) ++ ls) ls q
+goes_txns : (v : Version) (ts : List Transaction) (ls : List (List ℕ × Bool)) → AllByRecursion IsLegalTxn ts → IsKnownBeforeLast ts → AllByRecursion (IsHeld v) ts → (q : Place) × IsOut q × GoesOn v Between (map stands (flat_map txn_lines ts) ++ ls) ls q
 goes_txns v [] ls h k m = (Between, tt, λ n. (n, refl))
 goes_txns v (t ∷ []) ls h k m =
     (end_place t.outcome, end_out t.outcome, subst (λ xs. GoesOn v Between xs ls (end_place t.outcome)) (sym (txns_apart t [] ls)) (goes_txn v t ls h.0 m.0))
@@ -279,31 +306,48 @@ session_step : (v : Version) (n k : ℕ) (p : Place) → 0 < k → k < 2 ^ 16 �
 unfolding step
 session_step v n k Start low high out = ap (after_form n Start) (form_complete v (line.Session k) (low, high))
 session_step v n k Between low high out = ap (after_form n Between) (form_complete v (line.Session k) (low, high))
-session_step v n k (Inside b) low high out = absurd out
+session_step v n k (Inside b begun) low high out = absurd out
 session_step v n k Over low high out = ap (after_form n Over) (form_complete v (line.Session k) (low, high))
 
--- the outcomes of a session that the version holds
-may_known : (v : Version) (ts : List Transaction) → AllByRecursion IsKnown ts → AllByRecursion (λ (t : Transaction). MayEnd v t.outcome) ts
-may_known v [] h = tt
-may_known v (t ∷ ts) h = (λ u. absurd (cc (u, h.0)), may_known v ts h.1)
+-- the transactions of a session that the version holds
+not_stated : (v : Version) (moment : Option ℕ) → moment ≡ None → IsLegalMoment v moment
+not_stated v moment h = subst (IsLegalMoment v) (sym h) tt
 
-may_all : (ts : List Transaction) → AllByRecursion (λ (t : Transaction). MayEnd Two t.outcome) ts
-may_all [] = tt
-may_all (t ∷ ts) = (λ u. refl, may_all ts)
+held_by_one : (ts : List Transaction) → AllByRecursion IsKnown ts → AllByRecursion HasNoMoments ts → AllByRecursion (IsHeld One) ts
+held_by_one [] h k = tt
+held_by_one (t ∷ ts) h k = (
+  record { outcome = λ u. absurd (cc (u, h.0)); begun = not_stated One t.begun k.0.0; ended = not_stated One t.ended k.0.1 },
+  held_by_one ts h.1 k.1,
+)
 
-may_held : (v : Version) (s : ClientSession) → IsHeldBy v s → AllByRecursion (λ (t : Transaction). MayEnd v t.outcome) s.txns
-may_held One s h = may_known One s.txns h
-may_held Two s h = may_all s.txns
+held_by_two : (ts : List Transaction) → AllByRecursion HasNoMoments ts → AllByRecursion (IsHeld Two) ts
+held_by_two [] k = tt
+held_by_two (t ∷ ts) k = (
+  record { outcome = λ u. refl; begun = not_stated Two t.begun k.0.0; ended = not_stated Two t.ended k.0.1 },
+  held_by_two ts k.1,
+)
+
+held_by_three : (ts : List Transaction) → AllByRecursion IsLegalTxn ts → AllByRecursion (IsHeld Three) ts
+held_by_three [] h = tt
+held_by_three (t ∷ ts) h = (
+  record { outcome = λ u. refl; begun = stated t.begun h.0.begun; ended = stated t.ended h.0.ended },
+  held_by_three ts h.1,
+)
+
+may_held : (v : Version) (s : ClientSession) → AllByRecursion IsLegalTxn s.txns → IsHeldBy v s → AllByRecursion (IsHeld v) s.txns
+may_held One s h k = held_by_one s.txns k.0 k.1
+may_held Two s h k = held_by_two s.txns k
+may_held Three s h k = held_by_three s.txns h
 
 goes_sessions : (v : Version) (ss : List ClientSession) (p : Place) → IsOut p → AllByRecursion IsLegal ss → AllByRecursion (IsHeldBy v) ss → (n : ℕ) → first_fault v n p (map stands (flat_map session_lines ss)) ≡ None
 goes_sessions v [] Start out h k n = refl
 goes_sessions v [] Between out h k n = refl
-goes_sessions v [] (Inside b) out h k n = absurd out
+goes_sessions v [] (Inside b begun) out h k n = absurd out
 goes_sessions v [] Over out h k n = refl
 goes_sessions v (s ∷ ss) p out h k n =
     let rest : List (List ℕ × Bool) = map stands (flat_map txn_lines s.txns) ++ map stands (flat_map session_lines ss) in
     let head = fault_on v n p Between (stands (line.Session s.number)) rest (stands (line.Session s.number) ∷ rest) refl (session_step v n s.number p h.0.low h.0.high out) in
-    let txns = goes_txns v s.txns (map stands (flat_map session_lines ss)) h.0.txns h.0.known (may_held v s k.0) in
+    let txns = goes_txns v s.txns (map stands (flat_map session_lines ss)) h.0.txns h.0.known (may_held v s h.0.txns k.0) in
     let behind = txns.2 (n + 1) in
     ap (first_fault v n p) (map-append stands (session_lines s) (flat_map session_lines ss)) ∙ (head ∙ (behind.1 ∙ goes_sessions v ss txns.0 txns.1 h.1 k.1 behind.0))
 

@@ -2,21 +2,22 @@
 use Rattle.std.specs.Prelude.{◌≡◌, ℕ, zero, suc, ◌+◌, Bool, false, if◌then◌else◌, nat_eq, List, [], ◌∷◌, codes, Option, Some, None, Result, Ok, Err}
 use Rattle.std.specs.List.{starts_with, AllByRecursion}
 use Rattle.session_log.specs.Lines.{form_of, lines}
+use Rattle.session_log.specs.Moments.{is_earlier}
 use Rattle.session_log.specs.Version.{version_of, body_of, first_line}
 use Rattle.session_log.specs.declared.line.Line.{Line}
 use Rattle.session_log.specs.declared.line.Line.TheVariants as line
 use Rattle.session_log.specs.declared.fault.LogFault.{LogFault}
 use Rattle.session_log.specs.declared.fault.Limit.TheVariants.{LogBytes, Sessions}
-use Rattle.session_log.specs.declared.fault.LogFault.TheVariants.{BadLine, OutsideTransaction, OpenTransaction, WriteZero, UnknownNotLast, OverLimit, Memory}
+use Rattle.session_log.specs.declared.fault.LogFault.TheVariants.{BadLine, OutsideTransaction, OpenTransaction, WriteZero, UnknownNotLast, EndsBeforeBegin, OverLimit, Memory}
 use Rattle.session_log.specs.declared.version.Version.{Version}
 
 -- where reading has come to: no session has begun; a session has, and no transaction is open;
--- the transaction is open whose `begin` is at this line; the session is over: no transaction is
+-- the transaction is open whose `begin` is at this line and may state a moment; the session is over: no transaction is
 -- open and none may begin, since the outcome of the last is unknown
 pub data Place : Type 0 where
   Start : Place
   Between : Place
-  Inside : ℕ → Place
+  Inside : ℕ → Option ℕ → Place
   Over : Place
 
 -- the place after line n, of this form, or its fault
@@ -24,18 +25,18 @@ abbrev pub after : ℕ → Place → Line → Result Place LogFault
 after n Start (line.Session _) = Ok Between
 after n Start _ = Err (OutsideTransaction n)
 after n Between (line.Session _) = Ok Between
-after n Between line.Begin = Ok (Inside n)
+after n Between (line.Begin begun) = Ok (Inside n begun)
 after n Between _ = Err (OutsideTransaction n)
-after n (Inside start) (line.Session _) = Err (OpenTransaction start)
-after n (Inside start) line.Begin = Err (OpenTransaction start)
-after n (Inside start) (line.Read _ _) = Ok (Inside start)
-after n (Inside start) (line.Write _ zero) = Err (WriteZero n)
-after n (Inside start) (line.Write _ (suc _)) = Ok (Inside start)
-after n (Inside start) line.Commit = Ok Between
-after n (Inside start) line.Abort = Ok Between
-after n (Inside start) line.Unknown = Ok Over
+after n (Inside start begun) (line.Session _) = Err (OpenTransaction start)
+after n (Inside start begun) (line.Begin _) = Err (OpenTransaction start)
+after n (Inside start begun) (line.Read _ _) = Ok (Inside start begun)
+after n (Inside start begun) (line.Write _ zero) = Err (WriteZero n)
+after n (Inside start begun) (line.Write _ (suc _)) = Ok (Inside start begun)
+after n (Inside start begun) (line.Commit ended) = if is_earlier ended begun then Err (EndsBeforeBegin n) else Ok Between
+after n (Inside start begun) line.Abort = Ok Between
+after n (Inside start begun) line.Unknown = Ok Over
 after n Over (line.Session _) = Ok Between
-after n Over line.Begin = Err (UnknownNotLast n)
+after n Over (line.Begin _) = Err (UnknownNotLast n)
 after n Over _ = Err (OutsideTransaction n)
 
 -- the same of a line that may have no form
@@ -53,12 +54,12 @@ form_at v l = if l.1 then form_of v l.0 else None
 
 -- the same of the line as it stands: where a transaction is open, a line that begins so ends it too early
 unfoldable pub step : Version → ℕ → Place → List ℕ × Bool → Result Place LogFault
-step v n (Inside start) l = if is_session_line l then Err (OpenTransaction start) else after_form n (Inside start) (form_at v l)
+step v n (Inside start begun) l = if is_session_line l then Err (OpenTransaction start) else after_form n (Inside start begun) (form_at v l)
 step v n p l = after_form n p (form_at v l)
 
 -- after the last line: the transaction that is open
 abbrev pub fault_at_end : Place → Option LogFault
-fault_at_end (Inside start) = Some (OpenTransaction start)
+fault_at_end (Inside start begun) = Some (OpenTransaction start)
 fault_at_end _ = None
 
 -- the fault of a line, or else that of the lines after it
@@ -109,4 +110,5 @@ IsGrammarFault (OutsideTransaction _) = Unit {0}
 IsGrammarFault (OpenTransaction _) = Unit {0}
 IsGrammarFault (WriteZero _) = Unit {0}
 IsGrammarFault (UnknownNotLast _) = Unit {0}
+IsGrammarFault (EndsBeforeBegin _) = Unit {0}
 IsGrammarFault _ = ⊥

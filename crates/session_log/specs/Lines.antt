@@ -6,7 +6,7 @@ use Rattle.std.specs.Str.{bytes_eq}
 use Rattle.std.specs.Char.{is_ascii_digit}
 use Rattle.std.specs.Str.Parse.{digits_value}
 use Rattle.session_log.specs.Key.{is_key}
-use Rattle.session_log.specs.Version.{has_unknown_line}
+use Rattle.session_log.specs.Version.{has_unknown_line, has_moments}
 use Rattle.session_log.specs.declared.line.Line.{Line}
 use Rattle.session_log.specs.declared.line.Line.TheVariants as line
 use Rattle.session_log.specs.declared.version.Version.{Version}
@@ -54,10 +54,12 @@ keyed_of words = do
 -- the form of a line, where this version has one for it
 unfoldable pub form_of : Version → List ℕ → Option Line
 form_of v body =
-    if bytes_eq body (codes "begin") then Some line.Begin else
-    (if bytes_eq body (codes "commit") then Some line.Commit else
+    if bytes_eq body (codes "begin") then Some (line.Begin None) else
+    (if bytes_eq body (codes "commit") then Some (line.Commit None) else
     (if bytes_eq body (codes "abort") then Some line.Abort else
     (if starts_with nat_eq body (codes "session ") then session_of (drop 8 body) else
     (if starts_with nat_eq body (codes "r ") then keyed_of (drop 2 body) >>= (λ k. Some (line.Read k.0 k.1)) else
     (if starts_with nat_eq body (codes "w ") then keyed_of (drop 2 body) >>= (λ k. Some (line.Write k.0 k.1)) else
-    (if has_unknown_line v && bytes_eq body (codes "unknown") then Some line.Unknown else None))))))
+    (if has_unknown_line v && bytes_eq body (codes "unknown") then Some line.Unknown else
+    (if has_moments v && starts_with nat_eq body (codes "begin ") then number_of (drop 6 body) >>= (λ m. Some (line.Begin (Some m))) else
+    (if has_moments v && starts_with nat_eq body (codes "commit ") then number_of (drop 7 body) >>= (λ m. Some (line.Commit (Some m))) else None))))))))

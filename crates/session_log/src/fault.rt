@@ -37,6 +37,8 @@ pub enum LogFault {
     WriteTwice { line: usize },
     /// A transaction stands behind one whose outcome is unknown, in one session: the line of its `begin`.
     UnknownNotLast { line: usize },
+    /// A transaction is said to end before it began: the line of its `commit`.
+    EndsBeforeBegin { line: usize },
     /// A limit is passed.
     OverLimit { which: Limit },
     /// Memory was refused. It may come in place of any other fault.

@@ -1,6 +1,6 @@
 //! What the definitions say of each other.
 
-ghost use Rattle.std.specs.Prelude.{◌≡◌, ◌≤◌, ◌+◌, ◌++◌, ℕ, List, length, map, Some, None, Contains};
+ghost use Rattle.std.specs.Prelude.{◌≡◌, ◌<◌, ◌≤◌, ◌+◌, ◌++◌, ℕ, List, length, map, Some, None, Contains};
 ghost use Rattle.std.specs.List.{AllByRecursion};
 ghost use Rattle.session_log.specs.Lines.{lines, form_of};
 ghost use Rattle.session_log.specs.Faults.{grammar_fault};
@@ -11,7 +11,6 @@ ghost use Rattle.session_log.specs.Version.{header_text, first_line, version_of,
 ghost use Rattle.session_log.specs.declared.block.Block.{Block};
 ghost use Rattle.session_log.specs.declared.line.Line.{Line};
 ghost use Rattle.session_log.specs.declared.version.Version.{Version};
-ghost use Rattle.session_log.specs.declared.version.Version.TheVariants.{Two};
 
 /// A log is the header of its version and the body behind it, by bytes and by lines, and a header
 /// tells its version.
@@ -20,7 +19,8 @@ pub fn header_and_body()
     ensures lines { (text : List ℕ)
         → lines text ≡ lines (header_text (version_of text)) ++ lines (body_of text) }
     ensures first { (v : Version) → first_line v ≡ length (lines (header_text v)) + 1 }
-    ensures told { (body : List ℕ) → version_of (header_text Two ++ body) ≡ Two }
+    ensures told { (v : Version) (body : List ℕ) → 1 < version_number v
+        → version_of (header_text v ++ body) ≡ v }
 {}
 
 /// A line has a form exactly where it is the text of that form, and the version has the form.

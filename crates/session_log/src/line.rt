@@ -1,6 +1,7 @@
 //! One line of a log.
 
-ghost use Rattle.std.specs.Prelude.{◌≡◌, ◌^◌, ◌==◌, true, nat_lt, position, Some, None, IfOk, if◌then◌else◌};
+ghost use Rattle.std.specs.Prelude.{◌≡◌, ◌^◌, ◌==◌, true, nat_lt, position, Some, None, IfOk, if◌then◌else◌, option_and_then};
+ghost use Rattle.session_log.specs.declared.line.Line.TheVariants as line;
 ghost use Rattle.std.specs.List.{list_all};
 ghost use Rattle.std.specs.Char.{is_ascii_digit};
 ghost use Rattle.std.specs.Str.Parse.{digits_value};
@@ -16,12 +17,14 @@ use std::alloc::{AllocError, Global};
 pub enum Line {
     /// `session N`.
     Session(u16),
-    Begin,
+    /// `begin`, or `begin M` with the moment.
+    Begin(Option<u64>),
     /// `r KEY WID`.
     Read(Key, u64),
     /// `w KEY WID`.
     Write(Key, u64),
-    Commit,
+    /// `commit`, or `commit M`.
+    Commit(Option<u64>),
     Abort,
     /// `unknown`.
     Unknown,
@@ -37,6 +40,22 @@ fn session_of(word: &[u8]) -> Option<Line>
     } else {
         None
     }
+}
+
+// The line of a `begin` with the moment that a word writes.
+fn begin_of(word: &[u8]) -> Option<Line>
+    ensures { result ≡ option_and_then (λ m. Some (line.Begin (Some m))) (number_of word.now) }
+{
+    let moment = number_of(word)?;
+    Some(Line::Begin(Some(moment)))
+}
+
+// The same of a `commit`.
+fn commit_of(word: &[u8]) -> Option<Line>
+    ensures { result ≡ option_and_then (λ m. Some (line.Commit (Some m))) (number_of word.now) }
+{
+    let moment = number_of(word)?;
+    Some(Line::Commit(Some(moment)))
 }
 
 // A key, a space and a number.
@@ -62,10 +81,10 @@ pub fn form_of(alloc: Global, version: Version, body: &[u8]) -> Result<Option<Li
     ensures { IfOk result (λ o. o ≡ form_of version body.now) }
 {
     if body == b"begin".as_slice() {
-        return Ok(Some(Line::Begin));
+        return Ok(Some(Line::Begin(None)));
     }
     if body == b"commit".as_slice() {
-        return Ok(Some(Line::Commit));
+        return Ok(Some(Line::Commit(None)));
     }
     if body == b"abort".as_slice() {
         return Ok(Some(Line::Abort));
@@ -87,6 +106,12 @@ pub fn form_of(alloc: Global, version: Version, body: &[u8]) -> Result<Option<Li
     }
     if version.has_unknown_line() && body == b"unknown".as_slice() {
         return Ok(Some(Line::Unknown));
+    }
+    if version.has_moments() && body.starts_with(b"begin ") {
+        return Ok(begin_of(&body[6..]));
+    }
+    if version.has_moments() && body.starts_with(b"commit ") {
+        return Ok(commit_of(&body[7..]));
     }
     Ok(None)
 }

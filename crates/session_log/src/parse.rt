@@ -10,7 +10,7 @@ ghost use Rattle.session_log.specs.Reading.{place_of, Adds, Takes, IsBodyLine};
 
 use crate::fault::LogFault;
 use crate::line::{Line, form_of};
-use crate::session::{Op, Outcome, Session, Txn};
+use crate::session::{Op, Outcome, Session, Txn, is_earlier};
 use crate::version::Version;
 use crate::words::next_line;
 use std::alloc::{AllocError, Global};
@@ -19,6 +19,7 @@ use std::alloc::{AllocError, Global};
 #[derive(Debug, Drop)]
 struct OpenTxn {
     line: usize,
+    begun: Option<u64>,
     ops: Vec<Op>,
 }
 
@@ -58,7 +59,7 @@ fn fault_when_over(n: usize, form: &Line) -> LogFault
     ensures kind { IsGrammarFault result }
 {
     match form {
-        Line::Begin => LogFault::UnknownNotLast { line: n },
+        Line::Begin(_) => LogFault::UnknownNotLast { line: n },
         _ => LogFault::OutsideTransaction { line: n },
     }
 }
@@ -73,28 +74,40 @@ fn with_line(alloc: Global, reading: Reading, n: usize, form: Line) -> Result<Re
     let Reading { mut txns, progress } = reading;
     let progress = match progress {
         Progress::Between => match form {
-            Line::Begin => Progress::Inside(OpenTxn {
+            Line::Begin(begun) => Progress::Inside(OpenTxn {
                 line: n,
+                begun,
                 ops: Vec::new(alloc),
             }),
             _ => return Err(LogFault::OutsideTransaction { line: n }),
         },
         Progress::Over => return Err(fault_when_over(n, &form)),
-        Progress::Inside(OpenTxn { line, mut ops }) => match form {
-            Line::Session(_) | Line::Begin => return Err(LogFault::OpenTransaction { line }),
+        Progress::Inside(
+            OpenTxn {
+                line,
+                begun,
+                mut ops,
+            },
+        ) => match form {
+            Line::Session(_) | Line::Begin(_) => return Err(LogFault::OpenTransaction { line }),
             Line::Write(_, 0) => return Err(LogFault::WriteZero { line: n }),
             Line::Read(key, wid) => {
                 add(&mut ops, Op::Read { key, wid })?;
-                Progress::Inside(OpenTxn { line, ops })
+                Progress::Inside(OpenTxn { line, begun, ops })
             }
             Line::Write(key, wid) => {
                 add(&mut ops, Op::Write { key, wid })?;
-                Progress::Inside(OpenTxn { line, ops })
+                Progress::Inside(OpenTxn { line, begun, ops })
             }
-            Line::Commit => {
+            Line::Commit(ended) => {
+                if is_earlier(ended, begun) {
+                    return Err(LogFault::EndsBeforeBegin { line: n });
+                }
                 txns.push(Txn {
                     ops,
                     outcome: Outcome::Commit,
+                    begun,
+                    ended,
                 })?;
                 Progress::Between
             }
@@ -102,6 +115,8 @@ fn with_line(alloc: Global, reading: Reading, n: usize, form: Line) -> Result<Re
                 txns.push(Txn {
                     ops,
                     outcome: Outcome::Abort,
+                    begun,
+                    ended: None,
                 })?;
                 Progress::Between
             }
@@ -109,6 +124,8 @@ fn with_line(alloc: Global, reading: Reading, n: usize, form: Line) -> Result<Re
                 txns.push(Txn {
                     ops,
                     outcome: Outcome::Unknown,
+                    begun,
+                    ended: None,
                 })?;
                 Progress::Over
             }

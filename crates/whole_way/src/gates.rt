@@ -1,11 +1,8 @@
 //! That commands pass the gate that their caller gave.
 
-use crate::checks::{LOST_UPDATE, SETTLED};
-use crate::tape::Tape;
-use branch_search::Budget;
-use cobra_cli::{Options, StrategyName, check, decode, encode, read_log, stats};
-use desk::{Gate, SeatNo, Workers};
-use dimacs::Counted;
+use crate::commands::{Command, ended, options};
+use crate::logs::{LOST_UPDATE, SETTLED};
+use desk::{Gate, SeatNo};
 use std::alloc::Global;
 use std::process::Abort;
 use std::sync::Wait;
@@ -25,64 +22,29 @@ impl Gate for Counting {
     }
 }
 
-#[derive(Clone, Copy)]
-enum Command {
-    Read,
-    Encode,
-    Decode,
-    Stats,
-    Check,
-}
-
 /// How often one worker passes the gate in a command over a log.
 fn passes<R: Threads + Wait + Clock + Sync + Abort>(
     rt: &R,
     alloc: Global,
-    command: Command,
+    command: Command<'_>,
     log: &str,
 ) -> u64 {
     let gate = Counting {
         passed: AtomicU64::new(0),
     };
-    let options = Options {
-        plain: false,
-        workers: Workers::new(1).expect(rt, "workers"),
-        strategy: StrategyName::First,
-        budget: Budget::new(10_000).expect(rt, "a budget"),
-    };
-    let mut sink = Counted::new(Tape {
-        taken: Vec::new(alloc),
-        most: 1 << 20,
-        good: 1 << 20,
-    });
-    let log = log.as_bytes();
-    let answered = match command {
-        Command::Read => read_log(rt, alloc, log, options.workers, &gate).is_ok(),
-        Command::Encode => encode(rt, alloc, log, &options, &gate, &mut sink).is_ok(),
-        Command::Decode => {
-            let answer = b"s UNKNOWN\n";
-            decode(rt, alloc, log, answer, &options, &gate, &mut sink).is_ok()
-        }
-        Command::Stats => stats(rt, alloc, log, &options, &gate, &mut sink).is_ok(),
-        Command::Check => check(rt, alloc, log, &options, &gate, &mut sink).is_ok(),
-    };
-    assert!(rt; answered);
+    let options = options(rt, false, 1);
+    let (result, _taken) = ended(rt, alloc, &options, command, log, &gate, 1 << 20);
+    assert!(rt; result.is_ok());
     gate.passed.load(Ordering::SeqCst)
 }
 
-// A log is read by one pass for each block and one that finds none left.
+// A log is read by one pass for each block and one that finds none left. Where an anomaly stands nothing is pruned; else whoever
+// prunes passes the gate too.
 #[test]
-fn reading(rt: HostRuntime) {
-    assert_eq!(rt; passes(&rt, rt.alloc(), Command::Read, LOST_UPDATE), 3);
-    assert_eq!(rt; passes(&rt, rt.alloc(), Command::Read, SETTLED), 5);
-}
-
-// Where an anomaly stands nothing is pruned; else whoever prunes passes the gate too.
-#[test]
-fn pruning(rt: HostRuntime) {
+fn reading_and_pruning(rt: HostRuntime) {
     for command in [
         Command::Encode,
-        Command::Decode,
+        Command::Decode("s UNKNOWN\n"),
         Command::Stats,
         Command::Check,
     ] {

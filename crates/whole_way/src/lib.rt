@@ -6,7 +6,11 @@ mod chains;
 #[cfg(test)]
 mod checks;
 #[cfg(test)]
+mod commands;
+#[cfg(test)]
 mod gates;
+#[cfg(test)]
+mod logs;
 #[cfg(test)]
 mod tape;
 #[cfg(test)]

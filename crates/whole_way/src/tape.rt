@@ -3,11 +3,10 @@
 use std::io;
 use std::io::{ErrorKind, Write};
 
-/// A writer that takes at most `most` bytes a call, and none after `good` calls.
+/// A writer that takes a byte a call, and none after `good` calls.
 #[derive(Drop)]
 pub struct Tape {
     pub taken: Vec<u8>,
-    pub most: usize,
     pub good: usize,
 }
 
@@ -17,7 +16,7 @@ impl Write for Tape {
             return Err(io::Error::from(ErrorKind::Other));
         }
         self.good -= 1;
-        let taken = buf.len().min(self.most);
+        let taken = buf.len().min(1);
         self.taken.extend_from_slice(&buf[..taken])?;
         Ok(taken)
     }

@@ -23,7 +23,7 @@ pub fn groups_of(
     lists: &[Vec<NodeIx>],
 ) -> Result<Vec<Group>, AllocError>
     requires count { length lists.now ≡ count }
-    requires few { count ≤ 401 }
+    requires few { count ≤ 1001 }
     ensures groups { IfOk result (λ groups. (n : ℕ) (f : ℕ → List ℕ) → AreLists n f lists.now →
         map group_view groups.items ≡ pairs (λ v. unless_empty (f v)) 0 n) }
 {

@@ -11,9 +11,9 @@ overflow_mul-last g c =
     let graph = c.args.known.now in
     let starts = c.args.starts.now in
     let last = starts_within (graph.nodes + 1) starts c.requires.starts (c.args.worker + 1) (omega (arith, c.requires.worker.1)) in
-    let few : get_or starts (c.args.worker + 1) 0 - get_or starts c.args.worker 0 ≤ 401 = omega (arith, last, c.nodes.ensures.graph.few) in
-    let small : c.row_len.result ≤ 7 = omega (arith, c.row_len.ensures.value, ap row_len c.nodes.ensures.count, row_len_small graph.nodes c.nodes.ensures.graph.few) in
-    omega (arith, mul-le (get_or starts (c.args.worker + 1) 0 - get_or starts c.args.worker 0) c.row_len.result 401 7 few small)
+    let few : get_or starts (c.args.worker + 1) 0 - get_or starts c.args.worker 0 ≤ 1001 = omega (arith, last, c.nodes.ensures.graph.few) in
+    let small : c.row_len.result ≤ 16 = omega (arith, c.row_len.ensures.value, ap row_len c.nodes.ensures.count, row_len_small graph.nodes c.nodes.ensures.graph.few) in
+    omega (arith, mul-le (get_or starts (c.args.worker + 1) 0 - get_or starts c.args.worker 0) c.row_len.result 1001 16 few small)
 
 pub node-requires : goal.node-requires
 node-requires g c =

@@ -2,4 +2,4 @@ use Rattle.std.proofs.Common.{◌*◌, ◌≤◌}
 use Rattle.reach_rows.proofs.parts.whole_work.Given as goal
 
 abbrev pub invariant-loop-source : goal.invariant-loop-source
-invariant-loop-source l = l.work ≤ 500 * l.source
+invariant-loop-source l = l.work ≤ 1100 * l.source

@@ -7,8 +7,8 @@ use Rattle.reach_rows.proofs.Behind.{rows_one, rows_cut, rows_joined}
 use Rattle.reach_rows.proofs.source.add_source.Goals as goal
 
 -- the words of a row of the graph are among those of the array
-row_fits : (n count held : ℕ) → n ≤ 400 → count ≡ row_len n → held ≡ 7 → count ≤ held
-row_fits n count held few is seven = omega (arith, row_len_small n few, is, seven)
+row_fits : (n count held : ℕ) → n ≤ 1000 → count ≡ row_len n → held ≡ 16 → count ≤ held
+row_fits n count held few is words = omega (arith, row_len_small n few, is, words)
 
 pub slice_bounds-row-end : goal.slice_bounds-row-end
 slice_bounds-row-end c = row_fits c.args.known.now.nodes c.row_len.result (length c.reach_row-row.result) c.nodes.ensures.graph.few (c.row_len.ensures.value ∙ ap row_len c.nodes.ensures.count) c.reach_row-row.ensures.len

@@ -11,7 +11,7 @@ use Rattle.reach_rows.proofs.Spreading.{IsSpreadStep, spreading_none, spreading_
 use Rattle.reach_rows.proofs.source.spread.Goals as goal
 
 pub loop-number-init : goal.loop-number-init
-loop-number-init c = spreading_none c.args.known.now c.args.row.now (replicate 7 0) (bit_of-zeros 7) c.requires.nodes
+loop-number-init c = spreading_none c.args.known.now c.args.row.now (replicate 16 0) (bit_of-zeros 16) c.requires.nodes
 
 pub first_open-requires-clause-len : goal.first_open-requires-clause-len
 first_open-requires-clause-len c = omega (arith, c.loop-number.auto.row, c.requires.few)

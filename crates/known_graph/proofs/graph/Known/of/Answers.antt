@@ -13,8 +13,8 @@ loop-number-init c =
 
 pub loop-number-preserved : goal.loop-number-preserved
 loop-number-preserved c =
-    arcs_more (log_of c.args.history.now) c.node-v.result c.loop-number.number c.loop-number.known c.add_session_arc.new.known c.add_read_arcs.new.known (omega arith) c.node-v.ensures.value c.loop-number.invariant
-    c.add_session_arc.ensures.nodes c.add_read_arcs.ensures.nodes c.add_read_arcs.ensures.graph c.add_session_arc.ensures.edges c.add_read_arcs.ensures.edges
+    arcs_more (log_of c.args.history.now) c.node-v.result c.loop-number.number c.loop-number.known c.add_session_arc.new.known c.add_read_arcs.new.known c.add_moment_arcs.new.known (omega arith) c.node-v.ensures.value c.loop-number.invariant
+    c.add_session_arc.ensures.nodes c.add_read_arcs.ensures.nodes c.add_moment_arcs.ensures.nodes c.add_moment_arcs.ensures.graph c.add_session_arc.ensures.edges c.add_read_arcs.ensures.edges c.add_moment_arcs.ensures.edges
 
 pub returns : goal.returns
 returns c = record {

@@ -12,7 +12,7 @@ returns c =
     let row = c.row_words.result.now in
     record {
       group = group_alone c.args.known.now c.args.v c.set_bit.new.words c.join_words.new.words row c.requires.graph
-          (only_bit (replicate 7 0) c.set_bit.new.words 7 c.args.v c.get.result refl c.get.ensures.value c.set_bit.ensures.bits)
-          (λ k. c.join_words.ensures.bits k ∙ ap (λ b. b || bit_of row k) (bit_of-zeros 7 k))
+          (only_bit (replicate 16 0) c.set_bit.new.words 16 c.args.v c.get.result refl c.get.ensures.value c.set_bit.ensures.bits)
+          (λ k. c.join_words.ensures.bits k ∙ ap (λ b. b || bit_of row k) (bit_of-zeros 16 k))
           c.row_words.ensures.edges;
     }

@@ -11,9 +11,9 @@ enter-requires-clause-search c =
     record {
       graph = c.nodes.ensures.graph;
       groups = All-same (IsGroup g) c.in_ok-with_capacity.field-0.items [] c.in_ok-with_capacity.ensures.items (All-nil (IsGroup g));
-      closed = λ v w t k. absurd (false≢true (sym (bit_of-zeros 7 v) ∙ t));
-      round = λ v t r. absurd (false≢true (sym (bit_of-zeros 7 v) ∙ t));
+      closed = λ v w t k. absurd (false≢true (sym (bit_of-zeros 16 v) ∙ t));
+      round = λ v t r. absurd (false≢true (sym (bit_of-zeros 16 v) ∙ t));
     }
 
 pub enter-requires-clause-fresh : goal.enter-requires-clause-fresh
-enter-requires-clause-fresh c = bit_of-zeros 7 0
+enter-requires-clause-fresh c = bit_of-zeros 16 0

@@ -8,7 +8,7 @@ invariant-loop-self l = record {
   same : sides_left l.self-inside.relation.now l.self-inside.literal l.self-inside.count l.self-inside.edges.now l.self-inside.counts.now
       ≡ sides_left l.initial.self-inside.relation.now l.initial.self-inside.literal l.initial.self-inside.count l.initial.self-inside.edges.now l.initial.self-inside.counts.now;
   unturned : AllByRecursion (IsUnturned l.self-inside.relation.now) l.self-inside.edges.now;
-  few : rank_of l.self-inside.literal + length l.self-inside.counts.now ≤ 400001;
+  few : rank_of l.self-inside.literal + length l.self-inside.counts.now ≤ 1300001;
 }
 
 abbrev pub decreases-loop-self : goal.decreases-loop-self

@@ -1,10 +1,11 @@
-use Rattle.std.proofs.Common.{◌≡◌, ◌≤◌, ◌+◌, ◌*◌, length}
-use Rattle.order_cnf.specs.Streams.{of_one, up_to}
+use Rattle.std.proofs.Common.{◌≡◌, ◌+◌, ◌*◌}
+use Rattle.order_cnf.specs.Cycles.{is_open_from}
+use Rattle.order_cnf.proofs.Counted.{count_in}
 use Rattle.order_cnf.proofs.triples.Cursor.row_count.Given as goal
 
-abbrev pub invariant-loop-third : goal.invariant-loop-third
-invariant-loop-third l = record {
-  counted : l.count + length (of_one l.relation l.self.first l.self.second (up_to l.third (l.relation.nodes + 1)))
-      ≡ length (of_one l.relation l.self.first l.self.second (up_to l.self.third (l.relation.nodes + 1)));
-  few : l.count + 2 * l.self.third ≤ 2 * l.third;
+abbrev pub invariant-loop-place : goal.invariant-loop-place
+invariant-loop-place l = record {
+  counted : l.count
+      ≡ count_in (is_open_from l.relation l.self.second l.self.first l.self.third) 0 (l.place * 64)
+      + count_in (is_open_from l.relation l.self.first l.self.second l.self.third) 0 (l.place * 64);
 }

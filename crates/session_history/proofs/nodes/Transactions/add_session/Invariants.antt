@@ -12,5 +12,5 @@ invariant-loop-txn l = record {
   finds : FindsEach l.self.numbers;
   taken : Takes l.initial.self l.self (flat_map txn_lines (map view_txn (take l.txn-index l.session.txns.items))) (placed_from l.session.number 1 (map (settle l.is_taken) (map view_txn (take l.txn-index l.session.txns.items))));
   room : l.self.writes.line + length (flat_map txn_lines (map view_txn (drop l.txn-index l.session.txns.items))) < 2 ^ 64;
-  few : length l.self.nodes.items + count_by is_committed (map (settle l.is_taken) (map view_txn (drop l.txn-index l.session.txns.items))) ≤ 400;
+  few : length l.self.nodes.items + count_by is_committed (map (settle l.is_taken) (map view_txn (drop l.txn-index l.session.txns.items))) ≤ 1000;
 }

@@ -12,5 +12,5 @@ invariant-loop-session l = record {
   finds : FindsEach l.all.numbers;
   taken : Takes l.initial.all l.all (log_lines (map view (take l.session-index l.sessions))) (placed_in (settled (contains nat_cmp l.taken) (map view (take l.session-index l.sessions))));
   room : l.all.writes.line + length (log_lines (map view (drop l.session-index l.sessions))) < 2 ^ 64;
-  few : length l.all.nodes.items + count_by is_committed (txns_in (settled (contains nat_cmp l.taken) (map view (drop l.session-index l.sessions)))) ≤ 400;
+  few : length l.all.nodes.items + count_by is_committed (txns_in (settled (contains nat_cmp l.taken) (map view (drop l.session-index l.sessions)))) ≤ 1000;
 }
