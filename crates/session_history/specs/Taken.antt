@@ -43,7 +43,7 @@ abbrev pub nodes_among : List (List ℕ) → List Placed → List NumberedNode
 nodes_among keys [] = []
 nodes_among keys (t ∷ ts) =
     if is_committed t.2 then
-      record { session = t.0; place = t.1; events = events_of keys t.2.ops; begun = t.2.begun; ended = t.2.ended } ∷ nodes_among keys ts
+    record { session = t.0; place = t.1; events = events_of keys t.2.ops; begun = t.2.begun; ended = t.2.ended } ∷ nodes_among keys ts
     else nodes_among keys ts
 
 -- each transaction's operations with its node, behind so many nodes, or with 0 where it counts as aborted

@@ -128,10 +128,10 @@ ended n old form new t o end told ordered p f q e =
           let stated : IsLegalMoment v end = end_moment v o end told (rw f at k) in
           record {
             txns = rw all (all_more IsLegalTxn (map view_txn old.txns.items) last h.txns
-            (record { ops = current.0; begun = moment_of v t.begun current.1; ended = moment_of v end stated; told = told; ordered = ordered }));
+                (record { ops = current.0; begun = moment_of v t.begun current.1; ended = moment_of v end stated; told = told; ordered = ordered }));
             current = rw q (closed v o);
             ended = rw (q, all) (all_ended v o end (map view_txn old.txns.items) last refl (rw p at h.ended) (rw f at k));
             moments = λ without. rw all (all_more HasNoMoments (map view_txn old.txns.items) last (h.moments without)
-            (none_stated v t.begun current.1 without, none_stated v end stated without));
+                (none_stated v t.begun current.1 without, none_stated v end stated without));
           };
     }

@@ -82,11 +82,13 @@ fn with_line(alloc: Global, reading: Reading, n: usize, form: Line) -> Result<Re
             _ => return Err(LogFault::OutsideTransaction { line: n }),
         },
         Progress::Over => return Err(fault_when_over(n, &form)),
-        Progress::Inside(OpenTxn {
-            line,
-            begun,
-            mut ops,
-        }) => match form {
+        Progress::Inside(
+            OpenTxn {
+                line,
+                begun,
+                mut ops,
+            },
+        ) => match form {
             Line::Session(_) | Line::Begin(_) => return Err(LogFault::OpenTransaction { line }),
             Line::Write(_, 0) => return Err(LogFault::WriteZero { line: n }),
             Line::Read(key, wid) => {

@@ -139,7 +139,8 @@ fn any_with_unknown(sessions: &[Session]) -> bool
 fn any_moment(txns: &[Txn]) -> bool
     ensures { result ≡ list_any (λ t. is_some t.begun || is_some t.ended) txns.now }
 {
-    txns.iter().any(|txn| txn.begun.is_some() || txn.ended.is_some())
+    txns.iter()
+        .any(|txn| txn.begun.is_some() || txn.ended.is_some())
 }
 
 fn any_with_moment(sessions: &[Session]) -> bool
