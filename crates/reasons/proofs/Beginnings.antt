@@ -1,5 +1,5 @@
 -- The operation that begins a chain behind that of the initial value.
-use Rattle.std.proofs.Common.{◌≡◌, ◌≢◌, ◌⊎◌, ℕ, zero, suc, ◌<◌, ◌≤◌, List, [], ◌∷◌, ◌++◌, Option, None, Some, refl, sym, ap, ◌∙◌, subst, inl, inr, arith, ◌+◌, length, get_or}
+use Rattle.std.proofs.Common.{◌≡◌, ◌≢◌, ℕ, zero, suc, ◌<◌, ◌≤◌, List, [], ◌∷◌, ◌++◌, None, Some, refl, sym, ap, ◌∙◌, subst, inl, inr, arith, ◌+◌, length, get_or}
 use Rattle.std.specs.Prelude.{slice_get}
 use Rattle.std.proofs.lemmas.Bool.{cases_eq, cases_lt}
 use Rattle.session_log.specs.Text.{ClientSession}
@@ -21,6 +21,7 @@ use Rattle.reasons.specs.Initials.{IsBackIn, IsOfInitial, FollowsInitial, IsBegi
 use Rattle.reasons.specs.Given.{NoneInitial}
 use Rattle.reasons.proofs.Positions.{get_at, get_below}
 use Rattle.reasons.proofs.Ops.{event_at, write_at}
+use Rattle.reasons.proofs.Overwrites.{final_one}
 
 -- ---- links, one after the other
 linked_more : (ss : List ClientSession) (key : List ℕ) (wid : ℕ) (ls : List Link) (l : Link) → AreLinked ss key wid ls → IsNode ss l.node → ReadsAt ss l.node l.read key (left_by wid ls) → WritesLastAt ss l.node l.write key l.wid → AreLinked ss key wid (ls ++ l ∷ [])
@@ -51,12 +52,6 @@ link_on ss clean key u s y w node e (inr f) before t =
       linked = linked_more ss key 0 t.links link t.linked node (subst (λ n. ReadsAt ss u read.0 key n) (same ∙ sym t.left) read.1) write.1;
       left = left_more 0 t.links link;
     }
-  where
-    final_one : (log : Log) (u x v w : ℕ) → IsFinal log u x v → IsFinal log u x w → v ≡ w
-    final_one log u x v w (inl a) (inl b) = a.1 ∙ sym b.1
-    final_one log u x v w (inl a) (inr b) = absurd (omega (arith, a.0, b.0))
-    final_one log u x v w (inr a) (inl b) = absurd (omega (arith, b.0, a.0))
-    final_one log u x v w (inr a) (inr b) = let e = a.2 in let f = b.2 in cc
 
 trail_at_zero : (ss : List ClientSession) (key : List ℕ) (u y : ℕ) → u ≡ 0 → IsFinal (log_of ss) u (number_in (keys_in ss) key) y → Trail ss key y
 trail_at_zero ss key u y z (inl f) = record { links = []; linked = tt; left = sym f.1 }
@@ -182,9 +177,6 @@ begun ss clean a b j r =
 -- none of those before this place begins a chain there
 pub record NoneBefore (log : Log) (a b place : ℕ) : Type 0 where
   pub none : (k : ℕ) (e : Event) → k < place → slice_get (log.ops b) k ≡ Some e → IsBeginning log a b e → ⊥
-
-pub none_yet : (log : Log) (a b : ℕ) → NoneBefore log a b 0
-none_yet log a b = record { none = λ k e lt at h. omega (arith, lt) }
 
 pub none_further : (log : Log) (a b place : ℕ) (es : List Event) (d : Event) → es ≡ log.ops b → place < length es → NoneBefore log a b place → (IsBeginning log a b (get_or es place d) → ⊥) → NoneBefore log a b (place + 1)
 none_further log a b place es d own lt n h = record {

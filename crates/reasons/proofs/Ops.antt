@@ -1,5 +1,5 @@
 -- Operations of the sessions, and events of the log.
-use Rattle.std.proofs.Common.{◌≡◌, ◌≢◌, ℕ, zero, suc, ◌<◌, ◌≤◌, Bool, true, false, ◌&&◌, eqb, List, [], ◌∷◌, Option, None, Some, refl, sym, ap, ◌∙◌, subst, arith, length, get_or, eqb-true, eq-eqb}
+use Rattle.std.proofs.Common.{◌≡◌, ◌≢◌, ℕ, zero, suc, ◌<◌, true, eqb, List, [], ◌∷◌, Some, refl, sym, ap, ◌∙◌, subst, arith, length, get_or, eqb-true, eq-eqb}
 use Rattle.std.specs.Prelude.{slice_get}
 use Rattle.std.proofs.lemmas.Bool.{false≢true, and_parts, and_from}
 use Rattle.session_log.specs.Text.{ClientSession}
@@ -18,7 +18,7 @@ use Rattle.reason_laws.proofs.Texts.{one_key}
 use Rattle.reason_laws.proofs.Numbers.{ops_is, keys_is, listed_at}
 use Rattle.reasons.specs.Events.{names}
 use Rattle.reasons.specs.Given.{IsLeastRead, NoneRead}
-use Rattle.reasons.proofs.Positions.{FirstAt, SomeAt, any_from, some_at, get_at}
+use Rattle.reasons.proofs.Positions.{FirstAt, any_from, some_at, get_at}
 use Rattle.reasons.specs.Events.{names_any}
 
 -- ---- one operation, and its event

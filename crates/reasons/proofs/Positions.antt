@@ -1,7 +1,7 @@
 -- The first item of a list that passes.
-use Rattle.std.proofs.Common.{◌≡◌, ◌⊎◌, ℕ, zero, suc, ◌+◌, ◌<◌, ◌≤◌, Bool, true, false, not, cond, ◌||◌, List, [], ◌∷◌, length, Option, None, Some, refl, sym, ap, ◌∙◌, subst, inl, inr, arith, get_or, lt-ltb, take}
+use Rattle.std.proofs.Common.{◌≡◌, ℕ, zero, suc, ◌+◌, ◌<◌, ◌≤◌, Bool, true, false, not, cond, List, [], ◌∷◌, length, None, Some, refl, sym, ap, ◌∙◌, subst, inl, inr, arith, get_or, lt-ltb, take}
 use Rattle.std.specs.Prelude.{slice_get, nat_lt, position}
-use Rattle.std.specs.List.{position_or_len, list_any, AllByRecursion, Contains}
+use Rattle.std.specs.List.{position_or_len, list_any, AllByRecursion}
 use Rattle.std.proofs.lemmas.Bool.{cases_Bool, false≢true, cond-true, or_cases, or_left, or_right}
 use Rattle.session_log.proofs.Lines.{position_some}
 
@@ -85,11 +85,6 @@ some_at p (x ∷ xs) h = elim (or_cases (p x) (list_any p xs) h) [
 ]
 
 -- ---- places by `get_or`
-pub contains_at : {X : Type 0} (xs : List X) (k : ℕ) (x : X) → slice_get xs k ≡ Some x → Contains xs x
-contains_at [] k x e = cc
-contains_at (y ∷ xs) zero x e = let same : y ≡ x = cc in (0, omega arith, same)
-contains_at (y ∷ xs) (suc k) x e = let c = contains_at xs k x e in (suc c.0, omega (arith, c.1), c.2)
-
 pub get_at : {X : Type 0} (xs : List X) (k : ℕ) (d x : X) → k < length xs → get_or xs k d ≡ x → slice_get xs k ≡ Some x
 get_at [] k d x lt e = absurd (omega (arith, lt))
 get_at (y ∷ xs) zero d x lt e = ap Some e

@@ -1,16 +1,14 @@
 -- The walk back from a writer to node 0.
-use Rattle.std.proofs.Common.{◌≡◌, ◌≢◌, ◌⊎◌, ℕ, zero, suc, ◌+◌, ◌<◌, ◌≤◌, true, List, [], ◌∷◌, ◌++◌, length, reverse, None, Some, refl, sym, ap, ◌∙◌, subst, inl, inr, arith, length-append}
+use Rattle.std.proofs.Common.{◌≡◌, ◌≢◌, ℕ, zero, suc, ◌+◌, ◌<◌, ◌≤◌, true, List, [], ◌∷◌, ◌++◌, length, reverse, None, Some, refl, sym, ap, ◌∙◌, subst, inl, inr, arith, length-append}
 use Rattle.std.specs.Prelude.{is_some}
-use Rattle.std.proofs.lemmas.Bool.{cases_eq}
 use Rattle.serializability.specs.Log.{Log}
 use Rattle.serializability.specs.Reads.{IsClean}
 use Rattle.serializability.specs.Polygraph.{source}
 use Rattle.serializability.proofs.Sources.{source_is}
 use Rattle.chain_laws.specs.Chains.{writes, NoneCloses}
 use Rattle.chain_laws.proofs.Walks.{one_some}
-use Rattle.write_chains.proofs.Nexts.{IsOneWriter}
-use Rattle.write_chains.proofs.Backwards.{WalkedBack, alone, stepped, line_short, first_within, came_back}
-use Rattle.reasons.specs.Initials.{IsBackIn, IsOfInitial, FollowsInitial}
+use Rattle.write_chains.proofs.Backwards.{WalkedBack, alone, stepped, line_short, came_back}
+use Rattle.reasons.specs.Initials.{IsBackIn, IsOfInitial}
 
 -- so many steps back from the writer stands `first`, and both are of the initial chain or neither
 pub record Back (log : Log) (x writer first steps : ℕ) : Type 0 where
@@ -52,9 +50,6 @@ walk_on log clean x writer first s steps unclosed none b e ne =
       here = λ h. (let f = b.here h in back_by log x first s f.steps b.other e f.back);
     }
 
-pub came_to_initial : (log : Log) (x writer first s steps : ℕ) → Back log x writer first steps → source log first x ≡ Some s → s ≡ 0 → IsOfInitial log x writer
-came_to_initial log x writer first s steps b e z = b.there (record { steps = 1; back = (s, (e, z)) })
-
 no_step : (log : Log) (x v n : ℕ) → v ≢ 0 → source log v x ≡ None → IsBackIn log x n v → ⊥
 no_step log x v zero ne e b = ne b
 no_step log x v (suc n) ne e b = let bad : None ≡ Some b.0 = sym e ∙ b.1.0 in cc
@@ -71,15 +66,3 @@ source_writes log clean x v u lo hi e ne = elim (source_is log clean v x u lo hi
   | inl z ↦ absurd (ne z.0)
   | inr w ↦ (w.0, w.1, ap is_some w.2)
 ]
-
-pub follows : (log : Log) (x v u : ℕ) → source log v x ≡ Some u → IsOfInitial log x u → FollowsInitial log x v
-follows log x v u e h = record { from = u; reads = e; initial = h }
-
-pub follows_by : (log : Log) (x v u : ℕ) → source log v x ≡ Some u → FollowsInitial log x v → IsOfInitial log x u
-follows_by log x v u e h = let same : h.from ≡ u = one_some (source log v x) h.from u h.reads e in subst (IsOfInitial log x) same h.initial
-
-pub follows_none : (log : Log) (x v : ℕ) → source log v x ≡ None → FollowsInitial log x v → ⊥
-follows_none log x v e h = let bad : None ≡ Some h.from = sym e ∙ h.reads in cc
-
-pub at_initial : (log : Log) (x u : ℕ) → u ≡ 0 → IsOfInitial log x u
-at_initial log x u z = record { steps = 0; back = z }

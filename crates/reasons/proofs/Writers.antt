@@ -1,7 +1,7 @@
 -- The write that has an identity, and who writes it.
-use Rattle.std.proofs.Common.{◌≡◌, ◌≢◌, ◌⊎◌, ℕ, suc, ◌<◌, ◌≤◌, Bool, true, false, eqb, List, [], ◌∷◌, ◌++◌, Some, refl, sym, ap, ◌∙◌, subst, inl, inr, arith, eq-eqb, ne_eqb}
+use Rattle.std.proofs.Common.{◌≡◌, ◌≢◌, ℕ, suc, ◌<◌, ◌≤◌, Bool, true, false, eqb, List, [], ◌∷◌, ◌++◌, refl, sym, ap, ◌∙◌, subst, inl, inr, arith, eq-eqb, ne_eqb}
 use Rattle.std.specs.List.{list_any, Contains}
-use Rattle.std.proofs.lemmas.Bool.{cases_Bool, cases_eq, false≢true}
+use Rattle.std.proofs.lemmas.Bool.{cases_Bool, cases_eq}
 use Rattle.std.proofs.lemmas.List.{append_cancel_left}
 use Rattle.serializability.specs.declared.event.Event.{Event}
 use Rattle.serializability.specs.declared.event.Event.TheVariants.{Read, Write}
@@ -11,7 +11,7 @@ use Rattle.serializability.specs.Anomalies.{writes_as, is_write_of}
 use Rattle.anomaly_laws.proofs.Writes.{writes_split, is_write-self}
 use Rattle.session_history.specs.Writes.{IsUnwritten, IsNodesWrite, IsWrite}
 use Rattle.reasons.specs.Events.{names, names_any}
-use Rattle.reasons.proofs.Positions.{get_at, contains_at, any_from, some_at}
+use Rattle.reasons.proofs.Positions.{get_at, any_from}
 
 -- ---- a write that stands in a list
 writes_contained : (x w : ℕ) (ops : List Event) → Contains ops (Write x w) → writes_as x w ops ≡ true

@@ -1,7 +1,7 @@
 use Rattle.log_definitions.specs.Numbers.{log_of}
 use Rattle.reasons.specs.Events.{reads_alike, is_read_of}
 use Rattle.reasons.proofs.Positions.{first_at, none_passes}
-use Rattle.reasons.proofs.Least.{LeastWrite, none_least, some_least}
+use Rattle.reasons.proofs.Least.{none_least, some_least}
 use Rattle.reasons.proofs.Overwrites.{none_overwritten, some_read, overwritten, least_overwrite}
 use Rattle.reasons.proofs.overwritten.overwritten_by.Goals as goal
 
