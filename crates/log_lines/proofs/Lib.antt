@@ -1,0 +1,4 @@
+pub mod Texts
+pub mod OneMore
+pub mod Nodes
+pub mod Written

@@ -1,0 +1,162 @@
+-- The lines of a transaction are lines of the text.
+use Rattle.std.proofs.Common.{◌≡◌, ℕ, zero, suc, ◌+◌, Bool, true, false, eqb, List, [], ◌∷◌, ◌++◌, length, map, slice_get, Some, refl, sym, ap, ◌∙◌, subst, arith, append_assoc, length-append}
+use Rattle.std.specs.Prelude.{codes}
+use Rattle.std.specs.List.{flat_map, AllByRecursion}
+use Rattle.std.proofs.lemmas.Bool.{and_from, not_from_false}
+use Rattle.std.proofs.lemmas.List.{length-map, map-append}
+use Rattle.std.proofs.lemmas.Grind.{flat_map-append}
+use Rattle.session_log.specs.Text.{ClientSession, Transaction, line_text, full_line, text_of_lines, op_line, end_line, txn_lines, session_lines, log_text, IsLegal}
+use Rattle.session_log.specs.Lines.{lines, onto_line}
+use Rattle.session_log.specs.Version.{header_text, first_line, version_of, body_of}
+use Rattle.session_log.specs.declared.version.Version.{Version}
+use Rattle.session_log.specs.declared.version.Version.TheVariants.{One, Two, Three}
+use Rattle.session_log.specs.declared.line.Line.{Line}
+use Rattle.session_log.specs.declared.line.Line.TheVariants.{Session, Begin}
+use Rattle.session_log.specs.declared.session.Op.{Op}
+use Rattle.session_log.proofs.Lines.{lines-nil, lines-cons, lines-cons_lf}
+use Rattle.session_log.proofs.Whole.{log_by_lines, lines_log}
+use Rattle.serializability.proofs.Places.{each_of_append, each_of_map, each_from_append, each_from_map}
+use Rattle.log_definitions.specs.WellFormed.{log_lines, IsWellFormed}
+use Rattle.log_lines.specs.Places.{BeginsAt, IsLineOf, has_no_lf, with_lf}
+
+-- ---- no line of a text has an LF inside
+
+abbrev IsWhole : List ℕ × Bool → Type 0
+IsWhole l = has_no_lf l.0 ≡ true
+
+whole_onto : (b : ℕ) (ls : List (List ℕ × Bool)) → eqb b 10 ≡ false → AllByRecursion IsWhole ls → AllByRecursion IsWhole (onto_line b ls)
+whole_onto b [] e h = (and_from _ true (not_from_false (eqb b 10) e) refl, tt)
+whole_onto b (l ∷ ls) e h = (and_from _ (has_no_lf l.0) (not_from_false (eqb b 10) e) h.0, h.1)
+
+whole_lines : (text : List ℕ) → AllByRecursion IsWhole (lines text)
+whole_lines [] = subst (AllByRecursion IsWhole) (sym lines-nil) tt
+whole_lines (b ∷ bs) = go (eqb b 10) refl (whole_lines bs)
+  where
+    go : (t : Bool) → eqb b 10 ≡ t → AllByRecursion IsWhole (lines bs) → AllByRecursion IsWhole (lines (b ∷ bs))
+    go true e h = subst (AllByRecursion IsWhole) (sym (lines-cons_lf b bs e)) (refl, h)
+    go false e h = subst (AllByRecursion IsWhole) (sym (lines-cons b bs e)) (whole_onto b (lines bs) e h)
+
+abbrev HasOneLine : Line → Type 0
+HasOneLine l = has_no_lf (line_text l) ≡ true
+
+own_lines : (v : Version) (ss : List ClientSession) → AllByRecursion IsLegal ss → AllByRecursion HasOneLine (log_lines ss)
+own_lines v ss h =
+    each_of_map IsWhole (λ (l : Line). (line_text l, true)) (log_lines ss) (subst (AllByRecursion IsWhole) (lines_log v ss h) (whole_lines (body_of (log_text v ss))))
+
+-- ---- a line of the sessions is a line of the text
+
+-- the header's line
+abbrev header_front : Version → List (List ℕ)
+header_front One = []
+header_front Two = codes "log 2" ∷ []
+header_front Three = codes "log 3" ∷ []
+
+header_apart : (v : Version) → AllByRecursion (λ bytes. has_no_lf bytes ≡ true) (header_front v)
+header_apart One = tt
+header_apart Two = (refl, tt)
+header_apart Three = (refl, tt)
+
+header_whole : (v : Version) → header_text v ≡ flat_map with_lf (header_front v)
+header_whole One = refl
+header_whole Two = refl
+header_whole Three = refl
+
+header_count : (v : Version) → first_line v ≡ length (header_front v) + 1
+header_count One = refl
+header_count Two = refl
+header_count Three = refl
+
+texts_front : (fs : List Line) → text_of_lines fs ≡ flat_map with_lf (map line_text fs)
+texts_front [] = refl
+texts_front (f ∷ fs) = ap (λ t. with_lf (line_text f) ++ t) (texts_front fs)
+
+pub line_stands : (v : Version) (ss : List ClientSession) (fs : List Line) (l : Line) (gs : List Line) (k : ℕ) → AllByRecursion IsLegal ss → log_lines ss ≡ fs ++ l ∷ gs → k ≡ first_line v + length fs
+    → IsLineOf (log_text v ss) k l
+line_stands v ss fs l gs k legal split at =
+    let own = each_of_append HasOneLine fs (l ∷ gs) (subst (AllByRecursion HasOneLine) split (own_lines v ss legal)) in
+    let front = header_front v ++ map line_text fs in
+    record {
+      front = front;
+      rest = text_of_lines gs;
+      apart = each_from_append (λ bytes. has_no_lf bytes ≡ true) (header_front v) (map line_text fs) (header_apart v) (each_from_map (λ bytes. has_no_lf bytes ≡ true) line_text fs own.0);
+      one = own.1.0;
+      count = omega (arith, at, header_count v, length-append (header_front v) (map line_text fs), length-map fs line_text);
+      whole =
+          log_by_lines v ss
+          ∙ ap (λ ls. header_text v ++ text_of_lines ls) split
+          ∙ ap (λ t. header_text v ++ t) (flat_map-append full_line fs (l ∷ gs))
+          ∙ sym (append_assoc (header_text v) (text_of_lines fs) (text_of_lines (l ∷ gs)))
+          ∙ ap (λ t. (header_text v ++ t) ++ text_of_lines (l ∷ gs)) (texts_front fs)
+          ∙ ap (λ t. (t ++ flat_map with_lf (map line_text fs)) ++ text_of_lines (l ∷ gs)) (header_whole v)
+          ∙ ap (λ t. t ++ text_of_lines (l ∷ gs)) (sym (flat_map-append with_lf (header_front v) (map line_text fs)))
+          ∙ ap (λ t. flat_map with_lf front ++ t) (append_assoc (line_text l) (10 ∷ []) (text_of_lines gs));
+    }
+
+-- ---- the lines of a transaction among those of the sessions
+
+record StandsAt (n : ℕ) (ss : List ClientSession) (t : Transaction) (line : ℕ) : Type 0 where
+  pub front : List Line
+  pub back : List Line
+  pub split : log_lines ss ≡ front ++ (txn_lines t ++ back)
+  pub at : line ≡ n + length front
+
+stands_at : (n : ℕ) (ss : List ClientSession) (session place : ℕ) (t : Transaction) (line : ℕ) → BeginsAt n ss session place t line → StandsAt n ss t line
+stands_at n ss session place t line b =
+    let head = Session b.of.number in
+    let inner = flat_map txn_lines b.earlier in
+    let left = log_lines b.before in
+    let later = flat_map txn_lines b.later in
+    let right = log_lines b.after in
+    let front = left ++ (head ∷ inner) in
+    record {
+      front = front;
+      back = later ++ right;
+      split =
+          ap log_lines b.sessions
+          ∙ flat_map-append session_lines b.before (b.of ∷ b.after)
+          ∙ ap (λ ts. left ++ ((head ∷ flat_map txn_lines ts) ++ right)) b.txns
+          ∙ ap (λ ls. left ++ ((head ∷ ls) ++ right)) (flat_map-append txn_lines b.earlier (t ∷ b.later))
+          ∙ ap (λ ls. left ++ (head ∷ ls)) (append_assoc inner (txn_lines t ++ later) right ∙ ap (λ ls. inner ++ ls) (append_assoc (txn_lines t) later right))
+          ∙ sym (append_assoc left (head ∷ inner) (txn_lines t ++ (later ++ right)));
+      at = omega (arith, b.begins, length-append left (head ∷ inner));
+    }
+
+-- a line of the transaction is one of the text
+pub line_of_txn : (text : List ℕ) (ss : List ClientSession) → IsWellFormed text ss → (session place line : ℕ) (t : Transaction) → BeginsAt (first_line (version_of text)) ss session place t line
+    → (fs : List Line) (l : Line) (gs : List Line) (k : ℕ) → txn_lines t ≡ fs ++ l ∷ gs → k ≡ line + length fs → IsLineOf text k l
+line_of_txn text ss well session place line t b fs l gs k split at =
+    let v = version_of text in
+    let s = stands_at (first_line v) ss session place t line b in
+    let P : List ℕ → Type 0 = λ bytes. IsLineOf bytes k l in
+    subst P (sym well.lines) (line_stands v ss (s.front ++ fs) l (gs ++ s.back) k well.legal
+    (s.split ∙ ap (λ ls. s.front ++ (ls ++ s.back)) split ∙ ap (λ ls. s.front ++ ls) (append_assoc fs (l ∷ gs) s.back) ∙ sym (append_assoc s.front fs (l ∷ (gs ++ s.back))))
+    (omega (arith, at, s.at, length-append s.front fs)))
+
+pub begin_line : (text : List ℕ) (ss : List ClientSession) → IsWellFormed text ss → (session place line : ℕ) (t : Transaction) → BeginsAt (first_line (version_of text)) ss session place t line
+    → IsLineOf text line (Begin t.begun)
+begin_line text ss well session place line t b =
+    line_of_txn text ss well session place line t b [] (Begin t.begun) (map op_line t.ops ++ end_line t.outcome t.ended ∷ []) line refl (omega arith)
+
+split_ops : (ops : List Op) (i : ℕ) (op : Op) → slice_get ops i ≡ Some op → (fs : List Op) × ((gs : List Op) × ((ops ≡ fs ++ op ∷ gs) × (length fs ≡ i)))
+split_ops [] i op e = cc
+split_ops (o ∷ ops) zero op e = let same : o ≡ op = cc in ([], (ops, (ap (λ x. x ∷ ops) same, refl)))
+split_ops (o ∷ ops) (suc i) op e = let r = split_ops ops i op e in (o ∷ r.0, (r.1.0, (ap (λ x. o ∷ x) r.1.1.0, omega (arith, r.1.1.1))))
+
+pub operation_line : (text : List ℕ) (ss : List ClientSession) → IsWellFormed text ss → (session place line : ℕ) (t : Transaction) → BeginsAt (first_line (version_of text)) ss session place t line
+    → (i : ℕ) (op : Op) → slice_get t.ops i ≡ Some op → IsLineOf text (line + 1 + i) (op_line op)
+operation_line text ss well session place line t b i op e =
+    let r = split_ops t.ops i op e in
+    let fs = r.0 in
+    let gs = r.1.0 in
+    let end = end_line t.outcome t.ended ∷ [] in
+    line_of_txn text ss well session place line t b (Begin t.begun ∷ map op_line fs) (op_line op) (map op_line gs ++ end) (line + 1 + i)
+    (ap (λ ops. Begin t.begun ∷ (map op_line ops ++ end)) r.1.1.0
+    ∙ ap (λ ls. Begin t.begun ∷ (ls ++ end)) (map-append op_line fs (op ∷ gs))
+    ∙ ap (λ ls. Begin t.begun ∷ ls) (append_assoc (map op_line fs) (op_line op ∷ map op_line gs) end))
+    (omega (arith, r.1.1.1, length-map fs op_line))
+
+pub ending_line : (text : List ℕ) (ss : List ClientSession) → IsWellFormed text ss → (session place line : ℕ) (t : Transaction) → BeginsAt (first_line (version_of text)) ss session place t line
+    → IsLineOf text (line + 1 + length t.ops) (end_line t.outcome t.ended)
+ending_line text ss well session place line t b =
+    line_of_txn text ss well session place line t b (Begin t.begun ∷ map op_line t.ops) (end_line t.outcome t.ended) [] (line + 1 + length t.ops) refl
+    (omega (arith, length-map t.ops op_line))

@@ -1,0 +1,12 @@
+use Rattle.std.proofs.Common.{◌≡◌, ◌+◌, map, drop, length}
+use Rattle.session_log.specs.Text.{view}
+use Rattle.session_log.specs.Version.{first_line}
+use Rattle.log_definitions.specs.WellFormed.{log_lines}
+use Rattle.log_lines.specs.Computed.{write_in}
+use Rattle.log_lines.proofs.writes.write_at.Given as goal
+
+abbrev pub invariant-loop-session : goal.invariant-loop-session
+invariant-loop-session l = record {
+  write : write_in l.key l.wid l.line (map view (drop l.session-index l.sessions)) ≡ write_in l.key l.wid (first_line l.fn.version) (map view l.sessions);
+  room : l.line + length (log_lines (map view (drop l.session-index l.sessions))) ≡ first_line l.fn.version + length (log_lines (map view l.sessions));
+}

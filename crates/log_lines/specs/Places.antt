@@ -1,0 +1,61 @@
+-- Where the operations of a log stand. Lines count from 1, and the first session of the log begins at line n, behind the header.
+use Rattle.std.specs.Prelude.{◌≡◌, ℕ, ◌+◌, ◌-◌, ◌<◌, ◌≤◌, Bool, true, not, ◌==◌, List, [], ◌∷◌, ◌++◌, length, Some, slice_get, slice_index}
+use Rattle.std.specs.List.{flat_map, list_all, AllByRecursion}
+use Rattle.session_log.specs.Text.{ClientSession, Transaction, line_text, txn_lines}
+use Rattle.session_log.specs.declared.line.Line.{Line}
+use Rattle.session_log.specs.declared.session.Op.TheVariants.{Write}
+use Rattle.log_definitions.specs.WellFormed.{log_lines}
+use Rattle.log_definitions.specs.Serial.{committed_in, ops_of, begun_of, ended_of}
+use Rattle.session_history.specs.Tables.{name_in}
+
+-- the transaction t, at this place, from 1, of the session of this number, begins at this line
+pub record BeginsAt (n : ℕ) (ss : List ClientSession) (session place : ℕ) (t : Transaction) (line : ℕ) : Type 0 where
+  pub before : List ClientSession
+  pub of : ClientSession
+  pub after : List ClientSession
+  pub earlier : List Transaction
+  pub later : List Transaction
+  pub sessions : ss ≡ before ++ of ∷ after
+  pub number : of.number ≡ session
+  pub txns : of.txns ≡ earlier ++ t ∷ later
+  pub stands : place ≡ length earlier + 1
+  pub begins : line ≡ n + length (log_lines before) + 1 + length (flat_map txn_lines earlier)
+
+-- there is no LF among these bytes
+abbrev pub has_no_lf : List ℕ → Bool
+has_no_lf bytes = list_all (λ b. not (b == 10)) bytes
+
+-- the bytes of a line with its LF
+abbrev pub with_lf : List ℕ → List ℕ
+with_lf bytes = bytes ++ 10 ∷ []
+
+-- line k of the text is l: so many lines less one stand in front of it, each ended by its LF
+pub record IsLineOf (text : List ℕ) (k : ℕ) (l : Line) : Type 0 where
+  pub front : List (List ℕ)
+  pub rest : List ℕ
+  pub apart : AllByRecursion (λ bytes. has_no_lf bytes ≡ true) front
+  pub one : has_no_lf (line_text l) ≡ true
+  pub count : k ≡ length front + 1
+  pub whole : text ≡ flat_map with_lf front ++ (line_text l ++ 10 ∷ rest)
+
+-- node v, a transaction of these operations and moments, begins at this line, in the place of its name
+pub record NodeBeginsAt (n : ℕ) (ss : List ClientSession) (v line : ℕ) : Type 0 where
+  pub t : Transaction
+  pub ops : t.ops ≡ ops_of ss v
+  pub begun : t.begun ≡ begun_of ss v
+  pub ended : t.ended ≡ ended_of ss v
+  pub begins : BeginsAt n ss (name_in ss v).0 (name_in ss v).1 t line
+
+-- the lines at which the nodes begin, in the order of the nodes from node 1 on
+pub record AreBeginLines (n : ℕ) (ss : List ClientSession) (lines : List ℕ) : Type 0 where
+  pub count : length lines ≡ length (committed_in ss)
+  pub each : (v : ℕ) → 0 < v → v ≤ length (committed_in ss) → NodeBeginsAt n ss v (slice_index lines (v - 1))
+
+-- the transaction at this place of the session of this number, of whatever outcome, writes this identity to the key in this line
+pub record IsWriteAt (n : ℕ) (ss : List ClientSession) (key : List ℕ) (wid session place line : ℕ) : Type 0 where
+  pub t : Transaction
+  pub begin : ℕ
+  pub i : ℕ
+  pub begins : BeginsAt n ss session place t begin
+  pub writes : slice_get t.ops i ≡ Some (Write key wid)
+  pub stands : line ≡ begin + 1 + i

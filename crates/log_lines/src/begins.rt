@@ -1,0 +1,84 @@
+//! The lines at which the nodes of a history begin.
+
+ghost use Rattle.std.specs.Prelude.{◌≡◌, ◌+◌, ◌<◌, ◌^◌, ◌++◌, length, map, OnOk, IfOk};
+ghost use Rattle.std.specs.List.{flat_map};
+ghost use Rattle.session_log.specs.Text.{view, view_txn, txn_lines};
+ghost use Rattle.session_log.specs.Version.{first_line};
+ghost use Rattle.log_definitions.specs.Unknown.{is_committed, settle};
+ghost use Rattle.log_definitions.specs.WellFormed.{log_lines};
+ghost use Rattle.log_lines.specs.Places.{AreBeginLines};
+ghost use Rattle.log_lines.specs.Computed.{begin_of, begins_from};
+
+use crate::counts::{session_line_count, txn_line_count};
+use session_history::History;
+use session_log::{Outcome, Session, Txn, Version};
+use std::alloc::{AllocError, Global};
+
+/// Whether a transaction is a node, where those of unknown outcome are taken, or not.
+fn is_node(txn: &Txn, is_taken: bool) -> bool
+    ensures { result ≡ is_committed (settle is_taken (view_txn txn.now)) }
+{
+    match txn.outcome {
+        Outcome::Commit => true,
+        Outcome::Abort => false,
+        Outcome::Unknown => is_taken,
+    }
+}
+
+/// Appends the line at which a transaction begins, where it is a node.
+fn add_begin_line(
+    lines: &mut Vec<usize>,
+    txn: &Txn,
+    is_taken: bool,
+    line: usize,
+) -> Result<(), AllocError>
+    ensures { OnOk result (lines.new.items
+        ≡ lines.old.items ++ begin_of is_taken line (view_txn txn.now)) }
+{
+    if is_node(txn, is_taken) {
+        lines.push(line)?;
+    }
+    Ok(())
+}
+
+/// Appends the lines at which the nodes of a session begin, whose first transaction begins at line `first`.
+fn add_begin_lines(
+    lines: &mut Vec<usize>,
+    session: &Session,
+    is_taken: bool,
+    first: usize,
+) -> Result<(), AllocError>
+    requires { first + length (flat_map txn_lines (view session.now).txns) < 2 ^ 64 }
+    ensures { OnOk result (lines.new.items
+        ≡ lines.old.items ++ begins_from is_taken first (view session.now).txns) }
+{
+    let mut line = first;
+    for txn in &session.txns {
+        add_begin_line(lines, txn, is_taken, line)?;
+        line += txn_line_count(txn);
+    }
+    Ok(())
+}
+
+/// The line of the log, from 1, at which each node begins, in the order of the nodes: that of node v is at v - 1. The history is
+/// that of these sessions, and they were read from a log of this version.
+pub fn begin_lines(
+    alloc: Global,
+    version: Version,
+    sessions: &[Session],
+    history: &History,
+) -> Result<Vec<usize>, AllocError>
+    requires same { history.now ≡ map view sessions.now }
+    requires room { length (log_lines (map view sessions.now)) < 2 ^ 63 }
+    ensures begins { IfOk result (λ lines.
+        AreBeginLines (first_line version) history.now lines.items) }
+{
+    let mut lines = Vec::with_capacity(alloc, history.committed())?;
+    let mut line = version.first_line();
+    for session in sessions {
+        let is_taken = history.taken(usize::from(session.number));
+        add_begin_lines(&mut lines, session, is_taken, line + 1)?;
+        line += session_line_count(session);
+    }
+    Ok(lines)
+}
