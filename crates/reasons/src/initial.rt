@@ -3,7 +3,7 @@
 ghost use Rattle.std.specs.Prelude.{◌≡◌, ◌<◌, ◌≤◌, ◌↔◌, IsTrue, true, IfSome, IfNone, ℕ};
 ghost use Rattle.serializability.specs.Reads.{IsClean};
 ghost use Rattle.log_definitions.specs.Numbers.{log_of};
-ghost use Rattle.chain_laws.specs.Chains.{writes, NoneCloses};
+ghost use Rattle.chain_laws.specs.Chains.{writes};
 ghost use Rattle.session_history.specs.Rows.{event_key};
 ghost use Rattle.reason_laws.specs.Reasons.{IsNode, IsOfInitialBefore};
 ghost use Rattle.reasons.specs.Initials.{IsOfInitial, FollowsInitial, IsBeginning};
@@ -11,13 +11,12 @@ ghost use Rattle.reasons.specs.Given.{NoneInitial};
 
 use serializability::{Event, NodeIx};
 use session_history::History;
-use write_chains::Chains;
 
-/// Whether the chain of this writer of the key begins with node 0. It takes as many steps as writers stand before it there.
+/// Whether the chain of this writer of the key begins with node 0, which one that closes on itself does not.
+/// It takes as many steps as writers stand before it there.
 fn is_of_initial(history: &History, key: usize, writer: NodeIx) -> bool
     requires clean { IsClean (log_of history.now) }
     requires key { key < (log_of history.now).keys }
-    requires none_closes { NoneCloses (log_of history.now) key }
     requires writer { (0 < writer) × (writer ≤ (log_of history.now).nodes)
         × (writes (log_of history.now) key writer ≡ true) }
     ensures { IsTrue result ↔ IsOfInitial (log_of history.now) key writer }
@@ -30,21 +29,22 @@ fn is_of_initial(history: &History, key: usize, writer: NodeIx) -> bool
         if source == NodeIx::INITIAL {
             return true;
         }
+        // The chain closes on itself, and never comes to node 0.
+        if source == writer {
+            break;
+        }
         first = source;
     }
     false
 }
 
 /// Whether a node reads the key from the chain of its initial value.
-fn follows_initial(chains: &Chains, key: usize, node: NodeIx) -> bool
-    requires clean { IsClean (log_of chains.now) }
-    requires key { key < (log_of chains.now).keys }
-    requires node { IsNode chains.now node }
-    ensures { IsTrue result ↔ FollowsInitial (log_of chains.now) key node }
+fn follows_initial(history: &History, key: usize, node: NodeIx) -> bool
+    requires clean { IsClean (log_of history.now) }
+    requires key { key < (log_of history.now).keys }
+    requires node { IsNode history.now node }
+    ensures { IsTrue result ↔ FollowsInitial (log_of history.now) key node }
 {
-    let history = chains.history();
-    // No chain of the key closes on itself.
-    let _others = chains.chains_of(key);
     match history.source_of(node, key) {
         Some(source) => source == NodeIx::INITIAL || is_of_initial(history, key, source),
         None => false,
@@ -52,32 +52,32 @@ fn follows_initial(chains: &Chains, key: usize, node: NodeIx) -> bool
 }
 
 /// Whether an operation of `b` begins a chain behind that of the initial value of its key, which `a` reads from.
-fn is_beginning(chains: &Chains, a: NodeIx, b: NodeIx, event: Event) -> bool
-    requires clean { IsClean (log_of chains.now) }
-    requires first { IsNode chains.now a }
-    requires key { event_key event < (log_of chains.now).keys }
-    ensures { IsTrue result ↔ IsBeginning (log_of chains.now) a b event }
+fn is_beginning(history: &History, a: NodeIx, b: NodeIx, event: Event) -> bool
+    requires clean { IsClean (log_of history.now) }
+    requires first { IsNode history.now a }
+    requires key { event_key event < (log_of history.now).keys }
+    ensures { IsTrue result ↔ IsBeginning (log_of history.now) a b event }
 {
     match event {
         Event::Read { .. } => false,
         Event::Write { key, .. } => {
-            chains.history().source_of(b, key).is_none() && follows_initial(chains, key, a)
+            history.source_of(b, key).is_none() && follows_initial(history, key, a)
         }
     }
 }
 
 /// The first operation of `b` that begins a chain behind that of the initial value of its key, which `a` reads from.
-pub fn begins_behind_initial(chains: &Chains, a: NodeIx, b: NodeIx) -> Option<usize>
-    requires clean { IsClean (log_of chains.now) }
-    requires first { IsNode chains.now a }
-    requires second { IsNode chains.now b }
-    ensures is { IfSome result (λ begins. IsOfInitialBefore chains.now a b begins) }
+pub fn begins_behind_initial(history: &History, a: NodeIx, b: NodeIx) -> Option<usize>
+    requires clean { IsClean (log_of history.now) }
+    requires first { IsNode history.now a }
+    requires second { IsNode history.now b }
+    ensures is { IfSome result (λ begins. IsOfInitialBefore history.now a b begins) }
     ensures least { IfSome result (λ begins.
-        (j : ℕ) → IsOfInitialBefore chains.now a b j → begins ≤ j) }
-    ensures none { IfNone result (NoneInitial chains.now a b) }
+        (j : ℕ) → IsOfInitialBefore history.now a b j → begins ≤ j) }
+    ensures none { IfNone result (NoneInitial history.now a b) }
 {
-    for (place, event) in chains.history().events_of(b).iter().enumerate() {
-        if is_beginning(chains, a, b, *event) {
+    for (place, event) in history.events_of(b).iter().enumerate() {
+        if is_beginning(history, a, b, *event) {
             return Some(place);
         }
     }

@@ -11,7 +11,6 @@ use crate::overwritten::overwritten_by;
 use crate::read::read_by;
 use serializability::NodeIx;
 use session_history::History;
-use write_chains::Chains;
 
 /// Why a node stands before another in each serial order. Operations count from 0.
 #[derive(Clone, Copy, Debug, PartialEq, Eq)]
@@ -55,9 +54,8 @@ fn ended_before(history: &History, a: NodeIx, b: NodeIx) -> bool
 }
 
 /// Why `a` stands before `b` in each serial order, where the log shows it.
-pub fn reason_of(history: &History, chains: &Chains, a: NodeIx, b: NodeIx) -> Option<Reason>
+pub fn reason_of(history: &History, a: NodeIx, b: NodeIx) -> Option<Reason>
     requires clean { IsClean (log_of history.now) }
-    requires chains { chains.now ≡ history.now }
     requires first { (0 < a) × (a ≤ (log_of history.now).nodes) }
     requires second { (0 < b) × (b ≤ (log_of history.now).nodes) }
     ensures holds { IfSome result (IsReason history.now a b) }
@@ -85,7 +83,7 @@ pub fn reason_of(history: &History, chains: &Chains, a: NodeIx, b: NodeIx) -> Op
             overwrites: found.second,
         });
     }
-    if let Some(begins) = begins_behind_initial(chains, a, b) {
+    if let Some(begins) = begins_behind_initial(history, a, b) {
         return Some(Reason::Initial { begins });
     }
     if ended_before(history, a, b) {

@@ -8,26 +8,26 @@ use Rattle.reasons.proofs.initial.begins_behind_initial.Goals as goal
 
 pub is_beginning-requires-clause-key : goal.is_beginning-requires-clause-key
 is_beginning-requires-clause-key c =
-    let own = c.events_of-event-items.ensures.events ∙ ap (λ ss. (log_of ss).ops c.args.b) c.history.ensures.history in
-    key_below_at c.args.chains.now c.args.b c.loop-place.place c.events_of-event-items.result.now (event.Read 0 0) own c.loop-place-test.true
+    let own = c.events_of-event-items.ensures.events in
+    key_below_at c.args.history.now c.args.b c.loop-place.place c.events_of-event-items.result.now (event.Read 0 0) own c.loop-place-test.true
 
 pub returns-then-is_beginning-clause-is : goal.returns-then-is_beginning-clause-is
 returns-then-is_beginning-clause-is c =
-    let own = c.events_of-event-items.ensures.events ∙ ap (λ ss. (log_of ss).ops c.args.b) c.history.ensures.history in
-    begins_at c.args.chains.now c.requires.clean c.args.a c.args.b c.loop-place.place c.events_of-event-items.result.now (event.Read 0 0) c.requires.first c.requires.second own c.loop-place-test.true
+    let own = c.events_of-event-items.ensures.events in
+    begins_at c.args.history.now c.requires.clean c.args.a c.args.b c.loop-place.place c.events_of-event-items.result.now (event.Read 0 0) c.requires.first c.requires.second own c.loop-place-test.true
     (c.is_beginning.ensures.0 c.if-is_beginning.true)
 
 pub returns-then-is_beginning-clause-least : goal.returns-then-is_beginning-clause-least
-returns-then-is_beginning-clause-least c = none_behind c.args.chains.now c.requires.clean c.args.a c.args.b c.loop-place.place c.loop-place.invariant
+returns-then-is_beginning-clause-least c = none_behind c.args.history.now c.requires.clean c.args.a c.args.b c.loop-place.place c.loop-place.invariant
 
 pub loop-place-preserved : goal.loop-place-preserved
 loop-place-preserved c =
-    let own = c.events_of-event-items.ensures.events ∙ ap (λ ss. (log_of ss).ops c.args.b) c.history.ensures.history in
-    none_further (log_of c.args.chains.now) c.args.a c.args.b c.loop-place.place c.events_of-event-items.result.now (event.Read 0 0) own c.loop-place-test.true c.loop-place.invariant
+    let own = c.events_of-event-items.ensures.events in
+    none_further (log_of c.args.history.now) c.args.a c.args.b c.loop-place.place c.events_of-event-items.result.now (event.Read 0 0) own c.loop-place-test.true c.loop-place.invariant
     (λ h. false≢true (sym c.if-is_beginning.false ∙ c.is_beginning.ensures.1 h))
 
 pub returns-clause-none : goal.returns-clause-none
 returns-clause-none c =
-    let own = c.events_of-event-items.ensures.events ∙ ap (λ ss. (log_of ss).ops c.args.b) c.history.ensures.history in
+    let own = c.events_of-event-items.ensures.events in
     let all = ap length own in
-    none_initial c.args.chains.now c.requires.clean c.args.a c.args.b c.loop-place.place c.loop-place.invariant (omega (arith, c.loop-place-test.false, all))
+    none_initial c.args.history.now c.requires.clean c.args.a c.args.b c.loop-place.place c.loop-place.invariant (omega (arith, c.loop-place-test.false, all))

@@ -3,4 +3,4 @@ use Rattle.reasons.proofs.Beginnings.{NoneBefore}
 use Rattle.reasons.proofs.initial.begins_behind_initial.Given as goal
 
 abbrev pub invariant-loop-place : goal.invariant-loop-place
-invariant-loop-place l = NoneBefore (log_of l.chains) l.a l.b l.place
+invariant-loop-place l = NoneBefore (log_of l.history) l.a l.b l.place

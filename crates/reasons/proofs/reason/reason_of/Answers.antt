@@ -1,8 +1,6 @@
-use Rattle.std.proofs.Common.{ℕ, ◌≤◌, sym, subst, ◌∙◌}
+use Rattle.std.proofs.Common.{sym, ◌∙◌}
 use Rattle.std.proofs.lemmas.Bool.{false≢true}
-use Rattle.reason_laws.specs.Reasons.{IsNode, IsOfInitialBefore}
 use Rattle.reason_laws.proofs.Numbers.{node_from}
-use Rattle.reasons.specs.Given.{NoneInitial}
 use Rattle.reasons.proofs.reason.reason_of.Goals as goal
 
 pub are_of_session-requires-clause-first : goal.are_of_session-requires-clause-first
@@ -24,12 +22,10 @@ pub overwritten_by-requires-clause-second : goal.overwritten_by-requires-clause-
 overwritten_by-requires-clause-second c = node_from c.args.history.now c.args.b c.requires.second.0 c.requires.second.1
 
 pub begins_behind_initial-requires-clause-first : goal.begins_behind_initial-requires-clause-first
-begins_behind_initial-requires-clause-first c =
-    subst (λ ss. IsNode ss c.args.a) (sym c.requires.chains) (node_from c.args.history.now c.args.a c.requires.first.0 c.requires.first.1)
+begins_behind_initial-requires-clause-first c = node_from c.args.history.now c.args.a c.requires.first.0 c.requires.first.1
 
 pub begins_behind_initial-requires-clause-second : goal.begins_behind_initial-requires-clause-second
-begins_behind_initial-requires-clause-second c =
-    subst (λ ss. IsNode ss c.args.b) (sym c.requires.chains) (node_from c.args.history.now c.args.b c.requires.second.0 c.requires.second.1)
+begins_behind_initial-requires-clause-second c = node_from c.args.history.now c.args.b c.requires.second.0 c.requires.second.1
 
 pub ended_before-requires-clause-first : goal.ended_before-requires-clause-first
 ended_before-requires-clause-first c = node_from c.args.history.now c.args.a c.requires.first.0 c.requires.first.1
@@ -37,17 +33,12 @@ ended_before-requires-clause-first c = node_from c.args.history.now c.args.a c.r
 pub ended_before-requires-clause-second : goal.ended_before-requires-clause-second
 ended_before-requires-clause-second c = node_from c.args.history.now c.args.b c.requires.second.0 c.requires.second.1
 
-pub returns-in-Some-begins_behind_initial-clause-least : goal.returns-in-Some-begins_behind_initial-clause-least
-returns-in-Some-begins_behind_initial-clause-least c =
-    let begins = c.in-Some-begins_behind_initial.begins in
-    subst (λ ss. (j : ℕ) → IsOfInitialBefore ss c.args.a c.args.b j → begins ≤ j) c.requires.chains c.in-Some-begins_behind_initial.ensures.least
-
 pub returns-then-ended_before-clause-first : goal.returns-then-ended_before-clause-first
 returns-then-ended_before-clause-first c = (
   λ s. false≢true (sym c.if-are_of_session.false ∙ c.are_of_session.ensures.1 s),
   c.in_default.ensures.none,
   c.in_default-overwritten_by.ensures.none,
-  subst (λ ss. NoneInitial ss c.args.a c.args.b) c.requires.chains c.in_default-begins_behind_initial.ensures.none,
+  c.in_default-begins_behind_initial.ensures.none,
 )
 
 pub returns-clause-none : goal.returns-clause-none
@@ -55,6 +46,6 @@ returns-clause-none c = record {
   session = λ s. false≢true (sym c.if-are_of_session.false ∙ c.are_of_session.ensures.1 s);
   read = c.in_default.ensures.none;
   overwritten = c.in_default-overwritten_by.ensures.none;
-  initial = subst (λ ss. NoneInitial ss c.args.a c.args.b) c.requires.chains c.in_default-begins_behind_initial.ensures.none;
+  initial = c.in_default-begins_behind_initial.ensures.none;
   moments = λ e. false≢true (sym c.if-ended_before.false ∙ c.ended_before.ensures.1 e);
 }
