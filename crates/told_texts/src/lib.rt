@@ -1,0 +1,11 @@
+//! Explanations as text and as graphs.
+#![tactic(auto)]
+
+mod arrows;
+mod boxes;
+mod graph;
+mod marks;
+mod text;
+
+pub use graph::put_graph;
+pub use text::put_items;

@@ -1,0 +1,151 @@
+//! Explanations as text.
+
+ghost use Rattle.std.specs.Prelude.{◌≡◌, ◌<◌, ◌≤◌, ◌^◌, ◌*◌, ◌++◌, codes, decimal, replicate, OnOk};
+ghost use Rattle.log_definitions.specs.Numbers.{log_of};
+ghost use Rattle.explanations.specs.Lines.{begin_at, AreLines};
+ghost use Rattle.told_texts.specs.Texts as spec;
+ghost use Rattle.told_texts.specs.Texts.{IsOrderOf, IsTellable, AreTellable};
+
+use explanations::{ChainOrder, put_edge, put_key, put_named, put_number};
+use forced_steps::Item;
+use serializability::NodeIx;
+use session_history::History;
+use std::alloc::AllocError;
+
+/// Appends two blanks for each choice that is decided.
+fn put_indent(out: &mut Vec<u8>, depth: usize) -> Result<(), AllocError>
+    ensures text { OnOk result (out.new.items ≡ out.old.items ++ spec.indent depth) }
+{
+    for _ in 0..depth {
+        out.extend_from_slice(b"  ")?;
+    }
+    Ok(())
+}
+
+/// Appends the line of a forced step.
+fn put_step(
+    out: &mut Vec<u8>,
+    history: &History,
+    number: usize,
+    order: ChainOrder,
+    source: NodeIx,
+    target: NodeIx,
+) -> Result<(), AllocError>
+    requires order { IsOrderOf history.now order }
+    requires source { source ≤ (log_of history.now).nodes }
+    requires target { target ≤ (log_of history.now).nodes }
+    ensures text { OnOk result (out.new.items
+        ≡ out.old.items ++ spec.step_line history.now number order source target) }
+{
+    out.extend_from_slice(b"[")?;
+    put_number(out, number as u64)?;
+    out.extend_from_slice(b"] ")?;
+    put_key(out, history, order.key)?;
+    put_named(out, b": the chain of ", history, order.first)?;
+    put_named(out, b" before the chain of ", history, order.second)?;
+    put_named(out, b", since the other way ", history, source)?;
+    put_named(out, b" stands before ", history, target)?;
+    out.extend_from_slice(b", against:\n")?;
+    Ok(())
+}
+
+/// Appends the line of an order of two chains.
+fn put_order(out: &mut Vec<u8>, history: &History, order: ChainOrder) -> Result<(), AllocError>
+    requires order { IsOrderOf history.now order }
+    ensures text { OnOk result (out.new.items ≡ out.old.items ++ spec.order_line history.now order) }
+{
+    put_key(out, history, order.key)?;
+    put_named(out, b": the chain of ", history, order.first)?;
+    out.extend_from_slice(b" first\n")?;
+    Ok(())
+}
+
+/// Appends that a cycle begins at a node.
+fn put_start(out: &mut Vec<u8>, history: &History, start: NodeIx) -> Result<(), AllocError>
+    requires start { start ≤ (log_of history.now).nodes }
+    ensures text { OnOk result (out.new.items
+        ≡ out.old.items ++ spec.item_line history.now (λ v. 0) (Item.Cycle start 0)) }
+{
+    put_named(out, b"cycle from ", history, start)?;
+    out.extend_from_slice(b":\n")?;
+    Ok(())
+}
+
+/// Appends how many leaves there are.
+fn put_leaves(out: &mut Vec<u8>, count: usize) -> Result<(), AllocError>
+    ensures text { OnOk result (out.new.items ≡ out.old.items
+        ++ (decimal count ++ codes " cubes are refuted by a cycle; the first 1000 of them:\n")) }
+{
+    put_number(out, count as u64)?;
+    out.extend_from_slice(b" cubes are refuted by a cycle; the first 1000 of them:\n")?;
+    Ok(())
+}
+
+/// Appends the line of an item.
+fn put_item(
+    out: &mut Vec<u8>,
+    history: &History,
+    begins: &[usize],
+    item: Item,
+) -> Result<(), AllocError>
+    requires lines { AreLines history.now begins.now }
+    requires item { IsTellable history.now item }
+    ensures text { OnOk result (out.new.items
+        ≡ out.old.items ++ spec.item_line history.now (begin_at begins.now) item) }
+{
+    match item {
+        Item::Step {
+            number,
+            order,
+            source,
+            target,
+        } => put_step(out, history, number, order, source, target),
+        Item::Edge { first, second, why } => put_edge(out, history, begins, first, second, why),
+        Item::Cycle { start, edges: _ } => put_start(out, history, start),
+        Item::Decided { depth: _, order } => put_order(out, history, order),
+        Item::Leaves { count } => put_leaves(out, count),
+    }
+}
+
+/// How many choices are decided above an item, where so many were before it.
+fn depth_at(before: usize, item: Item) -> usize
+    ensures { result ≡ spec.depth_at before item }
+{
+    match item {
+        Item::Decided { depth, order: _ } => depth,
+        _ => before,
+    }
+}
+
+/// How many choices are decided behind an item, where so many were before it.
+fn depth_behind(before: usize, item: Item) -> usize
+    requires fits { spec.depth_behind before item < 2 ^ 64 }
+    ensures { result ≡ spec.depth_behind before item }
+{
+    match item {
+        Item::Decided { depth, order: _ } => depth + 1,
+        _ => before,
+    }
+}
+
+/// Appends the lines of an explanation, indented by how many choices a cube decides. Of `begins`, element `v - 1` is the line at which
+/// node `v` begins. Where memory runs out, a part of them may have been appended.
+pub fn put_items(
+    out: &mut Vec<u8>,
+    history: &History,
+    begins: &[usize],
+    items: &[Item],
+) -> Result<(), AllocError>
+    requires lines { AreLines history.now begins.now }
+    requires items { AreTellable history.now items.now }
+    ensures text { OnOk result (out.new.items
+        ≡ out.old.items ++ spec.items_text history.now (begin_at begins.now) 0 items.now) }
+{
+    let mut depth = 0;
+    for item in items {
+        put_indent(out, depth_at(depth, *item))?;
+        put_item(out, history, begins, *item)?;
+        depth = depth_behind(depth, *item);
+    }
+    Ok(())
+}
