@@ -2,7 +2,10 @@
 
 use crate::tape::Tape;
 use branch_search::Budget;
-use cobra_cli::{Fault, Options, Status, Stop, StrategyName, check, decode, encode, stats, verify};
+use cobra_cli::{
+    Fault, Format, Options, Status, Stop, StrategyName, check, decode, encode, explain, stats,
+    verify,
+};
 use desk::{Gate, OpenGate, Workers};
 use dimacs::Counted;
 use std::alloc::Global;
@@ -17,6 +20,7 @@ pub enum Command<'a> {
     Encode,
     Stats,
     Check,
+    Explain(Format),
     Decode(&'a str),
     Verify(&'a str),
 }
@@ -50,6 +54,7 @@ pub fn ended<G: Gate, R: Threads + Wait + Clock + Sync>(
         Command::Encode => encode(rt, alloc, log, options, gate, &mut sink),
         Command::Stats => stats(rt, alloc, log, options, gate, &mut sink),
         Command::Check => check(rt, alloc, log, options, gate, &mut sink),
+        Command::Explain(format) => explain(rt, alloc, log, options, format, gate, &mut sink),
         Command::Decode(answer) => {
             decode(rt, alloc, log, answer.as_bytes(), options, gate, &mut sink)
         }

@@ -3,7 +3,7 @@ use crate::logs::{
     AT_ONCE, DEAD, EACH_PAIR_READ, IN_TURN, LATER_WRITE_READ, LOST_UPDATE, SETTLED, TWO_CHAINS,
     TWO_WRITERS, WRITE_SKEW,
 };
-use cobra_cli::Fault;
+use cobra_cli::{Fault, Format};
 use desk::OpenGate;
 use std::alloc::Global;
 use std::process::Abort;
@@ -140,6 +140,58 @@ fn counts(rt: HostRuntime) {
         ),
     ] {
         see(rt, alloc, &reduced, Command::Stats, log, 0, text);
+    }
+}
+
+#[test]
+fn explained(rt: HostRuntime) {
+    let rt = &rt;
+    let alloc = rt.alloc();
+    let options = options(rt, false, 4);
+    for (format, log, status, text) in [
+        (
+            Format::Text,
+            LOST_UPDATE,
+            1,
+            "not serializable: A7 lost update of x from 0.0 by 1.1 and 2.1\n\
+            1.1 reads x 0 (line 3), the initial value\n1.1 overwrites it with 1 (line 4)\n\
+            2.1 reads x 0 (line 8), the initial value\n2.1 overwrites it with 2 (line 9)\n",
+        ),
+        (
+            Format::Text,
+            WRITE_SKEW,
+            1,
+            "not serializable: A8 cycle of known edges\ncycle 1.1 2.1 1.1\n\
+            1.1 before 2.1: 1.1 reads y 0 (line 4), and 2.1 overwrites it with 2 (line 11)\n\
+            2.1 before 1.1: 2.1 reads x 0 (line 9), and 1.1 overwrites it with 1 (line 5)\n",
+        ),
+        (
+            Format::Dot,
+            WRITE_SKEW,
+            1,
+            "// not serializable: A8 cycle of known edges\n\
+            strict digraph explanation {\nnode [shape=box];\n\
+            \"1.1\" [label=\"1.1\\nr y 0 (line 4)\\nw x 1 (line 5)\"];\n\
+            \"2.1\" [label=\"2.1\\nr x 0 (line 9)\\nw y 2 (line 11)\"];\n\
+            \"1.1\" -> \"2.1\" [label=\"anti-dependency\" color=\"red\"];\n\
+            \"2.1\" -> \"1.1\" [label=\"anti-dependency\" color=\"red\"];\n}\n",
+        ),
+        (
+            Format::Text,
+            ONE_CHAIN,
+            0,
+            "serializable\n1 1\n1 2\n1 3\n1 4\n1 5\n",
+        ),
+    ] {
+        see(
+            rt,
+            alloc,
+            &options,
+            Command::Explain(format),
+            log,
+            status,
+            text,
+        );
     }
 }
 

@@ -1,0 +1,5 @@
+pub mod Known
+pub mod Labels
+pub mod Lines
+pub mod Premises
+pub mod Tellable

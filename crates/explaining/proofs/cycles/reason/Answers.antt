@@ -1,0 +1,5 @@
+use Rattle.explaining.proofs.Known.{reason_there}
+use Rattle.explaining.proofs.cycles.reason.Goals as goal
+
+pub unreachable-requires : goal.unreachable-requires
+unreachable-requires c = reason_there c.args.history.now c.requires.clean c.args.a c.args.b c.requires.shown c.in-None.ensures.none

@@ -1,0 +1,30 @@
+use Rattle.std.proofs.Common.{[], subst, sym, ap, ◌∙◌, lit<}
+use Rattle.std.proofs.lemmas.Result.{IfOk-weaker}
+use Rattle.headline.proofs.Answered.{clean_log}
+use Rattle.explanations.specs.Lines.{begin_at}
+use Rattle.told_texts.specs.Texts.{AreTellable}
+use Rattle.explaining.specs.Explained.{told_text}
+use Rattle.explaining.proofs.Tellable.{line_tellable}
+use Rattle.explaining.proofs.explained.explain_cycle.Goals as goal
+
+pub tell_cycle-requires-clause-clean : goal.tell_cycle-requires-clause-clean
+tell_cycle-requires-clause-clean c = clean_log c.args.history.now c.committed-nodes.ensures.well_formed c.requires.none
+
+pub written-requires-clause-items : goal.written-requires-clause-items
+written-requires-clause-items c =
+    let ss = c.args.history.now in
+    let items = c.in_ok-items.items.items in
+    subst (AreTellable ss) (sym c.deref.ensures.value) (line_tellable ss [] [] c.args.line.now items (lit< tt) tt tt c.in_ok-items.ensures.told)
+
+pub returns : goal.returns
+returns c =
+    let text = told_text c.args.format c.args.history.now (begin_at c.args.begins.now) in
+    record {
+      explained = IfOk-weaker c.written.result _ _
+          (λ made e. record {
+            items = c.in_ok-items.items.items;
+            told = c.in_ok-items.ensures.told;
+            written = e ∙ ap text c.deref.ensures.value;
+          })
+          c.written.ensures.text;
+    }

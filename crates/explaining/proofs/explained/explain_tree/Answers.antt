@@ -1,0 +1,39 @@
+use Rattle.std.proofs.Common.{◌∙◌, ◌<◌, ◌^◌, length, subst, sym, ap, arith}
+use Rattle.std.proofs.lemmas.Result.{IfOk-weaker}
+use Rattle.explanations.specs.Lines.{begin_at}
+use Rattle.told_trees.specs.Visits.{leaf_count}
+use Rattle.told_texts.specs.Texts.{AreTellable}
+use Rattle.explaining.specs.Explained.{told_text}
+use Rattle.explaining.proofs.Premises.{unpruned_clean}
+use Rattle.explaining.proofs.Tellable.{tree_tellable}
+use Rattle.explaining.proofs.explained.explain_tree.Goals as goal
+
+pub chains_of-requires-clause-clean : goal.chains_of-requires-clause-clean
+chains_of-requires-clause-clean c = unpruned_clean c.args.history.now c.requires.left.poly c.committed-nodes.ensures.well_formed c.requires.left.unpruned
+
+pub tell_tree-requires-clause-clean : goal.tell_tree-requires-clause-clean
+tell_tree-requires-clause-clean c = unpruned_clean c.args.history.now c.requires.left.poly c.committed-nodes.ensures.well_formed c.requires.left.unpruned
+
+pub written-requires-clause-items : goal.written-requires-clause-items
+written-requires-clause-items c =
+    let ss = c.args.history.now in
+    let items = c.in_ok-items.items.items in
+    let made = c.in_ok-items.items in
+    let count = made.ok.0 in
+    let room = made.ok.1 in
+    let bound = made.small in
+    let small : length items < 2 ^ 63 = omega (arith, count, room, bound) in
+    subst (AreTellable ss) (sym c.deref.ensures.value) (tree_tellable ss (leaf_count c.args.tree.now) items small c.in_ok-items.ensures.told)
+
+pub returns : goal.returns
+returns c =
+    let text = told_text c.args.format c.args.history.now (begin_at c.args.begins.now) in
+    record {
+      explained = IfOk-weaker c.written.result _ _
+          (λ made e. record {
+            items = c.in_ok-items.items.items;
+            told = c.in_ok-items.ensures.told;
+            written = e ∙ ap text c.deref.ensures.value;
+          })
+          c.written.ensures.text;
+    }

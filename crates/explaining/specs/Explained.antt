@@ -1,0 +1,58 @@
+-- Why there is no order, written behind what `check` says.
+use Rattle.std.specs.Prelude.{◌≡◌, ℕ, ◌==◌, if◌then◌else◌, List, [], ◌∷◌, ◌++◌, codes}
+use Rattle.std.specs.List.{flat_map}
+use Rattle.session_log.specs.Text.{ClientSession}
+use Rattle.serializability.specs.declared.anomaly.Anomaly.{Anomaly}
+use Rattle.branch_search.specs.declared.tree.TreeNode.{TreeNode}
+use Rattle.explanations.specs.Anomalies.{IsAnomalyTold}
+use Rattle.forced_steps.specs.Steps.{IsLineTold, IsDeadTold}
+use Rattle.forced_steps.specs.declared.item.Item.{Item}
+use Rattle.told_trees.specs.Trees.{IsTreeTold}
+use Rattle.told_trees.specs.Visits.{leaf_count}
+use Rattle.told_texts.specs.Texts.{items_text}
+use Rattle.told_texts.specs.Graphs.{graph_text, quoted}
+use Rattle.explaining.specs.declared.format.Format.{Format}
+use Rattle.explaining.specs.declared.format.Format.TheVariants.{Text, Dot}
+
+-- items as lines of text, or as a graph
+abbrev pub told_text : Format → List ClientSession → (ℕ → ℕ) → List Item → List ℕ
+told_text Text ss begin items = items_text ss begin 0 items
+told_text Dot ss begin items = graph_text ss begin items
+
+-- in a label a line break is a backslash and n
+abbrev pub label_byte : ℕ → List ℕ
+label_byte b = if b == 10 then 92 ∷ 110 ∷ [] else b ∷ []
+
+-- lines in the one box of a graph
+abbrev pub box_text : List ℕ → List ℕ
+box_text lines = codes "strict digraph explanation {\nnode [shape=box];\n" ++ quoted (codes "anomaly") ++ codes " [label=" ++ quoted (flat_map label_byte lines) ++ codes "];\n}\n"
+
+abbrev pub lines_text : Format → List ℕ → List ℕ
+lines_text Text lines = lines
+lines_text Dot lines = box_text lines
+
+-- where there is nothing to explain: no line, or a graph without boxes
+abbrev pub empty_text : Format → List ℕ
+empty_text Text = []
+empty_text Dot = codes "strict digraph explanation {\nnode [shape=box];\n}\n"
+
+-- `from` is the line of the log's first session
+pub record IsAnomalyExplained (format : Format) (from : ℕ) (ss : List ClientSession) (begin : ℕ → ℕ) (a : Anomaly) (text : List ℕ) : Type 0 where
+  pub lines : List ℕ
+  pub told : IsAnomalyTold from ss begin a lines
+  pub written : text ≡ lines_text format lines
+
+pub record IsCycleExplained (format : Format) (ss : List ClientSession) (begin : ℕ → ℕ) (line : List ℕ) (text : List ℕ) : Type 0 where
+  pub items : List Item
+  pub told : IsLineTold ss [] [] line items
+  pub written : text ≡ told_text format ss begin items
+
+pub record IsDeadExplained (format : Format) (ss : List ClientSession) (begin : ℕ → ℕ) (text : List ℕ) : Type 0 where
+  pub items : List Item
+  pub told : IsDeadTold ss items
+  pub written : text ≡ told_text format ss begin items
+
+pub record IsTreeExplained (format : Format) (ss : List ClientSession) (begin : ℕ → ℕ) (nodes : List TreeNode) (text : List ℕ) : Type 0 where
+  pub items : List Item
+  pub told : IsTreeTold ss (leaf_count nodes) items
+  pub written : text ≡ told_text format ss begin items

@@ -1,0 +1,49 @@
+//! Cycles of known edges.
+
+ghost use Rattle.std.specs.Prelude.{[], IfOk};
+ghost use Rattle.serializability.specs.Reads.{IsClean};
+ghost use Rattle.log_definitions.specs.Numbers.{log_of};
+ghost use Rattle.reduction.specs.Chained.{IsKnownCycle};
+ghost use Rattle.explanations.specs.declared.why.Why.TheVariants as why;
+ghost use Rattle.forced_steps.specs.Steps.{IsWhy, IsLineTold};
+ghost use Rattle.explaining.specs.Shown.{IsShown};
+
+use explanations::Why;
+use forced_steps::Item;
+use reasons::{Reason, reason_of};
+use serializability::NodeIx;
+use session_history::History;
+use std::alloc::{AllocError, Global};
+
+/// Why the log shows that `a` stands before `b`, where it does.
+fn reason(history: &History, a: NodeIx, b: NodeIx) -> Reason
+    requires clean { IsClean (log_of history.now) }
+    requires shown { IsShown history.now a b }
+    ensures why { IsWhy history.now [] [] a b (why.Known result) }
+{
+    let _nodes = history.committed();
+    match reason_of(history, a, b) {
+        Some(reason) => reason,
+        None => unreachable!(),
+    }
+}
+
+/// The edges of a cycle of known edges, each with its reason.
+pub fn tell_cycle(
+    alloc: Global,
+    history: &History,
+    line: &[NodeIx],
+) -> Result<Vec<Item>, AllocError>
+    requires clean { IsClean (log_of history.now) }
+    requires cycle { IsKnownCycle (log_of history.now) line.now }
+    ensures told { IfOk result (λ items. IsLineTold history.now [] [] line.now items.items) }
+{
+    let mut items = Vec::with_capacity(alloc, line.len())?;
+    for i in 1..line.len() {
+        let first = line[i - 1];
+        let second = line[i];
+        let why = Why::Known(reason(history, first, second));
+        items.push(Item::Edge { first, second, why })?;
+    }
+    Ok(items)
+}

@@ -1,0 +1,98 @@
+//! Cycles, dead ledgers and refutation trees.
+
+ghost use Rattle.std.specs.Prelude.{◌≡◌, IfOk};
+ghost use Rattle.serializability.specs.Reads.{IsClean};
+ghost use Rattle.serializability.specs.Anomalies.{anomaly_of};
+ghost use Rattle.serializability.specs.Polygraph.{arcs};
+ghost use Rattle.reach_laws.specs.Reach.{IsCyclic};
+ghost use Rattle.log_definitions.specs.Numbers.{log_of};
+ghost use Rattle.reduction.specs.Outcome.{IsCyclicHistory, IsDeadHistory, IsOpenHistory};
+ghost use Rattle.branch_search.specs.Trees.{IsRefutationTree};
+ghost use Rattle.explanations.specs.Lines.{begin_at, AreLines};
+ghost use Rattle.explaining.specs.Explained.{IsCycleExplained, IsDeadExplained, IsTreeExplained};
+
+use crate::cycles::tell_cycle;
+use crate::format::Format;
+use crate::written::written;
+use branch_search::Tree;
+use forced_steps::tell_dead;
+use prune_ledger::{Ledger, Reduced};
+use serializability::NodeIx;
+use session_history::History;
+use std::alloc::{AllocError, Global};
+use told_trees::tell_tree;
+use write_chains::{Chains, chains};
+
+/// The chains of a history whose arcs have no cycle.
+fn chains_of<'a>(alloc: Global, history: &'a History) -> Result<Chains<'a>, AllocError>
+    requires clean { IsClean (log_of history.now) }
+    requires acyclic { ¬ IsCyclic (arcs (log_of history.now)) }
+    ensures chains { IfOk result (λ chains. chains ≡ history.now) }
+{
+    match chains(alloc, history)? {
+        Ok(found) => Ok(found),
+        Err(_) => unreachable!(),
+    }
+}
+
+/// The edges of a cycle that is known of a history without an anomaly, each with its reason. Of `begins`, element `v - 1` is the line
+/// at which node `v` begins.
+pub fn explain_cycle(
+    alloc: Global,
+    history: &History,
+    begins: &[usize],
+    format: Format,
+    line: &[NodeIx],
+) -> Result<Vec<u8>, AllocError>
+    requires lines { AreLines history.now begins.now }
+    requires none { anomaly_of (log_of history.now) ≡ None }
+    requires cyclic { IsCyclicHistory history.now line.now }
+    ensures explained { IfOk result (λ text. IsCycleExplained format
+        history.now (begin_at begins.now) line.now text.items) }
+{
+    let _nodes = history.committed();
+    let items = tell_cycle(alloc, history, line)?;
+    written(alloc, history, begins, format, &items)
+}
+
+/// The forced steps that the cycle of a dead ledger needs, and the cycle. Of `begins`, element `v - 1` is the line at which node `v`
+/// begins.
+pub fn explain_dead(
+    alloc: Global,
+    history: &History,
+    begins: &[usize],
+    format: Format,
+    ledger: &Ledger,
+) -> Result<Vec<u8>, AllocError>
+    requires lines { AreLines history.now begins.now }
+    requires dead { IsDeadHistory history.now ledger.now }
+    ensures explained { IfOk result (λ text. IsDeadExplained format
+        history.now (begin_at begins.now) text.items) }
+{
+    let _nodes = history.committed();
+    let chains = chains_of(alloc, history)?;
+    let items = tell_dead(alloc, history, &chains, ledger)?;
+    written(alloc, history, begins, format, &items)
+}
+
+/// The forced steps that the cycles of a refutation tree need, and the tree. Of `begins`, element `v - 1` is the line at which node `v`
+/// begins.
+pub fn explain_tree(
+    alloc: Global,
+    history: &History,
+    begins: &[usize],
+    format: Format,
+    reduced: &Reduced,
+    tree: &Tree,
+) -> Result<Vec<u8>, AllocError>
+    requires lines { AreLines history.now begins.now }
+    requires left { IsOpenHistory history.now reduced.now }
+    requires refutes { IsRefutationTree reduced.now.poly tree.now }
+    ensures explained { IfOk result (λ text. IsTreeExplained format
+        history.now (begin_at begins.now) tree.now text.items) }
+{
+    let _nodes = history.committed();
+    let chains = chains_of(alloc, history)?;
+    let items = tell_tree(alloc, history, &chains, reduced, tree)?;
+    written(alloc, history, begins, format, &items)
+}

@@ -1,0 +1,78 @@
+//! What is told, as text or as a graph.
+
+ghost use Rattle.std.specs.Prelude.{◌≡◌, ◌++◌, IfOk, OnOk};
+ghost use Rattle.std.specs.List.{flat_map};
+ghost use Rattle.explanations.specs.Lines.{begin_at, AreLines};
+ghost use Rattle.told_texts.specs.Texts.{AreTellable};
+ghost use Rattle.explaining.specs.Explained.{told_text, lines_text, label_byte, box_text};
+
+use crate::format::Format;
+use forced_steps::Item;
+use session_history::History;
+use std::alloc::{AllocError, Global};
+use told_texts::{put_graph, put_items};
+
+/// Items as lines of text, or as a graph.
+pub fn written(
+    alloc: Global,
+    history: &History,
+    begins: &[usize],
+    format: Format,
+    items: &[Item],
+) -> Result<Vec<u8>, AllocError>
+    requires lines { AreLines history.now begins.now }
+    requires items { AreTellable history.now items.now }
+    ensures text { IfOk result (λ text.
+        text.items ≡ told_text format history.now (begin_at begins.now) items.now) }
+{
+    let mut out = Vec::new(alloc);
+    match format {
+        Format::Text => put_items(&mut out, history, begins, items)?,
+        Format::Dot => put_graph(alloc, &mut out, history, begins, items)?,
+    }
+    Ok(out)
+}
+
+/// Appends a byte of a label, in which a line break is a backslash and `n`.
+fn put_label_byte(out: &mut Vec<u8>, byte: u8) -> Result<(), AllocError>
+    ensures text { OnOk result (out.new.items ≡ out.old.items ++ label_byte byte) }
+{
+    if byte == b'\n' {
+        out.extend_from_slice(b"\\n")?;
+    } else {
+        out.push(byte)?;
+    }
+    Ok(())
+}
+
+/// Appends lines as a label.
+fn put_label(out: &mut Vec<u8>, lines: &[u8]) -> Result<(), AllocError>
+    ensures text { OnOk result (out.new.items ≡ out.old.items ++ flat_map label_byte lines.now) }
+{
+    for byte in lines {
+        put_label_byte(out, *byte)?;
+    }
+    Ok(())
+}
+
+/// A graph of one box with these lines.
+fn boxed(alloc: Global, lines: &[u8]) -> Result<Vec<u8>, AllocError>
+    ensures text { IfOk result (λ text. text.items ≡ box_text lines.now) }
+{
+    let mut out = Vec::new(alloc);
+    out.extend_from_slice(b"strict digraph explanation {\nnode [shape=box];\n")?;
+    out.extend_from_slice(b"\"anomaly\" [label=\"")?;
+    put_label(&mut out, lines)?;
+    out.extend_from_slice(b"\"];\n}\n")?;
+    Ok(out)
+}
+
+/// Lines as they are, or in the one box of a graph.
+pub fn written_lines(alloc: Global, format: Format, lines: Vec<u8>) -> Result<Vec<u8>, AllocError>
+    ensures text { IfOk result (λ text. text.items ≡ lines_text format lines.items) }
+{
+    match format {
+        Format::Text => Ok(lines),
+        Format::Dot => boxed(alloc, &lines),
+    }
+}

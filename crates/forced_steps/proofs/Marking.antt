@@ -1,0 +1,154 @@
+-- Marks of entries, as edges, lines and walks are looked at.
+use Rattle.std.proofs.Common.{◌≡◌, ℕ, zero, suc, ◌+◌, ◌<◌, ◌≤◌, Bool, true, false, List, [], ◌∷◌, length, get_or, set, Some, refl, sym, ap, ◌∙◌, subst, inl, inr, arith}
+use Rattle.std.specs.Prelude.{slice_get}
+use Rattle.std.proofs.lemmas.Bool.{cases_eq, cases_lt, false≢true}
+use Rattle.std.proofs.lemmas.List.{get_or-set_same, get_or-set_other, length-set}
+use Rattle.session_log.specs.Text.{ClientSession}
+use Rattle.serializability.specs.Polygraph.{Edge}
+use Rattle.reasons.specs.Given.{IsReason, HaveNone}
+use Rattle.reasons.specs.declared.reason.Reason.{Reason}
+use Rattle.reasons.specs.declared.reason.Reason.TheVariants as reason
+use Rattle.prune_ledger.specs.Pruned.{posts_in}
+use Rattle.prune_ledger.specs.Posted.{Posted}
+use Rattle.prune_ledger.specs.declared.ledger.LedgerEntry.{LedgerEntry}
+use Rattle.forced_steps.specs.Lines.{Rests, LineRests, IsGround}
+use Rattle.forced_steps.specs.Marks.{is_set, IsMarked, AreMore, AreSameFrom, marked_by, IsWithin, IsEdgeMarked, IsCovered, IsLineMarked, IsWalkMarked, AreCovered, AreNeeded}
+use Rattle.forced_steps.specs.declared.ground.Ground.{Ground}
+use Rattle.forced_steps.specs.declared.ground.Ground.TheVariants as ground
+use Rattle.forced_steps.proofs.FirstSides.{Sides, first_below}
+
+-- a reason is one
+pub reason_not_none : (ss : List ClientSession) (a b : ℕ) (r : Reason) → IsReason ss a b r → HaveNone ss a b → ⊥
+reason_not_none ss a b reason.Session h none = none.session h
+reason_not_none ss a b (reason.Read i j) h none = none.read i j h
+reason_not_none ss a b (reason.Overwritten i j) h none = none.overwritten i j h
+reason_not_none ss a b (reason.Initial j) h none = none.initial j h
+reason_not_none ss a b reason.Moments h none = none.moments h
+
+-- ---- more marks
+pub more_same : (marks : List Bool) → AreMore marks marks
+more_same marks = record { count = refl; each = λ k h. h }
+
+pub more_joined : (a b c : List Bool) → AreMore a b → AreMore b c → AreMore a c
+more_joined a b c h k = record { count = k.count ∙ h.count; each = λ i t. k.each i (h.each i t) }
+
+pub same_joined : (bound : ℕ) (a b c : List Bool) → AreSameFrom bound a b → AreSameFrom bound b c → AreSameFrom bound a c
+same_joined bound a b c h k = record { each = λ i le. k.each i le ∙ h.each i le }
+
+set_more : (marks : List Bool) (k : ℕ) → k < length marks → AreMore marks (set marks k true)
+set_more marks k lt = record {
+  count = length-set marks k true;
+  each = λ j t. elim (cases_eq j k) [
+    | inl same ↦ ap (λ i. get_or (set marks k true) i false) same ∙ get_or-set_same marks k true false lt
+    | inr other ↦ get_or-set_other marks k j true false other ∙ t
+  ];
+}
+
+set_later : (marks : List Bool) (k bound : ℕ) → k < bound → AreSameFrom bound marks (set marks k true)
+set_later marks k bound lt = record {
+  each = λ j le. (let apart : j ≡ k → ⊥ = λ e. omega (arith, e, le, lt) in get_or-set_other marks k j true false apart);
+}
+
+pub marked_more : (sides : Sides) (a b : List Bool) (e : Edge) → AreMore a b → IsMarked sides a e → IsMarked sides b e
+marked_more sides a b e h m = record { entry = m.entry; first = m.first; marked = h.each m.entry m.marked }
+
+-- ---- one edge
+pub ground_within : (ss : List ClientSession) (sides : Sides) (a b count : ℕ) (g : Ground) (n : ℕ) → n ≡ count → Rests ss sides count a b → IsGround ss sides a b g → IsWithin n g
+ground_within ss sides a b count (ground.Known r) n e rests h = tt
+ground_within ss sides a b count (ground.Kept k) n e rests h = omega (arith, e, first_below sides count (a, b) k h.1 (rests.kept h.0))
+
+edge_by : (ss : List ClientSession) (sides : Sides) (a b : ℕ) (g : Ground) (old : List Bool) → IsGround ss sides a b g → IsWithin (length old) g → IsEdgeMarked ss sides a b old (marked_by g old)
+edge_by ss sides a b (ground.Known r) old h within = record {
+  covered = λ none. absurd (reason_not_none ss a b r h.holds none);
+  more = more_same old;
+  later = λ bound rests. record { each = λ k le. refl };
+}
+edge_by ss sides a b (ground.Kept k) old h within = record {
+  covered = λ none. record { entry = k; first = h.1; marked = get_or-set_same old k true false within };
+  more = set_more old k within;
+  later = λ bound rests. set_later old k bound (first_below sides bound (a, b) k h.1 (rests.kept h.0));
+}
+
+pub edge_marked : (ss : List ClientSession) (sides : Sides) (a b : ℕ) (g : Ground) (old new : List Bool) → IsGround ss sides a b g → IsWithin (length old) g → new ≡ marked_by g old → IsEdgeMarked ss sides a b old new
+edge_marked ss sides a b g old new h within e = subst (IsEdgeMarked ss sides a b old) (sym e) (edge_by ss sides a b g old h within)
+
+-- ---- a line
+pub line_none : (ss : List ClientSession) (sides : Sides) (line : List ℕ) (marks : List Bool) → IsLineMarked ss sides line 0 marks marks
+line_none ss sides line marks = record {
+  covered = record { each = λ i lt h none. absurd (omega (arith, lt)) };
+  more = more_same marks;
+  later = λ bound rests. record { each = λ k le. refl };
+}
+
+pub covered_more : (ss : List ClientSession) (sides : Sides) (a b : List Bool) (line : List ℕ) (count : ℕ) → AreMore a b → IsCovered ss sides a line count → IsCovered ss sides b line count
+covered_more ss sides a b line count m c = record { each = λ i lt h none. marked_more sides a b (get_or line i 0, get_or line (i + 1) 0) m (c.each i lt h none) }
+
+pub line_more : (ss : List ClientSession) (sides : Sides) (line : List ℕ) (i : ℕ) (old mid new : List Bool) → i + 1 < length line → IsLineMarked ss sides line i old mid
+    → IsEdgeMarked ss sides (get_or line i 0) (get_or line (i + 1) 0) mid new → IsLineMarked ss sides line (i + 1) old new
+line_more ss sides line i old mid new within h e = record {
+  covered = record {
+    each = λ j lt hj none. elim (cases_lt j i) [
+      | inl below ↦ marked_more sides mid new (get_or line j 0, get_or line (j + 1) 0) e.more (h.covered.each j below hj none)
+      | inr ge ↦ (let same : j ≡ i = omega (arith, lt, ge) in
+          let P : ℕ → Type 0 = λ k. HaveNone ss (get_or line k 0) (get_or line (k + 1) 0) → IsMarked sides new (get_or line k 0, get_or line (k + 1) 0) in
+          subst P (sym same) e.covered none)
+    ];
+  };
+  more = more_joined old mid new h.more e.more;
+  later = λ bound rests. same_joined bound old mid new (h.later bound rests) (e.later bound (rests.each i within));
+}
+
+pub line_all : (ss : List ClientSession) (sides : Sides) (line : List ℕ) (i : ℕ) (old new : List Bool) → length line ≤ i + 1 → IsLineMarked ss sides line i old new → IsLineMarked ss sides line (length line) old new
+line_all ss sides line i old new le h = record {
+  covered = record { each = λ j lt hj none. h.covered.each j (omega (arith, le, hj)) hj none };
+  more = h.more;
+  later = h.later;
+}
+
+-- ---- a walk
+pub walk_marked : (ss : List ClientSession) (sides : Sides) (line : List ℕ) (entry : ℕ) (old new : List Bool) → LineRests ss sides entry line → IsLineMarked ss sides line (length line) old new → IsWalkMarked ss sides line entry old new
+walk_marked ss sides line entry old new rests h = record { covered = λ t. h.covered; more = h.more; later = h.later entry rests }
+
+pub walk_unmarked : (ss : List ClientSession) (sides : Sides) (line : List ℕ) (entry : ℕ) (marks : List Bool) → is_set marks entry ≡ false → IsWalkMarked ss sides line entry marks marks
+walk_unmarked ss sides line entry marks f = record { covered = λ t. absurd (false≢true (sym f ∙ t)); more = more_same marks; later = record { each = λ k le. refl } }
+
+-- ---- all walks
+one_post : (qs : List Posted) (k : ℕ) (p q : Posted) → slice_get qs k ≡ Some p → slice_get qs k ≡ Some q → p ≡ q
+one_post qs k p q a b = let e : Some p ≡ Some q = sym a ∙ b in cc
+
+pub walks_more : (ss : List ClientSession) (sides : Sides) (entries : List LedgerEntry) (count entry : ℕ) (q : Posted) (old new : List Bool) → slice_get (posts_in entries) entry ≡ Some q → length entries ≡ entry + (count + 1)
+    → IsWalkMarked ss sides q.walk entry old new → AreCovered ss sides old entries count → AreCovered ss sides new entries (count + 1)
+walks_more ss sides entries count entry q old new at low w c = record {
+  each = λ k p is le t. elim (cases_eq k entry) [
+    | inl same ↦ (let e : q ≡ p = one_post (posts_in entries) k q p (ap (slice_get (posts_in entries)) same ∙ at) is in
+        let P : Posted → Type 0 = λ r. IsCovered ss sides new r.walk (length r.walk) in
+        subst P e (w.covered (ap (λ i. get_or new i false) (sym same) ∙ t)))
+    | inr other ↦ (elim (cases_lt k entry) [
+      | inl below ↦ absurd (omega (arith, below, le, low))
+      | inr ge ↦ (let more : entry ≤ k = ge in
+          let before : is_set old k ≡ true = sym (w.later.each k more) ∙ t in
+          let far : length entries ≤ k + count = omega (arith, le, ge, other, low) in
+          covered_more ss sides old new p.walk (length p.walk) w.more (c.each k p is far before))
+    ])
+  ];
+}
+
+pub walks_none : (ss : List ClientSession) (sides : Sides) (entries : List LedgerEntry) (marks : List Bool) → AreCovered ss sides marks entries 0
+walks_none ss sides entries marks = record { each = λ k p is le t. absurd (past (posts_in entries) k p is (omega (arith, le, many entries))) }
+  where
+    many : (es : List LedgerEntry) → length (posts_in es) ≡ length es
+    many [] = refl
+    many (x ∷ es) = ap suc (many es)
+
+    past : (qs : List Posted) (k : ℕ) (p : Posted) → slice_get qs k ≡ Some p → length qs ≤ k → ⊥
+    past [] k p e le = cc
+    past (x ∷ qs) zero p e le = omega (arith, le)
+    past (x ∷ qs) (suc k) p e le = past qs k p e (omega (arith, le))
+
+pub needed_from : (ss : List ClientSession) (sides : Sides) (entries : List LedgerEntry) (cycle : List ℕ) (blank mid marks : List Bool) → length blank ≡ length entries
+    → IsLineMarked ss sides cycle (length cycle) blank mid → AreCovered ss sides marks entries (length entries) → AreMore mid marks → AreNeeded ss sides entries cycle marks
+needed_from ss sides entries cycle blank mid marks count line walks more = record {
+  count = more.count ∙ line.more.count ∙ count;
+  cycle_covered = covered_more ss sides mid marks cycle (length cycle) more line.covered;
+  walks = walks;
+}

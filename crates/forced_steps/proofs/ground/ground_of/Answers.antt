@@ -1,0 +1,25 @@
+use Rattle.std.proofs.Common.{◌≡◌, sym, subst, arith}
+use Rattle.std.specs.Prelude.{length}
+use Rattle.std.proofs.lemmas.List.{length-map}
+use Rattle.log_definitions.specs.Numbers.{log_of}
+use Rattle.forced_steps.specs.Steps.{edges_in}
+use Rattle.forced_steps.specs.Firsts.{HasSide}
+use Rattle.forced_steps.specs.Lines.{sides_of}
+use Rattle.forced_steps.proofs.ground.ground_of.Goals as goal
+
+pub first_with-requires-clause-few : goal.first_with-requires-clause-few
+first_with-requires-clause-few c = c.requires.grounds.few
+
+pub first_with-requires-clause-first : goal.first_with-requires-clause-first
+first_with-requires-clause-first c = omega (arith, c.requires.rests.first.high, c.requires.grounds.nodes)
+
+pub first_with-requires-clause-second : goal.first_with-requires-clause-second
+first_with-requires-clause-second c = omega (arith, c.requires.rests.second.high, c.requires.grounds.nodes)
+
+pub returns-in-None-clause-ground : goal.returns-in-None-clause-ground
+returns-in-None-clause-ground c =
+    let kept = c.args.grounds.now.kept.items in
+    let sides = sides_of c.args.chains.now kept in
+    let side : HasSide sides (length kept) (c.args.a, c.args.b) = c.requires.rests.kept c.in-None.ensures.answer in
+    let many : length kept ≡ length sides = sym (length-map kept (edges_in (log_of c.args.chains.now))) in
+    (c.in-None.ensures.answer, c.first_with.ensures.first sides c.requires.grounds.firsts (subst (λ n. HasSide sides n (c.args.a, c.args.b)) many side))
