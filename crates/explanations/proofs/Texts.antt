@@ -1,0 +1,11 @@
+-- Texts that are written piece by piece.
+use Rattle.std.proofs.Common.{◌≡◌, ℕ, List, ◌++◌, ap, ◌∙◌, append_assoc}
+
+pub two : (old a b mid new : List ℕ) → mid ≡ old ++ a → new ≡ mid ++ b → new ≡ old ++ (a ++ b)
+two old a b mid new p q = q ∙ ap (λ l. l ++ b) p ∙ append_assoc old a b
+
+pub three : (old a b c one mid new : List ℕ) → one ≡ old ++ a → mid ≡ one ++ b → new ≡ mid ++ c → new ≡ old ++ ((a ++ b) ++ c)
+three old a b c one mid new p q r = two old (a ++ b) c mid new (two old a b one mid p q) r
+
+pub five : (old a b c d e one two' mid four new : List ℕ) → one ≡ old ++ a → two' ≡ one ++ b → mid ≡ two' ++ c → four ≡ mid ++ d → new ≡ four ++ e → new ≡ old ++ ((((a ++ b) ++ c) ++ d) ++ e)
+five old a b c d e one two' mid four new p q r s t = three old ((a ++ b) ++ c) d e mid four new (three old a b c one two' mid p q r) s t

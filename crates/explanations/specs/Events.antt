@@ -1,0 +1,24 @@
+-- Operations on numbered keys.
+use Rattle.std.specs.Prelude.{ℕ, ◌==◌, ◌&&◌, not, Bool, false}
+use Rattle.serializability.specs.declared.event.Event.{Event}
+use Rattle.serializability.specs.declared.event.Event.TheVariants.{Read, Write}
+
+-- the identity that an operation names
+abbrev pub event_wid : Event → ℕ
+event_wid (Read key wid) = wid
+event_wid (Write key wid) = wid
+
+-- a write of key number x
+abbrev pub is_write_in : ℕ → Event → Bool
+is_write_in x (Read key wid) = false
+is_write_in x (Write key wid) = x == key
+
+-- a read of key number x
+abbrev pub is_read_in : ℕ → Event → Bool
+is_read_in x (Read key wid) = x == key
+is_read_in x (Write key wid) = false
+
+-- a read of it that names another identity
+abbrev pub is_other_in : ℕ → ℕ → Event → Bool
+is_other_in x w (Read key wid) = (x == key) && not (wid == w)
+is_other_in x w (Write key wid) = false

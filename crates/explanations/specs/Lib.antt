@@ -1,0 +1,5 @@
+pub mod Anomalies
+pub mod Events
+pub mod Lines
+pub mod Reasons
+pub mod Writes
