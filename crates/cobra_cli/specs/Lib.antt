@@ -1,3 +1,5 @@
 pub mod Statistics
 pub mod Commands
 pub mod Checked
+pub mod Placed
+pub mod Explained

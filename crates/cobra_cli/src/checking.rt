@@ -28,13 +28,13 @@ use std::thread::Threads;
 use std::time::Clock;
 
 /// What is written where pruning ends in a cycle.
-const DEAD: &[u8] = b"not serializable: A9 pruning ends in a cycle\n";
+pub const DEAD: &[u8] = b"not serializable: A9 pruning ends in a cycle\n";
 
 /// What is written where a search refuted every cube.
-const REFUTED: &[u8] = b"not serializable: every cube is refuted\n";
+pub const REFUTED: &[u8] = b"not serializable: every cube is refuted\n";
 
 /// Searches what pruning left, by the strategy of this name.
-fn searched<G: Gate, R: Threads + Wait + Clock + Sync>(
+pub fn searched<G: Gate, R: Threads + Wait + Clock + Sync>(
     rt: &R,
     alloc: Global,
     history: &History,

@@ -8,6 +8,7 @@ mod formula;
 pub mod laws;
 mod reading;
 mod statistics;
+mod telling;
 mod verifying;
 
 pub use checking::check;
@@ -18,6 +19,8 @@ pub use cobra_answers::{
 pub use cobra_formulas::Basis;
 pub use decoding::decode;
 pub use encoding::encode;
+pub use explaining::Format;
 pub use reading::read_log;
 pub use statistics::stats;
+pub use telling::explain;
 pub use verifying::verify;

@@ -4,10 +4,10 @@
 ghost use Rattle.std.specs.Prelude.{◌<◌, ◌^◌};
 
 use cobra_cli::{
-    CountedRead, Fault, Options, Status, Stop, StrategyName, check, decode, encode, read_all,
-    stats, verify,
+    CountedRead, Fault, Format, Options, Status, Stop, StrategyName, check, decode, encode,
+    explain, read_all, stats, verify,
 };
-use cobra_words::{Command, Request, StrategyWord, Words, words_of};
+use cobra_words::{Command, FormatWord, Request, StrategyWord, Words, words_of};
 use desk::gate::OpenGate;
 use dimacs::{Counted, MAX_ANSWER_BYTES};
 use order_text::MAX_ORDER_BYTES;
@@ -66,6 +66,14 @@ fn strategy_of(word: StrategyWord) -> StrategyName {
     }
 }
 
+/// The form of a word.
+fn format_of(word: FormatWord) -> Format {
+    match word {
+        FormatWord::Text => Format::Text,
+        FormatWord::Dot => Format::Dot,
+    }
+}
+
 /// Runs a command on what was read: first the log, then the answer or the order.
 fn run<R: Runtime + Threads + Wait + Sync, I: Read + Drop, W: Write + Drop>(
     rt: &R,
@@ -86,6 +94,10 @@ fn run<R: Runtime + Threads + Wait + Sync, I: Read + Drop, W: Write + Drop>(
         Command::Encode => encode(rt, alloc, &log, &options, &OpenGate, &mut sink),
         Command::Check => check(rt, alloc, &log, &options, &OpenGate, &mut sink),
         Command::Stats => stats(rt, alloc, &log, &options, &OpenGate, &mut sink),
+        Command::Explain { format } => {
+            let format = format_of(format);
+            explain(rt, alloc, &log, &options, format, &OpenGate, &mut sink)
+        }
         Command::Decode { model } => {
             let answer = read_file(rt, alloc, model, MAX_ANSWER_BYTES)?;
             decode(rt, alloc, &log, &answer, &options, &OpenGate, &mut sink)

@@ -3,4 +3,4 @@
 
 mod words;
 
-pub use words::{Command, Request, StrategyWord, Words, words_of};
+pub use words::{Command, FormatWord, Request, StrategyWord, Words, words_of};

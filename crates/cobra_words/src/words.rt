@@ -20,6 +20,15 @@ pub enum Command<'a> {
     Verify { order: &'a str },
     /// Write how large the log and its formula are.
     Stats,
+    /// Say why no serial order explains the log.
+    Explain { format: FormatWord },
+}
+
+/// In what form an explanation is written.
+#[derive(Clone, Copy, Debug, PartialEq, Eq)]
+pub enum FormatWord {
+    Text,
+    Dot,
 }
 
 /// How a search is to pick the choice that it decides next.
@@ -109,6 +118,19 @@ Answers, by exit status:
   4  out of memory
   5  device failed: input or output";
 
+/// What `explain` answers, by exit status.
+const ANSWERS_OF_EXPLAIN: &str = "\
+Answers, by exit status:
+  0  as check
+  1  what check says, and why: the reason of each edge, in the log's own lines
+  2  refused: as check; or usage
+  3  as check, and what to try next
+  4  out of memory
+  5  device failed: input or output";
+
+/// The words for the forms of an explanation.
+const FORMATS: [&str; 2] = ["text", "dot"];
+
 /// The words for strategies.
 const STRATEGIES: [&str; 4] = ["first", "most", "least", "forced"];
 
@@ -153,6 +175,16 @@ fn budget<'a>(alloc: Global) -> Arg<'a> {
         .action(ArgAction::Set)
         .value_parser(clap::value_parser!(u32).range(1..=1_000_000))
         .default_value(DEFAULT_BUDGET)
+}
+
+fn format<'a>(alloc: Global) -> Arg<'a> {
+    Arg::new(alloc, "format")
+        .long("format")
+        .value_name("FORM")
+        .help("Lines of text, or a graph for Graphviz")
+        .action(ArgAction::Set)
+        .value_parser(ValueParser::Names(&FORMATS))
+        .default_value("text")
 }
 
 fn required_file<'a>(alloc: Global, name: &'a str, help: &'a str) -> Arg<'a> {
@@ -210,6 +242,17 @@ fn stats<'a>(alloc: Global) -> Result<clap::Command<'a>, AllocError> {
         .arg(log_file(alloc))
 }
 
+fn explain<'a>(alloc: Global) -> Result<clap::Command<'a>, AllocError> {
+    clap::Command::new(alloc, "explain")
+        .about("Say why no serial order explains a log")
+        .after_help(ANSWERS_OF_EXPLAIN)
+        .arg(format(alloc))?
+        .arg(strategy(alloc))?
+        .arg(budget(alloc))?
+        .arg(workers(alloc))?
+        .arg(log_file(alloc))
+}
+
 fn program<'a>(alloc: Global) -> Result<clap::Command<'a>, AllocError> {
     clap::Command::new(alloc, "cobra_poly")
         .about(
@@ -221,7 +264,8 @@ fn program<'a>(alloc: Global) -> Result<clap::Command<'a>, AllocError> {
         .subcommand(decode(alloc)?)?
         .subcommand(check(alloc)?)?
         .subcommand(verify(alloc)?)?
-        .subcommand(stats(alloc)?)
+        .subcommand(stats(alloc)?)?
+        .subcommand(explain(alloc)?)
 }
 
 /// The file that holds the log, and nothing for standard input.
@@ -242,6 +286,14 @@ fn strategy_of(word: &str) -> StrategyWord {
     }
 }
 
+/// The form of a word; any word but the other stands for the default.
+fn format_of(word: &str) -> FormatWord {
+    match word {
+        "dot" => FormatWord::Dot,
+        _ => FormatWord::Text,
+    }
+}
+
 fn command_of<'a>(name: &str, matches: &ArgMatches<'a>) -> Option<Command<'a>> {
     match name {
         "encode" => Some(Command::Encode),
@@ -253,6 +305,9 @@ fn command_of<'a>(name: &str, matches: &ArgMatches<'a>) -> Option<Command<'a>> {
             order: matches.get_str("order")?,
         }),
         "stats" => Some(Command::Stats),
+        "explain" => Some(Command::Explain {
+            format: format_of(matches.get_str("format").unwrap_or("text")),
+        }),
         _ => None,
     }
 }
