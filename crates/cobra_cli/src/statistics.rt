@@ -120,8 +120,8 @@ fn counted<R: Threads + Wait + Clock + Sync, G: Gate>(
     })
 }
 
-/// Writes how many sessions, committed and aborted transactions, in version 2 how many transactions of unknown outcome and of these
-/// taken ones, and how many keys and operations a log has; then its anomaly, or the number of
+/// Writes how many sessions, committed and aborted transactions, in versions 2 and 3 how many transactions of unknown outcome and of
+/// these taken ones, and how many keys and operations a log has; then its anomaly, or the number of
 /// choices between chains, of those of them that pruning settled, and of those that are open, or with `--plain` the number of
 /// bipaths; and the variables and clauses of its formula: a line each, of a word, a space and a number.
 ///

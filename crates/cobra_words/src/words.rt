@@ -112,8 +112,8 @@ Answers, by exit status:
 /// What `stats` answers, by exit status.
 const ANSWERS_OF_STATS: &str = "\
 Answers, by exit status:
-  0  a line each of a word and a number: sessions, committed, aborted, in version 2 unknown and
-     taken, keys, operations; choices, those of the formula, or the anomaly; variables, clauses
+  0  a line each of a word and a number: sessions, committed, aborted, in versions 2 and 3 unknown
+     and taken, keys, operations; choices, those of the formula, or the anomaly; variables, clauses
   2  refused: and the fault of the log, L1 to L7, L9 or L10, or of its formula, G1 to G3; or usage
   4  out of memory
   5  device failed: input or output";
