@@ -1,0 +1,12 @@
+#!/usr/bin/env bash
+# Draws the graphs that README.md shows, from what the program itself writes: tools/pictures.sh, with Graphviz's dot.
+set -eu
+top=$(cd "$(dirname "${BASH_SOURCE[0]}")/.." && pwd)
+command -v dot > /dev/null || { echo "pictures.sh: there is no command dot, of Graphviz" >&2; exit 70; }
+for log in five_reasons; do
+    status=0
+    "$top/run" explain --format dot --workers 1 "$top/examples/$log.log" > "$top/docs/$log.dot" || status=$?
+    [ "$status" -eq 1 ] || exit "$status"
+    dot -Tsvg "$top/docs/$log.dot" > "$top/docs/$log.svg"
+    rm "$top/docs/$log.dot"
+done
