@@ -6,11 +6,12 @@ use Rattle.session_log.specs.Text.{ClientSession}
 use Rattle.log_definitions.specs.Numbers.{log_of}
 use Rattle.std.specs.Prelude.{IfSome, IfNone}
 use Rattle.reasons.specs.Given.{IsReason, IsOfFirstKind, IsLeast, HaveNone}
-use Rattle.explanations.specs.Reasons.{IsGiven}
 use Rattle.reasons.specs.declared.reason.Reason.{Reason}
-use Rattle.forced_steps.specs.Firsts.{cell, cells}
-use Rattle.forced_steps.specs.Lines.{IsAnswer, IsNoted, AreAnswers}
+use Rattle.reasons.specs.declared.reason.Reason.TheVariants as reason
+use Rattle.forced_steps.specs.Firsts.{IsFound, cell, cells}
+use Rattle.forced_steps.specs.Lines.{IsGiven, IsAnswer, IsNoted, AreAnswers, IsEntry}
 use Rattle.forced_steps.proofs.Places.{cell_within, cell_one}
+use Rattle.forced_steps.proofs.FirstSides.{Sides, not_none}
 
 abbrev pub Table : Type 0
 Table = List (Option (Option Reason))
@@ -53,6 +54,22 @@ answer_at ss table a b place answer ha hb e t is =
     subst P (ap (λ i. get_or table i None) (sym e) ∙ is) (t.each a b ha hb)
 
 -- what is said of a reason that was asked for
-pub answer_of : (ss hist : List ClientSession) (a b : ℕ) (r : Option Reason) → hist ≡ ss → IfSome r (IsReason hist a b) → IfSome r (IsOfFirstKind hist a b) → IfSome r (IsLeast hist a b) → IfNone r (HaveNone hist a b) → IsAnswer ss a b r
-answer_of ss hist a b None e h f l n = subst (λ s. HaveNone s a b) e n
-answer_of ss hist a b (Some r) e h f l n = subst (λ s. IsGiven s a b r) e (record { holds = h; first = f; least = l })
+pub answer_of : (ss : List ClientSession) (a b : ℕ) (r : Option Reason) → IfSome r (IsReason ss a b) → IfSome r (IsOfFirstKind ss a b) → IfSome r (IsLeast ss a b) → IfNone r (HaveNone ss a b) → IsAnswer ss a b r
+answer_of ss a b None h f l n = n
+answer_of ss a b (Some r) h f l n = record { holds = h; first = f; least = l }
+
+-- a reason is one
+reason_not_none : (ss : List ClientSession) (a b : ℕ) (r : Reason) → IsReason ss a b r → HaveNone ss a b → ⊥
+reason_not_none ss a b reason.Session h none = none.session h
+reason_not_none ss a b (reason.Read i j) h none = none.read i j h
+reason_not_none ss a b (reason.Overwritten i j) h none = none.overwritten i j h
+reason_not_none ss a b (reason.Initial j) h none = none.initial j h
+reason_not_none ss a b reason.Moments h none = none.moments h
+
+-- ---- the first entry that keeps an edge which the log does not show
+pub entry_shown : (ss : List ClientSession) (sides : Sides) (a b : ℕ) (r : Reason) → IsGiven ss a b r → IsEntry ss sides a b None
+entry_shown ss sides a b r g = λ u. reason_not_none ss a b r g.holds u.none
+
+pub entry_found : (ss : List ClientSession) (sides : Sides) (a b : ℕ) (o : Option ℕ) → HaveNone ss a b → IsFound sides (a, b) o → IsEntry ss sides a b o
+entry_found ss sides a b None n f = λ u. not_none sides (length sides) (a, b) u.kept f
+entry_found ss sides a b (Some k) n f = (n, f)

@@ -7,15 +7,15 @@ use Rattle.std.proofs.lemmas.Grind.{flat_map-append}
 use Rattle.std.proofs.lemmas.List.Elements.{All-from_recursion}
 use Rattle.serializability.specs.Log.{Log}
 use Rattle.serializability.specs.Pairs.{pairs_of}
-use Rattle.serializability.specs.Polygraph.{Choice, all_keys, committed}
+use Rattle.serializability.specs.Polygraph.{all_keys, committed}
 use Rattle.serializability.proofs.Places.{each_from_range, each_from_map, each_from_flat_map}
 use Rattle.known_graph.proofs.Listed.{In-filter, In-range, Contains-from_In}
 use Rattle.chain_laws.specs.Chains.{heads, is_head, chain_choice, chain_choices}
 use Rattle.chain_laws.proofs.Coalesced.{pairs_each}
 use Rattle.write_chains.specs.Views.{chain_from, chains_in}
 use Rattle.explanations.specs.declared.why.ChainOrder.{ChainOrder}
-use Rattle.forced_steps.specs.Steps.{turned, edges_in, IsOrder}
-use Rattle.forced_steps.specs.Orders.{order_to, orders_among, orders_in}
+use Rattle.forced_steps.specs.Steps.{turned, IsOrder}
+use Rattle.forced_steps.specs.Orders.{choice_of, order_to, orders_among, orders_in}
 
 -- ---- of the numbers below k
 range_last : (a k : ℕ) → range_with_len a (k + 1) ≡ range_with_len a k ++ (a + k) ∷ []
@@ -58,9 +58,6 @@ among_heads log x (a ∷ hs) =
     ∙ sym (map-append (order_of x) (map (λ b. (a, b)) hs) (pairs_of hs))
 
 -- ---- the choice of an order
-abbrev pub choice_of : Log → ChainOrder → Choice
-choice_of log o = record { one = edges_in log o; two = edges_in log (turned o) }
-
 of_pairs : (log : Log) (x : ℕ) (ps : List (ℕ × ℕ)) → map (choice_of log) (map (order_of x) ps) ≡ map (chain_choice log x) ps
 of_pairs log x [] = refl
 of_pairs log x (p ∷ ps) = ap (λ l. chain_choice log x p ∷ l) (of_pairs log x ps)

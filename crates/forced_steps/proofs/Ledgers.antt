@@ -31,15 +31,15 @@ use Rattle.prune_ledger.specs.declared.ledger.Ledger.{Ledger}
 use Rattle.prune_ledger.proofs.Sides.{side_is, choice_of_edge, kept_cases, no_kept}
 use Rattle.explanations.specs.declared.why.ChainOrder.{ChainOrder}
 use Rattle.forced_steps.specs.Steps.{turned, edges_in, IsOrder}
-use Rattle.forced_steps.specs.Orders.{orders_in, kept_of, kept_order}
+use Rattle.forced_steps.specs.Orders.{choice_of, orders_in, kept_of, kept_order}
 use Rattle.forced_steps.specs.Lines.{sides_of, IsBetween, Rests, LineRests}
 use Rattle.forced_steps.specs.Marks.{AreRested}
-use Rattle.forced_steps.specs.Ledgers.{IsDeadLedger, kept_by, IsStep, AreSteps, IsClosed}
+use Rattle.forced_steps.specs.Ledgers.{IsDeadLedger, AreEntries, kept_by, IsStep, AreSteps, IsClosed}
 use Rattle.forced_steps.proofs.FirstSides.{Sides}
-use Rattle.forced_steps.proofs.Chosen.{choice_of, choices_are, all_orders, turned_order}
+use Rattle.forced_steps.proofs.Chosen.{choices_are, all_orders, turned_order}
 
 -- ---- lists by place
-get_map : {X Y : Type 0} (f : X → Y) (xs : List X) (k : ℕ) (y : Y) → slice_get (map f xs) k ≡ Some y → (x : X) × ((slice_get xs k ≡ Some x) × (f x ≡ y))
+pub get_map : {X Y : Type 0} (f : X → Y) (xs : List X) (k : ℕ) (y : Y) → slice_get (map f xs) k ≡ Some y → (x : X) × ((slice_get xs k ≡ Some x) × (f x ≡ y))
 get_map f [] k y e = absurd (cc)
 get_map f (x ∷ xs) zero y e = let same : f x ≡ y = cc in (x, (refl, same))
 get_map f (x ∷ xs) (suc k) y e = get_map f xs k y e
@@ -164,7 +164,7 @@ kept_two : (log : Log) (o : ChainOrder) (s : Side) → IsOrder log o → IsOrder
 kept_two log o One h = turned_order log o h
 kept_two log o Two h = h
 
-abbrev order_by : List ClientSession → Posted → ChainOrder
+abbrev pub order_by : List ClientSession → Posted → ChainOrder
 order_by ss q = kept_order (orders_of ss) q
 
 record PostKeeps (ss : List ClientSession) (p : Polygraph) (q : Posted) : Type 0 where
@@ -242,7 +242,7 @@ walk_end edges [] u v w = (u, w)
 walk_end edges (x ∷ ws) u v w = walk_end edges ws x v w.1
 
 -- ---- edges over what posts keep
-record Given (ss : List ClientSession) (p : Polygraph) : Type 0 where
+pub record Given (ss : List ClientSession) (p : Polygraph) : Type 0 where
   pub clean : IsClean (log_of ss)
   pub known : (e : Edge) → Contains p.known e → Contains (chain_polygraph (log_of ss)).known e
   pub choices : p.choices ≡ chain_choices (log_of ss)
@@ -254,7 +254,7 @@ edge_leads ss p g qs x c = elim (after_cases p [] qs x (In-from_Contains (edges_
       order_leads ss (order_by ss k.post) q.two_chains x (Contains-from_In (edges_in (log_of ss) (order_by ss k.post)) x (subst (In x) q.keeps k.within)))
 ]
 
-edge_rests : (ss : List ClientSession) (p : Polygraph) → Given ss p → (posts qs : List Posted) (bound : ℕ) → ((j : ℕ) (q : Posted) → slice_get qs j ≡ Some q → (j < bound) × (slice_get posts j ≡ Some q))
+pub edge_rests : (ss : List ClientSession) (p : Polygraph) → Given ss p → (posts qs : List Posted) (bound : ℕ) → ((j : ℕ) (q : Posted) → slice_get qs j ≡ Some q → (j < bound) × (slice_get posts j ≡ Some q))
     → (a b : ℕ) → Contains (edges_after p (kept_after [] qs)) (a, b) → IsBetween ss a → Rests ss (sides_of ss (map (order_by ss) posts)) bound a b
 edge_rests ss p g posts qs bound below a b c h = record {
   first = h;
@@ -273,21 +273,25 @@ edge_rests ss p g posts qs bound below a b c h = record {
   ];
 }
 
-given_of : (ss : List ClientSession) (ledger : Ledger) → IsClean (log_of ss) → (d : IsDeadLedger ss ledger) → Given ss d.poly
-given_of ss ledger clean d = record { clean = clean; known = d.known; choices = d.choices }
+given_of : (ss : List ClientSession) (entries : List LedgerEntry) → IsClean (log_of ss) → (d : AreEntries ss entries) → Given ss d.poly
+given_of ss entries clean d = record { clean = clean; known = d.known; choices = d.choices }
 
 posts_many : (entries : List LedgerEntry) → length (posts_in entries) ≡ length entries
 posts_many [] = refl
 posts_many (x ∷ es) = ap suc (posts_many es)
 
--- ---- the steps of a dead ledger
-pub step_of : (ss : List ClientSession) (ledger : Ledger) → IsClean (log_of ss) → IsDeadLedger ss ledger → (k : ℕ) (q : Posted) → slice_get (posts_in ledger.entries.items) k ≡ Some q → IsStep ss (kept_by ss ledger.entries.items) k q
-step_of ss ledger clean d k q at =
+-- a dead ledger's are such
+pub dead_entries : (ss : List ClientSession) (ledger : Ledger) → IsDeadLedger ss ledger → AreEntries ss ledger.entries.items
+dead_entries ss ledger d = record { poly = d.poly; known = d.known; choices = d.choices; shown = d.valid.shown }
+
+-- ---- the steps of entries
+pub step_of : (ss : List ClientSession) (entries : List LedgerEntry) → IsClean (log_of ss) → AreEntries ss entries → (k : ℕ) (q : Posted) → slice_get (posts_in entries) k ≡ Some q → IsStep ss (kept_by ss entries) k q
+step_of ss entries clean d k q at =
     let log = log_of ss in
     let p = d.poly in
-    let g = given_of ss ledger clean d in
-    let posts = posts_in ledger.entries.items in
-    let sh = shown_at p [] posts k q d.valid.shown at in
+    let g = given_of ss entries clean d in
+    let posts = posts_in entries in
+    let sh = shown_at p [] posts k q d.shown at in
     let inside = In-from_Contains (side_of p.choices q.choice q.side) q.edge sh.within in
     let keeps = post_keeps ss p d.choices q q.side q.edge inside in
     let refuted : Contains (edges_in log (turned (order_by ss q))) q.edge = Contains-from_In (edges_in log (turned (order_by ss q))) q.edge (subst (In q.edge) keeps.refuses inside) in
@@ -305,10 +309,10 @@ step_of ss ledger clean d k q at =
       rests = subst (LineRests ss (sides_of ss (map (order_by ss) posts)) k) (sym sh.walk.shape) rests;
     }
 
-pub steps_of : (ss : List ClientSession) (ledger : Ledger) → IsClean (log_of ss) → IsDeadLedger ss ledger → AreSteps ss (kept_by ss ledger.entries.items) ledger.entries.items
-steps_of ss ledger clean d = record {
-  count = length-map (posts_in ledger.entries.items) (order_by ss) ∙ posts_many ledger.entries.items;
-  each = step_of ss ledger clean d;
+pub steps_of : (ss : List ClientSession) (entries : List LedgerEntry) → IsClean (log_of ss) → AreEntries ss entries → AreSteps ss (kept_by ss entries) entries
+steps_of ss entries clean d = record {
+  count = length-map (posts_in entries) (order_by ss) ∙ posts_many entries;
+  each = step_of ss entries clean d;
 }
 
 pub rested_of : (ss : List ClientSession) (kept : List ChainOrder) (entries : List LedgerEntry) → AreSteps ss kept entries → AreRested ss (sides_of ss kept) entries
@@ -317,29 +321,29 @@ rested_of ss kept entries s = record { each = λ k q at. (s.each k q at).rests }
 all_from_get : {X : Type 0} (P : X → Type 0) (xs : List X) → ((k : ℕ) (x : X) → slice_get xs k ≡ Some x → P x) → All P xs
 all_from_get P xs h k d lt = h k (get_or xs k d) (slice_get-get_or xs k d lt)
 
-pub choices_within : (ss : List ClientSession) (ledger : Ledger) → IsClean (log_of ss) → IsDeadLedger ss ledger → (orders : List ChainOrder) → orders ≡ orders_in (log_of ss) → All (λ q. q.choice < length orders) (posts_in ledger.entries.items)
-choices_within ss ledger clean d orders e =
-    all_from_get (λ q. q.choice < length orders) (posts_in ledger.entries.items) (λ k q at.
-    (let sh = shown_at d.poly [] (posts_in ledger.entries.items) k q d.valid.shown at in
+pub choices_within : (ss : List ClientSession) (entries : List LedgerEntry) → IsClean (log_of ss) → AreEntries ss entries → (orders : List ChainOrder) → orders ≡ orders_in (log_of ss) → All (λ q. q.choice < length orders) (posts_in entries)
+choices_within ss entries clean d orders e =
+    all_from_get (λ q. q.choice < length orders) (posts_in entries) (λ k q at.
+    (let sh = shown_at d.poly [] (posts_in entries) k q d.shown at in
     let keeps = post_keeps ss d.poly d.choices q q.side q.edge (In-from_Contains (side_of d.poly.choices q.choice q.side) q.edge sh.within) in
     omega (arith, keeps.within, ap length e)))
 
-pub kept_orders_are : (ss : List ClientSession) (ledger : Ledger) → IsClean (log_of ss) → IsDeadLedger ss ledger → All (IsOrder (log_of ss)) (kept_by ss ledger.entries.items)
-kept_orders_are ss ledger clean d =
-    all_from_get (IsOrder (log_of ss)) (kept_by ss ledger.entries.items) (λ k o at.
-    (let r = get_map (order_by ss) (posts_in ledger.entries.items) k o at in
-    let s = step_of ss ledger clean d k r.0 r.1.0 in
-    let sh = shown_at d.poly [] (posts_in ledger.entries.items) k r.0 d.valid.shown r.1.0 in
+pub kept_orders_are : (ss : List ClientSession) (entries : List LedgerEntry) → IsClean (log_of ss) → AreEntries ss entries → All (IsOrder (log_of ss)) (kept_by ss entries)
+kept_orders_are ss entries clean d =
+    all_from_get (IsOrder (log_of ss)) (kept_by ss entries) (λ k o at.
+    (let r = get_map (order_by ss) (posts_in entries) k o at in
+    let s = step_of ss entries clean d k r.0 r.1.0 in
+    let sh = shown_at d.poly [] (posts_in entries) k r.0 d.shown r.1.0 in
     let keeps = post_keeps ss d.poly d.choices r.0 r.0.side r.0.edge (In-from_Contains (side_of d.poly.choices r.0.choice r.0.side) r.0.edge sh.within) in
     subst (IsOrder (log_of ss)) r.1.1 keeps.two_chains))
 
 -- ---- its cycle
-pub closed_of : (ss : List ClientSession) (ledger : Ledger) → IsClean (log_of ss) → (d : IsDeadLedger ss ledger) → (line : List ℕ) → IsCycle (edges_after d.poly (kept_after [] (posts_in ledger.entries.items))) line → IsClosed ss (kept_by ss ledger.entries.items) line
-closed_of ss ledger clean d line c =
+pub closed_of : (ss : List ClientSession) (entries : List LedgerEntry) → IsClean (log_of ss) → (d : AreEntries ss entries) → (line : List ℕ) → IsCycle (edges_after d.poly (kept_after [] (posts_in entries))) line → IsClosed ss (kept_by ss entries) line
+closed_of ss entries clean d line c =
     let p = d.poly in
-    let g = given_of ss ledger clean d in
-    let posts = posts_in ledger.entries.items in
-    let K = kept_by ss ledger.entries.items in
+    let g = given_of ss entries clean d in
+    let posts = posts_in entries in
+    let K = kept_by ss entries in
     let w = c.1 in
     let edges = edges_after p (kept_after [] posts) in
     let last = walk_end edges w.inner c.0 c.0 w.steps in
@@ -353,6 +357,9 @@ closed_of ss ledger clean d line c =
       shape = w.shape;
       rests = subst (LineRests ss (sides_of ss K) (length K)) (sym w.shape) rests;
     }
+
+pub dead_closed : (ss : List ClientSession) (ledger : Ledger) → IsClean (log_of ss) → (d : IsDeadLedger ss ledger) → (line : List ℕ) → IsCycle (edges_after d.poly (kept_after [] (posts_in ledger.entries.items))) line → IsClosed ss (kept_by ss ledger.entries.items) line
+dead_closed ss ledger clean d line c = closed_of ss ledger.entries.items clean (record { poly = d.poly; known = d.known; choices = d.choices; shown = d.valid.shown }) line c
 
 pub choice_within : (entries : List LedgerEntry) (orders : List ChainOrder) → All (λ q. q.choice < length orders) (posts_in entries) → (i : ℕ) (x : LedgerEntry) → i < length entries → x ≡ get_or entries i x → x.post.choice < length orders
 choice_within entries orders h i x lt is =
@@ -369,14 +376,11 @@ post_at entries i x lt is =
     map_get post entries i x got
 
 -- ---- the same, of orders that are those that the entries keep
-pub steps_in : (ss : List ClientSession) (ledger : Ledger) (kept : List ChainOrder) → IsClean (log_of ss) → IsDeadLedger ss ledger → kept ≡ kept_by ss ledger.entries.items → AreSteps ss kept ledger.entries.items
-steps_in ss ledger kept clean d e = subst (λ k. AreSteps ss k ledger.entries.items) (sym e) (steps_of ss ledger clean d)
+pub steps_in : (ss : List ClientSession) (entries : List LedgerEntry) (kept : List ChainOrder) → IsClean (log_of ss) → AreEntries ss entries → kept ≡ kept_by ss entries → AreSteps ss kept entries
+steps_in ss entries kept clean d e = subst (λ k. AreSteps ss k entries) (sym e) (steps_of ss entries clean d)
 
 pub closed_in : (ss : List ClientSession) (entries : List LedgerEntry) (kept : List ChainOrder) (line : List ℕ) → kept ≡ kept_by ss entries → IsClosed ss (kept_by ss entries) line → IsClosed ss kept line
 closed_in ss entries kept line e c = subst (λ k. IsClosed ss k line) (sym e) c
 
-pub closed_some : (ss : List ClientSession) (ledger : Ledger) (line : List ℕ) → IsClean (log_of ss) → (d : IsDeadLedger ss ledger) → IsCycle (edges_after d.poly (kept_after [] (posts_in ledger.entries.items))) line → IsClosed ss (kept_by ss ledger.entries.items) line
-closed_some ss ledger line clean d c = closed_of ss ledger clean d line c
-
-pub kept_are : (ss : List ClientSession) (entries es : List LedgerEntry) (orders kept : List ChainOrder) → orders ≡ orders_in (log_of ss) → es ≡ entries → kept ≡ map (kept_order orders) (posts_in es) → kept ≡ kept_by ss entries
-kept_are ss entries es orders kept o e k = k ∙ ap (λ z. map (kept_order z) (posts_in es)) o ∙ ap (λ z. map (kept_order (orders_in (log_of ss))) (posts_in z)) e
+pub kept_are : (ss : List ClientSession) (entries : List LedgerEntry) (orders kept : List ChainOrder) → orders ≡ orders_in (log_of ss) → kept ≡ map (kept_order orders) (posts_in entries) → kept ≡ kept_by ss entries
+kept_are ss entries orders kept o k = k ∙ ap (λ z. map (kept_order z) (posts_in entries)) o

@@ -6,3 +6,5 @@ pub mod Marking
 pub mod Ledgers
 pub mod ChainSides
 pub mod Telling
+pub mod Leading
+pub mod Covering

@@ -1,29 +1,18 @@
 -- Marks of entries, as edges, lines and walks are looked at.
-use Rattle.std.proofs.Common.{◌≡◌, ℕ, zero, suc, ◌+◌, ◌<◌, ◌≤◌, Bool, true, false, List, [], ◌∷◌, length, get_or, set, Some, refl, sym, ap, ◌∙◌, subst, inl, inr, arith}
+use Rattle.std.proofs.Common.{◌≡◌, ℕ, zero, suc, ◌+◌, ◌<◌, ◌≤◌, Bool, true, false, List, [], ◌∷◌, length, get_or, set, take, None, Some, refl, sym, ap, ◌∙◌, subst, inl, inr, arith, Bor}
 use Rattle.std.specs.Prelude.{slice_get}
+use Rattle.std.specs.List.{All}
 use Rattle.std.proofs.lemmas.Bool.{cases_eq, cases_lt, false≢true}
-use Rattle.std.proofs.lemmas.List.{get_or-set_same, get_or-set_other, length-set}
+use Rattle.std.proofs.lemmas.List.{get_or-set_same, get_or-set_other, length-set, take_more}
+use Rattle.std.proofs.lemmas.List.Elements.{All-push, All-weaker}
 use Rattle.session_log.specs.Text.{ClientSession}
 use Rattle.serializability.specs.Polygraph.{Edge}
-use Rattle.reasons.specs.Given.{IsReason, HaveNone}
-use Rattle.reasons.specs.declared.reason.Reason.{Reason}
-use Rattle.reasons.specs.declared.reason.Reason.TheVariants as reason
 use Rattle.prune_ledger.specs.Pruned.{posts_in}
 use Rattle.prune_ledger.specs.Posted.{Posted}
 use Rattle.prune_ledger.specs.declared.ledger.LedgerEntry.{LedgerEntry}
-use Rattle.forced_steps.specs.Lines.{Rests, LineRests, IsGround}
-use Rattle.forced_steps.specs.Marks.{is_set, IsMarked, AreMore, AreSameFrom, marked_by, IsWithin, IsEdgeMarked, IsCovered, IsLineMarked, IsWalkMarked, AreCovered, AreNeeded}
-use Rattle.forced_steps.specs.declared.ground.Ground.{Ground}
-use Rattle.forced_steps.specs.declared.ground.Ground.TheVariants as ground
+use Rattle.forced_steps.specs.Lines.{IsUnshown, LineRests, IsEntry}
+use Rattle.forced_steps.specs.Marks.{is_set, IsMarked, AreMore, AreSameFrom, IsEdgeMarked, IsCovered, IsLineMarked, IsWalkMarked, AreCovered}
 use Rattle.forced_steps.proofs.FirstSides.{Sides, first_below}
-
--- a reason is one
-pub reason_not_none : (ss : List ClientSession) (a b : ℕ) (r : Reason) → IsReason ss a b r → HaveNone ss a b → ⊥
-reason_not_none ss a b reason.Session h none = none.session h
-reason_not_none ss a b (reason.Read i j) h none = none.read i j h
-reason_not_none ss a b (reason.Overwritten i j) h none = none.overwritten i j h
-reason_not_none ss a b (reason.Initial j) h none = none.initial j h
-reason_not_none ss a b reason.Moments h none = none.moments h
 
 -- ---- more marks
 pub more_same : (marks : List Bool) → AreMore marks marks
@@ -53,24 +42,19 @@ pub marked_more : (sides : Sides) (a b : List Bool) (e : Edge) → AreMore a b �
 marked_more sides a b e h m = record { entry = m.entry; first = m.first; marked = h.each m.entry m.marked }
 
 -- ---- one edge
-pub ground_within : (ss : List ClientSession) (sides : Sides) (a b count : ℕ) (g : Ground) (n : ℕ) → n ≡ count → Rests ss sides count a b → IsGround ss sides a b g → IsWithin n g
-ground_within ss sides a b count (ground.Known r) n e rests h = tt
-ground_within ss sides a b count (ground.Kept k) n e rests h = omega (arith, e, first_below sides count (a, b) k h.1 (rests.kept h.0))
-
-edge_by : (ss : List ClientSession) (sides : Sides) (a b : ℕ) (g : Ground) (old : List Bool) → IsGround ss sides a b g → IsWithin (length old) g → IsEdgeMarked ss sides a b old (marked_by g old)
-edge_by ss sides a b (ground.Known r) old h within = record {
-  covered = λ none. absurd (reason_not_none ss a b r h.holds none);
-  more = more_same old;
-  later = λ bound rests. record { each = λ k le. refl };
-}
-edge_by ss sides a b (ground.Kept k) old h within = record {
-  covered = λ none. record { entry = k; first = h.1; marked = get_or-set_same old k true false within };
+pub edge_marked : (ss : List ClientSession) (sides : Sides) (a b k : ℕ) (old : List Bool) → IsEntry ss sides a b (Some k) → k < length old → IsEdgeMarked ss sides a b old (set old k true)
+edge_marked ss sides a b k old h within = record {
+  covered = λ u. record { entry = k; first = h.1; marked = get_or-set_same old k true false within };
   more = set_more old k within;
   later = λ bound rests. set_later old k bound (first_below sides bound (a, b) k h.1 (rests.kept h.0));
 }
 
-pub edge_marked : (ss : List ClientSession) (sides : Sides) (a b : ℕ) (g : Ground) (old new : List Bool) → IsGround ss sides a b g → IsWithin (length old) g → new ≡ marked_by g old → IsEdgeMarked ss sides a b old new
-edge_marked ss sides a b g old new h within e = subst (IsEdgeMarked ss sides a b old) (sym e) (edge_by ss sides a b g old h within)
+pub edge_unmarked : (ss : List ClientSession) (sides : Sides) (a b : ℕ) (old : List Bool) → IsEntry ss sides a b None → IsEdgeMarked ss sides a b old old
+edge_unmarked ss sides a b old h = record {
+  covered = λ u. absurd (h u);
+  more = more_same old;
+  later = λ bound rests. record { each = λ k le. refl };
+}
 
 -- ---- a line
 pub line_none : (ss : List ClientSession) (sides : Sides) (line : List ℕ) (marks : List Bool) → IsLineMarked ss sides line 0 marks marks
@@ -90,7 +74,7 @@ line_more ss sides line i old mid new within h e = record {
     each = λ j lt hj none. elim (cases_lt j i) [
       | inl below ↦ marked_more sides mid new (get_or line j 0, get_or line (j + 1) 0) e.more (h.covered.each j below hj none)
       | inr ge ↦ (let same : j ≡ i = omega (arith, lt, ge) in
-          let P : ℕ → Type 0 = λ k. HaveNone ss (get_or line k 0) (get_or line (k + 1) 0) → IsMarked sides new (get_or line k 0, get_or line (k + 1) 0) in
+          let P : ℕ → Type 0 = λ k. IsUnshown ss sides (get_or line k 0) (get_or line (k + 1) 0) → IsMarked sides new (get_or line k 0, get_or line (k + 1) 0) in
           subst P (sym same) e.covered none)
     ];
   };
@@ -145,10 +129,12 @@ walks_none ss sides entries marks = record { each = λ k p is le t. absurd (past
     past (x ∷ qs) zero p e le = omega (arith, le)
     past (x ∷ qs) (suc k) p e le = past qs k p e (omega (arith, le))
 
-pub needed_from : (ss : List ClientSession) (sides : Sides) (entries : List LedgerEntry) (cycle : List ℕ) (blank mid marks : List Bool) → length blank ≡ length entries
-    → IsLineMarked ss sides cycle (length cycle) blank mid → AreCovered ss sides marks entries (length entries) → AreMore mid marks → AreNeeded ss sides entries cycle marks
-needed_from ss sides entries cycle blank mid marks count line walks more = record {
-  count = more.count ∙ line.more.count ∙ count;
-  cycle_covered = covered_more ss sides mid marks cycle (length cycle) more line.covered;
-  walks = walks;
-}
+-- ---- lines
+pub lines_covered_more : (ss : List ClientSession) (sides : Sides) (a b : List Bool) (lines : List (Bor (List ℕ))) → AreMore a b → All (λ (l : Bor (List ℕ)). IsCovered ss sides a l.now (length l.now)) lines → All (λ (l : Bor (List ℕ)). IsCovered ss sides b l.now (length l.now)) lines
+lines_covered_more ss sides a b lines m h = All-weaker (λ (l : Bor (List ℕ)). IsCovered ss sides a l.now (length l.now)) (λ (l : Bor (List ℕ)). IsCovered ss sides b l.now (length l.now)) (λ l c. covered_more ss sides a b l.now (length l.now) m c) lines h
+
+pub lines_next : (ss : List ClientSession) (sides : Sides) (old new : List Bool) (lines : List (Bor (List ℕ))) (i : ℕ) (l : Bor (List ℕ)) → i < length lines → l ≡ get_or lines i l → IsLineMarked ss sides l.now (length l.now) old new
+    → All (λ (l : Bor (List ℕ)). IsCovered ss sides old l.now (length l.now)) (take i lines) → All (λ (l : Bor (List ℕ)). IsCovered ss sides new l.now (length l.now)) (take (i + 1) lines)
+lines_next ss sides old new lines i l lt is m h =
+    let P : Bor (List ℕ) → Type 0 = λ x. IsCovered ss sides new x.now (length x.now) in
+    subst (All P) (sym (take_more lines i l lt)) (All-push P (take i lines) (get_or lines i l) (lines_covered_more ss sides old new (take i lines) m.more h) (subst P is m.covered))

@@ -6,6 +6,7 @@ use Rattle.serializability.specs.Polygraph.{Edge, Polygraph}
 use Rattle.chain_laws.specs.Chains.{chain_polygraph, chain_choices}
 use Rattle.log_definitions.specs.Numbers.{log_of}
 use Rattle.prune_ledger.specs.Posted.{Posted}
+use Rattle.prune_ledger.specs.Ledger.{AreShown}
 use Rattle.prune_ledger.specs.Pruned.{posts_in, IsLedgerOf}
 use Rattle.prune_ledger.specs.declared.ledger.LedgerEntry.{LedgerEntry}
 use Rattle.prune_ledger.specs.declared.ledger.Ledger.{Ledger}
@@ -21,6 +22,13 @@ pub record IsDeadLedger (ss : List ClientSession) (ledger : Ledger) : Type 0 whe
   pub choices : poly.choices ≡ chain_choices (log_of ss)
   pub valid : IsLedgerOf poly ledger
   pub cycle : IsSome ledger.cycle
+
+-- the entries are shown, of a polygraph with the choices between the chains, whose known edges are no others than theirs
+pub record AreEntries (ss : List ClientSession) (entries : List LedgerEntry) : Type 0 where
+  pub poly : Polygraph
+  pub known : (e : Edge) → Contains poly.known e → Contains (chain_polygraph (log_of ss)).known e
+  pub choices : poly.choices ≡ chain_choices (log_of ss)
+  pub shown : AreShown poly [] (posts_in entries)
 
 -- the orders that the entries keep
 abbrev pub kept_by : List ClientSession → List LedgerEntry → List ChainOrder

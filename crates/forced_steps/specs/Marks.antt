@@ -1,15 +1,12 @@
 -- Which entries of a ledger are needed.
-use Rattle.std.specs.Prelude.{◌≡◌, ℕ, ◌+◌, ◌<◌, ◌≤◌, List, length, Bool, true, false, Some, slice_get, slice_set, slice_index, slice_index_or}
+use Rattle.std.specs.Prelude.{◌≡◌, ℕ, ◌+◌, ◌<◌, ◌≤◌, List, length, Bool, true, false, Some, slice_get, slice_index, slice_index_or}
 use Rattle.session_log.specs.Text.{ClientSession}
 use Rattle.serializability.specs.Polygraph.{Edge}
-use Rattle.reasons.specs.Given.{HaveNone}
 use Rattle.prune_ledger.specs.Pruned.{posts_in}
 use Rattle.prune_ledger.specs.Posted.{Posted}
 use Rattle.prune_ledger.specs.declared.ledger.LedgerEntry.{LedgerEntry}
 use Rattle.forced_steps.specs.Firsts.{IsFirstIn}
-use Rattle.forced_steps.specs.Lines.{Rests, LineRests}
-use Rattle.forced_steps.specs.declared.ground.Ground.{Ground}
-use Rattle.forced_steps.specs.declared.ground.Ground.TheVariants as ground
+use Rattle.forced_steps.specs.Lines.{IsUnshown, Rests, LineRests}
 
 abbrev pub is_set : List Bool → ℕ → Bool
 is_set marks k = slice_index_or marks k false
@@ -29,24 +26,15 @@ pub record AreMore (old new : List Bool) : Type 0 where
 pub record AreSameFrom (bound : ℕ) (old new : List Bool) : Type 0 where
   pub each : (k : ℕ) → bound ≤ k → is_set new k ≡ is_set old k
 
--- what rests on an entry is marked
-abbrev pub marked_by : Ground → List Bool → List Bool
-marked_by (ground.Known r) marks = marks
-marked_by (ground.Kept k) marks = slice_set marks k true
-
-abbrev pub IsWithin : ℕ → Ground → Type 0
-IsWithin count (ground.Known r) = Unit {0}
-IsWithin count (ground.Kept k) = k < count
-
--- where the log shows no reason of the edge, the first entry that has it is marked; no later mark changes than those on which the edge rests
+-- where the log shows no reason of the edge, the first entry that has it is marked, if one has it; no later mark changes than those on which the edge rests
 pub record IsEdgeMarked (ss : List ClientSession) (sides : List (List Edge)) (a b : ℕ) (old new : List Bool) : Type 0 where
-  pub covered : HaveNone ss a b → IsMarked sides new (a, b)
+  pub covered : IsUnshown ss sides a b → IsMarked sides new (a, b)
   pub more : AreMore old new
   pub later : (bound : ℕ) → Rests ss sides bound a b → AreSameFrom bound old new
 
--- where the log shows no reason of one of the first so many edges of the line, the first entry that has it is marked
+-- where the log shows no reason of one of the first so many edges of the line, the first entry that has it is marked, if one has it
 pub record IsCovered (ss : List ClientSession) (sides : List (List Edge)) (marks : List Bool) (line : List ℕ) (count : ℕ) : Type 0 where
-  pub each : (i : ℕ) → i < count → i + 1 < length line → HaveNone ss (slice_index line i) (slice_index line (i + 1)) → IsMarked sides marks (slice_index line i, slice_index line (i + 1))
+  pub each : (i : ℕ) → i < count → i + 1 < length line → IsUnshown ss sides (slice_index line i) (slice_index line (i + 1)) → IsMarked sides marks (slice_index line i, slice_index line (i + 1))
 
 pub record IsLineMarked (ss : List ClientSession) (sides : List (List Edge)) (line : List ℕ) (count : ℕ) (old new : List Bool) : Type 0 where
   pub covered : IsCovered ss sides new line count
@@ -66,9 +54,3 @@ pub record AreRested (ss : List ClientSession) (sides : List (List Edge)) (entri
 -- the walks of the marked ones among the last so many entries are covered
 pub record AreCovered (ss : List ClientSession) (sides : List (List Edge)) (marks : List Bool) (entries : List LedgerEntry) (count : ℕ) : Type 0 where
   pub each : (k : ℕ) (q : Posted) → slice_get (posts_in entries) k ≡ Some q → length entries ≤ k + count → is_set marks k ≡ true → IsCovered ss sides marks q.walk (length q.walk)
-
--- with so many marks as entries, the cycle and the walk of each marked entry are covered
-pub record AreNeeded (ss : List ClientSession) (sides : List (List Edge)) (entries : List LedgerEntry) (cycle : List ℕ) (marks : List Bool) : Type 0 where
-  pub count : length marks ≡ length entries
-  pub cycle_covered : IsCovered ss sides marks cycle (length cycle)
-  pub walks : AreCovered ss sides marks entries (length entries)

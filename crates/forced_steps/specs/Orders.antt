@@ -2,13 +2,18 @@
 use Rattle.std.specs.Prelude.{ℕ, List, [], ◌∷◌, ◌++◌, map, slice_get, unwrap_or}
 use Rattle.std.specs.List.{flat_map}
 use Rattle.serializability.specs.Log.{Log}
-use Rattle.serializability.specs.Polygraph.{all_keys}
+use Rattle.serializability.specs.Polygraph.{Choice, all_keys}
+use Rattle.chain_laws.specs.Chains.{chain_choice}
 use Rattle.write_chains.specs.Views.{ChainView, chains_in}
 use Rattle.pruning_laws.specs.declared.side.Side.{Side}
 use Rattle.pruning_laws.specs.declared.side.Side.TheVariants.{One, Two}
 use Rattle.prune_ledger.specs.Posted.{Posted}
 use Rattle.explanations.specs.declared.why.ChainOrder.{ChainOrder}
 use Rattle.forced_steps.specs.Steps.{turned}
+
+-- the choice of which this order is side one
+abbrev pub choice_of : Log → ChainOrder → Choice
+choice_of log o = chain_choice log o.key (o.first, o.second)
 
 -- a chain of the key with this head before another
 abbrev pub order_to : ℕ → ℕ → ChainView → ChainOrder

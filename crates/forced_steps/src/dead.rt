@@ -1,91 +1,85 @@
 //! A dead ledger, told as forced steps that end in a cycle.
 
-ghost use Rattle.std.specs.Prelude.{◌≡◌, IfOk, OnOk};
+ghost use Rattle.std.specs.Prelude.{◌≡◌, IfOk};
 ghost use Rattle.serializability.specs.Reads.{IsClean};
 ghost use Rattle.log_definitions.specs.Numbers.{log_of};
-ghost use Rattle.explanations.specs.Lines.{begin_at, AreLines};
 ghost use Rattle.forced_steps.specs.Steps.{IsDeadTold};
 ghost use Rattle.forced_steps.specs.Lines.{AreGrounds};
-ghost use Rattle.forced_steps.specs.Ledgers.{IsDeadLedger, IsClosed, kept_by};
-ghost use Rattle.forced_steps.specs.Told.{IsPut};
+ghost use Rattle.forced_steps.specs.Ledgers.{IsDeadLedger, AreEntries, IsClosed, kept_by};
 
 use crate::firsts::grounds_of;
 use crate::ground::{Grounds, no_answers};
-use crate::lines::put_line;
+use crate::item::Item;
+use crate::lines::put_edges;
 use crate::marks::needed_entries;
 use crate::orders::{choice_orders, kept_orders};
-use crate::pieces::put_cycle_line;
-use crate::steps::put_steps;
-use prune_ledger::Ledger;
+use crate::steps::told_steps;
+use prune_ledger::{Ledger, LedgerEntry};
 use serializability::NodeIx;
+use session_history::History;
 use std::alloc::{AllocError, Global};
 use write_chains::Chains;
 
-/// What the entries of the ledger keep, with the first of them for each edge.
-fn grounds_in(alloc: Global, chains: &Chains, ledger: &Ledger) -> Result<Grounds, AllocError>
-    requires clean { IsClean (log_of chains.now) }
-    requires dead { IsDeadLedger chains.now ledger.now }
-    ensures grounds { IfOk result (AreGrounds chains.now) }
-    ensures kept { IfOk result (λ grounds.
-        grounds.kept.items ≡ kept_by chains.now ledger.now.entries.items) }
+/// What the entries of a ledger keep, with the first of them for each edge.
+pub fn grounds_in(
+    alloc: Global,
+    history: &History,
+    chains: &Chains<'_>,
+    entries: &[LedgerEntry],
+) -> Result<Grounds, AllocError>
+    requires clean { IsClean (log_of history.now) }
+    requires chains { chains.now ≡ history.now }
+    requires entries { AreEntries history.now entries.now }
+    ensures grounds { IfOk result (AreGrounds history.now) }
+    ensures kept { IfOk result (λ grounds. grounds.kept.items ≡ kept_by history.now entries.now) }
 {
     let orders = choice_orders(alloc, chains)?;
-    let kept = kept_orders(alloc, &orders, &ledger.entries)?;
+    let kept = kept_orders(alloc, &orders, entries)?;
     grounds_of(alloc, chains, kept)
 }
 
-/// Appends the steps that this cycle of the ledger needs, and the cycle.
-fn put_with(
+/// The steps that this cycle over what the entries of a ledger keep needs, and the cycle.
+fn tell_with(
     alloc: Global,
-    out: &mut Vec<u8>,
-    chains: &Chains,
-    begins: &[usize],
-    ledger: &Ledger,
+    history: &History,
+    chains: &Chains<'_>,
+    entries: &[LedgerEntry],
     cycle: &[NodeIx],
-) -> Result<(), AllocError>
-    requires clean { IsClean (log_of chains.now) }
-    requires lines { AreLines chains.now begins.now }
-    requires dead { IsDeadLedger chains.now ledger.now }
-    requires closed { IsClosed chains.now (kept_by chains.now ledger.now.entries.items) cycle.now }
-    ensures told { OnOk result (IsPut out.old.items out.new.items
-        (IsDeadTold chains.now (begin_at begins.now))) }
+) -> Result<Vec<Item>, AllocError>
+    requires clean { IsClean (log_of history.now) }
+    requires chains { chains.now ≡ history.now }
+    requires entries { AreEntries history.now entries.now }
+    requires closed { IsClosed history.now (kept_by history.now entries.now) cycle.now }
+    ensures told { IfOk result (λ items. IsDeadTold history.now items.items) }
 {
-    let grounds = grounds_in(alloc, chains, ledger)?;
-    let mut table = no_answers(alloc, chains)?;
+    let grounds = grounds_in(alloc, history, chains, entries)?;
+    let mut table = no_answers(alloc, history)?;
     let answers = table.as_mut_slice();
-    let marks = needed_entries(alloc, &grounds, answers, chains, &ledger.entries, cycle)?;
-    let numbers = put_steps(
-        alloc,
-        out,
-        &grounds,
-        answers,
-        chains,
-        begins,
-        &marks,
-        &ledger.entries,
-    )?;
-    put_cycle_line(out, chains.history(), cycle)?;
-    put_line(out, &grounds, answers, chains, begins, &numbers, cycle)
+    let marks = needed_entries(alloc, &grounds, answers, history, entries, &[cycle])?;
+    let told = told_steps(alloc, &grounds, answers, history, &marks, entries)?;
+    let mut items = told.items;
+    let start = cycle[0];
+    let edges = cycle.len() - 1;
+    items.extend_from_slice(&[Item::Cycle { start, edges }])?;
+    put_edges(&mut items, &grounds, answers, history, &told.numbers, cycle)?;
+    Ok(items)
 }
 
-/// Appends a dead ledger as forced steps, and the cycle that they end in: only the steps that the cycle needs, numbered from 1, each of
-/// which rests on what the log shows and on earlier steps. Of `begins`, element `v - 1` is the line at which node `v` begins. Where memory
-/// runs out, a part of the text may have been appended.
-pub fn put_dead(
+/// A dead ledger, told as forced steps, and the cycle that they end in: only the steps that the cycle needs, numbered from 1, each of
+/// which rests on what the log shows and on earlier steps.
+pub fn tell_dead(
     alloc: Global,
-    out: &mut Vec<u8>,
-    chains: &Chains,
-    begins: &[usize],
+    history: &History,
+    chains: &Chains<'_>,
     ledger: &Ledger,
-) -> Result<(), AllocError>
-    requires clean { IsClean (log_of chains.now) }
-    requires lines { AreLines chains.now begins.now }
-    requires dead { IsDeadLedger chains.now ledger.now }
-    ensures told { OnOk result (IsPut out.old.items out.new.items
-        (IsDeadTold chains.now (begin_at begins.now))) }
+) -> Result<Vec<Item>, AllocError>
+    requires clean { IsClean (log_of history.now) }
+    requires chains { chains.now ≡ history.now }
+    requires ledger { IsDeadLedger history.now ledger.now }
+    ensures told { IfOk result (λ items. IsDeadTold history.now items.items) }
 {
     match &ledger.cycle {
-        Some(cycle) => put_with(alloc, out, chains, begins, ledger, cycle),
-        None => Ok(()),
+        Some(cycle) => tell_with(alloc, history, chains, &ledger.entries, cycle),
+        None => Ok(Vec::new(alloc)),
     }
 }

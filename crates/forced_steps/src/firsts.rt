@@ -70,7 +70,7 @@ fn note_side(table: &mut [Option<usize>], nodes: usize, first: &Chain, second: N
 }
 
 /// The place of the chain with this head, where there is one.
-fn place_of(chains: &[Chain], head: NodeIx) -> Option<usize>
+pub fn place_of(chains: &[Chain], head: NodeIx) -> Option<usize>
     ensures within { IfSome result (λ k. k < length chains.now) }
     ensures head { IfSome result (λ k. (d : chain.Chain) → (slice_index_or chains.now k d).head ≡ head) }
     ensures none { IfNone result (All (λ c. c.head ≢ head) chains.now) }

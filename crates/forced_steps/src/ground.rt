@@ -1,6 +1,6 @@
 //! What an edge rests on.
 
-ghost use Rattle.std.specs.Prelude.{◌≡◌, ◌<◌, ◌≤◌, ℕ, List, length, IfOk, slice_set, slice_index_or, Some, None};
+ghost use Rattle.std.specs.Prelude.{◌≡◌, ◌<◌, ◌≤◌, ℕ, List, length, IsTrue, not, IfOk, slice_set, slice_index_or, Some, None};
 ghost use Rattle.std.specs.Option.{option_or};
 ghost use Rattle.std.specs.List.{All};
 ghost use Rattle.serializability.specs.Polygraph.{Edge};
@@ -8,14 +8,14 @@ ghost use Rattle.serializability.specs.Reads.{IsClean};
 ghost use Rattle.serializability.specs.declared.node.TheConstants.{MAX_NODES};
 ghost use Rattle.log_definitions.specs.Numbers.{log_of};
 ghost use Rattle.forced_steps.specs.Firsts as spec;
-ghost use Rattle.forced_steps.specs.Lines.{sides_of, IsBetween, Rests, IsAnswer, AreAnswers, AreGrounds, IsGround};
+ghost use Rattle.forced_steps.specs.Lines.{sides_of, IsBetween, Rests, IsAnswer, AreAnswers, AreGrounds, IsEntry, IsGround};
 
 use crate::cell::{cell, cells};
 use explanations::ChainOrder;
 use reasons::{Reason, reason_of};
 use serializability::NodeIx;
+use session_history::History;
 use std::alloc::{AllocError, Global};
-use write_chains::Chains;
 
 /// What an edge rests on.
 #[derive(Clone, Copy, Debug, PartialEq, Eq)]
@@ -35,33 +35,35 @@ pub struct Grounds {
 }
 
 /// The answers to whether the log shows an edge, none of which was asked for.
-pub fn no_answers(alloc: Global, chains: &Chains) -> Result<Vec<Option<Option<Reason>>>, AllocError>
-    ensures answers { IfOk result (λ table. AreAnswers chains.now table.items) }
+pub fn no_answers(
+    alloc: Global,
+    history: &History,
+) -> Result<Vec<Option<Option<Reason>>>, AllocError>
+    ensures answers { IfOk result (λ table. AreAnswers history.now table.items) }
 {
-    let nodes = chains.history().committed();
+    let nodes = history.committed();
     vec![in alloc; None; cells(nodes)]
 }
 
 /// Why `a` stands before `b`, where the log shows it.
 fn answer(
     answers: &mut [Option<Option<Reason>>],
-    chains: &Chains,
+    history: &History,
     a: NodeIx,
     b: NodeIx,
 ) -> Option<Reason>
-    requires clean { IsClean (log_of chains.now) }
-    requires answers { AreAnswers chains.now answers.old }
-    requires first { IsBetween chains.now a }
-    requires second { IsBetween chains.now b }
-    ensures answers { AreAnswers chains.now answers.new }
-    ensures answer { IsAnswer chains.now a b result }
+    requires clean { IsClean (log_of history.now) }
+    requires answers { AreAnswers history.now answers.old }
+    requires first { IsBetween history.now a }
+    requires second { IsBetween history.now b }
+    ensures answers { AreAnswers history.now answers.new }
+    ensures answer { IsAnswer history.now a b result }
 {
-    let history = chains.history();
     let place = cell(history.committed(), a, b);
     match answers[place] {
         Some(known) => known,
         None => {
-            let found = reason(chains, a, b);
+            let found = reason(history, a, b);
             answers[place] = Some(found);
             found
         }
@@ -69,13 +71,13 @@ fn answer(
 }
 
 /// Why `a` stands before `b`, where the log shows it.
-fn reason(chains: &Chains, a: NodeIx, b: NodeIx) -> Option<Reason>
-    requires clean { IsClean (log_of chains.now) }
-    requires first { IsBetween chains.now a }
-    requires second { IsBetween chains.now b }
-    ensures answer { IsAnswer chains.now a b result }
+fn reason(history: &History, a: NodeIx, b: NodeIx) -> Option<Reason>
+    requires clean { IsClean (log_of history.now) }
+    requires first { IsBetween history.now a }
+    requires second { IsBetween history.now b }
+    ensures answer { IsAnswer history.now a b result }
 {
-    reason_of(chains.history(), a, b)
+    reason_of(history, a, b)
 }
 
 /// The first entry that keeps the edge, where one does.
@@ -91,23 +93,70 @@ fn first_with(grounds: &Grounds, a: NodeIx, b: NodeIx) -> usize
     grounds.firsts[cell(grounds.nodes, a, b)].unwrap_or(0)
 }
 
+/// The first entry that keeps the edge, where one does.
+pub fn entry_with(grounds: &Grounds, a: NodeIx, b: NodeIx) -> Option<usize>
+    requires few { grounds.now.nodes ≤ MAX_NODES }
+    requires first { a ≤ grounds.now.nodes }
+    requires second { b ≤ grounds.now.nodes }
+    requires count { length grounds.now.firsts.items ≡ spec.cells grounds.now.nodes }
+    ensures found { (sides : List (List Edge)) →
+        spec.AreFirsts grounds.now.nodes sides grounds.now.firsts.items →
+        spec.IsFound sides (a, b) result }
+{
+    grounds.firsts[cell(grounds.nodes, a, b)]
+}
+
+/// Whether this is a node other than node 0.
+pub fn is_between(history: &History, node: NodeIx) -> bool
+    ensures yes { IsTrue result → IsBetween history.now node }
+    ensures no { IsTrue (not result) → IsBetween history.now node → ⊥ }
+{
+    node.get() != 0 && node.get() <= history.committed()
+}
+
+/// The first entry that keeps the edge, where both are nodes other than node 0 and the log does not show the edge.
+pub fn entry_of(
+    grounds: &Grounds,
+    answers: &mut [Option<Option<Reason>>],
+    history: &History,
+    a: NodeIx,
+    b: NodeIx,
+) -> Option<usize>
+    requires clean { IsClean (log_of history.now) }
+    requires grounds { AreGrounds history.now grounds.now }
+    requires answers { AreAnswers history.now answers.old }
+    ensures answers { AreAnswers history.now answers.new }
+    ensures entry { IsEntry history.now (sides_of history.now grounds.now.kept.items) a b result }
+{
+    if !is_between(history, a) {
+        return None;
+    }
+    if !is_between(history, b) {
+        return None;
+    }
+    match answer(answers, history, a, b) {
+        Some(_reason) => None,
+        None => entry_with(grounds, a, b),
+    }
+}
+
 /// What the edge from `a` to `b` rests on.
 pub fn ground_of(
     grounds: &Grounds,
     answers: &mut [Option<Option<Reason>>],
-    chains: &Chains,
+    history: &History,
     a: NodeIx,
     b: NodeIx,
 ) -> Ground
-    requires clean { IsClean (log_of chains.now) }
-    requires grounds { AreGrounds chains.now grounds.now }
-    requires answers { AreAnswers chains.now answers.old }
-    requires rests { Rests chains.now (sides_of chains.now grounds.now.kept.items)
+    requires clean { IsClean (log_of history.now) }
+    requires grounds { AreGrounds history.now grounds.now }
+    requires answers { AreAnswers history.now answers.old }
+    requires rests { Rests history.now (sides_of history.now grounds.now.kept.items)
         (length grounds.now.kept.items) a b }
-    ensures answers { AreAnswers chains.now answers.new }
-    ensures ground { IsGround chains.now (sides_of chains.now grounds.now.kept.items) a b result }
+    ensures answers { AreAnswers history.now answers.new }
+    ensures ground { IsGround history.now (sides_of history.now grounds.now.kept.items) a b result }
 {
-    match answer(answers, chains, a, b) {
+    match answer(answers, history, a, b) {
         Some(reason) => Ground::Known(reason),
         None => Ground::Kept(first_with(grounds, a, b)),
     }

@@ -1,15 +1,20 @@
-//! A dead ledger told as forced steps: only those that its last cycle needs, each of which rests on the log and on earlier steps
-//! alone.
+//! How the ledger of pruning is told: as forced steps, each of which rests on the log and on earlier steps alone, and only those that
+//! some lines need.
 #![tactic(auto)]
 
 mod cell;
 mod dead;
+mod decided;
 mod firsts;
+mod forced;
 mod ground;
+mod item;
 mod lines;
 mod marks;
 mod orders;
-mod pieces;
 mod steps;
 
-pub use dead::put_dead;
+pub use dead::tell_dead;
+pub use forced::{Steps, steps_of};
+pub use item::Item;
+pub use orders::choice_orders;

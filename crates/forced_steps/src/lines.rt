@@ -3,99 +3,93 @@
 ghost use Rattle.std.specs.Prelude.{◌≡◌, length, OnOk};
 ghost use Rattle.serializability.specs.Reads.{IsClean};
 ghost use Rattle.log_definitions.specs.Numbers.{log_of};
-ghost use Rattle.explanations.specs.Lines.{begin_at, AreLines};
-ghost use Rattle.explanations.specs.Reasons.{CanTell};
 ghost use Rattle.forced_steps.specs.Lines.{sides_of, Rests, LineRests, AreAnswers, AreGrounds};
 ghost use Rattle.forced_steps.specs.Told as spec;
 
 use crate::ground::{Ground, Grounds, ground_of};
-use explanations::{Why, put_edge};
+use crate::item::Item;
+use explanations::Why;
 use reasons::Reason;
 use serializability::NodeIx;
+use session_history::History;
 use std::alloc::AllocError;
-use write_chains::Chains;
 
 /// Why `a` stands before `b`, where the entries of a ledger are told as the steps of these numbers.
 fn why_of(
     grounds: &Grounds,
     answers: &mut [Option<Option<Reason>>],
-    chains: &Chains,
+    history: &History,
     numbers: &[usize],
     a: NodeIx,
     b: NodeIx,
 ) -> Why
-    requires clean { IsClean (log_of chains.now) }
-    requires grounds { AreGrounds chains.now grounds.now }
-    requires answers { AreAnswers chains.now answers.old }
-    requires rests { Rests chains.now (sides_of chains.now grounds.now.kept.items)
+    requires clean { IsClean (log_of history.now) }
+    requires grounds { AreGrounds history.now grounds.now }
+    requires answers { AreAnswers history.now answers.old }
+    requires rests { Rests history.now (sides_of history.now grounds.now.kept.items)
         (length grounds.now.kept.items) a b }
-    requires numbers { spec.AreNumbers (length grounds.now.kept.items) numbers.now }
-    ensures answers { AreAnswers chains.now answers.new }
-    ensures tells { CanTell chains.now a b result }
-    ensures why { spec.IsWhyBy chains.now (sides_of chains.now grounds.now.kept.items) numbers.now
+    requires numbers { length numbers.now ≡ length grounds.now.kept.items }
+    ensures answers { AreAnswers history.now answers.new }
+    ensures why { spec.IsWhyBy history.now (sides_of history.now grounds.now.kept.items) numbers.now
         a b result }
 {
-    match ground_of(grounds, answers, chains, a, b) {
+    match ground_of(grounds, answers, history, a, b) {
         Ground::Known(reason) => Why::Known(reason),
         Ground::Kept(entry) => Why::Forced(numbers[entry]),
     }
 }
 
-/// Appends the line of an edge.
-fn put_told_edge(
-    out: &mut Vec<u8>,
+/// Appends an edge, and why it stands.
+fn put_edge(
+    items: &mut Vec<Item>,
     grounds: &Grounds,
     answers: &mut [Option<Option<Reason>>],
-    chains: &Chains,
-    begins: &[usize],
+    history: &History,
     numbers: &[usize],
-    a: NodeIx,
-    b: NodeIx,
+    first: NodeIx,
+    second: NodeIx,
 ) -> Result<(), AllocError>
-    requires clean { IsClean (log_of chains.now) }
-    requires grounds { AreGrounds chains.now grounds.now }
-    requires answers { AreAnswers chains.now answers.old }
-    requires lines { AreLines chains.now begins.now }
-    requires rests { Rests chains.now (sides_of chains.now grounds.now.kept.items)
-        (length grounds.now.kept.items) a b }
-    requires numbers { spec.AreNumbers (length grounds.now.kept.items) numbers.now }
-    ensures answers { AreAnswers chains.now answers.new }
-    ensures put { OnOk result (spec.EdgePut chains.now (begin_at begins.now)
-        (sides_of chains.now grounds.now.kept.items) numbers.now a b out.old.items out.new.items) }
+    requires clean { IsClean (log_of history.now) }
+    requires grounds { AreGrounds history.now grounds.now }
+    requires answers { AreAnswers history.now answers.old }
+    requires rests { Rests history.now (sides_of history.now grounds.now.kept.items)
+        (length grounds.now.kept.items) first second }
+    requires numbers { length numbers.now ≡ length grounds.now.kept.items }
+    ensures answers { AreAnswers history.now answers.new }
+    ensures put { OnOk result (spec.EdgePut history.now
+        (sides_of history.now grounds.now.kept.items) numbers.now first second items.old.items
+        items.new.items) }
 {
-    let why = why_of(grounds, answers, chains, numbers, a, b);
-    put_edge(out, chains.history(), begins, a, b, why)
+    let why: Why = why_of(grounds, answers, history, numbers, first, second);
+    items.extend_from_slice(&[Item::Edge { first, second, why }])
 }
 
-/// Appends the lines of the edges of a line of nodes.
-pub fn put_line(
-    out: &mut Vec<u8>,
+/// Appends the edges of a line of nodes, each with why it stands.
+pub fn put_edges(
+    items: &mut Vec<Item>,
     grounds: &Grounds,
     answers: &mut [Option<Option<Reason>>],
-    chains: &Chains,
-    begins: &[usize],
+    history: &History,
     numbers: &[usize],
     line: &[NodeIx],
 ) -> Result<(), AllocError>
-    requires clean { IsClean (log_of chains.now) }
-    requires grounds { AreGrounds chains.now grounds.now }
-    requires answers { AreAnswers chains.now answers.old }
-    requires lines { AreLines chains.now begins.now }
-    requires rests { LineRests chains.now (sides_of chains.now grounds.now.kept.items)
+    requires clean { IsClean (log_of history.now) }
+    requires grounds { AreGrounds history.now grounds.now }
+    requires answers { AreAnswers history.now answers.old }
+    requires rests { LineRests history.now (sides_of history.now grounds.now.kept.items)
         (length grounds.now.kept.items) line.now }
-    requires numbers { spec.AreNumbers (length grounds.now.kept.items) numbers.now }
-    ensures answers { AreAnswers chains.now answers.new }
-    ensures put { OnOk result (spec.LinePut chains.now (begin_at begins.now)
-        (sides_of chains.now grounds.now.kept.items) numbers.now line.now out.old.items
-        out.new.items) }
+    requires numbers { length numbers.now ≡ length grounds.now.kept.items }
+    ensures answers { AreAnswers history.now answers.new }
+    ensures put { OnOk result (spec.LinePut history.now
+        (sides_of history.now grounds.now.kept.items) numbers.now line.now items.old.items
+        items.new.items) }
 {
     for i in 0..line.len() - 1 {
-        put_told_edge(
-            out,
+        put_edge(
+            items,
             grounds,
             answers,
-            chains,
-            begins,
+            history,
             numbers,
             line[i],
             line[i + 1],

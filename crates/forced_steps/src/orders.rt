@@ -2,6 +2,7 @@
 
 ghost use Rattle.std.specs.Prelude.{◌≡◌, ◌<◌, ◌++◌, length, map, IfOk, OnOk};
 ghost use Rattle.std.specs.List.{All};
+ghost use Rattle.chain_laws.specs.Chains.{chain_choices};
 ghost use Rattle.log_definitions.specs.Numbers.{log_of};
 ghost use Rattle.write_chains.specs.Views.{chain_view};
 ghost use Rattle.prune_ledger.specs.Pruned.{posts_in};
@@ -52,8 +53,11 @@ fn add_orders_among(
 }
 
 /// Of each choice between chains, in order, the two chains as its first side has them.
-pub fn choice_orders(alloc: Global, chains: &Chains) -> Result<Vec<ChainOrder>, AllocError>
-    ensures orders { IfOk result (λ orders. orders.items ≡ spec.orders_in (log_of chains.now)) }
+pub fn choice_orders(alloc: Global, chains: &Chains<'_>) -> Result<Vec<ChainOrder>, AllocError>
+    ensures choices { IfOk result (λ orders.
+        map (spec.choice_of (log_of chains.now)) orders.items ≡ chain_choices (log_of chains.now)) }
+    ensures orders { IfOk result (λ orders. All (steps.IsOrder (log_of chains.now)) orders.items) }
+    ensures list { IfOk result (λ orders. orders.items ≡ spec.orders_in (log_of chains.now)) }
 {
     let mut orders = Vec::new(alloc);
     for key in 0..chains.history().keys() {

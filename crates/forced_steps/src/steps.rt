@@ -1,135 +1,156 @@
 //! The steps of a ledger: its marked entries, one behind the other.
 
-ghost use Rattle.std.specs.Prelude.{◌≡◌, ◌+◌, ◌<◌, ◌≤◌, ◌^◌, ℕ, List, Some, true, length, slice_get, IfOk, OnOk};
+ghost use Rattle.std.specs.Prelude.{◌≡◌, ◌+◌, ◌<◌, Some, true, length, slice_get, IfOk, OnOk};
 ghost use Rattle.serializability.specs.Reads.{IsClean};
 ghost use Rattle.log_definitions.specs.Numbers.{log_of};
-ghost use Rattle.explanations.specs.Lines.{begin_at, AreLines};
 ghost use Rattle.forced_steps.specs.Lines.{sides_of, AreAnswers, AreGrounds};
 ghost use Rattle.forced_steps.specs.Marks.{is_set, IsCovered, AreCovered};
 ghost use Rattle.forced_steps.specs.Ledgers.{IsStep, AreSteps};
 ghost use Rattle.forced_steps.specs.Told as spec;
 
 use crate::ground::Grounds;
-use crate::lines::put_line;
-use crate::pieces::put_step_line;
+use crate::item::Item;
+use crate::lines::put_edges;
 use explanations::ChainOrder;
 use prune_ledger::LedgerEntry;
 use prune_ledger::messages::Refutation;
 use reasons::Reason;
+use session_history::History;
 use std::alloc::{AllocError, Global};
-use write_chains::Chains;
 
-/// Appends a step, which tells an entry of the ledger: its line, and those of its walk.
+/// Steps that tell entries of a ledger: the orders that they establish, the number of each told entry's step, and the items.
+#[derive(Drop)]
+pub struct Told {
+    pub orders: Vec<ChainOrder>,
+    pub numbers: Vec<usize>,
+    pub items: Vec<Item>,
+}
+
+/// Appends a step, which tells an entry of the ledger, and the edges of its walk.
 fn put_step(
-    out: &mut Vec<u8>,
+    items: &mut Vec<Item>,
     grounds: &Grounds,
     answers: &mut [Option<Option<Reason>>],
-    chains: &Chains,
-    begins: &[usize],
+    history: &History,
     numbers: &[usize],
     number: usize,
     entry: usize,
     order: ChainOrder,
     post: &Refutation,
 ) -> Result<(), AllocError>
-    requires clean { IsClean (log_of chains.now) }
-    requires grounds { AreGrounds chains.now grounds.now }
-    requires answers { AreAnswers chains.now answers.old }
-    requires lines { AreLines chains.now begins.now }
-    requires numbers { spec.AreNumbers (length grounds.now.kept.items) numbers.now }
-    requires order { slice_get grounds.now.kept.items entry ≡ Some order }
-    requires step { IsStep chains.now grounds.now.kept.items entry post.now }
-    ensures answers { AreAnswers chains.now answers.new }
-    ensures put { OnOk result (spec.StepPut chains.now (begin_at begins.now) grounds.now.kept.items
-        numbers.now number entry post.now out.old.items out.new.items) }
+    requires clean { IsClean (log_of history.now) }
+    requires grounds { AreGrounds history.now grounds.now }
+    requires answers { AreAnswers history.now answers.old }
+    requires numbers { length numbers.now ≡ length grounds.now.kept.items }
+    requires entry { entry < length grounds.now.kept.items }
+    requires step { IsStep history.now grounds.now.kept.items entry post.now }
+    ensures answers { AreAnswers history.now answers.new }
+    ensures put { OnOk result (spec.StepPut history.now
+        (sides_of history.now grounds.now.kept.items) numbers.now number order post.now
+        items.old.items items.new.items) }
 {
-    put_step_line(out, chains.history(), number, order, post.edge)?;
-    put_line(out, grounds, answers, chains, begins, numbers, &post.walk)
+    items.extend_from_slice(&[Item::Step {
+        number,
+        order,
+        source: post.edge.source(),
+        target: post.edge.target(),
+    }])?;
+    put_edges(items, grounds, answers, history, numbers, &post.walk)
 }
 
-/// Appends the step that tells an entry, if it is marked, and gives the number of steps so far.
+/// Appends the step that tells an entry, if it is marked.
 fn put_if_marked(
-    out: &mut Vec<u8>,
+    items: &mut Vec<Item>,
+    orders: &mut Vec<ChainOrder>,
     grounds: &Grounds,
     answers: &mut [Option<Option<Reason>>],
-    chains: &Chains,
-    begins: &[usize],
+    history: &History,
     numbers: &mut [usize],
     marks: &[bool],
-    count: usize,
     entry: usize,
     post: &Refutation,
-) -> Result<usize, AllocError>
-    requires clean { IsClean (log_of chains.now) }
-    requires grounds { AreGrounds chains.now grounds.now }
-    requires answers { AreAnswers chains.now answers.old }
-    requires lines { AreLines chains.now begins.now }
-    requires numbers { spec.AreNumbers (length grounds.now.kept.items) numbers.old }
+) -> Result<(), AllocError>
+    requires clean { IsClean (log_of history.now) }
+    requires grounds { AreGrounds history.now grounds.now }
+    requires answers { AreAnswers history.now answers.old }
+    requires numbers { length numbers.old ≡ length grounds.now.kept.items }
     requires marks { length marks.now ≡ length grounds.now.kept.items }
-    requires count { count + 1 < 2 ^ 64 }
     requires entry { entry < length grounds.now.kept.items }
-    requires step { IsStep chains.now grounds.now.kept.items entry post.now }
-    requires covered { is_set marks.now entry ≡ true → IsCovered chains.now
-        (sides_of chains.now grounds.now.kept.items) marks.now post.now.walk
+    requires step { IsStep history.now grounds.now.kept.items entry post.now }
+    requires covered { is_set marks.now entry ≡ true → IsCovered history.now
+        (sides_of history.now grounds.now.kept.items) marks.now post.now.walk
         (length post.now.walk) }
-    ensures answers { AreAnswers chains.now answers.new }
-    ensures numbers { spec.AreNumbers (length grounds.now.kept.items) numbers.new }
-    ensures count { IfOk result (λ after. after ≤ count + 1) }
-    ensures told { IfOk result (λ after. (base : List ℕ) →
-        spec.ToldPut chains.now (begin_at begins.now) grounds.now.kept.items marks.now numbers.old
-        count entry base out.old.items →
-        spec.ToldPut chains.now (begin_at begins.now) grounds.now.kept.items marks.now numbers.new
-        after (entry + 1) base out.new.items) }
+    ensures answers { AreAnswers history.now answers.new }
+    ensures numbers { length numbers.new ≡ length numbers.old }
+    ensures told { OnOk result (spec.AreTold history.now grounds.now.kept.items marks.now
+        numbers.old orders.old.items entry items.old.items →
+        spec.AreTold history.now grounds.now.kept.items marks.now numbers.new orders.new.items
+        (entry + 1) items.new.items) }
 {
     let needed = marks[entry];
     if needed {
-        let number = count + 1;
+        let count = orders.len();
         let order = grounds.kept[entry];
         put_step(
-            out, grounds, answers, chains, begins, numbers, number, entry, order, post,
+            items,
+            grounds,
+            answers,
+            history,
+            numbers,
+            count + 1,
+            entry,
+            order,
+            post,
         )?;
         numbers[entry] = count;
-        Ok(number)
-    } else {
-        Ok(count)
+        orders.push(grounds.kept[entry])?;
     }
+    Ok(())
 }
 
-/// Appends the steps that tell the marked entries, and gives their numbers.
-pub fn put_steps(
+/// The steps that tell the marked entries.
+pub fn told_steps(
     alloc: Global,
-    out: &mut Vec<u8>,
     grounds: &Grounds,
     answers: &mut [Option<Option<Reason>>],
-    chains: &Chains,
-    begins: &[usize],
+    history: &History,
     marks: &[bool],
     entries: &[LedgerEntry],
-) -> Result<Vec<usize>, AllocError>
-    requires clean { IsClean (log_of chains.now) }
-    requires grounds { AreGrounds chains.now grounds.now }
-    requires answers { AreAnswers chains.now answers.old }
-    requires lines { AreLines chains.now begins.now }
+) -> Result<Told, AllocError>
+    requires clean { IsClean (log_of history.now) }
+    requires grounds { AreGrounds history.now grounds.now }
+    requires answers { AreAnswers history.now answers.old }
     requires marks { length marks.now ≡ length grounds.now.kept.items }
-    requires steps { AreSteps chains.now grounds.now.kept.items entries.now }
-    requires covered { AreCovered chains.now (sides_of chains.now grounds.now.kept.items) marks.now
-        entries.now (length entries.now) }
-    ensures answers { AreAnswers chains.now answers.new }
-    ensures numbers { IfOk result (λ numbers.
-        spec.AreNumbers (length grounds.now.kept.items) numbers.items) }
-    ensures told { IfOk result (λ numbers. (count : ℕ) ×
-        spec.ToldPut chains.now (begin_at begins.now) grounds.now.kept.items marks.now
-        numbers.items count (length grounds.now.kept.items) out.old.items out.new.items) }
+    requires steps { AreSteps history.now grounds.now.kept.items entries.now }
+    requires covered { AreCovered history.now (sides_of history.now grounds.now.kept.items)
+        marks.now entries.now (length entries.now) }
+    ensures answers { AreAnswers history.now answers.new }
+    ensures numbers { IfOk result (λ told.
+        length told.numbers.items ≡ length grounds.now.kept.items) }
+    ensures told { IfOk result (λ told. spec.AreTold history.now grounds.now.kept.items marks.now
+        told.numbers.items told.orders.items (length grounds.now.kept.items) told.items.items) }
 {
+    let mut items: Vec<Item> = Vec::new(alloc);
+    let mut orders = Vec::new(alloc);
     let mut table = vec![in alloc; 0; entries.len()]?;
     let numbers = table.as_mut_slice();
-    let mut count = 0;
     for (entry, found) in entries.iter().enumerate() {
         let post = &found.post;
-        let after = put_if_marked(
-            out, grounds, answers, chains, begins, numbers, marks, count, entry, post,
+        put_if_marked(
+            &mut items,
+            &mut orders,
+            grounds,
+            answers,
+            history,
+            numbers,
+            marks,
+            entry,
+            post,
         )?;
-        count = after;
     }
-    Ok(table)
+    Ok(Told {
+        orders,
+        numbers: table,
+        items,
+    })
 }

@@ -1,4 +1,4 @@
-use Rattle.std.proofs.Common.{◌≡◌, ◌≤◌, arith, sym, subst, ap, ◌∙◌, ℕ, Some, set}
+use Rattle.std.proofs.Common.{◌≡◌, arith, sym, subst, ap, ◌∙◌, ℕ, Some, set}
 use Rattle.log_definitions.specs.Numbers.{log_of}
 use Rattle.forced_steps.specs.Firsts.{cell}
 use Rattle.forced_steps.specs.Lines.{AreAnswers}
@@ -6,24 +6,20 @@ use Rattle.forced_steps.proofs.Answers.{answer_at, answers_more}
 use Rattle.forced_steps.proofs.ground.answer.Goals as goal
 
 pub cell-place-requires-clause-first : goal.cell-place-requires-clause-first
-cell-place-requires-clause-first c =
-    subst (λ ss. c.args.a ≤ (log_of ss).nodes → c.args.a ≤ c.committed.result) c.history-history.ensures.history (λ h. omega (arith, h, c.committed.ensures.count)) c.requires.first.high
+cell-place-requires-clause-first c = omega (arith, c.requires.first.high, c.committed.ensures.count)
 
 pub cell-place-requires-clause-second : goal.cell-place-requires-clause-second
-cell-place-requires-clause-second c =
-    subst (λ ss. c.args.b ≤ (log_of ss).nodes → c.args.b ≤ c.committed.result) c.history-history.ensures.history (λ h. omega (arith, h, c.committed.ensures.count)) c.requires.second.high
+cell-place-requires-clause-second c = omega (arith, c.requires.second.high, c.committed.ensures.count)
 
 pub returns-in-Some-clause-answer : goal.returns-in-Some-clause-answer
 returns-in-Some-clause-answer c =
-    let ss = c.args.chains.now in
-    let count : c.committed.result ≡ (log_of ss).nodes = c.committed.ensures.count ∙ ap (λ x. (log_of x).nodes) c.history-history.ensures.history in
-    let place : c.cell-place.result ≡ cell (log_of ss).nodes c.args.a c.args.b = c.cell-place.ensures.place ∙ ap (λ n. cell n c.args.a c.args.b) count in
+    let ss = c.args.history.now in
+    let place : c.cell-place.result ≡ cell (log_of ss).nodes c.args.a c.args.b = c.cell-place.ensures.place ∙ ap (λ n. cell n c.args.a c.args.b) c.committed.ensures.count in
     answer_at ss c.args.answers.now c.args.a c.args.b c.cell-place.result c.in-Some.known c.requires.first.high c.requires.second.high place c.requires.answers c.in-Some.is
 
 pub returns-in-None-clause-answers : goal.returns-in-None-clause-answers
 returns-in-None-clause-answers c =
-    let ss = c.args.chains.now in
-    let count : c.committed.result ≡ (log_of ss).nodes = c.committed.ensures.count ∙ ap (λ x. (log_of x).nodes) c.history-history.ensures.history in
-    let place : c.cell-place.result ≡ cell (log_of ss).nodes c.args.a c.args.b = c.cell-place.ensures.place ∙ ap (λ n. cell n c.args.a c.args.b) count in
+    let ss = c.args.history.now in
+    let place : c.cell-place.result ≡ cell (log_of ss).nodes c.args.a c.args.b = c.cell-place.ensures.place ∙ ap (λ n. cell n c.args.a c.args.b) c.committed.ensures.count in
     let P : ℕ → Type 0 = λ k. AreAnswers ss (set c.args.answers.now k (Some c.reason-found.result)) in
     subst P (sym place) (answers_more ss c.args.answers.now c.args.a c.args.b c.reason-found.result c.requires.first.high c.requires.second.high c.reason-found.ensures.answer c.requires.answers)

@@ -19,7 +19,7 @@ first_with-requires-clause-second c = omega (arith, c.requires.rests.second.high
 pub returns-in-None-clause-ground : goal.returns-in-None-clause-ground
 returns-in-None-clause-ground c =
     let kept = c.args.grounds.now.kept.items in
-    let sides = sides_of c.args.chains.now kept in
+    let sides = sides_of c.args.history.now kept in
     let side : HasSide sides (length kept) (c.args.a, c.args.b) = c.requires.rests.kept c.in-None.ensures.answer in
-    let many : length kept ≡ length sides = sym (length-map kept (edges_in (log_of c.args.chains.now))) in
+    let many : length kept ≡ length sides = sym (length-map kept (edges_in (log_of c.args.history.now))) in
     (c.in-None.ensures.answer, c.first_with.ensures.first sides c.requires.grounds.firsts (subst (λ n. HasSide sides n (c.args.a, c.args.b)) many side))

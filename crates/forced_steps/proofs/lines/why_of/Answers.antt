@@ -1,4 +1,4 @@
-use Rattle.std.proofs.Common.{◌<◌, length, arith}
+use Rattle.std.proofs.Common.{length, arith}
 use Rattle.forced_steps.specs.Lines.{sides_of}
 use Rattle.forced_steps.proofs.FirstSides.{first_below}
 use Rattle.forced_steps.proofs.lines.why_of.Goals as goal
@@ -7,22 +7,14 @@ pub bounds-numbers-entry : goal.bounds-numbers-entry
 bounds-numbers-entry c =
     let kept = c.args.grounds.now.kept.items in
     let g = c.in-Kept.ensures.ground in
-    omega (arith, first_below (sides_of c.args.chains.now kept) (length kept) (c.args.a, c.args.b) c.in-Kept.entry g.1 (c.requires.rests.kept g.0), c.requires.numbers.many)
-
-pub returns-in-Known-clause-tells : goal.returns-in-Known-clause-tells
-returns-in-Known-clause-tells c = c.in-Known.ensures.ground.holds
+    omega (arith, first_below (sides_of c.args.history.now kept) (length kept) (c.args.a, c.args.b) c.in-Kept.entry g.1 (c.requires.rests.kept g.0), c.requires.numbers)
 
 pub returns-in-Known-clause-why : goal.returns-in-Known-clause-why
-returns-in-Known-clause-why c = record { each = λ steps n. c.in-Known.ensures.ground }
-
-pub returns-in-Kept-clause-tells : goal.returns-in-Kept-clause-tells
-returns-in-Kept-clause-tells c =
-    let kept = c.args.grounds.now.kept.items in
-    let g = c.in-Kept.ensures.ground in
-    let lt : c.in-Kept.entry < length c.args.numbers.now = omega (arith, first_below (sides_of c.args.chains.now kept) (length kept) (c.args.a, c.args.b) c.in-Kept.entry g.1 (c.requires.rests.kept g.0), c.requires.numbers.many) in
-    c.requires.numbers.few c.in-Kept.entry 0 lt
+returns-in-Known-clause-why c =
+    let g = c.in-Known.ensures.ground in
+    record { each = λ steps n. (g.holds, g.first, g.least) }
 
 pub returns-in-Kept-clause-why : goal.returns-in-Kept-clause-why
 returns-in-Kept-clause-why c =
     let g = c.in-Kept.ensures.ground in
-    record { each = λ steps n. n.number g.0 c.in-Kept.entry g.1 }
+    record { each = λ steps n. (g.0, n.number g.0 c.in-Kept.entry g.1) }

@@ -1,17 +1,19 @@
-use Rattle.std.specs.Prelude.{length}
+use Rattle.std.proofs.Common.{◌≡◌, ◌<◌, length, arith}
+use Rattle.std.proofs.lemmas.List.{length-map}
+use Rattle.std.proofs.lemmas.Option.{slice_get_within}
+use Rattle.log_definitions.specs.Numbers.{log_of}
+use Rattle.forced_steps.specs.Steps.{edges_in}
 use Rattle.forced_steps.specs.Lines.{sides_of}
-use Rattle.forced_steps.proofs.Marking.{ground_within, edge_marked}
+use Rattle.forced_steps.proofs.Marking.{edge_marked}
 use Rattle.forced_steps.proofs.marks.mark_edge.Goals as goal
 
-pub mark-requires : goal.mark-requires
-mark-requires c =
-    record {
-      within = ground_within c.args.chains.now (sides_of c.args.chains.now c.args.grounds.now.kept.items) c.args.a c.args.b (length c.args.grounds.now.kept.items) c.ground_of-ground.result (length c.args.marks.now) c.requires.count c.requires.rests c.ground_of-ground.ensures.ground;
-    }
-
-pub returns-clause-marked : goal.returns-clause-marked
-returns-clause-marked c =
-    let sides = sides_of c.args.chains.now c.args.grounds.now.kept.items in
-    edge_marked c.args.chains.now sides c.args.a c.args.b c.ground_of-ground.result c.args.marks.now c.mark.new.marks c.ground_of-ground.ensures.ground
-    (ground_within c.args.chains.now sides c.args.a c.args.b (length c.args.grounds.now.kept.items) c.ground_of-ground.result (length c.args.marks.now) c.requires.count c.requires.rests c.ground_of-ground.ensures.ground)
-    c.mark.ensures.marked
+pub returns-in-Some-clause-marked : goal.returns-in-Some-clause-marked
+returns-in-Some-clause-marked c =
+    let ss = c.args.history.now in
+    let kept = c.args.grounds.now.kept.items in
+    let sides = sides_of ss kept in
+    let k = c.in-Some.entry in
+    let f = c.in-Some.ensures.entry.1 in
+    let many : length sides ≡ length kept = length-map kept (edges_in (log_of ss)) in
+    let within : k < length c.args.marks.now = omega (arith, slice_get_within sides k f.side f.at, many, c.requires.count) in
+    edge_marked ss sides c.args.a c.args.b k c.args.marks.now c.in-Some.ensures.entry within

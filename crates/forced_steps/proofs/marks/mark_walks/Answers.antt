@@ -9,7 +9,7 @@ use Rattle.forced_steps.proofs.marks.mark_walks.Goals as goal
 
 pub mark_walk-requires-clause-rests : goal.mark_walk-requires-clause-rests
 mark_walk-requires-clause-rests c =
-    let ss = c.args.chains.now in
+    let ss = c.args.history.now in
     let sides = sides_of ss c.args.grounds.now.kept.items in
     let entries = c.args.entries.now in
     let i = length entries - 1 - c.loop-done.done in
@@ -20,7 +20,7 @@ mark_walk-requires-clause-rests c =
 
 pub loop-done-preserved : goal.loop-done-preserved
 loop-done-preserved c =
-    let ss = c.args.chains.now in
+    let ss = c.args.history.now in
     let sides = sides_of ss c.args.grounds.now.kept.items in
     let entries = c.args.entries.now in
     let i = length entries - 1 - c.loop-done.done in

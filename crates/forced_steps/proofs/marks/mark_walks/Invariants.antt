@@ -3,4 +3,4 @@ use Rattle.forced_steps.specs.Marks.{AreCovered, AreMore}
 use Rattle.forced_steps.proofs.marks.mark_walks.Given as goal
 
 abbrev pub invariant-loop-done : goal.invariant-loop-done
-invariant-loop-done l = AreAnswers l.chains l.answers × (AreCovered l.chains (sides_of l.chains l.grounds.kept.items) l.marks l.entries l.done × AreMore l.initial.marks l.marks)
+invariant-loop-done l = AreAnswers l.history l.answers × (AreCovered l.history (sides_of l.history l.grounds.kept.items) l.marks l.entries l.done × AreMore l.initial.marks l.marks)

@@ -1,9 +1,11 @@
-use Rattle.std.proofs.Common.{◌≡◌, ◌++◌, ◌∙◌, ap, sym, arith}
+use Rattle.std.proofs.Common.{◌≡◌, ◌++◌, ◌∙◌, ap, sym, subst, arith}
 use Rattle.std.specs.Prelude.{map}
+use Rattle.std.specs.List.{All}
 use Rattle.log_definitions.specs.Numbers.{log_of}
 use Rattle.write_chains.specs.Views.{chain_view}
-use Rattle.forced_steps.specs.Orders.{orders_among}
-use Rattle.forced_steps.proofs.Chosen.{so_far, so_far_more, of_key, orders_are}
+use Rattle.forced_steps.specs.Orders.{choice_of, orders_among, orders_in}
+use Rattle.forced_steps.specs.Steps.{IsOrder}
+use Rattle.forced_steps.proofs.Chosen.{so_far, so_far_more, of_key, orders_are, choices_are, all_orders}
 use Rattle.forced_steps.proofs.orders.choice_orders.Goals as goal
 
 pub loop-key-preserved : goal.loop-key-preserved
@@ -21,4 +23,9 @@ returns c =
     let log = log_of c.args.chains.now in
     let count : c.keys-key-end.result ≡ log.keys = c.keys-key-end.ensures.count ∙ ap (λ s. (log_of s).keys) c.history.ensures.history in
     let all : c.loop-key.key ≡ log.keys = omega (arith, c.loop-key-test.false, c.loop-key.auto.key-end, count) in
-    record { orders = c.loop-key.invariant ∙ orders_are log c.loop-key.key all }
+    let list : c.loop-key.orders.items ≡ orders_in log = c.loop-key.invariant ∙ orders_are log c.loop-key.key all in
+    record {
+      choices = ap (map (choice_of log)) list ∙ choices_are log;
+      orders = subst (All (IsOrder log)) (sym list) (all_orders log);
+      list = list;
+    }

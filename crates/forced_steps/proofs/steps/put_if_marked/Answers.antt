@@ -1,15 +1,29 @@
-use Rattle.std.proofs.Common.{◌<◌, length, arith}
-use Rattle.explanations.specs.Lines.{begin_at}
-use Rattle.forced_steps.proofs.Telling.{skip_put, step_told_put}
+use Rattle.std.proofs.Common.{◌≡◌, ◌+◌, ◌<◌, ◌++◌, ◌∷◌, ◌∙◌, [], length, set, refl, sym, ap, subst, arith, Some}
+use Rattle.std.specs.Prelude.{slice_get}
+use Rattle.std.proofs.lemmas.Option.{slice_get_read}
+use Rattle.forced_steps.specs.Told.{AreTold}
+use Rattle.forced_steps.proofs.Telling.{one_of, told_skip, told_step}
 use Rattle.forced_steps.proofs.steps.put_if_marked.Goals as goal
 
 pub returns-else-needed-clause-told : goal.returns-else-needed-clause-told
-returns-else-needed-clause-told c = λ base h.
-    skip_put c.args.chains.now (begin_at c.args.begins.now) c.args.grounds.now.kept.items c.args.marks.now c.args.numbers.now c.args.count c.args.entry base c.args.out.now.items c.if-needed.false h
+returns-else-needed-clause-told c = λ t.
+    told_skip c.args.history.now c.args.grounds.now.kept.items c.args.marks.now c.args.numbers.now c.args.orders.now.items c.args.entry c.args.items.now.items c.if-needed.false t
 
-pub returns-in_ok-put_step-clause-told : goal.returns-in_ok-put_step-clause-told
-returns-in_ok-put_step-clause-told c = λ base h.
+pub returns-in_ok-push-clause-told : goal.returns-in_ok-push-clause-told
+returns-in_ok-push-clause-told c = λ t.
+    let ss = c.args.history.now in
     let kept = c.args.grounds.now.kept.items in
-    let room : c.args.entry < length c.args.numbers.now = omega (arith, c.requires.entry, c.requires.numbers.many) in
-    step_told_put c.args.chains.now (begin_at c.args.begins.now) kept c.args.marks.now c.args.numbers.now c.args.count c.args.entry c.args.post.now base c.args.out.now.items c.put_step.new.out.items room c.requires.step
-    (c.requires.covered c.if-needed.true) c.in_ok-put_step.ensures.put h
+    let marks = c.args.marks.now in
+    let numbers = c.args.numbers.now in
+    let steps = c.args.orders.now.items in
+    let i = c.args.entry in
+    let o = c.index-order.result.now in
+    let new = c.put_step.new.items.items in
+    let room : i < length numbers = omega (arith, c.requires.entry, c.requires.numbers) in
+    let at : slice_get kept i ≡ Some o = slice_get_read kept (length kept) i o refl c.requires.entry c.index-order.ensures in
+    let again : slice_get kept i ≡ Some c.index.result.now = slice_get_read kept (length kept) i c.index.result.now refl c.requires.entry c.index.ensures in
+    let pushed : steps ++ o ∷ [] ≡ c.push.new.self.items = ap (λ z. steps ++ z ∷ []) (one_of kept i o c.index.result.now at again) ∙ sym c.in_ok-push.ensures.items in
+    let count : c.len-count.result ≡ length steps = omega (arith, c.len-count.ensures, c.args.orders.now.ok.0) in
+    let next : AreTold ss kept marks (set numbers i (length steps)) (steps ++ o ∷ []) (i + 1) new =
+    told_step ss kept marks numbers steps i (c.len-count.result + 1) o c.args.post.now c.args.items.now.items new (omega (arith, count)) room at c.requires.step (c.requires.covered c.if-needed.true) c.in_ok-put_step.ensures.put t in
+    subst (λ os. AreTold ss kept marks (set numbers i c.len-count.result) os (i + 1) new) pushed (subst (λ n. AreTold ss kept marks (set numbers i n) (steps ++ o ∷ []) (i + 1) new) (sym count) next)

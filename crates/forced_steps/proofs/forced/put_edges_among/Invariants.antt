@@ -1,0 +1,5 @@
+use Rattle.forced_steps.specs.Told.{IsPut, EdgesTold}
+use Rattle.forced_steps.proofs.forced.put_edges_among.Given as goal
+
+abbrev pub invariant-loop-i : goal.invariant-loop-i
+invariant-loop-i l = IsPut l.initial.items.items l.items.items (EdgesTold l.history l.steps.kept.items l.decided l.line l.i)

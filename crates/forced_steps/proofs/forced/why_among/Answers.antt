@@ -1,0 +1,30 @@
+use Rattle.std.proofs.Common.{subst}
+use Rattle.std.specs.List.{Contains}
+use Rattle.serializability.specs.Polygraph.{Edge}
+use Rattle.log_definitions.specs.Numbers.{log_of}
+use Rattle.forced_steps.specs.Steps.{edges_in}
+use Rattle.forced_steps.specs.Lines.{sides_of}
+use Rattle.forced_steps.proofs.Covering.{first_step, no_step}
+use Rattle.forced_steps.proofs.forced.why_among.Goals as goal
+
+pub returns-in-Some-entry_with : goal.returns-in-Some-entry_with
+returns-in-Some-entry_with c =
+    let ss = c.args.history.now in
+    let steps = c.args.steps.now.kept.items in
+    let e : Edge = (c.args.a, c.args.b) in
+    record { why = (c.in-None.ensures.none, first_step ss steps e c.in-Some-entry_with.step (c.in-Some-entry_with.ensures.found (sides_of ss steps) c.requires.steps.firsts)) }
+
+pub returns-in-Some-order_with : goal.returns-in-Some-order_with
+returns-in-Some-order_with c =
+    let ss = c.args.history.now in
+    let steps = c.args.steps.now.kept.items in
+    let e : Edge = (c.args.a, c.args.b) in
+    let o = c.in-Some-order_with.order in
+    record {
+      why = (
+        c.in-None.ensures.none,
+        no_step ss steps e (c.in-None-entry_with.ensures.found (sides_of ss steps) c.requires.steps.firsts),
+        c.in-Some-order_with.ensures.among,
+        subst (λ s. Contains (edges_in (log_of s) o) e) c.requires.chains c.in-Some-order_with.ensures.edge,
+      );
+    }

@@ -1,0 +1,9 @@
+use Rattle.forced_steps.specs.Lines.{sides_of}
+use Rattle.forced_steps.proofs.Answers.{entry_found}
+use Rattle.forced_steps.proofs.ground.entry_of.Goals as goal
+
+pub returns-in-None-clause-entry : goal.returns-in-None-clause-entry
+returns-in-None-clause-entry c =
+    let ss = c.args.history.now in
+    let sides = sides_of ss c.args.grounds.now.kept.items in
+    entry_found ss sides c.args.a c.args.b c.entry_with.result c.in-None.ensures.answer (c.entry_with.ensures.found sides c.requires.grounds.firsts)

@@ -1,0 +1,190 @@
+//! The forced steps that some lines need.
+
+ghost use Rattle.std.specs.Prelude.{◌≡◌, length, IfOk, IfSome, OnOk};
+ghost use Rattle.std.specs.List.{All};
+ghost use Rattle.serializability.specs.Reads.{IsClean};
+ghost use Rattle.log_definitions.specs.Numbers.{log_of};
+ghost use Rattle.forced_steps.specs.Steps.{IsWhy, IsLineTold, AreStepsTold};
+ghost use Rattle.forced_steps.specs.Lines.{HasLedger, IsCovered, HasEdges, TellsLine, AreGrounds};
+ghost use Rattle.forced_steps.specs.Told.{IsPut, WhyPut};
+
+use crate::dead::grounds_in;
+use crate::decided::order_with;
+use crate::firsts::grounds_of;
+use crate::ground::{Grounds, entry_with, is_between, no_answers};
+use crate::item::Item;
+use crate::marks::needed_entries;
+use crate::steps::told_steps;
+use explanations::{ChainOrder, Why};
+use prune_ledger::LedgerEntry;
+use reasons::reason_of;
+use serializability::NodeIx;
+use session_history::History;
+use std::alloc::{AllocError, Global};
+use std::marker::Model;
+use write_chains::Chains;
+
+/// The forced steps of a ledger that some lines need. Contracts see the sessions, the ledger's entries and the orders that the
+/// steps establish.
+#[derive(Drop)]
+pub struct Steps<'a> {
+    history: &'a History,
+    chains: &'a Chains<'a>,
+    entries: &'a [LedgerEntry],
+    grounds: Grounds,
+    told: Vec<Item>,
+}
+
+impl<'a> Model for Steps<'a> {
+    ghost use Rattle.forced_steps.specs.View.{StepsView};
+
+    ghost Value = { StepsView };
+
+    ghost use Rattle.forced_steps.specs.Held.{steps_view, AreForced};
+
+    ghost view = { steps_view };
+
+    ghost invariant = { AreForced };
+}
+
+/// The forced steps of a ledger that these lines need, each of which rests on what the log shows and on earlier steps.
+pub fn steps_of<'a>(
+    alloc: Global,
+    history: &'a History,
+    chains: &'a Chains<'a>,
+    entries: &'a [LedgerEntry],
+    lines: &[&[NodeIx]],
+) -> Result<Steps<'a>, AllocError>
+    requires clean { IsClean (log_of history.now) }
+    requires chains { chains.now ≡ history.now }
+    requires ledger { HasLedger history.now entries.now }
+    ensures sessions { IfOk result (λ s. s.sessions ≡ history.now) }
+    ensures entries { IfOk result (λ s. s.entries ≡ entries.now) }
+    ensures covered { IfOk result (λ s. All (λ line. IsCovered s line.now) lines.now) }
+{
+    let grounds = grounds_in(alloc, history, chains, entries)?;
+    let mut table = no_answers(alloc, history)?;
+    let answers = table.as_mut_slice();
+    let marks = needed_entries(alloc, &grounds, answers, history, entries, lines)?;
+    let told = told_steps(alloc, &grounds, answers, history, &marks, entries)?;
+    let firsts = grounds_of(alloc, chains, told.orders)?;
+    Ok(Steps {
+        history,
+        chains,
+        entries,
+        grounds: firsts,
+        told: told.items,
+    })
+}
+
+/// Why `a` stands before `b`: where the log does not show it, by the first of these steps that has the edge, and where none has, by
+/// what was decided.
+fn why_among(
+    history: &History,
+    chains: &Chains<'_>,
+    steps: &Grounds,
+    decided: &[ChainOrder],
+    a: NodeIx,
+    b: NodeIx,
+) -> Option<Why>
+    requires clean { IsClean (log_of history.now) }
+    requires chains { chains.now ≡ history.now }
+    requires steps { AreGrounds history.now steps.now }
+    ensures why { IfSome result (IsWhy history.now steps.now.kept.items decided.now a b) }
+{
+    if !is_between(history, a) {
+        return None;
+    }
+    if !is_between(history, b) {
+        return None;
+    }
+    match reason_of(history, a, b) {
+        Some(reason) => Some(Why::Known(reason)),
+        None => match entry_with(steps, a, b) {
+            Some(step) => Some(Why::Forced(step)),
+            None => match order_with(chains, decided, a, b) {
+                Some(order) => Some(Why::Chosen(order)),
+                None => None,
+            },
+        },
+    }
+}
+
+/// Appends an edge, and why it stands among these steps.
+fn put_edge_among(
+    items: &mut Vec<Item>,
+    history: &History,
+    chains: &Chains<'_>,
+    steps: &Grounds,
+    decided: &[ChainOrder],
+    first: NodeIx,
+    second: NodeIx,
+) -> Result<(), AllocError>
+    requires clean { IsClean (log_of history.now) }
+    requires chains { chains.now ≡ history.now }
+    requires steps { AreGrounds history.now steps.now }
+    ensures put { OnOk result (WhyPut history.now steps.now.kept.items decided.now first second items.old.items items.new.items) }
+{
+    let found: Option<Why> = why_among(history, chains, steps, decided, first, second);
+    match found {
+        Some(why) => items.extend_from_slice(&[Item::Edge { first, second, why }]),
+        None => Err(AllocError),
+    }
+}
+
+/// Appends the edges of a line, each with why it stands among these steps.
+fn put_edges_among(
+    items: &mut Vec<Item>,
+    history: &History,
+    chains: &Chains<'_>,
+    steps: &Grounds,
+    decided: &[ChainOrder],
+    line: &[NodeIx],
+) -> Result<(), AllocError>
+    requires clean { IsClean (log_of history.now) }
+    requires chains { chains.now ≡ history.now }
+    requires steps { AreGrounds history.now steps.now }
+    ensures put { OnOk result (IsPut items.old.items items.new.items
+        (IsLineTold history.now steps.now.kept.items decided.now line.now)) }
+{
+    if line.len() == 0 {
+        return Err(AllocError);
+    }
+    for i in 0..line.len() - 1 {
+        put_edge_among(items, history, chains, steps, decided, line[i], line[i + 1])?;
+    }
+    Ok(())
+}
+
+impl<'a> Steps<'a> {
+    /// The steps as items, in the ledger's order.
+    pub fn items(&self, alloc: Global) -> Result<Vec<Item>, AllocError>
+        ensures told { IfOk result (λ items. AreStepsTold self.now.sessions self.now.orders items.items) }
+    {
+        let mut items: Vec<Item> = Vec::new(alloc);
+        items.extend_from_slice(&self.told)?;
+        Ok(items)
+    }
+
+    /// Appends the edges of a line, each with why it stands. For an empty line, and for an edge of which it finds neither a reason nor a
+    /// step nor a decided order, it gives the error that it gives where memory runs out; no clause says when it fails.
+    pub fn put_line(
+        &self,
+        items: &mut Vec<Item>,
+        decided: &[ChainOrder],
+        line: &[NodeIx],
+    ) -> Result<(), AllocError>
+        requires covered { IsCovered self.now line.now }
+        requires edges { HasEdges self.now decided.now line.now }
+        ensures told { OnOk result (TellsLine self.now decided.now line.now items.old.items items.new.items) }
+    {
+        put_edges_among(
+            items,
+            self.history,
+            self.chains,
+            &self.grounds,
+            decided,
+            line,
+        )
+    }
+}
