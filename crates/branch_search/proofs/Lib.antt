@@ -6,7 +6,6 @@ pub mod Boughs
 pub mod Seated
 pub mod Cubed
 pub mod Planted
-pub mod Linked
 pub mod Upward
 pub mod Checked
 pub mod Ends

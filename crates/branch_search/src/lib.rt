@@ -13,8 +13,6 @@ pub mod laws;
 mod reading;
 mod retrace;
 mod searching;
-#[cfg(test)]
-mod tests;
 mod tree;
 mod worker;
 

@@ -1,44 +1,28 @@
-ghost use Rattle.std.specs.Prelude.{◌≡◌, ◌↔◌, ℕ, List, IfOk, map};
-ghost use Rattle.std.specs.List.{AllByRecursion};
-ghost use Rattle.session_log.specs.Text.{view, IsLegal, log_text};
-ghost use Rattle.session_log.specs.Blocks.{blocks_of};
-ghost use Rattle.session_log.specs.Version.{version_of};
-ghost use Rattle.serializability.specs.Polygraph.{Fits};
-ghost use Rattle.serializability.specs.Reads.{IsClean};
-ghost use Rattle.log_definitions.specs.Numbers.{log_of};
-ghost use Rattle.log_definitions.specs.Serial.{IsSerialOrder};
+ghost use Rattle.std.specs.Prelude.{IfOk};
+ghost use Rattle.reduction.specs.Chained.{HasItsOrders};
 
-use super::*;
-use crate::crew::jobs_of;
-use crate::growing::tree_of;
-use crate::worker::{Job, work};
-use anomalies::classify;
-use coalesce::coalesce;
-use cube_laws::{Event, NodeLine};
-use cube_machine::{CubeMachine, Row};
+use branch_search::{
+    Alternate, Answer, Budget, ByWords, CubeView, Decision, FirstOpen, Growth, MostEdges, NodeLine,
+    Strategy, Tree, TreeNode, check_tree, search,
+};
 use decode_order::replay;
-use desk::desk::Desk;
 use desk::gate::{Gate, OpenGate};
-use desk::naming::Naming;
-use desk::opened::Opened;
-use desk::seat::{Left, Seat};
 use desk::seat_no::{SeatNo, Workers};
-use known_graph::Known;
+use gather::collect;
 use polygraph::ChoiceIx;
-use prune_ledger::{Pruned, Reduced, prune};
+use prune_ledger::Reduced;
 use pruning_laws::Side;
+use reduction::{Reduction, reduce};
 use session_history::History;
-use session_log::{Block, LogFault, Session, cut, parse_block};
-use std::alloc::{AllocError, Global};
-use std::marker::Brand;
+use session_log::LogFault;
+use std::alloc::Global;
 use std::process::Abort;
 use std::sync::Wait;
 use std::sync::atomic::{AtomicBool, AtomicU64, Ordering};
-use std::test::Fail;
+use std::test::*;
 use std::thread;
 use std::thread::Threads;
 use std::time::{Clock, Duration};
-use write_chains::chains;
 
 // Two writers of each of two keys, and a reader of each pair of them: two open choices, and each of the four
 // cubes that decide both has a cycle.
@@ -52,34 +36,14 @@ const SIX_WRITERS: &str = "session 1\nbegin\nw x 1\ncommit\nsession 2\nbegin\nw 
     session 3\nbegin\nw x 3\ncommit\nsession 4\nbegin\nw x 4\ncommit\n\
     session 5\nbegin\nw x 5\ncommit\nsession 6\nbegin\nw x 6\ncommit\n";
 
-fn sessions_in(alloc: Global, log: &[u8], blocks: &[Block]) -> Result<Vec<Session>, LogFault>
-    requires { blocks.now ≡ blocks_of log.now }
-    ensures legal { IfOk result (λ ss. AllByRecursion IsLegal (map view ss.items)) }
-    ensures text { IfOk result (λ ss. log.now ≡ log_text (version_of log.now) (map view ss.items)) }
-{
-    let mut sessions = Vec::with_capacity(alloc, blocks.len())?;
-    for block in blocks {
-        sessions.push(parse_block(alloc, log, block)?)?;
-    }
-    Ok(sessions)
-}
-
-fn read(alloc: Global, log: &[u8]) -> Result<History, LogFault> {
-    let (version, blocks) = cut(alloc, log)?;
-    let sessions = sessions_in(alloc, log, &blocks)?;
+fn read<R: Threads + Wait + Clock + Sync>(
+    rt: &R,
+    alloc: Global,
+    log: &str,
+) -> Result<History, LogFault> {
+    let workers = Workers::new(1).ok_or(LogFault::Memory)?;
+    let (version, sessions) = collect(rt, alloc, log.as_bytes(), workers, &OpenGate)?;
     History::build(alloc, version, sessions)
-}
-
-// Shows that a history has no anomaly.
-#[tactic(auto, using(headline::proofs::Answered::clean_log))]
-fn see_clean(alloc: Global, history: &History) -> Result<(), Fail>
-    ensures clean { IfOk result (λ _. IsClean (log_of history.now)) }
-{
-    let _nodes = history.committed();
-    match classify(alloc, history)? {
-        Some(_) => Err("an anomaly")?,
-        None => Ok(()),
-    }
 }
 
 // What pruning leaves of a history's polygraph.
@@ -88,18 +52,12 @@ fn reduced_of<R: Threads + Wait + Clock + Sync>(
     alloc: Global,
     history: &History,
 ) -> Result<Reduced, Fail>
-    ensures its { IfOk result (λ reduced. (order : List ℕ) →
-        (Fits reduced.poly order ↔ IsSerialOrder history.now order)) }
+    ensures orders { IfOk result (λ reduced. HasItsOrders history.now reduced.poly) }
 {
-    see_clean(alloc, history)?;
-    let known = Known::of(alloc, history)?;
-    let chains = chains(alloc, history)?.ok().ok_or("a chain that closes")?;
-    let whole = coalesce(alloc, history, &chains, known)?;
-    let one = Workers::new(1).ok_or("a worker")?;
-    let found = prune(rt, alloc, whole, one, &OpenGate)?;
-    match found {
-        Pruned::Dead(_) => Err("dead")?,
-        Pruned::Open(reduced) => Ok(reduced),
+    let workers = Workers::new(1).ok_or("a worker")?;
+    match reduce(rt, alloc, history, workers, &OpenGate) {
+        Ok(Reduction::Open { reduced, .. }) => Ok(reduced),
+        _ => Err("nothing is left open")?,
     }
 }
 
@@ -111,7 +69,7 @@ fn tree_of_eight<S: Strategy, G: Gate, R: Threads + Wait + Clock + Sync>(
     workers: u8,
     gate: &G,
 ) -> Result<Tree, Fail> {
-    let history = read(alloc, EIGHT.as_bytes())?;
+    let history = read(rt, alloc, EIGHT)?;
     let reduced = reduced_of(rt, alloc, &history)?;
     let workers = Workers::new(workers).ok_or("workers")?;
     let budget = Budget::new(7).ok_or("a budget")?;
@@ -137,7 +95,7 @@ fn leaf_count(tree: &Tree) -> usize {
 #[test]
 fn seven_nodes_refute_every_cube(rt: HostRuntime) -> Result<(), Fail> {
     let alloc = rt.alloc();
-    let history = read(alloc, EIGHT.as_bytes())?;
+    let history = read(&rt, alloc, EIGHT)?;
     let reduced = reduced_of(&rt, alloc, &history)?;
     for workers in [1, 2, 16] {
         let tree = tree_of_eight(&rt, alloc, &FirstOpen, workers, &OpenGate)?;
@@ -170,7 +128,7 @@ fn cycle_of(rt: &impl Abort, alloc: Global, node: &TreeNode) -> NodeLine {
 #[test]
 fn changed_trees_show_nothing(rt: HostRuntime) -> Result<(), Fail> {
     let alloc = rt.alloc();
-    let history = read(alloc, EIGHT.as_bytes())?;
+    let history = read(&rt, alloc, EIGHT)?;
     let reduced = reduced_of(&rt, alloc, &history)?;
     see_no_tree(&rt, &reduced, Vec::new(alloc));
     let mut nodes = tree_of_eight(&rt, alloc, &FirstOpen, 1, &OpenGate)?.into_nodes();
@@ -195,7 +153,7 @@ fn changed_trees_show_nothing(rt: HostRuntime) -> Result<(), Fail> {
 #[test]
 fn orders_are_replayed(rt: HostRuntime) -> Result<(), Fail> {
     let alloc = rt.alloc();
-    let history = read(alloc, SIX_WRITERS.as_bytes())?;
+    let history = read(&rt, alloc, SIX_WRITERS)?;
     let reduced = reduced_of(&rt, alloc, &history)?;
     let budget = Budget::new(10_000).ok_or("a budget")?;
     for count in [1, 4] {
@@ -339,76 +297,3 @@ fn two_workers_pick_at_once(rt: HostRuntime) -> Result<(), Fail> {
     Ok(())
 }
 
-// Seat 1 takes a cube, and leaves a little later with it in hand. Seat 2 works once seat 1 has the cube, and has to wait at first.
-fn leave_or_work<'b, 'a, J: Naming, R: Wait + Clock>(
-    rt: &R,
-    job: Job<'b, 'a, FirstOpen, J, Holding>,
-) -> Left<CubeMachine<'a>, J> {
-    if job.seat.number().get() == 2 {
-        return work(rt, job);
-    }
-    let Job {
-        alloc: _,
-        desk,
-        mut seat,
-        reduced: _,
-        row: _,
-        strategy: _,
-        gate,
-    } = job;
-    let taken = desk.call(rt, &mut seat, Event::TakeAny).is_ok();
-    gate.came.store(taken, Ordering::SeqCst);
-    let _ = thread::sleep(rt, Duration::from_millis(50));
-    let (_, left) = desk.leave(rt, seat, Event::Release);
-    left
-}
-
-fn leave_and_work<'b, 'a, J: Naming + Send + Sync, R: Threads + Wait + Clock + Sync>(
-    rt: &R,
-    jobs: Vec<Job<'b, 'a, FirstOpen, J, Holding>>,
-) -> Result<Vec<Left<CubeMachine<'a>, J>>, AllocError> {
-    thread::map_vec(rt, jobs, &|job| leave_or_work(rt, job))
-}
-
-fn search_after_a_leave<'a, J: Naming + Send + Sync, R: Threads + Wait + Clock + Abort + Sync>(
-    rt: &R,
-    alloc: Global,
-    opened: Opened<CubeMachine<'a>>,
-    reduced: &Reduced,
-    row: &Row,
-    gate: &Holding,
-)
-    requires names { J.names ≡ opened.1 }
-    requires desk { J.desk ≡ opened.2 }
-{
-    let (desk, seats) = Desk::<CubeMachine<'a>, J>::open(alloc, opened).expect(rt, "memory");
-    let jobs = jobs_of(alloc, &desk, seats, reduced, row, &FirstOpen, gate).expect(rt, "memory");
-    let lefts = leave_and_work(rt, jobs).expect(rt, "memory");
-    let closed = desk.close(lefts).ok().expect(rt, "all have left");
-    assert!(rt; closed.machine.is_exhausted());
-    assert_eq!(rt; closed.machine.closed(), 7);
-    let first = closed
-        .history
-        .iter()
-        .filter(|entry| entry.seat.get() == 1)
-        .count();
-    assert_eq!(rt; first, 2);
-    let tree = tree_of(alloc, closed.history, 7).expect(rt, "memory");
-    assert!(rt; check_tree(reduced.poly(), &tree));
-}
-
-#[test]
-fn a_seat_leaves_with_a_cube_in_hand(rt: HostRuntime) -> Result<(), Fail> {
-    let alloc = rt.alloc();
-    let history = read(alloc, EIGHT.as_bytes())?;
-    let reduced = reduced_of(&rt, alloc, &history)?;
-    let budget = Budget::new(7).ok_or("a budget")?;
-    let row = Row::new(alloc, budget)?;
-    let machine = CubeMachine::opening(alloc, reduced.poly(), budget, &row)?;
-    let two = Workers::new(2).ok_or("workers")?;
-    let opened = Opened::new(alloc, machine, two)?;
-    let gate = gate_holding(2);
-    search_after_a_leave::<Brand, _>(&rt, alloc, opened, &reduced, &row, &gate);
-    assert!(rt; !gate.missed.load(Ordering::SeqCst));
-    Ok(())
-}
