@@ -296,4 +296,3 @@ fn two_workers_pick_at_once(rt: HostRuntime) -> Result<(), Fail> {
     assert!(rt; !strategy.missed.load(Ordering::SeqCst));
     Ok(())
 }
-

@@ -1,0 +1,4 @@
+//! What the told lines rule out.
+#![tactic(auto)]
+
+pub mod laws;
