@@ -1,11 +1,13 @@
 -- Chains by their heads, and how far their nodes go.
-use Rattle.std.proofs.Common.{◌≡◌, ◌≢◌, ℕ, zero, suc, ◌<◌, ◌≤◌, List, [], ◌∷◌, length, get_or, sym, ap, ◌∙◌, subst, inl, inr, arith}
+use Rattle.std.proofs.Common.{◌≡◌, ◌≢◌, ℕ, zero, suc, ◌<◌, ◌≤◌, List, [], ◌∷◌, length, get_or, refl, sym, ap, ◌∙◌, subst, inl, inr, arith}
 use Rattle.std.specs.Prelude.{map}
 use Rattle.std.specs.List.{All, AllByRecursion, Contains}
 use Rattle.std.proofs.lemmas.List.Elements.{All-from_recursion, recursion_from_All}
 use Rattle.session_log.specs.Text.{ClientSession}
 use Rattle.serializability.specs.Log.{Log}
+use Rattle.serializability.specs.Polygraph.{Edge}
 use Rattle.serializability.proofs.Serial.{some_cases}
+use Rattle.reach_laws.proofs.Walks.{each_contained}
 use Rattle.known_graph.proofs.Listed.{In, In-from_Contains}
 use Rattle.chain_laws.specs.Chains.{heads, next, readers, tail_from, tail, edges_to}
 use Rattle.chain_laws.proofs.Walks.{next_is, step_some, step_none}
@@ -15,7 +17,7 @@ use Rattle.write_chains.specs.declared.chain.Chain.{Chain}
 use Rattle.log_definitions.specs.Numbers.{log_of}
 use Rattle.explanations.specs.declared.why.ChainOrder.{ChainOrder}
 use Rattle.forced_steps.specs.Steps.{edges_in}
-use Rattle.forced_steps.proofs.Ledgers.{head_between}
+use Rattle.forced_steps.proofs.Ledgers.{head_between, to_target}
 
 -- ---- the chain of a head
 view_there : (log : Log) (x : ℕ) (hs : List ℕ) (chains : List Chain) (k : ℕ) (c : Chain) → map chain_view chains ≡ map (chain_from log x) hs → k < length chains → chain_view c ≡ chain_view (get_or chains k c) → chain_view c ≡ chain_from log x c.head
@@ -76,3 +78,9 @@ chain_readers ss x h n c e view =
 
 pub chain_edges : (log : Log) (o : ChainOrder) (c : Chain) → chain_view c ≡ chain_from log o.key o.first → edges_to c.tail o.second c.readers.items ≡ edges_in log o
 chain_edges log o c view = ap (λ (v : ChainView). edges_to v.tail o.second v.readers) view
+
+-- an order's edges lead to the head of its second chain
+pub order_target : (log : Log) (o : ChainOrder) (e : Edge) → Contains (edges_in log o) e → e.1 ≡ o.second
+order_target log o e c =
+    let t = tail log o.key o.first in
+    each_contained (λ (d : Edge). d.1 ≡ o.second) (edges_in log o) e (to_target (λ v. v ≡ o.second) t o.second refl (readers log o.key t)) c

@@ -1,10 +1,11 @@
 -- What forced steps hold of the lines that they were made for.
-use Rattle.std.proofs.Common.{◌≡◌, ℕ, zero, suc, ◌+◌, ◌<◌, Bool, List, [], ◌∷◌, ◌++◌, length, get_or, Some, refl, sym, ap, ◌∙◌, subst, inl, inr, arith, Bor}
+use Rattle.std.proofs.Common.{◌≡◌, ◌⊎◌, ℕ, zero, suc, ◌+◌, ◌<◌, Bool, List, [], ◌∷◌, ◌++◌, length, get_or, Some, refl, sym, ap, ◌∙◌, subst, inl, inr, arith, Bor}
 use Rattle.std.specs.Prelude.{slice_get}
 use Rattle.std.specs.List.{All, Contains}
 use Rattle.std.proofs.lemmas.Option.{slice_get_within}
 use Rattle.std.proofs.lemmas.List.{length-map}
-use Rattle.std.proofs.lemmas.List.Elements.{All-nil, All-push, All-weaker, Contains-append_right}
+use Rattle.std.proofs.lemmas.List.Elements.{All-nil, All-cons, All-push, All-weaker, All-contains, Contains-append_right}
+use Rattle.reach_laws.specs.Reach.{Walk}
 use Rattle.reach_laws.proofs.Walks.{Contains-here}
 use Rattle.session_log.specs.Text.{ClientSession}
 use Rattle.serializability.specs.Polygraph.{Edge}
@@ -21,11 +22,12 @@ use Rattle.forced_steps.specs.declared.item.Item.{Item}
 use Rattle.known_graph.proofs.Listed.{In, In-from_Contains}
 use Rattle.forced_steps.specs.Steps.{edges_in, IsOrder, IsFirstWith, NoStepHas, AreStepsTold, none, step}
 use Rattle.forced_steps.specs.Firsts.{HasSide, IsFirstIn, NoneHas}
-use Rattle.forced_steps.specs.Lines.{sides_of, IsBetween, IsUnshown, HasLedger, OneHas, IsCovered}
+use Rattle.forced_steps.specs.View.{StepsView}
+use Rattle.forced_steps.specs.Lines.{sides_of, IsBetween, IsUnshown, HasLedger, IsLineOfNodes, IsStepOf, OneHas, IsCovered, HasEdges, LineStands}
 use Rattle.forced_steps.specs.Marks as marks
 use Rattle.forced_steps.specs.Ledgers.{AreEntries, kept_by}
 use Rattle.forced_steps.specs.Told.{AreTold}
-use Rattle.forced_steps.proofs.Ledgers.{Given, get_map, map_get, order_by, edge_rests}
+use Rattle.forced_steps.proofs.Ledgers.{Given, get_map, map_get, order_by, edge_leads, edge_rests, walk_end}
 use Rattle.forced_steps.proofs.Telling.{one_of}
 
 -- ---- places
@@ -55,6 +57,23 @@ ledger_entries ss entries h = record { poly = h.poly; known = λ e. (h.known e).
 -- the chains' polygraph itself
 own_given : (ss : List ClientSession) → IsClean (log_of ss) → Given ss (chain_polygraph (log_of ss))
 own_given ss clean = record { clean = clean; known = λ e c. c; choices = refl }
+
+-- an edge of the ledger leads to a node other than node 0
+pub ledger_leads : (ss : List ClientSession) (entries : List LedgerEntry) → IsClean (log_of ss) → (e : Edge) → Contains (edges_after (chain_polygraph (log_of ss)) (pruned.kept_by entries)) e → IsBetween ss e.1
+ledger_leads ss entries clean e c = edge_leads ss (chain_polygraph (log_of ss)) (own_given ss clean) (posts_in entries) e c
+
+-- ---- lines of nodes
+walk_nodes : (P : ℕ → Type 0) (edges : List Edge) → ((e : Edge) → Contains edges e → P e.1) → (ws : List ℕ) (u v : ℕ) → P u → Walk edges u ws v → All P (u ∷ (ws ++ v ∷ []))
+walk_nodes P edges leads [] u v h w = All-cons P u (v ∷ []) h (All-cons P v [] (leads (u, v) w) (All-nil P))
+walk_nodes P edges leads (x ∷ ws) u v h w = All-cons P u (x ∷ (ws ++ v ∷ [])) h (walk_nodes P edges leads ws x v (leads (u, x) w.0) w.1)
+
+-- a walk that closes has no other nodes than those to which edges lead
+pub round_nodes : (ss : List ClientSession) (edges : List Edge) → ((e : Edge) → Contains edges e → IsBetween ss e.1) → (start : ℕ) (inner line : List ℕ) → line ≡ start ∷ (inner ++ start ∷ []) → Walk edges start inner start → IsLineOfNodes ss line
+round_nodes ss edges leads start inner line shape w =
+    let last = walk_end edges inner start start w in
+    let here : IsBetween ss start = leads (last.0, start) last.1 in
+    let whole : IsLineOfNodes ss (start ∷ (inner ++ start ∷ [])) = record { some = omega arith; nodes = walk_nodes (IsBetween ss) edges leads inner start start here w } in
+    subst (IsLineOfNodes ss) (sym shape) whole
 
 -- each step's order is one of two chains
 pub orders_told : (ss : List ClientSession) (steps : List ChainOrder) (items : List Item) → AreStepsTold ss steps items → All (IsOrder (log_of ss)) steps
@@ -146,3 +165,33 @@ steps_covered ss entries kept marked numbers steps orders items clean e same t l
     subst (λ k. All (λ (l : Bor (List ℕ)). marks.IsCovered ss (sides_of ss k) marked l.now (length l.now)) lines) e h in
     let P : List ChainOrder → Type 0 = λ os. All (λ (l : Bor (List ℕ)). IsCovered (record { sessions = ss; entries = entries; orders = os }) l.now) lines in
     subst P (sym same) (lines_covered ss entries marked numbers steps items clean told lines covered)
+
+-- ---- lines over what steps and decided orders have
+step_at : (line : List ℕ) (i : ℕ) → i + 1 < length line → IsStepOf line (get_or line i 0, get_or line (i + 1) 0)
+step_at [] i lt = absurd (omega (arith, lt))
+step_at (x ∷ []) i lt = absurd (omega (arith, lt))
+step_at (x ∷ y ∷ line) zero lt = record { front = []; back = line; shape = refl }
+step_at (x ∷ y ∷ line) (suc i) lt =
+    let r = step_at (y ∷ line) i (omega (arith, lt)) in
+    let there : IsStepOf (x ∷ y ∷ line) (get_or (y ∷ line) i 0, get_or (y ∷ line) (i + 1) 0) = record { front = x ∷ r.front; back = r.back; shape = ap (λ l. x ∷ l) r.shape } in
+    let e : suc (i + 1) ≡ suc i + 1 = omega arith in
+    subst (λ k. IsStepOf (x ∷ y ∷ line) (get_or (y ∷ line) i 0, get_or (x ∷ y ∷ line) k 0)) e there
+
+pub line_stands : (s : StepsView) (decided : List ChainOrder) (line : List ℕ) → IsLineOfNodes s.sessions line → IsCovered s line → HasEdges s decided line → LineStands s.sessions s.orders decided line
+line_stands s decided line n covered edges = record {
+  some = n.some;
+  each = λ i lt.
+      (let e : Edge = (get_or line i 0, get_or line (i + 1) 0) in
+      let first : IsBetween s.sessions e.0 = n.nodes i 0 (omega (arith, lt)) in
+      let step = step_at line i lt in
+      record {
+        first = first;
+        second = n.nodes (i + 1) 0 lt;
+        has = λ have. elim (edges.each e step) [ inl c ↦ inl (covered.each e step first c have) | inr o ↦ inr o ];
+      });
+}
+
+-- one of the steps or of the decided orders has the edge
+pub none_left : (ss : List ClientSession) (steps decided : List ChainOrder) (e : Edge) → OneHas ss steps e ⊎ OneHas ss decided e → NoneHas (sides_of ss steps) e → All (λ o. Contains (edges_in (log_of ss) o) e → ⊥) decided → ⊥
+none_left ss steps decided e (inl h) n a = (no_step ss steps e n).none h.order h.among h.has
+none_left ss steps decided e (inr h) n a = All-contains (λ o. Contains (edges_in (log_of ss) o) e → ⊥) decided h.order a h.among h.has

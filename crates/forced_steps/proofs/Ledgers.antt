@@ -60,7 +60,7 @@ each_const : {X : Type 0} (Q : Type 0) → Q → (xs : List X) → AllByRecursio
 each_const Q q [] = tt
 each_const Q q (x ∷ xs) = (q, each_const Q q xs)
 
-to_target : (P : ℕ → Type 0) (t b : ℕ) → P b → (rs : List ℕ) → AllByRecursion (λ (e : Edge). P e.1) (edges_to t b rs)
+pub to_target : (P : ℕ → Type 0) (t b : ℕ) → P b → (rs : List ℕ) → AllByRecursion (λ (e : Edge). P e.1) (edges_to t b rs)
 to_target P t b p [] = (p, tt)
 to_target P t b p (r ∷ rs) = (p, each_from_map (λ (e : Edge). P e.1) (λ q. (q, b)) rs (each_const (P b) p rs))
 
@@ -102,7 +102,7 @@ known_leads : (ss : List ClientSession) (e : Edge) → Contains (chain_polygraph
 known_leads ss e c = each_contained (λ (d : Edge). IsBetween ss d.1) (chain_polygraph (log_of ss)).known e (known_lead ss) c
 
 -- an order's edges lead to the head of its second chain
-order_leads : (ss : List ClientSession) (o : ChainOrder) → IsOrder (log_of ss) o → (e : Edge) → Contains (edges_in (log_of ss) o) e → IsBetween ss e.1
+pub order_leads : (ss : List ClientSession) (o : ChainOrder) → IsOrder (log_of ss) o → (e : Edge) → Contains (edges_in (log_of ss) o) e → IsBetween ss e.1
 order_leads ss o h e c =
     each_contained (λ (d : Edge). IsBetween ss d.1) (edges_in (log_of ss) o) e
     (to_target (IsBetween ss) (tail (log_of ss) o.key o.first) o.second (head_between ss o.key o.second h.two) (readers (log_of ss) o.key (tail (log_of ss) o.key o.first))) c
@@ -237,7 +237,7 @@ walk_rests ss sides bound edges each (x ∷ ws) u v h w =
     let r = each u x w.0 h in
     line_cons ss sides bound u x (ws ++ v ∷ []) r (walk_rests ss sides bound edges each ws x v r.second w.1)
 
-walk_end : (edges : List Edge) (ws : List ℕ) (u v : ℕ) → Walk edges u ws v → (a : ℕ) × Contains edges (a, v)
+pub walk_end : (edges : List Edge) (ws : List ℕ) (u v : ℕ) → Walk edges u ws v → (a : ℕ) × Contains edges (a, v)
 walk_end edges [] u v w = (u, w)
 walk_end edges (x ∷ ws) u v w = walk_end edges ws x v w.1
 
@@ -247,7 +247,7 @@ pub record Given (ss : List ClientSession) (p : Polygraph) : Type 0 where
   pub known : (e : Edge) → Contains p.known e → Contains (chain_polygraph (log_of ss)).known e
   pub choices : p.choices ≡ chain_choices (log_of ss)
 
-edge_leads : (ss : List ClientSession) (p : Polygraph) → Given ss p → (qs : List Posted) (x : Edge) → Contains (edges_after p (kept_after [] qs)) x → IsBetween ss x.1
+pub edge_leads : (ss : List ClientSession) (p : Polygraph) → Given ss p → (qs : List Posted) (x : Edge) → Contains (edges_after p (kept_after [] qs)) x → IsBetween ss x.1
 edge_leads ss p g qs x c = elim (after_cases p [] qs x (In-from_Contains (edges_after p (kept_after [] qs)) x c)) [
   | inl i ↦ known_leads ss x (g.known x (Contains-from_In p.known x (no_kept p x i)))
   | inr k ↦ (let q = post_keeps ss p g.choices k.post (other k.post.side) x k.within in

@@ -33,6 +33,11 @@ pub record HasLedger (ss : List ClientSession) (entries : List LedgerEntry) : Ty
   pub choices : poly.choices ≡ chain_choices (log_of ss)
   pub shown : AreShown poly [] (posts_in entries)
 
+-- a line of nodes of the log other than node 0
+pub record IsLineOfNodes (ss : List ClientSession) (line : List ℕ) : Type 0 where
+  pub some : 0 < length line
+  pub nodes : All (IsBetween ss) line
+
 -- two nodes of the line stand side by side
 pub record IsStepOf (line : List ℕ) (e : Edge) : Type 0 where
   pub front : List ℕ
@@ -62,6 +67,18 @@ pub record TellsLine (s : StepsView) (decided : List ChainOrder) (line : List �
   pub edges : List Item
   pub added : now ≡ old ++ edges
   pub told : IsLineTold s.sessions s.orders decided line edges
+
+-- ---- of lines over what steps and decided orders have
+-- both are nodes, and where the log shows no reason of the edge, a step or a decided order has it
+pub record Stands (ss : List ClientSession) (steps decided : List ChainOrder) (a b : ℕ) : Type 0 where
+  pub first : IsBetween ss a
+  pub second : IsBetween ss b
+  pub has : HaveNone ss a b → OneHas ss steps (a, b) ⊎ OneHas ss decided (a, b)
+
+-- each edge of the line, which has a node
+pub record LineStands (ss : List ClientSession) (steps decided : List ChainOrder) (line : List ℕ) : Type 0 where
+  pub some : 0 < length line
+  pub each : (i : ℕ) → i + 1 < length line → Stands ss steps decided (slice_index line i) (slice_index line (i + 1))
 
 -- ---- of lines over what entries keep
 -- the edges of each of these orders

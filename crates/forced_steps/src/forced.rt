@@ -1,17 +1,17 @@
 //! The forced steps that some lines need.
 
-ghost use Rattle.std.specs.Prelude.{◌≡◌, length, IfOk, IfSome, OnOk};
+ghost use Rattle.std.specs.Prelude.{◌≡◌, length, IfOk, OnOk};
 ghost use Rattle.std.specs.List.{All};
 ghost use Rattle.serializability.specs.Reads.{IsClean};
 ghost use Rattle.log_definitions.specs.Numbers.{log_of};
-ghost use Rattle.forced_steps.specs.Steps.{IsWhy, IsLineTold, AreStepsTold};
-ghost use Rattle.forced_steps.specs.Lines.{HasLedger, IsCovered, HasEdges, TellsLine, AreGrounds};
+ghost use Rattle.forced_steps.specs.Steps.{IsOrder, IsWhy, IsLineTold, AreStepsTold};
+ghost use Rattle.forced_steps.specs.Lines.{HasLedger, IsLineOfNodes, IsCovered, HasEdges, TellsLine, Stands, LineStands, AreGrounds};
 ghost use Rattle.forced_steps.specs.Told.{IsPut, WhyPut};
 
 use crate::dead::grounds_in;
 use crate::decided::order_with;
 use crate::firsts::grounds_of;
-use crate::ground::{Grounds, entry_with, is_between, no_answers};
+use crate::ground::{Grounds, entry_with, no_answers};
 use crate::item::Item;
 use crate::marks::needed_entries;
 use crate::steps::told_steps;
@@ -78,7 +78,7 @@ pub fn steps_of<'a>(
 }
 
 /// Why `a` stands before `b`: where the log does not show it, by the first of these steps that has the edge, and where none has, by
-/// what was decided.
+/// the first of the decided orders that has it.
 fn why_among(
     history: &History,
     chains: &Chains<'_>,
@@ -86,25 +86,21 @@ fn why_among(
     decided: &[ChainOrder],
     a: NodeIx,
     b: NodeIx,
-) -> Option<Why>
+) -> Why
     requires clean { IsClean (log_of history.now) }
     requires chains { chains.now ≡ history.now }
     requires steps { AreGrounds history.now steps.now }
-    ensures why { IfSome result (IsWhy history.now steps.now.kept.items decided.now a b) }
+    requires decided { All (IsOrder (log_of history.now)) decided.now }
+    requires stands { Stands history.now steps.now.kept.items decided.now a b }
+    ensures why { IsWhy history.now steps.now.kept.items decided.now a b result }
 {
-    if !is_between(history, a) {
-        return None;
-    }
-    if !is_between(history, b) {
-        return None;
-    }
     match reason_of(history, a, b) {
-        Some(reason) => Some(Why::Known(reason)),
+        Some(reason) => Why::Known(reason),
         None => match entry_with(steps, a, b) {
-            Some(step) => Some(Why::Forced(step)),
+            Some(step) => Why::Forced(step),
             None => match order_with(chains, decided, a, b) {
-                Some(order) => Some(Why::Chosen(order)),
-                None => None,
+                Some(order) => Why::Chosen(order),
+                None => unreachable!(),
             },
         },
     }
@@ -123,13 +119,12 @@ fn put_edge_among(
     requires clean { IsClean (log_of history.now) }
     requires chains { chains.now ≡ history.now }
     requires steps { AreGrounds history.now steps.now }
+    requires decided { All (IsOrder (log_of history.now)) decided.now }
+    requires stands { Stands history.now steps.now.kept.items decided.now first second }
     ensures put { OnOk result (WhyPut history.now steps.now.kept.items decided.now first second items.old.items items.new.items) }
 {
-    let found: Option<Why> = why_among(history, chains, steps, decided, first, second);
-    match found {
-        Some(why) => items.extend_from_slice(&[Item::Edge { first, second, why }]),
-        None => Err(AllocError),
-    }
+    let why: Why = why_among(history, chains, steps, decided, first, second);
+    items.extend_from_slice(&[Item::Edge { first, second, why }])
 }
 
 /// Appends the edges of a line, each with why it stands among these steps.
@@ -144,12 +139,11 @@ fn put_edges_among(
     requires clean { IsClean (log_of history.now) }
     requires chains { chains.now ≡ history.now }
     requires steps { AreGrounds history.now steps.now }
+    requires decided { All (IsOrder (log_of history.now)) decided.now }
+    requires stands { LineStands history.now steps.now.kept.items decided.now line.now }
     ensures put { OnOk result (IsPut items.old.items items.new.items
         (IsLineTold history.now steps.now.kept.items decided.now line.now)) }
 {
-    if line.len() == 0 {
-        return Err(AllocError);
-    }
     for i in 0..line.len() - 1 {
         put_edge_among(items, history, chains, steps, decided, line[i], line[i + 1])?;
     }
@@ -166,14 +160,16 @@ impl<'a> Steps<'a> {
         Ok(items)
     }
 
-    /// Appends the edges of a line, each with why it stands. For an empty line, and for an edge of which it finds neither a reason nor a
-    /// step nor a decided order, it gives the error that it gives where memory runs out; no clause says when it fails.
+    /// Appends the edges of a line, each with why it stands: by a reason in the log, by the first step that has the edge, or by a
+    /// decided order that has it. One of these is there by what is required, so the one error is that of `items` where memory runs out.
     pub fn put_line(
         &self,
         items: &mut Vec<Item>,
         decided: &[ChainOrder],
         line: &[NodeIx],
     ) -> Result<(), AllocError>
+        requires line { IsLineOfNodes self.now.sessions line.now }
+        requires decided { All (IsOrder (log_of self.now.sessions)) decided.now }
         requires covered { IsCovered self.now line.now }
         requires edges { HasEdges self.now decided.now line.now }
         ensures told { OnOk result (TellsLine self.now decided.now line.now items.old.items items.new.items) }

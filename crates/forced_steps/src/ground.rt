@@ -107,7 +107,7 @@ pub fn entry_with(grounds: &Grounds, a: NodeIx, b: NodeIx) -> Option<usize>
 }
 
 /// Whether this is a node other than node 0.
-pub fn is_between(history: &History, node: NodeIx) -> bool
+fn is_between(history: &History, node: NodeIx) -> bool
     ensures yes { IsTrue result → IsBetween history.now node }
     ensures no { IsTrue (not result) → IsBetween history.now node → ⊥ }
 {

@@ -1,12 +1,13 @@
 -- What the edges of a cube's cycle rest on.
-use Rattle.std.proofs.Common.{Bor, ◌≡◌, ◌⊎◌, ℕ, zero, suc, Bool, true, false, cond, List, [], ◌∷◌, ◌++◌, map, Option, Some, None, refl, sym, ap, ◌∙◌, subst, inl, inr, arith}
+use Rattle.std.proofs.Common.{Bor, ◌≡◌, ◌⊎◌, ℕ, zero, suc, ◌<◌, Bool, true, false, cond, List, [], ◌∷◌, ◌++◌, length, map, Option, Some, None, refl, sym, ap, ◌∙◌, subst, inl, inr, arith}
 use Rattle.std.specs.Prelude.{slice_get, slice_index, slice_index_or, IfSome, option_and_then}
 use Rattle.std.specs.Option.{option_map_or}
 use Rattle.std.specs.List.{All, Contains, filter_map, cons_option}
 use Rattle.std.proofs.lemmas.Bool.{false≢true, or_cases}
-use Rattle.std.proofs.lemmas.List.Elements.{All-nil, All-cons, All-head, All-tail, All-same, All-map, All-weaker, Contains-append_right}
+use Rattle.std.proofs.lemmas.List.Elements.{All-nil, All-cons, All-head, All-tail, All-same, All-map, All-weaker, All-contains, Contains-append_right}
 use Rattle.session_log.specs.Text.{ClientSession}
 use Rattle.serializability.specs.Log.{Log}
+use Rattle.serializability.specs.Reads.{IsClean}
 use Rattle.serializability.specs.Polygraph.{Edge, Choice, Polygraph}
 use Rattle.reach_laws.specs.Reach.{Walk}
 use Rattle.pruning_laws.specs.declared.side.Side.{Side}
@@ -28,17 +29,21 @@ use Rattle.branch_search.specs.declared.tree.Growth.{Growth}
 use Rattle.branch_search.specs.declared.tree.Growth.TheVariants.{Leaf, Inner}
 use Rattle.branch_search.specs.declared.tree.TreeNode.{TreeNode}
 use Rattle.branch_search.specs.Trees.{cube_of}
-use Rattle.branch_search.proofs.Lists.{some_is, some_map}
+use Rattle.branch_search.proofs.Lists.{some_is, some_map, map_length}
 use Rattle.explanations.specs.declared.why.ChainOrder.{ChainOrder}
 use Rattle.forced_steps.specs.View.{StepsView}
 use Rattle.forced_steps.specs.Orders.{choice_of}
-use Rattle.forced_steps.specs.Steps.{edges_in}
-use Rattle.forced_steps.specs.Lines.{IsCovered, OneHas, HasEdges}
+use Rattle.forced_steps.specs.Steps.{IsOrder, edges_in}
+use Rattle.forced_steps.specs.Lines.{IsBetween, IsLineOfNodes, IsCovered, OneHas, HasEdges}
+use Rattle.forced_steps.proofs.Chosen.{turned_order}
+use Rattle.forced_steps.proofs.Ledgers.{order_leads}
+use Rattle.forced_steps.proofs.Covering.{ledger_leads, round_nodes}
 use Rattle.told_trees.specs.declared.visits.Visit.{Visit}
 use Rattle.told_trees.specs.Orders.{AreOrdersOf, no_order, sided, order_at}
 use Rattle.told_trees.specs.Searched.{IsSearched}
 use Rattle.told_trees.specs.Told.{IsRound, CanTell, decided_at}
 use Rattle.told_trees.specs.Visits.{cycle_in, line_of}
+use Rattle.told_trees.proofs.Facts.{cube_among}
 
 -- ---- the steps of a walk
 head_is : (a b : ℕ) (xs ys : List ℕ) → a ∷ xs ≡ b ∷ ys → a ≡ b
@@ -93,8 +98,20 @@ module _ (log : Log) (p : Polygraph) (orders : List ChainOrder) (h : AreOrdersOf
       λ b. (let r = cube_edge cube e b in (r.0, (Contains-append_right (order_at orders d ∷ []) (map (order_at orders) cube) r.0 r.1.0, r.1.1))) in
       elim (or_cases (has_edge (side_in p d.0 d.1) e) (has_edge (cube_edges p cube) e) (sym (edge_append (side_in p d.0 d.1) (cube_edges p cube) e) ∙ t)) [ inl a ↦ here a | inr b ↦ later b ]
 
+-- ---- the orders of a cube
+sided_order : (log : Log) (o : ChainOrder) (side : Side) → IsOrder log o → IsOrder log (sided side o)
+sided_order log o One h = h
+sided_order log o Two h = turned_order log o h
+
+cube_orders : (log : Log) (orders : List ChainOrder) (choices : List Choice) → AreOrdersOf log choices orders → (cube : Cube) → All (λ (d : Entry). d.0 < length choices) cube → All (IsOrder log) (map (order_at orders) cube)
+cube_orders log orders choices h cube a =
+    let count : length orders ≡ length choices = sym (map_length (choice_of log) orders) ∙ ap length h.sides in
+    All-map (IsOrder log) (order_at orders) cube
+    (All-weaker (λ (d : Entry). d.0 < length choices) (λ (d : Entry). IsOrder log (order_at orders d))
+    (λ d lt. sided_order log (slice_index_or orders d.0 no_order) d.1 (h.each d.0 no_order (omega (arith, lt, count)))) cube a)
+
 -- ---- a leaf's cycle
-module _ (ss : List ClientSession) (entries : List LedgerEntry) (orders : List ChainOrder) (nodes : List TreeNode) (h : IsSearched ss entries orders nodes) (s : StepsView) (of_log : s.sessions ≡ ss) (of_ledger : s.entries ≡ entries) where
+module _ (ss : List ClientSession) (entries : List LedgerEntry) (orders : List ChainOrder) (nodes : List TreeNode) (clean : IsClean (log_of ss)) (h : IsSearched ss entries orders nodes) (s : StepsView) (of_log : s.sessions ≡ ss) (of_ledger : s.entries ≡ entries) where
   edge_known : (cube : Cube) (e : Edge) → Contains (edges_under h.poly cube) e → Contains (edges_after (chain_polygraph (log_of ss)) (kept_by entries)) e ⊎ OneHas ss (map (order_at orders) cube) e
   edge_known cube e c =
       let t : has_edge (h.poly.known ++ cube_edges h.poly cube) e ≡ true = under_is h.poly cube e ∙ has_contained (edges_under h.poly cube) e c in
@@ -102,6 +119,18 @@ module _ (ss : List ClientSession) (entries : List LedgerEntry) (orders : List C
         | inl a ↦ inl ((h.known e).0 (edge_in h.poly.known e a))
         | inr b ↦ inr (let r = cube_edge (log_of ss) h.poly orders h.sides cube e b in record { order = r.0; among = r.1.0; has = r.1.1 })
       ]
+
+  edge_leads : (cube : Cube) → All (IsOrder (log_of ss)) (map (order_at orders) cube) → (e : Edge) → Contains (edges_under h.poly cube) e → IsBetween ss e.1
+  edge_leads cube a e c = elim (edge_known cube e c) [
+    | inl k ↦ ledger_leads ss entries clean e k
+    | inr o ↦ order_leads ss o.order (All-contains (IsOrder (log_of ss)) (map (order_at orders) cube) o.order a o.among) e o.has
+  ]
+
+  line_nodes : (cube : Cube) (line : List ℕ) → All (IsOrder (log_of ss)) (map (order_at orders) cube) → is_cycle (edges_under h.poly cube) line ≡ true → IsLineOfNodes ss line
+  line_nodes cube line a t =
+      let start = slice_index line 0 in
+      let w = walk_of (edges_under h.poly cube) line start start t in
+      round_nodes ss (edges_under h.poly cube) (edge_leads cube a) start w.inner line w.shape w.steps
 
   line_edges : (cube : Cube) (line : List ℕ) → is_cycle (edges_under h.poly cube) line ≡ true → HasEdges (record { sessions = ss; entries = entries; orders = s.orders }) (map (order_at orders) cube) line × IsRound line
   line_edges cube line t =
@@ -117,7 +146,15 @@ module _ (ss : List ClientSession) (entries : List LedgerEntry) (orders : List C
   growth_tells : (i : ℕ) (x : TreeNode) (g : Growth) → slice_get nodes i ≡ Some x → x.growth ≡ g → IfSome (cycle_in g) (IsCovered s) → IfSome (cycle_in g) (CanTell s (decided_at orders nodes i))
   growth_tells i x (Leaf line) at is k =
       let r = line_edges (cube_of nodes i) line (h.shown.leaves i x line at is) in
-      record { covered = k; edges = view_same (decided_at orders nodes i) line r.0; round = r.1 }
+      let all = cube_orders (log_of ss) orders h.poly.choices h.sides (cube_of nodes i) (cube_among h.poly nodes h.shown i x at) in
+      let line_is = line_nodes (cube_of nodes i) line all (h.shown.leaves i x line at is) in
+      record {
+        nodes = subst (λ (zs : List ClientSession). IsLineOfNodes zs line) (sym of_log) line_is;
+        orders = subst (λ (zs : List ClientSession). All (IsOrder (log_of zs)) (decided_at orders nodes i)) (sym of_log) all;
+        covered = k;
+        edges = view_same (decided_at orders nodes i) line r.0;
+        round = r.1;
+      }
   growth_tells i x (Inner c first second) at is k = k
 
   node_tells : (i : ℕ) (o : Option TreeNode) → slice_get nodes i ≡ o → IfSome (option_and_then (λ (x : TreeNode). cycle_in x.growth) o) (IsCovered s) → IfSome (option_and_then (λ (x : TreeNode). cycle_in x.growth) o) (CanTell s (decided_at orders nodes i))
@@ -141,11 +178,11 @@ each_some P f [] a = All-nil (λ x. IfSome (f x) P)
 each_some P f (x ∷ xs) a = let r = cons_both P (f x) (filter_map f xs) a in All-cons (λ x. IfSome (f x) P) x xs r.0 (each_some P f xs r.1)
 
 -- where the lines are covered, each visited node can be told
-pub all_tell : (ss : List ClientSession) (entries : List LedgerEntry) (orders : List ChainOrder) (nodes : List TreeNode) → IsSearched ss entries orders nodes → (s : StepsView) → s.sessions ≡ ss → s.entries ≡ entries
+pub all_tell : (ss : List ClientSession) (entries : List LedgerEntry) (orders : List ChainOrder) (nodes : List TreeNode) → IsClean (log_of ss) → IsSearched ss entries orders nodes → (s : StepsView) → s.sessions ≡ ss → s.entries ≡ entries
     → (visits : List Visit) (lines : List (Bor (List ℕ))) → map (λ (l : Bor (List ℕ)). l.now) lines ≡ filter_map (line_of nodes) visits → All (λ (l : Bor (List ℕ)). IsCovered s l.now) lines
     → All (λ (v : Visit). IfSome (line_of nodes v) (CanTell s (decided_at orders nodes v.node))) visits
-all_tell ss entries orders nodes h s of_log of_ledger visits lines e a =
+all_tell ss entries orders nodes clean h s of_log of_ledger visits lines e a =
     let covered : All (IsCovered s) (filter_map (line_of nodes) visits) =
     All-same (IsCovered s) (filter_map (line_of nodes) visits) (map (λ (l : Bor (List ℕ)). l.now) lines) (sym e) (All-map (IsCovered s) (λ (l : Bor (List ℕ)). l.now) lines a) in
     All-weaker (λ (v : Visit). IfSome (line_of nodes v) (IsCovered s)) (λ (v : Visit). IfSome (line_of nodes v) (CanTell s (decided_at orders nodes v.node)))
-    (visit_tells ss entries orders nodes h s of_log of_ledger) visits (each_some (IsCovered s) (line_of nodes) visits covered)
+    (visit_tells ss entries orders nodes clean h s of_log of_ledger) visits (each_some (IsCovered s) (line_of nodes) visits covered)

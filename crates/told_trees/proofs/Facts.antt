@@ -1,9 +1,12 @@
 -- What is known of the nodes of a refutation tree.
 use Rattle.std.proofs.Common.{◌≡◌, ℕ, zero, suc, ◌<◌, ◌≤◌, List, [], ◌∷◌, length, Some, None, refl, sym, ap, ◌∙◌, subst, inl, inr, arith}
 use Rattle.std.specs.Prelude.{slice_get}
+use Rattle.std.specs.List.{All}
+use Rattle.std.proofs.lemmas.List.Elements.{All-nil, All-cons}
 use Rattle.serializability.specs.Polygraph.{Polygraph}
 use Rattle.pruning_laws.specs.declared.side.Side.{Side}
 use Rattle.pruning_laws.specs.declared.side.Side.TheVariants.{One, Two}
+use Rattle.pruning_laws.specs.Ledger.{Entry}
 use Rattle.branch_search.specs.declared.tree.Decision.{Decision}
 use Rattle.branch_search.specs.declared.tree.TreeNode.{TreeNode}
 use Rattle.branch_search.specs.Trees.{cube_below, cube_of, IsChild, IsRefutationTree}
@@ -70,6 +73,23 @@ module _ (p : Polygraph) (nodes : List TreeNode) (t : IsRefutationTree p nodes) 
 
   pub cube_short : (i : ℕ) (x : TreeNode) → slice_get nodes i ≡ Some x → length (cube_of nodes i) ≤ i
   cube_short i x at = short_within (suc i) i x (omega arith) at
+
+  -- a cube decides choices of the polygraph alone
+  among_within : (more i : ℕ) (x : TreeNode) → i < more → slice_get nodes i ≡ Some x → All (λ (d : Entry). d.0 < length p.choices) (cube_of nodes i)
+  among_within zero i x lt at = absurd (omega (arith, lt))
+  among_within (suc more) zero x lt at = subst (λ (ds : List Entry). All (λ (d : Entry). d.0 < length p.choices) ds) (sym root_cube) (All-nil (λ (d : Entry). d.0 < length p.choices))
+  among_within (suc more) (suc i) x lt at =
+      let m = made_at (suc i) x (omega arith) at in
+      let b = t.below (suc i) x (omega arith) at in
+      let before = b.before in
+      let low : x.parent < more = omega (arith, lt, before) in
+      let above = among_within more x.parent b.parent low b.here in
+      let cube : cube_of nodes (suc i) ≡ (m.made.choice, m.made.side) ∷ cube_of nodes x.parent = cube_under nodes (suc i) x at before ∙ ap (cube_below (cube_of nodes x.parent)) m.is in
+      subst (λ (ds : List Entry). All (λ (d : Entry). d.0 < length p.choices) ds) (sym cube)
+      (All-cons (λ (d : Entry). d.0 < length p.choices) (m.made.choice, m.made.side) (cube_of nodes x.parent) m.among above)
+
+  pub cube_among : (i : ℕ) (x : TreeNode) → slice_get nodes i ≡ Some x → All (λ (d : Entry). d.0 < length p.choices) (cube_of nodes i)
+  cube_among i x at = among_within (suc i) i x (omega arith) at
 
   pub decides_among : DecidesAmong (length p.choices) nodes
   decides_among = record { each = at_node }

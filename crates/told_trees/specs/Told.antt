@@ -1,12 +1,14 @@
 -- What is told of the nodes of a tree, one behind the other.
 use Rattle.std.specs.Prelude.{◌≡◌, ℕ, ◌-◌, List, [], ◌∷◌, ◌++◌, Option, None, Some, map, slice_get}
+use Rattle.std.specs.List.{All}
+use Rattle.log_definitions.specs.Numbers.{log_of}
 use Rattle.branch_search.specs.declared.tree.Decision.{Decision}
 use Rattle.branch_search.specs.declared.tree.TreeNode.{TreeNode}
 use Rattle.branch_search.specs.Trees.{cube_of}
 use Rattle.explanations.specs.declared.why.ChainOrder.{ChainOrder}
 use Rattle.forced_steps.specs.View.{StepsView}
-use Rattle.forced_steps.specs.Lines.{IsCovered, HasEdges}
-use Rattle.forced_steps.specs.Steps.{IsCycleTold}
+use Rattle.forced_steps.specs.Lines.{IsLineOfNodes, IsCovered, HasEdges}
+use Rattle.forced_steps.specs.Steps.{IsOrder, IsCycleTold}
 use Rattle.forced_steps.specs.declared.item.Item.{Item}
 use Rattle.forced_steps.specs.declared.item.Item.TheVariants as item
 use Rattle.told_trees.specs.Orders.{order_at}
@@ -19,8 +21,10 @@ pub record IsRound (line : List ℕ) : Type 0 where
   pub inner : List ℕ
   pub shape : line ≡ start ∷ (inner ++ start ∷ [])
 
--- the steps were made for the line, and where these orders are decided it is a cycle
+-- the steps were made for the line, and where these orders of two chains are decided it is a cycle
 pub record CanTell (s : StepsView) (decided : List ChainOrder) (line : List ℕ) : Type 0 where
+  pub nodes : IsLineOfNodes s.sessions line
+  pub orders : All (IsOrder (log_of s.sessions)) decided
   pub covered : IsCovered s line
   pub edges : HasEdges s decided line
   pub round : IsRound line

@@ -1,10 +1,10 @@
 use Rattle.std.proofs.Common.{subst}
-use Rattle.std.specs.List.{Contains}
+use Rattle.std.specs.List.{All, Contains}
 use Rattle.serializability.specs.Polygraph.{Edge}
 use Rattle.log_definitions.specs.Numbers.{log_of}
 use Rattle.forced_steps.specs.Steps.{edges_in}
 use Rattle.forced_steps.specs.Lines.{sides_of}
-use Rattle.forced_steps.proofs.Covering.{first_step, no_step}
+use Rattle.forced_steps.proofs.Covering.{first_step, no_step, none_left}
 use Rattle.forced_steps.proofs.forced.why_among.Goals as goal
 
 pub returns-in-Some-entry_with : goal.returns-in-Some-entry_with
@@ -28,3 +28,12 @@ returns-in-Some-order_with c =
         subst (λ s. Contains (edges_in (log_of s) o) e) c.requires.chains c.in-Some-order_with.ensures.edge,
       );
     }
+
+pub unreachable-requires : goal.unreachable-requires
+unreachable-requires c =
+    let ss = c.args.history.now in
+    let steps = c.args.steps.now.kept.items in
+    let decided = c.args.decided.now in
+    let e : Edge = (c.args.a, c.args.b) in
+    none_left ss steps decided e (c.requires.stands.has c.in-None.ensures.none) (c.in-None-entry_with.ensures.found (sides_of ss steps) c.requires.steps.firsts)
+    (subst (λ s. All (λ o. Contains (edges_in (log_of s) o) e → ⊥) decided) c.requires.chains c.in-None-order_with.ensures.none)

@@ -30,7 +30,7 @@ pub put_visits-requires-clause-lines : goal.put_visits-requires-clause-lines
 put_visits-requires-clause-lines c =
     let s = c.in_ok-steps.steps in let nodes = c.args.nodes.now in let orders = c.args.orders.now in
     All-same (λ (v : Visit). IfSome (line_of nodes v) (CanTell s (decided_at orders nodes v.node))) c.deref-3.result.now c.in_ok-visits.visits.items c.deref-3.ensures.value
-    (all_tell c.args.history.now c.args.entries.now orders nodes c.requires.searched s c.in_ok-steps.ensures.sessions c.in_ok-steps.ensures.entries c.in_ok-visits.visits.items c.in_ok-lines.lines.items
+    (all_tell c.args.history.now c.args.entries.now orders nodes c.requires.clean c.requires.searched s c.in_ok-steps.ensures.sessions c.in_ok-steps.ensures.entries c.in_ok-visits.visits.items c.in_ok-lines.lines.items
     (c.in_ok-lines.ensures.lines ∙ ap (filter_map (line_of nodes)) c.deref.ensures.value)
     (All-same (λ (l : Bor (List ℕ)). IsCovered s l.now) c.in_ok-lines.lines.items c.deref-2.result.now (sym c.deref-2.ensures.value) c.in_ok-steps.ensures.covered))
 
