@@ -1,4 +1,4 @@
-use cobra_words::{Command, Request, StrategyWord, Words, words_of};
+use cobra_words::{Command, FormatWord, Request, StrategyWord, Words, words_of};
 use std::alloc::Global;
 use std::process::Abort;
 use std::test::Fail;
@@ -32,6 +32,10 @@ fn refused_words(rt: HostRuntime) -> Result<(), Fail> {
         "cobra_poly check --budget 1000001 log",
         "cobra_poly check --strategy best log",
         "cobra_poly check --plain log",
+        "cobra_poly check --format text log",
+        "cobra_poly explain --format svg log",
+        "cobra_poly explain --format dot --format dot log",
+        "cobra_poly explain --plain log",
         "cobra_poly check --workers 17 log",
         "cobra_poly encode --workers 0",
         "cobra_poly encode --workers 17",
@@ -88,6 +92,10 @@ fn texts_of_help(rt: HostRuntime) -> Result<(), Fail> {
         ),
         ("cobra_poly check --help", "  1  not serializable: and why"),
         (
+            "cobra_poly explain --help",
+            "  3  as check, and what to try next\n",
+        ),
+        (
             "cobra_poly check --help",
             "--budget <N>       How many cubes a search may close, 1 to 1000000 [default: 10000]\n",
         ),
@@ -128,6 +136,7 @@ fn files_of_logs(rt: HostRuntime) -> Result<(), Fail> {
         ("cobra_poly check -", ""),
         ("cobra_poly decode --model - -", ""),
         ("cobra_poly check ./-", "./-"),
+        ("cobra_poly explain --format dot log", "log"),
         ("cobra_poly verify --order order log", "log"),
     ] {
         assert!(rt; is_log_by(rt.alloc(), line, file)?, "{line}");
@@ -180,6 +189,39 @@ fn words_of_check(rt: HostRuntime) -> Result<(), Fail> {
     ] {
         let found = asked_by(rt.alloc(), line)?;
         assert!(rt; found == Some((strategy, budget)), "{line}");
+    }
+    Ok(())
+}
+
+/// The form that a call asks for, where it is one of `explain`.
+fn form_asked(request: Request<'_>) -> Option<FormatWord> {
+    match request.command {
+        Command::Explain { format } => Some(format),
+        _ => None,
+    }
+}
+
+/// The same of words, and nothing where they are no call.
+fn form_by(alloc: Global, line: &str) -> Result<Option<FormatWord>, Fail> {
+    let words = words(alloc, line)?;
+    match words_of(alloc, words.as_slice())? {
+        Some(Words::Request(request)) => Ok(form_asked(request)),
+        Some(Words::Shown(_text)) => Ok(None),
+        None => Ok(None),
+    }
+}
+
+#[test]
+fn words_of_explain(rt: HostRuntime) -> Result<(), Fail> {
+    for (line, form) in [
+        ("cobra_poly explain log", FormatWord::Text),
+        ("cobra_poly explain --format text", FormatWord::Text),
+        (
+            "cobra_poly explain --format dot --budget 3",
+            FormatWord::Dot,
+        ),
+    ] {
+        assert!(rt; form_by(rt.alloc(), line)? == Some(form), "{line}");
     }
     Ok(())
 }
