@@ -1,4 +1,3 @@
-ghost use Rattle.std.specs.Prelude.{IfOk};
 ghost use Rattle.reduction.specs.Chained.{HasItsOrders};
 
 use branch_search::{
@@ -14,7 +13,6 @@ use prune_ledger::Reduced;
 use pruning_laws::Side;
 use reduction::{Reduction, reduce};
 use session_history::History;
-use session_log::LogFault;
 use std::alloc::Global;
 use std::process::Abort;
 use std::sync::Wait;
@@ -36,49 +34,48 @@ const SIX_WRITERS: &str = "session 1\nbegin\nw x 1\ncommit\nsession 2\nbegin\nw 
     session 3\nbegin\nw x 3\ncommit\nsession 4\nbegin\nw x 4\ncommit\n\
     session 5\nbegin\nw x 5\ncommit\nsession 6\nbegin\nw x 6\ncommit\n";
 
-fn read<R: Threads + Wait + Clock + Sync>(
-    rt: &R,
-    alloc: Global,
-    log: &str,
-) -> Result<History, LogFault> {
-    let workers = Workers::new(1).ok_or(LogFault::Memory)?;
-    let (version, sessions) = collect(rt, alloc, log.as_bytes(), workers, &OpenGate)?;
+// The history of a log.
+fn read<R: Threads + Wait + Clock + Abort + Sync>(rt: &R, alloc: Global, log: &str) -> History {
+    let workers = Workers::new(1).expect(rt, "a worker");
+    let read = collect(rt, alloc, log.as_bytes(), workers, &OpenGate).ok();
+    let (version, sessions) = read.expect(rt, "a log");
     History::build(alloc, version, sessions)
+        .ok()
+        .expect(rt, "a history")
 }
 
 // What pruning leaves of a history's polygraph.
-fn reduced_of<R: Threads + Wait + Clock + Sync>(
+fn reduced_of<R: Threads + Wait + Clock + Abort + Sync>(
     rt: &R,
     alloc: Global,
     history: &History,
-) -> Result<Reduced, Fail>
-    ensures orders { IfOk result (λ reduced. HasItsOrders history.now reduced.poly) }
+) -> Reduced
+    ensures orders { HasItsOrders history.now result.poly }
 {
-    let workers = Workers::new(1).ok_or("a worker")?;
+    let workers = Workers::new(1).expect(rt, "a worker");
     match reduce(rt, alloc, history, workers, &OpenGate) {
-        Ok(Reduction::Open { reduced, .. }) => Ok(reduced),
-        _ => Err("nothing is left open")?,
+        Ok(Reduction::Open { reduced, .. }) => reduced,
+        _ => panic!(rt; "nothing is left open"),
     }
 }
 
 // The tree that a search of the eight transactions ends with.
-fn tree_of_eight<S: Strategy, G: Gate, R: Threads + Wait + Clock + Sync>(
+fn tree_of_eight<S: Strategy, G: Gate, R: Threads + Wait + Clock + Abort + Sync>(
     rt: &R,
     alloc: Global,
     strategy: &S,
     workers: u8,
     gate: &G,
-) -> Result<Tree, Fail> {
-    let history = read(rt, alloc, EIGHT)?;
-    let reduced = reduced_of(rt, alloc, &history)?;
-    let workers = Workers::new(workers).ok_or("workers")?;
-    let budget = Budget::new(7).ok_or("a budget")?;
-    let answer = search(
+) -> Tree {
+    let history = read(rt, alloc, EIGHT);
+    let reduced = reduced_of(rt, alloc, &history);
+    let workers = Workers::new(workers).expect(rt, "workers");
+    let budget = Budget::new(7).expect(rt, "a budget");
+    match search(
         rt, alloc, &history, &reduced, strategy, workers, budget, gate,
-    )?;
-    match answer {
-        Answer::No(tree) => Ok(tree),
-        Answer::Yes(_) | Answer::Unknown { closed: _ } => Err("not refuted")?,
+    ) {
+        Ok(Answer::No(tree)) => tree,
+        _ => panic!(rt; "not refuted"),
     }
 }
 
@@ -93,29 +90,21 @@ fn leaf_count(tree: &Tree) -> usize {
 }
 
 #[test]
-fn seven_nodes_refute_every_cube(rt: HostRuntime) -> Result<(), Fail> {
+fn seven_nodes_refute_every_cube(rt: HostRuntime) {
     let alloc = rt.alloc();
-    let history = read(&rt, alloc, EIGHT)?;
-    let reduced = reduced_of(&rt, alloc, &history)?;
+    let history = read(&rt, alloc, EIGHT);
+    let reduced = reduced_of(&rt, alloc, &history);
     for workers in [1, 2, 16] {
-        let tree = tree_of_eight(&rt, alloc, &FirstOpen, workers, &OpenGate)?;
+        let tree = tree_of_eight(&rt, alloc, &FirstOpen, workers, &OpenGate);
         assert_eq!(rt; tree.nodes().len(), 7);
         assert_eq!(rt; leaf_count(&tree), 4);
         assert!(rt; check_tree(reduced.poly(), &tree));
     }
-    Ok(())
 }
 
-// These nodes are no tree that shows that no order fits; they are given back.
-fn see_no_tree(rt: &impl Abort, reduced: &Reduced, nodes: Vec<TreeNode>) -> Vec<TreeNode> {
-    let tree = Tree::from_nodes(nodes);
-    assert!(rt; !check_tree(reduced.poly(), &tree));
-    tree.into_nodes()
-}
-
-// The cycle of a leaf, or nothing.
-fn cycle_of(rt: &impl Abort, alloc: Global, node: &TreeNode) -> NodeLine {
-    match &node.growth {
+// The cycle of the last node, or nothing where that is no leaf.
+fn last_cycle(rt: &impl Abort, alloc: Global, nodes: &[TreeNode]) -> NodeLine {
+    match &nodes.last().expect(rt, "a node").growth {
         Growth::Leaf(line) => {
             NodeLine::from_nodes(line.nodes().to_vec(alloc).expect(rt, "memory"))
         }
@@ -123,60 +112,87 @@ fn cycle_of(rt: &impl Abort, alloc: Global, node: &TreeNode) -> NodeLine {
     }
 }
 
-// The last two nodes are leaves. The last one is taken away, then put back with the cycle of the other, then with its own but by
-// the other side.
-#[test]
-fn changed_trees_show_nothing(rt: HostRuntime) -> Result<(), Fail> {
-    let alloc = rt.alloc();
-    let history = read(&rt, alloc, EIGHT)?;
-    let reduced = reduced_of(&rt, alloc, &history)?;
-    see_no_tree(&rt, &reduced, Vec::new(alloc));
-    let mut nodes = tree_of_eight(&rt, alloc, &FirstOpen, 1, &OpenGate)?.into_nodes();
-    let mut last = nodes.pop().ok_or("a node")?;
-    let own = cycle_of(&rt, alloc, &last);
-    let mut nodes = see_no_tree(&rt, &reduced, nodes);
-    let other = cycle_of(&rt, alloc, nodes.last().ok_or("a node")?);
-    last.growth = Growth::Leaf(other);
-    nodes.push(last)?;
-    let mut nodes = see_no_tree(&rt, &reduced, nodes);
-    let mut last = nodes.pop().ok_or("a node")?;
-    let Decision { choice, side: _ } = last.decision.ok_or("a decision")?;
+// The last two nodes are leaves: the last one with the cycle of the other.
+fn with_another_cycle(rt: &impl Abort, alloc: Global, mut nodes: Vec<TreeNode>) -> Vec<TreeNode> {
+    let mut last = nodes.pop().expect(rt, "a node");
+    last.growth = Growth::Leaf(last_cycle(rt, alloc, &nodes));
+    nodes.push(last).expect(rt, "memory");
+    nodes
+}
+
+// The last node by the side of the other.
+fn with_another_side(rt: &impl Abort, mut nodes: Vec<TreeNode>) -> Vec<TreeNode> {
+    let mut last = nodes.pop().expect(rt, "a node");
+    let Decision { choice, side: _ } = last.decision.expect(rt, "a decision");
     let side = Side::One;
     last.decision = Some(Decision { choice, side });
-    last.growth = Growth::Leaf(own);
-    nodes.push(last)?;
-    see_no_tree(&rt, &reduced, nodes);
-    Ok(())
+    nodes.push(last).expect(rt, "memory");
+    nodes
+}
+
+fn without_the_last(mut nodes: Vec<TreeNode>) -> Vec<TreeNode> {
+    nodes.pop();
+    nodes
+}
+
+// The tree of the eight transactions with its last leaf changed.
+fn changed_tree<R: Threads + Wait + Clock + Abort + Sync>(
+    rt: &R,
+    alloc: Global,
+    change: u8,
+) -> Tree {
+    let nodes = tree_of_eight(rt, alloc, &FirstOpen, 1, &OpenGate).into_nodes();
+    Tree::from_nodes(match change {
+        0 => without_the_last(nodes),
+        1 => with_another_cycle(rt, alloc, nodes),
+        2 => with_another_side(rt, nodes),
+        _ => Vec::new(alloc),
+    })
+}
+
+#[test]
+fn changed_trees_show_nothing(rt: HostRuntime) {
+    let alloc = rt.alloc();
+    let history = read(&rt, alloc, EIGHT);
+    let reduced = reduced_of(&rt, alloc, &history);
+    for change in 0..4 {
+        let tree = changed_tree(&rt, alloc, change);
+        assert!(rt; !check_tree(reduced.poly(), &tree), "{change}");
+    }
+}
+
+// Whether a search by so many workers finds an order of the six writers that replays.
+fn orders_six<R: Threads + Wait + Clock + Abort + Sync>(
+    rt: &R,
+    alloc: Global,
+    workers: u8,
+) -> bool {
+    let history = read(rt, alloc, SIX_WRITERS);
+    let reduced = reduced_of(rt, alloc, &history);
+    let workers = Workers::new(workers).expect(rt, "workers");
+    let budget = Budget::new(10_000).expect(rt, "a budget");
+    match search(
+        rt, alloc, &history, &reduced, &FirstOpen, workers, budget, &OpenGate,
+    ) {
+        Ok(Answer::Yes(order)) => replay(alloc, &history, &order).is_ok(),
+        _ => false,
+    }
 }
 
 // Fifteen choices are open, and a budget of many fewer cubes than there are suffices.
 #[test]
-fn orders_are_replayed(rt: HostRuntime) -> Result<(), Fail> {
-    let alloc = rt.alloc();
-    let history = read(&rt, alloc, SIX_WRITERS)?;
-    let reduced = reduced_of(&rt, alloc, &history)?;
-    let budget = Budget::new(10_000).ok_or("a budget")?;
-    for count in [1, 4] {
-        let workers = Workers::new(count).ok_or("workers")?;
-        let answer = search(
-            &rt, alloc, &history, &reduced, &FirstOpen, workers, budget, &OpenGate,
-        )?;
-        match answer {
-            Answer::Yes(order) => assert!(rt; replay(alloc, &history, &order).is_ok()),
-            Answer::No(_) | Answer::Unknown { closed: _ } => Err("no order")?,
-        }
-    }
-    Ok(())
+fn orders_are_replayed(rt: HostRuntime) {
+    assert!(rt; orders_six(&rt, rt.alloc(), 1));
+    assert!(rt; orders_six(&rt, rt.alloc(), 4));
 }
 
 #[test]
-fn strategies_in_turn(rt: HostRuntime) -> Result<(), Fail> {
+fn strategies_in_turn(rt: HostRuntime) {
     let alloc = rt.alloc();
-    let words = Vec::from_array(alloc, [5, 2, 7])?;
+    let words = Vec::from_array(alloc, [5, 2, 7]).expect(&rt, "memory");
     let strategy = Alternate::new(MostEdges, ByWords::new(words));
-    let tree = tree_of_eight(&rt, alloc, &strategy, 2, &OpenGate)?;
+    let tree = tree_of_eight(&rt, alloc, &strategy, 2, &OpenGate);
     assert_eq!(rt; tree.nodes().len(), 7);
-    Ok(())
 }
 
 // Holds a seat at its first turn 0 until the other has once come to a turn 1, and counts turns.
@@ -226,15 +242,13 @@ fn gate_holding(held: u8) -> Holding {
 }
 
 #[test]
-fn each_of_two_workers_takes_turns(rt: HostRuntime) -> Result<(), Fail> {
-    let alloc = rt.alloc();
+fn each_of_two_workers_takes_turns(rt: HostRuntime) {
     for held in [1, 2] {
         let gate = gate_holding(held);
-        tree_of_eight(&rt, alloc, &FirstOpen, 2, &gate)?;
+        tree_of_eight(&rt, rt.alloc(), &FirstOpen, 2, &gate);
         assert!(rt; !gate.missed.load(Ordering::SeqCst));
         assert!(rt; gate.turns.load(Ordering::SeqCst) >= 7);
     }
-    Ok(())
 }
 
 // Picks the first open choice, and at depth 1 waits until a second such pick has begun.
@@ -287,12 +301,11 @@ impl Strategy for Meeting {
 }
 
 #[test]
-fn two_workers_pick_at_once(rt: HostRuntime) -> Result<(), Fail> {
+fn two_workers_pick_at_once(rt: HostRuntime) {
     let strategy = Meeting {
         begun: AtomicU64::new(0),
         missed: AtomicBool::new(false),
     };
-    tree_of_eight(&rt, rt.alloc(), &strategy, 2, &OpenGate)?;
+    tree_of_eight(&rt, rt.alloc(), &strategy, 2, &OpenGate);
     assert!(rt; !strategy.missed.load(Ordering::SeqCst));
-    Ok(())
 }
