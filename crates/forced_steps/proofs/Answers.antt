@@ -59,7 +59,7 @@ answer_of ss a b None h f l n = n
 answer_of ss a b (Some r) h f l n = record { holds = h; first = f; least = l }
 
 -- a reason is one
-reason_not_none : (ss : List ClientSession) (a b : ℕ) (r : Reason) → IsReason ss a b r → HaveNone ss a b → ⊥
+pub reason_not_none : (ss : List ClientSession) (a b : ℕ) (r : Reason) → IsReason ss a b r → HaveNone ss a b → ⊥
 reason_not_none ss a b reason.Session h none = none.session h
 reason_not_none ss a b (reason.Read i j) h none = none.read i j h
 reason_not_none ss a b (reason.Overwritten i j) h none = none.overwritten i j h

@@ -14,6 +14,7 @@ use Rattle.chain_laws.specs.Chains.{chain_polygraph}
 use Rattle.log_definitions.specs.Numbers.{log_of}
 use Rattle.reasons.specs.Given.{HaveNone}
 use Rattle.prune_ledger.specs.Ledger.{edges_after}
+use Rattle.prune_ledger.specs.Posted.{Posted}
 use Rattle.prune_ledger.specs.Pruned.{posts_in}
 use Rattle.prune_ledger.specs.Pruned as pruned
 use Rattle.prune_ledger.specs.declared.ledger.LedgerEntry.{LedgerEntry}
@@ -81,7 +82,7 @@ orders_told ss [] [] none = All-nil (IsOrder (log_of ss))
 orders_told ss all whole (step steps items told o two u v refuted inner against line) = All-push (IsOrder (log_of ss)) steps o (orders_told ss steps items told) two
 
 -- ---- what the lines need stands in steps
-module _ (ss : List ClientSession) (entries : List LedgerEntry) (marked : List Bool) (numbers : List ℕ) (steps : List ChainOrder) (items : List Item) (clean : IsClean (log_of ss)) where
+module _ (ss : List ClientSession) (entries : List LedgerEntry) (posts : List Posted) (marked : List Bool) (numbers : List ℕ) (steps : List ChainOrder) (items : List Item) (clean : IsClean (log_of ss)) where
   abbrev K : List ChainOrder
   K = kept_by ss entries
 
@@ -98,7 +99,7 @@ module _ (ss : List ClientSession) (entries : List LedgerEntry) (marked : List B
         kept = subst (λ n. HasSide (sides_of ss K) n (e.0, e.1)) (sym sides) (r.kept have);
       }
 
-  has_step : AreTold ss K marked numbers steps (length K) items → (e : Edge) → marks.IsMarked (sides_of ss K) marked e → OneHas ss steps e
+  has_step : AreTold ss K posts marked numbers steps (length K) items → (e : Edge) → marks.IsMarked (sides_of ss K) marked e → OneHas ss steps e
   has_step t e m =
       let log = log_of ss in
       let sides : length (sides_of ss K) ≡ length K = length-map K (edges_in log) in
@@ -112,7 +113,7 @@ module _ (ss : List ClientSession) (entries : List LedgerEntry) (marked : List B
         has = subst P side m.first.within;
       }
 
-  line_covered : AreTold ss K marked numbers steps (length K) items → (line : List ℕ) → marks.IsCovered ss (sides_of ss K) marked line (length line) → IsCovered (record { sessions = ss; entries = entries; orders = steps }) line
+  line_covered : AreTold ss K posts marked numbers steps (length K) items → (line : List ℕ) → marks.IsCovered ss (sides_of ss K) marked line (length line) → IsCovered (record { sessions = ss; entries = entries; orders = steps }) line
   line_covered t line h = record {
     each = λ e at lo c have.
         (let i = length at.front in
@@ -125,7 +126,7 @@ module _ (ss : List ClientSession) (entries : List LedgerEntry) (marked : List B
         has_step t e (here (unshown e lo c have)));
   }
 
-  pub lines_covered : AreTold ss K marked numbers steps (length K) items → (lines : List (Bor (List ℕ))) → All (λ (l : Bor (List ℕ)). marks.IsCovered ss (sides_of ss K) marked l.now (length l.now)) lines
+  pub lines_covered : AreTold ss K posts marked numbers steps (length K) items → (lines : List (Bor (List ℕ))) → All (λ (l : Bor (List ℕ)). marks.IsCovered ss (sides_of ss K) marked l.now (length l.now)) lines
       → All (λ (l : Bor (List ℕ)). IsCovered (record { sessions = ss; entries = entries; orders = steps }) l.now) lines
   lines_covered t lines h = All-weaker (λ (l : Bor (List ℕ)). marks.IsCovered ss (sides_of ss K) marked l.now (length l.now)) (λ (l : Bor (List ℕ)). IsCovered (record { sessions = ss; entries = entries; orders = steps }) l.now)
       (λ l c. line_covered t l.now c) lines h
@@ -156,15 +157,15 @@ no_step ss steps e n = record {
       n.none r.0 (edges_in log o) (map_get (edges_in log) steps r.0 o r.1) c);
 }
 
-pub steps_covered : (ss : List ClientSession) (entries : List LedgerEntry) (kept : List ChainOrder) (marked : List Bool) (numbers : List ℕ) (steps orders : List ChainOrder) (items : List Item) → IsClean (log_of ss) → kept ≡ kept_by ss entries → orders ≡ steps
-    → AreTold ss kept marked numbers steps (length kept) items → (lines : List (Bor (List ℕ))) → All (λ (l : Bor (List ℕ)). marks.IsCovered ss (sides_of ss kept) marked l.now (length l.now)) lines
+pub steps_covered : (ss : List ClientSession) (entries : List LedgerEntry) (kept : List ChainOrder) (posts : List Posted) (marked : List Bool) (numbers : List ℕ) (steps orders : List ChainOrder) (items : List Item) → IsClean (log_of ss) → kept ≡ kept_by ss entries → orders ≡ steps
+    → AreTold ss kept posts marked numbers steps (length kept) items → (lines : List (Bor (List ℕ))) → All (λ (l : Bor (List ℕ)). marks.IsCovered ss (sides_of ss kept) marked l.now (length l.now)) lines
     → All (λ (l : Bor (List ℕ)). IsCovered (record { sessions = ss; entries = entries; orders = orders }) l.now) lines
-steps_covered ss entries kept marked numbers steps orders items clean e same t lines h =
-    let told : AreTold ss (kept_by ss entries) marked numbers steps (length (kept_by ss entries)) items = subst (λ k. AreTold ss k marked numbers steps (length k) items) e t in
+steps_covered ss entries kept posts marked numbers steps orders items clean e same t lines h =
+    let told : AreTold ss (kept_by ss entries) posts marked numbers steps (length (kept_by ss entries)) items = subst (λ k. AreTold ss k posts marked numbers steps (length k) items) e t in
     let covered : All (λ (l : Bor (List ℕ)). marks.IsCovered ss (sides_of ss (kept_by ss entries)) marked l.now (length l.now)) lines =
     subst (λ k. All (λ (l : Bor (List ℕ)). marks.IsCovered ss (sides_of ss k) marked l.now (length l.now)) lines) e h in
     let P : List ChainOrder → Type 0 = λ os. All (λ (l : Bor (List ℕ)). IsCovered (record { sessions = ss; entries = entries; orders = os }) l.now) lines in
-    subst P (sym same) (lines_covered ss entries marked numbers steps items clean told lines covered)
+    subst P (sym same) (lines_covered ss entries posts marked numbers steps items clean told lines covered)
 
 -- ---- lines over what steps and decided orders have
 step_at : (line : List ℕ) (i : ℕ) → i + 1 < length line → IsStepOf line (get_or line i 0, get_or line (i + 1) 0)

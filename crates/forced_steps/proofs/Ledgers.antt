@@ -276,7 +276,7 @@ edge_rests ss p g posts qs bound below a b c h = record {
 given_of : (ss : List ClientSession) (entries : List LedgerEntry) → IsClean (log_of ss) → (d : AreEntries ss entries) → Given ss d.poly
 given_of ss entries clean d = record { clean = clean; known = d.known; choices = d.choices }
 
-posts_many : (entries : List LedgerEntry) → length (posts_in entries) ≡ length entries
+pub posts_many : (entries : List LedgerEntry) → length (posts_in entries) ≡ length entries
 posts_many [] = refl
 posts_many (x ∷ es) = ap suc (posts_many es)
 

@@ -65,7 +65,13 @@ pub data IsCycleTold (ss : List ClientSession) (steps decided : List ChainOrder)
   closes : (start : ℕ) (inner : List ℕ) (items : List Item) → IsLineTold ss steps decided (start ∷ (inner ++ start ∷ [])) items →
       IsCycleTold ss steps decided (item.Cycle start (length inner + 1) ∷ items)
 
--- steps that end in a cycle
+-- an edge is told that stands by step k, from 0
+pub record IsNamed (items : List Item) (k : ℕ) : Type 0 where
+  pub first : ℕ
+  pub second : ℕ
+  pub among : Contains items (item.Edge first second (Forced k))
+
+-- steps that end in a cycle, each of which is needed: an edge of the cycle or of a later step's walk stands by it
 pub record IsDeadTold (ss : List ClientSession) (items : List Item) : Type 0 where
   pub steps : List ChainOrder
   pub before : List Item
@@ -73,3 +79,4 @@ pub record IsDeadTold (ss : List ClientSession) (items : List Item) : Type 0 whe
   pub told : AreStepsTold ss steps before
   pub cycle : IsCycleTold ss steps [] round
   pub whole : items ≡ before ++ round
+  pub needed : (k : ℕ) → k < length steps → IsNamed items k

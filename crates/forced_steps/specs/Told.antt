@@ -1,5 +1,6 @@
 -- What is told of lines and steps.
 use Rattle.std.specs.Prelude.{◌≡◌, ℕ, ◌+◌, ◌<◌, List, [], ◌∷◌, ◌++◌, length, drop, Bool, true, Some, slice_get, slice_index}
+use Rattle.std.specs.List.{Contains}
 use Rattle.session_log.specs.Text.{ClientSession}
 use Rattle.serializability.specs.Polygraph.{Edge}
 use Rattle.log_definitions.specs.Numbers.{log_of}
@@ -7,11 +8,13 @@ use Rattle.reasons.specs.Given.{HaveNone}
 use Rattle.prune_ledger.specs.Posted.{Posted}
 use Rattle.explanations.specs.declared.why.ChainOrder.{ChainOrder}
 use Rattle.explanations.specs.declared.why.Why.{Why}
+use Rattle.explanations.specs.declared.why.Why.TheVariants.{Forced}
 use Rattle.forced_steps.specs.declared.item.Item.{Item}
 use Rattle.forced_steps.specs.declared.item.Item.TheVariants as item
 use Rattle.forced_steps.specs.Steps.{IsFirstWith, IsWhy, IsLineTold, AreStepsTold}
 use Rattle.forced_steps.specs.Firsts.{IsFirstIn}
-use Rattle.forced_steps.specs.Marks.{is_set}
+use Rattle.forced_steps.specs.Lines.{sides_of}
+use Rattle.forced_steps.specs.Marks.{is_set, IsFirstUnshown}
 
 -- the first entry that keeps the edge, where the log shows no reason, is the step with its number
 pub record EdgeNumbered (ss : List ClientSession) (sides : List (List Edge)) (numbers : List ℕ) (steps : List ChainOrder) (a b : ℕ) : Type 0 where
@@ -75,8 +78,26 @@ pub record IsNumberOf (kept steps : List ChainOrder) (k r : ℕ) : Type 0 where
   pub stands : slice_get steps r ≡ Some order
   pub earlier : (s : ℕ) (o : ChainOrder) → s < r → slice_get steps s ≡ Some o → IsKeptBefore kept k o
 
--- the marked ones of the first so many entries are told, as these steps
-pub record AreTold (ss : List ClientSession) (kept : List ChainOrder) (marks : List Bool) (numbers : List ℕ) (steps : List ChainOrder) (entries : ℕ) (items : List Item) : Type 0 where
+-- the step is that of a marked one of the first so many entries
+pub record IsOfMarked (marks : List Bool) (numbers : List ℕ) (entries s : ℕ) : Type 0 where
+  pub entry : ℕ
+  pub below : entry < entries
+  pub marked : is_set marks entry ≡ true
+  pub number : slice_index numbers entry ≡ s
+
+-- entry k is one of the first so many, and an item tells that the edge stands by its step
+pub record IsEdgeNamed (numbers : List ℕ) (entries a b k : ℕ) (items : List Item) : Type 0 where
+  pub below : k < entries
+  pub among : Contains items (item.Edge a b (Forced (slice_index numbers k)))
+
+-- each edge of the line of which the log shows no reason is told, with the first entry that keeps it
+pub record IsLineNamed (ss : List ClientSession) (sides : List (List Edge)) (numbers : List ℕ) (entries : ℕ) (line : List ℕ) (items : List Item) : Type 0 where
+  pub each : (i : ℕ) → i + 1 < length line → (k : ℕ) → IsFirstUnshown ss sides (slice_index line i) (slice_index line (i + 1)) k → IsEdgeNamed numbers entries (slice_index line i) (slice_index line (i + 1)) k items
+
+-- the marked ones of the first so many entries are told, as these steps, and no others; the entries have these posts
+pub record AreTold (ss : List ClientSession) (kept : List ChainOrder) (posts : List Posted) (marks : List Bool) (numbers : List ℕ) (steps : List ChainOrder) (entries : ℕ) (items : List Item) : Type 0 where
   pub told : AreStepsTold ss steps items
   pub from : (s : ℕ) (o : ChainOrder) → slice_get steps s ≡ Some o → IsKeptBefore kept entries o
   pub numbered : (k : ℕ) → k < entries → is_set marks k ≡ true → IsNumberOf kept steps k (slice_index numbers k)
+  pub only : (s : ℕ) → s < length steps → IsOfMarked marks numbers entries s
+  pub walks : (k : ℕ) (q : Posted) → k < entries → slice_get posts k ≡ Some q → is_set marks k ≡ true → IsLineNamed ss (sides_of ss kept) numbers entries q.walk items

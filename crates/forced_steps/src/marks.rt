@@ -102,6 +102,8 @@ fn mark_walks(
     ensures covered { spec.AreCovered history.now (sides_of history.now grounds.now.kept.items)
         marks.new entries.now (length entries.now) }
     ensures more { spec.AreMore marks.old marks.new }
+    ensures only { spec.AreNoOthers marks.old marks.new (spec.IsNeededByWalk history.now
+        (sides_of history.now grounds.now.kept.items) marks.new entries.now) }
 {
     for done in 0..entries.len() {
         let entry = entries.len() - 1 - done;
@@ -127,14 +129,16 @@ fn mark_lines(
         (sides_of history.now grounds.now.kept.items) marks.new line.now (length line.now))
         lines.now }
     ensures more { spec.AreMore marks.old marks.new }
+    ensures only { spec.AreNoOthers marks.old marks.new (spec.IsNeededByLine history.now
+        (sides_of history.now grounds.now.kept.items) lines.now) }
 {
     for line in lines {
         mark_line(marks, grounds, answers, history, line);
     }
 }
 
-/// The marks of the entries that these lines need: the first that keeps each of their edges which the log does not show, and those that
-/// the walks of marked ones need in turn.
+/// The marks of the entries that these lines need, and of no others: the first that keeps each of their edges which the log does not
+/// show, and those that the walks of marked ones need in turn.
 pub fn needed_entries(
     alloc: Global,
     grounds: &Grounds,
@@ -157,6 +161,8 @@ pub fn needed_entries(
     ensures walks { IfOk result (λ marks. spec.AreCovered history.now
         (sides_of history.now grounds.now.kept.items) marks.items entries.now
         (length entries.now)) }
+    ensures only { IfOk result (λ marks. spec.AreNeeded history.now
+        (sides_of history.now grounds.now.kept.items) marks.items entries.now lines.now) }
 {
     let mut table = vec![in alloc; false; entries.len()]?;
     let marks = table.as_mut_slice();

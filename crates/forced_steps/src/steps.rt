@@ -1,8 +1,10 @@
 //! The steps of a ledger: its marked entries, one behind the other.
 
-ghost use Rattle.std.specs.Prelude.{◌≡◌, ◌+◌, ◌<◌, Some, true, length, slice_get, IfOk, OnOk};
+ghost use Rattle.std.specs.Prelude.{◌≡◌, ◌+◌, ◌<◌, List, Some, true, length, slice_get, IfOk, OnOk};
 ghost use Rattle.serializability.specs.Reads.{IsClean};
 ghost use Rattle.log_definitions.specs.Numbers.{log_of};
+ghost use Rattle.prune_ledger.specs.Posted.{Posted};
+ghost use Rattle.prune_ledger.specs.Pruned.{posts_in};
 ghost use Rattle.forced_steps.specs.Lines.{sides_of, AreAnswers, AreGrounds};
 ghost use Rattle.forced_steps.specs.Marks.{is_set, IsCovered, AreCovered};
 ghost use Rattle.forced_steps.specs.Ledgers.{IsStep, AreSteps};
@@ -82,10 +84,11 @@ fn put_if_marked(
         (length post.now.walk) }
     ensures answers { AreAnswers history.now answers.new }
     ensures numbers { length numbers.new ≡ length numbers.old }
-    ensures told { OnOk result (spec.AreTold history.now grounds.now.kept.items marks.now
-        numbers.old orders.old.items entry items.old.items →
-        spec.AreTold history.now grounds.now.kept.items marks.now numbers.new orders.new.items
-        (entry + 1) items.new.items) }
+    ensures told { OnOk result ((posts : List Posted) → slice_get posts entry ≡ Some post.now →
+        spec.AreTold history.now grounds.now.kept.items posts marks.now numbers.old
+        orders.old.items entry items.old.items →
+        spec.AreTold history.now grounds.now.kept.items posts marks.now numbers.new
+        orders.new.items (entry + 1) items.new.items) }
 {
     let needed = marks[entry];
     if needed {
@@ -127,8 +130,9 @@ pub fn told_steps(
     ensures answers { AreAnswers history.now answers.new }
     ensures numbers { IfOk result (λ told.
         length told.numbers.items ≡ length grounds.now.kept.items) }
-    ensures told { IfOk result (λ told. spec.AreTold history.now grounds.now.kept.items marks.now
-        told.numbers.items told.orders.items (length grounds.now.kept.items) told.items.items) }
+    ensures told { IfOk result (λ told. spec.AreTold history.now grounds.now.kept.items
+        (posts_in entries.now) marks.now told.numbers.items told.orders.items
+        (length grounds.now.kept.items) told.items.items) }
 {
     let mut items: Vec<Item> = Vec::new(alloc);
     let mut orders = Vec::new(alloc);

@@ -1,6 +1,7 @@
 use Rattle.std.proofs.Common.{ℕ, List, Bool, length, sym, subst, Bor}
 use Rattle.std.specs.List.{All}
 use Rattle.log_definitions.specs.Numbers.{log_of}
+use Rattle.prune_ledger.specs.Pruned.{posts_in}
 use Rattle.forced_steps.specs.Steps.{IsOrder}
 use Rattle.forced_steps.specs.Lines.{sides_of}
 use Rattle.forced_steps.specs.Marks as marks
@@ -38,4 +39,4 @@ returns-clause-covered c =
     let lines = c.args.lines.now in
     let P : List Bool → Type 0 = λ ms. All (λ (l : Bor (List ℕ)). marks.IsCovered ss (sides_of ss kept) ms l.now (length l.now)) lines in
     let covered : P marked = subst P (sym c.deref.ensures.value) c.in_ok-marks.ensures.lines in
-    steps_covered ss c.args.entries.now kept marked told.numbers.items told.orders.items c.in_ok-firsts.firsts.kept.items told.items.items c.requires.clean c.in_ok-grounds.ensures.kept c.in_ok-firsts.ensures.kept c.in_ok-told.ensures.told lines covered
+    steps_covered ss c.args.entries.now kept (posts_in c.args.entries.now) marked told.numbers.items told.orders.items c.in_ok-firsts.firsts.kept.items told.items.items c.requires.clean c.in_ok-grounds.ensures.kept c.in_ok-firsts.ensures.kept c.in_ok-told.ensures.told lines covered

@@ -3,7 +3,7 @@ use Rattle.std.specs.List.{All}
 use Rattle.std.proofs.lemmas.List.{take_all}
 use Rattle.forced_steps.specs.Lines.{sides_of}
 use Rattle.forced_steps.specs.Marks.{IsCovered}
-use Rattle.forced_steps.proofs.Marking.{more_joined, lines_next}
+use Rattle.forced_steps.proofs.Marking.{more_joined, lines_next, lines_only}
 use Rattle.forced_steps.proofs.marks.mark_lines.Goals as goal
 
 pub loop-line-preserved : goal.loop-line-preserved
@@ -16,6 +16,7 @@ loop-line-preserved c =
       answers = c.mark_line.ensures.answers;
       covered = lines_next ss sides old new c.args.lines.now c.loop-line.line-index c.line-item.result c.loop-line-test.true c.line-item.is c.mark_line.ensures.marked c.loop-line.invariant.covered;
       more = more_joined c.args.marks.now old new c.loop-line.invariant.more c.mark_line.ensures.marked.more;
+      only = lines_only ss sides c.args.marks.now old new c.args.lines.now c.loop-line.line-index c.line-item.result c.loop-line-test.true c.line-item.is c.mark_line.ensures.marked c.loop-line.invariant.only;
     }
 
 pub returns-clause-covered : goal.returns-clause-covered

@@ -1,7 +1,7 @@
 use Rattle.std.proofs.Common.{length, take}
 use Rattle.std.specs.List.{All}
 use Rattle.forced_steps.specs.Lines.{AreAnswers, sides_of}
-use Rattle.forced_steps.specs.Marks.{IsCovered, AreMore}
+use Rattle.forced_steps.specs.Marks.{IsCovered, AreMore, AreNoOthers, IsNeededByLine}
 use Rattle.forced_steps.proofs.marks.mark_lines.Given as goal
 
 abbrev pub invariant-loop-line : goal.invariant-loop-line
@@ -9,4 +9,5 @@ invariant-loop-line l = record {
   answers : AreAnswers l.history l.answers;
   covered : All (λ line. IsCovered l.history (sides_of l.history l.grounds.kept.items) l.marks line.now (length line.now)) (take l.line-index l.lines);
   more : AreMore l.initial.marks l.marks;
+  only : AreNoOthers l.initial.marks l.marks (IsNeededByLine l.history (sides_of l.history l.grounds.kept.items) l.lines);
 }

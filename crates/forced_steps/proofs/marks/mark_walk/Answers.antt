@@ -4,7 +4,7 @@ use Rattle.forced_steps.proofs.marks.mark_walk.Goals as goal
 
 pub returns-then-needed-clause-marked : goal.returns-then-needed-clause-marked
 returns-then-needed-clause-marked c =
-    walk_marked c.args.history.now (sides_of c.args.history.now c.args.grounds.now.kept.items) c.args.walk.now c.args.entry c.args.marks.now c.mark_line.new.marks c.requires.rests c.mark_line.ensures.marked
+    walk_marked c.args.history.now (sides_of c.args.history.now c.args.grounds.now.kept.items) c.args.walk.now c.args.entry c.args.marks.now c.mark_line.new.marks c.if-needed.true c.requires.rests c.mark_line.ensures.marked
 
 pub returns-else-needed-clause-marked : goal.returns-else-needed-clause-marked
 returns-else-needed-clause-marked c =

@@ -3,7 +3,7 @@ use Rattle.prune_ledger.specs.Posted.{Posted}
 use Rattle.prune_ledger.specs.declared.ledger.LedgerEntry.{LedgerEntry}
 use Rattle.forced_steps.specs.Lines.{sides_of, LineRests}
 use Rattle.forced_steps.specs.Marks.{IsWalkMarked}
-use Rattle.forced_steps.proofs.Marking.{walks_more, more_joined}
+use Rattle.forced_steps.proofs.Marking.{walks_more, walks_only, more_joined}
 use Rattle.forced_steps.proofs.Ledgers.{post_at}
 use Rattle.forced_steps.proofs.marks.mark_walks.Goals as goal
 
@@ -33,5 +33,6 @@ loop-done-preserved c =
       (
         walks_more ss sides entries c.loop-done.done i x.post c.loop-done.marks c.mark_walk.new.marks (post_at entries i x lt c.index-entries-entry.is) low w c.loop-done.invariant.1.0,
         more_joined c.args.marks.now c.loop-done.marks c.mark_walk.new.marks c.loop-done.invariant.1.1 w.more,
+        walks_only ss sides entries i x.post c.args.marks.now c.loop-done.marks c.mark_walk.new.marks (post_at entries i x lt c.index-entries-entry.is) w c.loop-done.invariant.1.2,
       ),
     )

@@ -1,6 +1,6 @@
 use Rattle.forced_steps.specs.Lines.{AreAnswers, sides_of}
-use Rattle.forced_steps.specs.Marks.{AreCovered, AreMore}
+use Rattle.forced_steps.specs.Marks.{AreCovered, AreMore, AreNoOthers, IsNeededByWalk}
 use Rattle.forced_steps.proofs.marks.mark_walks.Given as goal
 
 abbrev pub invariant-loop-done : goal.invariant-loop-done
-invariant-loop-done l = AreAnswers l.history l.answers × (AreCovered l.history (sides_of l.history l.grounds.kept.items) l.marks l.entries l.done × AreMore l.initial.marks l.marks)
+invariant-loop-done l = AreAnswers l.history l.answers × (AreCovered l.history (sides_of l.history l.grounds.kept.items) l.marks l.entries l.done × AreMore l.initial.marks l.marks × AreNoOthers l.initial.marks l.marks (IsNeededByWalk l.history (sides_of l.history l.grounds.kept.items) l.marks l.entries))

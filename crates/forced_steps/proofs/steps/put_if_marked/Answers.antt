@@ -6,11 +6,11 @@ use Rattle.forced_steps.proofs.Telling.{one_of, told_skip, told_step}
 use Rattle.forced_steps.proofs.steps.put_if_marked.Goals as goal
 
 pub returns-else-needed-clause-told : goal.returns-else-needed-clause-told
-returns-else-needed-clause-told c = λ t.
-    told_skip c.args.history.now c.args.grounds.now.kept.items c.args.marks.now c.args.numbers.now c.args.orders.now.items c.args.entry c.args.items.now.items c.if-needed.false t
+returns-else-needed-clause-told c = λ posts here t.
+    told_skip c.args.history.now c.args.grounds.now.kept.items posts c.args.marks.now c.args.numbers.now c.args.orders.now.items c.args.entry c.args.items.now.items c.if-needed.false t
 
 pub returns-in_ok-push-clause-told : goal.returns-in_ok-push-clause-told
-returns-in_ok-push-clause-told c = λ t.
+returns-in_ok-push-clause-told c = λ posts here t.
     let ss = c.args.history.now in
     let kept = c.args.grounds.now.kept.items in
     let marks = c.args.marks.now in
@@ -24,6 +24,6 @@ returns-in_ok-push-clause-told c = λ t.
     let again : slice_get kept i ≡ Some c.index.result.now = slice_get_read kept (length kept) i c.index.result.now refl c.requires.entry c.index.ensures in
     let pushed : steps ++ o ∷ [] ≡ c.push.new.self.items = ap (λ z. steps ++ z ∷ []) (one_of kept i o c.index.result.now at again) ∙ sym c.in_ok-push.ensures.items in
     let count : c.len-count.result ≡ length steps = omega (arith, c.len-count.ensures, c.args.orders.now.ok.0) in
-    let next : AreTold ss kept marks (set numbers i (length steps)) (steps ++ o ∷ []) (i + 1) new =
-    told_step ss kept marks numbers steps i (c.len-count.result + 1) o c.args.post.now c.args.items.now.items new (omega (arith, count)) room at c.requires.step (c.requires.covered c.if-needed.true) c.in_ok-put_step.ensures.put t in
-    subst (λ os. AreTold ss kept marks (set numbers i c.len-count.result) os (i + 1) new) pushed (subst (λ n. AreTold ss kept marks (set numbers i n) (steps ++ o ∷ []) (i + 1) new) (sym count) next)
+    let next : AreTold ss kept posts marks (set numbers i (length steps)) (steps ++ o ∷ []) (i + 1) new =
+    told_step ss kept posts marks numbers steps i (c.len-count.result + 1) o c.args.post.now c.args.items.now.items new (omega (arith, count)) room at here c.if-needed.true c.requires.step (c.requires.covered c.if-needed.true) c.in_ok-put_step.ensures.put t in
+    subst (λ os. AreTold ss kept posts marks (set numbers i c.len-count.result) os (i + 1) new) pushed (subst (λ n. AreTold ss kept posts marks (set numbers i n) (steps ++ o ∷ []) (i + 1) new) (sym count) next)

@@ -1,4 +1,5 @@
 use Rattle.std.proofs.Common.{◌≡◌, length}
+use Rattle.prune_ledger.specs.Pruned.{posts_in}
 use Rattle.forced_steps.specs.Lines.{AreAnswers}
 use Rattle.forced_steps.specs.Told.{AreTold}
 use Rattle.forced_steps.proofs.steps.told_steps.Given as goal
@@ -7,5 +8,5 @@ abbrev pub invariant-loop-entry : goal.invariant-loop-entry
 invariant-loop-entry l = record {
   answers : AreAnswers l.history l.answers;
   numbers : length l.numbers ≡ length l.grounds.kept.items;
-  told : AreTold l.history l.grounds.kept.items l.marks l.numbers l.orders.items l.entry l.items.items;
+  told : AreTold l.history l.grounds.kept.items (posts_in l.entries) l.marks l.numbers l.orders.items l.entry l.items.items;
 }
