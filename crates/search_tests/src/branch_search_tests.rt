@@ -13,6 +13,7 @@ use prune_ledger::Reduced;
 use pruning_laws::Side;
 use reduction::{Reduction, reduce};
 use session_history::History;
+use session_log::LogFault;
 use std::alloc::Global;
 use std::process::Abort;
 use std::sync::Wait;
@@ -34,14 +35,20 @@ const SIX_WRITERS: &str = "session 1\nbegin\nw x 1\ncommit\nsession 2\nbegin\nw 
     session 3\nbegin\nw x 3\ncommit\nsession 4\nbegin\nw x 4\ncommit\n\
     session 5\nbegin\nw x 5\ncommit\nsession 6\nbegin\nw x 6\ncommit\n";
 
-// The history of a log.
+fn read_by<R: Threads + Wait + Clock + Sync>(
+    rt: &R,
+    alloc: Global,
+    log: &[u8],
+    workers: Workers,
+) -> Result<History, LogFault> {
+    let (version, sessions) = collect(rt, alloc, log, workers, &OpenGate)?;
+    History::build(alloc, version, sessions)
+}
+
 fn read<R: Threads + Wait + Clock + Abort + Sync>(rt: &R, alloc: Global, log: &str) -> History {
     let workers = Workers::new(1).expect(rt, "a worker");
-    let read = collect(rt, alloc, log.as_bytes(), workers, &OpenGate).ok();
-    let (version, sessions) = read.expect(rt, "a log");
-    History::build(alloc, version, sessions)
-        .ok()
-        .expect(rt, "a history")
+    let history = read_by(rt, alloc, log.as_bytes(), workers).ok();
+    history.expect(rt, "a history")
 }
 
 // What pruning leaves of a history's polygraph.
