@@ -145,8 +145,8 @@ fn files_of_logs(rt: HostRuntime) -> Result<(), Fail> {
 }
 
 /// The strategy and the budget of a call, where it is one of `check`.
-fn asked(request: Request<'_>) -> Option<(StrategyWord, usize)> {
-    match request.command {
+fn asked(request: &Request<'_>) -> Option<(StrategyWord, usize)> {
+    match &request.command {
         Command::Check => Some((request.strategy, request.budget.get())),
         _ => None,
     }
@@ -156,7 +156,7 @@ fn asked(request: Request<'_>) -> Option<(StrategyWord, usize)> {
 fn asked_by(alloc: Global, line: &str) -> Result<Option<(StrategyWord, usize)>, Fail> {
     let words = words(alloc, line)?;
     match words_of(alloc, words.as_slice())? {
-        Some(Words::Request(request)) => Ok(asked(request)),
+        Some(Words::Request(request)) => Ok(asked(&request)),
         Some(Words::Shown(_text)) => Ok(None),
         None => Ok(None),
     }
@@ -194,9 +194,9 @@ fn words_of_check(rt: HostRuntime) -> Result<(), Fail> {
 }
 
 /// The form that a call asks for, where it is one of `explain`.
-fn form_asked(request: Request<'_>) -> Option<FormatWord> {
-    match request.command {
-        Command::Explain { format } => Some(format),
+fn form_asked(request: &Request<'_>) -> Option<FormatWord> {
+    match &request.command {
+        Command::Explain { format } => Some(*format),
         _ => None,
     }
 }
@@ -205,7 +205,7 @@ fn form_asked(request: Request<'_>) -> Option<FormatWord> {
 fn form_by(alloc: Global, line: &str) -> Result<Option<FormatWord>, Fail> {
     let words = words(alloc, line)?;
     match words_of(alloc, words.as_slice())? {
-        Some(Words::Request(request)) => Ok(form_asked(request)),
+        Some(Words::Request(request)) => Ok(form_asked(&request)),
         Some(Words::Shown(_text)) => Ok(None),
         None => Ok(None),
     }
