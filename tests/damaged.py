@@ -5,14 +5,15 @@ readers beside this file.
 For SECONDS (60) each processor makes small logs, answers and orders from the seed that is printed, or takes those of examples/,
 damages them (bytes and lines changed, cut, doubled, dropped, moved; other line ends, a byte order mark, NUL bytes, numbers at and
 past the limits, signs, leading zeros; headers, outcomes that are unknown, and moments) and gives them to each command. Text and status must be
-the reference's, byte for byte; what `check` says must be what the reference allows. A log must have one formula in each version that has
+the reference's, byte for byte; what `check` says must be what the reference allows, `explain` must say the same first, and its reasons must
+be those of tests/explained.py. A log must have one formula in each version that has
 lines for it. Each prefix of a log and of an answer is run once before. With --plain the plain formula alone is asked for, with --version-1
 all logs are of version 1. Last line: 'damaged: N passed, M failed'."""
 import multiprocessing, os, random, subprocess, sys, tempfile, time
 
 HERE = os.path.dirname(os.path.abspath(__file__))
 sys.path.insert(0, HERE)
-import answers, generate, reference, solvers
+import answers, explained, generate, reference, solvers
 
 TAIL = b'session 2\nbegin\nw x 2\ncommit\nsession 3\nbegin\nr x 1\ncommit\n'
 # For each version a log, after how many bytes it is well-formed, and after how many a transaction is open, with its line.
@@ -226,7 +227,9 @@ class Judge:
             self.compare('encode', self.call(['encode'] + words, log), answers.encode(log, plain), words, log)
 
     def verdict(self, r, log):
-        got = self.call(['check', '--strategy', r.choice(('first', 'most', 'least', 'forced')), '--workers', r.choice('124')], log)
+        words = ['--strategy', r.choice(explained.STRATEGIES), '--workers', r.choice('124')]
+        got = self.call(['check'] + words, log)
+        self.explanation(words + ['--format', r.choice(('text', 'text', 'dot'))], log, got)
         try:
             history = reference.History(reference.read_log(log))
         except reference.Refused as code:
@@ -241,6 +244,22 @@ class Judge:
         first, _, order = got[1].partition(b'\n')
         holds = (got[0], first, got[2]) == (0, b'serializable', b'') and answers.verify_with(history, order)[0] == 0
         return self.count('check', got, None if holds else 'there is an order', log)
+
+    def explanation(self, words, log, checked):
+        """What is said of a log, of which `check` says this."""
+        got = self.call(['explain'] + words, log)
+        first = checked[1].split(b'\n')[0]
+        if checked[0] == 1 and 'text' in words and got[::2] == checked[::2]:
+            fault = explained.fault(log, checked[1].decode(), got[1].decode())
+        elif checked[0] > 1:
+            fault = None if got == checked else 'wanted %r' % (checked,)
+        elif 'dot' in words:
+            begin = b'// %s\nstrict digraph explanation {\n' % first
+            fault = None if got[::2] == checked[::2] and got[1].startswith(begin) else 'wanted %r first' % begin
+        else:
+            holds = got[::2] == checked[::2] and explained.is_order(log, got[1].decode())
+            fault = None if holds else 'no order, and check has %r' % (checked,)
+        self.count('explain', got, fault, words, log)
 
     def decoded(self, log, answer, formulas):
         for plain, formula in formulas:

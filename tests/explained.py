@@ -4,12 +4,14 @@
 Each log of examples/, logs made by hand, and of each kind of made logs so many as SEEDS says (400 where it is not said) go through `check`
 and `explain`, with 1 and 4 workers and each strategy in turn. The first lines of `explain` must be those of `check`, and its status too.
 Behind them, of an anomaly and of a cycle of known edges the text must be the one that a plain reading of the log's lines gives, to the
-byte. Where pruning ends in a cycle the steps may be others by the schedule; then each line of each step is held against the log: each edge
-has the reason that comes first, or is one of an earlier step and names the first such, edges follow each other, a walk leads from where it
-has to to where it has to, the cycle closes, and each step is needed. Of each explanation of a cycle, lines are then spoilt in many ways,
-and each has to be seen; so the test is tested too. Where SEEDS is not said, each form of line has to be met among the logs. Last line:
+byte. Where pruning ends in a cycle, or every cube is refuted, the steps and the tree may be others by the schedule; then each line is held
+against the log: each edge has the reason that comes first, or is one of an earlier step and names the first such, or of an order that is
+decided above, edges follow each other, a walk leads from where it has to to where it has to, each cycle closes, each step is needed, and
+each choice that is split has both its orders, with all that is below them. Of each explanation of cycles, lines are then spoilt in many
+ways, and each has to be seen; so the test is tested too. The graph of one worker must be what the lines of the text tell, to the byte; where
+Graphviz is there, it draws those of the examples. Where SEEDS is not said, each form of line has to be met among the logs. Last line:
 'explained: N passed, M failed'."""
-import collections, concurrent.futures, os, random, re, subprocess, sys
+import collections, concurrent.futures, os, random, re, shutil, subprocess, sys
 
 HERE = os.path.dirname(os.path.abspath(__file__))
 sys.path.insert(0, HERE)
@@ -22,13 +24,27 @@ EDGE = re.compile('%s before %s: (.+)' % (NODE, NODE))
 STEP = re.compile(r'\[%s\] %s: the chain of %s before the chain of %s, since the other way %s stands before %s, against:'
                   % (NUMBER, KEY, NODE, NODE, NODE, NODE))
 CYCLE = re.compile('cycle from %s:' % NODE)
+ORDER = re.compile('%s: the chain of %s first' % (KEY, NODE))
+LEAVES = re.compile('%s cubes are refuted by a cycle; the first 1000 of them:' % NUMBER)
+GRAPHVIZ = shutil.which('dot')
+# An explanation of so many bytes is not spoilt.
+SPOILT = 10000
+EVERY_CUBE, MOST_LEAVES = 'not serializable: every cube is refuted', 1000
 READ = re.compile('not serializable: A[1-6] .+ at %s op %s' % (NODE, NUMBER))
 UPDATE = re.compile(r'not serializable: A7 lost update of %s from [0-9.]+ by %s and %s' % (KEY, NODE, NODE))
+# The form of what is said of an edge by its kind, and the colour in a graph.
+KINDS = [('session', 'session %s' % NUMBER, 'black'), ('read', '.+ reads .+, which .+ wrote .+', 'blue'),
+         ('anti-dependency', '.+ reads .+, and .+ overwrites it with .+', 'red'),
+         ('version order', '.+ belongs to the chain of the initial value, and .+ begins another .+', 'darkgreen'),
+         ('moments', '.+ ended at .+, .+ began at .+', 'purple'), ('forced', r'forced \[%s\]' % NUMBER, 'orange')]
 # What has to be met among the logs, so that each form of line is tried.
-WANTED = ['A1', 'A2', 'A3', 'A4', 'A5', 'A6', 'A7', 'A8', 'A9', 'serializable', 'every cube', 'unknown', 'refused', 'A9 forced',
+WANTED = ['A1', 'A2', 'A3', 'A4', 'A5', 'A6', 'A7', 'A8', 'A9', 'serializable', 'tree', 'unknown', 'refused', 'A9 forced',
           'made by hand', 'on the page']
 WANTED += ['%s %s' % (code, kind) for code in ('A8', 'A9') for kind in ('session', 'read', 'anti-dependency', 'version order', 'moments')]
 WANTED += ['A8 of 4 edges or more', 'steps 1', 'steps 2', 'steps 3', 'steps 4 or more', 'a walk of 4 edges or more', 'a cycle with 2 steps']
+WANTED += ['tree ' + kind for kind in ('session', 'read', 'anti-dependency', 'version order', 'moments', 'forced', 'decided', 'of depth 1',
+                                       'of depth 2', 'of depth 3', 'of depth 4 or more', 'of more than 1000 leaves')]
+WANTED += ['tree with steps', 'a cycle with 2 decided orders', 'a cycle with a step and a decided order', 'an order of 2 decided above', 'graph']
 
 Op = collections.namedtuple('Op', 'kind key wid line')
 
@@ -72,7 +88,7 @@ class Log:
                 self.keys += [rest[0]] if rest[0] not in self.keys else []
                 if word == 'w':
                     self.writers[rest[0], int(rest[1])] = it
-        self.named = {it.name: it for it in self.transactions}
+        self.named, self.first_reasons, self.sides = {it.name: it for it in self.transactions}, {}, {}
         self.nodes = [it for it in self.transactions if it.outcome == 'commit']
         while True:
             seen = {self.writers.get((op.key, op.wid)) for it in self.nodes for op in it.ops if op.kind == 'r'}
@@ -122,6 +138,13 @@ class Log:
             lines += [self.said_of_read(it, it.reads(key)[0]), '%s overwrites it with %d (line %d)' % (it.name, last.wid, last.line)]
         return lines
 
+    def said_behind(self, checked):
+        """The lines behind these of `check`, of A1 to A8."""
+        first, *cycle = checked.split('\n')[:-1]
+        names = cycle[0].split(' ')[1:] if cycle else ()
+        edges = ['%s before %s: %s' % (a, b, self.reason(a, b)[1]) for a, b in zip(names, names[1:])]
+        return edges or self.said_of_anomaly(first)
+
     # ---- an edge
 
     def reasons(self, a, b):
@@ -131,7 +154,9 @@ class Log:
         return [(kind, said) for kind, tried in kinds for said in tried(self.named[a], self.named[b]) if a != b]
 
     def reason(self, a, b):
-        return next(iter(self.reasons(a, b)), (None, None))
+        if (a, b) not in self.first_reasons:
+            self.first_reasons[a, b] = next(iter(self.reasons(a, b)), (None, None))
+        return self.first_reasons[a, b]
 
     def by_session(self, a, b):
         if a.session == b.session and a.place < b.place:
@@ -178,12 +203,18 @@ class Log:
 
     def side(self, key, first, second):
         """The edges of: the chain that begins with the first before the one that begins with the second."""
+        if (key, first) not in self.sides:
+            self.sides[key, first] = self.ends(key, first)
+        return [(name, second) for name in self.sides[key, first]]
+
+    def ends(self, key, first):
+        """Who stands before each chain behind this one: the readers of its last writer, or where it has none this writer."""
         last = self.named[first]
         while True:
             readers = self.readers(key, last.writes(key)[-1].wid)
             behind = [it for it in readers if it.writes(key)]
             if not behind:
-                return [(it.name, second) for it in readers or [last]]
+                return [it.name for it in readers or [last]]
             last = behind[0]
 
 
@@ -198,18 +229,28 @@ def told(holds, what):
         raise Wrong(what)
 
 
-class Pruning:
-    """The lines behind the line of A9, read one by one. Steps are known by the edges that they keep."""
+class Telling:
+    """The lines behind the first one, where pruning ends in a cycle or every cube is refuted, read one by one. Steps are known by the edges
+    that they keep, a decided order by its key and the two chains."""
 
-    def __init__(self, log, lines):
-        self.log, self.lines, self.steps, self.used, self.met = log, list(lines), [], set(), collections.Counter()
+    def __init__(self, log, lines, what):
+        self.log, self.lines, self.what, self.at = log, lines, what, 0
+        self.steps, self.used, self.leaves, self.left_out, self.met = [], set(), 0, 0, collections.Counter()
 
-    def next(self, form):
-        """What the next line says, if it has this form."""
-        found = form.fullmatch(self.lines[0]) if self.lines else None
-        if found:
-            self.lines.pop(0)
+    def line_at(self, place, form, depth):
+        """What the line at this place says, if it has this form, behind two blanks for each decision above."""
+        line = self.lines[place] if place < len(self.lines) else ''
+        found = form.fullmatch(line, 2 * depth) if line.startswith('  ' * depth) else None
         return found and found.groups()
+
+    def next(self, form, depth=0):
+        """The same of the next line, which is read then."""
+        found = self.line_at(self.at, form, depth)
+        self.at += found is not None
+        return found
+
+    def rest(self):
+        return self.lines[self.at:self.at + 1]
 
     def judge(self):
         while True:
@@ -217,102 +258,182 @@ class Pruning:
             if step is None:
                 break
             self.judge_step(*step)
-        start = self.next(CYCLE)
-        told(start, 'no step and no cycle at %r' % self.lines[:1])
-        edges = self.edges('the cycle')
-        told(edges[0][0] == start[0] == edges[-1][1], 'the cycle does not close')
-        told(not self.lines, 'more behind the cycle: %r' % self.lines[:1])
-        told(self.used == set(range(1, len(self.steps) + 1)), 'steps that nothing needs')
-        self.met['steps %d' % len(self.steps) if len(self.steps) < 4 else 'steps 4 or more'] += 1
-        self.met['a cycle with 2 steps'] += len({self.kept_by(edge) for edge in edges} - {None}) > 1
+        count = len(self.steps)
+        if self.what == 'A9':
+            self.cycle([])
+            self.met['steps %d' % count if count < 4 else 'steps 4 or more'] += 1
+        else:
+            self.tree()
+            self.met['tree with steps'] += count > 0
+        told(not self.rest(), 'more behind the end: %r' % self.rest())
+        told(self.used == set(range(1, count + 1)), 'steps that nothing needs')
 
     def judge_step(self, number, key, first, second, u, v):
         where = 'step %s' % number
         told(int(number) == len(self.steps) + 1, '%s stands at place %d' % (where, len(self.steps) + 1))
-        told(first != second, '%s has one chain' % where)
-        for name in (first, second):
-            told(self.log.begins_chain(self.log.named.get(name), key), '%s: no chain of %s begins with %s' % (where, key, name))
+        self.two_chains(where, key, first, second)
         told((u, v) in self.log.side(key, second, first), '%s: the other side has no such edge' % where)
-        walk = self.edges(where)
+        walk = self.edges(where, [])
         told((walk[0][0], walk[-1][1]) == (v, u), '%s: the walk leads from %s to %s' % (where, walk[0][0], walk[-1][1]))
         self.steps.append(self.log.side(key, first, second))
         self.met['a walk of 4 edges or more'] += len(walk) > 3
 
-    def kept_by(self, edge):
-        """The first step that has the edge, where the log has no reason for it."""
-        steps = [] if self.log.reason(*edge)[0] else [number for number, kept in enumerate(self.steps, 1) if edge in kept]
-        return steps[0] if steps else None
+    def two_chains(self, where, key, *both):
+        told(both[0] != both[1], '%s has one chain' % where)
+        for name in both:
+            told(self.log.begins_chain(self.log.named.get(name), key), '%s: no chain of %s begins with %s' % (where, key, name))
 
-    def edges(self, where):
-        """The edges that stand next. Each has its line, and begins where the one before it ends."""
+    # ---- the tree of a search
+
+    def tree(self):
+        said = self.next(LEAVES)
+        self.below([])
+        wanted = MOST_LEAVES + self.left_out
+        told(int(said[0]) >= wanted > MOST_LEAVES if said else not self.left_out, '%r, and %d branches are left out' % (said, self.left_out))
+        self.met['tree of more than 1000 leaves'] += said is not None
+
+    def below(self, decided):
+        """What stands below these orders: a choice with both its orders, or a cycle; and nothing behind the last cycle that is told."""
+        depth = len(decided)
+        if self.leaves == MOST_LEAVES:
+            self.left_out += 1
+            return
+        first = self.next(ORDER, depth)
+        if first is None:
+            self.cycle(decided)
+            self.leaves += 1
+            self.met['tree of depth %d' % depth if depth < 4 else 'tree of depth 4 or more'] += 1
+            return
+        (key, p), (other, q) = first, self.second(depth)
+        told(other == key, 'two keys are split, %s and %s' % (key, other))
+        self.two_chains('a choice of %s' % key, key, p, q)
+        told(not {(key, p, q), (key, q, p)} & set(decided), 'a choice of %s is split twice' % key)
+        self.below(decided + [(key, p, q)])
+        told(self.next(ORDER, depth) == (key, q), 'the second order of %s is not at %r' % (key, self.rest()))
+        self.below(decided + [(key, q, p)])
+
+    def second(self, depth):
+        """The second order of a choice of which the first one was just read: the next line that is indented no further."""
+        place = self.at
+        while place < len(self.lines) and self.lines[place].startswith('  ' * depth + ' '):
+            place += 1
+        found = self.line_at(place, ORDER, depth)
+        told(found, 'an order stands alone, before %r' % self.lines[place:place + 1])
+        return found
+
+    # ---- edges
+
+    def cycle(self, decided):
+        start = self.next(CYCLE, len(decided))
+        told(start, 'no cycle at %r' % self.rest())
+        edges = self.edges('the cycle', decided)
+        told(edges[0][0] == start[0] == edges[-1][1], 'the cycle does not close')
+        grounds = {ground for _, _, ground in edges} - {None}
+        steps = grounds - set(decided)
+        self.met['a cycle with 2 steps'] += len(steps) > 1
+        self.met['a cycle with 2 decided orders'] += len(grounds - steps) > 1
+        self.met['a cycle with a step and a decided order'] += steps not in (set(), grounds)
+
+    def edges(self, where, decided):
+        """The edges that stand next, each with what it rests on. Each has its line, and begins where the one before it ends."""
         found = []
         while True:
-            edge = self.next(EDGE)
+            edge = self.next(EDGE, len(decided))
             if edge is None:
                 break
             a, b, said = edge
             for name in edge[:2]:
                 told(self.log.named.get(name) in self.log.nodes, '%s: no committed or taken transaction %s' % (where, name))
             told(not found or found[-1][1] == a, '%s: %s does not follow' % (where, a))
-            kind, right = self.log.reason(a, b)
-            if right is None:
-                step = self.kept_by((a, b))
-                told(step, '%s: %s before %s: neither a reason nor a step' % (where, a, b))
-                kind, right = 'forced', 'forced [%d]' % step
-                self.used.add(step)
-            told(said == right, '%s: %s before %s: %s: wanted %s' % (where, a, b, said, right))
-            self.met['A9 ' + kind] += 1
-            found.append((a, b))
-        told(found, '%s: no edge at %r' % (where, self.lines[:1]))
+            kind, rights = self.rights((a, b), decided)
+            told(rights, '%s: %s before %s: no reason, no step and no order' % (where, a, b))
+            told(said in rights, '%s: %s before %s: %s: wanted %s' % (where, a, b, said, ' or '.join(rights)))
+            self.used |= {rights[said]} if kind == 'forced' else set()
+            self.met['%s %s' % (self.what if decided or self.what == 'A9' else 'step', kind)] += 1
+            self.met['an order of 2 decided above'] += len(rights) > 1
+            found.append((a, b, rights[said]))
+        told(found, '%s: no edge at %r' % (where, self.rest()))
         return found
+
+    def rights(self, edge, decided):
+        """The kind of what an edge has to rest on, and what may be said of it, with the step or the order that it names."""
+        kind, said = self.log.reason(*edge)
+        if kind:
+            return kind, {said: None}
+        for number, kept in enumerate(self.steps, 1):
+            if edge in kept:
+                return 'forced', {'forced [%d]' % number: number}
+        return 'decided', {'%s: the chain of %s first' % order[:2]: order for order in decided if edge in self.log.side(*order)}
 
 
 def judge(text, checked, explained):
     """What is met in an explanation, of which the first lines have to be these; else Wrong."""
     told(explained[:len(checked)] == checked, 'the first lines are not those of check')
     told(explained.endswith('\n'), 'the last line does not end')
-    first, *said = checked.split('\n')[:-1]
-    lines = explained[len(checked):].split('\n')[:-1]
+    first, lines = checked.split('\n')[0], explained[len(checked):].split('\n')[:-1]
     if first.startswith('unknown: '):
         told(lines == [TRY], 'wanted %r' % TRY)
         return collections.Counter(['unknown'])
-    if not first.startswith('not serializable: A'):
+    if first == 'serializable':
         told(not lines, 'more lines than check')
-        return collections.Counter(['serializable' if first == 'serializable' else 'every cube'])
-    code, log = first.split(' ')[2], Log(text)
+        return collections.Counter(['serializable'])
+    code, log = 'tree' if first == EVERY_CUBE else first.split(' ')[2], Log(text)
     met = collections.Counter([code])
-    if code == 'A9':
-        pruning = Pruning(log, lines)
-        pruning.judge()
-        return met + pruning.met
-    if code == 'A8':
-        names = said[0].split(' ')[1:]
-        edges = list(zip(names, names[1:]))
-        for edge in edges:
-            met['A8 %s' % log.reason(*edge)[0]] += 1
-        met['A8 of 4 edges or more'] += len(edges) > 3
-        right = ['%s before %s: %s' % (*edge, log.reason(*edge)[1]) for edge in edges]
-    else:
-        right = log.said_of_anomaly(first)
+    if code in ('tree', 'A9'):
+        telling = Telling(log, lines, code)
+        telling.judge()
+        return met + telling.met
+    right = log.said_behind(checked)
     told(lines == right, 'wanted %r' % right)
+    if code == 'A8':
+        met += collections.Counter('A8 ' + log.reason(*EDGE.fullmatch(line).groups()[:2])[0] for line in lines)
+        met['A8 of 4 edges or more'] += len(lines) > 3
     return met
+
+
+# ---- graphs
+
+def kind_of(said):
+    """The kind of an edge by what is said of it, and its colour."""
+    if ORDER.fullmatch(said):
+        return said, 'gray'
+    return next((said if colour == 'orange' else kind, colour) for kind, form, colour in KINDS if re.fullmatch(form, said))
+
+
+def graph_of(text, checked, explained):
+    """The graph of what these lines say, and nothing where a log was refused."""
+    lines = explained[len(checked):].split('\n')[:-1]
+    first, log = checked.split('\n')[0], Log(text) if checked else None
+    if READ.fullmatch(first) or UPDATE.fullmatch(first):
+        drawn = ['"anomaly" [label="%s"];' % ''.join(line + '\\n' for line in lines)]
+    else:
+        edges = [found.groups() for found in (EDGE.fullmatch(line.lstrip(' ')) for line in lines) if found]
+        parts = {name for edge in edges for name in edge[:2]}
+        named = {int(line) for *_, said in edges for line in re.findall(r'\(line ([0-9]+)\)', said)}
+        drawn = ['"%s" [label="%s"];' % (it.name, '\\n'.join([it.name] + ['%s %s %d (line %d)' % op for op in it.ops if op.line in named]))
+                 for it in (log.transactions if log else ()) if it.name in parts]
+        drawn += ['"%s" -> "%s" [label="%s" color="%s"];' % (a, b, *kind_of(said)) for a, b, said in edges]
+    comments = ['// ' + line for line in [first] + lines[:first.startswith('unknown: ')]]
+    graph = [*comments, 'strict digraph explanation {', 'node [shape=box];', *drawn, '}'] if checked else []
+    return ''.join(line + '\n' for line in graph)
 
 
 # ---- lines that are spoilt
 
 def spoilt(r, text, checked, explained):
-    """What was done to an explanation of a cycle, and what it then says, which is wrong."""
+    """What was done to an explanation of cycles, and what it then says, which is wrong."""
     log, lines = Log(text), explained[len(checked):].split('\n')[:-1]
-    edges = [n for n, line in enumerate(lines) if EDGE.fullmatch(line)]
-    steps = [n for n, line in enumerate(lines) if STEP.fullmatch(line)]
+    bare = [line.lstrip(' ') for line in lines]
+    edges, steps, cycles, orders = ([n for n, line in enumerate(bare) if form.fullmatch(line)] for form in (EDGE, STEP, CYCLE, ORDER))
     forced = [n for n in edges if ': forced [' in lines[n]]
     numbered = [n for n in edges if '(line ' in lines[n]]
 
     def without(first, behind=None):
         return lines[:first] + lines[behind or first + 1:]
 
-    def instead(n, *line):
-        return lines[:n] + list(line) + lines[n + 1:]
+    def instead(n, *those):
+        blanks = lines[n][:len(lines[n]) - len(bare[n])]
+        return lines[:n] + [blanks + line for line in those] + lines[n + 1:]
 
     def renamed(those, add, above=0):
         """The lines with other numbers of steps."""
@@ -320,11 +441,11 @@ def spoilt(r, text, checked, explained):
         return [re.sub(r'(?<![^ ])\[([0-9]+)\]', other, line) for line in those]
 
     n = r.choice(edges)
-    a, b, said = EDGE.fullmatch(lines[n]).groups()
+    a, b, said = EDGE.fullmatch(bare[n]).groups()
     yield 'an edge is left out', without(n)
-    yield 'an edge stands twice', instead(n, lines[n], lines[n])
+    yield 'an edge stands twice', instead(n, bare[n], bare[n])
     yield 'an edge is turned round', instead(n, '%s before %s: %s' % (b, a, said))
-    yield 'an edge of one transaction', instead(n, lines[n], '%s before %s: session %s' % (b, b, b.split('.')[0]))
+    yield 'an edge of one transaction', instead(n, bare[n], '%s before %s: session %s' % (b, b, b.split('.')[0]))
     yield 'an edge to nowhere', instead(n, '%s before 65535.99: %s' % (a, said))
     yield 'another kind', instead(n, '%s before %s: %s' % (a, b, 'session ' + a.split('.')[0] if n in forced else 'forced [1]'))
     yield 'no reason', instead(n, '%s before %s' % (a, b))
@@ -334,18 +455,31 @@ def spoilt(r, text, checked, explained):
     yield 'an empty line', lines + ['']
     if numbered:
         n = r.choice(numbered)
-        at = r.choice([found.start(1) for found in re.finditer(r'\(line ([0-9]+)\)', lines[n])])
-        end = lines[n].index(')', at)
+        at = r.choice([found.start(1) for found in re.finditer(r'\(line ([0-9]+)\)', bare[n])])
+        end = bare[n].index(')', at)
         for add in (-1, 1):
-            yield 'the wrong line number', instead(n, lines[n][:at] + str(int(lines[n][at:end]) + add) + lines[n][end:])
+            yield 'the wrong line number', instead(n, bare[n][:at] + str(int(bare[n][at:end]) + add) + bare[n][end:])
     for n in edges:
-        a, b, _ = EDGE.fullmatch(lines[n]).groups()
+        a, b, _ = EDGE.fullmatch(bare[n]).groups()
         for _, also in log.reasons(a, b)[1:]:
             yield 'a reason that holds too, and is not the first', instead(n, '%s before %s: %s' % (a, b, also))
         for it in log.transactions:
             if it not in log.nodes and log.reason(a, it.name)[0] == log.reason(it.name, b)[0] == 'session':
                 way = ((a, it.name), (it.name, b))
                 yield 'a way by an aborted one', instead(n, *('%s before %s: session %s' % (*two, it.session) for two in way))
+    if not cycles:
+        return
+    n = r.choice(cycles)
+    yield 'a cycle from elsewhere', instead(n, 'cycle from %s:' % EDGE.fullmatch(bare[n + 1])[2])
+    yield 'no cycle', lines[:n]
+    for n in forced:
+        a, b, said = EDGE.fullmatch(bare[n]).groups()
+        behind = sum(m < n for m in steps) + (n > cycles[0])
+        for later in (behind, behind + 1):
+            yield 'a step is named that is no earlier one', instead(n, '%s before %s: forced [%d]' % (a, b, later))
+        yield 'a step of number 0 is named', instead(n, '%s before %s: forced [0]' % (a, b))
+    if orders:
+        yield from spoilt_tree(r, log, lines, bare, without, instead)
     if not steps:
         return
     n = r.choice(steps)
@@ -361,15 +495,46 @@ def spoilt(r, text, checked, explained):
     yield 'another number', instead(n, step(int(number) + 1, key, first, second, u, v))
     yield 'another key', instead(n, step(number, key + '_', first, second, u, v))
     yield 'all numbers one higher', renamed(lines, 1)
-    cycle, = (m for m, line in enumerate(lines) if CYCLE.fullmatch(line))
-    yield 'a cycle from elsewhere', instead(cycle, 'cycle from %s:' % EDGE.fullmatch(lines[cycle + 1])[2])
-    yield 'no cycle', lines[:cycle]
-    for n in forced:
-        a, b, said = EDGE.fullmatch(lines[n]).groups()
-        behind = sum(m < n for m in steps) + (n > cycle)
-        for later in (behind, behind + 1):
-            yield 'a step is named that is no earlier one', instead(n, '%s before %s: forced [%d]' % (a, b, later))
-        yield 'a step of number 0 is named', instead(n, '%s before %s: forced [0]' % (a, b))
+
+
+def spoilt_tree(r, log, lines, bare, without, instead):
+    """The same of what only a tree has."""
+    depth = [len(line) - len(said) for line, said in zip(lines, bare)]
+    orders = [n for n, line in enumerate(bare) if ORDER.fullmatch(line)]
+    behind = lambda n: next((m for m in range(n + 1, len(lines)) if depth[m] <= depth[n]), len(lines))
+    pairs = [(n, behind(n), behind(behind(n))) for n in orders if depth[n] in depth[behind(n):behind(n) + 1]]
+    n, m, end = r.choice(pairs)
+    (key, p), (_, q) = (ORDER.fullmatch(bare[at]).groups() for at in (n, m))
+    order = '%s: the chain of %s first'
+    for at, stop in ((n, m), (m, end)):
+        yield 'an order is missing', without(at)
+        yield 'an order is missing, with all below it', without(at, stop)
+        yield 'nothing stands below an order', without(at + 1, stop)
+        yield 'an order stands twice', instead(at, order % (key, q if at == n else p))
+        yield 'an order of another key', instead(at, order % (key + '_', p if at == n else q))
+        for it in [it for it in log.transactions if not log.begins_chain(it, key)][:1]:
+            yield 'an order of no chain', instead(at, order % (key, it.name))
+    for first, second, _ in pairs:
+        needed = ' before %s: %s' % (ORDER.fullmatch(bare[second])[2], bare[first])
+        if any(line.endswith(needed) for line in bare[first + 1:second]):
+            both = instead(first, bare[second])
+            both[second] = lines[first]
+            yield 'two orders are exchanged', both
+        if CYCLE.fullmatch(bare[first + 1]):
+            below = ['  ' + line for line in lines[first + 1:second]]
+            once_more = ['  ' + lines[first], *below, '  ' + lines[second], *below]
+            yield 'a choice is split twice', lines[:first + 1] + once_more + lines[second:]
+    chosen = [(n, *found.groups()) for n, found in ((n, EDGE.fullmatch(line)) for n, line in enumerate(bare)) if found and ORDER.fullmatch(found[3])]
+    for n, a, b, said in chosen[:3]:
+        yield 'the other order is named', instead(n, '%s before %s: %s' % (a, b, order % (ORDER.fullmatch(said)[1], b)))
+        yield 'an order of another key is named', instead(n, '%s before %s: %s' % (a, b, order % (ORDER.fullmatch(said)[1] + '_', b)))
+    n = r.randrange(orders[0], len(lines))
+    for moved in [' ' + lines[n], '  ' + lines[n]] + [lines[n][by:] for by in (1, 2) if depth[n]]:
+        yield 'a line is moved', lines[:n] + [moved] + lines[n + 1:]
+    yield 'no line is indented', bare
+    for count in (len(pairs) + 1, MOST_LEAVES, MOST_LEAVES + 1):
+        said = '%d cubes are refuted by a cycle; the first 1000 of them:' % count
+        yield 'leaves are counted that are all told', lines[:orders[0]] + [said] + lines[orders[0]:]
 
 
 # ---- logs
@@ -460,6 +625,7 @@ class Making:
         self.r, self.sessions, self.wids = r, [], iter(r.sample(range(1, 10 ** r.choice((3, 3, 18))), 200))
         self.fresh = r.sample(['x', 'y', 'z', 'cart', '1.1', 'a:b', 'k/2', '_', '-', 'before', 'x:', '7', 'line', 'w'], 14)
         self.fresh += ['key%d' % n for n in range(80)]
+        self.stated = {}
 
     def key(self):
         return self.fresh.pop(0)
@@ -513,6 +679,17 @@ class Making:
         self.orders(a, b)
         return b
 
+    def forces(self, a, b):
+        """Lets a stand before b by a choice of which one side goes against a walk."""
+        key, first = self.key(), self.new()
+        a.append(('r', key, self.write(first, key)))
+        self.write(b, key)
+        self.leads(first, b)
+
+    def ends_before(self, a, b):
+        """Lets a stand before b by moments."""
+        self.stated[id(a)], self.stated[id(b)] = (None, 7), (9, None)
+
     def continued(self, key, wid):
         """A chain that goes on behind a write, for some writers; what the last one leaves."""
         while self.r.random() < 0.25:
@@ -521,14 +698,14 @@ class Making:
             wid = self.write(it, key)
         return wid
 
-    def text(self, version):
+    def text(self, version, timed=0.5):
         """The log, with some aborted transactions between, some outcomes that are unknown, and some moments."""
         r, made = self.r, []
         for session in self.sessions:
             if r.random() < 0.15:
                 session.insert(r.randint(0, len(session)), None)
         count = sum(map(len, self.sessions))
-        said = iter(generate.moments(r, count) if version == 3 and r.random() < 0.5 else [(None, None)] * count)
+        said = iter(generate.moments(r, count) if version == 3 and r.random() < timed else [(None, None)] * count)
         for number, session in zip(r.sample(range(1, 65536 if r.random() < 0.3 else 70), len(self.sessions)), self.sessions):
             its = []
             for place, ops in enumerate(session):
@@ -537,7 +714,7 @@ class Making:
                     ops = [('w', r.choice(self.fresh + ['x', 'y']), next(self.wids)), ('r', 'x', 0)]
                 if version > 1 and place + 1 == len(session) and r.random() < 0.12:
                     outcome = 'unknown'
-                its.append(generate.stating(ops, outcome, *next(said)))
+                its.append(generate.stating(ops, outcome, *self.stated.get(id(session[place]), next(said))))
             made.append((number, its))
         return generate.text_of(made, version)
 
@@ -620,13 +797,43 @@ def crossed_log(seed, version):
     return generate.text_of([(number, [reference.Transaction(ops, 'commit')]) for number, ops in enumerate(its, 1)], version)
 
 
+def searched_log(seed, version):
+    """The same, where the chains may be longer, some readers are two transactions of which one is known to stand before the other, and
+    the choices of other keys have nothing to do with it."""
+    m = Making(random.Random(seed))
+    r = m.r
+    both = m.key(), m.key()
+    left = [[m.continued(key, m.write(m.new(), key)) for _ in range(r.choice((2, 2, 2, 3)))] for key in both]
+    for seen in [tuple(zip('rr', both, (x, y))) for x in left[0] for y in left[1]]:
+        if r.random() < 0.7:
+            m.new().extend(seen)
+            continue
+        for way in (1, -1):
+            a, b = m.new(), m.new()
+            a.append(seen[::way][0])
+            b.append(seen[::way][1])
+            r.choice((m.leads, m.orders, m.forces) + (m.ends_before,) * (version == 3))(a, b)
+    for key in [m.key() for _ in range(r.choice((0, 0, 1, 2)))]:
+        for _ in range(2):
+            m.write(m.new(), key)
+    return m.text(version, 0.02)
+
+
+def large_tree(keys):
+    """A log of which the strategy `first` splits the choices of so many keys before it comes to those that are refuted."""
+    its = [[('w', 'k%d' % n, 2 * n + side)] for n in range(keys) for side in (10, 11)]
+    its += [[('w', key, wid)] for key, wid in (('x', 1), ('x', 2), ('y', 3), ('y', 4))] + [[('r', 'x', x), ('r', 'y', y)] for x in (1, 2) for y in (3, 4)]
+    return generate.text_of([(number, [reference.Transaction(ops, 'commit')]) for number, ops in enumerate(its, 1)])
+
+
 def logs(seeds):
-    """The name and the text of each log."""
+    """The name and the text of each log. Of the first one the strategy is `first`."""
+    yield 'log of a large tree', large_tree(8)
     yield from generate.examples((1, 2, 3))
     for number, (text, _) in enumerate(BY_HAND):
         yield 'log %d made by hand' % number, text
     for version in (1, 2, 3):
-        for made, share in ((generate.small_log, 1), (generate.damaged, 0.1), (run_log, 1), (forced_log, 1), (crossed_log, 0.1)):
+        for made, share in ((generate.small_log, 1), (generate.damaged, 0.1), (run_log, 1), (forced_log, 1), (crossed_log, 0.1), (searched_log, 0.5)):
             for seed in range(max(1, int(seeds * share))):
                 yield '%s %d, version %d' % (made.__name__, seed, version), made(seed, version)
 
@@ -647,17 +854,29 @@ def is_order(text, said):
 
 
 def said_of(program, text, *words):
-    """The lines that `check` prints with these words, all that `explain` prints, and what is met there; else Wrong."""
+    """What `check` answers with these words, what `explain` prints, and what is met there; else Wrong."""
     checked, explained = call(program, text, 'check', *words), call(program, text, 'explain', *words)
     told(checked[0] < 4, 'check ends with %d, %r' % checked[::2])
     told((explained[0], explained[2]) == (checked[0], checked[2]), 'ends with %d, %r, and check with %d, %r' % (*explained[::2], *checked[::2]))
     if checked[0] == 2:
         told(not explained[1], 'refused, and says %r' % explained[1])
-        return '', '', collections.Counter(['refused'])
+        return checked, '', collections.Counter(['refused'])
     if checked[0] == 0 and checked[1] != explained[1] and '4' in words:
         told(is_order(text, explained[1]), 'another order, and not a serial one')
-        return explained[1], explained[1], collections.Counter(['serializable'])
-    return checked[1], explained[1], judge(text, checked[1], explained[1])
+        return explained, explained[1], collections.Counter(['serializable'])
+    return checked, explained[1], judge(text, checked[1], explained[1])
+
+
+def graph_said(program, name, text, checked, explained, words):
+    """What is met in the graph that `explain` draws with these words, which must be that of what it said of the log; else Wrong."""
+    graph = call(program, text, 'explain', '--format', 'dot', *words)
+    right = (checked[0], graph_of(text, checked[1], explained), checked[2])
+    told(graph == right, 'the graph is %r, wanted %r' % (graph, right))
+    drawn = bool(GRAPHVIZ and name.endswith('.log') and explained)
+    if drawn:
+        ran = subprocess.run([GRAPHVIZ, '-Tsvg'], input=graph[1].encode(), stdout=subprocess.PIPE, stderr=subprocess.PIPE, timeout=120)
+        told((ran.returncode, ran.stderr) == (0, b'') and b'</svg>' in ran.stdout, 'Graphviz ends with %d, %r' % (ran.returncode, ran.stderr))
+    return collections.Counter(['graph'] + ['graph that is drawn'] * drawn)
 
 
 def judged(program, place, name, text):
@@ -667,38 +886,47 @@ def judged(program, place, name, text):
         ways.append(['--budget', '1', '--workers', '1'])
     met, found, r = collections.Counter(), [], random.Random(place)
     for words in ways:
-        where = '%s, %s' % (name, ' '.join(words))
         try:
             checked, explained, here = said_of(program, text, *words)
+            met += here
+            found.append(None)
+            if '1' in words:
+                met += graph_said(program, name, text, checked, explained, words)
+                found.append(None)
         except Wrong as wrong:
-            found.append('%s: %s' % (where, wrong))
+            found.append('%s, %s: %s' % (name, ' '.join(words), wrong))
             continue
-        met += here
-        found.append(None)
-        for what, lines in spoilt(r, text, checked, explained) if here['A8'] or here['A9'] else ():
-            found.append('%s: not seen that %s: %r' % (where, what, lines) if is_right(text, checked, lines) else None)
+        for what, lines in spoilt(r, text, checked[1], explained) if (here['A8'] or here['A9'] or here['tree']) and len(explained) < SPOILT else ():
+            found.append('%s, %s: not seen that %s: %r' % (name, ' '.join(words), what, lines) if is_right(text, checked[1], lines) else None)
     return met, found
 
 
-def is_right(text, checked, lines):
+def fault(text, checked, explained):
+    """What is wrong with an explanation, and None where nothing is."""
     try:
-        judge(text, checked, checked + ''.join(line + '\n' for line in lines))
-    except Wrong:
-        return False
-    return True
+        judge(text, checked, explained)
+    except Wrong as wrong:
+        return str(wrong)
+    return None
+
+
+def is_right(text, checked, lines):
+    return fault(text, checked, checked + ''.join(line + '\n' for line in lines)) is None
 
 
 def wanted(program, what, text, words, right):
     """As `judged`, where the whole text is known."""
-    answer, right = call(program, text, 'explain', *words), (1, ''.join(line + '\n' for line in right), '')
+    status = {'serializable': 0, 'unknown': 3}.get(right[0].split(':')[0], 1)
+    answer, right = call(program, text, 'explain', *words), (status, ''.join(line + '\n' for line in right), '')
     return collections.Counter([what]), [None if answer == right else 'explain %s of %r: %r, wanted %r' % (' '.join(words), text, answer, right)]
 
 
 def on_the_page():
-    """The words, the log and the text of each call of `explain` in docs/FORMATS.md."""
-    with open(os.path.join(HERE, '..', 'docs', 'FORMATS.md')) as page:
-        for words, name, said in re.findall(r'^    \$ \./run explain (.*?)examples/(\S+)\n((?:    .*\n)+)', page.read(), re.M):
-            yield dict(generate.examples((1, 2, 3)))[name], words.split(), [line[4:] for line in said.split('\n')[:-1]]
+    """The words, the log and the text of each call of `explain` in docs/FORMATS.md and examples/EXPLAINED.md."""
+    for path in ('docs/FORMATS.md', 'examples/EXPLAINED.md'):
+        with open(os.path.join(HERE, '..', path)) as page:
+            for words, name, said in re.findall(r'^    \$ \./run explain (.*?)examples/(\S+)\n((?:    .*\n)+)', page.read(), re.M):
+                yield dict(generate.examples((1, 2, 3)))[name], words.split(), [line[4:] for line in said.split('\n')[:-1]]
 
 
 def main():
@@ -715,6 +943,8 @@ def main():
                     print('FAILED', fault)
                 else:
                     passed += 1
+    if not GRAPHVIZ:
+        print('explained: no graph was drawn, since Graphviz (dot) is not here')
     print('explained: met: %s' % ', '.join('%s %d' % (what, met[what]) for what in sorted(met)))
     missing = [what for what in WANTED if not met[what]] if len(sys.argv) < 3 else []
     if missing:

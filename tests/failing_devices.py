@@ -45,6 +45,7 @@ MODELS = {'two_writers.log': b's SATISFIABLE\nv 1 -2 3 0\n', 'two_chains.log': b
           'forced_choices.log': b's SATISFIABLE\nc none is needed\n', 'unknown_read.log': b's SATISFIABLE\nv 1 -2 3 0\n',
           'overlap_in_time.log': b's SATISFIABLE\n'}
 CHECKED = ('forced_choices.log', 'forced_cycle.log', 'crossed_readers.log', 'lost_update.log', 'unknown_chain.log', 'stale_in_time.log')
+EXPLAINED = {'crossed_readers.log': 'text', 'forced_cycle.log': 'dot', 'unknown_read.log': 'text'}
 MOST = 5000
 
 
@@ -101,7 +102,7 @@ class Sweeps:
 
 
 def calls(folder, names):
-    """Each command, with 1 and with 4 workers: the log is a file, and then standard input."""
+    """Each command, with 1 and with 4 workers, but `explain` with 1, since its text depends on the schedule with more."""
     for name, model in MODELS.items():
         if name not in names:
             continue
@@ -116,6 +117,9 @@ def calls(folder, names):
     for name in CHECKED:
         for words in (['check', '--workers', '1'], ['check', '--workers', '4']) if name in names else ():
             yield [*words, os.path.join(generate.EXAMPLES, name)]
+    for name in EXPLAINED:
+        if name in names:
+            yield ['explain', '--workers', '1', '--format', EXPLAINED[name], os.path.join(generate.EXAMPLES, name)]
     large = os.path.join(folder, 'large.log')
     with open(large, 'wb') as out:
         out.write(b''.join(b'session %d\nbegin\nw k%d %d\ncommit\n' % (k, k, k) for k in range(1, 41)))

@@ -10,7 +10,7 @@ import itertools, os, resource, shutil, signal, subprocess, sys, tempfile, threa
 
 HERE = os.path.dirname(os.path.abspath(__file__))
 sys.path.insert(0, HERE)
-import answers, generate
+import answers, explained, generate
 
 BYTES, MEMORY, LATE = 16 * 1024 * 1024, 128 * 1024, 120
 LOG = b'session 1\nbegin\nw x 1\ncommit\nsession 2\nbegin\nw x 2\ncommit\nsession 3\nbegin\nr x 1\ncommit\n'
@@ -19,6 +19,7 @@ LOGS = {1: LOG, 2: b'log 2\n' + LOG.replace(b'commit', b'unknown', 1),
         3: b'log 3\n' + LOG.replace(b'begin', b'begin 1').replace(b'commit', b'commit 2')}
 MODELS = {True: b's SATISFIABLE\nv 1 2 3 4 5 -6 0\n', False: b's SATISFIABLE\nv 1 -2 3 0\n'}
 ORDER = b'1 1\n3 1\n2 1\n'
+GRAPH = b'// serializable\nstrict digraph explanation {\nnode [shape=box];\n}\n'
 BOTH = [(0, b'serializable\n' + order, b'') for order in (b'1 1\n3 1\n2 1\n', b'2 1\n1 1\n3 1\n')]
 INPUT, OUTPUT, NO_MEMORY = (5, b'', b'device failed: input\n'), (5, b'', b'device failed: output\n'), (4, b'', b'out of memory\n')
 LETTERS = 'ABCDEFGHIJKLMNOPQRSTUVWXYZabcdefghijklmnopqrstuvwxyz0123456789_.:/-'
@@ -124,7 +125,7 @@ class Runs:
         self.program, self.folder, self.plains, self.whole, self.versions = program, folder, plains, whole, versions
         self.passed, self.failed, self.left, self.told = 0, 0, 0, 0
         self.paths = {}
-        texts = {'log': LOG, 'model True': MODELS[True], 'model False': MODELS[False], 'order': ORDER, 'large': large_log()}
+        texts = {'log': LOG, 'model True': MODELS[True], 'model False': MODELS[False], 'order': ORDER, 'large': large_log(), 'refuted': explained.large_tree(0), 'tree': explained.large_tree(7)}
         for name, data in [*texts.items(), *LOGS.items()]:
             self.paths[name] = self.file('text %s' % name, [data])
 
@@ -174,11 +175,14 @@ class Runs:
         yield ['verify', '--order', self.paths['order'], *file], [answers.verify(text, ORDER)]
         for workers in ('1', '4', '16'):
             yield ['check', '--workers', workers, *file], BOTH
+        yield ['explain', '--format', 'dot', *file], [(0, GRAPH, b'')]
 
     def own_calls(self):
-        """Each command on a small log of each version."""
+        """Each command on a small log of each version, and an explanation."""
         for version in self.versions:
             yield from self.calls(self.paths[version], LOGS[version])
+        words = ['explain', '--workers', '1', self.paths['refuted']]
+        yield words, [self.answer(words)]
 
     # ---- logs of 16 MiB
 
@@ -232,6 +236,8 @@ class Runs:
         for plain in self.plains:
             words = ['encode', *(['--plain'] if plain else []), self.paths['large']]
             yield words, self.answer(words)
+        words = ['explain', '--workers', '1', self.paths['tree']]
+        yield words, self.answer(words)
 
     def leaves_fault(self, words, restored):
         child = subprocess.Popen([self.program, *words], stdin=subprocess.DEVNULL, stdout=subprocess.PIPE, stderr=subprocess.PIPE, restore_signals=restored)
@@ -249,8 +255,8 @@ class Runs:
             got = self.answer(words, stdout=out, restore_signals=False, preexec_fn=limit)
         with open(path, 'rb') as out:
             text = out.read()
-        if wanted[0] != 0 or len(wanted[1]) < 100000:
-            return 'the formula is too small: %s' % shown(wanted)
+        if wanted[0] > 1 or len(wanted[1]) < 100000:
+            return 'the text is too small: %s' % shown(wanted)
         return None if got == OUTPUT and text == wanted[1][:10000] else '%s, %d bytes' % (shown(got), len(text))
 
     # ---- files
@@ -322,7 +328,7 @@ class Runs:
             self.expect('ample address space, %s' % words[0], words, *wanted, preexec_fn=limit(4 << 20))
         self.case('some limit of the address space is told', lambda: None if self.told else 'none')
         for words, wanted in self.large_calls():
-            for size in sizes:
+            for size in sizes[::4] if words[0] == 'explain' else sizes:
                 self.expect('address space of the start and %d KiB, large log, %s' % (size - starts, ' '.join(words[:2])), words, wanted, NO_MEMORY, preexec_fn=limit(size))
 
     def threads(self):
@@ -335,7 +341,7 @@ class Runs:
                 resource.setrlimit(resource.RLIMIT_NPROC, (count, count))
                 self.nobody()
             return before
-        for words, wanted in list(self.own_calls()) + [(words, [wanted]) for words, wanted in self.large_calls()]:
+        for words, wanted in list(self.own_calls()) + [(words, [wanted]) for words, wanted in self.large_calls() if words[0] != 'explain']:
             for count in list(range(1, 8)) + [17, 18, 1000]:
                 self.expect('%d threads, %s' % (count, ' '.join(words[:3])), words, *wanted, NO_MEMORY, preexec_fn=limit(count))
 
@@ -355,6 +361,8 @@ def answer_fault(words, got, said):
         names = COUNTS if len(said) == len(COUNTS) else [name for name in COUNTS if name not in (b'unknown', b'taken')]
         counts = b''.join(b'%s %d\n' % pair for pair in zip(names, said))
         return None if got[0] == 0 and got[1].startswith(counts) and not got[2] else '%s, wanted %r' % (shown(got), counts)
+    if words[0] == 'explain':
+        return None if got == (0, GRAPH, b'') else shown(got)
     if words[0] in ('encode', 'check'):
         # each node is its session's first transaction
         nodes = said[1] + (said[4] if len(said) == len(COUNTS) else 0)

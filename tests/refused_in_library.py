@@ -1,7 +1,7 @@
 #!/usr/bin/env python3
 """refused_in_library.py KIT [--version-1]: each allocation of calls of the library is refused in turn.
 
-A small program, tests/library_calls.txt, calls `encode`, `stats`, `check` and `decode` over bytes in memory, and a desk. It is built
+A small program, tests/library_calls.txt, calls `encode`, `stats`, `check`, `explain` and `decode` over bytes in memory, and a desk. It is built
 unproved by the toolchain in KIT, in about a minute, and then run with the Nth request for memory refused, for N = 1, 2, .. until runs
 make fewer, by 1 and by 4 workers, on example logs, with --version-1 of version 1 alone. Each call must end in its answer, which
 tests/answers.py works out, or in the refusal `Memory`; its sink must not have counted a failure, and holds the text, after a refused call
@@ -14,7 +14,7 @@ import concurrent.futures, os, shutil, subprocess, sys, tempfile, time
 HERE = os.path.dirname(os.path.abspath(__file__))
 TOP = os.path.dirname(HERE)
 sys.path[:0] = [HERE, os.path.join(TOP, 'tools')]
-import answers, build_unproved, generate, reference
+import answers, build_unproved, explained, generate, reference
 from refused_memory import REFUSES, c_compiler
 
 # Stands before the allocator that the program is linked with.
@@ -27,6 +27,7 @@ BELOW = 'branch_search cobra_cli desk dimacs session_log'
 LOGS = ('lost_update', 'crossed_readers', 'chain', 'two_writers', 'forced_choices', 'unknown_read', 'unknown_chain', 'overlap_in_time', 'stale_in_time')
 MODELS = {'chain': b's SATISFIABLE\n', 'forced_choices': b's SATISFIABLE\n', 'two_writers': b's SATISFIABLE\nv 1 -2 3 0\n',
           'unknown_read': b's SATISFIABLE\nv 1 -2 3 0\n', 'unknown_chain': b's SATISFIABLE\n', 'overlap_in_time': b's SATISFIABLE\n'}
+EXPLAINED = {'crossed_readers': 'explain', 'lost_update': 'explain', 'stale_in_time': 'graph'}
 WORKERS = ('1', '4')
 MEMORY = ('Memory', 'Log(Memory)', 'Formula(Memory)', 'Answer(Memory)', 'Order(Memory)')
 # Runs side by side, of which none may meet a refusal any more at the end of a sweep.
@@ -135,6 +136,25 @@ class Verdict:
         return None if right and (self.serializable or told.startswith('not serializable: ')) else 'answered: %s, %r' % (status, told)
 
 
+class Tree:
+    """The explanation of a log of which every cube is refuted. It begins with `text`."""
+
+    def __init__(self, log):
+        self.log, self.text = log, explained.EVERY_CUBE + '\n'
+
+    def fault(self, status, told):
+        return explained.fault(self.log, self.text, told) if status == 'NotSerializable' else 'answered: %s, %r' % (status, told)
+
+
+def explanation(log, drawn):
+    """What `explain` answers: of a cycle of known edges or an anomaly one text or graph, else a tree."""
+    checked = reference.History(reference.read_log(log)).known_verdict()
+    if checked is None:
+        return Tree(log)
+    text = checked + ''.join(line + '\n' for line in explained.Log(log).said_behind(checked))
+    return Text('NotSerializable', explained.graph_of(log, checked, text) if drawn else text)
+
+
 def calls(folder):
     """Each call on each log: its words without the workers, and what it answers."""
     logs = dict(generate.examples(generate.versions(sys.argv)))
@@ -145,6 +165,8 @@ def calls(folder):
         yield 'encode', name, [path], Text('Done', answers.encode(log, False)[1].decode())
         yield 'stats', name, [path], Text('Done', answers.stats(log, False)[1].decode())
         yield 'check', name, [path], Verdict(log)
+        if name in EXPLAINED:
+            yield EXPLAINED[name], name, [path], explanation(log, EXPLAINED[name] == 'graph')
         if name in MODELS:
             model = os.path.join(folder, name)
             with open(model, 'wb') as file:

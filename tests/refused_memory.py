@@ -3,8 +3,9 @@
 
 The program runs with the Nth request for memory refused, for N = 1, 2, .. until it makes fewer. Each such run must either
 say `out of memory` with status 4 and write nothing, or do what it does with ample memory. Where two workers search a log of which
-each cube is refuted, a refusal to one of them must at least once leave the answer to the other. Needs a C compiler, for a small
-library that stands before the allocator of the C library.
+each cube is refuted, a refusal to one of them must at least once leave the answer to the other. Where several workers explain a log, the
+explanation may then be another one, that tests/explained.py finds right. Needs a C compiler, for a small library that stands before the
+allocator of the C library.
 
 Once the first piece of a formula went out, a run in which every further request is refused must write the same text, and make none.
 
@@ -14,7 +15,7 @@ import os, shutil, subprocess, sys, tempfile
 
 HERE = os.path.dirname(os.path.abspath(__file__))
 sys.path.insert(0, HERE)
-import generate
+import explained, generate
 
 # Whether a request for memory is the one that is to be refused.
 REFUSES = r'''
@@ -60,6 +61,15 @@ def c_compiler():
     return shutil.which('cc') or shutil.which('clang') or shutil.which('gcc')
 
 
+def is_right(words, wanted, got):
+    """Whether this is what a command may say with ample memory too."""
+    if words[0] == 'explain' and 'dot' not in words and got[::2] == wanted[::2] == (1, b''):
+        with open(words[-1], 'rb') as log:
+            text, checked = log.read(), wanted[1].decode().split('\n')[0] + '\n'
+        return explained.is_right(text, checked, got[1].decode()[len(checked):].split('\n')[:-1])
+    return got == wanted or words[0] == 'check' and got in BOTH
+
+
 def main():
     program, graphs = map(os.path.abspath, sys.argv[1:3])
     compiler = c_compiler()
@@ -85,6 +95,8 @@ def main():
         for log in examples('unknown_read', 'overlap_in_time'):
             calls += [['encode', '--plain', log], ['stats', '--plain', log], ['verify', '--order', paths['order'], log],
                       ['decode', '--workers', '4', '--model', paths['answer'], log], ['decode', '--plain', '--model', paths['plain_answer'], log]]
+        calls += [['explain', '--workers', count, log] for count, name in (('1', 'forced_cycle'), ('4', 'crossed_readers'), ('4', 'lost_update')) for log in examples(name)]
+        calls += [['explain', '--workers', '1', '--format', 'dot', log] for log in examples('crossed_readers', 'stale_in_time', 'intermediate_read')]
         for words in calls:
             wanted, refusals, left_to_another = None, 0, 0
             for n in range(MOST):
@@ -97,7 +109,7 @@ def main():
                 if n == 0:
                     wanted = got
                     continue
-                if got == wanted or (words[0] == 'check' and got in BOTH):
+                if is_right(words, wanted, got):
                     passed += 1
                     left_to_another += refused
                     if n > refusals + 50:

@@ -3,7 +3,8 @@
 
 Logs at the limits, and logs that are refused, of all versions or with --version-1 of the first alone, go through `encode` and `stats`,
 with `--plain` and without it, with 1, 3, 4 and 16 workers; the answers must be equal, byte for byte. Where the formula takes long, `check`
-takes its place, if one order alone is serial. Last line: 'workers: N passed, M failed'."""
+takes its place, if one order alone is serial. So must be what `explain` says of small logs that are refused, or that have an anomaly or a
+cycle of known edges, of these as text and as a graph. Last line: 'workers: N passed, M failed'."""
 import glob, os, subprocess, sys, tempfile
 
 HERE = os.path.dirname(os.path.abspath(__file__))
@@ -14,6 +15,7 @@ WORKERS = ['1', '3', '4', '16']
 PLAIN, REDUCED = [['encode', '--plain'], ['stats', '--plain']], [['encode'], ['stats']]
 # Logs of 1,000 transactions of which almost every pair has its order.
 LONG = {'one_session_1000': [['check']], 'in_time_1000': [['check']], 'reads_1000': [['check']], 'beside_1000': []}
+SMALL = 1000
 REFUSED = {
     'open': b'session 1\nbegin\nw x 1\n',
     'identity twice': b'session 1\nbegin\nw x 1\ncommit\nsession 2\nbegin\nw x 1\ncommit\n',
@@ -43,6 +45,15 @@ REFUSED = {
 }
 
 
+def explained(text):
+    """The calls of `explain` of which each schedule gives one text."""
+    try:
+        known = reference.History(reference.read_log(text)).known_verdict() if len(text) < SMALL else None
+    except reference.Refused:
+        return [['explain']]
+    return [['explain'], ['explain', '--format', 'dot']] if known and ': A9 ' not in known else []
+
+
 def answers(program, words, text):
     for count in WORKERS:
         ran = subprocess.run([program, *words, '--workers', count], input=text, stdout=subprocess.PIPE, stderr=subprocess.PIPE, timeout=120)
@@ -61,7 +72,7 @@ def main():
         for name, text in logs.items():
             if reference.version_of(text) not in versions:
                 continue
-            for words in LONG.get(name, REDUCED) + PLAIN:
+            for words in LONG.get(name, REDUCED) + PLAIN + explained(text):
                 first, *others = answers(program, words, text)
                 if all(other == first for other in others):
                     passed += 1
