@@ -27,7 +27,7 @@ BELOW = 'branch_search cobra_cli desk dimacs session_log'
 LOGS = ('lost_update', 'crossed_readers', 'chain', 'two_writers', 'forced_choices', 'unknown_read', 'unknown_chain', 'overlap_in_time', 'stale_in_time')
 MODELS = {'chain': b's SATISFIABLE\n', 'forced_choices': b's SATISFIABLE\n', 'two_writers': b's SATISFIABLE\nv 1 -2 3 0\n',
           'unknown_read': b's SATISFIABLE\nv 1 -2 3 0\n', 'unknown_chain': b's SATISFIABLE\n', 'overlap_in_time': b's SATISFIABLE\n'}
-EXPLAINED = {'crossed_readers': 'explain', 'lost_update': 'explain', 'stale_in_time': 'graph'}
+EXPLAINED = {'crossed_readers': 'explain', 'lost_update': 'graph', 'stale_in_time': 'explain'}
 WORKERS = ('1', '4')
 MEMORY = ('Memory', 'Log(Memory)', 'Formula(Memory)', 'Answer(Memory)', 'Order(Memory)')
 # Runs side by side, of which none may meet a refusal any more at the end of a sweep.
@@ -136,23 +136,23 @@ class Verdict:
         return None if right and (self.serializable or told.startswith('not serializable: ')) else 'answered: %s, %r' % (status, told)
 
 
-class Tree:
-    """The explanation of a log of which every cube is refuted. It begins with `text`."""
+class Explanation:
+    """The explanation of a log, of which `check` says `text`: any that tests/explained.py finds right."""
 
-    def __init__(self, log):
-        self.log, self.text = log, explained.EVERY_CUBE + '\n'
+    def __init__(self, log, text):
+        self.log, self.text = log, text
 
     def fault(self, status, told):
         return explained.fault(self.log, self.text, told) if status == 'NotSerializable' else 'answered: %s, %r' % (status, told)
 
 
 def explanation(log, drawn):
-    """What `explain` answers: of a cycle of known edges or an anomaly one text or graph, else a tree."""
-    checked = reference.History(reference.read_log(log)).known_verdict()
-    if checked is None:
-        return Tree(log)
-    text = checked + ''.join(line + '\n' for line in explained.Log(log).said_behind(checked))
-    return Text('NotSerializable', explained.graph_of(log, checked, text) if drawn else text)
+    """What `explain` answers as text, or as a graph, which an anomaly has one of."""
+    checked = reference.History(reference.read_log(log)).known_verdict() or explained.EVERY_CUBE + '\n'
+    if not drawn:
+        return Explanation(log, checked)
+    lines = ''.join(line + '\n' for line in explained.Log(log).said_behind(checked))
+    return Text('NotSerializable', explained.graph_of(log, checked, checked + lines))
 
 
 def calls(folder):
