@@ -42,9 +42,9 @@ WANTED = ['A1', 'A2', 'A3', 'A4', 'A5', 'A6', 'A7', 'A8', 'A9', 'serializable', 
           'made by hand', 'on the page']
 WANTED += ['%s %s' % (code, kind) for code in ('A8', 'A9') for kind in ('session', 'read', 'anti-dependency', 'version order', 'moments')]
 WANTED += ['A8 of 4 edges or more', 'steps 1', 'steps 2', 'steps 3', 'steps 4 or more', 'a walk of 4 edges or more', 'a cycle with 2 steps']
-WANTED += ['tree ' + kind for kind in ('session', 'read', 'anti-dependency', 'version order', 'moments', 'forced', 'decided', 'of depth 1',
+WANTED += ['tree ' + kind for kind in ('session', 'read', 'anti-dependency', 'version order', 'moments', 'forced', 'decided',
                                        'of depth 2', 'of depth 3', 'of depth 4 or more', 'of more than 1000 leaves')]
-WANTED += ['tree with steps', 'a cycle with 2 decided orders', 'a cycle with a step and a decided order', 'an order of 2 decided above', 'graph']
+WANTED += ['tree with steps', 'a cycle with 2 decided orders', 'a cycle with a step and a decided order', 'graph']
 
 Op = collections.namedtuple('Op', 'kind key wid line')
 
@@ -350,7 +350,6 @@ class Telling:
             told(said in rights, '%s: %s before %s: %s: wanted %s' % (where, a, b, said, ' or '.join(rights)))
             self.used |= {rights[said]} if kind == 'forced' else set()
             self.met['%s %s' % (self.what if decided or self.what == 'A9' else 'step', kind)] += 1
-            self.met['an order of 2 decided above'] += len(rights) > 1
             found.append((a, b, rights[said]))
         told(found, '%s: no edge at %r' % (where, self.rest()))
         return found
