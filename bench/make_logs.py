@@ -163,6 +163,32 @@ def crossed(count, readers):
             yield 'commit'
 
 
+def one_long_write(chain, writes, keys):
+    """A chain of so many writers of these keys, and a transaction that writes them so many times, in turn. Either order of the two chains
+    goes with no order of p and q, each way by a cycle with an edge from a reader of the last of one chain to the first of the other. Before
+    these stand four open choices, so that a search that takes the first open choice comes to these cycles sixteen times."""
+    def last(w):
+        return [(key, w * len(keys) + i + 1) for i, key in enumerate(keys)]
+    session = 0
+    linked = [['w %s %d' % at for at in last(0)] + ['w h 500001']]
+    linked += [['r %s %d' % at for at in last(t - 1)] + ['w %s %d' % at for at in last(t)] for t in range(1, chain)]
+    lines = [[['w k%d %d' % (k, 600000 + 2 * k + w)]] for k in range(4) for w in range(2)]
+    lines += [linked]
+    lines += [[['w b 500002'] + ['w %s %d' % (keys[i % len(keys)], 100000 + i) for i in range(writes)]]]
+    ends = [(keys[i % len(keys)], 100000 + i) for i in range(writes - len(keys), writes)]
+    of_chain, of_long = (['r %s %d' % at for at in ats] for ats in (last(chain - 1), ends))
+    lines += [[['w z 500003', 'w p 500004']], [['w z 500005', 'w q 500006']]]
+    lines += [[['r z 500003', 'r b 500002']], [['r z 500005', 'r b 500002']], [['r z 500003', 'r h 500001']], [['r z 500005', 'r h 500001']]]
+    lines += [[of_chain + ['r q 500006']], [of_chain + ['r p 500004']], [of_long + ['r q 500006']], [of_long + ['r p 500004']]]
+    for transactions in lines:
+        session += 1
+        yield 'session %d' % session
+        for ops in transactions:
+            yield 'begin'
+            yield from ops
+            yield 'commit'
+
+
 write('choices_400.log', choices())
 write('choices_1000.log', choices_of_eight_keys())
 write('one_session_400.log', one_session(400, 'x'))
@@ -179,6 +205,9 @@ write('forks_5.log', forks(5))
 write('forks_20.log', forks(20))
 write('crossed_392.log', crossed(12, 15))
 write('crossed_992.log', crossed(12, 40))
+write('crossed_984.log', crossed(8, 60))
+write('one_long_write_1.log', one_long_write(800, 190000, 'x'))
+write('one_long_write_2.log', one_long_write(800, 190000, 'xy'))
 write('bipaths_40.log', bipaths(40))
 write('bipaths_41.log', bipaths(41))
 write('operations_100.log', operations(100, True))

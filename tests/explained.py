@@ -44,7 +44,7 @@ WANTED += ['%s %s' % (code, kind) for code in ('A8', 'A9') for kind in ('session
 WANTED += ['A8 of 4 edges or more', 'steps 1', 'steps 2', 'steps 3', 'steps 4 or more', 'a walk of 4 edges or more', 'a cycle with 2 steps']
 WANTED += ['tree ' + kind for kind in ('session', 'read', 'anti-dependency', 'version order', 'moments', 'forced', 'decided',
                                        'of depth 2', 'of depth 3', 'of depth 4 or more', 'of more than 1000 leaves')]
-WANTED += ['tree with steps', 'a cycle with 2 decided orders', 'a cycle with a step and a decided order', 'graph']
+WANTED += ['tree with steps', 'a cycle with 2 decided orders', 'a cycle with a step and a decided order', 'an order of 2 decided above', 'graph']
 
 Op = collections.namedtuple('Op', 'kind key wid line')
 
@@ -350,6 +350,7 @@ class Telling:
             told(said in rights, '%s: %s before %s: %s: wanted %s' % (where, a, b, said, ' or '.join(rights)))
             self.used |= {rights[said]} if kind == 'forced' else set()
             self.met['%s %s' % (self.what if decided or self.what == 'A9' else 'step', kind)] += 1
+            self.met['an order of 2 decided above'] += len(rights) > 1
             found.append((a, b, rights[said]))
         told(found, '%s: no edge at %r' % (where, self.rest()))
         return found
@@ -786,14 +787,21 @@ def run_log(seed, version):
     return generate.text_of(list(zip(r.sample(range(1, 99), len(sessions)), sessions)), version)
 
 
-def crossed_log(seed, version):
-    """Writers of two keys, each in a session of its own, and readers of pairs of what they wrote: nothing is forced, and in many logs no
-    choice is left in the end."""
+def crossed_log(seed, version, keys=('x',)):
+    """Writers of these keys and writers of y, each in a session of its own, and readers of pairs of what they wrote: nothing is forced, and
+    in many logs no choice is left in the end."""
     r = random.Random(seed)
-    its = [[('w', key, wid)] for key, wid in (('x', 1), ('x', 2), ('y', 3), ('y', 4))]
-    its += [[('r', 'x', x), ('r', 'y', y)] for x in (1, 2) for y in (3, 4) if r.random() < 0.85]
+    some = lambda kind, those, wid: [(kind, keys[at], wid + 4 * at) for at in those]
+    places = range(len(keys))
+    its = [some('w', places, wid) for wid in (1, 2)] + [[('w', 'y', wid)] for wid in (3, 4)]
+    its += [some('r', r.sample(places, r.randint(1, len(keys))), x) + [('r', 'y', y)] for x in (1, 2) for y in (3, 4) if r.random() < 0.85]
     r.shuffle(its)
     return generate.text_of([(number, [reference.Transaction(ops, 'commit')]) for number, ops in enumerate(its, 1)], version)
+
+
+def doubled_log(seed, version):
+    """The same, where who writes x writes z too: an edge to it may be one of an order of each of them."""
+    return crossed_log(seed, version, ('x', 'z'))
 
 
 def searched_log(seed, version):
@@ -832,7 +840,8 @@ def logs(seeds):
     for number, (text, _) in enumerate(BY_HAND):
         yield 'log %d made by hand' % number, text
     for version in (1, 2, 3):
-        for made, share in ((generate.small_log, 1), (generate.damaged, 0.1), (run_log, 1), (forced_log, 1), (crossed_log, 0.1), (searched_log, 0.5)):
+        for made, share in ((generate.small_log, 1), (generate.damaged, 0.1), (run_log, 1), (forced_log, 1), (crossed_log, 0.1),
+                            (doubled_log, 0.1), (searched_log, 0.5)):
             for seed in range(max(1, int(seeds * share))):
                 yield '%s %d, version %d' % (made.__name__, seed, version), made(seed, version)
 

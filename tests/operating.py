@@ -1,8 +1,8 @@
 #!/usr/bin/env python3
 """operating.py PROGRAM [--plain] [--all] [--version-1]: the program as an operator meets it.
 
-Logs of 16 MiB of bad shapes are answered within 128 MiB, and explained within 208; pipes are closed, devices full, files directories, missing
-or unreadable, standard input is closed, the address space is limited from little to ample, threads are refused. Each run must end
+Logs of 16 MiB of bad shapes are answered and explained within 128 MiB; pipes are closed, devices full, files directories, missing or
+unreadable, standard input is closed, the address space is limited from little to ample, threads are refused. Each run must end
 with the answer that it has with ample means or with a named refusal on standard error and its status, never by a signal, and never
 with half a text and status 0. With --plain the plain formula alone is asked for; with --all the cases of UNSETTLED run too; with
 --version-1 all logs are of version 1. Last line: 'operating: N passed, M failed'."""
@@ -13,8 +13,6 @@ sys.path.insert(0, HERE)
 import answers, explained, generate
 
 BYTES, MEMORY, LATE = 16 * 1024 * 1024, 128 * 1024, 120
-# `explain` reads the log twice, and has both readings at once.
-MEMORY_TO_EXPLAIN = 208 * 1024
 LOG = b'session 1\nbegin\nw x 1\ncommit\nsession 2\nbegin\nw x 2\ncommit\nsession 3\nbegin\nr x 1\ncommit\n'
 # Logs with the same formulas and the same orders.
 LOGS = {1: LOG, 2: b'log 2\n' + LOG.replace(b'commit', b'unknown', 1),
@@ -195,8 +193,7 @@ class Runs:
                 name_of = '16 MiB, %s, %s' % (name, ' '.join(words[:-1]))
                 got, used = self.measured(words)
                 self.case(name_of, lambda: answer_fault(words, got, said))
-                most = MEMORY_TO_EXPLAIN if words[0] == 'explain' else MEMORY
-                self.case('memory of ' + name_of, lambda: '%d KiB' % used if used > most else None)
+                self.case('memory of ' + name_of, lambda: '%d KiB' % used if used > MEMORY else None)
             os.remove(path)
 
     def measured(self, words):

@@ -24,10 +24,12 @@ void *__real_realloc(void *, size_t); void *__wrap_realloc(void *p, size_t n) { 
 '''
 NAME = 'library_calls'
 BELOW = 'branch_search cobra_cli desk dimacs session_log'
-LOGS = ('lost_update', 'crossed_readers', 'chain', 'two_writers', 'forced_choices', 'unknown_read', 'unknown_chain', 'overlap_in_time', 'stale_in_time')
+LOGS = ('lost_update', 'crossed_readers', 'chain', 'two_writers', 'forced_choices', 'unknown_read', 'unknown_chain', 'overlap_in_time', 'stale_in_time',
+        'five_reasons')
 MODELS = {'chain': b's SATISFIABLE\n', 'forced_choices': b's SATISFIABLE\n', 'two_writers': b's SATISFIABLE\nv 1 -2 3 0\n',
           'unknown_read': b's SATISFIABLE\nv 1 -2 3 0\n', 'unknown_chain': b's SATISFIABLE\n', 'overlap_in_time': b's SATISFIABLE\n'}
-EXPLAINED = {'crossed_readers': 'explain', 'lost_update': 'graph', 'stale_in_time': 'explain'}
+# The graph of `five_reasons` has an edge of each kind for which a log gives a reason.
+EXPLAINED = {'crossed_readers': 'explain', 'five_reasons': 'graph', 'lost_update': 'graph', 'stale_in_time': 'explain'}
 WORKERS = ('1', '4')
 MEMORY = ('Memory', 'Log(Memory)', 'Formula(Memory)', 'Answer(Memory)', 'Order(Memory)')
 # Runs side by side, of which none may meet a refusal any more at the end of a sweep.

@@ -1,22 +1,18 @@
 -- What `explain` says, put together.
-use Rattle.std.proofs.Common.{◌≡◌, ℕ, ◌+◌, ◌<◌, ◌≤◌, ◌^◌, Bool, true, false, cond, List, [], ◌∷◌, ◌++◌, length, map, Option, None, Some, Result, Ok, Err, refl, sym, ap, ◌∙◌, subst, arith, length-append}
+use Rattle.std.proofs.Common.{◌≡◌, ℕ, ◌+◌, ◌<◌, ◌≤◌, ◌^◌, Bool, true, false, cond, List, [], ◌∷◌, ◌++◌, length, Option, None, Some, Result, Ok, Err, refl, sym, ap, ◌∙◌, subst, arith, length-append}
 use Rattle.std.specs.Prelude.{IfOk, nat_lt}
 use Rattle.std.proofs.lemmas.Bool.{ltb-false}
-use Rattle.std.specs.List.{AllByRecursion}
-use Rattle.std.specs.Option.{option_or}
-use Rattle.session_log.specs.Text.{ClientSession, IsLegal, line_text, text_of_lines, log_text}
+use Rattle.session_log.specs.Text.{ClientSession, line_text, text_of_lines, log_text}
 use Rattle.session_log.specs.declared.line.Line.{Line}
 use Rattle.session_log.specs.declared.fault.Limit.TheVariants as limit
-use Rattle.session_log.specs.Version.{version_of, first_line, header_text}
+use Rattle.session_log.specs.Version.{first_line, header_text}
 use Rattle.session_log.specs.Blocks.{size_fault}
-use Rattle.session_log.specs.Faults.{grammar_fault, IsFault}
 use Rattle.session_log.specs.declared.version.Version.{Version}
 use Rattle.session_log.specs.declared.version.Version.TheVariants.{One, Two, Three}
 use Rattle.session_log.specs.declared.fault.LogFault.{LogFault}
 use Rattle.session_log.specs.declared.fault.LogFault.TheVariants as faults
-use Rattle.session_log.proofs.Whole.{log_text_injective, grammar_fault_none, log_by_lines}
-use Rattle.gather.specs.Pieces.{reading_fault}
-use Rattle.log_definitions.specs.WellFormed.{IsWellFormed, log_lines}
+use Rattle.session_log.proofs.Whole.{log_by_lines}
+use Rattle.log_definitions.specs.WellFormed.{log_lines}
 use Rattle.cobra_answers.specs.declared.reply.Reply.{Reply}
 use Rattle.cobra_answers.specs.declared.status.Status.{Status}
 use Rattle.cobra_answers.specs.declared.status.Status.TheVariants.{Done, NotSerializable, Unknown}
@@ -32,30 +28,7 @@ use Rattle.cobra_cli.specs.Placed.{IsPlaced}
 use Rattle.cobra_cli.specs.Explained.{head, advice, IsSerialTold, IsRefusalExplained, IsSpentTold, IsExplanation}
 use Rattle.cobra_cli.proofs.Answering.{searched_so}
 
--- ---- the log is read once more
-pub same_sessions : (log : List ℕ) (ss ts : List ClientSession) → IsWellFormed log ss → AllByRecursion IsLegal ts → log ≡ log_text (version_of log) ts → ss ≡ ts
-same_sessions log ss ts w legal lines =
-    let both = log_text_injective (version_of log) (version_of log) ss ts w.legal legal (sym w.lines ∙ lines) in both.1
-
-pub no_fault : (log : List ℕ) (ss : List ClientSession) → IsWellFormed log ss → reading_fault log ≡ None
-no_fault log ss w =
-    let grammar = subst (λ text. grammar_fault text ≡ None) (sym w.lines) (grammar_fault_none (version_of log) ss w.legal w.held) in
-    let size = w.size in
-    rw (size, grammar) refl
-
--- only want of memory is a fault where there is none
-pub memory_alone : (f : LogFault) → IsFault f None → f ≡ faults.Memory
-memory_alone faults.Memory h = refl
-memory_alone (faults.BadLine k) h = cc
-memory_alone (faults.SessionTwice k) h = cc
-memory_alone (faults.OutsideTransaction k) h = cc
-memory_alone (faults.OpenTransaction k) h = cc
-memory_alone (faults.WriteZero k) h = cc
-memory_alone (faults.WriteTwice k) h = cc
-memory_alone (faults.UnknownNotLast k) h = cc
-memory_alone (faults.EndsBeforeBegin k) h = cc
-memory_alone (faults.OverLimit k) h = cc
-
+-- ---- the lines of a log
 pub first_within : (v : Version) → first_line v ≤ 2
 first_within One = omega arith
 first_within Two = omega arith

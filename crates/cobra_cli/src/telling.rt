@@ -26,12 +26,11 @@ use cobra_answers::{
 use desk::gate::Gate;
 use dimacs::Sink;
 use explaining::{Format, explain_anomaly, explain_cycle, explain_dead, explain_tree};
-use gather::collect;
 use log_lines::begin_lines;
 use prune_ledger::{Ledger, Reduced};
 use reduction::{Reduction, reduce};
 use session_history::{Anomaly, History, NodeIx, Order};
-use session_log::{LogFault, Session, Version};
+use session_log::Version;
 use std::alloc::{AllocError, Global};
 use std::sync::Wait;
 use std::thread::Threads;
@@ -50,47 +49,21 @@ const ADVICE: &[u8] =
 /// A graph without boxes.
 const EMPTY_GRAPH: &[u8] = b"strict digraph explanation {\nnode [shape=box];\n}\n";
 
-/// The sessions of a log, and the lines at which its nodes begin.
+/// The version of a log, and the lines at which its nodes begin.
 #[derive(Drop)]
 struct Placed {
     version: Version,
-    sessions: Vec<Session>,
     begins: Vec<usize>,
 }
 
-/// The sessions of a log that was read before, and the lines at which its nodes begin.
-fn place_nodes<R: Threads + Wait + Clock + Sync, G: Gate>(
-    rt: &R,
-    alloc: Global,
-    log: &[u8],
-    history: &History,
-    options: &Options,
-    gate: &G,
-) -> Result<Placed, AllocError>
+/// The version of a log, and the lines at which the nodes of its history begin.
+fn place_nodes(alloc: Global, log: &[u8], history: &History) -> Result<Placed, AllocError>
     requires well_formed { IsWellFormed log.now history.now }
     ensures placed { IfOk result (IsPlaced (version_of log.now) history.now) }
 {
-    match collect(rt, alloc, log, options.workers, gate) {
-        Ok((version, sessions)) => {
-            let begins = begin_lines(alloc, version, &sessions, history)?;
-            Ok(Placed {
-                version,
-                sessions,
-                begins,
-            })
-        }
-        Err(fault) => Err(only_memory(fault)),
-    }
-}
-
-/// The fault of a log that was read before, which can be want of memory alone.
-fn only_memory(fault: LogFault) -> AllocError
-    requires { fault ≡ LogFault.Memory }
-{
-    match fault {
-        LogFault::Memory => AllocError,
-        _ => unreachable!(),
-    }
+    let version = Version::of(log);
+    let begins = begin_lines(alloc, version, history)?;
+    Ok(Placed { version, begins })
 }
 
 /// What `check` says, or in a graph its first line as a comment.
@@ -155,7 +128,6 @@ fn anomalous(
     let why = explain_anomaly(
         alloc,
         placed.version,
-        &placed.sessions,
         history,
         &placed.begins,
         format,
@@ -330,7 +302,7 @@ pub fn explain<R: Threads + Wait + Clock + Sync, G: Gate, W: Sink>(
     ensures count { W.failures sink.new ≡ failures_after (W.failures sink.old) result }
 {
     let history = read_log(rt, alloc, log, options.workers, gate)?;
-    let placed = place_nodes(rt, alloc, log, &history, options, gate)?;
+    let placed = place_nodes(alloc, log, &history)?;
     let reply = explained(rt, alloc, &history, &placed, options, format, gate)?;
     tell(sink, &reply)
 }

@@ -1,7 +1,6 @@
 //! Anomalies.
 
-ghost use Rattle.std.specs.Prelude.{◌≡◌, ◌+◌, ◌<◌, ◌^◌, length, map, IfOk};
-ghost use Rattle.session_log.specs.Text.{view};
+ghost use Rattle.std.specs.Prelude.{◌≡◌, ◌+◌, ◌<◌, ◌^◌, length, IfOk};
 ghost use Rattle.session_log.specs.Version.{first_line};
 ghost use Rattle.serializability.specs.Anomalies.{anomaly_of};
 ghost use Rattle.log_definitions.specs.WellFormed.{log_lines};
@@ -15,21 +14,19 @@ use crate::written::written_lines;
 use explanations::put_anomaly;
 use serializability::Anomaly;
 use session_history::History;
-use session_log::{Session, Version};
+use session_log::Version;
 use std::alloc::{AllocError, Global};
 
-/// The operations that show an anomaly, which is the one of a history. The history is that of these sessions, which were read from a
-/// log of this version. Of `begins`, element `v - 1` is the line at which node `v` begins.
+/// The operations that show an anomaly, which is the one of a history. The history is that of a log of this version. Of `begins`,
+/// element `v - 1` is the line at which node `v` begins.
 pub fn explain_anomaly(
     alloc: Global,
     version: Version,
-    sessions: &[Session],
     history: &History,
     begins: &[usize],
     format: Format,
     anomaly: Anomaly,
 ) -> Result<Vec<u8>, AllocError>
-    requires same { history.now ≡ map view sessions.now }
     requires room { length (log_lines history.now) + 2 < 2 ^ 63 }
     requires lines { AreBeginLines (first_line version) history.now begins.now }
     requires reported { anomaly_of (log_of history.now) ≡ Some anomaly }
@@ -37,6 +34,6 @@ pub fn explain_anomaly(
         history.now (begin_at begins.now) anomaly text.items) }
 {
     let mut lines = Vec::new(alloc);
-    put_anomaly(&mut lines, version, sessions, history, begins, anomaly)?;
+    put_anomaly(&mut lines, version, history, begins, anomaly)?;
     written_lines(alloc, format, lines)
 }

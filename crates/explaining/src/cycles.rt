@@ -16,14 +16,14 @@ use session_history::History;
 use std::alloc::{AllocError, Global};
 
 /// Why the log shows that `a` stands before `b`, where it does.
-fn reason(history: &History, a: NodeIx, b: NodeIx) -> Reason
+fn reason(alloc: Global, history: &History, a: NodeIx, b: NodeIx) -> Result<Reason, AllocError>
     requires clean { IsClean (log_of history.now) }
     requires shown { IsShown history.now a b }
-    ensures why { IsWhy history.now [] [] a b (why.Known result) }
+    ensures why { IfOk result (λ reason. IsWhy history.now [] [] a b (why.Known reason)) }
 {
     let _nodes = history.committed();
-    match reason_of(history, a, b) {
-        Some(reason) => reason,
+    match reason_of(alloc, history, a, b)? {
+        Some(reason) => Ok(reason),
         None => unreachable!(),
     }
 }
@@ -42,7 +42,8 @@ pub fn tell_cycle(
     for i in 1..line.len() {
         let first = line[i - 1];
         let second = line[i];
-        let why = Why::Known(reason(history, first, second));
+        let shown = reason(alloc, history, first, second)?;
+        let why = Why::Known(shown);
         items.push(Item::Edge { first, second, why })?;
     }
     Ok(items)

@@ -20,7 +20,7 @@ lines-append a b = ap (λ l. length l) (flat_map-append session_lines a b) ∙ l
 pub txns-append : (a b : List Transaction) → length (flat_map txn_lines (a ++ b)) ≡ length (flat_map txn_lines a) + length (flat_map txn_lines b)
 txns-append a b = ap (λ l. length l) (flat_map-append txn_lines a b) ∙ length-append (flat_map txn_lines a) (flat_map txn_lines b)
 
-pub txn-length : (t : Transaction) → length (txn_lines t) ≡ length t.ops + 2
+txn-length : (t : Transaction) → length (txn_lines t) ≡ length t.ops + 2
 txn-length t =
     let whole = length-append (map line_of_op t.ops) (end_line t.outcome t.ended ∷ []) in
     let ops = length-map t.ops line_of_op in

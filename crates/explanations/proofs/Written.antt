@@ -18,7 +18,7 @@ use Rattle.log_definitions.specs.Unknown.{txns_in, ops_in}
 use Rattle.log_definitions.specs.WellFormed.{log_lines}
 use Rattle.explanations.specs.Writes.{is_write_as, IsNoneWrite, FindsIn, Finds}
 use Rattle.explanations.specs.declared.writes.WriteAt.{WriteAt}
-use Rattle.explanations.proofs.Begun.{lines-append, txns-append, txn-length}
+use Rattle.explanations.proofs.Begun.{lines-append, txns-append}
 use Rattle.explanations.proofs.Found.{front, cut, front_all, front_length, none_at}
 use Rattle.explanations.proofs.Ops.{item_at}
 
@@ -63,17 +63,16 @@ pub before_none : (n : ℕ) (key : List ℕ) (wid : ℕ) (txns : List Txn) → I
 before_none n key wid txns = record { begins = omega arith; none = none_among key wid }
 
 pub before_more : (n : ℕ) (key : List ℕ) (wid : ℕ) (txns : List Txn) (i line : ℕ) (x : Txn) → i < length txns → x ≡ get_or txns i x → IsBefore n key wid txns i line → None ≡ position (is_write_as key wid) x.ops.items
-    → IsBefore n key wid txns (i + 1) (line + (length x.ops.items + 2))
+    → IsBefore n key wid txns (i + 1) (line + length (txn_lines (view_txn x)))
 before_more n key wid txns i line x h at b e =
     let before = map view_txn (take i txns) in
     let more = front view_txn txns i x h at in
     let lines = ap (λ ts. length (flat_map txn_lines ts)) more ∙ txns-append before (view_txn x ∷ []) in
     let one = ap (λ ls. length ls) (append-nil (txn_lines (view_txn x))) in
-    let size = txn-length (view_txn x) in
     let ops : txn_ops (map view_txn (take (i + 1) txns)) ≡ txn_ops before ++ x.ops.items =
     ap txn_ops more ∙ flat_map-append (λ t. t.ops) before (view_txn x ∷ []) ∙ ap (λ l. txn_ops before ++ l) (append-nil x.ops.items) in
     record {
-      begins = omega (arith, lines, one, size, b.begins);
+      begins = omega (arith, lines, one, b.begins);
       none = subst (λ l. IsNoneWrite key wid l) (sym ops) (none-append key wid (txn_ops before) x.ops.items b.none (no_write key wid x.ops.items e));
     }
 
@@ -82,14 +81,13 @@ before_all n key wid txns i line le b = subst (λ ts. IsNoneWrite key wid (flat_
 
 -- the lines of one transaction stand in those of the session
 pub txn_within : (s : Session) (i : ℕ) (x : Txn) → i < length s.txns.items → x ≡ get_or s.txns.items i x
-    → 1 + length (flat_map txn_lines (map view_txn (take i s.txns.items))) + (length x.ops.items + 2) ≤ length (session_lines (view s))
+    → 1 + length (flat_map txn_lines (map view_txn (take i s.txns.items))) + length (txn_lines (view_txn x)) ≤ length (session_lines (view s))
 txn_within s i x h at =
     let before = map view_txn (take i s.txns.items) in
     let behind = map view_txn (drop (i + 1) s.txns.items) in
     let all = ap (λ ts. length (flat_map txn_lines ts)) (cut view_txn s.txns.items i x h at) ∙ txns-append before (view_txn x ∷ behind) in
     let one = length-append (txn_lines (view_txn x)) (flat_map txn_lines behind) in
-    let size = txn-length (view_txn x) in
-    omega (arith, all, one, size)
+    omega (arith, all, one)
 
 pub write_within : (n : ℕ) (s : Session) (key : List ℕ) (wid i line j at : ℕ) (x : Txn) → i < length s.txns.items → x ≡ get_or s.txns.items i x → IsBefore n key wid s.txns.items i line → Some j ≡ position (is_write_as key wid) x.ops.items
     → FindsIn n s key wid (record { session = at; txn = i; begin = line; op = j })

@@ -176,13 +176,11 @@ fn put_writer(
 fn put_read(
     out: &mut Vec<u8>,
     first: usize,
-    sessions: &[Session],
     history: &History,
     begins: &[usize],
     node: NodeIx,
     op: usize,
 ) -> Result<(), AllocError>
-    requires same { history.now ≡ map view sessions.now }
     requires room { first + length (log_lines history.now) < 2 ^ 63 }
     requires lines { AreLines history.now begins.now }
     requires node { IsNode history.now node }
@@ -194,7 +192,7 @@ fn put_read(
     put_reads(out, history, begins, node, op)?;
     let key = key_at(history, node, op);
     let wid = wid_at(history, node, op);
-    put_writer(out, first, sessions, key, wid)?;
+    put_writer(out, first, history.sessions(), key, wid)?;
     put_text(out, b"\n")?;
     Ok(())
 }
@@ -289,13 +287,11 @@ fn put_before_read(
 fn put_bad_read(
     out: &mut Vec<u8>,
     first: usize,
-    sessions: &[Session],
     history: &History,
     begins: &[usize],
     node: NodeIx,
     op: usize,
 ) -> Result<(), AllocError>
-    requires same { history.now ≡ map view sessions.now }
     requires room { first + length (log_lines history.now) < 2 ^ 63 }
     requires lines { AreLines history.now begins.now }
     requires node { IsNode history.now node }
@@ -304,7 +300,7 @@ fn put_bad_read(
     ensures told { OnOk result (Appends out.old.items out.new.items
         (IsBadReadTold first history.now (begin_at begins.now) node op)) }
 {
-    put_read(out, first, sessions, history, begins, node, op)?;
+    put_read(out, first, history, begins, node, op)?;
     put_before_read(out, history, begins, node, op)?;
     Ok(())
 }
@@ -362,13 +358,11 @@ fn update_write(history: &History, node: NodeIx, key: usize, read: usize) -> usi
 fn put_update(
     out: &mut Vec<u8>,
     first: usize,
-    sessions: &[Session],
     history: &History,
     begins: &[usize],
     key: usize,
     node: NodeIx,
 ) -> Result<(), AllocError>
-    requires same { history.now ≡ map view sessions.now }
     requires room { first + length (log_lines history.now) < 2 ^ 63 }
     requires lines { AreLines history.now begins.now }
     requires update { (source : ℕ) × IsUpdate (log_of history.now) key source node }
@@ -377,7 +371,7 @@ fn put_update(
 {
     let read = update_read(history, node, key);
     let write = update_write(history, node, key, read);
-    put_read(out, first, sessions, history, begins, node, read)?;
+    put_read(out, first, history, begins, node, read)?;
     put_overwrites(out, history, begins, node, write)?;
     Ok(())
 }
@@ -386,13 +380,11 @@ fn put_update(
 fn put_updates(
     out: &mut Vec<u8>,
     from: usize,
-    sessions: &[Session],
     history: &History,
     begins: &[usize],
     key: usize,
     nodes: (NodeIx, NodeIx),
 ) -> Result<(), AllocError>
-    requires same { history.now ≡ map view sessions.now }
     requires room { from + length (log_lines history.now) < 2 ^ 63 }
     requires lines { AreLines history.now begins.now }
     requires first { (source : ℕ) × IsUpdate (log_of history.now) key source nodes.0 }
@@ -400,22 +392,20 @@ fn put_updates(
     ensures told { OnOk result (Appends out.old.items out.new.items
         (spec.AreUpdatesTold from history.now (begin_at begins.now) key nodes.0 nodes.1)) }
 {
-    put_update(out, from, sessions, history, begins, key, nodes.0)?;
-    put_update(out, from, sessions, history, begins, key, nodes.1)?;
+    put_update(out, from, history, begins, key, nodes.0)?;
+    put_update(out, from, history, begins, key, nodes.1)?;
     Ok(())
 }
 
-/// Appends the lines that show the anomaly of a log, whose sessions these are. Of `begins`, element `v - 1` is the line at which node
-/// `v` begins. Where memory runs out, a part of the lines may have been appended.
+/// Appends the lines that show the anomaly of a log. Of `begins`, element `v - 1` is the line at which node `v` begins. Where memory
+/// runs out, a part of the lines may have been appended.
 pub fn put_anomaly(
     out: &mut Vec<u8>,
     version: Version,
-    sessions: &[Session],
     history: &History,
     begins: &[usize],
     anomaly: Anomaly,
 ) -> Result<(), AllocError>
-    requires same { history.now ≡ map view sessions.now }
     requires room { length (log_lines history.now) + 2 < 2 ^ 63 }
     requires lines { AreBeginLines (first_line version) history.now begins.now }
     requires reported { anomaly_of (log_of history.now) ≡ Some anomaly }
@@ -424,14 +414,12 @@ pub fn put_anomaly(
 {
     let from = version.first_line();
     match anomaly {
-        Anomaly::Read { node, op, .. } => {
-            put_bad_read(out, from, sessions, history, begins, node, op - 1)
-        }
+        Anomaly::Read { node, op, .. } => { put_bad_read(out, from, history, begins, node, op - 1) }
         Anomaly::LostUpdate {
             key,
             first,
             second,
             ..
-        } => { put_updates(out, from, sessions, history, begins, key, (first, second)) }
+        } => { put_updates(out, from, history, begins, key, (first, second)) }
     }
 }

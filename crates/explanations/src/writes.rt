@@ -2,11 +2,12 @@
 
 ghost use Rattle.std.specs.Prelude.{◌≡◌, ℕ, ◌+◌, ◌<◌, ◌^◌, Some, length, map, position, slice_get, IfSome, IfNone};
 ghost use Rattle.std.specs.List.{flat_map};
-ghost use Rattle.session_log.specs.Text.{view, view_txn, session_lines};
+ghost use Rattle.session_log.specs.Text.{view, session_lines};
 ghost use Rattle.log_definitions.specs.Unknown.{ops_in};
 ghost use Rattle.log_definitions.specs.WellFormed.{log_lines};
 ghost use Rattle.explanations.specs.Writes.{is_write_as, IsNoneWrite, FindsIn, Finds};
 
+use log_lines::{session_line_count, txn_line_count};
 use session_log::{Op, Session, Txn};
 
 /// Where a write stands.
@@ -47,18 +48,6 @@ pub fn op_among(ops: &[Op], at: usize) -> &Op
     &ops[at]
 }
 
-/// How many lines a session has.
-fn line_count(session: &Session) -> usize
-    requires { length (session_lines (view session.now)) < 2 ^ 64 }
-    ensures { result ≡ length (session_lines (view session.now)) }
-{
-    let mut count = 1;
-    for txn in &session.txns {
-        count += txn.ops.len() + 2;
-    }
-    count
-}
-
 /// Whether an operation writes the key under this identity.
 fn is_write_as(op: &Op, key: &[u8], wid: u64) -> bool
     ensures { result ≡ is_write_as key.now wid op.now }
@@ -97,7 +86,7 @@ fn write_in(session: &Session, at: usize, first: usize, key: &[u8], wid: u64) ->
                 op,
             });
         }
-        begin += txn.ops.len() + 2;
+        begin += txn_line_count(txn);
     }
     None
 }
@@ -113,7 +102,7 @@ pub fn write_at(sessions: &[Session], first: usize, key: &[u8], wid: u64) -> Opt
         if let Some(write) = write_in(session, at, line, key, wid) {
             return Some(write);
         }
-        line += line_count(session);
+        line += session_line_count(session);
     }
     None
 }

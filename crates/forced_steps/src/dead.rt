@@ -61,7 +61,15 @@ fn tell_with(
     let start = cycle[0];
     let edges = cycle.len() - 1;
     items.extend_from_slice(&[Item::Cycle { start, edges }])?;
-    put_edges(&mut items, &grounds, answers, history, &told.numbers, cycle)?;
+    put_edges(
+        alloc,
+        &mut items,
+        &grounds,
+        answers,
+        history,
+        &told.numbers,
+        cycle,
+    )?;
     Ok(items)
 }
 

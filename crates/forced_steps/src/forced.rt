@@ -5,19 +5,19 @@ ghost use Rattle.std.specs.List.{All};
 ghost use Rattle.serializability.specs.Reads.{IsClean};
 ghost use Rattle.log_definitions.specs.Numbers.{log_of};
 ghost use Rattle.forced_steps.specs.Steps.{IsOrder, IsWhy, IsLineTold, AreStepsTold};
-ghost use Rattle.forced_steps.specs.Lines.{HasLedger, IsLineOfNodes, IsCovered, HasEdges, TellsLine, Stands, LineStands, AreGrounds};
+ghost use Rattle.forced_steps.specs.Lines.{HasLedger, IsLineOfNodes, IsCovered, HasEdges, TellsLine, Stands, LineStands, AreAnswers, AreGrounds};
 ghost use Rattle.forced_steps.specs.Told.{IsPut, WhyPut};
 
 use crate::dead::grounds_in;
 use crate::decided::order_with;
 use crate::firsts::grounds_of;
-use crate::ground::{Grounds, entry_with, no_answers};
+use crate::ground::{Grounds, answer, entry_with, no_answers};
 use crate::item::Item;
 use crate::marks::needed_entries;
 use crate::steps::told_steps;
 use explanations::{ChainOrder, Why};
 use prune_ledger::LedgerEntry;
-use reasons::reason_of;
+use reasons::Reason;
 use serializability::NodeIx;
 use session_history::History;
 use std::alloc::{AllocError, Global};
@@ -33,6 +33,8 @@ pub struct Steps<'a> {
     entries: &'a [LedgerEntry],
     grounds: Grounds,
     told: Vec<Item>,
+    /// Of each edge that was asked for, why it stands, where the log shows it.
+    answers: Vec<Option<Option<Reason>>>,
 }
 
 impl<'a> Model for Steps<'a> {
@@ -74,32 +76,37 @@ pub fn steps_of<'a>(
         entries,
         grounds: firsts,
         told: told.items,
+        answers: table,
     })
 }
 
 /// Why `a` stands before `b`: where the log does not show it, by the first of these steps that has the edge, and where none has, by
 /// the first of the decided orders that has it.
 fn why_among(
+    alloc: Global,
+    answers: &mut [Option<Option<Reason>>],
     history: &History,
     chains: &Chains<'_>,
     steps: &Grounds,
     decided: &[ChainOrder],
     a: NodeIx,
     b: NodeIx,
-) -> Why
+) -> Result<Why, AllocError>
     requires clean { IsClean (log_of history.now) }
     requires chains { chains.now ≡ history.now }
     requires steps { AreGrounds history.now steps.now }
     requires decided { All (IsOrder (log_of history.now)) decided.now }
+    requires answers { AreAnswers history.now answers.old }
     requires stands { Stands history.now steps.now.kept.items decided.now a b }
-    ensures why { IsWhy history.now steps.now.kept.items decided.now a b result }
+    ensures answers { AreAnswers history.now answers.new }
+    ensures why { IfOk result (IsWhy history.now steps.now.kept.items decided.now a b) }
 {
-    match reason_of(history, a, b) {
-        Some(reason) => Why::Known(reason),
+    match answer(alloc, answers, history, a, b)? {
+        Some(reason) => Ok(Why::Known(reason)),
         None => match entry_with(steps, a, b) {
-            Some(step) => Why::Forced(step),
+            Some(step) => Ok(Why::Forced(step)),
             None => match order_with(chains, decided, a, b) {
-                Some(order) => Why::Chosen(order),
+                Some(order) => Ok(Why::Chosen(order)),
                 None => unreachable!(),
             },
         },
@@ -108,7 +115,9 @@ fn why_among(
 
 /// Appends an edge, and why it stands among these steps.
 fn put_edge_among(
+    alloc: Global,
     items: &mut Vec<Item>,
+    answers: &mut [Option<Option<Reason>>],
     history: &History,
     chains: &Chains<'_>,
     steps: &Grounds,
@@ -120,16 +129,22 @@ fn put_edge_among(
     requires chains { chains.now ≡ history.now }
     requires steps { AreGrounds history.now steps.now }
     requires decided { All (IsOrder (log_of history.now)) decided.now }
+    requires answers { AreAnswers history.now answers.old }
     requires stands { Stands history.now steps.now.kept.items decided.now first second }
+    ensures answers { AreAnswers history.now answers.new }
     ensures put { OnOk result (WhyPut history.now steps.now.kept.items decided.now first second items.old.items items.new.items) }
 {
-    let why: Why = why_among(history, chains, steps, decided, first, second);
+    let why: Why = why_among(
+        alloc, answers, history, chains, steps, decided, first, second,
+    )?;
     items.extend_from_slice(&[Item::Edge { first, second, why }])
 }
 
 /// Appends the edges of a line, each with why it stands among these steps.
 fn put_edges_among(
+    alloc: Global,
     items: &mut Vec<Item>,
+    answers: &mut [Option<Option<Reason>>],
     history: &History,
     chains: &Chains<'_>,
     steps: &Grounds,
@@ -140,12 +155,24 @@ fn put_edges_among(
     requires chains { chains.now ≡ history.now }
     requires steps { AreGrounds history.now steps.now }
     requires decided { All (IsOrder (log_of history.now)) decided.now }
+    requires answers { AreAnswers history.now answers.old }
     requires stands { LineStands history.now steps.now.kept.items decided.now line.now }
+    ensures answers { AreAnswers history.now answers.new }
     ensures put { OnOk result (IsPut items.old.items items.new.items
         (IsLineTold history.now steps.now.kept.items decided.now line.now)) }
 {
     for i in 0..line.len() - 1 {
-        put_edge_among(items, history, chains, steps, decided, line[i], line[i + 1])?;
+        put_edge_among(
+            alloc,
+            items,
+            answers,
+            history,
+            chains,
+            steps,
+            decided,
+            line[i],
+            line[i + 1],
+        )?;
     }
     Ok(())
 }
@@ -161,21 +188,26 @@ impl<'a> Steps<'a> {
     }
 
     /// Appends the edges of a line, each with why it stands: by a reason in the log, by the first step that has the edge, or by a
-    /// decided order that has it. One of these is there by what is required, so the one error is that of `items` where memory runs out.
+    /// decided order that has it. One of these is there by what is required, so the one error is that memory runs out. What the log
+    /// shows of an edge is looked up once.
     pub fn put_line(
-        &self,
+        &mut self,
+        alloc: Global,
         items: &mut Vec<Item>,
         decided: &[ChainOrder],
         line: &[NodeIx],
     ) -> Result<(), AllocError>
-        requires line { IsLineOfNodes self.now.sessions line.now }
-        requires decided { All (IsOrder (log_of self.now.sessions)) decided.now }
-        requires covered { IsCovered self.now line.now }
-        requires edges { HasEdges self.now decided.now line.now }
-        ensures told { OnOk result (TellsLine self.now decided.now line.now items.old.items items.new.items) }
+        requires line { IsLineOfNodes self.old.sessions line.now }
+        requires decided { All (IsOrder (log_of self.old.sessions)) decided.now }
+        requires covered { IsCovered self.old line.now }
+        requires edges { HasEdges self.old decided.now line.now }
+        ensures same { self.new ≡ self.old }
+        ensures told { OnOk result (TellsLine self.old decided.now line.now items.old.items items.new.items) }
     {
         put_edges_among(
+            alloc,
             items,
+            self.answers.as_mut_slice(),
             self.history,
             self.chains,
             &self.grounds,

@@ -45,39 +45,30 @@ pub fn no_answers(
     vec![in alloc; None; cells(nodes)]
 }
 
-/// Why `a` stands before `b`, where the log shows it.
-fn answer(
+/// Why `a` stands before `b`, where the log shows it, asked of the log once.
+pub fn answer(
+    alloc: Global,
     answers: &mut [Option<Option<Reason>>],
     history: &History,
     a: NodeIx,
     b: NodeIx,
-) -> Option<Reason>
+) -> Result<Option<Reason>, AllocError>
     requires clean { IsClean (log_of history.now) }
     requires answers { AreAnswers history.now answers.old }
     requires first { IsBetween history.now a }
     requires second { IsBetween history.now b }
     ensures answers { AreAnswers history.now answers.new }
-    ensures answer { IsAnswer history.now a b result }
+    ensures answer { IfOk result (IsAnswer history.now a b) }
 {
     let place = cell(history.committed(), a, b);
     match answers[place] {
-        Some(known) => known,
+        Some(known) => Ok(known),
         None => {
-            let found = reason(history, a, b);
+            let found = reason_of(alloc, history, a, b)?;
             answers[place] = Some(found);
-            found
+            Ok(found)
         }
     }
-}
-
-/// Why `a` stands before `b`, where the log shows it.
-fn reason(history: &History, a: NodeIx, b: NodeIx) -> Option<Reason>
-    requires clean { IsClean (log_of history.now) }
-    requires first { IsBetween history.now a }
-    requires second { IsBetween history.now b }
-    ensures answer { IsAnswer history.now a b result }
-{
-    reason_of(history, a, b)
 }
 
 /// The first entry that keeps the edge, where one does.
@@ -116,48 +107,50 @@ fn is_between(history: &History, node: NodeIx) -> bool
 
 /// The first entry that keeps the edge, where both are nodes other than node 0 and the log does not show the edge.
 pub fn entry_of(
+    alloc: Global,
     grounds: &Grounds,
     answers: &mut [Option<Option<Reason>>],
     history: &History,
     a: NodeIx,
     b: NodeIx,
-) -> Option<usize>
+) -> Result<Option<usize>, AllocError>
     requires clean { IsClean (log_of history.now) }
     requires grounds { AreGrounds history.now grounds.now }
     requires answers { AreAnswers history.now answers.old }
     ensures answers { AreAnswers history.now answers.new }
-    ensures entry { IsEntry history.now (sides_of history.now grounds.now.kept.items) a b result }
+    ensures entry { IfOk result (IsEntry history.now (sides_of history.now grounds.now.kept.items) a b) }
 {
     if !is_between(history, a) {
-        return None;
+        return Ok(None);
     }
     if !is_between(history, b) {
-        return None;
+        return Ok(None);
     }
-    match answer(answers, history, a, b) {
-        Some(_reason) => None,
-        None => entry_with(grounds, a, b),
+    match answer(alloc, answers, history, a, b)? {
+        Some(_reason) => Ok(None),
+        None => Ok(entry_with(grounds, a, b)),
     }
 }
 
 /// What the edge from `a` to `b` rests on.
 pub fn ground_of(
+    alloc: Global,
     grounds: &Grounds,
     answers: &mut [Option<Option<Reason>>],
     history: &History,
     a: NodeIx,
     b: NodeIx,
-) -> Ground
+) -> Result<Ground, AllocError>
     requires clean { IsClean (log_of history.now) }
     requires grounds { AreGrounds history.now grounds.now }
     requires answers { AreAnswers history.now answers.old }
     requires rests { Rests history.now (sides_of history.now grounds.now.kept.items)
         (length grounds.now.kept.items) a b }
     ensures answers { AreAnswers history.now answers.new }
-    ensures ground { IsGround history.now (sides_of history.now grounds.now.kept.items) a b result }
+    ensures ground { IfOk result (IsGround history.now (sides_of history.now grounds.now.kept.items) a b) }
 {
-    match answer(answers, history, a, b) {
-        Some(reason) => Ground::Known(reason),
-        None => Ground::Kept(first_with(grounds, a, b)),
+    match answer(alloc, answers, history, a, b)? {
+        Some(reason) => Ok(Ground::Known(reason)),
+        None => Ok(Ground::Kept(first_with(grounds, a, b))),
     }
 }

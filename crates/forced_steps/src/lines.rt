@@ -1,6 +1,6 @@
 //! Lines of nodes, told edge by edge.
 
-ghost use Rattle.std.specs.Prelude.{◌≡◌, length, OnOk};
+ghost use Rattle.std.specs.Prelude.{◌≡◌, length, IfOk, OnOk};
 ghost use Rattle.serializability.specs.Reads.{IsClean};
 ghost use Rattle.log_definitions.specs.Numbers.{log_of};
 ghost use Rattle.forced_steps.specs.Lines.{sides_of, Rests, LineRests, AreAnswers, AreGrounds};
@@ -12,17 +12,18 @@ use explanations::Why;
 use reasons::Reason;
 use serializability::NodeIx;
 use session_history::History;
-use std::alloc::AllocError;
+use std::alloc::{AllocError, Global};
 
 /// Why `a` stands before `b`, where the entries of a ledger are told as the steps of these numbers.
 fn why_of(
+    alloc: Global,
     grounds: &Grounds,
     answers: &mut [Option<Option<Reason>>],
     history: &History,
     numbers: &[usize],
     a: NodeIx,
     b: NodeIx,
-) -> Why
+) -> Result<Why, AllocError>
     requires clean { IsClean (log_of history.now) }
     requires grounds { AreGrounds history.now grounds.now }
     requires answers { AreAnswers history.now answers.old }
@@ -30,17 +31,18 @@ fn why_of(
         (length grounds.now.kept.items) a b }
     requires numbers { length numbers.now ≡ length grounds.now.kept.items }
     ensures answers { AreAnswers history.now answers.new }
-    ensures why { spec.IsWhyBy history.now (sides_of history.now grounds.now.kept.items) numbers.now
-        a b result }
+    ensures why { IfOk result (spec.IsWhyBy history.now (sides_of history.now grounds.now.kept.items)
+        numbers.now a b) }
 {
-    match ground_of(grounds, answers, history, a, b) {
-        Ground::Known(reason) => Why::Known(reason),
-        Ground::Kept(entry) => Why::Forced(numbers[entry]),
+    match ground_of(alloc, grounds, answers, history, a, b)? {
+        Ground::Known(reason) => Ok(Why::Known(reason)),
+        Ground::Kept(entry) => Ok(Why::Forced(numbers[entry])),
     }
 }
 
 /// Appends an edge, and why it stands.
 fn put_edge(
+    alloc: Global,
     items: &mut Vec<Item>,
     grounds: &Grounds,
     answers: &mut [Option<Option<Reason>>],
@@ -60,12 +62,13 @@ fn put_edge(
         (sides_of history.now grounds.now.kept.items) numbers.now first second items.old.items
         items.new.items) }
 {
-    let why: Why = why_of(grounds, answers, history, numbers, first, second);
+    let why: Why = why_of(alloc, grounds, answers, history, numbers, first, second)?;
     items.extend_from_slice(&[Item::Edge { first, second, why }])
 }
 
 /// Appends the edges of a line of nodes, each with why it stands.
 pub fn put_edges(
+    alloc: Global,
     items: &mut Vec<Item>,
     grounds: &Grounds,
     answers: &mut [Option<Option<Reason>>],
@@ -86,6 +89,7 @@ pub fn put_edges(
 {
     for i in 0..line.len() - 1 {
         put_edge(
+            alloc,
             items,
             grounds,
             answers,

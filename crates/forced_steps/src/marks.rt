@@ -1,6 +1,6 @@
 //! Which entries of a ledger its last cycle needs.
 
-ghost use Rattle.std.specs.Prelude.{◌≡◌, ◌<◌, length, IfOk};
+ghost use Rattle.std.specs.Prelude.{◌≡◌, ◌<◌, length, IfOk, OnOk};
 ghost use Rattle.std.specs.List.{All};
 ghost use Rattle.serializability.specs.Reads.{IsClean};
 ghost use Rattle.log_definitions.specs.Numbers.{log_of};
@@ -16,56 +16,69 @@ use std::alloc::{AllocError, Global};
 
 /// Marks the first entry that keeps the edge, where one does and the log does not show it.
 fn mark_edge(
+    alloc: Global,
     marks: &mut [bool],
     grounds: &Grounds,
     answers: &mut [Option<Option<Reason>>],
     history: &History,
     a: NodeIx,
     b: NodeIx,
-)
+) -> Result<(), AllocError>
     requires clean { IsClean (log_of history.now) }
     requires grounds { AreGrounds history.now grounds.now }
     requires answers { AreAnswers history.now answers.old }
     requires count { length marks.old ≡ length grounds.now.kept.items }
     ensures answers { AreAnswers history.now answers.new }
-    ensures marked { spec.IsEdgeMarked history.now (sides_of history.now grounds.now.kept.items) a b
-        marks.old marks.new }
+    ensures marked { OnOk result (spec.IsEdgeMarked history.now (sides_of history.now grounds.now.kept.items) a b
+        marks.old marks.new) }
 {
-    if let Some(entry) = entry_of(grounds, answers, history, a, b) {
+    if let Some(entry) = entry_of(alloc, grounds, answers, history, a, b)? {
         marks[entry] = true;
     }
+    Ok(())
 }
 
 /// Marks of each edge of a line that the log does not show the first entry that keeps it, where one does.
 fn mark_line(
+    alloc: Global,
     marks: &mut [bool],
     grounds: &Grounds,
     answers: &mut [Option<Option<Reason>>],
     history: &History,
     line: &[NodeIx],
-)
+) -> Result<(), AllocError>
     requires clean { IsClean (log_of history.now) }
     requires grounds { AreGrounds history.now grounds.now }
     requires answers { AreAnswers history.now answers.old }
     requires count { length marks.old ≡ length grounds.now.kept.items }
     ensures answers { AreAnswers history.now answers.new }
-    ensures marked { spec.IsLineMarked history.now (sides_of history.now grounds.now.kept.items)
-        line.now (length line.now) marks.old marks.new }
+    ensures marked { OnOk result (spec.IsLineMarked history.now (sides_of history.now grounds.now.kept.items)
+        line.now (length line.now) marks.old marks.new) }
 {
     for i in 0..line.len().saturating_sub(1) {
-        mark_edge(marks, grounds, answers, history, line[i], line[i + 1]);
+        mark_edge(
+            alloc,
+            marks,
+            grounds,
+            answers,
+            history,
+            line[i],
+            line[i + 1],
+        )?;
     }
+    Ok(())
 }
 
 /// Marks what the walk of an entry rests on, if the entry is marked.
 fn mark_walk(
+    alloc: Global,
     marks: &mut [bool],
     grounds: &Grounds,
     answers: &mut [Option<Option<Reason>>],
     history: &History,
     entry: usize,
     walk: &[NodeIx],
-)
+) -> Result<(), AllocError>
     requires clean { IsClean (log_of history.now) }
     requires grounds { AreGrounds history.now grounds.now }
     requires answers { AreAnswers history.now answers.old }
@@ -74,23 +87,25 @@ fn mark_walk(
         walk.now }
     requires count { length marks.old ≡ length grounds.now.kept.items }
     ensures answers { AreAnswers history.now answers.new }
-    ensures marked { spec.IsWalkMarked history.now (sides_of history.now grounds.now.kept.items)
-        walk.now entry marks.old marks.new }
+    ensures marked { OnOk result (spec.IsWalkMarked history.now (sides_of history.now grounds.now.kept.items)
+        walk.now entry marks.old marks.new) }
 {
     let needed = marks[entry];
     if needed {
-        mark_line(marks, grounds, answers, history, walk);
+        mark_line(alloc, marks, grounds, answers, history, walk)?;
     }
+    Ok(())
 }
 
 /// Marks what the walks of the marked entries rest on, from the last entry to the first.
 fn mark_walks(
+    alloc: Global,
     marks: &mut [bool],
     grounds: &Grounds,
     answers: &mut [Option<Option<Reason>>],
     history: &History,
     entries: &[LedgerEntry],
-)
+) -> Result<(), AllocError>
     requires clean { IsClean (log_of history.now) }
     requires grounds { AreGrounds history.now grounds.now }
     requires answers { AreAnswers history.now answers.old }
@@ -99,42 +114,45 @@ fn mark_walks(
         entries.now }
     requires count { length marks.old ≡ length grounds.now.kept.items }
     ensures answers { AreAnswers history.now answers.new }
-    ensures covered { spec.AreCovered history.now (sides_of history.now grounds.now.kept.items)
-        marks.new entries.now (length entries.now) }
-    ensures more { spec.AreMore marks.old marks.new }
-    ensures only { spec.AreNoOthers marks.old marks.new (spec.IsNeededByWalk history.now
-        (sides_of history.now grounds.now.kept.items) marks.new entries.now) }
+    ensures covered { OnOk result (spec.AreCovered history.now (sides_of history.now grounds.now.kept.items)
+        marks.new entries.now (length entries.now)) }
+    ensures more { OnOk result (spec.AreMore marks.old marks.new) }
+    ensures only { OnOk result (spec.AreNoOthers marks.old marks.new (spec.IsNeededByWalk history.now
+        (sides_of history.now grounds.now.kept.items) marks.new entries.now)) }
 {
     for done in 0..entries.len() {
         let entry = entries.len() - 1 - done;
         let post = &entries[entry].post;
-        mark_walk(marks, grounds, answers, history, entry, &post.walk);
+        mark_walk(alloc, marks, grounds, answers, history, entry, &post.walk)?;
     }
+    Ok(())
 }
 
 /// Marks of each edge of these lines that the log does not show the first entry that keeps it, where one does.
 fn mark_lines(
+    alloc: Global,
     marks: &mut [bool],
     grounds: &Grounds,
     answers: &mut [Option<Option<Reason>>],
     history: &History,
     lines: &[&[NodeIx]],
-)
+) -> Result<(), AllocError>
     requires clean { IsClean (log_of history.now) }
     requires grounds { AreGrounds history.now grounds.now }
     requires answers { AreAnswers history.now answers.old }
     requires count { length marks.old ≡ length grounds.now.kept.items }
     ensures answers { AreAnswers history.now answers.new }
-    ensures covered { All (λ line. spec.IsCovered history.now
+    ensures covered { OnOk result (All (λ line. spec.IsCovered history.now
         (sides_of history.now grounds.now.kept.items) marks.new line.now (length line.now))
-        lines.now }
-    ensures more { spec.AreMore marks.old marks.new }
-    ensures only { spec.AreNoOthers marks.old marks.new (spec.IsNeededByLine history.now
-        (sides_of history.now grounds.now.kept.items) lines.now) }
+        lines.now) }
+    ensures more { OnOk result (spec.AreMore marks.old marks.new) }
+    ensures only { OnOk result (spec.AreNoOthers marks.old marks.new (spec.IsNeededByLine history.now
+        (sides_of history.now grounds.now.kept.items) lines.now)) }
 {
     for line in lines {
-        mark_line(marks, grounds, answers, history, line);
+        mark_line(alloc, marks, grounds, answers, history, line)?;
     }
+    Ok(())
 }
 
 /// The marks of the entries that these lines need, and of no others: the first that keeps each of their edges which the log does not
@@ -166,7 +184,7 @@ pub fn needed_entries(
 {
     let mut table = vec![in alloc; false; entries.len()]?;
     let marks = table.as_mut_slice();
-    mark_lines(marks, grounds, answers, history, lines);
-    mark_walks(marks, grounds, answers, history, entries);
+    mark_lines(alloc, marks, grounds, answers, history, lines)?;
+    mark_walks(alloc, marks, grounds, answers, history, entries)?;
     Ok(table)
 }

@@ -30,6 +30,7 @@ pub struct Told {
 
 /// Appends a step, which tells an entry of the ledger, and the edges of its walk.
 fn put_step(
+    alloc: Global,
     items: &mut Vec<Item>,
     grounds: &Grounds,
     answers: &mut [Option<Option<Reason>>],
@@ -57,11 +58,12 @@ fn put_step(
         source: post.edge.source(),
         target: post.edge.target(),
     }])?;
-    put_edges(items, grounds, answers, history, numbers, &post.walk)
+    put_edges(alloc, items, grounds, answers, history, numbers, &post.walk)
 }
 
 /// Appends the step that tells an entry, if it is marked.
 fn put_if_marked(
+    alloc: Global,
     items: &mut Vec<Item>,
     orders: &mut Vec<ChainOrder>,
     grounds: &Grounds,
@@ -95,6 +97,7 @@ fn put_if_marked(
         let count = orders.len();
         let order = grounds.kept[entry];
         put_step(
+            alloc,
             items,
             grounds,
             answers,
@@ -141,6 +144,7 @@ pub fn told_steps(
     for (entry, found) in entries.iter().enumerate() {
         let post = &found.post;
         put_if_marked(
+            alloc,
             &mut items,
             &mut orders,
             grounds,

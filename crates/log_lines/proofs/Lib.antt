@@ -1,4 +1,3 @@
 pub mod Texts
 pub mod OneMore
 pub mod Nodes
-pub mod Written

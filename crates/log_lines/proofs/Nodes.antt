@@ -114,10 +114,10 @@ begin_lines_are n ss = record {
 }
 
 -- where no session is left
-pub begin_lines_at_end : (n m i : ℕ) (ss : List ClientSession) (sessions : List Session) (lines : List ℕ) → ss ≡ map view sessions → length sessions ≤ i
-    → lines ++ begins_in (taken ss) m (map view (drop i sessions)) ≡ begins_in (taken ss) n (map view sessions) → AreBeginLines n ss lines
-begin_lines_at_end n m i ss sessions lines same past e =
+pub begin_lines_at_end : (n m i : ℕ) (ss : List ClientSession) (sessions : List Session) (lines : List ℕ) → length sessions ≤ i
+    → lines ++ begins_in (taken ss) m (map view (drop i sessions)) ≡ begins_in (taken ss) n ss → AreBeginLines n ss lines
+begin_lines_at_end n m i ss sessions lines past e =
     let all : lines ≡ begins_in (taken ss) n ss =
-    sym (append-nil lines) ∙ ap (λ those. lines ++ begins_in (taken ss) m (map view those)) (sym (drop_all i sessions past)) ∙ e ∙ ap (begins_in (taken ss) n) (sym same)
+    sym (append-nil lines) ∙ ap (λ those. lines ++ begins_in (taken ss) m (map view those)) (sym (drop_all i sessions past)) ∙ e
     in
     subst (AreBeginLines n ss) (sym all) (begin_lines_are n ss)

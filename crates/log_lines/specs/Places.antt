@@ -1,9 +1,8 @@
 -- Where the operations of a log stand. Lines count from 1, and the first session of the log begins at line n, behind the header.
-use Rattle.std.specs.Prelude.{◌≡◌, ℕ, ◌+◌, ◌-◌, ◌<◌, ◌≤◌, Bool, true, not, ◌==◌, List, [], ◌∷◌, ◌++◌, length, Some, slice_get, slice_index}
+use Rattle.std.specs.Prelude.{◌≡◌, ℕ, ◌+◌, ◌-◌, ◌<◌, ◌≤◌, Bool, true, not, ◌==◌, List, [], ◌∷◌, ◌++◌, length, slice_index}
 use Rattle.std.specs.List.{flat_map, list_all, AllByRecursion}
 use Rattle.session_log.specs.Text.{ClientSession, Transaction, line_text, txn_lines}
 use Rattle.session_log.specs.declared.line.Line.{Line}
-use Rattle.session_log.specs.declared.session.Op.TheVariants.{Write}
 use Rattle.log_definitions.specs.WellFormed.{log_lines}
 use Rattle.log_definitions.specs.Serial.{committed_in, ops_of, begun_of, ended_of}
 use Rattle.session_history.specs.Tables.{name_in}
@@ -50,12 +49,3 @@ pub record NodeBeginsAt (n : ℕ) (ss : List ClientSession) (v line : ℕ) : Typ
 pub record AreBeginLines (n : ℕ) (ss : List ClientSession) (lines : List ℕ) : Type 0 where
   pub count : length lines ≡ length (committed_in ss)
   pub each : (v : ℕ) → 0 < v → v ≤ length (committed_in ss) → NodeBeginsAt n ss v (slice_index lines (v - 1))
-
--- the transaction at this place of the session of this number, of whatever outcome, writes this identity to the key in this line
-pub record IsWriteAt (n : ℕ) (ss : List ClientSession) (key : List ℕ) (wid session place line : ℕ) : Type 0 where
-  pub t : Transaction
-  pub begin : ℕ
-  pub i : ℕ
-  pub begins : BeginsAt n ss session place t begin
-  pub writes : slice_get t.ops i ≡ Some (Write key wid)
-  pub stands : line ≡ begin + 1 + i

@@ -1,6 +1,6 @@
 //! The lines at which the nodes of a history begin.
 
-ghost use Rattle.std.specs.Prelude.{◌≡◌, ◌+◌, ◌<◌, ◌^◌, ◌++◌, length, map, OnOk, IfOk};
+ghost use Rattle.std.specs.Prelude.{◌≡◌, ◌+◌, ◌<◌, ◌^◌, ◌++◌, length, OnOk, IfOk};
 ghost use Rattle.std.specs.List.{flat_map};
 ghost use Rattle.session_log.specs.Text.{view, view_txn, txn_lines};
 ghost use Rattle.session_log.specs.Version.{first_line};
@@ -61,20 +61,19 @@ fn add_begin_lines(
 }
 
 /// The line of the log, from 1, at which each node begins, in the order of the nodes: that of node v is at v - 1. The history is
-/// that of these sessions, and they were read from a log of this version.
+/// that of a log of this version.
 pub fn begin_lines(
     alloc: Global,
     version: Version,
-    sessions: &[Session],
     history: &History,
 ) -> Result<Vec<usize>, AllocError>
-    requires same { history.now ≡ map view sessions.now }
-    requires room { length (log_lines (map view sessions.now)) < 2 ^ 63 }
+    requires room { length (log_lines history.now) < 2 ^ 63 }
     ensures begins { IfOk result (λ lines.
         AreBeginLines (first_line version) history.now lines.items) }
 {
     let mut lines = Vec::with_capacity(alloc, history.committed())?;
     let mut line = version.first_line();
+    let sessions = history.sessions();
     for session in sessions {
         let is_taken = history.taken(usize::from(session.number));
         add_begin_lines(&mut lines, session, is_taken, line + 1)?;

@@ -4,7 +4,6 @@
 mod begins;
 mod counts;
 pub mod laws;
-mod writes;
 
 pub use begins::begin_lines;
-pub use writes::{WriteAt, write_at};
+pub use counts::{session_line_count, txn_line_count};

@@ -1,7 +1,8 @@
 -- The operation that begins a chain behind that of the initial value.
-use Rattle.std.proofs.Common.{◌≡◌, ◌≢◌, ℕ, zero, suc, ◌<◌, ◌≤◌, List, [], ◌∷◌, ◌++◌, None, Some, refl, sym, ap, ◌∙◌, subst, inl, inr, arith, ◌+◌, length, get_or}
-use Rattle.std.specs.Prelude.{slice_get}
-use Rattle.std.proofs.lemmas.Bool.{cases_eq, cases_lt}
+use Rattle.std.proofs.Common.{◌≡◌, ◌≢◌, ℕ, zero, suc, ◌<◌, ◌≤◌, Bool, true, false, List, [], ◌∷◌, ◌++◌, None, Some, refl, sym, ap, ◌∙◌, subst, inl, inr, arith, ◌+◌, length, get_or, set}
+use Rattle.std.specs.Prelude.{slice_get, replicate, not, IsTrue, ◌↔◌}
+use Rattle.std.proofs.lemmas.Bool.{cases_eq, cases_lt, ne_eqb}
+use Rattle.std.proofs.lemmas.List.{length-set, length-replicate}
 use Rattle.session_log.specs.Text.{ClientSession}
 use Rattle.session_log.specs.declared.session.Op.TheVariants.{Write}
 use Rattle.serializability.specs.declared.event.Event.{Event}
@@ -14,10 +15,11 @@ use Rattle.serializability.proofs.Serial.{some_cases}
 use Rattle.log_definitions.specs.WellFormed.{keys_in}
 use Rattle.log_definitions.specs.Numbers.{number_in, log_of}
 use Rattle.session_history.proofs.Kept.{no_ops_at_zero}
+use Rattle.session_history.proofs.KeyRows.{slice_get-set_here, slice_get-set_apart}
 use Rattle.write_chains.proofs.Backwards.{none_at_zero}
 use Rattle.reason_laws.specs.Reasons.{IsNode, IsOpAt, ReadsAt, WritesLastAt, Link, AreLinked, left_by, IsLastLink, IsOfInitialBefore}
 use Rattle.reason_laws.proofs.Numbers.{within, node_from, before_at, reads_after, none_before, final_at, reads_key, writes_key}
-use Rattle.reasons.specs.Initials.{IsBackIn, IsOfInitial, FollowsInitial, IsBeginning}
+use Rattle.reasons.specs.Initials.{IsBackIn, IsOfInitial, FollowsInitial, IsBegun, IsBeginning, ArePlain}
 use Rattle.reasons.specs.Given.{NoneInitial}
 use Rattle.reasons.proofs.Positions.{get_at, get_below}
 use Rattle.reasons.proofs.Ops.{event_at, write_at}
@@ -178,6 +180,9 @@ begun ss clean a b j r =
 pub record NoneBefore (log : Log) (a b place : ℕ) : Type 0 where
   pub none : (k : ℕ) (e : Event) → k < place → slice_get (log.ops b) k ≡ Some e → IsBeginning log a b e → ⊥
 
+pub none_yet : (log : Log) (a b : ℕ) → NoneBefore log a b 0
+none_yet log a b = record { none = λ k e below at is. omega (arith, below) }
+
 pub none_further : (log : Log) (a b place : ℕ) (es : List Event) (d : Event) → es ≡ log.ops b → place < length es → NoneBefore log a b place → (IsBeginning log a b (get_or es place d) → ⊥) → NoneBefore log a b (place + 1)
 none_further log a b place es d own lt n h = record {
   none = λ k e below at is.
@@ -205,3 +210,31 @@ none_initial ss clean a b place n all j r =
 pub begins_at : (ss : List ClientSession) → IsClean (log_of ss) → (a b place : ℕ) (es : List Event) (d : Event) → IsNode ss a → IsNode ss b → es ≡ (log_of ss).ops b → place < length es → IsBeginning (log_of ss) a b (get_or es place d) → IsOfInitialBefore ss a b place
 begins_at ss clean a b place es d first second own lt h =
     begins ss clean a b place (get_or es place d) first second (ap (λ l. slice_get l place) (sym own) ∙ get_at es place d (get_or es place d) lt refl) h
+
+-- ---- marks of keys
+none_set : (n x : ℕ) → slice_get (replicate n false) x ≡ Some true → ⊥
+none_set zero x h = cc
+none_set (suc n) zero h = cc
+none_set (suc n) (suc x) h = none_set n x h
+
+pub none_plain : (log : Log) (a b n : ℕ) (plain : List Bool) → plain ≡ replicate n false → n ≡ log.keys → ArePlain log a b plain
+none_plain log a b n plain own count = record {
+  count = ap length own ∙ length-replicate n false ∙ count;
+  none = λ x marked _. none_set n x (ap (λ l. slice_get l x) (sym own) ∙ marked);
+}
+
+one_true : (begun : Bool) → begun ≡ true → Some (not begun) ≡ Some true → ⊥
+one_true true t m = cc
+one_true false t m = cc
+
+pub judged : (log : Log) (a b x : ℕ) (plain : List Bool) (begun : Bool) → ArePlain log a b plain → x < length plain → (IsTrue begun ↔ IsBegun log a b x) → ArePlain log a b (set plain x (not begun))
+judged log a b x plain begun h within r = record {
+  count = length-set plain x (not begun) ∙ h.count;
+  none = λ y marked is.
+      elim (cases_eq x y) [
+        | inl same ↦
+            let here : slice_get (set plain x (not begun)) x ≡ Some true = ap (slice_get (set plain x (not begun))) same ∙ marked in
+            one_true begun (r.1 (subst (IsBegun log a b) (sym same) is)) (sym (slice_get-set_here plain x (not begun) within) ∙ here)
+        | inr ne ↦ h.none y (sym (slice_get-set_apart plain x y (not begun) (ne_eqb x y ne)) ∙ marked) is
+      ];
+}

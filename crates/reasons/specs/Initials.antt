@@ -1,5 +1,5 @@
 -- Who reads a key from the chain of its initial value.
-use Rattle.std.specs.Prelude.{◌≡◌, ℕ, zero, suc, None, Some}
+use Rattle.std.specs.Prelude.{◌≡◌, ℕ, zero, suc, List, length, Bool, true, slice_get, None, Some}
 use Rattle.serializability.specs.Log.{Log}
 use Rattle.serializability.specs.Polygraph.{source}
 use Rattle.serializability.specs.declared.event.Event.{Event}
@@ -21,7 +21,16 @@ pub record FollowsInitial (log : Log) (x v : ℕ) : Type 0 where
   pub reads : source log v x ≡ Some from
   pub initial : IsOfInitial log x from
 
+-- b reads the key from nobody, and a follows its initial value
+abbrev pub IsBegun : Log → ℕ → ℕ → ℕ → Type 0
+IsBegun log a b x = (source log b x ≡ None) × FollowsInitial log x a
+
 -- the operation of b, which reads the key from nobody, writes it, and a follows its initial value
 abbrev pub IsBeginning : Log → ℕ → ℕ → Event → Type 0
 IsBeginning log a b (event.Read x w) = ⊥
-IsBeginning log a b (event.Write x w) = (source log b x ≡ None) × FollowsInitial log x a
+IsBeginning log a b (event.Write x w) = IsBegun log a b x
+
+-- a mark for each key: a write of a marked one begins no chain
+pub record ArePlain (log : Log) (a b : ℕ) (plain : List Bool) : Type 0 where
+  pub count : length plain ≡ log.keys
+  pub none : (x : ℕ) → slice_get plain x ≡ Some true → IsBegun log a b x → ⊥

@@ -1,16 +1,17 @@
 //! Writes of a node that begin a chain behind that of a key's initial value.
 
-ghost use Rattle.std.specs.Prelude.{◌≡◌, ◌<◌, ◌≤◌, ◌↔◌, IsTrue, true, IfSome, IfNone, ℕ};
+ghost use Rattle.std.specs.Prelude.{◌≡◌, ◌<◌, ◌≤◌, ◌↔◌, IsTrue, true, IfSome, IfNone, IfOk, ℕ};
 ghost use Rattle.serializability.specs.Reads.{IsClean};
 ghost use Rattle.log_definitions.specs.Numbers.{log_of};
 ghost use Rattle.chain_laws.specs.Chains.{writes};
 ghost use Rattle.session_history.specs.Rows.{event_key};
 ghost use Rattle.reason_laws.specs.Reasons.{IsNode, IsOfInitialBefore};
-ghost use Rattle.reasons.specs.Initials.{IsOfInitial, FollowsInitial, IsBeginning};
+ghost use Rattle.reasons.specs.Initials.{IsOfInitial, FollowsInitial, IsBegun, IsBeginning, ArePlain};
 ghost use Rattle.reasons.specs.Given.{NoneInitial};
 
 use serializability::{Event, NodeIx};
 use session_history::History;
+use std::alloc::{AllocError, Global};
 
 /// Whether the chain of this writer of the key begins with node 0, which one that closes on itself does not.
 /// It takes as many steps as writers stand before it there.
@@ -51,35 +52,68 @@ fn follows_initial(history: &History, key: usize, node: NodeIx) -> bool
     }
 }
 
+/// Whether `b`, where it writes the key, begins a chain behind that of the initial value, which `a` reads from.
+fn is_begun(history: &History, a: NodeIx, b: NodeIx, key: usize) -> bool
+    requires clean { IsClean (log_of history.now) }
+    requires first { IsNode history.now a }
+    requires key { key < (log_of history.now).keys }
+    ensures { IsTrue result ↔ IsBegun (log_of history.now) a b key }
+{
+    history.source_of(b, key).is_none() && follows_initial(history, key, a)
+}
+
+/// The same with marks of the keys of which it is known not to be so: it is asked of each of these once.
+#[tactic(auto, using(crate::proofs::Beginnings::judged))]
+fn judge(plain: &mut [bool], history: &History, a: NodeIx, b: NodeIx, key: usize) -> bool
+    requires clean { IsClean (log_of history.now) }
+    requires first { IsNode history.now a }
+    requires key { key < (log_of history.now).keys }
+    requires plain { ArePlain (log_of history.now) a b plain.old }
+    ensures plain { ArePlain (log_of history.now) a b plain.new }
+    ensures begun { IsTrue result ↔ IsBegun (log_of history.now) a b key }
+{
+    let begun = !plain[key] && is_begun(history, a, b, key);
+    plain[key] = !begun;
+    begun
+}
+
 /// Whether an operation of `b` begins a chain behind that of the initial value of its key, which `a` reads from.
-fn is_beginning(history: &History, a: NodeIx, b: NodeIx, event: Event) -> bool
+fn is_beginning(plain: &mut [bool], history: &History, a: NodeIx, b: NodeIx, event: Event) -> bool
     requires clean { IsClean (log_of history.now) }
     requires first { IsNode history.now a }
     requires key { event_key event < (log_of history.now).keys }
-    ensures { IsTrue result ↔ IsBeginning (log_of history.now) a b event }
+    requires plain { ArePlain (log_of history.now) a b plain.old }
+    ensures plain { ArePlain (log_of history.now) a b plain.new }
+    ensures begins { IsTrue result ↔ IsBeginning (log_of history.now) a b event }
 {
     match event {
         Event::Read { .. } => false,
-        Event::Write { key, .. } => {
-            history.source_of(b, key).is_none() && follows_initial(history, key, a)
-        }
+        Event::Write { key, .. } => judge(plain, history, a, b, key),
     }
 }
 
-/// The first operation of `b` that begins a chain behind that of the initial value of its key, which `a` reads from.
-pub fn begins_behind_initial(history: &History, a: NodeIx, b: NodeIx) -> Option<usize>
+/// The first operation of `b` that begins a chain behind that of the initial value of its key, which `a` reads from. The chain
+/// of each key is walked once, however often `b` writes the key. The one error is that memory runs out for a byte of each key.
+pub fn begins_behind_initial(
+    alloc: Global,
+    history: &History,
+    a: NodeIx,
+    b: NodeIx,
+) -> Result<Option<usize>, AllocError>
     requires clean { IsClean (log_of history.now) }
     requires first { IsNode history.now a }
     requires second { IsNode history.now b }
-    ensures is { IfSome result (λ begins. IsOfInitialBefore history.now a b begins) }
-    ensures least { IfSome result (λ begins.
-        (j : ℕ) → IsOfInitialBefore history.now a b j → begins ≤ j) }
-    ensures none { IfNone result (NoneInitial history.now a b) }
+    ensures is { IfOk result (λ found. IfSome found (λ begins. IsOfInitialBefore history.now a b begins)) }
+    ensures least { IfOk result (λ found. IfSome found (λ begins.
+        (j : ℕ) → IsOfInitialBefore history.now a b j → begins ≤ j)) }
+    ensures none { IfOk result (λ found. IfNone found (NoneInitial history.now a b)) }
 {
+    let mut table = vec![in alloc; false; history.keys()]?;
+    let plain = table.as_mut_slice();
     for (place, event) in history.events_of(b).iter().enumerate() {
-        if is_beginning(history, a, b, *event) {
-            return Some(place);
+        if is_beginning(plain, history, a, b, *event) {
+            return Ok(Some(place));
         }
     }
-    None
+    Ok(None)
 }

@@ -1,6 +1,6 @@
 //! Why a node stands before another in each serial order.
 
-ghost use Rattle.std.specs.Prelude.{◌≡◌, ◌<◌, ◌≤◌, ◌≢◌, ◌↔◌, IsTrue, IfSome, IfNone};
+ghost use Rattle.std.specs.Prelude.{◌≡◌, ◌<◌, ◌≤◌, ◌≢◌, ◌↔◌, IsTrue, IfSome, IfNone, IfOk};
 ghost use Rattle.serializability.specs.Reads.{IsClean};
 ghost use Rattle.log_definitions.specs.Numbers.{log_of};
 ghost use Rattle.reason_laws.specs.Reasons.{IsNode, AreOfSession, EndsBefore};
@@ -11,6 +11,7 @@ use crate::overwritten::overwritten_by;
 use crate::read::read_by;
 use serializability::NodeIx;
 use session_history::History;
+use std::alloc::{AllocError, Global};
 
 /// Why a node stands before another in each serial order. Operations count from 0.
 #[derive(Clone, Copy, Debug, PartialEq, Eq)]
@@ -53,41 +54,46 @@ fn ended_before(history: &History, a: NodeIx, b: NodeIx) -> bool
     }
 }
 
-/// Why `a` stands before `b` in each serial order, where the log shows it.
-pub fn reason_of(history: &History, a: NodeIx, b: NodeIx) -> Option<Reason>
+/// Why `a` stands before `b` in each serial order, where the log shows it. The one error is that memory runs out.
+pub fn reason_of(
+    alloc: Global,
+    history: &History,
+    a: NodeIx,
+    b: NodeIx,
+) -> Result<Option<Reason>, AllocError>
     requires clean { IsClean (log_of history.now) }
     requires first { (0 < a) × (a ≤ (log_of history.now).nodes) }
     requires second { (0 < b) × (b ≤ (log_of history.now).nodes) }
-    ensures holds { IfSome result (IsReason history.now a b) }
-    ensures first { IfSome result (IsOfFirstKind history.now a b) }
-    ensures least { IfSome result (IsLeast history.now a b) }
-    ensures none { IfNone result (HaveNone history.now a b) }
+    ensures holds { IfOk result (λ found. IfSome found (IsReason history.now a b)) }
+    ensures first { IfOk result (λ found. IfSome found (IsOfFirstKind history.now a b)) }
+    ensures least { IfOk result (λ found. IfSome found (IsLeast history.now a b)) }
+    ensures none { IfOk result (λ found. IfNone found (HaveNone history.now a b)) }
 {
     if a == b {
-        return None;
+        return Ok(None);
     }
     if are_of_session(history, a, b) {
-        return Some(Reason::Session);
+        return Ok(Some(Reason::Session));
     }
     let nodes = history.committed();
     prove!(a.get() <= nodes);
     if let Some(found) = read_by(history, a, b) {
-        return Some(Reason::Read {
+        return Ok(Some(Reason::Read {
             written: found.first,
             read: found.second,
-        });
+        }));
     }
     if let Some(found) = overwritten_by(history, a, b) {
-        return Some(Reason::Overwritten {
+        return Ok(Some(Reason::Overwritten {
             read: found.first,
             overwrites: found.second,
-        });
+        }));
     }
-    if let Some(begins) = begins_behind_initial(history, a, b) {
-        return Some(Reason::Initial { begins });
+    if let Some(begins) = begins_behind_initial(alloc, history, a, b)? {
+        return Ok(Some(Reason::Initial { begins }));
     }
     if ended_before(history, a, b) {
-        return Some(Reason::Moments);
+        return Ok(Some(Reason::Moments));
     }
-    None
+    Ok(None)
 }

@@ -118,6 +118,13 @@ impl History {
         })
     }
 
+    /// The sessions of the log, as they were given.
+    pub fn sessions(&self) -> &[Session]
+        ensures sessions { map view result.now ≡ self.now }
+    {
+        &self.sessions
+    }
+
     /// The number of nodes, which are the committed and the taken transactions, without node 0.
     pub fn committed(&self) -> usize
         ensures count { result ≡ (log_of self.now).nodes }

@@ -26,11 +26,11 @@ unfolding op_labels
 labels_more ss begin v test k = passed_more (op_label ss begin v) test 0 k k (omega arith)
 
 -- the marked operations are those that items name
-pub labels_marked : (ss : List ClientSession) (begin : ℕ → ℕ) (items : List Item) (v : ℕ) (marks : List Bool) → AreMarks ss items v marks → op_labels ss begin v (is_marked marks) (length marks) ≡ op_labels ss begin v (names items v) (length (ops_of ss v))
+pub labels_marked : (ss : List ClientSession) (begin : ℕ → ℕ) (items : List Item) (v : ℕ) (marks : List Bool) → AreMarks (length (ops_of ss v)) (names items v) marks → op_labels ss begin v (is_marked marks) (length marks) ≡ op_labels ss begin v (names items v) (length (ops_of ss v))
 unfolding op_labels
 labels_marked ss begin items v marks h =
     let same = filter_range_same (is_marked marks) (names items v) 0 (length (ops_of ss v)) (λ i lo hi. h.each i (omega arith)) in
-    ap (λ n. flat_map (op_label ss begin v) (filter (is_marked marks) (range_with_len 0 n))) h.count ∙ ap (flat_map (op_label ss begin v)) same
+    ap (λ n. flat_map (op_label ss begin v) (filter (is_marked marks) (range_with_len 0 n))) h.long ∙ ap (flat_map (op_label ss begin v)) same
 
 -- ---- boxes
 pub boxes_none : (ss : List ClientSession) (begin : ℕ → ℕ) (items : List Item) → boxes ss begin items 0 ≡ []

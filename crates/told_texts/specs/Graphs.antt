@@ -1,7 +1,9 @@
 -- An explanation as a graph in the language of Graphviz: a box for each transaction that takes part, with those of its operations that
 -- reasons name, in their lines, and an arrow for each edge, labelled and coloured by its kind.
-use Rattle.std.specs.Prelude.{◌≡◌, ℕ, ◌+◌, ◌<◌, ◌==◌, ◌&&◌, ◌||◌, Bool, false, List, [], ◌∷◌, ◌++◌, length, codes, decimal, slice_get, unwrap_or, Option, None, Some}
+use Rattle.std.specs.Prelude.{◌≡◌, ℕ, ◌+◌, ◌<◌, ◌==◌, ◌&&◌, ◌||◌, Bool, false, List, [], ◌∷◌, ◌++◌, length, codes, decimal, slice_get, unwrap_or, Option, None, Some, Vec}
 use Rattle.std.specs.List.{filter, flat_map, list_any, range_with_len, AllByRecursion}
+use Rattle.std.specs.Option.{option_map}
+use Rattle.std.specs.declared.alloc.Global.{Global}
 use Rattle.session_log.specs.Text.{ClientSession}
 use Rattle.session_log.specs.declared.session.Op.{Op}
 use Rattle.session_log.specs.declared.session.Op.TheVariants.{Read, Write}
@@ -47,18 +49,32 @@ names items v i = is_named (flat_map item_names items) v i
 abbrev pub is_marked : List Bool → ℕ → Bool
 is_marked marks i = unwrap_or (slice_get marks i) false
 
--- of these operations, those of the node are among its first so many
-pub record AreWithin (v count : ℕ) (named : List (ℕ × ℕ)) : Type 0 where
-  pub each : AllByRecursion (λ x. x.0 ≡ v → x.1 < count) named
+-- so many marks, which are set where the test holds
+pub record AreMarks (count : ℕ) (test : ℕ → Bool) (marks : List Bool) : Type 0 where
+  pub long : length marks ≡ count
+  pub each : (i : ℕ) → i < count → is_marked marks i ≡ test i
 
--- of these operations, those of the node are marked besides
-pub record AddsMarks (v : ℕ) (named : List (ℕ × ℕ)) (old new : List Bool) : Type 0 where
-  pub each : (i : ℕ) → i < length old → is_marked new i ≡ (is_marked old i || is_named named v i)
+-- where the test holds, marks are set besides
+pub record AddsMarks (test : ℕ → Bool) (old new : List Bool) : Type 0 where
+  pub long : length new ≡ length old
+  pub each : (i : ℕ) → i < length old → is_marked new i ≡ (is_marked old i || test i)
 
--- a mark for each operation of the node: those that the items name are marked
-pub record AreMarks (ss : List ClientSession) (items : List Item) (v : ℕ) (marks : List Bool) : Type 0 where
-  pub count : length marks ≡ length (ops_of ss v)
-  pub each : (i : ℕ) → i < length (ops_of ss v) → is_marked marks i ≡ names items v i
+-- the marks of the operations of a node, in a table of such marks
+abbrev pub row : List (Vec Bool Global) → ℕ → List Bool
+row table v = unwrap_or (option_map (λ marks. marks.items) (slice_get table v)) []
+
+-- there is a mark for each of these operations
+pub record AreWithin (named : List (ℕ × ℕ)) (table : List (Vec Bool Global)) : Type 0 where
+  pub each : AllByRecursion (λ x. x.1 < length (row table x.0)) named
+
+-- these operations are marked besides
+pub record AddsNamed (named : List (ℕ × ℕ)) (old new : List (Vec Bool Global)) : Type 0 where
+  pub each : (v : ℕ) → AddsMarks (is_named named v) (row old v) (row new v)
+
+-- a mark for each operation of the nodes below a number, set where the test holds of the node and the operation
+pub record AreRows (ss : List ClientSession) (count : ℕ) (test : ℕ → ℕ → Bool) (table : List (Vec Bool Global)) : Type 0 where
+  pub long : length table ≡ count
+  pub each : (v : ℕ) → v < count → AreMarks (length (ops_of ss v)) (test v) (row table v)
 
 -- whether some item is an edge of the node
 abbrev pub is_edge_of : ℕ → Item → Bool
@@ -67,6 +83,11 @@ is_edge_of v _ = false
 
 abbrev pub takes_part : List Item → ℕ → Bool
 takes_part items v = list_any (is_edge_of v) items
+
+-- where the item is an edge, its nodes are among the first so many
+abbrev pub HasNodes : ℕ → Item → Type 0
+HasNodes count (Edge a b w) = (a < count) × (b < count)
+HasNodes count _ = Unit {0}
 
 abbrev pub quoted : List ℕ → List ℕ
 quoted text = 34 ∷ text ++ 34 ∷ []

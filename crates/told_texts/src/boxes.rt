@@ -1,30 +1,23 @@
 //! The boxes of a graph: transactions, with those of their operations that the explanation names.
 
-ghost use Rattle.std.specs.Prelude.{◌≡◌, ◌<◌, ◌≤◌, ◌++◌, Bool, length, codes, decimal, OnOk, if◌then◌else◌, []};
+ghost use Rattle.std.specs.Prelude.{◌≡◌, ◌<◌, ◌++◌, List, length, OnOk, if◌then◌else◌, []};
+ghost use Rattle.forced_steps.specs.declared.item.Item.{Item};
 ghost use Rattle.reason_laws.specs.Reasons.{IsNode};
 ghost use Rattle.log_definitions.specs.Numbers.{log_of};
 ghost use Rattle.log_definitions.specs.Serial.{ops_of};
 ghost use Rattle.explanations.specs.Lines.{begin_at, AreLines};
 ghost use Rattle.explanations.specs.Reasons.{op_at};
-ghost use Rattle.serializability.specs.declared.node.TheConstants.{MAX_NODES};
 ghost use Rattle.told_texts.specs.Graphs as spec;
-ghost use Rattle.told_texts.specs.Graphs.{AreMarks};
+ghost use Rattle.told_texts.specs.Graphs.{AreMarks, names};
 ghost use Rattle.told_texts.specs.Texts.{AreTellable};
 
-use crate::marks::{marked, takes_part};
+use crate::marks::marks_of;
+use crate::node::node_of;
 use explanations::{put_key_and_wid, put_named, put_op_in_line};
 use forced_steps::Item;
 use serializability::{Event, NodeIx};
 use session_history::History;
 use std::alloc::{AllocError, Global};
-
-/// The node with this number.
-fn node_of(number: usize) -> NodeIx
-    requires few { number ≤ MAX_NODES }
-    ensures number { result ≡ number }
-{
-    NodeIx::new(number).unwrap()
-}
 
 /// The word with which the line of an operation begins.
 fn word_of(event: Event) -> &'static str
@@ -111,46 +104,45 @@ fn put_op_labels(
     Ok(())
 }
 
-/// Appends the box of a node.
+/// Appends the box of a node, of whose operations these are marked.
 fn put_box(
-    alloc: Global,
     out: &mut Vec<u8>,
     history: &History,
     begins: &[usize],
-    items: &[Item],
     node: NodeIx,
+    marks: &[bool],
 ) -> Result<(), AllocError>
     requires lines { AreLines history.now begins.now }
-    requires items { AreTellable history.now items.now }
     requires node { IsNode history.now node }
-    ensures text { OnOk result (out.new.items
-        ≡ out.old.items ++ spec.box history.now (begin_at begins.now) items.now node) }
+    requires marks { length marks.now ≡ length (ops_of history.now node) }
+    ensures text { OnOk result ((items : List Item) → AreMarks (length (ops_of history.now node)) (names items node) marks.now →
+        out.new.items ≡ out.old.items ++ spec.box history.now (begin_at begins.now) items node) }
 {
-    let marks = marked(alloc, history, node, items)?;
     put_named(out, b"\"", history, node)?;
     put_named(out, b"\" [label=\"", history, node)?;
-    put_op_labels(out, history, begins, node, &marks)?;
+    put_op_labels(out, history, begins, node, marks)?;
     out.extend_from_slice(b"\"];\n")?;
     Ok(())
 }
 
 /// Appends the box of a node, where it takes part.
 fn put_where_part(
-    alloc: Global,
     out: &mut Vec<u8>,
     history: &History,
     begins: &[usize],
-    items: &[Item],
     node: NodeIx,
+    takes_part: bool,
+    marks: &[bool],
 ) -> Result<(), AllocError>
     requires lines { AreLines history.now begins.now }
-    requires items { AreTellable history.now items.now }
     requires node { IsNode history.now node }
-    ensures text { OnOk result (out.new.items ≡ out.old.items ++ (if spec.takes_part items.now node
-        then spec.box history.now (begin_at begins.now) items.now node else [])) }
+    requires marks { length marks.now ≡ length (ops_of history.now node) }
+    ensures text { OnOk result ((items : List Item) → AreMarks (length (ops_of history.now node)) (names items node) marks.now →
+        out.new.items ≡ out.old.items ++ (if takes_part
+        then spec.box history.now (begin_at begins.now) items node else [])) }
 {
-    if takes_part(items, node) {
-        put_box(alloc, out, history, begins, items, node)?;
+    if takes_part {
+        put_box(out, history, begins, node, marks)?;
     }
     Ok(())
 }
@@ -168,8 +160,18 @@ pub fn put_boxes(
     ensures text { OnOk result (out.new.items ≡ out.old.items
         ++ spec.boxes history.now (begin_at begins.now) items.now (log_of history.now).nodes) }
 {
+    let marks = marks_of(alloc, history, items)?;
     for number in 1..history.committed() + 1 {
-        put_where_part(alloc, out, history, begins, items, node_of(number))?;
+        let takes_part = marks.nodes[number];
+        let operations = &marks.operations[number];
+        put_where_part(
+            out,
+            history,
+            begins,
+            node_of(number),
+            takes_part,
+            operations,
+        )?;
     }
     Ok(())
 }

@@ -5,6 +5,7 @@ mod arrows;
 mod boxes;
 mod graph;
 mod marks;
+mod node;
 mod text;
 
 pub use graph::put_graph;

@@ -104,25 +104,27 @@ fn decided_orders(
 
 // Appends a cycle of a cube in which these orders are decided.
 fn put_cycle(
+    alloc: Global,
     items: &mut Vec<Item>,
-    steps: &Steps<'_>,
+    steps: &mut Steps<'_>,
     decided: &[ChainOrder],
     line: &[NodeIx],
 ) -> Result<(), AllocError>
-    requires line { CanTell steps.now decided.now line.now }
-    ensures told { OnOk result (AddsLeaf steps.now decided.now (Some line.now) items.old.items items.new.items) }
+    requires line { CanTell steps.old decided.now line.now }
+    ensures same { steps.new ≡ steps.old }
+    ensures told { OnOk result (AddsLeaf steps.old decided.now (Some line.now) items.old.items items.new.items) }
 {
     let start = line[0];
     let edges = line.len() - 1;
     items.extend_from_slice(&[Item::Cycle { start, edges }])?;
-    steps.put_line(items, decided, line)
+    steps.put_line(alloc, items, decided, line)
 }
 
 // Appends the cycle of a visited node, where it is a leaf that is told.
 fn put_leaf(
     alloc: Global,
     items: &mut Vec<Item>,
-    steps: &Steps<'_>,
+    steps: &mut Steps<'_>,
     orders: &[ChainOrder],
     nodes: &[TreeNode],
     visit: Visit,
@@ -130,14 +132,15 @@ fn put_leaf(
     requires tree { IsTree nodes.now }
     requires choices { DecidesAmong (length orders.now) nodes.now }
     requires node { visit.node < length nodes.now }
-    requires line { IfSome (line_of nodes.now visit) (CanTell steps.now (decided_at orders.now nodes.now visit.node)) }
-    ensures told { OnOk result (AddsLeaf steps.now (decided_at orders.now nodes.now visit.node) (line_of nodes.now visit)
+    requires line { IfSome (line_of nodes.now visit) (CanTell steps.old (decided_at orders.now nodes.now visit.node)) }
+    ensures same { steps.new ≡ steps.old }
+    ensures told { OnOk result (AddsLeaf steps.old (decided_at orders.now nodes.now visit.node) (line_of nodes.now visit)
         items.old.items items.new.items) }
 {
     match told_line(nodes, visit) {
         Some(line) => {
             let decided = decided_orders(alloc, orders, nodes, visit.node, visit.depth)?;
-            put_cycle(items, steps, &decided, line)
+            put_cycle(alloc, items, steps, &decided, line)
         }
         None => Ok(()),
     }
@@ -147,7 +150,7 @@ fn put_leaf(
 fn put_visit(
     alloc: Global,
     items: &mut Vec<Item>,
-    steps: &Steps<'_>,
+    steps: &mut Steps<'_>,
     orders: &[ChainOrder],
     nodes: &[TreeNode],
     visit: Visit,
@@ -155,8 +158,9 @@ fn put_visit(
     requires tree { IsTree nodes.now }
     requires choices { DecidesAmong (length orders.now) nodes.now }
     requires node { visit.node < length nodes.now }
-    requires line { IfSome (line_of nodes.now visit) (CanTell steps.now (decided_at orders.now nodes.now visit.node)) }
-    ensures told { OnOk result (AddsVisit steps.now orders.now nodes.now visit items.old.items items.new.items) }
+    requires line { IfSome (line_of nodes.now visit) (CanTell steps.old (decided_at orders.now nodes.now visit.node)) }
+    ensures same { steps.new ≡ steps.old }
+    ensures told { OnOk result (AddsVisit steps.old orders.now nodes.now visit items.old.items items.new.items) }
 {
     let decision = decision_at(nodes, visit.node);
     put_decision(items, orders, decision, visit.depth)?;
@@ -167,7 +171,7 @@ fn put_visit(
 pub fn put_visits(
     alloc: Global,
     items: &mut Vec<Item>,
-    steps: &Steps<'_>,
+    steps: &mut Steps<'_>,
     orders: &[ChainOrder],
     nodes: &[TreeNode],
     visits: &[Visit],
@@ -176,8 +180,9 @@ pub fn put_visits(
     requires choices { DecidesAmong (length orders.now) nodes.now }
     requires within { All (λ visit. visit.node < length nodes.now) visits.now }
     requires lines { All (λ visit. IfSome (line_of nodes.now visit)
-        (CanTell steps.now (decided_at orders.now nodes.now visit.node))) visits.now }
-    ensures told { OnOk result (AddsVisits steps.now orders.now nodes.now visits.now items.old.items items.new.items) }
+        (CanTell steps.old (decided_at orders.now nodes.now visit.node))) visits.now }
+    ensures same { steps.new ≡ steps.old }
+    ensures told { OnOk result (AddsVisits steps.old orders.now nodes.now visits.now items.old.items items.new.items) }
 {
     for visit in visits {
         put_visit(alloc, items, steps, orders, nodes, *visit)?;

@@ -60,9 +60,9 @@ fn tell_nodes(
     let visits = visits(alloc, nodes)?;
     let leaves = count_leaves(nodes);
     let lines = told_lines(alloc, nodes, &visits, leaves)?;
-    let steps = steps_of(alloc, history, chains, entries, &lines)?;
+    let mut steps = steps_of(alloc, history, chains, entries, &lines)?;
     let mut items = steps.items(alloc)?;
     put_leaves(&mut items, leaves)?;
-    put_visits(alloc, &mut items, &steps, orders, nodes, &visits)?;
+    put_visits(alloc, &mut items, &mut steps, orders, nodes, &visits)?;
     Ok(items)
 }

@@ -24,7 +24,7 @@ loop-i-preserved c =
     let at = are_at line (i - 1) i a b (omega arith) (omega arith) c.index-line-i.is c.index-line-i-in-loop-i.is in
     let same : i ≡ i + 1 - 1 = omega arith in
     subst (λ (n : ℕ). Front ss line n c.push.new.self.items) same
-    (one_more ss line (i - 1) i a b c.loop-i.items.items c.push.new.self.items (Known c.reason.result) at c.reason.ensures.why c.in_ok-push.ensures.items c.loop-i.invariant)
+    (one_more ss line (i - 1) i a b c.loop-i.items.items c.push.new.self.items (Known c.in_ok-shown.shown) at c.in_ok-shown.ensures.why c.in_ok-push.ensures.items c.loop-i.invariant)
 
 pub returns : goal.returns
 returns c =

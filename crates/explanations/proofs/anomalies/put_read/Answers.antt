@@ -1,4 +1,4 @@
-use Rattle.std.proofs.Common.{sym, subst}
+use Rattle.std.proofs.Common.{subst}
 use Rattle.explanations.specs.Lines.{begin_at}
 use Rattle.explanations.specs.Anomalies.{Appends, IsWriterTold}
 use Rattle.explanations.proofs.Told.{read_line}
@@ -13,7 +13,7 @@ returns c =
     let mid = c.put_writer.new.out.items in
     let key = c.key_at-key.result.now in
     let wid = c.wid_at-wid.result in
-    let writer = subst (λ l. Appends one mid (IsWriterTold n l key wid)) (sym c.requires.same) c.in_ok-put_writer.ensures.told in
+    let writer = subst (λ l. Appends one mid (IsWriterTold n l key wid)) c.sessions.ensures.sessions c.in_ok-put_writer.ensures.told in
     record {
       told =
           read_line n ss (begin_at c.args.begins.now) c.args.node c.args.op old one mid c.put_text.new.out.items key wid c.requires.read

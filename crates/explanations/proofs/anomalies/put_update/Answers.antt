@@ -9,7 +9,6 @@ put_read-requires c =
     let u = c.requires.update.1 in
     let r = first_read ss c.args.key c.args.node c.update_read-read.result c.update_read-read.ensures.place in
     record {
-      same = c.requires.same;
       room = c.requires.room;
       lines = c.requires.lines;
       node = node_from ss c.args.node u.low u.high;

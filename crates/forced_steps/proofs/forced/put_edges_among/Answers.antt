@@ -5,7 +5,7 @@ use Rattle.forced_steps.proofs.Telling.{put_none, put_more, put_all}
 use Rattle.forced_steps.proofs.forced.put_edges_among.Goals as goal
 
 pub loop-i-init : goal.loop-i-init
-loop-i-init c = put_none c.args.history.now c.args.steps.now.kept.items c.args.decided.now c.args.line.now c.args.items.now.items
+loop-i-init c = (c.requires.answers, put_none c.args.history.now c.args.steps.now.kept.items c.args.decided.now c.args.line.now c.args.items.now.items)
 
 pub loop-i-preserved : goal.loop-i-preserved
 loop-i-preserved c =
@@ -23,13 +23,11 @@ loop-i-preserved c =
     let edge : WhyPut ss steps decided (get_or line i 0) (get_or line (i + 1) 0) old new =
     subst (λ u. WhyPut ss steps decided u (get_or line (i + 1) 0) old new) a
     (subst (λ v. WhyPut ss steps decided c.index-line-i.result v old new) b c.in_ok-put_edge_among.ensures.put) in
-    put_more ss steps decided line i edge.why c.args.items.now.items old new within c.loop-i.invariant edge.by edge.appended
+    (c.in_ok-put_edge_among.ensures.answers, put_more ss steps decided line i edge.why c.args.items.now.items old new within c.loop-i.invariant.1 edge.by edge.appended)
 
-pub returns : goal.returns
-returns c =
+pub returns-clause-put : goal.returns-clause-put
+returns-clause-put c =
     let line = c.args.line.now in
     let some : 0 < length line = omega arith in
-    record {
-      put = put_all c.args.history.now c.args.steps.now.kept.items c.args.decided.now line c.loop-i.i c.args.items.now.items c.loop-i.items.items some
-          (omega (arith, c.loop-i-test.false)) (omega (arith, c.loop-i.auto.i-end, some)) c.loop-i.invariant;
-    }
+    put_all c.args.history.now c.args.steps.now.kept.items c.args.decided.now line c.loop-i.i c.args.items.now.items c.loop-i.items.items some
+    (omega (arith, c.loop-i-test.false)) (omega (arith, c.loop-i.auto.i-end, some)) c.loop-i.invariant.1

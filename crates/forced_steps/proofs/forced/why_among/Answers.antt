@@ -7,27 +7,29 @@ use Rattle.forced_steps.specs.Lines.{sides_of}
 use Rattle.forced_steps.proofs.Covering.{first_step, no_step, none_left}
 use Rattle.forced_steps.proofs.forced.why_among.Goals as goal
 
-pub returns-in-Some-entry_with : goal.returns-in-Some-entry_with
-returns-in-Some-entry_with c =
-    let ss = c.args.history.now in
-    let steps = c.args.steps.now.kept.items in
-    let e : Edge = (c.args.a, c.args.b) in
-    record { why = (c.in-None.ensures.none, first_step ss steps e c.in-Some-entry_with.step (c.in-Some-entry_with.ensures.found (sides_of ss steps) c.requires.steps.firsts)) }
+pub returns-in-Some-clause-why : goal.returns-in-Some-clause-why
+returns-in-Some-clause-why c =
+    let g = rw c.in-Some.is at c.in_ok-reason.ensures.answer in
+    (g.holds, g.first, g.least)
 
-pub returns-in-Some-order_with : goal.returns-in-Some-order_with
-returns-in-Some-order_with c =
+pub returns-in-Some-entry_with-clause-why : goal.returns-in-Some-entry_with-clause-why
+returns-in-Some-entry_with-clause-why c =
     let ss = c.args.history.now in
     let steps = c.args.steps.now.kept.items in
     let e : Edge = (c.args.a, c.args.b) in
-    let o = c.in-Some-order_with.order in
-    record {
-      why = (
-        c.in-None.ensures.none,
-        no_step ss steps e (c.in-None-entry_with.ensures.found (sides_of ss steps) c.requires.steps.firsts),
-        c.in-Some-order_with.ensures.among,
-        subst (λ s. Contains (edges_in (log_of s) o) e) c.requires.chains c.in-Some-order_with.ensures.edge,
-      );
-    }
+    ((rw c.in-None.is at c.in_ok-reason.ensures.answer), first_step ss steps e c.in-Some-entry_with.step (c.in-Some-entry_with.ensures.found (sides_of ss steps) c.requires.steps.firsts))
+
+pub returns-in-Some-order_with-clause-why : goal.returns-in-Some-order_with-clause-why
+returns-in-Some-order_with-clause-why c =
+    let ss = c.args.history.now in
+    let steps = c.args.steps.now.kept.items in
+    let e : Edge = (c.args.a, c.args.b) in
+    let o = c.in-Some-order_with.order in (
+      (rw c.in-None.is at c.in_ok-reason.ensures.answer),
+      no_step ss steps e (c.in-None-entry_with.ensures.found (sides_of ss steps) c.requires.steps.firsts),
+      c.in-Some-order_with.ensures.among,
+      subst (λ s. Contains (edges_in (log_of s) o) e) c.requires.chains c.in-Some-order_with.ensures.edge,
+    )
 
 pub unreachable-requires : goal.unreachable-requires
 unreachable-requires c =
@@ -35,5 +37,5 @@ unreachable-requires c =
     let steps = c.args.steps.now.kept.items in
     let decided = c.args.decided.now in
     let e : Edge = (c.args.a, c.args.b) in
-    none_left ss steps decided e (c.requires.stands.has c.in-None.ensures.none) (c.in-None-entry_with.ensures.found (sides_of ss steps) c.requires.steps.firsts)
+    none_left ss steps decided e (c.requires.stands.has (rw c.in-None.is at c.in_ok-reason.ensures.answer)) (c.in-None-entry_with.ensures.found (sides_of ss steps) c.requires.steps.firsts)
     (subst (λ s. All (λ o. Contains (edges_in (log_of s) o) e → ⊥) decided) c.requires.chains c.in-None-order_with.ensures.none)

@@ -6,4 +6,4 @@ pub returns-in-None-clause-entry : goal.returns-in-None-clause-entry
 returns-in-None-clause-entry c =
     let ss = c.args.history.now in
     let sides = sides_of ss c.args.grounds.now.kept.items in
-    entry_found ss sides c.args.a c.args.b c.entry_with.result c.in-None.ensures.answer (c.entry_with.ensures.found sides c.requires.grounds.firsts)
+    entry_found ss sides c.args.a c.args.b c.entry_with.result (rw c.in-None.is at c.in_ok-_reason.ensures.answer) (c.entry_with.ensures.found sides c.requires.grounds.firsts)

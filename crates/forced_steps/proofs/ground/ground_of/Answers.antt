@@ -20,6 +20,7 @@ pub returns-in-None-clause-ground : goal.returns-in-None-clause-ground
 returns-in-None-clause-ground c =
     let kept = c.args.grounds.now.kept.items in
     let sides = sides_of c.args.history.now kept in
-    let side : HasSide sides (length kept) (c.args.a, c.args.b) = c.requires.rests.kept c.in-None.ensures.answer in
+    let none = rw c.in-None.is at c.in_ok-reason.ensures.answer in
+    let side : HasSide sides (length kept) (c.args.a, c.args.b) = c.requires.rests.kept none in
     let many : length kept ≡ length sides = sym (length-map kept (edges_in (log_of c.args.history.now))) in
-    (c.in-None.ensures.answer, c.first_with.ensures.first sides c.requires.grounds.firsts (subst (λ n. HasSide sides n (c.args.a, c.args.b)) many side))
+    (none, c.first_with.ensures.first sides c.requires.grounds.firsts (subst (λ n. HasSide sides n (c.args.a, c.args.b)) many side))

@@ -13,7 +13,8 @@ returns-in-Some-clause-marked c =
     let kept = c.args.grounds.now.kept.items in
     let sides = sides_of ss kept in
     let k = c.in-Some.entry in
-    let f = c.in-Some.ensures.entry.1 in
+    let e = rw c.in-Some.is at c.in_ok-entry.ensures.entry in
+    let f = e.1 in
     let many : length sides ≡ length kept = length-map kept (edges_in (log_of ss)) in
     let within : k < length c.args.marks.now = omega (arith, slice_get_within sides k f.side f.at, many, c.requires.count) in
-    edge_marked ss sides c.args.a c.args.b k c.args.marks.now c.in-Some.ensures.entry within
+    edge_marked ss sides c.args.a c.args.b k c.args.marks.now e within

@@ -17,5 +17,5 @@ loop-i-preserved c =
     let b : c.index-line-i-in-loop-i.result ≡ get_or line (i + 1) 0 = get_or_read line (i + 1) c.index-line-i-in-loop-i.result within c.index-line-i-in-loop-i.is 0 in
     let edge : IsEdgeMarked ss sides (get_or line i 0) (get_or line (i + 1) 0) c.loop-i.marks c.mark_edge.new.marks =
     subst (λ u. IsEdgeMarked ss sides u (get_or line (i + 1) 0) c.loop-i.marks c.mark_edge.new.marks) a
-    (subst (λ v. IsEdgeMarked ss sides c.index-line-i.result v c.loop-i.marks c.mark_edge.new.marks) b c.mark_edge.ensures.marked) in
+    (subst (λ v. IsEdgeMarked ss sides c.index-line-i.result v c.loop-i.marks c.mark_edge.new.marks) b c.in_ok-mark_edge.ensures.marked) in
     (c.mark_edge.ensures.answers, line_more ss sides line i c.args.marks.now c.loop-i.marks c.mark_edge.new.marks within c.loop-i.invariant.1 edge)

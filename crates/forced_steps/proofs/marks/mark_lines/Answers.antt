@@ -14,9 +14,9 @@ loop-line-preserved c =
     let new = c.mark_line.new.marks in
     record {
       answers = c.mark_line.ensures.answers;
-      covered = lines_next ss sides old new c.args.lines.now c.loop-line.line-index c.line-item.result c.loop-line-test.true c.line-item.is c.mark_line.ensures.marked c.loop-line.invariant.covered;
-      more = more_joined c.args.marks.now old new c.loop-line.invariant.more c.mark_line.ensures.marked.more;
-      only = lines_only ss sides c.args.marks.now old new c.args.lines.now c.loop-line.line-index c.line-item.result c.loop-line-test.true c.line-item.is c.mark_line.ensures.marked c.loop-line.invariant.only;
+      covered = lines_next ss sides old new c.args.lines.now c.loop-line.line-index c.line-item.result c.loop-line-test.true c.line-item.is c.in_ok-mark_line.ensures.marked c.loop-line.invariant.covered;
+      more = more_joined c.args.marks.now old new c.loop-line.invariant.more c.in_ok-mark_line.ensures.marked.more;
+      only = lines_only ss sides c.args.marks.now old new c.args.lines.now c.loop-line.line-index c.line-item.result c.loop-line-test.true c.line-item.is c.in_ok-mark_line.ensures.marked c.loop-line.invariant.only;
     }
 
 pub returns-clause-covered : goal.returns-clause-covered

@@ -2,9 +2,9 @@ use Rattle.forced_steps.specs.Lines.{sides_of}
 use Rattle.forced_steps.proofs.Marking.{walk_marked, walk_unmarked}
 use Rattle.forced_steps.proofs.marks.mark_walk.Goals as goal
 
-pub returns-then-needed-clause-marked : goal.returns-then-needed-clause-marked
-returns-then-needed-clause-marked c =
-    walk_marked c.args.history.now (sides_of c.args.history.now c.args.grounds.now.kept.items) c.args.walk.now c.args.entry c.args.marks.now c.mark_line.new.marks c.if-needed.true c.requires.rests c.mark_line.ensures.marked
+pub returns-in_ok-mark_line-clause-marked : goal.returns-in_ok-mark_line-clause-marked
+returns-in_ok-mark_line-clause-marked c =
+    walk_marked c.args.history.now (sides_of c.args.history.now c.args.grounds.now.kept.items) c.args.walk.now c.args.entry c.args.marks.now c.mark_line.new.marks c.if-needed.true c.requires.rests c.in_ok-mark_line.ensures.marked
 
 pub returns-else-needed-clause-marked : goal.returns-else-needed-clause-marked
 returns-else-needed-clause-marked c =

@@ -28,7 +28,7 @@ loop-done-preserved c =
     let lt : i < length entries = omega (arith, c.loop-done-test.true) in
     let low : length entries ≡ i + (c.loop-done.done + 1) = omega (arith, c.loop-done-test.true) in
     let walk : c.deref.result.now ≡ x.post.walk = c.deref.ensures.value ∙ ap (λ (q : Posted). q.walk) c.post.view_is ∙ ap (λ (y : LedgerEntry). y.post.walk) (sym c.index-entries-entry.is) in
-    let w : IsWalkMarked ss sides x.post.walk i c.loop-done.marks c.mark_walk.new.marks = subst (λ l. IsWalkMarked ss sides l i c.loop-done.marks c.mark_walk.new.marks) walk c.mark_walk.ensures.marked in (
+    let w : IsWalkMarked ss sides x.post.walk i c.loop-done.marks c.mark_walk.new.marks = subst (λ l. IsWalkMarked ss sides l i c.loop-done.marks c.mark_walk.new.marks) walk c.in_ok-mark_walk.ensures.marked in (
       c.mark_walk.ensures.answers,
       (
         walks_more ss sides entries c.loop-done.done i x.post c.loop-done.marks c.mark_walk.new.marks (post_at entries i x lt c.index-entries-entry.is) low w c.loop-done.invariant.1.0,

@@ -4,5 +4,5 @@ use Rattle.log_lines.proofs.begins.begin_lines.Goals as goal
 
 pub returns : goal.returns
 returns c = record {
-  begins = begin_lines_at_end (first_line c.args.version) c.loop-session.line c.loop-session.session-index c.args.history.now c.args.sessions.now c.loop-session.lines.items c.requires.same c.loop-session-test.false c.loop-session.invariant.begins;
+  begins = begin_lines_at_end (first_line c.args.version) c.loop-session.line c.loop-session.session-index c.args.history.now c.sessions-sessions.result.now c.loop-session.lines.items c.loop-session-test.false c.loop-session.invariant.begins;
 }

@@ -8,6 +8,6 @@ use Rattle.log_lines.proofs.begins.begin_lines.Given as goal
 
 abbrev pub invariant-loop-session : goal.invariant-loop-session
 invariant-loop-session l = record {
-  begins : l.lines.items ++ begins_in (taken l.history) l.line (map view (drop l.session-index l.sessions)) ≡ begins_in (taken l.history) (first_line l.fn.version) (map view l.sessions);
-  room : l.line + length (log_lines (map view (drop l.session-index l.sessions))) ≡ first_line l.fn.version + length (log_lines (map view l.sessions));
+  begins : l.lines.items ++ begins_in (taken l.history) l.line (map view (drop l.session-index l.sessions)) ≡ begins_in (taken l.history) (first_line l.fn.version) l.history;
+  room : l.line + length (log_lines (map view (drop l.session-index l.sessions))) ≡ first_line l.fn.version + length (log_lines l.history);
 }

@@ -38,7 +38,7 @@ returns-then-ended_before-clause-first c = (
   λ s. false≢true (sym c.if-are_of_session.false ∙ c.are_of_session.ensures.1 s),
   c.in_default.ensures.none,
   c.in_default-overwritten_by.ensures.none,
-  c.in_default-begins_behind_initial.ensures.none,
+  rw c.in_default-2.is at c.in_ok-begins.ensures.none,
 )
 
 pub returns-clause-none : goal.returns-clause-none
@@ -46,6 +46,6 @@ returns-clause-none c = record {
   session = λ s. false≢true (sym c.if-are_of_session.false ∙ c.are_of_session.ensures.1 s);
   read = c.in_default.ensures.none;
   overwritten = c.in_default-overwritten_by.ensures.none;
-  initial = c.in_default-begins_behind_initial.ensures.none;
+  initial = rw c.in_default-2.is at c.in_ok-begins.ensures.none;
   moments = λ e. false≢true (sym c.if-ended_before.false ∙ c.ended_before.ensures.1 e);
 }

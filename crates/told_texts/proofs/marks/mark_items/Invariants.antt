@@ -1,7 +1,10 @@
 use Rattle.std.proofs.Common.{take}
 use Rattle.std.specs.List.{flat_map}
-use Rattle.told_texts.specs.Graphs.{AddsMarks, item_names}
+use Rattle.told_texts.specs.Graphs.{AddsMarks, AddsNamed, item_names, takes_part}
 use Rattle.told_texts.proofs.marks.mark_items.Given as goal
 
 abbrev pub invariant-loop-item : goal.invariant-loop-item
-invariant-loop-item l = AddsMarks l.node (flat_map item_names (take l.item-index l.items)) l.initial.marks l.marks
+invariant-loop-item l = record {
+  nodes : AddsMarks (takes_part (take l.item-index l.items)) l.initial.nodes l.nodes;
+  operations : AddsNamed (flat_map item_names (take l.item-index l.items)) l.initial.operations l.operations;
+}
