@@ -10,7 +10,8 @@ use Rattle.pruning_laws.specs.Ledger.{same_side}
 use Rattle.cube_laws.specs.Cubes.{is_decided}
 use Rattle.cube_laws.proofs.Nodes.{get_below, each_at}
 use Rattle.cube_laws.proofs.Alive.{no_cycle}
-use Rattle.cube_laws.proofs.Fits.{KeepsCube, cube_opening, cube_split, same_is, same_itself}
+use Rattle.cube_laws.proofs.Fits.{KeepsCube, cube_opening, cube_split}
+use Rattle.pruning_laws.proofs.Ledgers.{same_is, same_itself}
 use Rattle.branch_search.specs.declared.tree.Decision.{Decision}
 use Rattle.branch_search.specs.declared.tree.Growth.{Growth}
 use Rattle.branch_search.specs.declared.tree.Growth.TheVariants.{Leaf, Inner}

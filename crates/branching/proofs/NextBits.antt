@@ -8,7 +8,7 @@ use Rattle.std.proofs.lemmas.Nat.{and_le_l, div-mul-add, mod-mul-add, div-add-mo
 use Rattle.std.proofs.lemmas.Nat.Bits.{bit_at_and, bit_at-lt, bit_at-zero, bit_at-trailing_zeros, bit_at_mask_inside, bit_at_mask_below, ones_shl, bit_at_ones, bit_at_ones_above, bit_at_clear_same, bit_at_clear_other}
 use Rattle.std.proofs.Math.Nat.{mod-eq_of_lt}
 use Rattle.known_graph.specs.Bits.{bit_of}
-use Rattle.known_graph.proofs.Words.{bit_of-past}
+use Rattle.known_graph.proofs.Words.{bit_of-past, same_word}
 use Rattle.branching.specs.Bits.{IsNext, NoneFrom}
 
 place_in : (i b : ℕ) → b < 64 → ((i * 64 + b) / 64 ≡ i) × ((i * 64 + b) % 64 ≡ b)
@@ -145,9 +145,6 @@ none_past words from past = record { clear = λ j lo. bit_of-past words j (omega
 -- the word that a bit is cleared in
 abbrev pub without_bit : ℕ → ℕ → ℕ
 without_bit w b = bit_and w (18446744073709551615 - 1 * 2 ^ b % 18446744073709551616)
-
-same_word : (words : List ℕ) (n k : ℕ) → n / 64 < length words → k / 64 ≡ n / 64 → (new : ℕ) → get_or (set words (n / 64) new) (k / 64) 0 ≡ new
-same_word words n k within row new = ap (λ i. get_or (set words (n / 64) new) i 0) row ∙ get_or-set_same words (n / 64) new 0 within
 
 other_bit : (words : List ℕ) (n k : ℕ) → n / 64 < length words → k ≢ n → bit_of (set words (n / 64) (without_bit (get_or words (n / 64) 0) (n % 64))) k ≡ bit_of words k
 unfolding bit_of

@@ -1,11 +1,10 @@
 -- Nodes in the order of what they reach.
-use Rattle.std.proofs.Common.{◌≡◌, ℕ, zero, suc, ◌+◌, ◌-◌, ◌<◌, ◌≤◌, Bool, true, false, eqb, List, [], ◌∷◌, ◌++◌, length, get_or, take, map, sym, ap, ◌∙◌, subst, inl, inr, arith, eq-eqb}
-use Rattle.std.specs.List.{Contains, All, count_by, range_with_len}
+use Rattle.std.proofs.Common.{◌≡◌, ℕ, zero, suc, ◌+◌, ◌-◌, ◌<◌, ◌≤◌, eqb, List, [], ◌∷◌, ◌++◌, length, get_or, map, sym, ap, ◌∙◌, subst, inl, inr, arith, eq-eqb}
+use Rattle.std.specs.List.{Contains, All, range_with_len}
 use Rattle.std.specs.List.Sorted.{IsPermutation, IsNonDecreasingBy}
 use Rattle.std.proofs.lemmas.Bool.{cases_eq, cases_lt, cond-true}
-use Rattle.std.proofs.lemmas.List.{take_all, get_or-map, length-map, map_push}
-use Rattle.std.proofs.lemmas.List.FromFn.{length-range_with_len, get_or-range_with_len}
-use Rattle.std.proofs.lemmas.List.Sums.{count_by_more_yes, count_by_more_no}
+use Rattle.std.proofs.lemmas.List.{get_or-map, length-map, map_push}
+use Rattle.std.proofs.lemmas.List.FromFn.{length-range_with_len}
 use Rattle.std.proofs.lemmas.List.Sorted.{IsPermutation-map, length_permutation, Contains-permutation}
 use Rattle.serializability.specs.Replay.{place_of}
 use Rattle.serializability.proofs.Places.{Has, Has-from_Contains, Contains-from_Has, place_of-further}
@@ -13,19 +12,6 @@ use Rattle.serializability.proofs.Sources.{Has-from_range}
 use Rattle.reach_laws.specs.Reach.{Graph}
 use Rattle.branching.specs.declared.order.Ranked.{Ranked}
 use Rattle.branching.specs.Orders.{unreached, IsOrderByReach}
-
--- ---- one more node is counted
-node_at : (n u : ℕ) → u < n + 1 → get_or (range_with_len 0 (n + 1)) u 0 ≡ u
-node_at n u h = omega (arith, get_or-range_with_len 0 (n + 1) u 0 h)
-
-pub counted_yes : (p : ℕ → Bool) (n u : ℕ) → u < n + 1 → p u ≡ true → count_by p (take (u + 1) (range_with_len 0 (n + 1))) ≡ count_by p (take u (range_with_len 0 (n + 1))) + 1
-counted_yes p n u h t = count_by_more_yes p (range_with_len 0 (n + 1)) u 0 (omega (arith, length-range_with_len 0 (n + 1))) (ap p (node_at n u h) ∙ t)
-
-pub counted_no : (p : ℕ → Bool) (n u : ℕ) → u < n + 1 → p u ≡ false → count_by p (take (u + 1) (range_with_len 0 (n + 1))) ≡ count_by p (take u (range_with_len 0 (n + 1)))
-counted_no p n u h f = count_by_more_no p (range_with_len 0 (n + 1)) u 0 (omega (arith, length-range_with_len 0 (n + 1))) (ap p (node_at n u h) ∙ f)
-
-pub counted_all : (p : ℕ → Bool) (n u : ℕ) → n + 1 ≤ u → count_by p (take u (range_with_len 0 (n + 1))) ≡ count_by p (range_with_len 0 (n + 1))
-counted_all p n u h = ap (count_by p) (take_all u (range_with_len 0 (n + 1)) (omega (arith, length-range_with_len 0 (n + 1))))
 
 -- ---- one more node is listed
 range_more : (a n : ℕ) → range_with_len a (suc n) ≡ range_with_len a n ++ (a + n) ∷ []

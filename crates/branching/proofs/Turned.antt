@@ -17,7 +17,7 @@ use Rattle.pruning_laws.specs.Ledger.{same_side, sides_in}
 use Rattle.known_graph.specs.Tests.{has_edge, leads, is_line}
 use Rattle.known_graph.proofs.Tested.{same_bool, edge_in, has_contained, line_of}
 use Rattle.reach_rows.specs.ReachRows.{AreRowsOf}
-use Rattle.prune_ledger.proofs.Sides.{same_itself}
+use Rattle.pruning_laws.proofs.Ledgers.{same_itself}
 use Rattle.cube_laws.specs.Cubes.{Cube, is_decided, edges_under}
 use Rattle.cube_laws.specs.State.{State}
 use Rattle.cube_laws.specs.Steps.{node_held, cube_at, reply_of, is_cycle, is_choice, can_split, decides_all, lists_once, keeps_edges, is_solution, split_reply, refute_reply, solve_reply}

@@ -19,7 +19,8 @@ use Rattle.reach_rows.specs.ReachRows.{AreRowsOf}
 use Rattle.prune_ledger.specs.Ledger.{side_of}
 use Rattle.prune_ledger.specs.Rounds.{AddsEdges}
 use Rattle.prune_ledger.proofs.Marks.{side_joins}
-use Rattle.prune_ledger.proofs.Sides.{same_is, same_itself, side_is, known_with, side_with, choice_of_edge, with_cases}
+use Rattle.prune_ledger.proofs.Sides.{side_is, known_with, side_with, choice_of_edge, with_cases}
+use Rattle.pruning_laws.proofs.Ledgers.{same_is, same_itself}
 use Rattle.branching.specs.View.{View, is_open_in, chosen, edges_in, graph_in, opened, decided}
 use Rattle.prune_ledger.specs.Runs.{IsWhole}
 use Rattle.branching.specs.Held.{IsView, AreEdgesOf}

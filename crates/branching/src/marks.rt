@@ -10,12 +10,12 @@ ghost use Rattle.branching.specs.Marked.{list_of, AreIncoming, AddsSide, AddsEnt
 ghost use Rattle.polygraph.specs.declared.index.TheConstants.{MAX_CHOICES};
 ghost use Rattle.serializability.specs.declared.node.TheConstants.{MAX_NODES};
 
-use crate::order::node_of;
 use known_graph::bits::set_bit;
 use polygraph::{Choice, ChoiceIx};
 use reach_laws::Edge;
 use reach_rows::Rows;
 use serializability::NodeIx;
+use serializability::numbers::node as node_of;
 use std::alloc::{AllocError, Global};
 
 /// An edge of a side of a choice, where its target is known.

@@ -3,10 +3,10 @@
 ghost use Rattle.std.specs.Prelude.{◌≡◌, ◌+◌, ◌≤◌, IfOk, map};
 ghost use Rattle.std.specs.List.{All, range_with_len};
 ghost use Rattle.branching.specs.Orders.{unreached, IsOrderByReach};
-ghost use Rattle.serializability.specs.declared.node.TheConstants.{MAX_NODES};
 
 use reach_rows::Rows;
 use serializability::NodeIx;
+use serializability::numbers::node as node_of;
 use std::alloc::{AllocError, Global};
 
 // A node, and how many nodes it does not reach.
@@ -58,12 +58,4 @@ fn unreached(rows: &Rows, node: NodeIx) -> usize
         }
     }
     count
-}
-
-/// The node with this number.
-pub fn node_of(number: usize) -> NodeIx
-    requires few { number ≤ MAX_NODES }
-    ensures number { result ≡ number }
-{
-    NodeIx::new(number).unwrap()
 }

@@ -1,28 +1,12 @@
 -- What is made of the elements of a list, one by one.
 use Rattle.std.proofs.Common.{◌≡◌, ℕ, zero, suc, ◌+◌, ◌<◌, ◌≤◌, List, [], ◌∷◌, ◌++◌, length, get_or, take, drop, sym, ap, ◌∙◌, subst, ◌-◌, arith, append_assoc, length-append}
 use Rattle.std.specs.Prelude.{map}
-use Rattle.std.specs.List.{flat_map, range_with_len}
+use Rattle.std.specs.List.{flat_map}
 use Rattle.std.proofs.lemmas.List.{append-nil, map-append, take_more, drop_more}
 use Rattle.std.proofs.lemmas.Grind.{flat_map-append}
+use Rattle.serializability.proofs.SoFar.{so_far, so_far_more}
 
 -- ---- of the numbers below k
-range_last : (a k : ℕ) → range_with_len a (k + 1) ≡ range_with_len a k ++ (a + k) ∷ []
-range_last a zero = let e : a ≡ a + 0 = omega arith in ap (λ n. n ∷ []) e
-range_last a (suc k) =
-    let e : (a + 1) + k ≡ a + suc k = omega arith in
-    let two : suc k + 1 ≡ suc (k + 1) = omega arith in
-    ap (range_with_len a) two ∙ ap (λ l. a ∷ l) (range_last (a + 1) k) ∙ ap (λ n. a ∷ (range_with_len (a + 1) k ++ n ∷ [])) e
-
-abbrev pub so_far : {X : Type 0} → (ℕ → List X) → ℕ → List X
-so_far f k = flat_map f (range_with_len 0 k)
-
-pub so_far_more : {X : Type 0} (f : ℕ → List X) (k : ℕ) → so_far f (k + 1) ≡ so_far f k ++ f k
-so_far_more f k =
-    let here : 0 + k ≡ k = omega arith in
-    ap (flat_map f) (range_last 0 k ∙ ap (λ v. range_with_len 0 k ++ v ∷ []) here)
-    ∙ flat_map-append f (range_with_len 0 k) (k ∷ [])
-    ∙ ap (λ l. so_far f k ++ l) (append-nil (f k))
-
 so_far_up : {X : Type 0} (f : ℕ → List X) (k d : ℕ) → length (so_far f k) ≤ length (so_far f (k + d))
 so_far_up f k zero = let e : k + 0 ≡ k = omega arith in subst (λ n. length (so_far f k) ≤ length (so_far f n)) (sym e) (omega arith)
 so_far_up f k (suc d) =

@@ -1,18 +1,12 @@
 -- What `explain` says, put together.
-use Rattle.std.proofs.Common.{◌≡◌, ℕ, ◌+◌, ◌<◌, ◌≤◌, ◌^◌, Bool, true, false, cond, List, [], ◌∷◌, ◌++◌, length, Option, None, Some, Result, Ok, Err, refl, sym, ap, ◌∙◌, subst, arith, length-append}
-use Rattle.std.specs.Prelude.{IfOk, nat_lt}
-use Rattle.std.proofs.lemmas.Bool.{ltb-false}
-use Rattle.session_log.specs.Text.{ClientSession, line_text, text_of_lines, log_text}
-use Rattle.session_log.specs.declared.line.Line.{Line}
+use Rattle.std.proofs.Common.{◌≡◌, ℕ, ◌+◌, ◌≤◌, List, ◌++◌, Result, Ok, Err, sym, subst, arith}
+use Rattle.std.specs.Prelude.{IfOk}
+use Rattle.session_log.specs.Text.{ClientSession}
 use Rattle.session_log.specs.declared.fault.Limit.TheVariants as limit
-use Rattle.session_log.specs.Version.{first_line, header_text}
-use Rattle.session_log.specs.Blocks.{size_fault}
+use Rattle.session_log.specs.Version.{first_line}
 use Rattle.session_log.specs.declared.version.Version.{Version}
 use Rattle.session_log.specs.declared.version.Version.TheVariants.{One, Two, Three}
-use Rattle.session_log.specs.declared.fault.LogFault.{LogFault}
 use Rattle.session_log.specs.declared.fault.LogFault.TheVariants as faults
-use Rattle.session_log.proofs.Whole.{log_by_lines}
-use Rattle.log_definitions.specs.WellFormed.{log_lines}
 use Rattle.cobra_answers.specs.declared.reply.Reply.{Reply}
 use Rattle.cobra_answers.specs.declared.status.Status.{Status}
 use Rattle.cobra_answers.specs.declared.status.Status.TheVariants.{Done, NotSerializable, Unknown}
@@ -33,27 +27,6 @@ pub first_within : (v : Version) → first_line v ≤ 2
 first_within One = omega arith
 first_within Two = omega arith
 first_within Three = omega arith
-
--- a log has no more lines than bytes
-lines_bytes : (fs : List Line) → length fs ≤ length (text_of_lines fs)
-lines_bytes [] = omega arith
-lines_bytes (f ∷ fs) =
-    let ih = lines_bytes fs in
-    let a = length-append (line_text f ++ 10 ∷ []) (text_of_lines fs) in
-    let b = length-append (line_text f) (10 ∷ []) in
-    omega (arith, ih, a, b)
-
-size_of : (text : List ℕ) (t : Bool) (rest : Option LogFault) → nat_lt (2 ^ 24) (length text) ≡ t → cond t (Some (faults.OverLimit limit.LogBytes)) rest ≡ None → length text ≤ 2 ^ 24
-size_of text true rest e h = cc
-size_of text false rest e h = ltb-false (2 ^ 24) (length text) e
-
-pub room_behind : (v : Version) (text : List ℕ) (ss : List ClientSession) → size_fault text ≡ None → text ≡ log_text v ss → length (log_lines ss) + 2 < 2 ^ 63
-unfolding size_fault
-room_behind v text ss s e =
-    let bytes = size_of text (nat_lt (2 ^ 24) (length text)) _ refl s in
-    let fewer = lines_bytes (log_lines ss) in
-    let same = ap length (e ∙ log_by_lines v ss) ∙ length-append (header_text v) (text_of_lines (log_lines ss)) in
-    omega (arith, bytes, fewer, same)
 
 -- ---- results
 pub if_ok : {A E : Type 0} (P Q : A → Type 0) (r : Result A E) → ((x : A) → P x → Q x) → IfOk r P → IfOk r Q

@@ -16,20 +16,10 @@ use Rattle.pruning_laws.specs.declared.side.Side.{Side}
 use Rattle.pruning_laws.specs.declared.side.Side.TheVariants.{One, Two}
 use Rattle.pruning_laws.specs.Forced.{edges_of, Sides, kept_from}
 use Rattle.pruning_laws.specs.Ledger.{same_side, Entry as Decision, sides_in}
+use Rattle.pruning_laws.proofs.Ledgers.{same_is, same_itself}
 use Rattle.cube_laws.specs.Cubes.{Cube, is_decided, edges_under}
 use Rattle.cube_laws.specs.Steps.{decides_all, lists_once, keeps_edges, is_solution}
 use Rattle.cube_laws.proofs.Nodes.{none-some, some-inj, one_value, each_indexed}
-
--- ---- sides
-pub same_is : (a b : Side) → same_side a b ≡ true → a ≡ b
-same_is One One t = refl
-same_is One Two t = absurd (false≢true t)
-same_is Two One t = absurd (false≢true t)
-same_is Two Two t = refl
-
-pub same_itself : (a : Side) → same_side a a ≡ true
-same_itself One = refl
-same_itself Two = refl
 
 -- ---- the sides of a cube
 -- the order keeps the side of this decision

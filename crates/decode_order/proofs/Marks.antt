@@ -2,9 +2,10 @@
 use Rattle.std.proofs.Common.{◌≡◌, ℕ, ◌+◌, ◌<◌, ◌≤◌, Bool, true, false, List, [], ◌∷◌, ◌++◌, length, get_or, take, drop, refl, sym, ap, ◌∙◌, subst, inl, inr, arith}
 use Rattle.std.specs.Prelude.{slice_set}
 use Rattle.std.proofs.lemmas.Bool.{cases_eq, true≢false}
-use Rattle.std.proofs.lemmas.List.{get_or-set_same, get_or-set_other, length-set, take_more, take-append-drop, at_drop_more}
+use Rattle.std.proofs.lemmas.List.{get_or-set_same, get_or-set_other, length-set}
 use Rattle.serializability.specs.Replay.{ListsOnce}
 use Rattle.serializability.proofs.Places.{Has, Apart, Has-append_front, Has-append_back, Has-append_cases, Apart-not_both}
+use Rattle.serializability.proofs.Fronts.{front_more, around, Apart-push}
 use Rattle.serializability.proofs.Serial.{node_of}
 use Rattle.serializability.proofs.Listed.{Has_get, once_apart}
 
@@ -32,26 +33,6 @@ marked_more n line marks v hi m = record {
     ]
   ];
 }
-
--- ---- the line is the front of an order
-pub front_more : (order : List ℕ) (i v : ℕ) → i < length order → get_or order i v ≡ v → take (i + 1) order ≡ take i order ++ v ∷ []
-front_more order i v lt e = take_more order i v lt ∙ ap (λ u. take i order ++ u ∷ []) e
-
-pub rest_from : (order : List ℕ) (i v : ℕ) → i < length order → get_or order i v ≡ v → drop i order ≡ v ∷ drop (i + 1) order
-rest_from order i v lt e = at_drop_more (λ l. l) order i v lt ∙ ap (λ u. u ∷ drop (i + 1) order) e
-
-pub around : (order : List ℕ) (i v : ℕ) → i < length order → get_or order i v ≡ v → order ≡ take i order ++ v ∷ drop (i + 1) order
-around order i v lt e = sym (take-append-drop i order) ∙ ap (λ l. take i order ++ l) (rest_from order i v lt e)
-
-Apart-push : (xs : List ℕ) (v : ℕ) → Apart xs → (Has v xs → ⊥) → Apart (xs ++ v ∷ [])
-Apart-push [] v a absent = (λ h. h, tt)
-Apart-push (x ∷ xs) v a absent = (
-  λ h. elim (Has-append_cases x xs (v ∷ []) h) [
-    | inl k ↦ a.0 k
-    | inr k ↦ elim k [ inl e ↦ absent (inl (sym e)) | inr none ↦ none ]
-  ],
-  Apart-push xs v a.1 (λ h. absent (inr h)),
-)
 
 -- ---- nodes that were listed once so far
 pub record OnceSoFar (n : ℕ) (order : List ℕ) (i : ℕ) (marks : List Bool) : Type 0 where

@@ -10,7 +10,7 @@ use Rattle.serializability.specs.declared.event.Event.TheVariants.{Read, Write}
 use Rattle.serializability.specs.Replay.{Store, empty, after, Meets}
 use Rattle.serializability.proofs.Replays.{after-append}
 use Rattle.decode_order.specs.Replaying.{PlacedOp, placed_from, in_replay, held, meets, first_mismatch}
-use Rattle.decode_order.proofs.Marks.{rest_from}
+use Rattle.serializability.proofs.Fronts.{rest_from}
 
 abbrev pub ops_of : List PlacedOp → List Event
 ops_of ps = map (λ (p : PlacedOp). p.op) ps

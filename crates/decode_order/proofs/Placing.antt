@@ -1,26 +1,10 @@
 -- Nodes that are put at the places that their ranks say.
-use Rattle.std.proofs.Common.{◌≡◌, ◌≢◌, ℕ, ◌+◌, ◌-◌, ◌<◌, ◌≤◌, Bool, true, false, List, length, get_or, take, ap, ◌∙◌, subst, inl, inr, arith, sym}
-use Rattle.std.specs.List.{count_by, range_with_len}
+use Rattle.std.proofs.Common.{◌≡◌, ◌≢◌, ℕ, ◌+◌, ◌-◌, ◌<◌, ◌≤◌, Bool, List, length, get_or, ap, ◌∙◌, subst, inl, inr, arith, sym}
 use Rattle.std.specs.Prelude.{slice_set}
 use Rattle.std.proofs.lemmas.Bool.{cases_lt}
-use Rattle.std.proofs.lemmas.List.{get_or_default, ext_get_or, get_or-set_same, get_or-set_other, take_all, length-set}
-use Rattle.std.proofs.lemmas.List.FromFn.{length-range_with_len, get_or-range_with_len}
-use Rattle.std.proofs.lemmas.List.Sums.{count_by_more_yes, count_by_more_no}
+use Rattle.std.proofs.lemmas.List.{get_or_default, ext_get_or, get_or-set_same, get_or-set_other, length-set}
 use Rattle.serializability.specs.Decoded.{IsOrder, IsDecoded}
 use Rattle.serializability.proofs.Ranks.{rank, rank-apart, rank-pos, rank-zero, rank-le, rank-onto}
-
--- ---- one more node is counted
-node_at : (n u : ℕ) → u < n + 1 → get_or (range_with_len 0 (n + 1)) u 0 ≡ u
-node_at n u h = omega (arith, get_or-range_with_len 0 (n + 1) u 0 h)
-
-pub counted_yes : (p : ℕ → Bool) (n u : ℕ) → u < n + 1 → p u ≡ true → count_by p (take (u + 1) (range_with_len 0 (n + 1))) ≡ count_by p (take u (range_with_len 0 (n + 1))) + 1
-counted_yes p n u h t = count_by_more_yes p (range_with_len 0 (n + 1)) u 0 (omega (arith, length-range_with_len 0 (n + 1))) (ap p (node_at n u h) ∙ t)
-
-pub counted_no : (p : ℕ → Bool) (n u : ℕ) → u < n + 1 → p u ≡ false → count_by p (take (u + 1) (range_with_len 0 (n + 1))) ≡ count_by p (take u (range_with_len 0 (n + 1)))
-counted_no p n u h f = count_by_more_no p (range_with_len 0 (n + 1)) u 0 (omega (arith, length-range_with_len 0 (n + 1))) (ap p (node_at n u h) ∙ f)
-
-pub counted_all : (p : ℕ → Bool) (n u : ℕ) → n + 1 ≤ u → count_by p (take u (range_with_len 0 (n + 1))) ≡ count_by p (range_with_len 0 (n + 1))
-counted_all p n u h = ap (count_by p) (take_all u (range_with_len 0 (n + 1)) (omega (arith, length-range_with_len 0 (n + 1))))
 
 -- ---- one more node is put at its place
 pub record Placed (n : ℕ) (r : ℕ → ℕ → Bool) (items : List ℕ) (v : ℕ) : Type 0 where

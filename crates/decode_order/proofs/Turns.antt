@@ -11,7 +11,8 @@ use Rattle.serializability.proofs.Serial.{node_of}
 use Rattle.decode_order.specs.Replaying.{first_early}
 use Rattle.serializability.proofs.Listed.{Has_get, once_apart}
 use Rattle.decode_order.proofs.Early.{is_earlier, earlier_from, early_further}
-use Rattle.decode_order.proofs.Marks.{Marked, marked_more, front_more, rest_from, around}
+use Rattle.decode_order.proofs.Marks.{Marked, marked_more}
+use Rattle.serializability.proofs.Fronts.{front_more, rest_from, around}
 
 -- with a node of the line, the node before it in its session is there
 pub record FromStart (session : ℕ → ℕ) (line : List ℕ) : Type 0 where

@@ -8,9 +8,9 @@ ghost use Rattle.order_cnf.specs.Data.{cnf_of};
 ghost use Rattle.decode_order.specs.Decoding.{IsDecodeFault};
 
 use crate::fault::DecodeFault;
-use crate::node::node_of;
 use order_cnf::Formula;
 use serializability::NodeIx;
+use serializability::numbers::node as node_of;
 use session_history::Order;
 use std::alloc::{AllocError, Global};
 

@@ -7,7 +7,6 @@ mod fault;
 pub mod laws;
 mod listing;
 mod moments;
-mod node;
 mod reads;
 mod serial;
 mod sessions;

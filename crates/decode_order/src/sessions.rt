@@ -5,8 +5,8 @@ ghost use Rattle.serializability.specs.Replay.{ListsOnce};
 ghost use Rattle.log_definitions.specs.Numbers.{log_of};
 ghost use Rattle.decode_order.specs.Replaying as spec;
 
-use crate::node::node_of;
 use serializability::NodeIx;
+use serializability::numbers::node as node_of;
 use session_history::History;
 use std::alloc::{AllocError, Global};
 

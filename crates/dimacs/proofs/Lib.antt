@@ -1,5 +1,4 @@
 pub mod Cuts
-pub mod Digits
 pub mod Items
 pub mod Numerals
 pub mod Pieces

@@ -17,7 +17,7 @@ use Rattle.dimacs.specs.Text.{literal_text, clause_text}
 use Rattle.dimacs.specs.Words.{Item, Claim, Given, Zero, is_blank, is_number, signed_item, number_item, status_named, words, line_items, lines_of}
 use Rattle.dimacs.specs.Answer.{items_of, status, mentions, is_closed, item_fault, line_fault, first_fault, answer_fault, assignment, assignment_of, status_of}
 use Rattle.dimacs.specs.Models.{literals_of, model_text}
-use Rattle.dimacs.proofs.Digits.{own}
+use Rattle.session_log.proofs.Digits.{own}
 use Rattle.dimacs.proofs.Items.{literal, and_false, pushed_mention, other_variable, numbered_closed}
 use Rattle.dimacs.proofs.Takings.{late_fault}
 use Rattle.dimacs.proofs.Texts.{Avoids, IsIn, body, word, literal_avoids, zero_avoids, body_avoids_lf, words_of_body, clause_text-body}

@@ -4,9 +4,10 @@ ghost use Rattle.std.specs.Prelude.{◌≡◌, ℕ, ◌<◌, List, [], ◌∷◌
 ghost use Rattle.dimacs.specs.Words.{Item, Given, line_items, number_item, signed_item, status_item, claim, words};
 
 use crate::answer::{AnswerFault, SolverAnswer};
-use crate::number::{is_number, value_of};
+use crate::number::is_number;
 use crate::status::{Status, status_named};
 use crate::words::{Words, is_blank};
+use session_log::value_of;
 use std::alloc::{AllocError, Global};
 
 /// What the words so far have said.
@@ -116,7 +117,7 @@ impl Reading {
                 self.closed = true;
                 Ok(())
             }
-            Some(variable) => self.take_literal(line, positive, variable),
+            Some(variable) => self.take_literal(line, positive, variable as usize),
         }
     }
 

@@ -1,14 +1,14 @@
 -- The orders of the choices between chains.
-use Rattle.std.proofs.Common.{◌≡◌, ℕ, zero, suc, ◌+◌, ◌<◌, ◌≤◌, true, List, [], ◌∷◌, ◌++◌, refl, sym, ap, ◌∙◌, subst, arith}
+use Rattle.std.proofs.Common.{◌≡◌, ℕ, ◌+◌, ◌<◌, ◌≤◌, true, List, [], ◌∷◌, ◌++◌, refl, sym, ap, ◌∙◌, subst, arith}
 use Rattle.std.specs.Prelude.{map}
-use Rattle.std.specs.List.{flat_map, range_with_len, AllByRecursion, All, Contains}
-use Rattle.std.proofs.lemmas.List.{append-nil, map-append}
-use Rattle.std.proofs.lemmas.Grind.{flat_map-append}
+use Rattle.std.specs.List.{flat_map, AllByRecursion, All, Contains}
+use Rattle.std.proofs.lemmas.List.{map-append}
 use Rattle.std.proofs.lemmas.List.Elements.{All-from_recursion}
 use Rattle.serializability.specs.Log.{Log}
 use Rattle.serializability.specs.Pairs.{pairs_of}
 use Rattle.serializability.specs.Polygraph.{all_keys, committed}
 use Rattle.serializability.proofs.Places.{each_from_range, each_from_map, each_from_flat_map}
+use Rattle.serializability.proofs.SoFar.{so_far}
 use Rattle.known_graph.proofs.Listed.{In-filter, In-range, Contains-from_In}
 use Rattle.chain_laws.specs.Chains.{heads, is_head, chain_choice, chain_choices}
 use Rattle.chain_laws.proofs.Coalesced.{pairs_each}
@@ -16,24 +16,6 @@ use Rattle.write_chains.specs.Views.{chain_from, chains_in}
 use Rattle.explanations.specs.declared.why.ChainOrder.{ChainOrder}
 use Rattle.forced_steps.specs.Steps.{turned, IsOrder}
 use Rattle.forced_steps.specs.Orders.{choice_of, order_to, orders_among, orders_in}
-
--- ---- of the numbers below k
-range_last : (a k : ℕ) → range_with_len a (k + 1) ≡ range_with_len a k ++ (a + k) ∷ []
-range_last a zero = let e : a ≡ a + 0 = omega arith in ap (λ n. n ∷ []) e
-range_last a (suc k) =
-    let e : (a + 1) + k ≡ a + suc k = omega arith in
-    let two : suc k + 1 ≡ suc (k + 1) = omega arith in
-    ap (range_with_len a) two ∙ ap (λ l. a ∷ l) (range_last (a + 1) k) ∙ ap (λ n. a ∷ (range_with_len (a + 1) k ++ n ∷ [])) e
-
-abbrev pub so_far : {X : Type 0} → (ℕ → List X) → ℕ → List X
-so_far f k = flat_map f (range_with_len 0 k)
-
-pub so_far_more : {X : Type 0} (f : ℕ → List X) (k : ℕ) → so_far f (k + 1) ≡ so_far f k ++ f k
-so_far_more f k =
-    let here : 0 + k ≡ k = omega arith in
-    ap (flat_map f) (range_last 0 k ∙ ap (λ v. range_with_len 0 k ++ v ∷ []) here)
-    ∙ flat_map-append f (range_with_len 0 k) (k ∷ [])
-    ∙ ap (λ l. so_far f k ++ l) (append-nil (f k))
 
 abbrev pub of_key : Log → ℕ → List ChainOrder
 of_key log x = orders_among x (chains_in log x)

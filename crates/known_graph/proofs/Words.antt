@@ -21,7 +21,7 @@ bit_of-read words k = ap (λ b. eqb b 1) (shr_and_one (get_or words (k / 64) 0) 
 abbrev pub with_bit : ℕ → ℕ → ℕ
 with_bit w b = bit_or w (1 * 2 ^ b % 2 ^ 64)
 
-same_word : (words : List ℕ) (n k : ℕ) → n / 64 < length words → k / 64 ≡ n / 64 → (new : ℕ) → get_or (set words (n / 64) new) (k / 64) 0 ≡ new
+pub same_word : (words : List ℕ) (n k : ℕ) → n / 64 < length words → k / 64 ≡ n / 64 → (new : ℕ) → get_or (set words (n / 64) new) (k / 64) 0 ≡ new
 same_word words n k within row new = ap (λ i. get_or (set words (n / 64) new) i 0) row ∙ get_or-set_same words (n / 64) new 0 within
 
 -- bit k, where another one is set

@@ -9,8 +9,8 @@ ghost use Rattle.known_graph.specs.Graphs.{IsKnownGraph, arc_graph};
 
 use crate::graph::Known;
 use crate::moments::{add_moment_arcs, ended_nodes};
-use crate::node::node;
 use serializability::NodeIx;
+use serializability::numbers::node;
 use session_history::History;
 use std::alloc::{AllocError, Global};
 

@@ -4,9 +4,9 @@ ghost use Rattle.std.specs.Prelude.{◌≡◌, ◌⊎◌, ◌∷◌, ◌++◌, [
 ghost use Rattle.std.specs.List.{Contains};
 
 use crate::graph::Known;
-use crate::node::node;
 use reach_laws::Edge;
 use serializability::NodeIx;
+use serializability::numbers::node;
 use std::alloc::{AllocError, Global};
 
 // Adds the edge from u to v, where the graph has it.

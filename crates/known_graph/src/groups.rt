@@ -8,8 +8,8 @@ ghost use Rattle.known_graph.specs.Groups.{IsGroup, IsSearch, work_left};
 
 use crate::bits::{NODE_WORDS, NodeBits, first_open, has_bit, is_within, join_words, set_bit};
 use crate::graph::Known;
-use crate::node::node;
 use serializability::NodeIx;
+use serializability::numbers::node;
 use std::alloc::{AllocError, Global};
 
 /// Nodes, and the ends of their edges.

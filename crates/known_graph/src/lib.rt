@@ -9,7 +9,6 @@ mod graph;
 mod groups;
 pub mod laws;
 mod moments;
-mod node;
 mod reached;
 mod walks;
 

@@ -9,8 +9,8 @@ ghost use Rattle.known_graph.specs.Graphs.{IsKnownGraph};
 ghost use Rattle.known_graph.specs.Moments.{AreEnded};
 
 use crate::graph::Known;
-use crate::node::node;
 use serializability::NodeIx;
+use serializability::numbers::node;
 use session_history::History;
 use std::alloc::{AllocError, Global};
 

@@ -9,8 +9,8 @@ ghost use Rattle.known_graph.specs.Bits.{bit_of};
 ghost use Rattle.known_graph.specs.Tree.{reached_from, word_numbers, fresh_numbers, node_at, from_at, IsTree};
 ghost use Rattle.serializability.specs.declared.node.TheConstants.{MAX_NODES};
 
-use crate::node::node;
 use serializability::NodeIx;
+use serializability::numbers::node;
 use std::alloc::{AllocError, Global};
 
 /// A node that was found, and the place in the list of found nodes from which it was; of the first it

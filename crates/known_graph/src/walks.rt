@@ -8,9 +8,9 @@ ghost use Rattle.known_graph.specs.Tests.{leads, is_line};
 use crate::bits::{row_len, set_bit};
 use crate::graph::Known;
 use crate::groups::Search;
-use crate::node::node;
 use crate::reached::{Reached, add_row, line_to};
 use serializability::NodeIx;
+use serializability::numbers::node;
 use std::alloc::{AllocError, Global};
 
 // Whether each step from a node on along these is an edge of the graph, and the last one is the end.

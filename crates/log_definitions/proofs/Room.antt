@@ -1,5 +1,5 @@
 -- A log has no more lines than bytes, and so few that their numbers fit.
-use Rattle.std.proofs.Common.{◌≡◌, ℕ, ◌<◌, ◌≤◌, ◌^◌, Bool, true, false, cond, List, [], ◌∷◌, ◌++◌, length, Option, Some, None, refl, ap, ◌∙◌, arith, length-append}
+use Rattle.std.proofs.Common.{◌≡◌, ℕ, ◌+◌, ◌<◌, ◌≤◌, ◌^◌, Bool, true, false, cond, List, [], ◌∷◌, ◌++◌, length, Option, Some, None, refl, ap, ◌∙◌, arith, length-append}
 use Rattle.std.specs.Prelude.{nat_lt}
 use Rattle.std.proofs.lemmas.Bool.{ltb-false}
 use Rattle.session_log.specs.Text.{ClientSession, line_text, text_of_lines, log_text}
@@ -25,10 +25,13 @@ size_of : (text : List ℕ) (t : Bool) (rest : Option LogFault) → nat_lt (2 ^ 
 size_of text true rest e h = cc
 size_of text false rest e h = ltb-false (2 ^ 24) (length text) e
 
-pub room : (v : Version) (text : List ℕ) (ss : List ClientSession) → size_fault text ≡ None → text ≡ log_text v ss → length (log_lines ss) < 2 ^ 63
+pub room_behind : (v : Version) (text : List ℕ) (ss : List ClientSession) → size_fault text ≡ None → text ≡ log_text v ss → length (log_lines ss) + 2 < 2 ^ 63
 unfolding size_fault
-room v text ss s e =
+room_behind v text ss s e =
     let bytes = size_of text (nat_lt (2 ^ 24) (length text)) _ refl s in
     let fewer = lines_bytes (log_lines ss) in
     let same = ap length (e ∙ log_by_lines v ss) ∙ length-append (header_text v) (text_of_lines (log_lines ss)) in
     omega (arith, bytes, fewer, same)
+
+pub room : (v : Version) (text : List ℕ) (ss : List ClientSession) → size_fault text ≡ None → text ≡ log_text v ss → length (log_lines ss) < 2 ^ 63
+room v text ss s e = omega (arith, room_behind v text ss s e)

@@ -17,7 +17,8 @@ use crate::term::Term;
 use known_graph::bits::{has_bit, row_len};
 use reach_laws::Edge;
 use reach_rows::Rows;
-use serializability::{Literal, NodeIx};
+use serializability::Literal;
+use serializability::numbers::node;
 use std::alloc::{AllocError, Global};
 use std::marker::Model;
 
@@ -48,14 +49,6 @@ impl Model for Relation {
     ghost invariant = { λ r. IsTable (record { nodes = r.nodes; known = rows_known r.rows }) r.table.items
         × (r.variables ≡ length (pairs_in (record { nodes = r.nodes; known = rows_known r.rows })))
         × AreOpenPairs (record { nodes = r.nodes; known = rows_known r.rows }) r.pairs };
-}
-
-/// The node with this number.
-fn node(number: usize) -> NodeIx
-    requires few { number ≤ MAX_NODES }
-    ensures value { result ≡ number }
-{
-    NodeIx::new(number).unwrap()
 }
 
 /// Whether these rows say that u stands before v.

@@ -3,9 +3,10 @@ use Rattle.std.proofs.Common.{◌≡◌, ℕ, zero, suc, ◌+◌, ◌<◌, ◌�
 use Rattle.std.specs.Prelude.{slice_set, nat_eq}
 use Rattle.std.specs.List.{list_any}
 use Rattle.std.proofs.lemmas.Bool.{cases_eq, cases_Bool, false≢true}
-use Rattle.std.proofs.lemmas.List.{get_or-set_same, get_or-set_other, length-set, length-take-le, take_all, take_more, take-append-drop, at_drop_more}
+use Rattle.std.proofs.lemmas.List.{get_or-set_same, get_or-set_other, length-set, length-take-le, take_all}
 use Rattle.serializability.specs.Replay.{place_of, ListsOnce}
 use Rattle.serializability.proofs.Places.{Has, Apart, Has-append_front, Has-append_back, Has-append_cases, Apart-not_both, Has-from_Contains, place_of-here, place_of-further, place_of-back}
+use Rattle.serializability.proofs.Fronts.{front_more, around, Apart-push}
 use Rattle.serializability.proofs.Serial.{node_of, behind_zero}
 use Rattle.polygraph.specs.Places.{ArePlaces}
 use Rattle.serializability.proofs.Listed.{Has_get, Has-from_any, any-from_Has, once_apart, once_from}
@@ -19,25 +20,6 @@ place_of-stays v (u ∷ f) b h = elim (cases_eq u v) [
     | inr k ↦ place_of-further u v (f ++ b) ne ∙ ap suc (place_of-stays v f b k) ∙ sym (place_of-further u v f ne)
   ]
 ]
-
--- ---- the front of an order
-front_more : (order : List ℕ) (i v : ℕ) → i < length order → get_or order i v ≡ v → take (i + 1) order ≡ take i order ++ v ∷ []
-front_more order i v lt e = take_more order i v lt ∙ ap (λ u. take i order ++ u ∷ []) e
-
-around : (order : List ℕ) (i v : ℕ) → i < length order → get_or order i v ≡ v → order ≡ take i order ++ v ∷ drop (i + 1) order
-around order i v lt e =
-    let rest = at_drop_more (λ l. l) order i v lt ∙ ap (λ u. u ∷ drop (i + 1) order) e in
-    sym (take-append-drop i order) ∙ ap (λ l. take i order ++ l) rest
-
-Apart-push : (xs : List ℕ) (v : ℕ) → Apart xs → (Has v xs → ⊥) → Apart (xs ++ v ∷ [])
-Apart-push [] v a absent = (λ h. h, tt)
-Apart-push (x ∷ xs) v a absent = (
-  λ h. elim (Has-append_cases x xs (v ∷ []) h) [
-    | inl k ↦ a.0 k
-    | inr k ↦ elim k [ inl e ↦ absent (inl (sym e)) | inr none ↦ none ]
-  ],
-  Apart-push xs v a.1 (λ h. absent (inr h)),
-)
 
 -- ---- nodes that were placed so far
 pub record PlacedSoFar (n : ℕ) (order : List ℕ) (i : ℕ) (places : List ℕ) : Type 0 where

@@ -14,11 +14,11 @@ use crate::choice::Choice;
 use crate::compact::{Bipath, BipathGraph};
 use crate::fault::PolyFault;
 use crate::index::MAX_CHOICES;
-use crate::node::node;
 use crate::polygraph::Polygraph;
 use known_graph::Known;
 use reach_laws::Edge;
 use serializability::NodeIx;
+use serializability::numbers::node;
 use session_history::History;
 use std::alloc::{AllocError, Global};
 

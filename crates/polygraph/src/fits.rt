@@ -6,12 +6,12 @@ ghost use Rattle.serializability.specs.Polygraph.{Fits};
 ghost use Rattle.polygraph.specs.Places.{keeps, keeps_one, AreKept};
 
 use crate::choice::Choice;
-use crate::node::node;
 use crate::places::{Places, places_in};
 use crate::polygraph::Polygraph;
 use known_graph::Known;
 use reach_laws::Edge;
 use serializability::NodeIx;
+use serializability::numbers::node;
 
 // Whether each of these edges leads to a later place.
 fn keeps(places: &Places, edges: &[Edge]) -> bool

@@ -9,7 +9,6 @@ mod edges;
 mod fault;
 mod fits;
 mod index;
-mod node;
 pub mod places;
 mod polygraph;
 

@@ -35,7 +35,8 @@ use Rattle.prune_ledger.specs.declared.messages.Reply.TheVariants.{Judge, NoneLe
 use Rattle.known_graph.proofs.Tested.{edge_in, walk_of}
 use Rattle.prune_ledger.proofs.Edges.{in_listed, in_of_listed}
 use Rattle.prune_ledger.proofs.Marks.{some-inj, get_set, side_joins, marks_opening}
-use Rattle.prune_ledger.proofs.Sides.{other_other, same_is, ChoiceAt, choice_of_edge, side_is, numbered_first, known_with, side_with, more_kept, new_chosen, new_kept, kept_cases, no_kept}
+use Rattle.prune_ledger.proofs.Sides.{other_other, ChoiceAt, choice_of_edge, side_is, numbered_first, known_with, side_with, more_kept, new_chosen, new_kept, kept_cases, no_kept}
+use Rattle.pruning_laws.proofs.Ledgers.{same_is}
 
 -- ---- replies
 pub is_entered_true : (r : Reply) → is_entered r ≡ true → r ≡ Entered

@@ -9,18 +9,9 @@ use Rattle.pruning_laws.specs.declared.side.Side.{Side}
 use Rattle.pruning_laws.specs.declared.side.Side.TheVariants.{One, Two}
 use Rattle.pruning_laws.specs.Forced.{edges_of, other, Sides, EachNumbered, kept_from, edges_with}
 use Rattle.pruning_laws.specs.Ledger.{Entry, same_side, sides_in}
+use Rattle.pruning_laws.proofs.Ledgers.{same_is, same_itself}
 use Rattle.prune_ledger.specs.Ledger.{side_of, edges_after}
 use Rattle.prune_ledger.proofs.Marks.{some-inj}
-
-pub same_is : (a b : Side) → same_side a b ≡ true → a ≡ b
-same_is One One t = refl
-same_is One Two t = absurd (false≢true t)
-same_is Two One t = absurd (false≢true t)
-same_is Two Two t = refl
-
-pub same_itself : (a : Side) → same_side a a ≡ true
-same_itself One = refl
-same_itself Two = refl
 
 pub other_other : (side : Side) → other (other side) ≡ side
 other_other One = refl

@@ -11,11 +11,15 @@ use Rattle.pruning_laws.specs.Ledger.{same_side, Entry, sides_in, IsLedger}
 use Rattle.reach_laws.proofs.Walks.{reach_in}
 use Rattle.pruning_laws.proofs.Pruned.{IsAt, numbered, numbered_and, edges_in, other_other}
 
-same_is : (a b : Side) → same_side a b ≡ true → a ≡ b
+pub same_is : (a b : Side) → same_side a b ≡ true → a ≡ b
 same_is One One t = refl
 same_is One Two t = absurd (false≢true t)
 same_is Two One t = absurd (false≢true t)
 same_is Two Two t = refl
+
+pub same_itself : (a : Side) → same_side a a ≡ true
+same_itself One = refl
+same_itself Two = refl
 
 one_choice : (o : Option Choice) (g h : Choice) → o ≡ Some g → o ≡ Some h → g ≡ h
 one_choice o g h a b = let e : Some g ≡ Some h = sym a ∙ b in cc

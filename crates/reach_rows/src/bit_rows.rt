@@ -10,13 +10,14 @@ ghost use Rattle.reach_rows.specs.Sources.{Grows};
 ghost use Rattle.serializability.specs.declared.node.TheConstants.{MAX_NODES};
 
 use crate::parts::rows_by_workers;
-use crate::source::{add_source, node};
+use crate::source::add_source;
 use crate::words::join_row;
 use desk::gate::Gate;
 use desk::seat_no::Workers;
 use known_graph::Known;
 use known_graph::bits::{has_bit, row_len, set_bit};
 use serializability::NodeIx;
+use serializability::numbers::node;
 use std::alloc::{AllocError, Global};
 use std::marker::Model;
 use std::sync::Wait;

@@ -5,12 +5,13 @@ ghost use Rattle.known_graph.specs.Bits.{row_len};
 ghost use Rattle.reach_rows.specs.Parts.{ArePartStarts, IsPart};
 ghost use Rattle.reach_rows.specs.Sources.{AreReachRows};
 
-use crate::source::{add_source, node};
+use crate::source::add_source;
 use desk::gate::Gate;
 use desk::seat_no::{SeatNo, Workers};
 use known_graph::Known;
 use known_graph::bits::row_len;
 use serializability::NodeIx;
+use serializability::numbers::node;
 use std::alloc::{AllocError, Global};
 use std::sync::Wait;
 use std::thread;

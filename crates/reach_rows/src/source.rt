@@ -5,20 +5,12 @@ ghost use Rattle.reach_laws.specs.Reach.{Reaches};
 ghost use Rattle.known_graph.specs.Bits.{bit_of, row_len};
 ghost use Rattle.known_graph.specs.declared.bits.TheConstants.{NODE_WORDS};
 ghost use Rattle.reach_rows.specs.Sources.{Spreads, AreReachRows};
-ghost use Rattle.serializability.specs.declared.node.TheConstants.{MAX_NODES};
 
 use known_graph::Known;
 use known_graph::bits::{NODE_WORDS, NodeBits, first_open, join_words, row_len, set_bit};
 use serializability::NodeIx;
+use serializability::numbers::node;
 use std::alloc::AllocError;
-
-/// The node with this number.
-pub fn node(number: usize) -> NodeIx
-    requires few { number ≤ MAX_NODES }
-    ensures value { result ≡ number }
-{
-    NodeIx::new(number).unwrap()
-}
 
 /// Sets in a row the bits of all nodes that its nodes reach.
 fn spread(known: &Known, row: &mut [u64])

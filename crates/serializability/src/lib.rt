@@ -11,6 +11,7 @@ mod event;
 pub mod laws;
 mod literal;
 mod node;
+pub mod numbers;
 
 pub use anomaly::{Anomaly, ReadAnomaly};
 pub use event::Event;

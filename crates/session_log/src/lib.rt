@@ -24,4 +24,4 @@ pub use parse::parse_lines;
 pub use print::print_log;
 pub use session::{Op, Outcome, Session, Txn, is_earlier};
 pub use version::Version;
-pub use words::{index_of, is_numeral, next_line, number_of};
+pub use words::{all_digits, index_of, is_numeral, next_line, number_of, value_of};

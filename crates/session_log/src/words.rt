@@ -6,7 +6,8 @@ ghost use Rattle.std.specs.Char.{is_ascii_digit};
 ghost use Rattle.std.specs.Str.Parse.{digits_value};
 ghost use Rattle.session_log.specs.Lines.{lines, bytes_of, is_numeral, number_of};
 
-fn all_digits(word: &[u8]) -> bool
+/// Whether each byte is a decimal digit.
+pub fn all_digits(word: &[u8]) -> bool
     ensures { result ≡ list_all is_ascii_digit word.now }
 {
     word.iter().all(|b| b.is_ascii_digit())
@@ -19,8 +20,8 @@ pub fn is_numeral(word: &[u8]) -> bool
     all_digits(word) && !word.is_empty() && (word.len() == 1 || word[0] != b'0')
 }
 
-// The number that digits write, where it is below 2 ^ 64.
-fn value_of(word: &[u8]) -> Option<u64>
+/// The number that digits write, where it is below 2^64.
+pub fn value_of(word: &[u8]) -> Option<u64>
     requires { list_all is_ascii_digit word.now ≡ true }
     ensures { let value = digits_value 10 word.now in
         result ≡ (if nat_lt value (2 ^ 64) then Some value else None) }

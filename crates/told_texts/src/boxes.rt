@@ -12,9 +12,9 @@ ghost use Rattle.told_texts.specs.Graphs.{AreMarks, names};
 ghost use Rattle.told_texts.specs.Texts.{AreTellable};
 
 use crate::marks::marks_of;
-use crate::node::node_of;
 use explanations::{put_key_and_wid, put_named, put_op_in_line};
 use forced_steps::Item;
+use serializability::numbers::node as node_of;
 use serializability::{Event, NodeIx};
 use session_history::History;
 use std::alloc::{AllocError, Global};

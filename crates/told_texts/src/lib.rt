@@ -5,7 +5,6 @@ mod arrows;
 mod boxes;
 mod graph;
 mod marks;
-mod node;
 mod text;
 
 pub use graph::put_graph;

@@ -7,11 +7,11 @@ ghost use Rattle.told_texts.specs.Graphs as spec;
 ghost use Rattle.told_texts.specs.Graphs.{AreWithin, AddsMarks, AddsNamed, AreMarks, AreRows};
 ghost use Rattle.told_texts.specs.Texts.{AreTellable};
 
-use crate::node::node_of;
 use explanations::Why;
 use forced_steps::Item;
 use reasons::Reason;
 use serializability::NodeIx;
+use serializability::numbers::node as node_of;
 use session_history::History;
 use std::alloc::{AllocError, Global};
 

@@ -5,8 +5,8 @@ ghost use Rattle.session_history.specs.Tables.{pairs};
 ghost use Rattle.write_chains.specs.Lists.{AreLists, unless_empty};
 ghost use Rattle.write_chains.specs.Views.{group_view};
 
-use crate::node::node;
 use serializability::NodeIx;
+use serializability::numbers::node;
 use std::alloc::{AllocError, Global};
 
 /// The nodes that read a key from one node, ascending.

@@ -10,7 +10,6 @@ mod groups;
 mod inner;
 mod links;
 mod lists;
-mod node;
 mod readings;
 
 pub use all::Chains;

@@ -7,8 +7,8 @@ ghost use Rattle.write_chains.specs.Readings.{readings_by, readings_in};
 ghost use Rattle.write_chains.specs.declared.readings.Reading.{Reading};
 
 use crate::lists::{empty_lists, push_at};
-use crate::node::node;
 use serializability::NodeIx;
+use serializability::numbers::node;
 use session_history::{History, ReadFrom};
 use std::alloc::{AllocError, Global};
 

@@ -13,7 +13,7 @@ loop-number-preserved c =
     let k = c.loop-number.number in
     let within : k < length c.args.incoming.now = omega (arith, c.loop-number-test.true, c.requires.lists, c.nodes-number-end.ensures.count) in
     let edges = c.args.rows.now.edges in
-    let marked = subst (λ n. MarksTarget edges n c.args.u c.args.v c.deref.result.now c.mark_target.new.marks) c.node_of.ensures.number c.mark_target.ensures.marked in
+    let marked = subst (λ n. MarksTarget edges n c.args.u c.args.v c.deref.result.now c.mark_target.new.marks) c.node.ensures.value c.mark_target.ensures.marked in
     record {
       keeps = keeps_then c.args.marks.now c.loop-number.marks c.mark_target.new.marks c.loop-number.invariant.keeps c.mark_target.ensures.keeps;
       marked = below_more edges c.args.u c.args.v c.args.incoming.now k c.index-incoming-number.result c.loop-number.marks c.mark_target.new.marks

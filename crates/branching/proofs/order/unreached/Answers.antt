@@ -1,7 +1,7 @@
 use Rattle.std.proofs.Common.{◌≡◌, ℕ, ◌+◌, ◌<◌, Bool, not, sym, ap, ◌∙◌, arith}
 use Rattle.known_graph.specs.Tests.{has_edge}
 use Rattle.known_graph.proofs.Tested.{known_is}
-use Rattle.branching.proofs.Ordered.{counted_yes, counted_no, counted_all}
+use Rattle.serializability.proofs.CountedNodes.{counted_yes, counted_no, counted_all}
 use Rattle.branching.proofs.order.unreached.Goals as goal
 use Rattle.branching.proofs.order.unreached.Goals.{then-not-reaches, else-not-reaches}
 
@@ -12,8 +12,8 @@ loop-number-preserved c =
     let p : ℕ → Bool = λ v. not (has_edge rows.edges (c.args.node, v)) in
     let u = c.loop-number.number in
     let within : u < n + 1 = omega (arith, c.loop-number-test.true, c.nodes-number-end.ensures.count) in
-    let told : c.reaches.result ≡ has_edge rows.edges (c.args.node, c.node_of.result) = known_is c.reaches.result rows.edges (c.args.node, c.node_of.result) c.reaches.ensures.edge.0 c.reaches.ensures.edge.1 in
-    let test : not c.reaches.result ≡ p u = ap not told ∙ ap p c.node_of.ensures.number in
+    let told : c.reaches.result ≡ has_edge rows.edges (c.args.node, c.node.result) = known_is c.reaches.result rows.edges (c.args.node, c.node.result) c.reaches.ensures.edge.0 c.reaches.ensures.edge.1 in
+    let test : not c.reaches.result ≡ p u = ap not told ∙ ap p c.node.ensures.value in
     elim c.if-not-reaches.branch [
       | then-not-reaches w ↦ record {
         so_far = w.count-is ∙ ap (λ k. k + 1) c.loop-number.invariant.so_far ∙ sym (counted_yes p n u within (sym test ∙ ap not w.if-not-reaches.true));

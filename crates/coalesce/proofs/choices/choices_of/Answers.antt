@@ -3,7 +3,7 @@ use Rattle.std.specs.Prelude.{map}
 use Rattle.log_definitions.specs.Numbers.{log_of}
 use Rattle.write_chains.specs.Views.{chain_view}
 use Rattle.coalesce.specs.Between.{among}
-use Rattle.coalesce.proofs.Steps.{so_far, so_far_more}
+use Rattle.serializability.proofs.SoFar.{so_far, so_far_more}
 use Rattle.coalesce.proofs.Between.{of_key, among_key}
 use Rattle.coalesce.proofs.choices.choices_of.Goals as goal
 

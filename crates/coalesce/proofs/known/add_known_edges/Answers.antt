@@ -7,7 +7,7 @@ use Rattle.write_chains.specs.Views.{chain_view}
 use Rattle.polygraph.specs.Polygraphs.{Joins}
 use Rattle.coalesce.specs.Between.{before}
 use Rattle.coalesce.proofs.Joined.{inner_joined}
-use Rattle.coalesce.proofs.Steps.{so_far, so_far_more}
+use Rattle.serializability.proofs.SoFar.{so_far, so_far_more}
 use Rattle.coalesce.proofs.Between.{first_of_key, first_key, first_key_joined}
 use Rattle.coalesce.proofs.Sets.{with_piece}
 use Rattle.coalesce.proofs.known.add_known_edges.Goals as goal

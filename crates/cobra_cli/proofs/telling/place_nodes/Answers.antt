@@ -1,7 +1,8 @@
 use Rattle.std.proofs.Common.{subst, arith}
 use Rattle.session_log.specs.Version.{version_of, first_line}
 use Rattle.log_lines.specs.Places.{AreBeginLines}
-use Rattle.cobra_cli.proofs.Refusing.{first_within, room_behind}
+use Rattle.cobra_cli.proofs.Refusing.{first_within}
+use Rattle.log_definitions.proofs.Room.{room_behind}
 use Rattle.cobra_cli.proofs.telling.place_nodes.Goals as goal
 
 pub begin_lines-requires : goal.begin_lines-requires

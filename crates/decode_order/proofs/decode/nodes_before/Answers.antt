@@ -2,7 +2,7 @@ use Rattle.std.proofs.Common.{◌≡◌, ◌+◌, ◌<◌, ◌∙◌, Bool, ℕ,
 use Rattle.serializability.specs.Decoded.{before, IsOrder}
 use Rattle.serializability.proofs.Ranks.{rank, rank-pos, rank-le}
 use Rattle.order_cnf.specs.Data.{cnf_of}
-use Rattle.decode_order.proofs.Placing.{counted_yes, counted_no, counted_all}
+use Rattle.serializability.proofs.CountedNodes.{counted_yes, counted_no, counted_all}
 use Rattle.decode_order.proofs.decode.nodes_before.Goals as goal
 use Rattle.decode_order.proofs.decode.nodes_before.Goals.{then-stands_before, else-stands_before}
 
@@ -12,7 +12,7 @@ loop-number-preserved c =
     let p : ℕ → Bool = λ u. before (cnf_of c.args.formula.now) c.args.values.now u c.args.node in
     let u = c.loop-number.number in
     let within : u < n + 1 = omega (arith, c.loop-number-test.true, c.nodes-number-end.ensures.count) in
-    let test : c.stands_before.result ≡ p u = c.stands_before.ensures.value ∙ ap p c.node_of.ensures.number in
+    let test : c.stands_before.result ≡ p u = c.stands_before.ensures.value ∙ ap p c.node.ensures.value in
     elim c.if-stands_before.branch [
       | then-stands_before w ↦ record {
         so_far = w.count-is ∙ ap (λ k. k + 1) c.loop-number.invariant.so_far ∙ sym (counted_yes p n u within (sym test ∙ w.if-stands_before.true));

@@ -5,7 +5,8 @@ use Rattle.log_definitions.specs.Numbers.{log_of}
 use Rattle.write_chains.specs.Views.{chain_view}
 use Rattle.forced_steps.specs.Orders.{choice_of, orders_among, orders_in}
 use Rattle.forced_steps.specs.Steps.{IsOrder}
-use Rattle.forced_steps.proofs.Chosen.{so_far, so_far_more, of_key, orders_are, choices_are, all_orders}
+use Rattle.forced_steps.proofs.Chosen.{of_key, orders_are, choices_are, all_orders}
+use Rattle.serializability.proofs.SoFar.{so_far, so_far_more}
 use Rattle.forced_steps.proofs.orders.choice_orders.Goals as goal
 
 pub loop-key-preserved : goal.loop-key-preserved

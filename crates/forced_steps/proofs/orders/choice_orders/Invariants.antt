@@ -1,6 +1,7 @@
 use Rattle.std.proofs.Common.{◌≡◌}
 use Rattle.log_definitions.specs.Numbers.{log_of}
-use Rattle.forced_steps.proofs.Chosen.{so_far, of_key}
+use Rattle.forced_steps.proofs.Chosen.{of_key}
+use Rattle.serializability.proofs.SoFar.{so_far}
 use Rattle.forced_steps.proofs.orders.choice_orders.Given as goal
 
 abbrev pub invariant-loop-key : goal.invariant-loop-key

@@ -18,9 +18,9 @@ loop-number-init c =
 
 pub put_where_part-requires-clause-node : goal.put_where_part-requires-clause-node
 put_where_part-requires-clause-node c =
-    let low : 0 < c.node_of.result = omega (arith, c.node_of.ensures.number, c.loop-number.auto.number) in
-    let high : c.node_of.result ≤ (log_of c.args.history.now).nodes = omega (arith, c.node_of.ensures.number, c.loop-number-test.true, c.committed-number-end.ensures.count) in
-    node_from c.args.history.now c.node_of.result low high
+    let low : 0 < c.node.result = omega (arith, c.node.ensures.value, c.loop-number.auto.number) in
+    let high : c.node.result ≤ (log_of c.args.history.now).nodes = omega (arith, c.node.ensures.value, c.loop-number-test.true, c.committed-number-end.ensures.count) in
+    node_from c.args.history.now c.node.result low high
 
 pub loop-number-preserved : goal.loop-number-preserved
 loop-number-preserved c =
@@ -28,14 +28,14 @@ loop-number-preserved c =
     let begin = begin_at c.args.begins.now in
     let items = c.args.items.now in
     let number = c.loop-number.number in
-    let v = c.node_of.result in
+    let v = c.node.result in
     let nodes = c.in_ok-marks.marks.nodes.items in
     let table = c.in_ok-marks.marks.operations.items in
     let marks = c.deref.result.now in
     let old = c.loop-number.out.items in
     let all = boxes ss begin items (number - 1) in
     let piece = if takes_part items v then box ss begin items v else [] in
-    let is = c.node_of.ensures.number in
+    let is = c.node.ensures.value in
     let low : 0 < v = omega (arith, is, c.loop-number.auto.number) in
     let within : number < (log_of ss).nodes + 1 = omega (arith, c.loop-number-test.true, c.committed-number-end.ensures.count) in
     let known : AreMarks (length (ops_of ss v)) (names items v) marks =

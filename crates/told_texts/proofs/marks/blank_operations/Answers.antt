@@ -9,9 +9,9 @@ pub loop-number-preserved : goal.loop-number-preserved
 loop-number-preserved c =
     let ss = c.args.history.now in
     let n = c.loop-number.number in
-    let v = c.node_of.result in
+    let v = c.node.result in
     let marks = c.in_ok-vec.field-0 in
     let count : length c.events_of-operations.result.now ≡ length (ops_of ss n) =
-    ap (λ es. length es) c.events_of-operations.ensures.events ∙ event_count ss v ∙ ap (λ u. length (ops_of ss u)) c.node_of.ensures.number in
+    ap (λ es. length es) c.events_of-operations.ensures.events ∙ event_count ss v ∙ ap (λ u. length (ops_of ss u)) c.node.ensures.value in
     let blank = blank_marks (length (ops_of ss n)) (length c.events_of-operations.result.now) marks.items (c.in_ok-vec.ensures.items_if_clones_equal (λ y e. e)) count in
     subst (AreRows ss (n + 1) (λ _ _. false)) (sym {A = List (Vec Bool Global)} c.in_ok-push.ensures.items) (rows_more ss n (λ _ _. false) c.loop-number.table.items marks c.loop-number.invariant blank)
