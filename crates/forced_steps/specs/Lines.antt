@@ -3,6 +3,7 @@ use Rattle.std.specs.Prelude.{◌≡◌, ◌↔◌, ◌⊎◌, ℕ, ◌+◌, ◌
 use Rattle.std.specs.List.{All, Contains}
 use Rattle.session_log.specs.Text.{ClientSession}
 use Rattle.serializability.specs.Polygraph.{Edge, Polygraph}
+use Rattle.serializability.specs.Reads.{IsClean}
 use Rattle.chain_laws.specs.Chains.{chain_polygraph, chain_choices}
 use Rattle.serializability.specs.declared.node.TheConstants.{MAX_NODES}
 use Rattle.log_definitions.specs.Numbers.{log_of}
@@ -19,6 +20,7 @@ use Rattle.forced_steps.specs.Firsts.{IsFirstIn, HasSide, AreFirsts, cell, cells
 use Rattle.forced_steps.specs.declared.ground.Ground.{Ground}
 use Rattle.forced_steps.specs.declared.ground.Ground.TheVariants as ground
 use Rattle.forced_steps.specs.declared.ground.Grounds.{Grounds}
+use Rattle.forced_steps.specs.declared.ground.Basis.{Basis}
 
 -- a node of the log other than node 0
 pub record IsBetween (ss : List ClientSession) (v : ℕ) : Type 0 where
@@ -130,6 +132,15 @@ pub record AreGrounds (ss : List ClientSession) (grounds : Grounds) : Type 0 whe
   pub nodes : grounds.nodes ≡ (log_of ss).nodes
   pub few : grounds.nodes ≤ MAX_NODES
   pub firsts : AreFirsts grounds.nodes (sides_of ss grounds.kept.items) grounds.firsts.items
+
+-- the log is clean, and the grounds are those of its edges
+pub record IsBasis (basis : Basis) : Type 0 where
+  pub clean : IsClean (log_of basis.history.now)
+  pub grounds : AreGrounds basis.history.now basis.grounds.now
+
+-- the edges of each kept order
+abbrev pub sides_by : Basis → List (List Edge)
+sides_by basis = sides_of basis.history.now basis.grounds.now.kept.items
 
 -- the first of the sides that has the edge, of which the log shows no reason
 abbrev pub IsEntry : List ClientSession → List (List Edge) → ℕ → ℕ → Option ℕ → Type 0

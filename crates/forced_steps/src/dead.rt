@@ -8,7 +8,7 @@ ghost use Rattle.forced_steps.specs.Lines.{AreGrounds};
 ghost use Rattle.forced_steps.specs.Ledgers.{IsDeadLedger, AreEntries, IsClosed, kept_by};
 
 use crate::firsts::grounds_of;
-use crate::ground::{Grounds, no_answers};
+use crate::ground::{Basis, Grounds, no_answers};
 use crate::item::Item;
 use crate::lines::put_edges;
 use crate::marks::needed_entries;
@@ -55,21 +55,18 @@ fn tell_with(
     let grounds = grounds_in(alloc, history, chains, entries)?;
     let mut table = no_answers(alloc, history)?;
     let answers = table.as_mut_slice();
-    let marks = needed_entries(alloc, &grounds, answers, history, entries, &[cycle])?;
-    let told = told_steps(alloc, &grounds, answers, history, &marks, entries)?;
+    let basis = Basis {
+        alloc,
+        history,
+        grounds: &grounds,
+    };
+    let marks = needed_entries(&basis, answers, entries, &[cycle])?;
+    let told = told_steps(&basis, answers, &marks, entries)?;
     let mut items = told.items;
     let start = cycle[0];
     let edges = cycle.len() - 1;
     items.extend_from_slice(&[Item::Cycle { start, edges }])?;
-    put_edges(
-        alloc,
-        &mut items,
-        &grounds,
-        answers,
-        history,
-        &told.numbers,
-        cycle,
-    )?;
+    put_edges(&mut items, &basis, answers, &told.numbers, cycle)?;
     Ok(items)
 }
 

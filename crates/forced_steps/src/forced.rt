@@ -5,13 +5,13 @@ ghost use Rattle.std.specs.List.{All};
 ghost use Rattle.serializability.specs.Reads.{IsClean};
 ghost use Rattle.log_definitions.specs.Numbers.{log_of};
 ghost use Rattle.forced_steps.specs.Steps.{IsOrder, IsWhy, IsLineTold, AreStepsTold};
-ghost use Rattle.forced_steps.specs.Lines.{HasLedger, IsLineOfNodes, IsCovered, HasEdges, TellsLine, Stands, LineStands, AreAnswers, AreGrounds};
+ghost use Rattle.forced_steps.specs.Lines.{HasLedger, IsLineOfNodes, IsCovered, HasEdges, TellsLine, Stands, LineStands, AreAnswers, IsBasis};
 ghost use Rattle.forced_steps.specs.Told.{IsPut, WhyPut};
 
 use crate::dead::grounds_in;
 use crate::decided::order_with;
 use crate::firsts::grounds_of;
-use crate::ground::{Grounds, answer, entry_with, no_answers};
+use crate::ground::{Basis, Grounds, answer, entry_with, no_answers};
 use crate::item::Item;
 use crate::marks::needed_entries;
 use crate::steps::told_steps;
@@ -67,8 +67,13 @@ pub fn steps_of<'a>(
     let grounds = grounds_in(alloc, history, chains, entries)?;
     let mut table = no_answers(alloc, history)?;
     let answers = table.as_mut_slice();
-    let marks = needed_entries(alloc, &grounds, answers, history, entries, lines)?;
-    let told = told_steps(alloc, &grounds, answers, history, &marks, entries)?;
+    let basis = Basis {
+        alloc,
+        history,
+        grounds: &grounds,
+    };
+    let marks = needed_entries(&basis, answers, entries, lines)?;
+    let told = told_steps(&basis, answers, &marks, entries)?;
     let firsts = grounds_of(alloc, chains, told.orders)?;
     Ok(Steps {
         history,
@@ -83,27 +88,24 @@ pub fn steps_of<'a>(
 /// Why `a` stands before `b`: where the log does not show it, by the first of these steps that has the edge, and where none has, by
 /// the first of the decided orders that has it.
 fn why_among(
-    alloc: Global,
+    basis: &Basis<'_>,
     answers: &mut [Option<Option<Reason>>],
-    history: &History,
     chains: &Chains<'_>,
-    steps: &Grounds,
     decided: &[ChainOrder],
     a: NodeIx,
     b: NodeIx,
 ) -> Result<Why, AllocError>
-    requires clean { IsClean (log_of history.now) }
-    requires chains { chains.now ≡ history.now }
-    requires steps { AreGrounds history.now steps.now }
-    requires decided { All (IsOrder (log_of history.now)) decided.now }
-    requires answers { AreAnswers history.now answers.old }
-    requires stands { Stands history.now steps.now.kept.items decided.now a b }
-    ensures answers { AreAnswers history.now answers.new }
-    ensures why { IfOk result (IsWhy history.now steps.now.kept.items decided.now a b) }
+    requires basis { IsBasis basis.now }
+    requires chains { chains.now ≡ basis.now.history.now }
+    requires decided { All (IsOrder (log_of basis.now.history.now)) decided.now }
+    requires answers { AreAnswers basis.now.history.now answers.old }
+    requires stands { Stands basis.now.history.now basis.now.grounds.now.kept.items decided.now a b }
+    ensures answers { AreAnswers basis.now.history.now answers.new }
+    ensures why { IfOk result (IsWhy basis.now.history.now basis.now.grounds.now.kept.items decided.now a b) }
 {
-    match answer(alloc, answers, history, a, b)? {
+    match answer(basis.alloc, answers, basis.history, a, b)? {
         Some(reason) => Ok(Why::Known(reason)),
-        None => match entry_with(steps, a, b) {
+        None => match entry_with(basis.grounds, a, b) {
             Some(step) => Ok(Why::Forced(step)),
             None => match order_with(chains, decided, a, b) {
                 Some(order) => Ok(Why::Chosen(order)),
@@ -115,64 +117,46 @@ fn why_among(
 
 /// Appends an edge, and why it stands among these steps.
 fn put_edge_among(
-    alloc: Global,
     items: &mut Vec<Item>,
+    basis: &Basis<'_>,
     answers: &mut [Option<Option<Reason>>],
-    history: &History,
     chains: &Chains<'_>,
-    steps: &Grounds,
     decided: &[ChainOrder],
     first: NodeIx,
     second: NodeIx,
 ) -> Result<(), AllocError>
-    requires clean { IsClean (log_of history.now) }
-    requires chains { chains.now ≡ history.now }
-    requires steps { AreGrounds history.now steps.now }
-    requires decided { All (IsOrder (log_of history.now)) decided.now }
-    requires answers { AreAnswers history.now answers.old }
-    requires stands { Stands history.now steps.now.kept.items decided.now first second }
-    ensures answers { AreAnswers history.now answers.new }
-    ensures put { OnOk result (WhyPut history.now steps.now.kept.items decided.now first second items.old.items items.new.items) }
+    requires basis { IsBasis basis.now }
+    requires chains { chains.now ≡ basis.now.history.now }
+    requires decided { All (IsOrder (log_of basis.now.history.now)) decided.now }
+    requires answers { AreAnswers basis.now.history.now answers.old }
+    requires stands { Stands basis.now.history.now basis.now.grounds.now.kept.items decided.now first second }
+    ensures answers { AreAnswers basis.now.history.now answers.new }
+    ensures put { OnOk result (WhyPut basis.now.history.now basis.now.grounds.now.kept.items decided.now first second items.old.items items.new.items) }
 {
-    let why: Why = why_among(
-        alloc, answers, history, chains, steps, decided, first, second,
-    )?;
+    let why: Why = why_among(basis, answers, chains, decided, first, second)?;
     items.extend_from_slice(&[Item::Edge { first, second, why }])
 }
 
 /// Appends the edges of a line, each with why it stands among these steps.
 fn put_edges_among(
-    alloc: Global,
     items: &mut Vec<Item>,
+    basis: &Basis<'_>,
     answers: &mut [Option<Option<Reason>>],
-    history: &History,
     chains: &Chains<'_>,
-    steps: &Grounds,
     decided: &[ChainOrder],
     line: &[NodeIx],
 ) -> Result<(), AllocError>
-    requires clean { IsClean (log_of history.now) }
-    requires chains { chains.now ≡ history.now }
-    requires steps { AreGrounds history.now steps.now }
-    requires decided { All (IsOrder (log_of history.now)) decided.now }
-    requires answers { AreAnswers history.now answers.old }
-    requires stands { LineStands history.now steps.now.kept.items decided.now line.now }
-    ensures answers { AreAnswers history.now answers.new }
+    requires basis { IsBasis basis.now }
+    requires chains { chains.now ≡ basis.now.history.now }
+    requires decided { All (IsOrder (log_of basis.now.history.now)) decided.now }
+    requires answers { AreAnswers basis.now.history.now answers.old }
+    requires stands { LineStands basis.now.history.now basis.now.grounds.now.kept.items decided.now line.now }
+    ensures answers { AreAnswers basis.now.history.now answers.new }
     ensures put { OnOk result (IsPut items.old.items items.new.items
-        (IsLineTold history.now steps.now.kept.items decided.now line.now)) }
+        (IsLineTold basis.now.history.now basis.now.grounds.now.kept.items decided.now line.now)) }
 {
     for i in 0..line.len() - 1 {
-        put_edge_among(
-            alloc,
-            items,
-            answers,
-            history,
-            chains,
-            steps,
-            decided,
-            line[i],
-            line[i + 1],
-        )?;
+        put_edge_among(items, basis, answers, chains, decided, line[i], line[i + 1])?;
     }
     Ok(())
 }
@@ -204,15 +188,12 @@ impl<'a> Steps<'a> {
         ensures same { self.new ≡ self.old }
         ensures told { OnOk result (TellsLine self.old decided.now line.now items.old.items items.new.items) }
     {
-        put_edges_among(
+        let basis = Basis {
             alloc,
-            items,
-            self.answers.as_mut_slice(),
-            self.history,
-            self.chains,
-            &self.grounds,
-            decided,
-            line,
-        )
+            history: self.history,
+            grounds: &self.grounds,
+        };
+        let answers = self.answers.as_mut_slice();
+        put_edges_among(items, &basis, answers, self.chains, decided, line)
     }
 }

@@ -8,7 +8,7 @@ ghost use Rattle.serializability.specs.Reads.{IsClean};
 ghost use Rattle.serializability.specs.declared.node.TheConstants.{MAX_NODES};
 ghost use Rattle.log_definitions.specs.Numbers.{log_of};
 ghost use Rattle.forced_steps.specs.Firsts as spec;
-ghost use Rattle.forced_steps.specs.Lines.{sides_of, IsBetween, Rests, IsAnswer, AreAnswers, AreGrounds, IsEntry, IsGround};
+ghost use Rattle.forced_steps.specs.Lines.{sides_by, IsBetween, Rests, IsAnswer, AreAnswers, IsBasis, IsEntry, IsGround};
 
 use crate::cell::{cell, cells};
 use explanations::ChainOrder;
@@ -32,6 +32,14 @@ pub struct Grounds {
     pub nodes: usize,
     pub kept: Vec<ChainOrder>,
     pub firsts: Vec<Option<usize>>,
+}
+
+/// What edges are told by: the log, and the orders that a ledger's entries keep.
+#[derive(Drop)]
+pub struct Basis<'a> {
+    pub alloc: Global,
+    pub history: &'a History,
+    pub grounds: &'a Grounds,
 }
 
 /// The answers to whether the log shows an edge, none of which was asked for.
@@ -107,50 +115,44 @@ fn is_between(history: &History, node: NodeIx) -> bool
 
 /// The first entry that keeps the edge, where both are nodes other than node 0 and the log does not show the edge.
 pub fn entry_of(
-    alloc: Global,
-    grounds: &Grounds,
+    basis: &Basis<'_>,
     answers: &mut [Option<Option<Reason>>],
-    history: &History,
     a: NodeIx,
     b: NodeIx,
 ) -> Result<Option<usize>, AllocError>
-    requires clean { IsClean (log_of history.now) }
-    requires grounds { AreGrounds history.now grounds.now }
-    requires answers { AreAnswers history.now answers.old }
-    ensures answers { AreAnswers history.now answers.new }
-    ensures entry { IfOk result (IsEntry history.now (sides_of history.now grounds.now.kept.items) a b) }
+    requires basis { IsBasis basis.now }
+    requires answers { AreAnswers basis.now.history.now answers.old }
+    ensures answers { AreAnswers basis.now.history.now answers.new }
+    ensures entry { IfOk result (IsEntry basis.now.history.now (sides_by basis.now) a b) }
 {
-    if !is_between(history, a) {
+    if !is_between(basis.history, a) {
         return Ok(None);
     }
-    if !is_between(history, b) {
+    if !is_between(basis.history, b) {
         return Ok(None);
     }
-    match answer(alloc, answers, history, a, b)? {
+    match answer(basis.alloc, answers, basis.history, a, b)? {
         Some(_reason) => Ok(None),
-        None => Ok(entry_with(grounds, a, b)),
+        None => Ok(entry_with(basis.grounds, a, b)),
     }
 }
 
 /// What the edge from `a` to `b` rests on.
 pub fn ground_of(
-    alloc: Global,
-    grounds: &Grounds,
+    basis: &Basis<'_>,
     answers: &mut [Option<Option<Reason>>],
-    history: &History,
     a: NodeIx,
     b: NodeIx,
 ) -> Result<Ground, AllocError>
-    requires clean { IsClean (log_of history.now) }
-    requires grounds { AreGrounds history.now grounds.now }
-    requires answers { AreAnswers history.now answers.old }
-    requires rests { Rests history.now (sides_of history.now grounds.now.kept.items)
-        (length grounds.now.kept.items) a b }
-    ensures answers { AreAnswers history.now answers.new }
-    ensures ground { IfOk result (IsGround history.now (sides_of history.now grounds.now.kept.items) a b) }
+    requires basis { IsBasis basis.now }
+    requires answers { AreAnswers basis.now.history.now answers.old }
+    requires rests { Rests basis.now.history.now (sides_by basis.now)
+        (length basis.now.grounds.now.kept.items) a b }
+    ensures answers { AreAnswers basis.now.history.now answers.new }
+    ensures ground { IfOk result (IsGround basis.now.history.now (sides_by basis.now) a b) }
 {
-    match answer(alloc, answers, history, a, b)? {
+    match answer(basis.alloc, answers, basis.history, a, b)? {
         Some(reason) => Ok(Ground::Known(reason)),
-        None => Ok(Ground::Kept(first_with(grounds, a, b))),
+        None => Ok(Ground::Kept(first_with(basis.grounds, a, b))),
     }
 }

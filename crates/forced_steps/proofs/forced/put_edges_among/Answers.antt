@@ -5,12 +5,12 @@ use Rattle.forced_steps.proofs.Telling.{put_none, put_more, put_all}
 use Rattle.forced_steps.proofs.forced.put_edges_among.Goals as goal
 
 pub loop-i-init : goal.loop-i-init
-loop-i-init c = (c.requires.answers, put_none c.args.history.now c.args.steps.now.kept.items c.args.decided.now c.args.line.now c.args.items.now.items)
+loop-i-init c = (c.requires.answers, put_none c.args.basis.now.history.now c.args.basis.now.grounds.now.kept.items c.args.decided.now c.args.line.now c.args.items.now.items)
 
 pub loop-i-preserved : goal.loop-i-preserved
 loop-i-preserved c =
-    let ss = c.args.history.now in
-    let steps = c.args.steps.now.kept.items in
+    let ss = c.args.basis.now.history.now in
+    let steps = c.args.basis.now.grounds.now.kept.items in
     let decided = c.args.decided.now in
     let line = c.args.line.now in
     let i = c.loop-i.i in
@@ -29,5 +29,5 @@ pub returns-clause-put : goal.returns-clause-put
 returns-clause-put c =
     let line = c.args.line.now in
     let some : 0 < length line = omega arith in
-    put_all c.args.history.now c.args.steps.now.kept.items c.args.decided.now line c.loop-i.i c.args.items.now.items c.loop-i.items.items some
+    put_all c.args.basis.now.history.now c.args.basis.now.grounds.now.kept.items c.args.decided.now line c.loop-i.i c.args.items.now.items c.loop-i.items.items some
     (omega (arith, c.loop-i-test.false)) (omega (arith, c.loop-i.auto.i-end, some)) c.loop-i.invariant.1

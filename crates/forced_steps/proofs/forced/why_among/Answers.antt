@@ -14,28 +14,28 @@ returns-in-Some-clause-why c =
 
 pub returns-in-Some-entry_with-clause-why : goal.returns-in-Some-entry_with-clause-why
 returns-in-Some-entry_with-clause-why c =
-    let ss = c.args.history.now in
-    let steps = c.args.steps.now.kept.items in
+    let ss = c.args.basis.now.history.now in
+    let steps = c.args.basis.now.grounds.now.kept.items in
     let e : Edge = (c.args.a, c.args.b) in
-    ((rw c.in-None.is at c.in_ok-reason.ensures.answer), first_step ss steps e c.in-Some-entry_with.step (c.in-Some-entry_with.ensures.found (sides_of ss steps) c.requires.steps.firsts))
+    ((rw c.in-None.is at c.in_ok-reason.ensures.answer), first_step ss steps e c.in-Some-entry_with.step (c.in-Some-entry_with.ensures.found (sides_of ss steps) c.requires.basis.grounds.firsts))
 
 pub returns-in-Some-order_with-clause-why : goal.returns-in-Some-order_with-clause-why
 returns-in-Some-order_with-clause-why c =
-    let ss = c.args.history.now in
-    let steps = c.args.steps.now.kept.items in
+    let ss = c.args.basis.now.history.now in
+    let steps = c.args.basis.now.grounds.now.kept.items in
     let e : Edge = (c.args.a, c.args.b) in
     let o = c.in-Some-order_with.order in (
       (rw c.in-None.is at c.in_ok-reason.ensures.answer),
-      no_step ss steps e (c.in-None-entry_with.ensures.found (sides_of ss steps) c.requires.steps.firsts),
+      no_step ss steps e (c.in-None-entry_with.ensures.found (sides_of ss steps) c.requires.basis.grounds.firsts),
       c.in-Some-order_with.ensures.among,
       subst (λ s. Contains (edges_in (log_of s) o) e) c.requires.chains c.in-Some-order_with.ensures.edge,
     )
 
 pub unreachable-requires : goal.unreachable-requires
 unreachable-requires c =
-    let ss = c.args.history.now in
-    let steps = c.args.steps.now.kept.items in
+    let ss = c.args.basis.now.history.now in
+    let steps = c.args.basis.now.grounds.now.kept.items in
     let decided = c.args.decided.now in
     let e : Edge = (c.args.a, c.args.b) in
-    none_left ss steps decided e (c.requires.stands.has (rw c.in-None.is at c.in_ok-reason.ensures.answer)) (c.in-None-entry_with.ensures.found (sides_of ss steps) c.requires.steps.firsts)
+    none_left ss steps decided e (c.requires.stands.has (rw c.in-None.is at c.in_ok-reason.ensures.answer)) (c.in-None-entry_with.ensures.found (sides_of ss steps) c.requires.basis.grounds.firsts)
     (subst (λ s. All (λ o. Contains (edges_in (log_of s) o) e → ⊥) decided) c.requires.chains c.in-None-order_with.ensures.none)

@@ -6,12 +6,12 @@ use Rattle.forced_steps.proofs.Telling.{put_none, put_more, put_all}
 use Rattle.forced_steps.proofs.lines.put_edges.Goals as goal
 
 pub loop-i-init : goal.loop-i-init
-loop-i-init c = (c.requires.answers, record { each = λ steps n. put_none c.args.history.now steps [] c.args.line.now c.args.items.now.items })
+loop-i-init c = (c.requires.answers, record { each = λ steps n. put_none c.args.basis.now.history.now steps [] c.args.line.now c.args.items.now.items })
 
 pub loop-i-preserved : goal.loop-i-preserved
 loop-i-preserved c =
-    let ss = c.args.history.now in
-    let sides = sides_of ss c.args.grounds.now.kept.items in
+    let ss = c.args.basis.now.history.now in
+    let sides = sides_of ss c.args.basis.now.grounds.now.kept.items in
     let numbers = c.args.numbers.now in
     let line = c.args.line.now in
     let i = c.loop-i.i in
@@ -32,6 +32,6 @@ pub returns-clause-put : goal.returns-clause-put
 returns-clause-put c =
     record {
       each = λ steps n.
-          put_all c.args.history.now steps [] c.args.line.now c.loop-i.i c.args.items.now.items c.loop-i.items.items c.requires.rests.some
+          put_all c.args.basis.now.history.now steps [] c.args.line.now c.loop-i.i c.args.items.now.items c.loop-i.items.items c.requires.rests.some
           (omega (arith, c.loop-i-test.false)) (omega (arith, c.loop-i.auto.i-end, c.requires.rests.some)) (c.loop-i.invariant.1.each steps n);
     }

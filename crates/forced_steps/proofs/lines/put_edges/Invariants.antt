@@ -3,4 +3,4 @@ use Rattle.forced_steps.specs.Told.{EdgesPut}
 use Rattle.forced_steps.proofs.lines.put_edges.Given as goal
 
 abbrev pub invariant-loop-i : goal.invariant-loop-i
-invariant-loop-i l = AreAnswers l.history l.answers × EdgesPut l.history (sides_of l.history l.grounds.kept.items) l.numbers l.line l.i l.initial.items.items l.items.items
+invariant-loop-i l = AreAnswers l.basis.history.now l.answers × EdgesPut l.basis.history.now (sides_of l.basis.history.now l.basis.grounds.now.kept.items) l.numbers l.line l.i l.initial.items.items l.items.items

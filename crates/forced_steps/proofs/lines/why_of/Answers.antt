@@ -5,9 +5,9 @@ use Rattle.forced_steps.proofs.lines.why_of.Goals as goal
 
 pub bounds-numbers-entry : goal.bounds-numbers-entry
 bounds-numbers-entry c =
-    let kept = c.args.grounds.now.kept.items in
+    let kept = c.args.basis.now.grounds.now.kept.items in
     let g = rw c.in-Kept.is at c.in_ok-reason.ensures.ground in
-    omega (arith, first_below (sides_of c.args.history.now kept) (length kept) (c.args.a, c.args.b) c.in-Kept.entry g.1 (c.requires.rests.kept g.0), c.requires.numbers)
+    omega (arith, first_below (sides_of c.args.basis.now.history.now kept) (length kept) (c.args.a, c.args.b) c.in-Kept.entry g.1 (c.requires.rests.kept g.0), c.requires.numbers)
 
 pub returns-in-Known-clause-why : goal.returns-in-Known-clause-why
 returns-in-Known-clause-why c =

@@ -9,8 +9,8 @@ use Rattle.forced_steps.proofs.marks.mark_edge.Goals as goal
 
 pub returns-in-Some-clause-marked : goal.returns-in-Some-clause-marked
 returns-in-Some-clause-marked c =
-    let ss = c.args.history.now in
-    let kept = c.args.grounds.now.kept.items in
+    let ss = c.args.basis.now.history.now in
+    let kept = c.args.basis.now.grounds.now.kept.items in
     let sides = sides_of ss kept in
     let k = c.in-Some.entry in
     let e = rw c.in-Some.is at c.in_ok-entry.ensures.entry in

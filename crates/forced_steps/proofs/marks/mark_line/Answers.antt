@@ -7,8 +7,8 @@ use Rattle.forced_steps.proofs.marks.mark_line.Goals as goal
 
 pub loop-i-preserved : goal.loop-i-preserved
 loop-i-preserved c =
-    let ss = c.args.history.now in
-    let sides = sides_of ss c.args.grounds.now.kept.items in
+    let ss = c.args.basis.now.history.now in
+    let sides = sides_of ss c.args.basis.now.grounds.now.kept.items in
     let line = c.args.line.now in
     let i = c.loop-i.i in
     let within : i + 1 < length line = omega arith in

@@ -3,4 +3,4 @@ use Rattle.forced_steps.specs.Marks.{IsLineMarked}
 use Rattle.forced_steps.proofs.marks.mark_line.Given as goal
 
 abbrev pub invariant-loop-i : goal.invariant-loop-i
-invariant-loop-i l = AreAnswers l.history l.answers × IsLineMarked l.history (sides_of l.history l.grounds.kept.items) l.line l.i l.initial.marks l.marks
+invariant-loop-i l = AreAnswers l.basis.history.now l.answers × IsLineMarked l.basis.history.now (sides_of l.basis.history.now l.basis.grounds.now.kept.items) l.line l.i l.initial.marks l.marks

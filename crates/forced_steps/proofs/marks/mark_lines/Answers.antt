@@ -8,8 +8,8 @@ use Rattle.forced_steps.proofs.marks.mark_lines.Goals as goal
 
 pub loop-line-preserved : goal.loop-line-preserved
 loop-line-preserved c =
-    let ss = c.args.history.now in
-    let sides = sides_of ss c.args.grounds.now.kept.items in
+    let ss = c.args.basis.now.history.now in
+    let sides = sides_of ss c.args.basis.now.grounds.now.kept.items in
     let old = c.loop-line.marks in
     let new = c.mark_line.new.marks in
     record {
@@ -21,8 +21,8 @@ loop-line-preserved c =
 
 pub returns-clause-covered : goal.returns-clause-covered
 returns-clause-covered c =
-    let ss = c.args.history.now in
-    let sides = sides_of ss c.args.grounds.now.kept.items in
+    let ss = c.args.basis.now.history.now in
+    let sides = sides_of ss c.args.basis.now.grounds.now.kept.items in
     let lines = c.args.lines.now in
     let P : List (Bor (List ℕ)) → Type 0 = All (λ (l : Bor (List ℕ)). IsCovered ss sides c.loop-line.marks l.now (length l.now)) in
     let past : length lines ≤ c.loop-line.line-index = omega (arith, c.loop-line-test.false) in

@@ -6,8 +6,8 @@ use Rattle.forced_steps.proofs.marks.mark_lines.Given as goal
 
 abbrev pub invariant-loop-line : goal.invariant-loop-line
 invariant-loop-line l = record {
-  answers : AreAnswers l.history l.answers;
-  covered : All (λ line. IsCovered l.history (sides_of l.history l.grounds.kept.items) l.marks line.now (length line.now)) (take l.line-index l.lines);
+  answers : AreAnswers l.basis.history.now l.answers;
+  covered : All (λ line. IsCovered l.basis.history.now (sides_of l.basis.history.now l.basis.grounds.now.kept.items) l.marks line.now (length line.now)) (take l.line-index l.lines);
   more : AreMore l.initial.marks l.marks;
-  only : AreNoOthers l.initial.marks l.marks (IsNeededByLine l.history (sides_of l.history l.grounds.kept.items) l.lines);
+  only : AreNoOthers l.initial.marks l.marks (IsNeededByLine l.basis.history.now (sides_of l.basis.history.now l.basis.grounds.now.kept.items) l.lines);
 }

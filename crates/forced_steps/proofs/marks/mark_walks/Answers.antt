@@ -9,8 +9,8 @@ use Rattle.forced_steps.proofs.marks.mark_walks.Goals as goal
 
 pub mark_walk-requires-clause-rests : goal.mark_walk-requires-clause-rests
 mark_walk-requires-clause-rests c =
-    let ss = c.args.history.now in
-    let sides = sides_of ss c.args.grounds.now.kept.items in
+    let ss = c.args.basis.now.history.now in
+    let sides = sides_of ss c.args.basis.now.grounds.now.kept.items in
     let entries = c.args.entries.now in
     let i = length entries - 1 - c.loop-done.done in
     let x = c.index-entries-entry.result in
@@ -20,8 +20,8 @@ mark_walk-requires-clause-rests c =
 
 pub loop-done-preserved : goal.loop-done-preserved
 loop-done-preserved c =
-    let ss = c.args.history.now in
-    let sides = sides_of ss c.args.grounds.now.kept.items in
+    let ss = c.args.basis.now.history.now in
+    let sides = sides_of ss c.args.basis.now.grounds.now.kept.items in
     let entries = c.args.entries.now in
     let i = length entries - 1 - c.loop-done.done in
     let x = c.index-entries-entry.result in

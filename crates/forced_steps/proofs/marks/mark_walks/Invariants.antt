@@ -3,4 +3,4 @@ use Rattle.forced_steps.specs.Marks.{AreCovered, AreMore, AreNoOthers, IsNeededB
 use Rattle.forced_steps.proofs.marks.mark_walks.Given as goal
 
 abbrev pub invariant-loop-done : goal.invariant-loop-done
-invariant-loop-done l = AreAnswers l.history l.answers × (AreCovered l.history (sides_of l.history l.grounds.kept.items) l.marks l.entries l.done × AreMore l.initial.marks l.marks × AreNoOthers l.initial.marks l.marks (IsNeededByWalk l.history (sides_of l.history l.grounds.kept.items) l.marks l.entries))
+invariant-loop-done l = AreAnswers l.basis.history.now l.answers × (AreCovered l.basis.history.now (sides_of l.basis.history.now l.basis.grounds.now.kept.items) l.marks l.entries l.done × AreMore l.initial.marks l.marks × AreNoOthers l.initial.marks l.marks (IsNeededByWalk l.basis.history.now (sides_of l.basis.history.now l.basis.grounds.now.kept.items) l.marks l.entries))

@@ -1,18 +1,26 @@
-use Rattle.std.proofs.Common.{◌≡◌, ◌+◌, ◌<◌, ◌++◌, ◌∷◌, ◌∙◌, [], length, set, refl, sym, ap, subst, arith, Some}
+use Rattle.std.proofs.Common.{◌≡◌, ◌+◌, ◌<◌, ◌≤◌, ◌++◌, ◌∷◌, ◌∙◌, [], length, set, refl, sym, ap, subst, arith, Some}
 use Rattle.std.specs.Prelude.{slice_get}
 use Rattle.std.proofs.lemmas.Option.{slice_get_read}
+use Rattle.forced_steps.specs.Lines.{sides_of}
 use Rattle.forced_steps.specs.Told.{AreTold}
-use Rattle.forced_steps.proofs.Telling.{one_of, told_skip, told_step}
+use Rattle.forced_steps.proofs.Telling.{one_of, rests_later, told_skip, told_step}
 use Rattle.forced_steps.proofs.steps.put_if_marked.Goals as goal
+
+pub put_step-requires-clause-rests : goal.put_step-requires-clause-rests
+put_step-requires-clause-rests c =
+    let ss = c.args.basis.now.history.now in
+    let kept = c.args.basis.now.grounds.now.kept.items in
+    let le : c.args.entry ≤ length kept = omega (arith, c.requires.entry) in
+    rests_later ss (sides_of ss kept) c.args.entry (length kept) c.args.post.now.walk le c.requires.step.rests
 
 pub returns-else-needed-clause-told : goal.returns-else-needed-clause-told
 returns-else-needed-clause-told c = λ posts here t.
-    told_skip c.args.history.now c.args.grounds.now.kept.items posts c.args.marks.now c.args.numbers.now c.args.orders.now.items c.args.entry c.args.items.now.items c.if-needed.false t
+    told_skip c.args.basis.now.history.now c.args.basis.now.grounds.now.kept.items posts c.args.marks.now c.args.numbers.now c.args.orders.now.items c.args.entry c.args.items.now.items c.if-needed.false t
 
 pub returns-in_ok-push-clause-told : goal.returns-in_ok-push-clause-told
 returns-in_ok-push-clause-told c = λ posts here t.
-    let ss = c.args.history.now in
-    let kept = c.args.grounds.now.kept.items in
+    let ss = c.args.basis.now.history.now in
+    let kept = c.args.basis.now.grounds.now.kept.items in
     let marks = c.args.marks.now in
     let numbers = c.args.numbers.now in
     let steps = c.args.orders.now.items in

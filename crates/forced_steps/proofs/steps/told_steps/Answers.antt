@@ -9,8 +9,8 @@ use Rattle.forced_steps.proofs.steps.told_steps.Goals as goal
 
 pub loop-entry-init : goal.loop-entry-init
 loop-entry-init c =
-    let ss = c.args.history.now in
-    let kept = c.args.grounds.now.kept.items in
+    let ss = c.args.basis.now.history.now in
+    let kept = c.args.basis.now.grounds.now.kept.items in
     let posts = posts_in c.args.entries.now in
     let marks = c.args.marks.now in
     let numbers = c.as_mut_slice-numbers.result.now in
@@ -43,8 +43,8 @@ loop-entry-preserved c =
 
 pub returns-clause-told : goal.returns-clause-told
 returns-clause-told c =
-    let ss = c.args.history.now in
-    let kept = c.args.grounds.now.kept.items in
+    let ss = c.args.basis.now.history.now in
+    let kept = c.args.basis.now.grounds.now.kept.items in
     let posts = posts_in c.args.entries.now in
     let marks = c.args.marks.now in
     let table = c.in_ok-table.table in

@@ -6,7 +6,7 @@ use Rattle.forced_steps.proofs.steps.told_steps.Given as goal
 
 abbrev pub invariant-loop-entry : goal.invariant-loop-entry
 invariant-loop-entry l = record {
-  answers : AreAnswers l.history l.answers;
-  numbers : length l.numbers ≡ length l.grounds.kept.items;
-  told : AreTold l.history l.grounds.kept.items (posts_in l.entries) l.marks l.numbers l.orders.items l.entry l.items.items;
+  answers : AreAnswers l.basis.history.now l.answers;
+  numbers : length l.numbers ≡ length l.basis.grounds.now.kept.items;
+  told : AreTold l.basis.history.now l.basis.grounds.now.kept.items (posts_in l.entries) l.marks l.numbers l.orders.items l.entry l.items.items;
 }
