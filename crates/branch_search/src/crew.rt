@@ -5,15 +5,14 @@ ghost use Rattle.desk.specs.History.{IsReached};
 ghost use Rattle.desk.specs.Seats.{AreFresh, AreNumbered};
 ghost use Rattle.cube_laws.specs.Steps.{next_of, reply_of};
 
-use crate::worker::{Job, work};
+use crate::worker::{Job, Task, work};
 use branching::Strategy;
-use cube_machine::{CubeMachine, Row};
+use cube_machine::CubeMachine;
 use desk::desk::{Closed, Desk};
 use desk::gate::Gate;
 use desk::naming::Naming;
 use desk::opened::Opened;
 use desk::seat::{Left, Seat};
-use prune_ledger::Reduced;
 use std::alloc::{AllocError, Global};
 use std::sync::Wait;
 use std::thread;
@@ -25,9 +24,7 @@ pub fn run<'a, S: Strategy, J: Naming + Send + Sync, G: Gate, R: Threads + Wait 
     rt: &R,
     alloc: Global,
     opened: Opened<CubeMachine<'a>>,
-    reduced: &Reduced,
-    row: &Row,
-    strategy: &S,
+    task: &Task<'_, S>,
     gate: &G,
 ) -> Result<Closed<CubeMachine<'a>>, AllocError>
     requires names { J.names ≡ opened.1 }
@@ -36,7 +33,7 @@ pub fn run<'a, S: Strategy, J: Naming + Send + Sync, G: Gate, R: Threads + Wait 
         IsReached next_of reply_of (Some opened.entry.0) c.history.items c.machine) }
 {
     let (desk, seats) = Desk::<CubeMachine<'a>, J>::open(alloc, opened)?;
-    let jobs = jobs_of(alloc, &desk, seats, reduced, row, strategy, gate)?;
+    let jobs = jobs_of(alloc, &desk, seats, task, gate)?;
     let lefts = work_all(rt, jobs)?;
     let closed = desk.close(lefts).unwrap();
     Ok(closed)
@@ -63,9 +60,7 @@ pub fn jobs_of<'b, 'a, S: Strategy, J: Naming, G: Gate>(
     alloc: Global,
     desk: &'b Desk<CubeMachine<'a>, J>,
     seats: Vec<Seat<CubeMachine<'a>, J>>,
-    reduced: &'b Reduced,
-    row: &'b Row,
-    strategy: &'b S,
+    task: &'b Task<'b, S>,
     gate: &'b G,
 ) -> Result<Vec<Job<'b, 'a, S, J, G>>, AllocError>
     requires seats { AreFresh seats.items }
@@ -78,9 +73,7 @@ pub fn jobs_of<'b, 'a, S: Strategy, J: Naming, G: Gate>(
             alloc,
             desk,
             seat,
-            reduced,
-            row,
-            strategy,
+            task,
             gate,
         })?;
     }

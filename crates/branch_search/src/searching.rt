@@ -8,6 +8,7 @@ ghost use Rattle.branch_search.specs.Answers.{SaysYes, SaysNo, ShowsNo, SaysUnkn
 use crate::answer::Answer;
 use crate::crew::run;
 use crate::reading::read_answer;
+use crate::worker::Task;
 use branching::Strategy;
 use cube_machine::{Budget, CubeMachine, Row};
 use desk::gate::Gate;
@@ -51,6 +52,11 @@ pub fn search<S: Strategy, G: Gate, R: Threads + Wait + Clock + Sync>(
     let row = Row::new(alloc, budget)?;
     let machine = CubeMachine::opening(alloc, reduced.poly(), budget, &row)?;
     let opened = Opened::new(alloc, machine, workers)?;
-    let closed = run::<_, Brand, _, _>(rt, alloc, opened, reduced, &row, strategy, gate)?;
+    let task = Task {
+        reduced,
+        row: &row,
+        strategy,
+    };
+    let closed = run::<_, Brand, _, _>(rt, alloc, opened, &task, gate)?;
     read_answer(alloc, history, reduced, budget, closed)
 }

@@ -20,16 +20,29 @@ use std::alloc::{AllocError, Global};
 use std::sync::Wait;
 use std::time::Clock;
 
+/// What is searched, which each worker is lent: what pruning left, how each node of the tree was led to, and the strategy.
+#[derive(Drop)]
+pub struct Task<'b, S: Strategy> {
+    pub reduced: &'b Reduced,
+    pub row: &'b Row,
+    pub strategy: &'b S,
+}
+
 /// What a worker has: its seat, and what it is lent.
 #[derive(Drop)]
 pub struct Job<'b, 'a, S: Strategy, J: Naming, G: Gate> {
     pub alloc: Global,
     pub desk: &'b Desk<CubeMachine<'a>, J>,
     pub seat: Seat<CubeMachine<'a>, J>,
-    pub reduced: &'b Reduced,
-    pub row: &'b Row,
-    pub strategy: &'b S,
+    pub task: &'b Task<'b, S>,
     pub gate: &'b G,
+}
+
+// Where a worker is: the cube that it sees, and its way there.
+#[derive(Drop)]
+struct Place<'v> {
+    view: CubeView<'v>,
+    trail: Trail<'v>,
 }
 
 // The cube that a worker asks for: any, or that of a node which decides one choice more than the cube that the
@@ -52,12 +65,10 @@ pub fn work<'b, 'a, S: Strategy, J: Naming, G: Gate, R: Wait + Clock>(
         alloc,
         desk,
         mut seat,
-        reduced,
-        row,
-        strategy,
+        task,
         gate,
     } = job;
-    let _ = take_turns(rt, alloc, desk, &mut seat, reduced, row, strategy, gate);
+    let _ = take_turns(rt, alloc, desk, &mut seat, task, gate);
     let (_, left) = desk.leave(rt, seat, Event::Release);
     left
 }
@@ -68,22 +79,19 @@ fn take_turns<'a, S: Strategy, J: Naming, G: Gate, R: Wait + Clock>(
     alloc: Global,
     desk: &Desk<CubeMachine<'a>, J>,
     seat: &mut Seat<CubeMachine<'a>, J>,
-    reduced: &Reduced,
-    row: &Row,
-    strategy: &S,
+    task: &Task<'_, S>,
     gate: &G,
 ) -> Result<(), AllocError>
     ensures number { seat.new.0 ≡ seat.old.0 }
 {
-    let mut view = view_for::<S>(alloc, reduced)?;
-    let mut trail = Trail::new(alloc);
+    let view = view_for::<S>(alloc, task.reduced)?;
+    let trail = Trail::new(alloc);
+    let mut place = Place { view, trail };
     let mut request = Request::Any;
     let mut number: u64 = 0;
     for _ in rt.forever() {
         gate.pass(rt, seat.number(), number);
-        let next = take_turn(
-            rt, alloc, desk, seat, reduced, row, strategy, &mut trail, &mut view, request,
-        )?;
+        let next = take_turn(rt, alloc, desk, seat, task, &mut place, request)?;
         let Some(another) = next else {
             return Ok(());
         };
@@ -114,26 +122,24 @@ fn take_turn<'a, 'v, S: Strategy, J: Naming, R: Wait>(
     alloc: Global,
     desk: &Desk<CubeMachine<'a>, J>,
     seat: &mut Seat<CubeMachine<'a>, J>,
-    reduced: &Reduced,
-    row: &Row,
-    strategy: &S,
-    trail: &mut Trail<'v>,
-    view: &mut CubeView<'v>,
+    task: &Task<'_, S>,
+    place: &mut Place<'v>,
     request: Request,
 ) -> Result<Option<Request>, AllocError>
-    requires polygraph { view.old.polygraph ≡ reduced.now.poly }
-    requires kept { All (λ k. k.view.polygraph ≡ view.old.polygraph) trail.old.kept.items }
+    requires polygraph { place.old.view.polygraph ≡ task.now.reduced.now.poly }
+    requires kept { All (λ k. k.view.polygraph ≡ place.old.view.polygraph) place.old.trail.kept.items }
     ensures number { seat.new.0 ≡ seat.old.0 }
-    ensures polygraph { view.new.polygraph ≡ view.old.polygraph }
-    ensures kept { IfOk result (λ _. All (λ k. k.view.polygraph ≡ view.new.polygraph) trail.new.kept.items) }
+    ensures polygraph { place.new.view.polygraph ≡ place.old.view.polygraph }
+    ensures kept { IfOk result (λ _. All (λ k. k.view.polygraph ≡ place.new.view.polygraph) place.new.trail.kept.items) }
 {
     let reply = send(rt, desk, seat, event_of(&request))?;
     match reply {
         Reply::Finished => Ok(None),
         Reply::NotOpen | Reply::NoneNow => Ok(Some(Request::Any)),
         Reply::Cube(node) => {
-            if see(alloc, trail, view, row, &request, node)? {
-                settle(rt, alloc, desk, seat, reduced, strategy, view)
+            let Place { view, trail } = place;
+            if see(alloc, trail, view, task.row, &request, node)? {
+                settle(rt, alloc, desk, seat, task, view)
             } else {
                 give_back(rt, desk, seat)
             }
@@ -174,20 +180,19 @@ fn settle<'a, S: Strategy, J: Naming, R: Wait>(
     alloc: Global,
     desk: &Desk<CubeMachine<'a>, J>,
     seat: &mut Seat<CubeMachine<'a>, J>,
-    reduced: &Reduced,
-    strategy: &S,
+    task: &Task<'_, S>,
     view: &CubeView<'_>,
 ) -> Result<Option<Request>, AllocError>
-    requires polygraph { view.now.polygraph ≡ reduced.now.poly }
+    requires polygraph { view.now.polygraph ≡ task.now.reduced.now.poly }
     ensures number { seat.new.0 ≡ seat.old.0 }
 {
-    let event = turn(alloc, reduced, view, strategy)?;
+    let event = turn(alloc, task.reduced, view, task.strategy)?;
     let choice = split_by(&event);
     let reply = send(rt, desk, seat, event)?;
     match reply {
         Reply::Finished => Ok(None),
         Reply::Closed | Reply::Solved => Ok(Some(Request::Any)),
-        Reply::Children(one, two) => Ok(Some(first_child(strategy, view, choice, one, two))),
+        Reply::Children(one, two) => Ok(Some(first_child(task.strategy, view, choice, one, two))),
         _ => give_back(rt, desk, seat),
     }
 }
