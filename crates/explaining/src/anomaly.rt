@@ -1,4 +1,4 @@
-//! Anomalies.
+//! An anomaly, told by the operations that show it.
 
 ghost use Rattle.std.specs.Prelude.{◌≡◌, ◌+◌, ◌<◌, ◌^◌, length, IfOk};
 ghost use Rattle.session_log.specs.Version.{first_line};
