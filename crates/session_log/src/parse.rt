@@ -16,7 +16,7 @@ use crate::words::next_line;
 use std::alloc::{AllocError, Global};
 
 /// A transaction that is open, with the line of its `begin`.
-#[derive(Debug, Drop)]
+#[derive(Drop)]
 struct OpenTxn {
     line: usize,
     begun: Option<u64>,
@@ -24,7 +24,7 @@ struct OpenTxn {
 }
 
 /// How far a session has come.
-#[derive(Debug, Drop)]
+#[derive(Drop)]
 enum Progress {
     /// No transaction is open.
     Between,
@@ -35,7 +35,7 @@ enum Progress {
 }
 
 /// What has been read of a session after its first line.
-#[derive(Debug, Drop)]
+#[derive(Drop)]
 struct Reading {
     txns: Vec<Txn>,
     progress: Progress,
