@@ -1,12 +1,14 @@
-use crate::logs::read;
+ghost use Rattle.serializability.specs.Reads.{IsClean};
+ghost use Rattle.log_definitions.specs.Numbers.{log_of};
+
+use crate::logs::clean;
 use crate::node::node;
-use anomalies::classify;
 use coalesce::coalesce;
 use known_graph::Known;
 use polygraph::{Edges, Polygraph, bipaths, order_fits};
+use session_history::History;
 use std::alloc::Global;
 use std::process::Abort;
-use std::test::Fail;
 use write_chains::chains;
 
 const TWO_CHAINS: &str = "session 1\nbegin\nw x 1\ncommit\nsession 2\nbegin\nr x 1\nw x 2\ncommit\n\
@@ -18,28 +20,30 @@ const TWO_WRITERS: &str = "session 1\nbegin\nw x 1\ncommit\nsession 2\nbegin\nw 
 const READER_OF_ONE: &str =
     "session 1\nbegin\nw x 1\ncommit\nsession 2\nbegin\nw x 2\ncommit\nsession 3\nbegin\nr x 1\ncommit\n";
 
-// The polygraph of a log's bipaths, and that of its chains.
-#[tactic(auto, using(headline::proofs::Answered::clean_log))]
-fn polygraphs(alloc: Global, log: &str) -> Result<(Polygraph, Polygraph), Fail> {
-    let history = read(alloc, log.as_bytes())?;
-    let _nodes = history.committed();
-    match classify(alloc, &history)? {
-        Some(_) => Err("an anomaly")?,
-        None => {
-            let plain = bipaths(alloc, &history)?;
-            let known = Known::of(alloc, &history)?;
-            let chains = chains(alloc, &history)?.ok().ok_or("a chain that closes")?;
-            let coalesced = coalesce(alloc, &history, &chains, known)?;
-            Ok((plain, coalesced))
-        }
-    }
+// The polygraph of a history's bipaths.
+fn plain(rt: &impl Abort, alloc: Global, history: &History) -> Polygraph
+    requires { IsClean (log_of history.now) }
+{
+    bipaths(alloc, history).ok().expect(rt, "a polygraph")
 }
 
-// The ends of the one edge of a side.
-fn ends(rt: &impl Abort, side: &Edges) -> (usize, usize) {
+// The polygraph of a history's chains.
+fn coalesced(rt: &impl Abort, alloc: Global, history: &History) -> Polygraph
+    requires { IsClean (log_of history.now) }
+{
+    let chains = chains(alloc, history).expect(rt, "memory").ok();
+    let chains = chains.expect(rt, "no chain that closes");
+    let known = Known::of(alloc, history).expect(rt, "memory");
+    coalesce(alloc, history, &chains, known)
+        .ok()
+        .expect(rt, "a polygraph")
+}
+
+// The side has one edge.
+fn see_side(rt: &impl Abort, side: &Edges, want: (usize, usize)) {
     assert_eq!(rt; side.as_slice().len(), 1);
     let edge = side.as_slice().first().expect(rt, "an edge");
-    (edge.source().get(), edge.target().get())
+    assert_eq!(rt; (edge.source().get(), edge.target().get()), want);
 }
 
 // There is one choice, with one edge a side.
@@ -47,8 +51,8 @@ fn see_choice(rt: &impl Abort, polygraph: Polygraph, one: (usize, usize), two: (
     let (_known, mut choices) = polygraph.into_parts();
     let (first, second) = choices.pop().expect(rt, "a choice").into_sides();
     assert!(rt; choices.is_empty());
-    assert_eq!(rt; ends(rt, &first), one);
-    assert_eq!(rt; ends(rt, &second), two);
+    see_side(rt, &first, one);
+    see_side(rt, &second, two);
 }
 
 fn see_order(rt: &impl Abort, alloc: Global, polygraph: &Polygraph, order: &[usize], fits: bool) {
@@ -59,19 +63,39 @@ fn see_order(rt: &impl Abort, alloc: Global, polygraph: &Polygraph, order: &[usi
     assert_eq!(rt; order_fits(polygraph, &nodes), fits);
 }
 
+// The order of the two chains, and one that parts them.
+fn see_orders(rt: &impl Abort, alloc: Global, polygraph: &Polygraph) {
+    see_order(rt, alloc, polygraph, &[1, 2, 5, 3, 4, 6], true);
+    see_order(rt, alloc, polygraph, &[1, 3, 2, 5, 4, 6], false);
+}
+
+// The polygraph of the bipaths, of which there are ten.
+fn see_bipaths(rt: &impl Abort, alloc: Global, polygraph: &Polygraph) {
+    assert_eq!(rt; polygraph.choices().len(), 10);
+    see_orders(rt, alloc, polygraph);
+}
+
 #[test]
-fn chains_for_their_writers(rt: HostRuntime) -> Result<(), Fail> {
+fn chains_for_their_writers(rt: HostRuntime) {
+    let rt = &rt;
     let alloc = rt.alloc();
-    let (plain, coalesced) = polygraphs(alloc, TWO_CHAINS)?;
-    assert_eq!(rt; plain.choices().len(), 10);
-    see_order(&rt, alloc, &plain, &[1, 2, 5, 3, 4, 6], true);
-    see_order(&rt, alloc, &coalesced, &[1, 2, 5, 3, 4, 6], true);
-    see_order(&rt, alloc, &plain, &[1, 3, 2, 5, 4, 6], false);
-    see_order(&rt, alloc, &coalesced, &[1, 3, 2, 5, 4, 6], false);
-    see_choice(&rt, coalesced, (5, 3), (6, 1));
-    let (_plain, coalesced) = polygraphs(alloc, TWO_WRITERS)?;
-    see_choice(&rt, coalesced, (1, 2), (2, 1));
-    let (_plain, coalesced) = polygraphs(alloc, READER_OF_ONE)?;
-    see_choice(&rt, coalesced, (3, 2), (2, 1));
-    Ok(())
+    let history = clean(rt, alloc, TWO_CHAINS);
+    see_bipaths(rt, alloc, &plain(rt, alloc, &history));
+    see_orders(rt, alloc, &coalesced(rt, alloc, &history));
+}
+
+// The log's bipaths have a polygraph, and its chains leave one choice.
+fn see_chains(rt: &impl Abort, alloc: Global, log: &str, one: (usize, usize), two: (usize, usize)) {
+    let history = clean(rt, alloc, log);
+    plain(rt, alloc, &history);
+    see_choice(rt, coalesced(rt, alloc, &history), one, two);
+}
+
+#[test]
+fn a_choice_of_two_chains(rt: HostRuntime) {
+    let rt = &rt;
+    let alloc = rt.alloc();
+    see_chains(rt, alloc, TWO_CHAINS, (5, 3), (6, 1));
+    see_chains(rt, alloc, TWO_WRITERS, (1, 2), (2, 1));
+    see_chains(rt, alloc, READER_OF_ONE, (3, 2), (2, 1));
 }

@@ -1,11 +1,9 @@
-use crate::logs::read;
+use crate::logs::{clean, history_of};
 use crate::node::{join, node};
-use anomalies::classify;
 use known_graph::Known;
 use serializability::NodeIx;
 use std::alloc::Global;
 use std::process::Abort;
-use std::test::Fail;
 
 // A session whose first transaction reads what its second one writes.
 const READ_BEFORE_WRITTEN: &str = "session 1\nbegin\nr x 1\ncommit\nbegin\nw x 1\ncommit\n";
@@ -21,14 +19,8 @@ const AT_ONCE: &str =
     session 3\nbegin 4\nr x 1\ncommit 6\n";
 
 // The arcs of a log without an anomaly.
-#[tactic(auto, using(headline::proofs::Answered::clean_log))]
-fn arcs(alloc: Global, log: &str) -> Result<Known, Fail> {
-    let history = read(alloc, log.as_bytes())?;
-    let _nodes = history.committed();
-    match classify(alloc, &history)? {
-        Some(_) => Err("an anomaly")?,
-        None => Ok(Known::of(alloc, &history)?),
-    }
+fn arcs(rt: &impl Abort, alloc: Global, log: &str) -> Known {
+    Known::of(alloc, &clean(rt, alloc, log)).expect(rt, "memory")
 }
 
 fn see_edges(rt: &impl Abort, alloc: Global, known: &Known, want: &[(usize, usize)]) {
@@ -39,29 +31,40 @@ fn see_edges(rt: &impl Abort, alloc: Global, known: &Known, want: &[(usize, usiz
     }
 }
 
-#[test]
-fn arcs_of_logs(rt: HostRuntime) -> Result<(), Fail> {
-    let alloc = rt.alloc();
-    let known = arcs(alloc, READ_BEFORE_WRITTEN)?;
-    see_edges(&rt, alloc, &known, &[(0, 1), (0, 2), (1, 2), (2, 1)]);
-    let want = [node(&rt, 1), node(&rt, 2), node(&rt, 1)];
-    assert_eq!(rt; cycle(&rt, alloc, &known).as_slice(), want.as_slice());
-    let known = arcs(alloc, IN_TURN)?;
-    let want = [(0, 1), (0, 2), (0, 3), (1, 2), (1, 3), (2, 3)];
-    see_edges(&rt, alloc, &known, &want);
-    let known = arcs(alloc, AT_ONCE)?;
-    let want = [(0, 1), (0, 2), (0, 3), (1, 2), (1, 3)];
-    see_edges(&rt, alloc, &known, &want);
-    Ok(())
+fn see_arcs(rt: &impl Abort, alloc: Global, log: &str, want: &[(usize, usize)]) {
+    see_edges(rt, alloc, &arcs(rt, alloc, log), want);
 }
 
 #[test]
-fn moments_of_nodes(rt: HostRuntime) -> Result<(), Fail> {
-    let history = read(rt.alloc(), IN_TURN.as_bytes())?;
-    assert_eq!(rt; history.begun_of(node(&rt, 2)), Some(3));
-    assert_eq!(rt; history.ended_of(node(&rt, 2)), Some(4));
-    assert_eq!(rt; history.begun_of(node(&rt, 0)), None);
-    Ok(())
+fn arcs_of_logs(rt: HostRuntime) {
+    let rt = &rt;
+    let alloc = rt.alloc();
+    let want = [(0, 1), (0, 2), (1, 2), (2, 1)];
+    see_arcs(rt, alloc, READ_BEFORE_WRITTEN, &want);
+    let want = [(0, 1), (0, 2), (0, 3), (1, 2), (1, 3), (2, 3)];
+    see_arcs(rt, alloc, IN_TURN, &want);
+    let want = [(0, 1), (0, 2), (0, 3), (1, 2), (1, 3)];
+    see_arcs(rt, alloc, AT_ONCE, &want);
+}
+
+#[test]
+fn cycle_of_a_log(rt: HostRuntime) {
+    let known = arcs(&rt, rt.alloc(), READ_BEFORE_WRITTEN);
+    let want = [node(&rt, 1), node(&rt, 2), node(&rt, 1)];
+    assert_eq!(rt; cycle(&rt, rt.alloc(), &known).as_slice(), want.as_slice());
+}
+
+fn see_moment(rt: &impl Abort, moment: Option<u64>, want: Option<u64>) {
+    assert_eq!(rt; moment, want);
+}
+
+#[test]
+fn moments_of_nodes(rt: HostRuntime) {
+    let rt = &rt;
+    let history = history_of(rt, rt.alloc(), IN_TURN);
+    see_moment(rt, history.begun_of(node(rt, 2)), Some(3));
+    see_moment(rt, history.ended_of(node(rt, 2)), Some(4));
+    see_moment(rt, history.begun_of(node(rt, 0)), None);
 }
 
 // The cycle that is found, or nothing.
@@ -137,22 +140,29 @@ fn coded(rt: &impl Abort, alloc: Global, code: u32) -> Known {
     known
 }
 
+fn see_cycle(rt: &impl Abort, alloc: Global, known: &Known, code: u32) {
+    let least = least_cycle(rt, alloc, known);
+    let found = cycle(rt, alloc, known);
+    assert_eq!(rt; found.as_slice(), least.as_slice(), "{code}");
+}
+
+// The walk from node 1 to this one.
+fn see_walk(rt: &impl Abort, alloc: Global, known: &Known, v: usize, code: u32) {
+    let (first, last) = (node(rt, 1), node(rt, v));
+    let least = least_walk(rt, alloc, known, first, last);
+    let found = walk(rt, alloc, known, first, last);
+    assert_eq!(rt; found.as_slice(), least.as_slice(), "{code} {v}");
+}
+
 #[test]
 fn cycle_and_walks_by_the_rule(rt: HostRuntime) {
     let rt = &rt;
     let alloc = rt.alloc();
     for code in 0..4096 {
         let known = coded(rt, alloc, code);
-        let least = least_cycle(rt, alloc, &known);
-        assert_eq!(rt;
-            cycle(rt, alloc, &known).as_slice(),
-            least.as_slice(),
-            "{code}"
-        );
+        see_cycle(rt, alloc, &known, code);
         for v in 0..4 {
-            let least = least_walk(rt, alloc, &known, node(rt, 1), node(rt, v));
-            let found = walk(rt, alloc, &known, node(rt, 1), node(rt, v));
-            assert_eq!(rt; found.as_slice(), least.as_slice(), "{code} {v}");
+            see_walk(rt, alloc, &known, v, code);
         }
     }
 }

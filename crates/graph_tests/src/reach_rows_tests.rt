@@ -7,8 +7,8 @@ use std::alloc::Global;
 use std::process::Abort;
 use std::sync::Wait;
 use std::sync::atomic::{AtomicBool, AtomicUsize, Ordering};
-use std::test::*;
 use std::thread;
+use std::thread::Threads;
 use std::time::{Clock, Duration};
 
 fn workers(rt: &impl Abort, count: u8) -> Workers {
@@ -44,39 +44,57 @@ fn pairs(rt: &impl Abort, alloc: Global, rows: &Rows) -> Vec<usize> {
     found
 }
 
+const OF_ARCS: [usize; 12] = [1, 2, 3, 4, 5, 6, 12, 15, 25, 34, 36, 46];
+
+// With an edge more, from 5 to 3.
+const OF_ONE_MORE: [usize; 21] = [
+    1, 2, 3, 4, 5, 6, 12, 13, 14, 15, 16, 23, 24, 25, 26, 34, 36, 46, 53, 54, 56,
+];
+
+// These are the pairs, and none of a node with itself.
+fn see_pairs(rt: &impl Abort, alloc: Global, rows: &Rows, want: &[usize]) {
+    assert_eq!(rt; pairs(rt, alloc, rows).as_slice(), want);
+    assert!(rt; !rows.cyclic());
+}
+
+// A cycle through all but node 0.
+fn see_cyclic(rt: &impl Abort, alloc: Global, rows: &Rows) {
+    assert_eq!(rt; pairs(rt, alloc, rows).len(), 42);
+    assert!(rt; rows.cyclic());
+}
+
 // The rows of the arcs, and what two edges more make of them: the second closes a cycle through all but node 0.
 fn see_rows(rt: &impl Abort, alloc: Global, mut rows: Rows) {
     assert_eq!(rt; rows.nodes(), 6);
-    let first = pairs(rt, alloc, &rows);
-    let want = [1, 2, 3, 4, 5, 6, 12, 15, 25, 34, 36, 46];
-    assert_eq!(rt; first.as_slice(), want.as_slice());
-    assert!(rt; !rows.cyclic());
-
+    see_pairs(rt, alloc, &rows, &OF_ARCS);
     let before = rows.copy(alloc).expect(rt, "memory");
     join_rows(rt, &mut rows, 5, 3);
-    let second = pairs(rt, alloc, &rows);
-    let want = [
-        1, 2, 3, 4, 5, 6, 12, 13, 14, 15, 16, 23, 24, 25, 26, 34, 36, 46, 53, 54, 56,
-    ];
-    assert_eq!(rt; second.as_slice(), want.as_slice());
-    assert!(rt; !rows.cyclic());
-
+    see_pairs(rt, alloc, &rows, &OF_ONE_MORE);
     join_rows(rt, &mut rows, 6, 1);
-    assert_eq!(rt; pairs(rt, alloc, &rows).len(), 42);
-    assert!(rt; rows.cyclic());
-    assert_eq!(rt; pairs(rt, alloc, &before).as_slice(), first.as_slice());
+    see_cyclic(rt, alloc, &rows);
+    see_pairs(rt, alloc, &before, &OF_ARCS);
+}
+
+// The rows of a graph, by so many workers.
+fn rows_by<R: Threads + Wait + Clock + Abort + Sync>(
+    rt: &R,
+    alloc: Global,
+    known: &Known,
+    count: u8,
+    gate: &impl Gate,
+) -> Rows {
+    let rows = Rows::compute(rt, alloc, known, workers(rt, count), gate);
+    rows.expect(rt, "memory")
 }
 
 #[test]
-fn one_thread_or_several_see_the_same(rt: HostRuntime) -> Result<(), Fail> {
+fn one_thread_or_several_see_the_same(rt: HostRuntime) {
     let alloc = rt.alloc();
     let known = arcs(&rt, alloc);
-    see_rows(&rt, alloc, Rows::plain(alloc, &known)?);
+    see_rows(&rt, alloc, Rows::plain(alloc, &known).expect(&rt, "memory"));
     for count in [1, 4, 16] {
-        let rows = Rows::compute(&rt, alloc, &known, workers(&rt, count), &OpenGate)?;
-        see_rows(&rt, alloc, rows);
+        see_rows(&rt, alloc, rows_by(&rt, alloc, &known, count, &OpenGate));
     }
-    Ok(())
 }
 
 // Seats 1 and 2 wait for each other before their first source.
@@ -116,21 +134,24 @@ impl Gate for Meeting {
     }
 }
 
+fn gate_of_two() -> Meeting {
+    Meeting {
+        first: AtomicBool::new(false),
+        second: AtomicBool::new(false),
+        missed: AtomicBool::new(false),
+    }
+}
+
 #[test]
-fn two_workers_meet(rt: HostRuntime) -> Result<(), Fail> {
+fn two_workers_meet(rt: HostRuntime) {
     let alloc = rt.alloc();
     let known = arcs(&rt, alloc);
     for count in [2, 16] {
-        let gate = Meeting {
-            first: AtomicBool::new(false),
-            second: AtomicBool::new(false),
-            missed: AtomicBool::new(false),
-        };
-        let rows = Rows::compute(&rt, alloc, &known, workers(&rt, count), &gate)?;
+        let gate = gate_of_two();
+        let rows = rows_by(&rt, alloc, &known, count, &gate);
         assert!(rt; !gate.missed.load(Ordering::SeqCst));
         see_rows(&rt, alloc, rows);
     }
-    Ok(())
 }
 
 // How often each of two seats passes.
@@ -151,18 +172,21 @@ impl Gate for Counted {
     }
 }
 
+fn see_passes(rt: &impl Abort, passes: &AtomicUsize, want: usize) {
+    assert_eq!(rt; passes.load(Ordering::SeqCst), want);
+}
+
 // Node 0 has an edge to each other node, and these have none: so it is as much work as all of them.
 #[test]
-fn two_workers_have_half_the_work_each(rt: HostRuntime) -> Result<(), Fail> {
+fn two_workers_have_half_the_work_each(rt: HostRuntime) {
     let alloc = rt.alloc();
-    let known = Known::new(alloc, 400)?;
+    let known = Known::new(alloc, 400).expect(&rt, "memory");
     let gate = Counted {
         first: AtomicUsize::new(0),
         second: AtomicUsize::new(0),
     };
-    let rows = Rows::compute(&rt, alloc, &known, workers(&rt, 2), &gate)?;
-    assert_eq!(rt; gate.first.load(Ordering::SeqCst), 1);
-    assert_eq!(rt; gate.second.load(Ordering::SeqCst), 400);
+    let rows = rows_by(&rt, alloc, &known, 2, &gate);
+    see_passes(&rt, &gate.first, 1);
+    see_passes(&rt, &gate.second, 400);
     assert!(rt; !rows.cyclic());
-    Ok(())
 }
