@@ -1,6 +1,6 @@
 ghost use Rattle.std.specs.Prelude.{◌≡◌, ◌≤◌, ◌≢◌};
 ghost use Rattle.std.specs.List.{AllByRecursion};
-ghost use Rattle.polygraph.specs.Polygraphs.{Joins};
+ghost use Rattle.polygraph.specs.Polygraphs.{Joins, JoinsBoth};
 
 use branching::laws::turn;
 use branching::{Alternate, ByWords, CubeView, FirstOpen, Forced, LeastEdges, MostEdges, Strategy};
@@ -16,56 +16,60 @@ use serializability::NodeIx;
 use std::alloc::Global;
 use std::process::Abort;
 use std::sync::Wait;
-use std::test::*;
 use std::thread::Threads;
 use std::time::Clock;
 
-fn edge(rt: &impl Abort, ends: (usize, usize)) -> Edge
-    ensures { result ≡ (ends.0, ends.1) }
+type Ends = (usize, usize);
+
+fn node(rt: &impl Abort, number: usize) -> NodeIx
+    ensures { result ≡ number }
 {
-    let u = NodeIx::new(ends.0).expect(rt, "a node");
-    let v = NodeIx::new(ends.1).expect(rt, "a node");
-    Edge::new(u, v)
+    NodeIx::new(number).expect(rt, "a node")
+}
+
+fn edge(rt: &impl Abort, nodes: usize, ends: Ends) -> Edge
+    ensures { Joins nodes result }
+{
+    assert!(rt; ends.0 <= nodes && ends.1 <= nodes && ends.0 != ends.1);
+    Edge::new(node(rt, ends.0), node(rt, ends.1))
 }
 
 // A side of one edge.
-fn single(rt: &impl Abort, nodes: usize, ends: (usize, usize)) -> Edges
+fn single(rt: &impl Abort, nodes: usize, ends: Ends) -> Edges
     ensures { AllByRecursion (Joins nodes) result }
 {
-    assert!(rt; ends.0 <= nodes && ends.1 <= nodes && ends.0 != ends.1);
-    Edges::single(edge(rt, ends))
+    Edges::single(edge(rt, nodes, ends))
 }
 
 // A side of two edges.
-fn double(
-    rt: &impl Abort,
-    alloc: Global,
-    nodes: usize,
-    first: (usize, usize),
-    second: (usize, usize),
-) -> Edges
+fn double(rt: &impl Abort, alloc: Global, nodes: usize, first: Ends, second: Ends) -> Edges
     ensures { AllByRecursion (Joins nodes) result }
 {
-    assert!(rt; first.0 <= nodes && first.1 <= nodes && first.0 != first.1);
-    assert!(rt; second.0 <= nodes && second.1 <= nodes && second.0 != second.1);
-    Edges::many(vec![in alloc; edge(rt, first), edge(rt, second)].expect(rt, "memory"))
+    let mut edges = Vec::new(alloc);
+    edges.push(edge(rt, nodes, first)).expect(rt, "memory");
+    edges.push(edge(rt, nodes, second)).expect(rt, "memory");
+    Edges::many(edges)
 }
 
-fn known(rt: &impl Abort, alloc: Global, nodes: usize, edges: &[(usize, usize)]) -> Known
+fn join(rt: &impl Abort, known: &mut Known, ends: Ends) {
+    let (u, v) = (node(rt, ends.0), node(rt, ends.1));
+    assert!(rt; u.get() <= known.nodes() && v.get() <= known.nodes());
+    known.add_edge(u, v);
+}
+
+fn known(rt: &impl Abort, alloc: Global, nodes: usize, edges: &[Ends]) -> Known
     ensures { result.nodes ≡ nodes }
 {
     assert!(rt; nodes <= 1_000);
     let mut known = Known::new(alloc, nodes).expect(rt, "memory");
     for ends in edges {
-        let edge = edge(rt, *ends);
-        assert!(rt; edge.source().get() <= known.nodes() && edge.target().get() <= known.nodes());
-        known.add_edge(edge.source(), edge.target());
+        join(rt, &mut known, *ends);
     }
     assert_eq!(rt; known.nodes(), nodes);
     known
 }
 
-const PATHS: [(usize, usize); 8] = [
+const PATHS: [Ends; 8] = [
     (1, 5),
     (3, 5),
     (1, 6),
@@ -76,18 +80,22 @@ const PATHS: [(usize, usize); 8] = [
     (4, 8),
 ];
 
+// A choice of two edges a side between eight nodes.
+fn of_eight(rt: &impl Abort, alloc: Global, one: (Ends, Ends), two: (Ends, Ends)) -> Choice
+    ensures { JoinsBoth 8 result }
+{
+    let first = double(rt, alloc, 8, one.0, one.1);
+    Choice::new(first, double(rt, alloc, 8, two.0, two.1))
+}
+
 // Eight nodes and two choices of two edges a side; each way to decide both closes a cycle.
 fn eight_nodes(rt: &impl Abort, alloc: Global) -> Polygraph {
-    let known = known(rt, alloc, 8, &PATHS);
-    let zero = Choice::new(
-        double(rt, alloc, 8, (5, 2), (6, 2)),
-        double(rt, alloc, 8, (7, 1), (8, 1)),
-    );
-    let one = Choice::new(
-        double(rt, alloc, 8, (5, 4), (7, 4)),
-        double(rt, alloc, 8, (6, 3), (8, 3)),
-    );
-    Polygraph::new(known, vec![in alloc; zero, one].expect(rt, "memory"))
+    let mut choices = Vec::new(alloc);
+    let zero = of_eight(rt, alloc, ((5, 2), (6, 2)), ((7, 1), (8, 1)));
+    choices.push(zero).expect(rt, "memory");
+    let one = of_eight(rt, alloc, ((5, 4), (7, 4)), ((6, 3), (8, 3)));
+    choices.push(one).expect(rt, "memory");
+    Polygraph::new(known(rt, alloc, 8, &PATHS), choices)
 }
 
 // What pruning leaves, where that is not dead.
@@ -136,104 +144,152 @@ fn see_line(rt: &impl Abort, line: &NodeLine, want: &[usize]) {
 }
 
 fn words(rt: &impl Abort, alloc: Global) -> ByWords {
-    ByWords::new(vec![in alloc; 5, 2].expect(rt, "memory"))
+    let mut words = Vec::new(alloc);
+    words.push(5).expect(rt, "memory");
+    words.push(2).expect(rt, "memory");
+    ByWords::new(words)
+}
+
+// Two strategies, before a choice is decided and after it.
+fn see_in_turn(
+    rt: &impl Abort,
+    view: &mut CubeView<'_>,
+    by_words: &impl Strategy,
+    both: &impl Strategy,
+) {
+    see(rt, view, by_words, 1, Side::Two);
+    see(rt, view, both, 0, Side::One);
+    decide(rt, view, 0, Side::One);
+    see(rt, view, by_words, 1, Side::One);
+    see(rt, view, both, 1, Side::One);
+    view.restart();
+    assert_eq!(rt; view.depth(), 0);
 }
 
 #[test]
-fn strategies_by_words_and_in_turn(rt: HostRuntime) -> Result<(), Fail> {
+fn strategies_by_words_and_in_turn(rt: HostRuntime) {
     let rt = &rt;
     let alloc = rt.alloc();
     let reduced = reduced(rt, alloc, eight_nodes(rt, alloc));
-    let mut view = CubeView::new(alloc, &reduced)?;
-    let by_words = words(rt, alloc);
-    let both = Alternate::new(MostEdges, words(rt, alloc));
-    see(rt, &view, &by_words, 1, Side::Two);
+    let mut view = CubeView::new(alloc, &reduced).expect(rt, "memory");
     see(rt, &view, &ByWords::new(Vec::new(alloc)), 0, Side::One);
-    see(rt, &view, &both, 0, Side::One);
-    decide(rt, &mut view, 0, Side::One);
-    see(rt, &view, &by_words, 1, Side::One);
-    see(rt, &view, &both, 1, Side::One);
-    view.restart();
-    assert_eq!(rt; view.depth(), 0);
-    Ok(())
+    let both = Alternate::new(MostEdges, words(rt, alloc));
+    see_in_turn(rt, &mut view, &words(rt, alloc), &both);
+}
+
+// A choice of either order of two nodes of six.
+fn either(rt: &impl Abort, one: usize, two: usize) -> Choice
+    ensures { JoinsBoth 6 result }
+{
+    Choice::new(single(rt, 6, (one, two)), single(rt, 6, (two, one)))
+}
+
+// A choice of more edges.
+fn of_more(rt: &impl Abort, alloc: Global) -> Choice
+    ensures { JoinsBoth 6 result }
+{
+    Choice::new(double(rt, alloc, 6, (4, 5), (4, 6)), single(rt, 6, (5, 4)))
 }
 
 // Six nodes and choices of one edge a side between nodes 1 and 2, 2 and 3, 1 and 3, 3 and 1 again, and one of
 // more edges between 4, 5 and 6.
 fn six_nodes(rt: &impl Abort, alloc: Global) -> Polygraph {
-    let known = known(rt, alloc, 6, &[]);
-    let zero = Choice::new(single(rt, 6, (1, 2)), single(rt, 6, (2, 1)));
-    let one = Choice::new(single(rt, 6, (2, 3)), single(rt, 6, (3, 2)));
-    let two = Choice::new(single(rt, 6, (1, 3)), single(rt, 6, (3, 1)));
-    let three = Choice::new(single(rt, 6, (3, 1)), single(rt, 6, (1, 3)));
-    let four = Choice::new(double(rt, alloc, 6, (4, 5), (4, 6)), single(rt, 6, (5, 4)));
-    Polygraph::new(
-        known,
-        vec![in alloc; zero, one, two, three, four].expect(rt, "memory"),
-    )
+    let mut choices = Vec::new(alloc);
+    choices.push(either(rt, 1, 2)).expect(rt, "memory");
+    choices.push(either(rt, 2, 3)).expect(rt, "memory");
+    choices.push(either(rt, 1, 3)).expect(rt, "memory");
+    choices.push(either(rt, 3, 1)).expect(rt, "memory");
+    choices.push(of_more(rt, alloc)).expect(rt, "memory");
+    Polygraph::new(known(rt, alloc, 6, &[]), choices)
+}
+
+// Decides a choice for side one; the strategy by forced choices then picks another one.
+fn see_forced(rt: &impl Abort, view: &mut CubeView<'_>, decided: usize, forced: usize, side: Side)
+    ensures { view.new.polygraph ≡ view.old.polygraph }
+{
+    decide(rt, view, decided, Side::One);
+    see(rt, view, &Forced, forced, side);
+}
+
+// Decides one choice more, and goes back to what was saved before it.
+fn see_restored(rt: &impl Abort, alloc: Global, view: &mut CubeView<'_>) {
+    let saved = view.save(alloc).expect(rt, "memory");
+    see_forced(rt, view, 2, 3, Side::Two);
+    view.restore(&saved);
+    assert_eq!(rt; view.depth(), 2);
+    see(rt, view, &Forced, 2, Side::One);
 }
 
 #[test]
-fn forced_choices_are_picked_first(rt: HostRuntime) -> Result<(), Fail> {
+fn forced_choices_are_picked_first(rt: HostRuntime) {
     let rt = &rt;
     let alloc = rt.alloc();
     let reduced = reduced(rt, alloc, six_nodes(rt, alloc));
-    let mut view = CubeView::new(alloc, &reduced)?;
-    decide(rt, &mut view, 1, Side::One);
-    see(rt, &view, &Forced, 4, Side::One);
-    decide(rt, &mut view, 0, Side::One);
-    see(rt, &view, &Forced, 2, Side::One);
-    let saved = view.save(alloc)?;
-    decide(rt, &mut view, 2, Side::One);
-    see(rt, &view, &Forced, 3, Side::Two);
-    view.restore(&saved);
-    assert_eq!(rt; view.depth(), 2);
-    see(rt, &view, &Forced, 2, Side::One);
-    Ok(())
+    let mut view = CubeView::new(alloc, &reduced).expect(rt, "memory");
+    see_forced(rt, &mut view, 1, 4, Side::One);
+    see_forced(rt, &mut view, 0, 2, Side::One);
+    see_restored(rt, alloc, &mut view);
+}
+
+fn see_split(rt: &impl Abort, event: &Event, number: usize) {
+    match event {
+        Event::Split(choice) => assert_eq!(rt; choice.get(), number),
+        _ => panic!(rt; "no split"),
+    }
+}
+
+fn see_cycle(rt: &impl Abort, event: &Event, want: &[usize]) {
+    match event {
+        Event::Refute(line) => see_line(rt, line, want),
+        _ => panic!(rt; "no cycle"),
+    }
+}
+
+fn see_order(rt: &impl Abort, event: &Event, want: &[usize]) {
+    match event {
+        Event::Solve(line) => see_line(rt, line, want),
+        _ => panic!(rt; "no order"),
+    }
 }
 
 #[test]
-fn a_turn_splits_and_refutes(rt: HostRuntime) -> Result<(), Fail> {
+fn a_turn_splits_and_refutes(rt: HostRuntime) {
     let rt = &rt;
     let alloc = rt.alloc();
     let reduced = reduced(rt, alloc, eight_nodes(rt, alloc));
-    let mut view = CubeView::new(alloc, &reduced)?;
-    match turn(alloc, &reduced, &view, &FirstOpen)? {
-        Event::Split(choice) => assert_eq!(rt; choice.get(), 0),
-        _ => panic!(rt; "no split"),
-    }
+    let mut view = CubeView::new(alloc, &reduced).expect(rt, "memory");
+    let event = turn(alloc, &reduced, &view, &FirstOpen).expect(rt, "memory");
+    see_split(rt, &event, 0);
     decide(rt, &mut view, 0, Side::One);
     decide(rt, &mut view, 1, Side::Two);
-    match turn(alloc, &reduced, &view, &FirstOpen)? {
-        Event::Refute(line) => see_line(rt, &line, &[2, 8, 3, 5, 2]),
-        _ => panic!(rt; "no cycle"),
-    }
-    Ok(())
+    let event = turn(alloc, &reduced, &view, &FirstOpen).expect(rt, "memory");
+    see_cycle(rt, &event, &[2, 8, 3, 5, 2]);
 }
 
 #[test]
-fn nodes_that_reach_as_many_go_by_number(rt: HostRuntime) -> Result<(), Fail> {
+fn nodes_that_reach_as_many_go_by_number(rt: HostRuntime) {
     let rt = &rt;
     let alloc = rt.alloc();
     let polygraph = Polygraph::new(known(rt, alloc, 8, &PATHS), Vec::new(alloc));
     let reduced = reduced(rt, alloc, polygraph);
-    let view = CubeView::new(alloc, &reduced)?;
-    match turn(alloc, &reduced, &view, &FirstOpen)? {
-        Event::Solve(line) => see_line(rt, &line, &[1, 2, 3, 4, 5, 6, 7, 8]),
-        _ => panic!(rt; "no order"),
-    }
-    Ok(())
+    let view = CubeView::new(alloc, &reduced).expect(rt, "memory");
+    let event = turn(alloc, &reduced, &view, &FirstOpen).expect(rt, "memory");
+    see_order(rt, &event, &[1, 2, 3, 4, 5, 6, 7, 8]);
 }
 
 #[test]
 fn words_of_the_strategies(rt: HostRuntime) {
-    assert_eq!(rt; <FirstOpen as Strategy>::NAME, "first");
-    assert_eq!(rt; <MostEdges as Strategy>::NAME, "most");
-    assert_eq!(rt; <LeastEdges as Strategy>::NAME, "least");
-    assert_eq!(rt; <Forced as Strategy>::NAME, "forced");
-    assert_eq!(rt; <ByWords as Strategy>::NAME, "words");
-    assert_eq!(rt;
-        <Alternate<FirstOpen, MostEdges> as Strategy>::NAME,
-        "alternate"
-    );
+    for (name, want) in [
+        (<FirstOpen as Strategy>::NAME, "first"),
+        (<MostEdges as Strategy>::NAME, "most"),
+        (<LeastEdges as Strategy>::NAME, "least"),
+        (<Forced as Strategy>::NAME, "forced"),
+        (<ByWords as Strategy>::NAME, "words"),
+        (
+            <Alternate<FirstOpen, MostEdges> as Strategy>::NAME,
+            "alternate",
+        ),
+    ] {
+        assert_eq!(rt; name, want);
+    }
 }
