@@ -8,14 +8,14 @@ use pruning_laws::Side;
 use std::marker::Model;
 
 /// A choice and the side of it that a cube decides.
-#[derive(Clone, Copy, Debug, PartialEq, Eq)]
+#[derive(Clone, Copy)]
 pub struct Decision {
     pub choice: ChoiceIx,
     pub side: Side,
 }
 
 /// What became of the cube of a node.
-#[derive(Drop, Debug)]
+#[derive(Drop)]
 pub enum Growth {
     /// It is refuted by this cycle, its first node repeated last.
     Leaf(NodeLine),
@@ -30,7 +30,7 @@ pub enum Growth {
 }
 
 /// A node of a tree.
-#[derive(Drop, Debug)]
+#[derive(Drop)]
 pub struct TreeNode {
     /// The number of its parent, which of node 0 is 0.
     pub parent: usize,
@@ -41,7 +41,7 @@ pub struct TreeNode {
 
 /// A tree that shows that every cube is refuted: its nodes by their numbers, of which 0 is the root. Contracts
 /// see the nodes.
-#[derive(Drop, Debug)]
+#[derive(Drop)]
 pub struct Tree {
     nodes: Vec<TreeNode>,
 }

@@ -10,7 +10,7 @@ use pruning_laws::Side;
 use std::marker::Model;
 
 /// Goes by the one strategy at even depths, and by the other at odd ones.
-#[derive(Debug, Drop)]
+#[derive(Drop)]
 pub struct Alternate<A, B> {
     even: A,
     odd: B,

@@ -10,12 +10,12 @@ use pruning_laws::Side;
 
 /// Picks the open choice with the most edges on both sides together, of several the one of least number,
 /// and searches side one first.
-#[derive(Clone, Copy, Debug)]
+#[derive(Clone, Copy)]
 pub struct MostEdges;
 
 /// Picks the open choice with the fewest edges on both sides together, of several the one of least number,
 /// and searches side one first.
-#[derive(Clone, Copy, Debug)]
+#[derive(Clone, Copy)]
 pub struct LeastEdges;
 
 impl Strategy for MostEdges {

@@ -12,7 +12,7 @@ use std::marker::Model;
 /// Picks by the word at the depth, modulo the number of words: the open choice whose rank is the word modulo
 /// the number of open ones. Side one is searched first where the word is even. Without words the open
 /// choice of least number is picked, and side one is searched first.
-#[derive(Debug, Drop)]
+#[derive(Drop)]
 pub struct ByWords {
     words: Vec<u64>,
 }

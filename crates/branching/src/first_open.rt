@@ -9,7 +9,7 @@ use polygraph::ChoiceIx;
 use pruning_laws::Side;
 
 /// Picks the open choice of least number, and searches side one first.
-#[derive(Clone, Copy, Debug)]
+#[derive(Clone, Copy)]
 pub struct FirstOpen;
 
 impl Strategy for FirstOpen {

@@ -6,7 +6,7 @@ ghost use Rattle.cobra_formulas.specs.Formulas.{read_number, anomaly_number};
 use session_history::{Anomaly, ReadAnomaly};
 
 /// What the formula that belongs to a log is made from.
-#[derive(Clone, Copy, Debug, PartialEq, Eq)]
+#[derive(Clone, Copy)]
 pub enum Basis {
     /// An anomaly, by the number that it is printed with. The formula is the contradiction.
     Anomalous(u8),

@@ -6,7 +6,7 @@ use serializability::NodeIx;
 use std::marker::Model;
 
 /// The nodes of a cycle or of an order, one after the other.
-#[derive(Debug, Drop)]
+#[derive(Drop)]
 pub struct NodeLine {
     nodes: Vec<NodeIx>,
 }

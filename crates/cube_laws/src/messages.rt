@@ -20,7 +20,7 @@ pub enum Mark {
 }
 
 /// What a worker sends.
-#[derive(Drop, Debug)]
+#[derive(Drop)]
 pub enum Event {
     /// Asks for the cube of this node.
     Claim(usize),

@@ -4,7 +4,7 @@ use crate::origin::Origin;
 use cube_laws::Mark;
 
 /// A node of the tree: how it was led to, which is `None` for node 0, and what is noted of it.
-#[derive(Clone, Copy, Debug)]
+#[derive(Clone, Copy)]
 pub struct TreeNode {
     pub origin: Option<Origin>,
     pub mark: Mark,

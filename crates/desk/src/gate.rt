@@ -12,7 +12,7 @@ pub trait Gate: Sync {
 }
 
 /// A gate that lets everyone pass at once.
-#[derive(Clone, Copy, Debug)]
+#[derive(Clone, Copy)]
 pub struct OpenGate;
 
 impl Gate for OpenGate {

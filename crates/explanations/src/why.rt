@@ -5,7 +5,7 @@ use serializability::NodeIx;
 
 /// The chain of a key that begins with one writer stands before the one that begins with another. Keys are numbered from 0, in the
 /// order of their first appearance.
-#[derive(Clone, Copy, Debug, PartialEq, Eq)]
+#[derive(Clone, Copy)]
 pub struct ChainOrder {
     pub key: usize,
     /// The first writer of the chain that stands before the other.
@@ -15,7 +15,7 @@ pub struct ChainOrder {
 }
 
 /// Why one node stands before another.
-#[derive(Clone, Copy, Debug, PartialEq, Eq)]
+#[derive(Clone, Copy)]
 pub enum Why {
     /// The log shows it.
     Known(Reason),

@@ -11,7 +11,7 @@ use log_lines::{session_line_count, txn_line_count};
 use session_log::{Op, Session, Txn};
 
 /// Where a write stands.
-#[derive(Clone, Copy, Debug)]
+#[derive(Clone, Copy)]
 pub struct WriteAt {
     /// The place of its session among the sessions, from 0.
     pub session: usize,

@@ -18,7 +18,7 @@ use session_history::History;
 use std::alloc::{AllocError, Global};
 
 /// What an edge rests on.
-#[derive(Clone, Copy, Debug, PartialEq, Eq)]
+#[derive(Clone, Copy)]
 pub enum Ground {
     /// The log shows it.
     Known(Reason),
@@ -27,7 +27,7 @@ pub enum Ground {
 }
 
 /// The orders that a ledger's entries keep, and of each edge the first entry that keeps it.
-#[derive(Drop, Debug)]
+#[derive(Drop)]
 pub struct Grounds {
     pub nodes: usize,
     pub kept: Vec<ChainOrder>,

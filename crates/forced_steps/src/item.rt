@@ -4,7 +4,7 @@ use explanations::{ChainOrder, Why};
 use serializability::NodeIx;
 
 /// What is told of a history that has no order.
-#[derive(Clone, Copy, Debug, PartialEq, Eq)]
+#[derive(Clone, Copy)]
 pub enum Item {
     /// Forced step `number`, from 1: the chains stand in this order, since the other way round `source` stands before `target`, against
     /// the edges that follow.

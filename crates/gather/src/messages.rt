@@ -4,7 +4,7 @@ use crate::parsed::Parsed;
 use desk::seat_no::SeatNo;
 
 /// What a worker sends. Blocks are numbered from 0 in log order.
-#[derive(Debug, Drop)]
+#[derive(Drop)]
 pub enum Event<'a> {
     /// Asks for a block.
     Take,

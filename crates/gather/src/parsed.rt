@@ -13,7 +13,7 @@ use std::marker::Model;
 /// session, or its first fault, which is never `Memory`.
 ///
 /// `parse_piece` alone makes one. Contracts see the version, the bytes, the line and the outcome.
-#[derive(Debug, Drop)]
+#[derive(Drop)]
 pub struct Parsed<'a> {
     version: Version,
     slice: &'a [u8],

@@ -15,7 +15,7 @@ use session_history::History;
 use std::alloc::{AllocError, Global};
 
 /// A node, and the moment at which it ended.
-#[derive(Clone, Copy, Debug)]
+#[derive(Clone, Copy)]
 pub struct Ended {
     pub moment: u64,
     pub node: NodeIx,

@@ -3,7 +3,7 @@
 use serializability::Literal;
 
 /// What a formula says of "u before v".
-#[derive(Clone, Copy, Debug, PartialEq, Eq)]
+#[derive(Clone, Copy)]
 pub enum Term {
     /// It is known to be so.
     True,

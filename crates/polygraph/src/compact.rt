@@ -9,7 +9,7 @@ use reach_laws::Edge;
 use std::marker::Model;
 
 /// A choice whose sides are one edge each. It takes an eighth of the room of a `Choice`.
-#[derive(Debug, Drop)]
+#[derive(Drop)]
 pub struct Bipath {
     one: Edge,
     two: Edge,

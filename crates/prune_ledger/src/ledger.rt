@@ -5,7 +5,7 @@ use desk::seat_no::SeatNo;
 use serializability::NodeIx;
 
 /// A post that was entered, and the seat that sent it.
-#[derive(Drop, Debug)]
+#[derive(Drop)]
 pub struct LedgerEntry {
     pub seat: SeatNo,
     pub post: Refutation,
@@ -13,7 +13,7 @@ pub struct LedgerEntry {
 
 /// The posts that were entered, the oldest first, and, where the polygraph is dead, a cycle in its known
 /// edges and the sides that they keep, with its first node repeated last.
-#[derive(Drop, Debug)]
+#[derive(Drop)]
 pub struct Ledger {
     pub entries: Vec<LedgerEntry>,
     pub cycle: Option<Vec<NodeIx>>,

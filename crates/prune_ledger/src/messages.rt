@@ -16,7 +16,7 @@ pub struct Mark {
 
 /// Why a side of a choice is refuted: an edge of it, and the nodes of a walk against the edge, from its
 /// target to its source, both included.
-#[derive(Drop, Debug)]
+#[derive(Drop)]
 pub struct Refutation {
     pub choice: ChoiceIx,
     pub side: Side,
@@ -33,7 +33,7 @@ impl Model for Refutation {
 }
 
 /// What a worker sends.
-#[derive(Drop, Debug)]
+#[derive(Drop)]
 pub enum Event {
     /// Asks for a choice to judge.
     Take,

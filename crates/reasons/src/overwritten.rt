@@ -13,7 +13,7 @@ use serializability::{Event, NodeIx};
 use session_history::History;
 
 /// The first write of a key in a node, and the key.
-#[derive(Clone, Copy, Debug)]
+#[derive(Clone, Copy)]
 pub struct KeyWrite {
     pub key: usize,
     pub place: usize,

@@ -14,7 +14,7 @@ use session_history::History;
 use std::alloc::{AllocError, Global};
 
 /// Why a node stands before another in each serial order. Operations count from 0.
-#[derive(Clone, Copy, Debug, PartialEq, Eq)]
+#[derive(Clone, Copy)]
 pub enum Reason {
     /// Both are of one session.
     Session,

@@ -1,7 +1,7 @@
 //! An operation of a transaction, on a numbered key.
 
 /// A read or a write. Keys are numbered from 0, in the order of their first appearance in the log.
-#[derive(Clone, Copy, Debug, PartialEq, Eq)]
+#[derive(Clone, Copy, PartialEq, Eq)]
 pub enum Event {
     /// A read of the key that named the write with this identity, 0 for the initial value.
     Read { key: usize, wid: u64 },

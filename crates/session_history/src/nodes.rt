@@ -16,7 +16,7 @@ use std::alloc::{AllocError, Global};
 use std::collections::BTreeSet;
 
 /// A committed or taken transaction: the number of its session, its place in the session from 1, its operations, and its moments.
-#[derive(Debug, Drop)]
+#[derive(Drop)]
 pub struct Node {
     pub session: u16,
     pub place: usize,

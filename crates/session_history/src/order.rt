@@ -6,7 +6,7 @@ use serializability::NodeIx;
 use std::marker::Model;
 
 /// A list of nodes, nothing more: it may lack some of a history's nodes, or have others.
-#[derive(Debug, Drop)]
+#[derive(Drop)]
 pub struct Order {
     nodes: Vec<NodeIx>,
 }

@@ -11,7 +11,7 @@ use serializability::NodeIx;
 use std::alloc::{AllocError, Global};
 
 /// A key that a node reads externally, and the node that it reads it from.
-#[derive(Clone, Copy, Debug, PartialEq, Eq)]
+#[derive(Clone, Copy)]
 pub struct ReadFrom {
     pub key: usize,
     pub source: NodeIx,

@@ -11,14 +11,14 @@ use serializability::{Event, NodeIx};
 use std::alloc::{AllocError, Global};
 
 /// A node that reads a key externally, and the identity that it reads first.
-#[derive(Clone, Copy, Debug)]
+#[derive(Clone, Copy)]
 pub struct Reader {
     pub node: NodeIx,
     pub wid: u64,
 }
 
 /// The nodes that write a key, and those that read it externally, both ascending.
-#[derive(Debug, Drop)]
+#[derive(Drop)]
 pub struct Row {
     pub writers: Vec<NodeIx>,
     pub readers: Vec<Reader>,

@@ -9,7 +9,7 @@ use std::alloc::{AllocError, Global};
 use std::collections::BTreeMap;
 
 /// A write: its key, its node, which is 0 where its transaction counts as aborted, and whether it is the last of the key there.
-#[derive(Clone, Copy, Debug)]
+#[derive(Clone, Copy)]
 pub struct Written {
     pub key: usize,
     pub node: NodeIx,

@@ -11,14 +11,14 @@ use serializability::NodeIx;
 use std::alloc::{AllocError, Global};
 
 /// A node that waits to be visited. So many choices are decided at it.
-#[derive(Clone, Copy, Debug)]
+#[derive(Clone, Copy)]
 pub struct Place {
     pub node: usize,
     pub depth: usize,
 }
 
 /// A node that was visited, and whether it was told or left out.
-#[derive(Clone, Copy, Debug)]
+#[derive(Clone, Copy)]
 pub struct Visit {
     pub node: usize,
     pub depth: usize,

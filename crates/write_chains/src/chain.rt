@@ -14,7 +14,7 @@ use session_history::History;
 use std::alloc::{AllocError, Global};
 
 /// A chain of a key: its first and its last writer, and the nodes that read the key from the last, ascending.
-#[derive(Debug, Drop)]
+#[derive(Drop)]
 pub struct Chain {
     pub head: NodeIx,
     pub tail: NodeIx,
@@ -23,7 +23,7 @@ pub struct Chain {
 
 /// The chains of a key: that which begins with the initial transaction, and the others by their heads. Beside them the readers
 /// of each node that the key is read from.
-#[derive(Debug, Drop)]
+#[derive(Drop)]
 pub struct KeyChains {
     pub initial: Chain,
     pub others: Vec<Chain>,

@@ -10,7 +10,7 @@ use serializability::numbers::node;
 use std::alloc::{AllocError, Global};
 
 /// The nodes that read a key from one node, ascending.
-#[derive(Debug, Drop)]
+#[derive(Drop)]
 pub struct Group {
     pub source: NodeIx,
     pub readers: Vec<NodeIx>,

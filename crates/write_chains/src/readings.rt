@@ -13,7 +13,7 @@ use session_history::{History, ReadFrom};
 use std::alloc::{AllocError, Global};
 
 /// A node that reads a key externally, and the node that it reads it from.
-#[derive(Clone, Copy, Debug, PartialEq, Eq)]
+#[derive(Clone, Copy)]
 pub struct Reading {
     pub reader: NodeIx,
     pub source: NodeIx,
