@@ -200,31 +200,9 @@ length_joined : (xs ys : List Posted) → length (xs ++ ys) ≡ length xs + leng
 length_joined [] ys = omega arith
 length_joined (x ∷ xs) ys = (let i = length_joined xs ys in omega (arith, i))
 
-nothing : (xs : List Posted) → length xs ≡ 0 → xs ≡ []
-nothing [] e = refl
-nothing (x ∷ xs) e = absurd (omega (arith, e))
-
-no_right : (xs : List Posted) → xs ++ [] ≡ xs
-no_right [] = refl
-no_right (x ∷ xs) = ap (λ l. x ∷ l) (no_right xs)
-
 pub no_fewer : (entries next : List LedgerEntry) (posts : List Posted) → posts_in next ≡ posts_in entries ++ posts → length entries ≤ length next
 no_fewer entries next posts more =
     let a = ap length more in let b = length_joined (posts_in entries) posts in let d = length_posts entries in let e = length_posts next in omega (arith, a, b, d, e)
-
--- where no entry came, the sides kept are the same
-pub same_kept : (entries next : List LedgerEntry) (posts : List Posted) → posts_in next ≡ posts_in entries ++ posts → length next ≤ length entries → kept_by entries ≡ kept_by next
-same_kept entries next posts more le =
-    let a = ap length more in let b = length_joined (posts_in entries) posts in let d = length_posts entries in let e = length_posts next in
-    let none = nothing posts (omega (arith, a, b, d, e, le)) in
-    ap (kept_after []) (sym (more ∙ ap (λ l. posts_in entries ++ l) none ∙ no_right (posts_in entries)))
-
-pub graph_same : (p : Polygraph) (entries next : List LedgerEntry) (graph : Graph) → kept_by entries ≡ kept_by next → IsGraphOf p (kept_by entries) graph → IsGraphOf p (kept_by next) graph
-graph_same p entries next graph e g = record {
-  nodes = g.nodes;
-  from = subst (λ (k : List Kept). (x : Edge) → Contains graph.edges x → Contains (edges_after p k) x) e g.from;
-  to = subst (λ (k : List Kept). (x : Edge) → Contains (edges_after p k) x → Contains graph.edges x) e g.to;
-}
 
 pub progress_first : (p : Polygraph) → IsWhole p → (s : State) → s ≡ opening_state p.choices (record { nodes = p.nodes; edges = p.known }) → IsProgress p [] s
 progress_first p whole s e = record { grown = subst (λ (x : State). Grown p [] x) (sym e) (grown_opening p whole (opening_state p.choices (record { nodes = p.nodes; edges = p.known })) (opens p)); shown = tt }

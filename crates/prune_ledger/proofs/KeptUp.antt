@@ -92,17 +92,27 @@ kept_next earlier entries k x lt is =
     ∙ ap (kept_after earlier) (posts_append (take k entries) (x ∷ []))
     ∙ kept_append earlier (posts_in (take k entries)) (x.post ∷ []))
 
-posts_drop : (n : ℕ) (xs : List LedgerEntry) → posts_in (drop n xs) ≡ drop n (posts_in xs)
-posts_drop zero xs = refl
-posts_drop (suc n) [] = refl
-posts_drop (suc n) (x ∷ xs) = posts_drop n xs
-
-behind : (entries : List LedgerEntry) (posts : List Posted) → drop (length entries) (posts_in entries ++ posts) ≡ posts
-behind [] posts = refl
-behind (x ∷ xs) posts = behind xs posts
+parts : (n : ℕ) (xs : List LedgerEntry) → posts_in xs ≡ posts_in (take n xs) ++ posts_in (drop n xs)
+parts zero xs = refl
+parts (suc n) [] = refl
+parts (suc n) (x ∷ xs) = ap (λ l. x.post ∷ l) (parts n xs)
 
 -- the entries behind the earlier ones keep the rest
-pub kept_rest : (entries next : List LedgerEntry) (posts : List Posted) (n : ℕ) → n ≡ length entries → posts_in next ≡ posts_in entries ++ posts → kept_after (kept_by entries) (posts_in (drop n next)) ≡ kept_by next
-kept_rest entries next posts n is more =
-    ap (kept_after (kept_by entries)) (posts_drop n next ∙ (λ i. drop (is i) (more i)) ∙ behind entries posts)
-    ∙ sym (ap (kept_after []) more ∙ kept_append [] (posts_in entries) posts)
+pub kept_rest : (n : ℕ) (entries : List LedgerEntry) → kept_after (kept_by (take n entries)) (posts_in (drop n entries)) ≡ kept_by entries
+kept_rest n entries = sym (ap (kept_after []) (parts n entries) ∙ kept_append [] (posts_in (take n entries)) (posts_in (drop n entries)))
+
+posts_take : (n : ℕ) (xs : List LedgerEntry) → posts_in (take n xs) ≡ take n (posts_in xs)
+posts_take zero xs = refl
+posts_take (suc n) [] = refl
+posts_take (suc n) (x ∷ xs) = ap (λ l. x.post ∷ l) (posts_take n xs)
+
+ahead : (entries : List LedgerEntry) (posts : List Posted) → take (length entries) (posts_in entries ++ posts) ≡ posts_in entries
+ahead [] posts = refl
+ahead (x ∷ xs) posts = ap (λ l. x.post ∷ l) (ahead xs posts)
+
+-- the earlier ones keep what they kept
+pub graph_ahead : (p : Polygraph) (entries next : List LedgerEntry) (posts : List Posted) (n : ℕ) (graph : Graph) → n ≡ length entries → posts_in next ≡ posts_in entries ++ posts
+    → IsGraphOf p (kept_by entries) graph → IsGraphOf p (kept_by (take n next)) graph
+graph_ahead p entries next posts n graph is more g =
+    let same = posts_take n next ∙ (λ i. take (is i) (more i)) ∙ ahead entries posts in
+    subst (λ (k : List Kept). IsGraphOf p k graph) (sym (ap (kept_after []) same)) g

@@ -1,12 +1,12 @@
 //! Rounds of pruning.
 
-ghost use Rattle.std.specs.Prelude.{◌≡◌, List, [], ◌∷◌, IfOk};
+ghost use Rattle.std.specs.Prelude.{◌≡◌, List, ◌∷◌, IfOk};
 ghost use Rattle.reach_laws.specs.Reach.{IsCyclic};
 ghost use Rattle.prune_ledger.specs.Runs.{IsWhole};
-ghost use Rattle.pruning_laws.specs.Ledger.{Entry as Kept, IsLedger};
-ghost use Rattle.prune_ledger.specs.Ledger.{AreShown, kept_after, kept_side};
+ghost use Rattle.pruning_laws.specs.Ledger.{Entry as Kept};
+ghost use Rattle.prune_ledger.specs.Ledger.{kept_after, kept_side};
 ghost use Rattle.prune_ledger.specs.Pruned.{posts_in, kept_by, IsProgress, IsGraphOf, IsLast, IsRemainder, IsDeadBy};
-ghost use Rattle.prune_ledger.specs.Outcome.{IsStage, IsPruning};
+ghost use Rattle.prune_ledger.specs.Outcome.{IsEnded, IsStage, IsPruning};
 
 use crate::copies::copy_choices;
 use crate::crew::{Round, round_of};
@@ -35,6 +35,15 @@ pub struct Progress {
     pub machine: PruneMachine,
     pub entries: Vec<LedgerEntry>,
     pub own: RowedGraph,
+}
+
+/// A round that has ended: how things stand behind it, but for the graph, which has no edges of it yet; how many entries stood before it; and a
+/// flag for each choice that a worker passed.
+#[derive(Drop)]
+pub struct Ended {
+    pub progress: Progress,
+    pub before: usize,
+    pub passed: Vec<bool>,
 }
 
 /// Where a round led.
@@ -101,16 +110,34 @@ fn next_stage<G: Gate, R: Threads + Wait + Clock + Sync>(
     requires graph { IsGraphOf polygraph.now (kept_by progress.entries.items) progress.own }
     ensures { IfOk result (IsStage polygraph.now) }
 {
+    if progress.own.rows().cyclic() {
+        let ledger = with_cycle(alloc, polygraph, progress)?;
+        return Ok(Stage::Done(Pruned::Dead(ledger)));
+    }
+    let ended = one_round(rt, alloc, polygraph, progress, workers, gate)?;
+    stage_after(alloc, polygraph, ended)
+}
+
+// A round of the workers.
+fn one_round<G: Gate, R: Threads + Wait + Clock + Sync>(
+    rt: &R,
+    alloc: Global,
+    polygraph: &Polygraph,
+    progress: Progress,
+    workers: Workers,
+    gate: &G,
+) -> Result<Ended, AllocError>
+    requires machine { IsProgress polygraph.now progress.entries.items progress.machine }
+    requires graph { IsGraphOf polygraph.now (kept_by progress.entries.items) progress.own }
+    requires acyclic { IsCyclic progress.own.edges → ⊥ }
+    ensures { IfOk result (IsEnded polygraph.now) }
+{
     let _nodes = polygraph.nodes();
     let Progress {
         machine,
         entries,
-        mut own,
+        own,
     } = progress;
-    if own.rows().cyclic() {
-        let ledger = with_cycle(alloc, polygraph, own.graph(), entries)?;
-        return Ok(Stage::Done(Pruned::Dead(ledger)));
-    }
     let before = entries.len();
     let opened = Opened::new(alloc, machine.reopened(), workers)?;
     let Round { closed, passed } = round_of::<Brand, _, _>(
@@ -124,6 +151,33 @@ fn next_stage<G: Gate, R: Threads + Wait + Clock + Sync>(
     )?;
     let Closed { machine, history } = closed;
     let entries = with_entered(entries, history)?;
+    Ok(Ended {
+        progress: Progress {
+            machine,
+            entries,
+            own,
+        },
+        before,
+        passed,
+    })
+}
+
+// Where a round that has ended led: to another one, where it entered something or a choice is not settled.
+fn stage_after(alloc: Global, polygraph: &Polygraph, ended: Ended) -> Result<Stage, AllocError>
+    requires ended { IsEnded polygraph.now ended }
+    ensures { IfOk result (IsStage polygraph.now) }
+{
+    let _nodes = polygraph.nodes();
+    let Ended {
+        progress,
+        before,
+        passed,
+    } = ended;
+    let Progress {
+        machine,
+        entries,
+        mut own,
+    } = progress;
     if entries.len() > before || !machine.is_settled(&passed) {
         let (_, entered) = entries.split_at(before);
         keep_all(&mut own, polygraph, entered);
@@ -166,16 +220,19 @@ fn keep(own: &mut RowedGraph, polygraph: &Polygraph, post: &Refutation)
 fn with_cycle(
     alloc: Global,
     polygraph: &Polygraph,
-    known: &Known,
-    entries: Vec<LedgerEntry>,
+    progress: Progress,
 ) -> Result<Ledger, AllocError>
-    requires shown { AreShown polygraph.now [] (posts_in entries.items) }
-    requires ledger { IsLedger polygraph.now (kept_by entries.items) }
-    requires graph { IsGraphOf polygraph.now (kept_by entries.items) known.now }
-    requires cyclic { IsCyclic known.now.edges }
+    requires machine { IsProgress polygraph.now progress.entries.items progress.machine }
+    requires graph { IsGraphOf polygraph.now (kept_by progress.entries.items) progress.own }
+    requires cyclic { IsCyclic progress.own.edges }
     ensures { IfOk result (IsDeadBy polygraph.now) }
 {
-    let Some(line) = known.find_cycle(alloc)? else {
+    let Progress {
+        machine: _machine,
+        entries,
+        own,
+    } = progress;
+    let Some(line) = own.graph().find_cycle(alloc)? else {
         unreachable!()
     };
     Ok(Ledger {

@@ -1,0 +1,34 @@
+use Rattle.std.proofs.Common.{◌≤◌, ◌∙◌, List, length, take, drop, sym, ap, subst, refl, arith}
+use Rattle.std.proofs.lemmas.List.{take_all}
+use Rattle.pruning_laws.specs.Ledger.{Entry as Kept}
+use Rattle.reach_laws.specs.Reach.{Graph, IsCyclic}
+use Rattle.reach_rows.specs.ReachRows.{AreRowsOf}
+use Rattle.prune_ledger.specs.Ledger.{kept_after}
+use Rattle.prune_ledger.specs.Pruned.{IsGraphOf, AreOpen, AreSettled, kept_by, posts_in}
+use Rattle.prune_ledger.proofs.KeptUp.{kept_rest}
+use Rattle.prune_ledger.proofs.rounds.stage_after.Goals as goal
+
+pub returns-then-len-before : goal.returns-then-len-before
+returns-then-len-before c =
+    let e = c.args.ended in let entries = e.progress.entries.items in (
+      c.requires.ended.progress,
+      subst (λ (k : List Kept). IsGraphOf c.args.polygraph.now k c.keep_all.new.own)
+          (ap (λ l. kept_after (kept_by (take e.before entries)) (posts_in l)) (c.split_at.ensures.back ∙ ap (drop e.before) c.deref-then-len-before.ensures.value) ∙ kept_rest e.before entries)
+          (c.keep_all.ensures.kept (kept_by (take e.before entries)) c.requires.ended.graph),
+    )
+
+pub remainder-requires-clause-last : goal.remainder-requires-clause-last
+remainder-requires-clause-last c =
+    let p = c.args.polygraph.now in let e = c.args.ended in let entries = e.progress.entries.items in
+    let own = c.into_parts-known.ensures.graph in
+    let flags = c.deref-2.ensures.value in
+    let few : length entries ≤ e.before = let a = c.len.ensures in let d = e.progress.entries.ok.0 in let f = c.if-len-before.false in omega (arith, a, d, f) in
+    record {
+      progress = c.requires.ended.progress;
+      graph_of = subst (IsGraphOf p (kept_by entries)) (sym own) (subst (λ (l : List _). IsGraphOf p (kept_by l) e.progress.own) (take_all e.before entries few) c.requires.ended.graph);
+      acyclic = subst (λ (g : Graph). IsCyclic g.edges → ⊥) (sym own) c.requires.ended.acyclic;
+      rows_of = subst (λ g. AreRowsOf c.into_parts-known.result.1 g) (sym own) c.into_parts-known.ensures.rows;
+      flagged = ap length flags ∙ c.requires.ended.flagged;
+      open_in = subst (λ (g : Graph). AreOpen g.edges p.choices c.deref-2.result.now) (sym own) (subst (AreOpen e.progress.own.edges p.choices) (sym flags) c.requires.ended.open_in);
+      settled = subst (AreSettled e.progress.machine.marks) (c.deref.ensures.value ∙ sym flags) (c.if-not-is_settled.ensures refl);
+    }
