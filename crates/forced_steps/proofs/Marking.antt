@@ -1,5 +1,5 @@
 -- Marks of entries, as edges, lines and walks are looked at.
-use Rattle.std.proofs.Common.{◌≡◌, ℕ, zero, suc, ◌+◌, ◌<◌, ◌≤◌, Bool, true, false, List, [], ◌∷◌, length, get_or, set, take, None, Some, ◌⊎◌, refl, sym, ap, ◌∙◌, subst, inl, inr, arith, Bor}
+use Rattle.std.proofs.Common.{◌≡◌, ℕ, zero, suc, ◌+◌, ◌<◌, ◌≤◌, Bool, true, false, List, [], ◌∷◌, length, get_or, set, take, replicate, None, Some, ◌⊎◌, refl, sym, ap, ◌∙◌, subst, inl, inr, arith, Bor}
 use Rattle.std.specs.Prelude.{slice_get}
 use Rattle.std.specs.List.{All, Contains}
 use Rattle.std.proofs.lemmas.Bool.{cases_eq, cases_lt, false≢true}
@@ -174,6 +174,12 @@ pub lines_only : (ss : List ClientSession) (sides : Sides) (first old new : List
 lines_only ss sides first old new lines i l lt is m h =
     let here : Contains lines l = (i, lt, sym is) in
     record { each = λ k t. elim (m.only.each k t) [ inl before ↦ h.each k before | inr n ↦ inr (record { line = l; among = here; edge = n }) ] }
+
+-- nothing is marked in a table as it is made
+pub none_set : (n k : ℕ) → is_set (replicate n false) k ≡ false
+none_set zero k = refl
+none_set (suc n) zero = refl
+none_set (suc n) (suc k) = none_set n k
 
 -- what is marked at the end, where nothing was before
 pub all_needed : (ss : List ClientSession) (sides : Sides) (entries : List LedgerEntry) (lines : List (Bor (List ℕ))) (first mid new : List Bool) → ((k : ℕ) → is_set first k ≡ true → ⊥)
