@@ -196,33 +196,50 @@ fn required_file<'a>(alloc: Global, name: &'a str, help: &'a str) -> Arg<'a> {
         .action(ArgAction::Set)
 }
 
+/// A command that several workers take part in, with the log as its last word.
+fn with_workers<'a>(
+    alloc: Global,
+    command: clap::Command<'a>,
+) -> Result<clap::Command<'a>, AllocError> {
+    command.arg(workers(alloc))?.arg(log_file(alloc))
+}
+
+/// Such a command that works on a formula.
+fn with_formula<'a>(
+    alloc: Global,
+    command: clap::Command<'a>,
+) -> Result<clap::Command<'a>, AllocError> {
+    with_workers(alloc, command.arg(plain(alloc))?)
+}
+
+/// Such a command that searches.
+fn with_search<'a>(
+    alloc: Global,
+    command: clap::Command<'a>,
+) -> Result<clap::Command<'a>, AllocError> {
+    with_workers(alloc, command.arg(strategy(alloc))?.arg(budget(alloc))?)
+}
+
 fn encode<'a>(alloc: Global) -> Result<clap::Command<'a>, AllocError> {
-    clap::Command::new(alloc, "encode")
+    let command = clap::Command::new(alloc, "encode")
         .about("Write the formula of a log as DIMACS text")
-        .after_help(ANSWERS_OF_ENCODE)
-        .arg(plain(alloc))?
-        .arg(workers(alloc))?
-        .arg(log_file(alloc))
+        .after_help(ANSWERS_OF_ENCODE);
+    with_formula(alloc, command)
 }
 
 fn decode<'a>(alloc: Global) -> Result<clap::Command<'a>, AllocError> {
-    clap::Command::new(alloc, "decode")
+    let command = clap::Command::new(alloc, "decode")
         .about("Turn a solver's answer into a serial order")
         .after_help(ANSWERS_OF_DECODE)
-        .arg(required_file(alloc, "model", "The solver's answer"))?
-        .arg(plain(alloc))?
-        .arg(workers(alloc))?
-        .arg(log_file(alloc))
+        .arg(required_file(alloc, "model", "The solver's answer"))?;
+    with_formula(alloc, command)
 }
 
 fn check<'a>(alloc: Global) -> Result<clap::Command<'a>, AllocError> {
-    clap::Command::new(alloc, "check")
+    let command = clap::Command::new(alloc, "check")
         .about("Decide whether some serial order explains a log")
-        .after_help(ANSWERS_OF_CHECK)
-        .arg(strategy(alloc))?
-        .arg(budget(alloc))?
-        .arg(workers(alloc))?
-        .arg(log_file(alloc))
+        .after_help(ANSWERS_OF_CHECK);
+    with_search(alloc, command)
 }
 
 fn verify<'a>(alloc: Global) -> Result<clap::Command<'a>, AllocError> {
@@ -234,38 +251,41 @@ fn verify<'a>(alloc: Global) -> Result<clap::Command<'a>, AllocError> {
 }
 
 fn stats<'a>(alloc: Global) -> Result<clap::Command<'a>, AllocError> {
-    clap::Command::new(alloc, "stats")
+    let command = clap::Command::new(alloc, "stats")
         .about("Write how large a log and its formula are")
-        .after_help(ANSWERS_OF_STATS)
-        .arg(plain(alloc))?
-        .arg(workers(alloc))?
-        .arg(log_file(alloc))
+        .after_help(ANSWERS_OF_STATS);
+    with_formula(alloc, command)
 }
 
 fn explain<'a>(alloc: Global) -> Result<clap::Command<'a>, AllocError> {
-    clap::Command::new(alloc, "explain")
+    let command = clap::Command::new(alloc, "explain")
         .about("Say why no serial order explains a log")
         .after_help(ANSWERS_OF_EXPLAIN)
-        .arg(format(alloc))?
-        .arg(strategy(alloc))?
-        .arg(budget(alloc))?
-        .arg(workers(alloc))?
-        .arg(log_file(alloc))
+        .arg(format(alloc))?;
+    with_search(alloc, command)
+}
+
+/// A program with one command more, where both could be made.
+fn with_command<'a>(
+    program: Result<clap::Command<'a>, AllocError>,
+    command: Result<clap::Command<'a>, AllocError>,
+) -> Result<clap::Command<'a>, AllocError> {
+    program?.subcommand(command?)
 }
 
 fn program<'a>(alloc: Global) -> Result<clap::Command<'a>, AllocError> {
-    clap::Command::new(alloc, "cobra_poly")
+    let program = clap::Command::new(alloc, "cobra_poly")
         .about(
             "Decides by a formula whether some serial order explains what the clients of a store saw",
         )
         .version(VERSION)
-        .subcommand_required(true)
-        .subcommand(encode(alloc)?)?
-        .subcommand(decode(alloc)?)?
-        .subcommand(check(alloc)?)?
-        .subcommand(verify(alloc)?)?
-        .subcommand(stats(alloc)?)?
-        .subcommand(explain(alloc)?)
+        .subcommand_required(true);
+    let program = with_command(Ok(program), encode(alloc));
+    let program = with_command(program, decode(alloc));
+    let program = with_command(program, check(alloc));
+    let program = with_command(program, verify(alloc));
+    let program = with_command(program, stats(alloc));
+    with_command(program, explain(alloc))
 }
 
 /// The file that holds the log, and nothing for standard input.
