@@ -1,5 +1,5 @@
 use dimacs::{AnswerFault, Counted, SolverAnswer, WriteFault, read_answer, write_formula};
-use order_cnf::contradiction;
+use order_cnf::{Formula, contradiction};
 use std::alloc::Global;
 use std::io;
 use std::io::{ErrorKind, Write};
@@ -42,27 +42,37 @@ fn sink_of(alloc: Global, good: usize) -> Counted<Drip> {
 
 const CONTRADICTION: &str = "p cnf 1 2\n1 0\n-1 0\n";
 
-// All of the text goes out, or as much of it as was put before the sink failed.
-#[test]
-fn each_put_fails_in_turn(rt: HostRuntime) -> Result<(), Fail> {
-    let formula = contradiction(rt.alloc())?;
+// As much of the text goes out as was put before the sink failed.
+fn see_failing(rt: &impl Abort, alloc: Global, formula: &Formula, good: usize) {
     let text = CONTRADICTION.as_bytes();
-    for good in 0..text.len() {
-        let mut failing = sink_of(rt.alloc(), good);
-        let result = write_formula(&mut failing, &formula);
-        assert_eq!(rt;
-            result,
-            Err(WriteFault {
-                written: good as u64
-            })
-        );
-        assert_eq!(rt; failing.writer.taken.as_slice(), &text[..good]);
-        assert_eq!(rt; failing.failures, 1);
+    assert!(rt; good < text.len());
+    let mut sink = sink_of(alloc, good);
+    let written = good as u64;
+    assert_eq!(rt;
+        write_formula(&mut sink, formula),
+        Err(WriteFault { written })
+    );
+    assert_eq!(rt; sink.writer.taken.as_slice(), &text[..good]);
+    assert_eq!(rt; sink.failures, 1);
+}
+
+// All of the text goes out.
+fn see_sound(rt: &impl Abort, alloc: Global, formula: &Formula) {
+    let text = CONTRADICTION.as_bytes();
+    let mut sink = sink_of(alloc, text.len());
+    assert_eq!(rt; write_formula(&mut sink, formula), Ok(()));
+    assert_eq!(rt; sink.writer.taken.as_slice(), text);
+}
+
+#[test]
+fn each_put_fails_in_turn(rt: HostRuntime) {
+    let rt = &rt;
+    let alloc = rt.alloc();
+    let formula = contradiction(alloc).expect(rt, "memory");
+    for good in 0..CONTRADICTION.len() {
+        see_failing(rt, alloc, &formula, good);
     }
-    let mut sound = sink_of(rt.alloc(), text.len());
-    assert_eq!(rt; write_formula(&mut sound, &formula), Ok(()));
-    assert_eq!(rt; sound.writer.taken.as_slice(), text);
-    Ok(())
+    see_sound(rt, alloc, &formula);
 }
 
 const FIRST: &str = "s SATISFIABLE\nv 1 -2 3 0\n";
