@@ -2,6 +2,8 @@
 //! sparse ones, `graph_bench log FILE` the history of a log, and `graph_bench prune FILE` lists what pruning keeps.
 #![tactic(auto)]
 
+ghost use Rattle.std.specs.Prelude.{◌≡◌};
+ghost use Rattle.known_graph.specs.Graphs.{arc_graph};
 ghost use Rattle.serializability.specs.Reads.{IsClean};
 ghost use Rattle.log_definitions.specs.Numbers.{log_of};
 
@@ -25,7 +27,7 @@ use std::sync::Wait;
 use std::thread::Threads;
 use std::time::{Clock, Instant};
 use std::{env, fs, io};
-use write_chains::chains;
+use write_chains::{Chains, chains};
 
 /// Prints how long something took.
 fn told<R: Print + Clock>(rt: &R, what: &str, start: Instant) -> io::Result<()> {
@@ -86,9 +88,10 @@ fn sparse_backwards(alloc: Global) -> io::Result<Known> {
 }
 
 /// The same graph with an edge from the last node to the one before it.
-fn with_a_late_cycle(mut known: Known) -> Known {
+fn with_a_late_cycle(made: io::Result<Known>) -> io::Result<Known> {
+    let mut known = made?;
     add(&mut known, MAX_NODES, MAX_NODES - 1);
-    known
+    Ok(known)
 }
 
 fn time_cycle<R: Print + Clock>(rt: &R, alloc: Global, known: &Known) -> io::Result<()> {
@@ -124,6 +127,29 @@ fn time_walk<R: Print + Clock>(
     told(rt, what, start)
 }
 
+/// Times the rows of a graph that so many workers compute.
+fn time_computed<R: Runtime + Threads + Wait + Sync>(
+    rt: &R,
+    alloc: Global,
+    known: &Known,
+    count: u8,
+) -> io::Result<()> {
+    let Some(workers) = Workers::new(count) else {
+        return Ok(());
+    };
+    let start = Instant::now(rt)?;
+    let _ = Rows::compute(rt, alloc, known, workers, &OpenGate)?;
+    println!(rt; "workers: {count}")?;
+    told(rt, "rows, computed", start)
+}
+
+fn time_copy<R: Print + Clock>(rt: &R, alloc: Global, rows: &Rows) -> io::Result<()> {
+    let start = Instant::now(rt)?;
+    let copy = rows.copy(alloc)?;
+    let _ = copy.cyclic();
+    told(rt, "rows, copied", start)
+}
+
 fn time_rows<R: Runtime + Threads + Wait + Sync>(
     rt: &R,
     alloc: Global,
@@ -132,44 +158,54 @@ fn time_rows<R: Runtime + Threads + Wait + Sync>(
     let start = Instant::now(rt)?;
     let rows = Rows::plain(alloc, known)?;
     told(rt, "rows, plain", start)?;
-    for count in [1u8, 2, 4] {
-        if let Some(workers) = Workers::new(count) {
-            let start = Instant::now(rt)?;
-            let _ = Rows::compute(rt, alloc, known, workers, &OpenGate)?;
-            println!(rt; "workers: {count}")?;
-            told(rt, "rows, computed", start)?;
-        }
+    for count in [1, 2, 4] {
+        time_computed(rt, alloc, known, count)?;
     }
-    let start = Instant::now(rt)?;
-    let copy = rows.copy(alloc)?;
-    let _ = copy.cyclic();
-    told(rt, "rows, copied", start)
+    time_copy(rt, alloc, &rows)
 }
 
+/// Times what is done with a graph, where it could be made.
 fn time_graph<R: Runtime + Threads + Wait + Sync>(
     rt: &R,
     alloc: Global,
     what: &str,
-    known: &Known,
+    made: io::Result<Known>,
 ) -> io::Result<()> {
+    let known = made?;
     println!(rt; "{what}:")?;
-    time_cycle(rt, alloc, known)?;
-    time_walk(rt, alloc, known, (1, MAX_NODES))?;
-    time_walk(rt, alloc, known, (2, 1))?;
-    time_rows(rt, alloc, known)
+    time_cycle(rt, alloc, &known)?;
+    time_walk(rt, alloc, &known, (1, MAX_NODES))?;
+    time_walk(rt, alloc, &known, (2, 1))?;
+    time_rows(rt, alloc, &known)
+}
+
+/// Times how a cycle is looked for in a graph, where it could be made.
+fn time_cycle_of<R: Print + Clock>(
+    rt: &R,
+    alloc: Global,
+    what: &str,
+    made: io::Result<Known>,
+) -> io::Result<()> {
+    let known = made?;
+    println!(rt; "{what}:")?;
+    time_cycle(rt, alloc, &known)
 }
 
 fn time_graphs<R: Runtime + Threads + Wait + Sync>(rt: &R, alloc: Global) -> io::Result<()> {
-    let known = dense(alloc)?;
-    time_graph(rt, alloc, "each to each greater one", &known)?;
-    time_graph(rt, alloc, "each to each other one", &complete(alloc)?)?;
-    time_graph(rt, alloc, "three edges from each", &sparse(alloc)?)?;
-    println!(rt; "three edges from each, backwards:")?;
-    time_cycle(rt, alloc, &sparse_backwards(alloc)?)?;
-    println!(rt; "each to each greater one, and a late cycle:")?;
-    time_cycle(rt, alloc, &with_a_late_cycle(known))?;
-    println!(rt; "three edges from each, and a late cycle:")?;
-    time_cycle(rt, alloc, &with_a_late_cycle(sparse(alloc)?))
+    time_graph(rt, alloc, "each to each greater one", dense(alloc))?;
+    time_graph(rt, alloc, "each to each other one", complete(alloc))?;
+    time_graph(rt, alloc, "three edges from each", sparse(alloc))?;
+    let backwards = sparse_backwards(alloc);
+    time_cycle_of(rt, alloc, "three edges from each, backwards", backwards)?;
+    let late = with_a_late_cycle(dense(alloc));
+    time_cycle_of(
+        rt,
+        alloc,
+        "each to each greater one, and a late cycle",
+        late,
+    )?;
+    let late = with_a_late_cycle(sparse(alloc));
+    time_cycle_of(rt, alloc, "three edges from each, and a late cycle", late)
 }
 
 fn time_bipaths<R: Print + Clock>(rt: &R, alloc: Global, history: &History) -> io::Result<()>
@@ -193,12 +229,27 @@ fn time_chains<R: Print + Clock>(rt: &R, alloc: Global, history: &History) -> io
     let known = Known::of(alloc, history)?;
     told(rt, "arcs", start)?;
     let start = Instant::now(rt)?;
-    let Ok(found) = chains(alloc, history)? else {
-        return println!(rt; "a chain closes on itself");
-    };
+    let found = chains(alloc, history)?;
     told(rt, "chains", start)?;
+    match found {
+        Ok(found) => time_coalescing(rt, alloc, history, &found, known),
+        Err(_) => println!(rt; "a chain closes on itself"),
+    }
+}
+
+fn time_coalescing<R: Print + Clock>(
+    rt: &R,
+    alloc: Global,
+    history: &History,
+    chains: &Chains<'_>,
+    known: Known,
+) -> io::Result<()>
+    requires clean { IsClean (log_of history.now) }
+    requires chains { chains.now ≡ history.now }
+    requires arcs { known ≡ arc_graph (log_of history.now) }
+{
     let start = Instant::now(rt)?;
-    match coalesce(alloc, history, &found, known) {
+    match coalesce(alloc, history, chains, known) {
         Ok(poly) => {
             let count = poly.choices().len();
             println!(rt; "choices: {count}")?;
@@ -246,16 +297,16 @@ fn time_pruning<R: Print + Threads + Wait + Clock + Sync>(
         return Ok(());
     };
     let start = Instant::now(rt)?;
-    let Some(found) = pruned(rt, alloc, history, workers)? else {
-        return println!(rt; "not pruned");
-    };
-    println!(rt; "workers: {count}")?;
-    tell_pruned(rt, found)?;
+    match pruned(rt, alloc, history, workers)? {
+        Some(found) => tell_pruned(rt, count, &found)?,
+        None => return println!(rt; "not pruned"),
+    }
     told(rt, "arcs, chains, coalesce and prune", start)
 }
 
-/// Prints how much pruning keeps and leaves.
-fn tell_pruned<R: Print>(rt: &R, found: Pruned) -> io::Result<()> {
+/// Prints how much pruning by so many workers keeps and leaves.
+fn tell_pruned<R: Print>(rt: &R, count: u8, found: &Pruned) -> io::Result<()> {
+    println!(rt; "workers: {count}")?;
     match found {
         Pruned::Open(reduced) => {
             let open = reduced.poly().choices().len();
@@ -279,6 +330,18 @@ fn list_ledger<R: Print>(rt: &R, ledger: &Ledger) -> io::Result<()> {
     Ok(())
 }
 
+/// Lists what pruning keeps, and how many choices it leaves.
+fn list_pruned<R: Print>(rt: &R, found: &Pruned) -> io::Result<()> {
+    match found {
+        Pruned::Open(reduced) => {
+            list_ledger(rt, reduced.ledger())?;
+            let open = reduced.poly().choices().len();
+            println!(rt; "open {open}")
+        }
+        Pruned::Dead(_ledger) => println!(rt; "dead"),
+    }
+}
+
 fn list_pruning<R: Print + Threads + Wait + Clock + Sync>(
     rt: &R,
     alloc: Global,
@@ -291,16 +354,9 @@ fn list_pruning<R: Print + Threads + Wait + Clock + Sync>(
         return Ok(());
     };
     println!(rt; "workers {count}")?;
-    let Some(found) = pruned(rt, alloc, history, workers)? else {
-        return println!(rt; "not pruned");
-    };
-    match found {
-        Pruned::Open(reduced) => {
-            list_ledger(rt, reduced.ledger())?;
-            let open = reduced.poly().choices().len();
-            println!(rt; "open {open}")
-        }
-        Pruned::Dead(_ledger) => println!(rt; "dead"),
+    match pruned(rt, alloc, history, workers)? {
+        Some(found) => list_pruned(rt, &found),
+        None => println!(rt; "not pruned"),
     }
 }
 
@@ -312,7 +368,31 @@ fn ledger_of(found: &Pruned) -> &Ledger {
     }
 }
 
-/// Times the check of what pruning by one worker keeps.
+fn time_check<R: Print + Clock>(rt: &R, whole: &Polygraph, ledger: &Ledger) -> io::Result<()> {
+    let start = Instant::now(rt)?;
+    let valid = check_ledger(whole, ledger);
+    println!(rt; "ledger valid: {valid}")?;
+    told(rt, "check_ledger", start)
+}
+
+/// Times the check of what pruning by one worker keeps of a polygraph.
+fn time_check_of<R: Print + Threads + Wait + Clock + Sync>(
+    rt: &R,
+    alloc: Global,
+    history: &History,
+    whole: &Polygraph,
+) -> io::Result<()>
+    requires clean { IsClean (log_of history.now) }
+{
+    let Some(worker) = Workers::new(1) else {
+        return Ok(());
+    };
+    match pruned(rt, alloc, history, worker)? {
+        Some(found) => time_check(rt, whole, ledger_of(&found)),
+        None => Ok(()),
+    }
+}
+
 fn time_ledger<R: Print + Threads + Wait + Clock + Sync>(
     rt: &R,
     alloc: Global,
@@ -320,19 +400,10 @@ fn time_ledger<R: Print + Threads + Wait + Clock + Sync>(
 ) -> io::Result<()>
     requires clean { IsClean (log_of history.now) }
 {
-    let Some(whole) = chain_polygraph(alloc, history)? else {
-        return Ok(());
-    };
-    let Some(worker) = Workers::new(1) else {
-        return Ok(());
-    };
-    let Some(found) = pruned(rt, alloc, history, worker)? else {
-        return Ok(());
-    };
-    let start = Instant::now(rt)?;
-    let valid = check_ledger(&whole, ledger_of(&found));
-    println!(rt; "ledger valid: {valid}")?;
-    told(rt, "check_ledger", start)
+    match chain_polygraph(alloc, history)? {
+        Some(whole) => time_check_of(rt, alloc, history, &whole),
+        None => Ok(()),
+    }
 }
 
 /// Times the bipaths, the chains and pruning of a clean history.
@@ -394,6 +465,26 @@ fn with_history<R: Print + Threads + Wait + Clock + Sync>(
     }
 }
 
+/// Times how the history of a log is read, and what is made of it.
+fn time_history<R: Print + Threads + Wait + Clock + Sync>(
+    rt: &R,
+    alloc: Global,
+    log: &[u8],
+    timed: bool,
+) -> io::Result<()> {
+    let Some(workers) = Workers::new(4) else {
+        return Ok(());
+    };
+    let start = Instant::now(rt)?;
+    let Ok(history) = read_log(rt, alloc, log, workers, &OpenGate) else {
+        return println!(rt; "the log is refused");
+    };
+    if timed {
+        told(rt, "log read", start)?;
+    }
+    with_history(rt, alloc, &history, timed)
+}
+
 fn time_log<R: Runtime + Threads + Wait + Sync>(
     rt: &R,
     alloc: Global,
@@ -404,20 +495,10 @@ fn time_log<R: Runtime + Threads + Wait + Sync>(
         reader: fs::open(rt, path)?,
         failures: 0,
     };
-    let Ok(log) = read_all(alloc, &mut source, MAX_LOG_BYTES) else {
-        return println!(rt; "the log cannot be read");
-    };
-    let Some(workers) = Workers::new(4) else {
-        return Ok(());
-    };
-    let start = Instant::now(rt)?;
-    let Ok(history) = read_log(rt, alloc, &log, workers, &OpenGate) else {
-        return println!(rt; "the log is refused");
-    };
-    if timed {
-        told(rt, "log read", start)?;
+    match read_all(alloc, &mut source, MAX_LOG_BYTES) {
+        Ok(log) => time_history(rt, alloc, &log, timed),
+        Err(_) => println!(rt; "the log cannot be read"),
     }
-    with_history(rt, alloc, &history, timed)
 }
 
 fn main(rt: HostRuntime) -> io::Result<()> {
