@@ -5,10 +5,10 @@ use cobra_cli::read_log;
 use desk::{OpenGate, Workers};
 use headline::laws::anomalies_decide;
 use history::{History, NodeIx, classify};
+use reach_laws::Edge;
 use std::alloc::{AllocError, Global};
 use std::process::Abort;
 use std::sync::Wait;
-use std::test::Fail;
 use std::thread::Threads;
 use std::time::Clock;
 use write_chains::{Chain, Chains, chains};
@@ -29,18 +29,22 @@ fn found<'a>(
 }
 
 /// The chains of a history without an anomaly in which none closes on itself.
-fn chained<'a>(
-    rt: &impl Abort,
-    alloc: Global,
-    history: &'a History,
-) -> Result<Chains<'a>, AllocError>
-    ensures { IfOk result (λ c. c ≡ history.now) }
+fn chained<'a>(rt: &impl Abort, alloc: Global, history: &'a History) -> Chains<'a>
+    ensures { result ≡ history.now }
 {
-    Ok(
-        found(alloc, history)?
-            .expect(rt, "the log has no anomaly")
-            .expect(rt, "no chain closes on itself"),
-    )
+    found(alloc, history)
+        .expect(rt, "memory")
+        .expect(rt, "the log has no anomaly")
+        .expect(rt, "no chain closes on itself")
+}
+
+/// The chain of a history without an anomaly that closes on itself.
+fn closed(rt: &impl Abort, alloc: Global, history: &History) -> Vec<NodeIx> {
+    found(alloc, history)
+        .expect(rt, "memory")
+        .expect(rt, "the log has no anomaly")
+        .err()
+        .expect(rt, "a chain closes on itself")
 }
 
 /// The history of a log that is well-formed, read by two workers.
@@ -63,47 +67,65 @@ fn see_chain(rt: &impl Abort, chain: &Chain, head: usize, tail: usize, reader: u
 const CLOSED: &str =
     "session 1\nbegin\nr x 2\nw x 1\ncommit\nsession 2\nbegin\nr x 1\nw x 2\ncommit\n";
 
-#[test]
-fn a_chain_that_closes_on_itself(rt: HostRuntime) -> Result<(), Fail> {
-    let history = history_of(&rt, rt.alloc(), CLOSED);
-    let line = found(rt.alloc(), &history)?
-        .expect(&rt, "the log has no anomaly")
-        .err()
-        .expect(&rt, "a chain closes on itself");
-    let line = line.as_slice();
-    let one = NodeIx::new(1).expect(&rt, "1 is few");
-    let two = NodeIx::new(2).expect(&rt, "2 is few");
+/// A line leads from one of two nodes to the other and back.
+fn see_closed(rt: &impl Abort, line: &[NodeIx]) {
+    let one = NodeIx::new(1).expect(rt, "1 is few");
+    let two = NodeIx::new(2).expect(rt, "2 is few");
     assert!(rt; line == [one, two, one].as_slice() || line == [two, one, two].as_slice());
-    Ok(())
 }
 
 #[test]
-fn heads_tails_and_readers(rt: HostRuntime) -> Result<(), Fail> {
-    let history = history_of(&rt, rt.alloc(), TWO_CHAINS);
-    assert_eq!(rt; history.keys(), 1);
-    let chains = chained(&rt, rt.alloc(), &history)?;
-    assert_eq!(rt; chains.history().committed(), 6);
+fn a_chain_that_closes_on_itself(rt: HostRuntime) {
+    let rt = &rt;
+    let history = history_of(rt, rt.alloc(), CLOSED);
+    let line = closed(rt, rt.alloc(), &history);
+    see_closed(rt, &line);
+}
+
+fn see_heads_and_tails(rt: &impl Abort, chains: &Chains<'_>) {
+    assert_eq!(rt; chains.history().keys(), 1);
     let others = chains.chains_of(0);
     assert_eq!(rt; others.len(), 2);
-    see_chain(&rt, &others[0], 1, 2, 5);
-    see_chain(&rt, &others[1], 3, 4, 6);
+    see_chain(rt, &others[0], 1, 2, 5);
+    see_chain(rt, &others[1], 3, 4, 6);
     let initial = chains.initial_chain(0);
     assert_eq!(rt; initial.tail.get(), 0);
     assert_eq!(rt; initial.readers.len(), 0);
-    let two = NodeIx::new(2).expect(&rt, "2 is few");
-    assert_eq!(rt; chains.readers(0, two).len(), 1);
-    assert_eq!(rt; chains.inner_edges().len(), 0);
-    Ok(())
 }
 
-// Each reads what the other overwrites.
+fn see_readers(rt: &impl Abort, chains: &Chains<'_>) {
+    assert_eq!(rt; chains.history().keys(), 1);
+    assert_eq!(rt; chains.history().committed(), 6);
+    let two = NodeIx::new(2).expect(rt, "2 is few");
+    assert_eq!(rt; chains.readers(0, two).len(), 1);
+    assert_eq!(rt; chains.inner_edges().len(), 0);
+}
+
 #[test]
-fn inner_edges_of_write_skew(rt: HostRuntime) -> Result<(), Fail> {
-    let history = history_of(&rt, rt.alloc(), WRITE_SKEW);
-    let chains = chained(&rt, rt.alloc(), &history)?;
+fn heads_tails_and_readers(rt: HostRuntime) {
+    let rt = &rt;
+    let history = history_of(rt, rt.alloc(), TWO_CHAINS);
+    let chains = chained(rt, rt.alloc(), &history);
+    see_heads_and_tails(rt, &chains);
+    see_readers(rt, &chains);
+}
+
+fn see_edge(rt: &impl Abort, edge: &Edge, ends: (usize, usize)) {
+    assert_eq!(rt; (edge.source().get(), edge.target().get()), ends);
+}
+
+/// Each reads what the other overwrites.
+fn see_inner_edges(rt: &impl Abort, chains: &Chains<'_>) {
     let inner = chains.inner_edges();
     assert_eq!(rt; inner.len(), 2);
-    assert_eq!(rt; (inner[0].source().get(), inner[0].target().get()), (2, 1));
-    assert_eq!(rt; (inner[1].source().get(), inner[1].target().get()), (1, 2));
-    Ok(())
+    see_edge(rt, &inner[0], (2, 1));
+    see_edge(rt, &inner[1], (1, 2));
+}
+
+#[test]
+fn inner_edges_of_write_skew(rt: HostRuntime) {
+    let rt = &rt;
+    let history = history_of(rt, rt.alloc(), WRITE_SKEW);
+    let chains = chained(rt, rt.alloc(), &history);
+    see_inner_edges(rt, &chains);
 }
