@@ -1,30 +1,47 @@
+use clap::Error;
 use cobra_words::{Command, FormatWord, Request, StrategyWord, Words, words_of};
 use std::alloc::Global;
 use std::process::Abort;
-use std::test::Fail;
 
-fn words(alloc: Global, line: &str) -> Result<Vec<String>, Fail> {
+fn words(rt: &impl Abort, alloc: Global, line: &str) -> Vec<String> {
     let mut words = Vec::new(alloc);
     for word in line.split_whitespace() {
-        words.push(String::from_str(alloc, word)?)?;
+        let word = String::from_str(alloc, word).expect(rt, "memory");
+        words.push(word).expect(rt, "memory");
     }
-    Ok(words)
+    words
 }
 
-/// The status of a call that is answered by a text of help or usage.
-fn shown(rt: &impl Abort, alloc: Global, line: &str) -> Result<i32, Fail> {
-    let words = words(alloc, line)?;
-    match words_of(alloc, words.as_slice())? {
-        Some(Words::Shown(error)) => Ok(error.exit_code()),
-        _ => {
-            assert!(rt; false, "{line} is a call");
-            Ok(0)
-        }
+fn read<'a>(rt: &impl Abort, alloc: Global, words: &'a [String]) -> Words<'a> {
+    words_of(alloc, words)
+        .expect(rt, "memory")
+        .expect(rt, "words that are let through")
+}
+
+/// The call that words ask for.
+fn request<'a>(rt: &impl Abort, alloc: Global, words: &'a [String]) -> Request<'a> {
+    match read(rt, alloc, words) {
+        Words::Request(request) => request,
+        Words::Shown(_text) => panic!(rt; "no call"),
     }
+}
+
+/// The text of help, usage or version that answers words.
+fn answer(rt: &impl Abort, alloc: Global, line: &str) -> Error {
+    let words = words(rt, alloc, line);
+    match read(rt, alloc, &words) {
+        Words::Shown(text) => text,
+        Words::Request(_request) => panic!(rt; "{line} is a call"),
+    }
+}
+
+/// Words are answered by a text, with this status.
+fn see_status(rt: &impl Abort, alloc: Global, line: &str, status: i32) {
+    assert_eq!(rt; answer(rt, alloc, line).exit_code(), status, "{line}");
 }
 
 #[test]
-fn refused_words(rt: HostRuntime) -> Result<(), Fail> {
+fn refused_words(rt: HostRuntime) {
     for line in [
         "cobra_poly",
         "cobra_poly solve",
@@ -49,37 +66,30 @@ fn refused_words(rt: HostRuntime) -> Result<(), Fail> {
         "cobra_poly verify --order o --workers 4 log",
         "cobra_poly verify --order o --plain log",
     ] {
-        assert_eq!(rt; shown(&rt, rt.alloc(), line)?, 2, "{line}");
+        see_status(&rt, rt.alloc(), line, 2);
     }
-    Ok(())
 }
 
 #[test]
-fn helped_words(rt: HostRuntime) -> Result<(), Fail> {
+fn helped_words(rt: HostRuntime) {
     for line in [
         "cobra_poly --help",
         "cobra_poly encode --help",
         "cobra_poly check --help",
     ] {
-        assert_eq!(rt; shown(&rt, rt.alloc(), line)?, 0, "{line}");
+        see_status(&rt, rt.alloc(), line, 0);
     }
-    Ok(())
 }
 
-/// The text of help or version that these words ask for.
-fn text_of(rt: &impl Abort, alloc: Global, line: &str) -> Result<String, Fail> {
-    let words = words(alloc, line)?;
-    match words_of(alloc, words.as_slice())? {
-        Some(Words::Shown(error)) => Ok(format!(in alloc; "{error}")?),
-        _ => {
-            assert!(rt; false, "{line} is a call");
-            Ok(String::new(alloc))
-        }
-    }
+/// Words are answered by a text that has this part.
+fn see_text(rt: &impl Abort, alloc: Global, line: &str, part: &str) {
+    let text = answer(rt, alloc, line);
+    let text = format!(in alloc; "{text}").expect(rt, "memory");
+    assert!(rt; text.contains(part), "{line}: {text}");
 }
 
 #[test]
-fn texts_of_help(rt: HostRuntime) -> Result<(), Fail> {
+fn texts_of_help(rt: HostRuntime) {
     for (line, part) in [
         ("cobra_poly --version", "cobra_poly 0.1.0\n"),
         (
@@ -105,10 +115,8 @@ fn texts_of_help(rt: HostRuntime) -> Result<(), Fail> {
             "How many workers take part, 1 to 16 [default: 4]\n",
         ),
     ] {
-        let text = text_of(&rt, rt.alloc(), line)?;
-        assert!(rt; text.contains(part), "{line}: {text}");
+        see_text(&rt, rt.alloc(), line, part);
     }
-    Ok(())
 }
 
 /// Whether a call reads the log from this file, or from standard input where it has no name.
@@ -119,18 +127,14 @@ fn is_log(request: &Request<'_>, file: &str) -> bool {
     }
 }
 
-/// The same of words, which is false where they are no call.
-fn is_log_by(alloc: Global, line: &str, file: &str) -> Result<bool, Fail> {
-    let words = words(alloc, line)?;
-    match words_of(alloc, words.as_slice())? {
-        Some(Words::Request(request)) => Ok(is_log(&request, file)),
-        Some(Words::Shown(_text)) => Ok(false),
-        None => Ok(false),
-    }
+/// Words are a call that reads the log from this file.
+fn see_log(rt: &impl Abort, alloc: Global, line: &str, file: &str) {
+    let words = words(rt, alloc, line);
+    assert!(rt; is_log(&request(rt, alloc, &words), file), "{line}");
 }
 
 #[test]
-fn files_of_logs(rt: HostRuntime) -> Result<(), Fail> {
+fn files_of_logs(rt: HostRuntime) {
     for (line, file) in [
         ("cobra_poly check", ""),
         ("cobra_poly check -", ""),
@@ -139,9 +143,8 @@ fn files_of_logs(rt: HostRuntime) -> Result<(), Fail> {
         ("cobra_poly explain --format dot log", "log"),
         ("cobra_poly verify --order order log", "log"),
     ] {
-        assert!(rt; is_log_by(rt.alloc(), line, file)?, "{line}");
+        see_log(&rt, rt.alloc(), line, file);
     }
-    Ok(())
 }
 
 /// The strategy and the budget of a call, where it is one of `check`.
@@ -152,18 +155,15 @@ fn asked(request: &Request<'_>) -> Option<(StrategyWord, usize)> {
     }
 }
 
-/// The same of words, and nothing where they are no call.
-fn asked_by(alloc: Global, line: &str) -> Result<Option<(StrategyWord, usize)>, Fail> {
-    let words = words(alloc, line)?;
-    match words_of(alloc, words.as_slice())? {
-        Some(Words::Request(request)) => Ok(asked(&request)),
-        Some(Words::Shown(_text)) => Ok(None),
-        None => Ok(None),
-    }
+/// Words are a call of `check` with this strategy and budget.
+fn see_asked(rt: &impl Abort, alloc: Global, line: &str, strategy: StrategyWord, budget: usize) {
+    let words = words(rt, alloc, line);
+    let found = asked(&request(rt, alloc, &words));
+    assert!(rt; found == Some((strategy, budget)), "{line}");
 }
 
 #[test]
-fn words_of_check(rt: HostRuntime) -> Result<(), Fail> {
+fn words_of_check(rt: HostRuntime) {
     for (line, strategy, budget) in [
         ("cobra_poly check", StrategyWord::First, 10_000),
         (
@@ -187,10 +187,8 @@ fn words_of_check(rt: HostRuntime) -> Result<(), Fail> {
             10_000,
         ),
     ] {
-        let found = asked_by(rt.alloc(), line)?;
-        assert!(rt; found == Some((strategy, budget)), "{line}");
+        see_asked(&rt, rt.alloc(), line, strategy, budget);
     }
-    Ok(())
 }
 
 /// The form that a call asks for, where it is one of `explain`.
@@ -201,18 +199,17 @@ fn form_asked(request: &Request<'_>) -> Option<FormatWord> {
     }
 }
 
-/// The same of words, and nothing where they are no call.
-fn form_by(alloc: Global, line: &str) -> Result<Option<FormatWord>, Fail> {
-    let words = words(alloc, line)?;
-    match words_of(alloc, words.as_slice())? {
-        Some(Words::Request(request)) => Ok(form_asked(&request)),
-        Some(Words::Shown(_text)) => Ok(None),
-        None => Ok(None),
-    }
+/// Words are a call of `explain` in this form.
+fn see_form(rt: &impl Abort, alloc: Global, line: &str, form: FormatWord) {
+    let words = words(rt, alloc, line);
+    assert!(rt;
+        form_asked(&request(rt, alloc, &words)) == Some(form),
+        "{line}"
+    );
 }
 
 #[test]
-fn words_of_explain(rt: HostRuntime) -> Result<(), Fail> {
+fn words_of_explain(rt: HostRuntime) {
     for (line, form) in [
         ("cobra_poly explain log", FormatWord::Text),
         ("cobra_poly explain --format text", FormatWord::Text),
@@ -221,7 +218,6 @@ fn words_of_explain(rt: HostRuntime) -> Result<(), Fail> {
             FormatWord::Dot,
         ),
     ] {
-        assert!(rt; form_by(rt.alloc(), line)? == Some(form), "{line}");
+        see_form(&rt, rt.alloc(), line, form);
     }
-    Ok(())
 }
