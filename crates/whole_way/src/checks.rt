@@ -19,6 +19,12 @@ const BY_PLACES: &str = "session 1\nbegin\nw x 1\ncommit\nsession 2\nbegin\nw y 
     session 3\nbegin\nw x 4\nw y 5\ncommit\nsession 4\nbegin\nw y 6\ncommit\n\
     session 5\nbegin\nr y 6\nr x 1\ncommit\nsession 6\nbegin\nr y 6\nr x 3\ncommit\n";
 
+// With a budget of three cubes a search finds an order where it first takes the choices that its cube forces, and none else.
+const BY_FORCE: &str = "session 1\nbegin\nw x 1\nr y 2\ncommit\n\
+    session 2\nbegin\nw y 2\nr x 4\ncommit\nsession 3\nbegin\nw x 3\ncommit\n\
+    session 4\nbegin\nw x 4\ncommit\nsession 5\nbegin\nr x 4\nr y 2\ncommit\n\
+    session 6\nbegin\nr x 1\nw y 5\ncommit\n";
+
 fn searching(rt: &impl Abort, workers: u8, strategy: StrategyName, budget: usize) -> Options {
     Options {
         strategy,
@@ -116,6 +122,16 @@ fn by_strategy(rt: HostRuntime) {
             "serializable\n2 1\n4 1\n6 1\n1 1\n5 1\n3 1\n",
         ),
         (StrategyName::Most, BY_PLACES, 6, 3, "unknown: 6 closed\n"),
+        (
+            StrategyName::Forced,
+            BY_FORCE,
+            3,
+            0,
+            "serializable\n3 1\n4 1\n2 1\n5 1\n1 1\n6 1\n",
+        ),
+        (StrategyName::First, BY_FORCE, 3, 3, "unknown: 3 closed\n"),
+        (StrategyName::Most, BY_FORCE, 3, 3, "unknown: 3 closed\n"),
+        (StrategyName::Least, BY_FORCE, 3, 3, "unknown: 3 closed\n"),
     ] {
         let options = searching(&rt, 1, strategy, budget);
         see(&rt, rt.alloc(), &options, Command::Check, log, status, text);

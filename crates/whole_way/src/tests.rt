@@ -428,3 +428,31 @@ fn choices_at_the_limit(rt: HostRuntime) {
     let log = many_bipaths(rt, alloc, 41);
     see(rt, alloc, &options, Command::Encode, &log, 2, "refused: G1");
 }
+
+// 64 sessions, each with so many transactions that write one key and read nothing.
+fn blind_writers(rt: &impl Abort, alloc: Global, each: usize) -> String {
+    let mut log = String::new(alloc);
+    for session in 1..65usize {
+        let line = format!(in alloc; "session {session}\n").expect(rt, "memory");
+        log.push_str(&line).expect(rt, "memory");
+        for place in 0..each {
+            let lines = format!(in alloc; "begin\nw x {}\ncommit\n", session * 10 + place).expect(
+                rt, "memory",
+            );
+            log.push_str(&lines).expect(rt, "memory");
+        }
+    }
+    log
+}
+
+// Each two of 448 chains of a key are a choice, which is 100,128.
+#[test]
+fn too_many_choices_of_chains(rt: HostRuntime) {
+    let rt = &rt;
+    let alloc = rt.alloc();
+    let options = options(rt, false, 4);
+    let log = blind_writers(rt, alloc, 7);
+    for command in [Command::Encode, Command::Stats, Command::Check] {
+        see(rt, alloc, &options, command, &log, 2, "refused: G1");
+    }
+}
