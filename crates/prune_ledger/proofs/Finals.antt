@@ -1,6 +1,6 @@
 -- The end of pruning.
 use Rattle.std.proofs.Common.{◌≡◌, ◌↔◌, ℕ, zero, suc, ◌+◌, ◌<◌, ◌≤◌, Bool, true, false, cond, ◌||◌, List, [], ◌∷◌, ◌++◌, length, Some, refl, sym, ap, ◌∙◌, subst, inl, inr, arith}
-use Rattle.std.specs.Prelude.{slice_get, IfSome, IsNone}
+use Rattle.std.specs.Prelude.{slice_get, IfSome, IsNone, map}
 use Rattle.std.specs.Option.{option_map_or}
 use Rattle.std.specs.List.{Contains, AllByRecursion}
 use Rattle.std.proofs.lemmas.Bool.{cases_Bool, false≢true, or_cases}
@@ -24,7 +24,9 @@ use Rattle.prune_ledger.specs.State.{State}
 use Rattle.prune_ledger.specs.Opening.{opening_state, reopened_state}
 use Rattle.prune_ledger.specs.Steps.{refuses, is_refused, next_of, reply_of}
 use Rattle.prune_ledger.specs.Ledger.{kept_after, edges_after, AreShown}
-use Rattle.prune_ledger.specs.Runs.{IsWhole, ledger_of, Grown}
+use Rattle.prune_ledger.specs.Runs.{IsWhole, posts_of, ledger_of, Grown}
+use Rattle.prune_ledger.specs.Entered.{entered_by, entered_in, AreRounds}
+use Rattle.prune_ledger.specs.Entered as entered
 use Rattle.prune_ledger.specs.Pruned.{posts_in, kept_by, IsReduced, IsRemainder, IsProgress, IsGraphOf, unrefused, IsLast}
 use Rattle.prune_ledger.specs.declared.ledger.Ledger.{Ledger}
 use Rattle.prune_ledger.specs.declared.ledger.LedgerEntry.{LedgerEntry}
@@ -161,6 +163,7 @@ is_remainder p s graph rows flags poly ledger l is cycle none =
       reduced = subst IsReduced (sym is) (reduced_last p ledger.entries.items s graph rows flags graph.nodes l);
       rows = subst (λ (q : Polygraph). AreRowsOf rows (record { nodes = q.nodes; edges = q.known })) (sym is) l.rows_of;
       ledger = record { shown = l.progress.shown; cycle = cycle };
+      rounds = record { last = s; rounds = l.progress.rounds };
       whole = none;
       orders = λ order. (
           let same = same_both (pruned p K) poly (sym nodes) (λ e. ((edges e).1, (edges e).0)) (sym choices) order in
@@ -179,9 +182,28 @@ cycle_in p entries graph g line c = (c.0, record { inner = c.1.inner; shape = c.
 some-state : (x y : State) → Some x ≡ Some y → x ≡ y
 some-state x y e = cc
 
+posts_joined : (xs ys : List LedgerEntry) → posts_in (xs ++ ys) ≡ posts_in xs ++ posts_in ys
+posts_joined [] ys = refl
+posts_joined (x ∷ xs) ys = ap (λ l. x.post ∷ l) (posts_joined xs ys)
+
+posts_entered_by : (seat : ℕ) (posts : List Posted) → posts_in (map (entered.entry_of seat) posts) ≡ posts
+posts_entered_by seat [] = refl
+posts_entered_by seat (q ∷ qs) = ap (λ l. q ∷ l) (posts_entered_by seat qs)
+
+posts_entered : (history : List (Entry Event Reply)) → posts_in (entered_in history) ≡ ledger_of history
+posts_entered [] = refl
+posts_entered (x ∷ xs) =
+    posts_joined (entered_by x.seat x.event x.reply) (entered_in xs)
+    ∙ ap (λ l. l ++ posts_in (entered_in xs)) (posts_entered_by x.seat (posts_of x.event x.reply))
+    ∙ ap (λ l. posts_of x.event x.reply ++ l) (posts_entered xs)
+
+pub posts_more : (entries next : List LedgerEntry) (history : List (Entry Event Reply)) → next ≡ entries ++ entered_in history → posts_in next ≡ posts_in entries ++ ledger_of history
+posts_more entries next history is = ap posts_in is ∙ posts_joined entries (entered_in history) ∙ ap (λ l. posts_in entries ++ l) (posts_entered history)
+
 pub progress_more : (p : Polygraph) → IsWhole p → (entries next : List LedgerEntry) (s start now : State) (history : List (Entry Event Reply)) → IsProgress p entries s → start ≡ reopened_state s → IsReached next_of reply_of (Some start) history now
-    → posts_in next ≡ posts_in entries ++ ledger_of history → IsProgress p next now
-progress_more p whole entries next s start now history i is reached more =
+    → next ≡ entries ++ entered_in history → IsProgress p next now
+progress_more p whole entries next s start now history i is reached is_next =
+    let more = posts_more entries next history is_next in
     let first : reached.0 ≡ reopened_state s = some-state reached.0 start (sym reached.1) ∙ is in
     let legal = subst (λ (x : State). IsLegal next_of reply_of x history) first reached.2 in
     let last : now ≡ replay next_of (reopened_state s) history = reached.3 ∙ ap (λ (x : State). replay next_of x history) first in
@@ -190,6 +212,7 @@ progress_more p whole entries next s start now history i is reached more =
     record {
       grown = subst (λ (x : State). Grown p (kept_by next) x) (sym last) (subst (λ (k : List Kept). Grown p k (replay next_of (reopened_state s) history)) kept r.grown);
       shown = subst (AreShown p []) (sym more) (shown_append p [] (posts_in entries) (ledger_of history) i.shown r.shown);
+      rounds = subst (λ l. AreRounds p l now) (sym is_next) (entered.round entries s now history i.rounds (subst (λ (x : State). IsReached next_of reply_of (Some x) history now) is reached));
     }
 
 length_posts : (entries : List LedgerEntry) → length (posts_in entries) ≡ length entries
@@ -205,4 +228,4 @@ no_fewer entries next posts more =
     let a = ap length more in let b = length_joined (posts_in entries) posts in let d = length_posts entries in let e = length_posts next in omega (arith, a, b, d, e)
 
 pub progress_first : (p : Polygraph) → IsWhole p → (s : State) → s ≡ opening_state p.choices (record { nodes = p.nodes; edges = p.known }) → IsProgress p [] s
-progress_first p whole s e = record { grown = subst (λ (x : State). Grown p [] x) (sym e) (grown_opening p whole (opening_state p.choices (record { nodes = p.nodes; edges = p.known })) (opens p)); shown = tt }
+progress_first p whole s e = record { grown = subst (λ (x : State). Grown p [] x) (sym e) (grown_opening p whole (opening_state p.choices (record { nodes = p.nodes; edges = p.known })) (opens p)); shown = tt; rounds = subst (λ (x : State). AreRounds p [] x) (sym e) entered.none }

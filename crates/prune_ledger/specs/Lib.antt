@@ -6,6 +6,7 @@ pub mod Opening
 pub mod Ledger
 pub mod Runs
 pub mod Rounds
+pub mod Entered
 pub mod Pruned
 pub mod Outcome
 pub mod Tested

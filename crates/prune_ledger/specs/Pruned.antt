@@ -12,16 +12,13 @@ use Rattle.prune_ledger.specs.Ledger.{kept_after, edges_after, AreShown}
 use Rattle.prune_ledger.specs.State.{State}
 use Rattle.prune_ledger.specs.Rounds.{IsOpenIn}
 use Rattle.prune_ledger.specs.Runs.{Grown}
+use Rattle.prune_ledger.specs.Entered.{AreRounds, IsOfRounds}
 use Rattle.prune_ledger.specs.declared.messages.Mark.{Mark}
 use Rattle.prune_ledger.specs.declared.ledger.LedgerEntry.{LedgerEntry}
 use Rattle.prune_ledger.specs.declared.ledger.Ledger.{Ledger}
 
 abbrev pub posts_in : List LedgerEntry → List Posted
 posts_in entries = map (λ x. x.post) entries
-
--- the seats that the entries name
-abbrev pub seats_in : List LedgerEntry → List ℕ
-seats_in entries = map (λ x. x.seat) entries
 
 -- the sides that the entries keep, the newest first
 abbrev pub kept_by : List LedgerEntry → List Entry
@@ -39,7 +36,7 @@ pub record IsReduced (p : Polygraph) : Type 0 where
   pub unrefuted : AllByRecursion (λ h. (side : Side) → IsRefuted p.known (edges_of h side) → ⊥) p.choices
 
 -- what is left of a polygraph that is not dead: its known edges with those of the forced sides, the choices that are open, what
--- reaches what by these edges, and the ledger of the forced sides
+-- reaches what by these edges, and the ledger of the forced sides, which has what the rounds entered
 pub record Remainder : Type 0 where
   pub poly : Polygraph
   pub rows : Graph
@@ -54,20 +51,23 @@ pub record IsRemainder (p : Polygraph) (r : Remainder) : Type 0 where
   pub reduced : IsReduced r.poly
   pub rows : AreRowsOf r.rows (record { nodes = r.poly.nodes; edges = r.poly.known })
   pub ledger : IsLedgerOf p r.ledger
+  pub rounds : IsOfRounds p r.ledger.entries.items
   pub whole : IsNone r.ledger.cycle
   pub orders : (order : List ℕ) → (Fits p order ↔ Fits r.poly order)
 
--- no order fits, and the ledger shows it by a cycle
+-- no order fits, and the ledger, which has what the rounds entered, shows it by a cycle
 pub record IsDeadBy (p : Polygraph) (ledger : Ledger) : Type 0 where
   pub dead : IsDead p
   pub valid : IsLedgerOf p ledger
+  pub rounds : IsOfRounds p ledger.entries.items
   pub cycle : IsSome ledger.cycle
   pub orders : (order : List ℕ) → Fits p order → ⊥
 
--- these entries are the ledger of what the machine keeps
+-- these entries are the ledger of what the machine keeps, and those of rounds that led to its state
 pub record IsProgress (p : Polygraph) (entries : List LedgerEntry) (s : State) : Type 0 where
   pub grown : Grown p (kept_by entries) s
   pub shown : AreShown p [] (posts_in entries)
+  pub rounds : AreRounds p entries s
 
 -- the graph has the known edges and those of these kept sides
 pub record IsGraphOf (p : Polygraph) (kept : List Entry) (graph : Graph) : Type 0 where

@@ -53,11 +53,6 @@ abbrev pub ledger_of : List (Entry Event Reply) → List Posted
 ledger_of [] = []
 ledger_of (x ∷ xs) = posts_of x.event x.reply ++ ledger_of xs
 
--- the seats that sent these posts, in the same order
-abbrev pub seats_of : List (Entry Event Reply) → List ℕ
-seats_of [] = []
-seats_of (x ∷ xs) = map (λ q. x.seat) (posts_of x.event x.reply) ++ seats_of xs
-
 -- a state in which these sides are kept, the newest first: each was refuted in turn, the edges are the known ones and theirs,
 -- a side is refused exactly where the other one is kept, and a dead machine's edges have a cycle
 pub record Grown (p : Polygraph) (kept : List Kept) (s : State) : Type 0 where

@@ -1,10 +1,9 @@
 //! The entries of a round.
 
-ghost use Rattle.std.specs.Prelude.{◌≡◌, ◌++◌, IfOk, map};
+ghost use Rattle.std.specs.Prelude.{◌≡◌, ◌++◌, IfOk};
 ghost use Rattle.std.specs.Option.{option_to_list};
 ghost use Rattle.prune_ledger.specs.Steps.{is_entered};
-ghost use Rattle.prune_ledger.specs.Runs.{posts_of, ledger_of, seats_of};
-ghost use Rattle.prune_ledger.specs.Pruned.{posts_in, seats_in};
+ghost use Rattle.prune_ledger.specs.Entered.{entered_by, entered_in};
 
 use crate::ledger::LedgerEntry;
 use crate::messages::{Event, Reply};
@@ -16,10 +15,7 @@ pub fn with_entered(
     entries: Vec<LedgerEntry>,
     history: Vec<Entry<Event, Reply>>,
 ) -> Result<Vec<LedgerEntry>, AllocError>
-    ensures posts { IfOk result (λ v.
-        posts_in v.items ≡ posts_in entries.items ++ ledger_of history.items) }
-    ensures seats { IfOk result (λ v.
-        seats_in v.items ≡ seats_in entries.items ++ seats_of history.items) }
+    ensures entries { IfOk result (λ v. v.items ≡ entries.items ++ entered_in history.items) }
 {
     let mut all = entries;
     for step in history {
@@ -32,9 +28,7 @@ pub fn with_entered(
 
 // The entry of a step, where it is a post that was entered.
 fn entered(step: Entry<Event, Reply>) -> Option<LedgerEntry>
-    ensures posts { posts_in (option_to_list result) ≡ posts_of step.event step.reply }
-    ensures seats { seats_in (option_to_list result) ≡
-        map (λ q. step.seat) (posts_of step.event step.reply) }
+    ensures { option_to_list result ≡ entered_by step.seat step.event step.reply }
 {
     let Entry { seat, event, reply } = step;
     match event {

@@ -13,6 +13,7 @@ returns c =
     record {
       dead = dead;
       valid = record { shown = c.requires.machine.shown; cycle = cycle_in p entries c.args.progress.own c.requires.graph c.in-Some.line.items found };
+      rounds = record { last = c.args.progress.machine; rounds = c.requires.machine.rounds };
       cycle = refl;
       orders = none_fits p dead;
     }
