@@ -1,0 +1,4 @@
+pub mod Cut
+pub mod Held
+pub mod Logs
+pub mod Pieces
