@@ -1,0 +1,87 @@
+-- Clauses in store, when more literals come behind them.
+use Rattle.std.proofs.Common.{◌≡◌, ℕ, ◌-◌, ◌≤◌, zero, suc, Result, Ok, Err, OnErr, Option, None, Some, unwrap_or, slice_get, slice_set, List, [], ◌∷◌, ◌++◌, length, take, drop, refl, ap, subst, ◌∙◌, arith, length-append, length-drop}
+use Rattle.std.specs.List.{slice_range}
+use Rattle.std.proofs.lemmas.List.{take-append-le, drop-append-le}
+use Rattle.std.proofs.Math.Seq.{drop-append_seam, take-length}
+use Rattle.serializability.specs.declared.literal.Literal.{Literal}
+use Rattle.refutation.specs.Numbered.{clause_at}
+use Rattle.refutation.specs.Stored.{clause_in, clauses_in, IsWithin, AreWithin}
+use Rattle.refutation.specs.declared.clauses.Span.{Span}
+
+-- a range of a list is the same when more comes behind the list
+pub range_before : (xs more : List Literal) (a b : ℕ) → a ≤ b → b ≤ length xs → slice_range (xs ++ more) a b ≡ slice_range xs a b
+range_before xs more a b ab bn =
+    let start : a ≤ length xs = omega arith in
+    let long : b - a ≤ length (drop a xs) = omega (arith, length-drop a xs) in
+    ap (take (b - a)) (drop-append-le a xs more start) ∙ take-append-le (b - a) (drop a xs) more long
+
+pub range_behind : (xs more : List Literal) → slice_range (xs ++ more) (length xs) (length (xs ++ more)) ≡ more
+range_behind xs more =
+    let long : length (xs ++ more) - length xs ≡ length more = omega (arith, length-append xs more) in
+    ap (take (length (xs ++ more) - length xs)) (drop-append_seam xs more) ∙ (ap (λ n. take n more) long ∙ take-length more)
+
+pub clauses_before : (xs more : List Literal) (spans : List (Option Span)) → AreWithin (length xs) spans → clauses_in (xs ++ more) spans ≡ clauses_in xs spans
+clauses_before xs more [] w = refl
+clauses_before xs more (None ∷ spans) w = ap (λ cs. None ∷ cs) (clauses_before xs more spans w.1)
+clauses_before xs more (Some s ∷ spans) w =
+    let head = range_before xs more s.start s.end w.0.0 w.0.1 in
+    let tail = clauses_before xs more spans w.1 in
+    ap (λ c. Some c ∷ clauses_in (xs ++ more) spans) head ∙ ap (λ cs. Some (slice_range xs s.start s.end) ∷ cs) tail
+
+pub clauses_with : (xs : List Literal) (spans : List (Option Span)) (s : Option Span) → clauses_in xs (spans ++ s ∷ []) ≡ clauses_in xs spans ++ clause_in xs s ∷ []
+clauses_with xs [] s = refl
+clauses_with xs (t ∷ spans) s = ap (λ cs. clause_in xs t ∷ cs) (clauses_with xs spans s)
+
+is_within_more : (n m : ℕ) (s : Option Span) → n ≤ m → IsWithin n s → IsWithin m s
+is_within_more n m None le w = tt
+is_within_more n m (Some s) le w = (w.0, omega (arith, w.1))
+
+pub within_more : (n m : ℕ) (spans : List (Option Span)) → n ≤ m → AreWithin n spans → AreWithin m spans
+within_more n m [] le w = w
+within_more n m (s ∷ spans) le w = (is_within_more n m s le w.0, within_more n m spans le w.1)
+
+pub within_with : (n : ℕ) (spans : List (Option Span)) (s : Option Span) → AreWithin n spans → IsWithin n s → AreWithin n (spans ++ s ∷ [])
+within_with n [] s w h = (h, tt)
+within_with n (t ∷ spans) s w h = (w.0, within_with n spans s w.1 h)
+
+pub within_without : (n : ℕ) (spans : List (Option Span)) (k : ℕ) → AreWithin n spans → AreWithin n (slice_set spans k None)
+within_without n [] k w = w
+within_without n (s ∷ spans) zero w = (tt, w.1)
+within_without n (s ∷ spans) (suc k) w = (w.0, within_without n spans k w.1)
+
+pub within_at : (n : ℕ) (spans : List (Option Span)) (k : ℕ) (s : Span) → AreWithin n spans → slice_get spans k ≡ Some (Some s) → (s.start ≤ s.end) × (s.end ≤ n)
+within_at n [] k s w h = cc
+within_at n (t ∷ spans) zero s w h = let same : t ≡ Some s = cc in subst (IsWithin n) same w.0
+within_at n (t ∷ spans) (suc k) s w h = within_at n spans k s w.1 h
+
+-- the clause with a number, by its span
+pub clause_of_span : (xs : List Literal) (spans : List (Option Span)) (k : ℕ) → clause_at (clauses_in xs spans) k ≡ clause_in xs (unwrap_or (slice_get spans k) None)
+clause_of_span xs [] k = refl
+clause_of_span xs (s ∷ spans) zero = refl
+clause_of_span xs (s ∷ spans) (suc k) = clause_of_span xs spans k
+
+pub clauses_without : (xs : List Literal) (spans : List (Option Span)) (k : ℕ) → clauses_in xs (slice_set spans k None) ≡ slice_set (clauses_in xs spans) k None
+clauses_without xs [] k = refl
+clauses_without xs (s ∷ spans) zero = refl
+clauses_without xs (s ∷ spans) (suc k) = ap (λ cs. clause_in xs s ∷ cs) (clauses_without xs spans k)
+
+-- where there is no place to write, nothing is written
+pub set_past : {X : Type 0} (xs : List X) (k : ℕ) (x : X) → length xs ≤ k → slice_set xs k x ≡ xs
+set_past [] k x le = refl
+set_past (y ∷ xs) zero x le = absurd (omega arith)
+set_past (y ∷ xs) (suc k) x le = ap (λ ys. y ∷ ys) (set_past xs k x (omega arith))
+
+-- a clause put behind the others
+pub clause_pushed : (xs c : List Literal) (spans : List (Option Span)) (s : Span) → AreWithin (length xs) spans → s.start ≡ length xs → s.end ≡ length (xs ++ c) → clauses_in (xs ++ c) (spans ++ Some s ∷ []) ≡ clauses_in xs spans ++ Some c ∷ []
+clause_pushed xs c spans s w a b =
+    let last : slice_range (xs ++ c) s.start s.end ≡ c = rw (a, b) (range_behind xs c) in
+    clauses_with (xs ++ c) spans (Some s) ∙ (ap (λ cs. cs ++ clause_in (xs ++ c) (Some s) ∷ []) (clauses_before xs c spans w) ∙ ap (λ d. clauses_in xs spans ++ Some d ∷ []) last)
+
+pub within_pushed : (xs c : List Literal) (spans : List (Option Span)) (s : Span) → AreWithin (length xs) spans → s.start ≡ length xs → s.end ≡ length (xs ++ c) → AreWithin (length (xs ++ c)) (spans ++ Some s ∷ [])
+within_pushed xs c spans s w a b =
+    let long = length-append xs c in
+    within_with (length (xs ++ c)) spans (Some s) (within_more (length xs) (length (xs ++ c)) spans (omega arith) w) (omega arith, omega arith)
+
+pub on_err : {T E P : Type 0} (r : Result T E) → P → OnErr r P
+on_err (Ok x) p = tt
+on_err (Err e) p = p

@@ -1,0 +1,9 @@
+pub mod Follows
+pub mod Hinted
+pub mod Known
+pub mod Left
+pub mod Numbered
+pub mod Shown
+pub mod Standing
+pub mod Steps
+pub mod Stored
