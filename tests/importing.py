@@ -11,7 +11,7 @@ import collections, concurrent.futures, importlib.util, io, itertools, os, rando
 HERE = os.path.dirname(os.path.abspath(__file__))
 SCRIPT = os.path.join(os.path.dirname(HERE), 'tools', 'import.py')
 NO_LOG, UNREADABLE, USAGE, AROUND = b'no log: see standard error\n', 65, 2, 70
-MADE, OPS, LATE = 2500, 100000, 300
+MADE, OPS, LATE = 2000, 100000, 600
 
 # ---- by hand: name, words of the command, history, the log, the first words of the verdict, and what stands on standard error
 
@@ -353,8 +353,6 @@ BAD = [
     ('jepsen', INVOKE + '{:process ' + '9' * 5000 + '}', '2: op 2: '),
     ('jepsen', INVOKE + '[' * 100000, '2: op 2: more than 100 brackets within each other'),
     ('jepsen', INVOKE + '{:process \udcff}', '2: op 2: a byte that is no UTF-8'),
-    ('jepsen', INVOKE + '{:process \x1b[0m}', '2: op 2: ? is no EDN'),
-    ('jepsen', INVOKE + '[[' + '5 5 ' * 1000 + ']]', '2: op 2: an op is a map, and not [5 5 5'),
     ('jepsen', INVOKE + ':ok', '2: op 2: an op is a map, and not :ok'),
     ('jepsen', INVOKE + '{:process 0, :value 1}', '2: op 2: an op has a :process, and as :type one of :invoke, :ok, :fail and :info'),
     ('jepsen', INVOKE + '{:process 0, :type :okay}', '2: op 2: an op has a :process, and as :type one of :invoke, :ok, :fail and :info'),
@@ -389,6 +387,12 @@ BAD = [
     ('plume', 'w(1,1,1,1)\nw(2,1,1,2)\nw(1,1,2,3)\n', '3: key 1 gets 1 a second time; the first stands in line 1'),
     ('plume', 'w(1,0,1,1)\n', '1: key 1 gets 0, which is the initial value'),
     ('plume', ''.join('w(1,%d,%d,1)\n' % (n, n) for n in range(1, 65537)), '65536: a log has at most 65535 sessions'),
+]
+TOLD = [
+    ('jepsen', INVOKE + '{:type :ok', '2: op 2: the text ends within the { of line 2'),
+    ('jepsen', INVOKE + '{:process \x1b[0m}', '2: op 2: ? is no EDN'),
+    ('jepsen', INVOKE + '[[' + '5 ' * 1000 + ']]', '2: op 2: an op is a map, and not [%s ..' % ('5 ' * 200)[:400 - len('-:2: op 2: an op is a map, and not [')]),
+    ('plume', 'w(1,1,1,1)\n\nw(1,1,1,1)', '3: key 1 gets 1 a second time; the first stands in line 1'),
 ]
 AROUND_IT = [
     ('no word', [], USAGE, 'the following arguments are required'),
@@ -615,11 +619,22 @@ class Checks:
             with open(path) as file:
                 yield file.read(), places, '%s, its map' % name
 
+    def log_of(self, form, history):
+        """The log of a history, by the functions of the script, in this process."""
+        read = self.importer.read_history(io.BytesIO(history.encode(errors='surrogateescape')), form)
+        return ''.join(line + '\n' for line in self.importer.log_of(read)[0])
+
     def bad(self, case):
         form, history, wanted = case
-        status, said, error = self.script(['--from', form, '-'], history.encode(errors='surrogateescape'))
-        begins = error[:len('import.py: -:' + wanted)]
-        yield (status, said, begins, error.count('\n')), (UNREADABLE, NO_LOG, 'import.py: -:' + wanted, 1), 'bad history %.60r' % history[-60:]
+        try:
+            said = self.log_of(form, history)
+        except self.importer.Unreadable as wrong:
+            said = '%d: %s' % (wrong.line, wrong)
+        yield said[:len(wanted)], wanted, 'bad history %.60r' % history[-60:]
+
+    def told(self, case):
+        form, history, wanted = case
+        yield self.script(['--from', form, '-'], history.encode()), (UNREADABLE, NO_LOG, 'import.py: -:%s\n' % wanted), 'told of %.40r' % history[-40:]
 
     def around(self, case):
         name, words, wanted_status, wanted = case
@@ -628,15 +643,13 @@ class Checks:
 
     def made(self, seed):
         text, explained = made_history(seed)
-        history = self.importer.History('real-time', self.importer.INITIAL)
-        self.importer.Jepsen(history).read(io.BytesIO(text.encode()))
-        log = ''.join(line + '\n' for line in self.importer.log_of(history)[0])
+        log = self.log_of('jepsen', text)
         said = self.verdict(log.encode())
         self.kinds[' '.join(said.split(' ')[:3])] += 1
         yield said.startswith('not serializable' if not explained else 'serializable'), True, 'made history %d: %s\n%s%s' % (seed, said, text, log)
 
     def run(self):
-        lists = [(self.by_hand, BY_HAND), (self.bad, BAD), (self.around, AROUND_IT), (self.made, range(MADE))]
+        lists = [(self.by_hand, BY_HAND), (self.bad, BAD), (self.told, TOLD), (self.around, AROUND_IT), (self.made, range(MADE))]
         jobs = [(check, case) for check, cases in lists for case in cases]
         with concurrent.futures.ThreadPoolExecutor() as pool:
             for found in pool.map(lambda job: list(job[0](job[1])), jobs):

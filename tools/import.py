@@ -592,11 +592,13 @@ def arguments():
     return given
 
 
-def read_history(given):
-    history = History(given.order, given.initial if given.initial is not None else 0 if given.form == 'plume' else INITIAL)
-    reader = Jepsen(history) if given.form == 'jepsen' else Plume(history, given.aborted)
-    with open(0 if given.history == '-' else given.history, 'rb', closefd=given.history != '-') as lines:
-        reader.read(lines)
+def read_history(lines, form, order='real-time', initial=None, aborted=None):
+    """The history of a form that these lines have."""
+    history = History(order, initial if initial is not None else 0 if form == 'plume' else INITIAL)
+    reader = Jepsen(history) if form == 'jepsen' else Plume(history, aborted)
+    reader.read(lines)
+    if not history.sessions:
+        raise Unreadable(1, 'there is no transaction in it')
     return history
 
 
@@ -626,9 +628,8 @@ def write(history, path):
 def main():
     given = arguments()
     try:
-        history = read_history(given)
-        if not history.sessions:
-            raise Unreadable(1, 'there is no transaction in it')
+        with open(0 if given.history == '-' else given.history, 'rb', closefd=given.history != '-') as lines:
+            history = read_history(lines, given.form, given.order, given.initial, given.aborted)
         write(history, given.map)
         tell(history)
     except Unreadable as wrong:
