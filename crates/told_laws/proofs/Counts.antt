@@ -9,7 +9,7 @@ use Rattle.forced_steps.specs.declared.item.Item.{Item}
 use Rattle.forced_steps.specs.declared.item.Item.TheVariants as item
 use Rattle.told_trees.specs.declared.TheConstants.{MAX_LEAVES}
 use Rattle.told_trees.specs.Trees as trees
-use Rattle.told_trees.specs.Trees.{IsCubeTold, leaves_items, IsTreeTold}
+use Rattle.told_trees.specs.Trees.{IsCubeTold, leaves_items, IsTreeTold, told_leaves}
 use Rattle.told_laws.specs.Counts.{cycles_in}
 
 joined : (front back : List Item) → cycles_in (front ++ back) ≡ cycles_in front + cycles_in back
@@ -38,9 +38,10 @@ of_leaves : (count : ℕ) (more : Bool) → cycles_in (cond more (item.Leaves co
 of_leaves count true = refl
 of_leaves count false = refl
 
-pub last_is_cycles : (ss : List ClientSession) (leaves : ℕ) (items : List Item) (t : IsTreeTold ss leaves items) → t.last ≡ cycles_in items
-last_is_cycles ss leaves items t =
+pub cycles_are_leaves : (ss : List ClientSession) (leaves : ℕ) (items : List Item) → IsTreeTold ss leaves items → cycles_in items ≡ told_leaves leaves
+cycles_are_leaves ss leaves items t =
+    let count = t.count in
     let before = joined t.before (leaves_items leaves ++ t.tree) in
     let behind = joined (leaves_items leaves) t.tree in
     let all = ap cycles_in t.whole in
-    omega (arith, all, before, behind, of_steps ss t.steps t.before t.told, of_leaves leaves (nat_lt MAX_LEAVES leaves), of_cube ss t.steps 0 [] 0 t.last t.tree t.root)
+    omega (arith, count, all, before, behind, of_steps ss t.steps t.before t.told, of_leaves leaves (nat_lt MAX_LEAVES leaves), of_cube ss t.steps 0 [] 0 t.last t.tree t.root)

@@ -1,5 +1,6 @@
 -- What is told holds in each serial order.
-use Rattle.std.proofs.Common.{◌≡◌, ◌⊎◌, ℕ, ◌+◌, ◌<◌, ◌≤◌, List, [], ◌∷◌, ◌++◌, Option, None, Some, refl, inl, inr, arith}
+use Rattle.std.proofs.Common.{◌≡◌, ◌⊎◌, ℕ, ◌+◌, ◌<◌, ◌≤◌, cond, List, [], ◌∷◌, ◌++◌, Option, None, Some, refl, sym, ap, ◌∙◌, subst, inl, inr, arith}
+use Rattle.std.proofs.lemmas.Bool.{le-ltb}
 use Rattle.std.specs.Prelude.{slice_get}
 use Rattle.std.specs.List.{AllByRecursion, Contains}
 use Rattle.std.proofs.lemmas.Option.{slice_get_within, get_or_from_slice_get}
@@ -146,7 +147,8 @@ no_order_where_dead ss h items t order serial =
     let s = setting ss order h serial in
     cycle_refuted ss order s t.steps [] (steps_kept ss order s t.steps t.before t.told) tt t.round t.cycle
 
-pub no_order_where_tree : (ss : List ClientSession) → IsWellFormedList ss → (leaves : ℕ) (items : List Item) (t : IsTreeTold ss leaves items) → t.last < MAX_LEAVES → (order : List ℕ) → IsSerialOrder ss order → ⊥
-no_order_where_tree ss h leaves items t few order serial =
+pub no_order_where_tree : (ss : List ClientSession) → IsWellFormedList ss → (leaves : ℕ) (items : List Item) (t : IsTreeTold ss leaves items) → leaves < MAX_LEAVES → (order : List ℕ) → IsSerialOrder ss order → ⊥
+no_order_where_tree ss h leaves items t less order serial =
     let s = setting ss order h serial in
+    let few : t.last < MAX_LEAVES = subst (λ n. n < MAX_LEAVES) (sym (t.count ∙ ap (λ b. cond b MAX_LEAVES leaves) (le-ltb MAX_LEAVES leaves (omega (arith, less))))) less in
     cube_refuted ss order s t.steps (steps_kept ss order s t.steps t.before t.told) 0 [] 0 t.last t.tree t.root tt few

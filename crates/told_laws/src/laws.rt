@@ -10,12 +10,12 @@ ghost use Rattle.explanations.specs.declared.why.ChainOrder.{ChainOrder};
 ghost use Rattle.forced_steps.specs.Steps.{edges_in, IsLineTold, AreStepsTold, IsDeadTold};
 ghost use Rattle.forced_steps.specs.declared.item.Item.{Item};
 ghost use Rattle.told_trees.specs.declared.TheConstants.{MAX_LEAVES};
-ghost use Rattle.told_trees.specs.Trees.{IsTreeTold};
+ghost use Rattle.told_trees.specs.Trees.{IsTreeTold, told_leaves};
 ghost use Rattle.told_laws.specs.Counts.{cycles_in};
 
 /// What is told rules out every serial order. Each edge of a told step stands in all of them. There is none where a cycle is told of
-/// which each edge has a reason, where told steps end in a cycle, and where a told tree has fewer leaves than the most that are told;
-/// it has as many as cycles are told.
+/// which each edge has a reason, where told steps end in a cycle, and where a tree is told that has fewer leaves than the most that are
+/// told. Of a tree as many cycles are told as it has leaves, up to that number.
 pub fn told_lines_rule_out_orders()
     ensures steps { (ss : List ClientSession) (order : List ℕ) → IsWellFormedList ss → IsSerialOrder ss order →
         (steps : List ChainOrder) (items : List Item) → AreStepsTold ss steps items →
@@ -24,7 +24,8 @@ pub fn told_lines_rule_out_orders()
         IsLineTold ss [] [] (start ∷ (inner ++ start ∷ [])) items → (order : List ℕ) → IsSerialOrder ss order → ⊥ }
     ensures dead { (ss : List ClientSession) → IsWellFormedList ss → (items : List Item) → IsDeadTold ss items →
         (order : List ℕ) → IsSerialOrder ss order → ⊥ }
-    ensures tree { (ss : List ClientSession) → IsWellFormedList ss → (leaves : ℕ) (items : List Item) (told : IsTreeTold ss leaves items) →
-        told.last < MAX_LEAVES → (order : List ℕ) → IsSerialOrder ss order → ⊥ }
-    ensures counted { (ss : List ClientSession) (leaves : ℕ) (items : List Item) (told : IsTreeTold ss leaves items) → told.last ≡ cycles_in items }
+    ensures tree { (ss : List ClientSession) → IsWellFormedList ss → (leaves : ℕ) (items : List Item) → IsTreeTold ss leaves items →
+        leaves < MAX_LEAVES → (order : List ℕ) → IsSerialOrder ss order → ⊥ }
+    ensures counted { (ss : List ClientSession) (leaves : ℕ) (items : List Item) → IsTreeTold ss leaves items →
+        cycles_in items ≡ told_leaves leaves }
 {}

@@ -26,9 +26,10 @@ use Rattle.told_trees.specs.declared.visits.Visit.{Visit}
 use Rattle.told_trees.specs.Orders.{AreOrdersOf}
 use Rattle.told_trees.specs.Searched.{IsSearched}
 use Rattle.told_trees.specs.Told.{AddsVisits}
-use Rattle.told_trees.specs.Trees.{IsCubeTold, IsTreeTold, leaves_items}
-use Rattle.told_trees.specs.Visits.{IsTree, DecidesAmong, IsVisited}
+use Rattle.told_trees.specs.Trees.{IsCubeTold, IsTreeTold, leaves_items, told_leaves}
+use Rattle.told_trees.specs.Visits.{IsTree, DecidesAmong, IsVisited, leaf_count}
 use Rattle.told_trees.specs.Visits as visited
+use Rattle.told_trees.proofs.Counted.{told_count}
 use Rattle.told_trees.proofs.Facts.{decides_among}
 use Rattle.told_trees.proofs.Tellings.{root_told}
 
@@ -89,9 +90,9 @@ module _ (ss : List ClientSession) (entries : List LedgerEntry) (orders : List C
   pub searched_among : DecidesAmong (length orders) nodes
   searched_among = subst (λ n. DecidesAmong n nodes) (sym orders_count) (decides_among h.poly nodes h.shown)
 
-  pub whole_told : (s : StepsView) → s.sessions ≡ ss → (visits : List Visit) (last leaves : ℕ) → IsVisited nodes 0 0 last visits → (before mid items : List Item) → AreStepsTold s.sessions s.orders before → mid ≡ before ++ leaves_items leaves
+  pub whole_told : (s : StepsView) → s.sessions ≡ ss → (visits : List Visit) (last leaves : ℕ) → leaves ≡ leaf_count nodes → IsVisited nodes 0 0 last visits → (before mid items : List Item) → AreStepsTold s.sessions s.orders before → mid ≡ before ++ leaves_items leaves
       → AddsVisits s orders nodes visits mid items → IsTreeTold ss leaves items
-  whole_told s of_log visits last leaves v before mid items steps mid_is a =
+  whole_told s of_log visits last leaves all v before mid items steps mid_is a =
       let each = subst (λ (zs : List ClientSession). All (IsOrder (log_of zs)) orders) (sym of_log) h.sides.each in
       let root = root_told s orders nodes h.poly h.shown each orders_count last visits a.own v a.told in
       record {
@@ -101,5 +102,6 @@ module _ (ss : List ClientSession) (entries : List LedgerEntry) (orders : List C
         told = subst (λ (zs : List ClientSession). AreStepsTold zs s.orders before) of_log steps;
         last = last;
         root = subst (λ (zs : List ClientSession). IsCubeTold zs s.orders 0 [] 0 last a.own) of_log root;
+        count = told_count h.poly nodes h.shown last visits v ∙ ap told_leaves (sym all);
         whole = a.added ∙ ap (λ l. l ++ a.own) mid_is ∙ append_assoc before (leaves_items leaves) a.own;
       }

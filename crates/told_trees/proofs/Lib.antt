@@ -1,5 +1,6 @@
 pub mod Edges
 pub mod Facts
+pub mod Counted
 pub mod Left
 pub mod Lines
 pub mod Opened

@@ -23,7 +23,11 @@ pub data IsCubeTold (ss : List ClientSession) (steps : List ChainOrder) : ℕ �
 abbrev pub leaves_items : ℕ → List Item
 leaves_items count = if nat_lt MAX_LEAVES count then item.Leaves count ∷ [] else []
 
--- steps; how many leaves there are, where not all are told; and then the cube in which nothing is decided
+-- of so many leaves so many are told: all of them, up to the greatest number
+abbrev pub told_leaves : ℕ → ℕ
+told_leaves count = if nat_lt MAX_LEAVES count then MAX_LEAVES else count
+
+-- steps; how many leaves there are, where not all are told; and then the cube in which nothing is decided, with as many leaves as are told of so many
 pub record IsTreeTold (ss : List ClientSession) (leaves : ℕ) (items : List Item) : Type 0 where
   pub steps : List ChainOrder
   pub before : List Item
@@ -31,4 +35,5 @@ pub record IsTreeTold (ss : List ClientSession) (leaves : ℕ) (items : List Ite
   pub told : AreStepsTold ss steps before
   pub last : ℕ
   pub root : IsCubeTold ss steps 0 [] 0 last tree
+  pub count : last ≡ told_leaves leaves
   pub whole : items ≡ before ++ (leaves_items leaves ++ tree)
