@@ -67,8 +67,9 @@ const DEFAULT_WORKERS: &str = "4";
 /// How many cubes a search may close where the words do not say.
 const DEFAULT_BUDGET: &str = "10000";
 
-/// The version that `--version` prints.
-const VERSION: &str = "0.1.0";
+/// The version that `--version` prints. Where a built program is kept, its commit and whether it was proved are
+/// written over what stands in brackets here, in as many bytes (`tools/stamp.py`).
+const VERSION: &str = "1.0.0 (commit unknown, not stamped)";
 
 /// The name of a log that stands for standard input.
 const STANDARD_INPUT: &str = "-";

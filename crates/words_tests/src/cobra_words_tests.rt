@@ -91,7 +91,10 @@ fn see_text(rt: &impl Abort, alloc: Global, line: &str, part: &str) {
 #[test]
 fn texts_of_help(rt: HostRuntime) {
     for (line, part) in [
-        ("cobra_poly --version", "cobra_poly 0.1.0\n"),
+        (
+            "cobra_poly --version",
+            "cobra_poly 1.0.0 (commit unknown, not stamped)\n",
+        ),
         (
             "cobra_poly encode --help",
             "  0  the formula; the contradiction",
