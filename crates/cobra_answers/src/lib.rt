@@ -12,6 +12,6 @@ mod verdict;
 pub use fault::Fault;
 pub use reply::{Reply, tell};
 pub use source::{CountedRead, ReadFault, Source, SourceFailed, read_all};
-pub use status::{Options, Status, StrategyName};
+pub use status::Status;
 pub use stop::Stop;
 pub use verdict::{anomaly_text, cycle_text, serial_text, spent_text};

@@ -3,31 +3,31 @@ use Rattle.std.proofs.Common.{◌≡◌, ℕ, ◌<◌, ◌≤◌, Bool, List, le
 use Rattle.std.specs.List.{All}
 use Rattle.std.proofs.lemmas.List.FromFn.{length-map-range_with_len}
 use Rattle.session_log.specs.Text.{ClientSession}
+use Rattle.session_log.specs.declared.version.Version.{Version}
 use Rattle.serializability.specs.Formula.{Cnf, Satisfies}
 use Rattle.serializability.specs.Decoded.{before, IsDecoded}
 use Rattle.log_definitions.specs.Serial.{IsSerialOrder}
-use Rattle.log_definitions.specs.Numbers.{log_of, IsWellFormedList}
-use Rattle.log_definitions.proofs.OnlyTaken.{serial_where_some}
-use Rattle.reduction.specs.Chained.{HasNoSerialOrder}
+use Rattle.log_definitions.specs.Numbers.{log_of}
+use Rattle.polygraph.specs.declared.fault.PolyFault.{PolyFault}
+use Rattle.polygraph.specs.declared.fault.PolyFault.TheVariants.{TooManyChoices, Memory}
+use Rattle.reduction.specs.Outcome.{IsReduceFault}
+use Rattle.deciding.specs.Decides.{Decides, IsDecided}
+use Rattle.deciding.specs.declared.decision.Decision.{Decision}
 use Rattle.dimacs.specs.Answer as answer
 use Rattle.dimacs.specs.Words.{Item}
 use Rattle.dimacs.specs.Text.{text_of}
 use Rattle.dimacs.specs.declared.status.Status as dimacs
 use Rattle.order_text.specs.Text.{order_text}
-use Rattle.prune_ledger.specs.Pruned.{Remainder}
-use Rattle.reduction.specs.Outcome.{IsOpenHistory}
-use Rattle.branch_search.specs.Answers.{EndsRun}
-use Rattle.branch_search.specs.Trees.{IsRefutationTree}
-use Rattle.branch_search.specs.declared.tree.TreeNode.{TreeNode}
-use Rattle.branch_search.specs.declared.answer.Answer.{Answer}
-use Rattle.branch_search.specs.declared.answer.Answer.TheVariants as search
-use Rattle.cobra_answers.specs.Verdicts.{spent_text}
+use Rattle.explaining.specs.declared.format.Format.{Format}
+use Rattle.cobra_answers.specs.Refusals.{poly_refusal}
+use Rattle.cobra_answers.specs.declared.reply.Reply.{Reply}
 use Rattle.cobra_answers.specs.declared.status.Status.{Status}
 use Rattle.cobra_answers.specs.declared.status.Status.TheVariants.{Done}
 use Rattle.cobra_formulas.specs.declared.basis.Basis.{Basis}
 use Rattle.cobra_formulas.specs.Formulas.{IsFormulaFrom, IsFormulaOf, IsFaithful}
 use Rattle.cobra_cli.specs.Commands.{IsEncoding, IsAnswerTo, named_by, IsOrderText, IsDecoding}
-use Rattle.cobra_cli.specs.Checked.{HasNoOrder, IsSearched, IsRefutedBy, IsSpentText, IsVerdict}
+use Rattle.cobra_cli.specs.Checked.{status_of, verdict_text, IsVerdict, IsUndecided}
+use Rattle.cobra_cli.specs.Explained.{IsDecisionText, IsExplanation}
 
 pub serial_of : (ss : List ClientSession) (f : Cnf) → IsFaithful ss f → (values : List Bool) (order : List ℕ) → Satisfies values f → IsDecoded f.nodes (before f values) order → IsSerialOrder ss order
 serial_of ss f h values order s d = h.orders values s order d
@@ -63,20 +63,21 @@ pub decoding_is : (plain : Bool) (given : List ℕ) (ss : List ClientSession) (s
 decoding_is plain given ss status said text told e t h = subst (λ (s : Status). IsDecoding plain given ss s text) (sym e) (subst (λ (l : List ℕ). IsDecoding plain given ss said l) (sym t) h)
 
 -- ---- check
-pub no_order : (ss : List ClientSession) → IsWellFormedList ss → HasNoSerialOrder ss → HasNoOrder ss
-no_order ss well h = record { none = λ order s. (let d = serial_where_some ss well (order, s) in h.none d.0 d.1) }
+pub verdict_so : (budget : ℕ) (ss : List ClientSession) (d : Decision) (r : Reply) → Decides budget ss d → r.status ≡ status_of d → r.text.items ≡ verdict_text ss d → IsVerdict budget ss r.status r.text.items
+verdict_so budget ss d r h ends told = record { decision = d; decides = h; ends = ends; told = told }
 
-pub verdict_is : (budget : ℕ) (ss : List ClientSession) (status said : Status) (text told : List ℕ) → status ≡ said → text ≡ told → IsVerdict budget ss said told → IsVerdict budget ss status text
-verdict_is budget ss status said text told e t h = subst (λ (s : Status). IsVerdict budget ss s text) (sym e) (subst (λ (l : List ℕ). IsVerdict budget ss said l) (sym t) h)
+pub decided_so : (budget : ℕ) (ss : List ClientSession) (d : Decision) → Decides budget ss d → IsDecided ss d
+decided_so budget ss d h = record { budget = budget; decides = h }
 
-pub searched_so : (budget : ℕ) (ss : List ClientSession) (r : Remainder) (a : Answer) → IsOpenHistory ss r → EndsRun r.poly budget a → IsSearched budget ss a
-searched_so budget ss r a h ran = record { left = r; history = h; ran = ran }
+pub undecided_so : (ss : List ClientSession) (e : PolyFault) → IsReduceFault ss e → IsUndecided (poly_refusal e) ss
+undecided_so ss TooManyChoices h = h
+undecided_so ss Memory h = tt
 
-pub spent_so : (budget closed : ℕ) (ss : List ClientSession) (r : Remainder) (text : List ℕ) → closed ≡ budget → IsOpenHistory ss r → EndsRun r.poly budget (search.Unknown closed) → text ≡ spent_text closed → IsSpentText budget ss text
-spent_so budget closed ss r text e h ran told = record {
-  searched = searched_so budget ss r (search.Unknown budget) h (subst (λ (n : ℕ). EndsRun r.poly budget (search.Unknown n)) e ran);
-  told = subst (λ (n : ℕ). text ≡ spent_text n) e told;
+-- ---- explain
+pub explanation_so : (budget : ℕ) (v w : Version) (format : Format) (ss : List ClientSession) (d : Decision) (r : Reply) → v ≡ w → Decides budget ss d → r.status ≡ status_of d → IsDecisionText v format ss d r.text.items → IsExplanation budget w format ss r.status r.text.items
+explanation_so budget v w format ss d r e h ends told = record {
+  decision = d;
+  decides = h;
+  ends = ends;
+  explains = subst (λ u. IsDecisionText u format ss d r.text.items) e told;
 }
-
-pub refuted_so : (budget : ℕ) (ss : List ClientSession) (r : Remainder) (tree : List TreeNode) → IsOpenHistory ss r → EndsRun r.poly budget (search.No tree) → IsRefutationTree r.poly tree → IsRefutedBy budget ss tree
-refuted_so budget ss r tree h ran t = record { searched = record { left = r; history = h; ran = ran }; refutes = t }

@@ -3,4 +3,4 @@ pub mod Named
 pub mod Answering
 pub mod Counting
 pub mod OneFormula
-pub mod Refusing
+pub mod Statuses

@@ -1,5 +1,4 @@
 pub mod Statistics
 pub mod Commands
 pub mod Checked
-pub mod Placed
 pub mod Explained

@@ -11,8 +11,9 @@ ghost use Rattle.cobra_cli.specs.Commands.{named_by, IsAnswerTo, IsAssignmentRef
 ghost use Rattle.cobra_answers.specs.Failures.{failures_after};
 
 use crate::formula::formula_of;
+use crate::options::Options;
 use crate::reading::read_log;
-use cobra_answers::{Fault, Options, Reply, Status, tell};
+use cobra_answers::{Fault, Reply, Status, tell};
 use decode_order::{DecodeFault, positions};
 use desk::gate::Gate;
 use dimacs::{Sink, SolverAnswer, read_answer};

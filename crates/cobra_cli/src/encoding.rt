@@ -9,8 +9,9 @@ ghost use Rattle.cobra_cli.specs.Commands.{IsEncoding, HasNoFormula};
 ghost use Rattle.cobra_answers.specs.Failures.{failures_after};
 
 use crate::formula::formula_of;
+use crate::options::Options;
 use crate::reading::read_log;
-use cobra_answers::{Fault, Options, Status};
+use cobra_answers::{Fault, Status};
 use desk::gate::Gate;
 use dimacs::{Sink, write_formula};
 use order_cnf::Formula;

@@ -4,7 +4,7 @@ ghost use Rattle.std.specs.Prelude.{IfOk, IfErr};
 ghost use Rattle.order_cnf.specs.Data.{cnf_of};
 ghost use Rattle.cobra_formulas.specs.Formulas.{IsFormulaFrom, IsFormulaFault, IsFaithful};
 
-use cobra_answers::Options;
+use crate::options::Options;
 use cobra_formulas::{Belonging, plain_of, reduced_of};
 use desk::gate::Gate;
 use order_cnf::CnfFault;

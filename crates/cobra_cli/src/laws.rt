@@ -1,12 +1,20 @@
-//! Laws of the formulas that belong to sessions, each the contract of a function that does nothing.
+//! Laws of what the commands say, each the contract of a function that does nothing.
 
 ghost use Rattle.std.specs.Prelude.{◌≡◌, ℕ, List, Bool};
 ghost use Rattle.session_log.specs.Text.{ClientSession};
 ghost use Rattle.session_log.specs.declared.version.Version.{Version};
 ghost use Rattle.serializability.specs.Formula.{Cnf};
+ghost use Rattle.log_definitions.specs.Serial.{IsSerialOrder};
+ghost use Rattle.branch_search.specs.declared.answer.Answer.TheVariants.{Unknown};
+ghost use Rattle.deciding.specs.Decides.{HasNoOrder, IsSearched};
+ghost use Rattle.cobra_answers.specs.Verdicts.{serial_text, spent_text};
 ghost use Rattle.cobra_answers.specs.declared.status.Status.{Status};
+ghost use Rattle.cobra_answers.specs.declared.status.Status.TheVariants as status;
 ghost use Rattle.cobra_formulas.specs.Formulas.{IsFormulaOf};
+ghost use Rattle.explaining.specs.declared.format.Format.{Format};
+ghost use Rattle.cobra_cli.specs.Checked.{IsVerdict};
 ghost use Rattle.cobra_cli.specs.Commands.{IsEncoding, IsDecoding, IsCounting};
+ghost use Rattle.cobra_cli.specs.Explained.{IsExplanation};
 
 /// Sessions have one formula with `--plain` and one without it: the same variables, the same clauses, and each assignment puts the
 /// same nodes before each other.
@@ -29,4 +37,27 @@ pub fn one_text()
 pub fn one_decoding()
     ensures { (plain : Bool) (given : List ℕ) (ss : List ClientSession) (s t : Status) (text other : List ℕ) →
         IsDecoding plain given ss s text → IsDecoding plain given ss t other → (s ≡ t) × (text ≡ other) }
+{}
+
+/// What the status of `check` says of the sessions: that a serial order was found, which is written; that there is none; or that a search
+/// spent the budget.
+pub fn statuses_of_check()
+    ensures done { (budget : ℕ) (ss : List ClientSession) (text : List ℕ) →
+        IsVerdict budget ss status.Done text →
+        (order : List ℕ) × (IsSerialOrder ss order × (text ≡ serial_text ss order)) }
+    ensures refused { (budget : ℕ) (ss : List ClientSession) (text : List ℕ) →
+        IsVerdict budget ss status.NotSerializable text → HasNoOrder ss }
+    ensures unknown { (budget : ℕ) (ss : List ClientSession) (text : List ℕ) →
+        IsVerdict budget ss status.Unknown text →
+        IsSearched budget ss (Unknown budget) × (text ≡ spent_text budget) }
+{}
+
+/// The same of the status of `explain`.
+pub fn statuses_of_explain()
+    ensures done { (budget : ℕ) (v : Version) (format : Format) (ss : List ClientSession) (text : List ℕ) →
+        IsExplanation budget v format ss status.Done text → (order : List ℕ) × IsSerialOrder ss order }
+    ensures refused { (budget : ℕ) (v : Version) (format : Format) (ss : List ClientSession) (text : List ℕ) →
+        IsExplanation budget v format ss status.NotSerializable text → HasNoOrder ss }
+    ensures unknown { (budget : ℕ) (v : Version) (format : Format) (ss : List ClientSession) (text : List ℕ) →
+        IsExplanation budget v format ss status.Unknown text → IsSearched budget ss (Unknown budget) }
 {}

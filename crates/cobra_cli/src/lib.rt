@@ -6,6 +6,7 @@ mod decoding;
 mod encoding;
 mod formula;
 pub mod laws;
+mod options;
 mod reading;
 mod statistics;
 mod telling;
@@ -13,13 +14,14 @@ mod verifying;
 
 pub use checking::check;
 pub use cobra_answers::{
-    CountedRead, Fault, Options, ReadFault, Source, SourceFailed, Status, Stop, StrategyName,
-    read_all,
+    CountedRead, Fault, ReadFault, Source, SourceFailed, Status, Stop, read_all,
 };
 pub use cobra_formulas::Basis;
+pub use deciding::StrategyName;
 pub use decoding::decode;
 pub use encoding::encode;
 pub use explaining::Format;
+pub use options::Options;
 pub use reading::read_log;
 pub use statistics::stats;
 pub use telling::explain;

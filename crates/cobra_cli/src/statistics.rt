@@ -8,8 +8,9 @@ ghost use Rattle.cobra_cli.specs.Statistics.{count_line, basis_text, counts_text
 ghost use Rattle.session_log.specs.Version.{version_of};
 
 use crate::formula::formula_of;
+use crate::options::Options;
 use crate::reading::read_log;
-use cobra_answers::{Fault, Options, Reply, Status, tell};
+use cobra_answers::{Fault, Reply, Status, tell};
 use cobra_formulas::Basis;
 use desk::gate::Gate;
 use dimacs::Sink;

@@ -9,8 +9,9 @@ ghost use Rattle.cobra_answers.specs.Answers.{IsTold, IsRefused};
 ghost use Rattle.cobra_cli.specs.Commands.{IsRefusal, IsVerified, IsNotVerified};
 ghost use Rattle.cobra_answers.specs.Failures.{failures_after};
 
+use crate::options::Options;
 use crate::reading::read_log;
-use cobra_answers::{Fault, Options, Reply, Status, tell};
+use cobra_answers::{Fault, Reply, Status, tell};
 use decode_order::{ReplayFault, replay};
 use desk::gate::Gate;
 use dimacs::Sink;

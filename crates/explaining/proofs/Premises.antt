@@ -1,14 +1,23 @@
 -- What is known of a history where its answer is to be explained.
-use Rattle.std.proofs.Common.{List}
+use Rattle.std.proofs.Common.{◌≡◌, ℕ, ◌+◌, ◌<◌, ◌≤◌, ◌^◌, List, length, ap, ◌∙◌, arith}
 use Rattle.session_log.specs.Text.{ClientSession}
+use Rattle.session_log.specs.Version.{first_line}
+use Rattle.session_log.specs.declared.version.Version.{Version}
+use Rattle.session_log.specs.declared.version.Version.TheVariants.{One, Two, Three}
 use Rattle.serializability.specs.Polygraph.{Polygraph}
 use Rattle.serializability.specs.Reads.{IsClean}
 use Rattle.headline.proofs.Answered.{clean_log}
 use Rattle.log_definitions.specs.Numbers.{log_of, IsWellFormedList}
+use Rattle.log_definitions.specs.WellFormed.{log_lines}
+use Rattle.log_lines.specs.Places.{AreBeginLines}
 use Rattle.prune_ledger.specs.declared.ledger.Ledger.{Ledger}
 use Rattle.reduction.specs.Chained.{IsUnpruned}
 use Rattle.reduction.specs.Outcome.{IsDeadHistory}
 use Rattle.forced_steps.specs.Ledgers.{IsDeadLedger}
+use Rattle.forced_steps.specs.declared.item.Item.{Item}
+use Rattle.explanations.specs.Lines.{AreLines}
+use Rattle.explaining.specs.Explained.{told_text, AreWritten}
+use Rattle.explaining.specs.declared.format.Format.{Format}
 
 pub unpruned_clean : (ss : List ClientSession) (p : Polygraph) → IsWellFormedList ss → IsUnpruned (log_of ss) p → IsClean (log_of ss)
 unpruned_clean ss p well u = clean_log ss well u.coalesced.anomaly
@@ -21,3 +30,16 @@ dead_ledger ss ledger h = record {
   valid = h.dead.valid;
   cycle = h.dead.cycle;
 }
+
+-- ---- the lines of a log
+first_within : (v : Version) → first_line v ≤ 2
+first_within One = omega arith
+first_within Two = omega arith
+first_within Three = omega arith
+
+pub lines_of : (v : Version) (ss : List ClientSession) (begins : List ℕ) → length (log_lines ss) + 2 < 2 ^ 63 → AreBeginLines (first_line v) ss begins → AreLines ss begins
+lines_of v ss begins room h = record { from = first_line v; few = omega (arith, room, first_within v); lines = h }
+
+-- ---- what is written
+pub are_written : (Told : List Item → Type 0) (format : Format) (ss : List ClientSession) (begin : ℕ → ℕ) (items given : List Item) (text : List ℕ) → Told items → given ≡ items → text ≡ told_text format ss begin given → AreWritten Told format ss begin text
+are_written Told format ss begin items given text told same written = record { items = items; told = told; written = written ∙ ap (told_text format ss begin) same }

@@ -3,7 +3,10 @@ use Rattle.std.specs.Prelude.{◌≡◌, ℕ, ◌==◌, if◌then◌else◌, Lis
 use Rattle.std.specs.List.{flat_map}
 use Rattle.session_log.specs.Text.{ClientSession}
 use Rattle.serializability.specs.declared.anomaly.Anomaly.{Anomaly}
-use Rattle.branch_search.specs.declared.tree.TreeNode.{TreeNode}
+use Rattle.log_lines.specs.Places.{AreBeginLines}
+use Rattle.deciding.specs.declared.decision.Decision.{Decision}
+use Rattle.deciding.specs.declared.decision.Decision.TheVariants.{Serial, Anomalous, Cyclic, Dead, Refuted, Spent}
+use Rattle.explanations.specs.Lines.{begin_at}
 use Rattle.explanations.specs.Anomalies.{IsAnomalyTold}
 use Rattle.forced_steps.specs.Steps.{IsLineTold, IsDeadTold}
 use Rattle.forced_steps.specs.declared.item.Item.{Item}
@@ -42,17 +45,23 @@ pub record IsAnomalyExplained (format : Format) (from : ℕ) (ss : List ClientSe
   pub told : IsAnomalyTold from ss begin a lines
   pub written : text ≡ lines_text format lines
 
-pub record IsCycleExplained (format : Format) (ss : List ClientSession) (begin : ℕ → ℕ) (line : List ℕ) (text : List ℕ) : Type 0 where
+-- items of which this holds
+pub record AreWritten (Told : List Item → Type 0) (format : Format) (ss : List ClientSession) (begin : ℕ → ℕ) (text : List ℕ) : Type 0 where
   pub items : List Item
-  pub told : IsLineTold ss [] [] line items
+  pub told : Told items
   pub written : text ≡ told_text format ss begin items
 
-pub record IsDeadExplained (format : Format) (ss : List ClientSession) (begin : ℕ → ℕ) (text : List ℕ) : Type 0 where
-  pub items : List Item
-  pub told : IsDeadTold ss items
-  pub written : text ≡ told_text format ss begin items
+-- by what is decided; of an order and of a spent budget there is nothing to explain
+abbrev pub IsWhy : Format → ℕ → List ClientSession → (ℕ → ℕ) → Decision → List ℕ → Type 0
+IsWhy format from ss begin (Serial order) text = text ≡ empty_text format
+IsWhy format from ss begin (Anomalous a) text = IsAnomalyExplained format from ss begin a text
+IsWhy format from ss begin (Cyclic line) text = AreWritten (IsLineTold ss [] [] line.items) format ss begin text
+IsWhy format from ss begin (Dead ledger) text = AreWritten (IsDeadTold ss) format ss begin text
+IsWhy format from ss begin (Refuted left tree) text = AreWritten (IsTreeTold ss (leaf_count tree)) format ss begin text
+IsWhy format from ss begin (Spent closed) text = text ≡ empty_text format
 
-pub record IsTreeExplained (format : Format) (ss : List ClientSession) (begin : ℕ → ℕ) (nodes : List TreeNode) (text : List ℕ) : Type 0 where
-  pub items : List Item
-  pub told : IsTreeTold ss (leaf_count nodes) items
-  pub written : text ≡ told_text format ss begin items
+-- node v begins in line `begin_at begins v` of the log
+pub record IsExplained (format : Format) (from : ℕ) (ss : List ClientSession) (d : Decision) (text : List ℕ) : Type 0 where
+  pub begins : List ℕ
+  pub lines : AreBeginLines from ss begins
+  pub why : IsWhy format from ss (begin_at begins) d text

@@ -1,6 +1,6 @@
 //! Cycles, dead ledgers and refutation trees.
 
-ghost use Rattle.std.specs.Prelude.{◌≡◌, IfOk};
+ghost use Rattle.std.specs.Prelude.{◌≡◌, [], IfOk};
 ghost use Rattle.serializability.specs.Reads.{IsClean};
 ghost use Rattle.serializability.specs.Anomalies.{anomaly_of};
 ghost use Rattle.serializability.specs.Polygraph.{arcs};
@@ -9,7 +9,10 @@ ghost use Rattle.log_definitions.specs.Numbers.{log_of};
 ghost use Rattle.reduction.specs.Outcome.{IsCyclicHistory, IsDeadHistory, IsOpenHistory};
 ghost use Rattle.branch_search.specs.Trees.{IsRefutationTree};
 ghost use Rattle.explanations.specs.Lines.{begin_at, AreLines};
-ghost use Rattle.explaining.specs.Explained.{IsCycleExplained, IsDeadExplained, IsTreeExplained};
+ghost use Rattle.forced_steps.specs.Steps.{IsLineTold, IsDeadTold};
+ghost use Rattle.told_trees.specs.Trees.{IsTreeTold};
+ghost use Rattle.told_trees.specs.Visits.{leaf_count};
+ghost use Rattle.explaining.specs.Explained.{AreWritten};
 
 use crate::cycles::tell_cycle;
 use crate::format::Format;
@@ -47,8 +50,8 @@ pub fn explain_cycle(
     requires lines { AreLines history.now begins.now }
     requires none { anomaly_of (log_of history.now) ≡ None }
     requires cyclic { IsCyclicHistory history.now line.now }
-    ensures explained { IfOk result (λ text. IsCycleExplained format
-        history.now (begin_at begins.now) line.now text.items) }
+    ensures written { IfOk result (λ text. AreWritten (IsLineTold history.now [] [] line.now) format
+        history.now (begin_at begins.now) text.items) }
 {
     let _nodes = history.committed();
     let items = tell_cycle(alloc, history, line)?;
@@ -66,7 +69,7 @@ pub fn explain_dead(
 ) -> Result<Vec<u8>, AllocError>
     requires lines { AreLines history.now begins.now }
     requires dead { IsDeadHistory history.now ledger.now }
-    ensures explained { IfOk result (λ text. IsDeadExplained format
+    ensures written { IfOk result (λ text. AreWritten (IsDeadTold history.now) format
         history.now (begin_at begins.now) text.items) }
 {
     let _nodes = history.committed();
@@ -88,8 +91,8 @@ pub fn explain_tree(
     requires lines { AreLines history.now begins.now }
     requires left { IsOpenHistory history.now reduced.now }
     requires refutes { IsRefutationTree reduced.now.poly tree.now }
-    ensures explained { IfOk result (λ text. IsTreeExplained format
-        history.now (begin_at begins.now) tree.now text.items) }
+    ensures written { IfOk result (λ text. AreWritten (IsTreeTold history.now (leaf_count tree.now)) format
+        history.now (begin_at begins.now) text.items) }
 {
     let _nodes = history.committed();
     let chains = chains_of(alloc, history)?;

@@ -1,9 +1,10 @@
-use Rattle.std.proofs.Common.{[], subst, sym, ap, ◌∙◌, lit<}
+use Rattle.std.proofs.Common.{[], subst, sym, lit<}
 use Rattle.std.proofs.lemmas.Result.{IfOk-weaker}
 use Rattle.headline.proofs.Answered.{clean_log}
 use Rattle.explanations.specs.Lines.{begin_at}
+use Rattle.forced_steps.specs.Steps.{IsLineTold}
 use Rattle.told_texts.specs.Texts.{AreTellable}
-use Rattle.explaining.specs.Explained.{told_text}
+use Rattle.explaining.proofs.Premises.{are_written}
 use Rattle.explaining.proofs.Tellable.{line_tellable}
 use Rattle.explaining.proofs.explained.explain_cycle.Goals as goal
 
@@ -17,14 +18,8 @@ written-requires-clause-items c =
     subst (AreTellable ss) (sym c.deref.ensures.value) (line_tellable ss [] [] c.args.line.now items (lit< tt) tt tt c.in_ok-items.ensures.told)
 
 pub returns : goal.returns
-returns c =
-    let text = told_text c.args.format c.args.history.now (begin_at c.args.begins.now) in
-    record {
-      explained = IfOk-weaker c.written.result _ _
-          (λ made e. record {
-            items = c.in_ok-items.items.items;
-            told = c.in_ok-items.ensures.told;
-            written = e ∙ ap text c.deref.ensures.value;
-          })
-          c.written.ensures.text;
-    }
+returns c = record {
+  written = IfOk-weaker c.written.result _ _
+      (λ made e. are_written (IsLineTold c.args.history.now [] [] c.args.line.now) c.args.format c.args.history.now (begin_at c.args.begins.now) c.in_ok-items.items.items c.deref.result.now made.items c.in_ok-items.ensures.told c.deref.ensures.value e)
+      c.written.ensures.text;
+}

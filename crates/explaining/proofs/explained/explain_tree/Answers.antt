@@ -1,10 +1,10 @@
-use Rattle.std.proofs.Common.{◌∙◌, ◌<◌, ◌^◌, length, subst, sym, ap, arith}
+use Rattle.std.proofs.Common.{◌<◌, ◌^◌, length, subst, sym, arith}
 use Rattle.std.proofs.lemmas.Result.{IfOk-weaker}
 use Rattle.explanations.specs.Lines.{begin_at}
+use Rattle.told_trees.specs.Trees.{IsTreeTold}
 use Rattle.told_trees.specs.Visits.{leaf_count}
 use Rattle.told_texts.specs.Texts.{AreTellable}
-use Rattle.explaining.specs.Explained.{told_text}
-use Rattle.explaining.proofs.Premises.{unpruned_clean}
+use Rattle.explaining.proofs.Premises.{unpruned_clean, are_written}
 use Rattle.explaining.proofs.Tellable.{tree_tellable}
 use Rattle.explaining.proofs.explained.explain_tree.Goals as goal
 
@@ -26,14 +26,8 @@ written-requires-clause-items c =
     subst (AreTellable ss) (sym c.deref.ensures.value) (tree_tellable ss (leaf_count c.args.tree.now) items small c.in_ok-items.ensures.told)
 
 pub returns : goal.returns
-returns c =
-    let text = told_text c.args.format c.args.history.now (begin_at c.args.begins.now) in
-    record {
-      explained = IfOk-weaker c.written.result _ _
-          (λ made e. record {
-            items = c.in_ok-items.items.items;
-            told = c.in_ok-items.ensures.told;
-            written = e ∙ ap text c.deref.ensures.value;
-          })
-          c.written.ensures.text;
-    }
+returns c = record {
+  written = IfOk-weaker c.written.result _ _
+      (λ made e. are_written (IsTreeTold c.args.history.now (leaf_count c.args.tree.now)) c.args.format c.args.history.now (begin_at c.args.begins.now) c.in_ok-items.items.items c.deref.result.now made.items c.in_ok-items.ensures.told c.deref.ensures.value e)
+      c.written.ensures.text;
+}
