@@ -206,7 +206,9 @@ class Recorder:
         elif not counts['reads']:
             yield 'no read names a write, so any order will do: read keys that others write'
         elif not counts['reads of others']:
-            yield "no client read what another one wrote: let them use the same keys, fewer of them"
+            yield 'no client read what another one wrote: let them use the same keys, fewer of them'
+        elif not counts['overlaps']:
+            yield 'no two transactions were open at once, so nothing was at risk: let the clients run side by side, with pauses'
         if ended > 10 and counts['abort'] > ended * 0.9:
             yield '%d of %d transactions were aborted' % (counts['abort'], ended)
         if counts['unknown'] > 10 and counts['unknown'] > ended * 0.1:
@@ -260,6 +262,7 @@ class Recorder:
         else:
             txn._lines.append('begin\n')
         session._txn = txn
+        self._counts['overlaps'] += bool(self._open)
         self._open[txn] = threading.current_thread()
 
     def _end(self, txn, outcome):
@@ -272,7 +275,7 @@ class Recorder:
         if outcome == 'commit':
             session._since = len(self.barriers)
             self._counts['reads'] += len(txn._reads)
-            self._counts['reads of others'] += sum(wid % CLIENTS != part.number for wid in txn._reads.values())
+            self._counts['reads of others'] += sum(not session._is_own(wid) for wid in txn._reads.values())
             if self._setter is session:
                 self._unseen = {name: key for name, key in self._unseen.items() if name not in txn._looked}
         elif outcome == 'unknown':
@@ -332,6 +335,8 @@ class Session:
 
     def __init__(self, run, part, look):
         self.number, self._run, self._part, self._look, self._txn, self._place, self._since = None, run, part, look, None, 0, 0
+        # another client may have had this part before
+        self._first_write = part.writes + 1
 
     def transaction(self, commit=None):
         """Begins a transaction: before its first statement is sent. Where `commit` is given, leaving its block calls it, and where it gives
@@ -353,6 +358,10 @@ class Session:
 
     def __exit__(self, *fault):
         self.close()
+
+    def _is_own(self, wid):
+        writes, client = divmod(wid, CLIENTS)
+        return client == self._part.number and writes >= self._first_write
 
     def _check_free(self):
         self._run._check_open()

@@ -632,6 +632,7 @@ def worth(checks):
     for sessions, said in (
         ((), 'no transaction was committed'), (([('abort', 0, 0)],), 'no transaction was committed'), (([write],), 'one session'),
         (([write], [nothing]), 'no read names a write'), (([write, own], [write]), 'no client read what another'),
+        (([write], [own]), 'no two transactions'),
         (([write, own], [write, ('r', 'x', 55001)]), 'nobody wrote in this run'), (([write],) * 65, '65 sessions'),
         (([write] * 1001, [own]), '1002 transactions'), (([('abort', 0, 0)] * 20 + [write], [own]), 'aborted'),
         (([('unknown', 0, 0)] * 20 + [write], [own]), 'unknown outcome'),
@@ -639,12 +640,12 @@ def worth(checks):
         found = log(*sessions)
         checks.expect(said in found, '%s: %s' % (said, found))
     checks.expect('cannot be cut' in log([write] * 1001, [own], barrier_every=None), 'no barrier')
-    run = Recorder(checks.path('worth'))
+    run = Recorder(checks.path('worth'), barrier_every=None)
     with run.session() as first, run.session() as second:
-        with first.transaction() as txn:
+        with first.transaction() as txn, second.transaction() as other:
             wid = txn.write('x')
-        with second.transaction() as txn:
-            txn.read('x', wid)
+            txn.commit()
+            other.read('x', wid)
     with quiet() as told:
         checks.expect(run.close() == [] and told.getvalue() == '', 'a log that is worth something: %s' % told.getvalue())
 
