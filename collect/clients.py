@@ -1,32 +1,55 @@
 """clients.py: a load of random transactions for a store, by clients that run at once, and its log by recorder.py.
 
-What a store can do is a class, as in sqlite.py, postgresql.py and redis.py beside this file. For another store copy one of them:
+What a store can do is a class, as in sqlite.py, postgresql.py and redis.py beside this file. For another store copy one of them, write
+the methods of its class Store anew, and end with
 
-    class Store:
-        aborted = (SerializationFailure,)       # exceptions that say: the transaction was rolled back
-        lost = (ConnectionError,)               # exceptions behind which nobody knows more of it, and the connection is gone
-        def __init__(self, arguments): ..       # connects; a client has its own
-        def begin(self): ..
-        def read(self, key): ..                 # the text that was written, or None
-        def write(self, key, text): ..
-        def commit(self): ..                    # gives back False, or raises one of `aborted`, where it did not commit
-        def abort(self): ..                     # rolls back what may be open
-        def cut(self, way): ..                  # shuts its socket down, in this way; only for --kill
-        def close(self): ..
-        @staticmethod
-        def prepare(arguments): ..              # before the run: makes room for new keys, which nobody used before
-        @staticmethod
-        def clear(arguments): ..                # behind the run: removes them
-
-    main(__doc__, {'serializable': Store}, address='where the store is')
+    clients.main(__doc__, {'serializable': Store}, address='where the store is')
 
 Nothing of this is proved."""
-import argparse, os, random, socket, sys, threading, time
+import argparse, concurrent.futures, os, random, socket, sys, time
 from recorder import Recorder
 
 COLOURS = ('red', 'green', 'deleted')
 # A new connection is tried for so many seconds.
 PATIENCE = 20
+
+
+class Store:
+    """A client's connection to a store. Each method but `cut` and `close` may raise the exceptions of `aborted` and `lost`. A method
+    `cut(self, way)`, which shuts the connection's socket down in this way, is only asked for by --kill."""
+    # Exceptions that say that the transaction was rolled back; and others that say that the connection is gone.
+    aborted, lost = (), ()
+
+    def __init__(self, arguments):
+        """Connects, with what the command line has: `arguments.address`, and `arguments.run`, a name that no other run has."""
+
+    def begin(self):
+        """Begins a transaction, where the first operation does not."""
+
+    def read(self, key):
+        """The text that was written to the key; None where it never was."""
+        raise NotImplementedError
+
+    def write(self, key, text):
+        raise NotImplementedError
+
+    def commit(self):
+        """Commits; gives back False where the store did not."""
+        raise NotImplementedError
+
+    def abort(self):
+        """Rolls back what may be open."""
+
+    def close(self):
+        """Ends the connection, which may be gone."""
+
+    @classmethod
+    def prepare(cls, arguments):
+        """Makes room for new keys, before the run: nobody used them before."""
+
+    @classmethod
+    def clear(cls, arguments):
+        """Removes them behind the run."""
 
 
 class Client:
@@ -101,7 +124,7 @@ class Client:
 
 
 def parse(document, levels, address, options):
-    name, _, about = document.partition('\n')[0].partition(': ')
+    _, _, about = document.partition('\n')[0].partition(': ')
     parser = argparse.ArgumentParser(description=about, prog=os.path.basename(sys.argv[0]))
     if address:
         parser.add_argument('address', metavar='ADDRESS', help=address)
@@ -142,20 +165,19 @@ def main(document, levels, address=None, options={}):
     arguments = parse(document, levels, address, options)
     store_class = levels[arguments.level]
     moments = None if arguments.moments == 'none' else arguments.moments
-    run = Recorder(arguments.out, barrier_every=moments and arguments.barrier or None, moments=moments,
-                   aborted=store_class.aborted, unknown=store_class.lost)
-    with run:
-        store_class.prepare(arguments)
-        clients = [Client(run, store_class, arguments, number) for number in range(arguments.sessions)]
-        # a counter that threads share: each next() of it is one step
-        turns = iter(range(arguments.transactions))
-        threads = [threading.Thread(target=client.work, args=(turns,)) for client in clients]
-        for thread in threads:
-            thread.start()
-        for thread in threads:
-            thread.join()
-        # a write that was lost may be seen by one who reads all keys when the others have ended
-        last = Client(run, store_class, arguments, arguments.sessions)
-        last.look(['k%d' % number for number in range(arguments.keys)])
-        last.store.close()
+    run = Recorder(arguments.out, barrier_every=moments and arguments.barrier or None, moments=moments, aborted=store_class.aborted,
+                   unknown=store_class.lost)
+    store_class.prepare(arguments)
+    try:
+        with run, concurrent.futures.ThreadPoolExecutor(arguments.sessions) as pool:
+            clients = [Client(run, store_class, arguments, number) for number in range(arguments.sessions)]
+            # a counter that threads share: each next() of it is one step
+            turns = iter(range(arguments.transactions))
+            for ended in [pool.submit(client.work, turns) for client in clients]:
+                ended.result()
+            # a write that was lost may be seen by one who reads all keys when the others have ended
+            last = Client(run, store_class, arguments, arguments.sessions)
+            last.look(['k%d' % number for number in range(arguments.keys)])
+            last.store.close()
+    finally:
         store_class.clear(arguments)

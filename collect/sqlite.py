@@ -11,8 +11,8 @@ class Locked(Exception):
     """SQLite refused a statement since another connection writes, or wrote what this one has read: the transaction is rolled back."""
 
 
-class Store:
-    aborted, lost = (Locked,), ()
+class Store(clients.Store):
+    aborted = (Locked,)
 
     def __init__(self, arguments):
         # autocommit: BEGIN and COMMIT are ours alone
@@ -48,14 +48,14 @@ class Store:
     def close(self):
         self.connection.close()
 
-    @staticmethod
-    def prepare(arguments):
+    @classmethod
+    def prepare(cls, arguments):
         connection = sqlite3.connect(arguments.database)
         connection.executescript('PRAGMA journal_mode = WAL; CREATE TABLE %s (key TEXT PRIMARY KEY, value TEXT)' % arguments.run)
         connection.close()
 
-    @staticmethod
-    def clear(arguments):
+    @classmethod
+    def clear(cls, arguments):
         connection = sqlite3.connect(arguments.database)
         connection.execute('DROP TABLE %s' % arguments.run)
         connection.close()
