@@ -6,7 +6,7 @@ A few thousand short runs of a store that is serializable, with commits that are
 refused, clients that come late, leave and die, odd keys, with barriers and moments of each kind: each log must be well-formed, hold what
 the store was asked to write, and be serializable; at each barrier the log can be cut. Then runs of stores that are broken, each in the way
 that one of the anomalies A1 to A9 names: some log of each must be refused for it. Last line: 'recorder: N passed, M failed'."""
-import concurrent.futures, contextlib, io, itertools, os, random, subprocess, sys, tempfile, threading, time
+import concurrent.futures, contextlib, io, itertools, os, random, re, subprocess, sys, tempfile, threading, time
 
 HERE = os.path.dirname(os.path.abspath(__file__))
 COLLECT = os.path.join(os.path.dirname(HERE), 'collect')
@@ -704,6 +704,47 @@ run.close()
     checks.expect(not [it for it in os.listdir(checks.folder) if it.startswith('process')], 'a folder is left')
 
 
+class Driver:
+    """A connection as the page's own lines have one."""
+
+    def __init__(self, connection):
+        self.connection, self.put, self.rollback = connection, connection.write, connection.begin
+        connection.begin()
+
+    def get(self, key):
+        time.sleep(0.001)
+        return self.connection.read(key)
+
+    def commit(self):
+        self.connection.commit()
+        self.connection.begin()
+
+
+def page(checks):
+    """The lines of Python that docs/COLLECTING.md has, as they stand there."""
+    with open(os.path.join(os.path.dirname(HERE), 'docs', 'COLLECTING.md'), encoding='utf-8') as file:
+        blocks = re.findall(r'^```python\n(.*?)^```', file.read(), re.M | re.S)
+    store = Store(random.Random(1))
+    names = {'SerializationFailure': Aborted, 'ConnectionLost': Lost}
+    back = os.getcwd()
+    os.chdir(checks.folder)
+    exec(blocks[0], names)
+    os.chdir(back)
+    threads = [threading.Thread(target=names['client'], args=(Driver(Connection(store, number)),)) for number in range(4)]
+    for thread in threads:
+        thread.start()
+    for thread in threads:
+        thread.join()
+    names.update(store=Driver(Connection(store, 4)))
+    exec(blocks[1], names)
+    names['look'](['stock/7'])
+    with quiet() as told:
+        warnings = names['run'].close()
+    with open(checks.path('run.log'), 'rb') as log:
+        answer = checks.check(log.read())
+    checks.expect(answer[0] == 0 and warnings == [], 'the page: %d %s' % (answer[0], told.getvalue()))
+
+
 @contextlib.contextmanager
 def quiet():
     """Standard error, for as long as this is open."""
@@ -711,7 +752,7 @@ def quiet():
         yield told
 
 
-PARTS = (names, misuse, outcomes, stuck, memory, worth, processes, sound_runs, certain_cuts, broken_runs)
+PARTS = (page, names, misuse, outcomes, stuck, memory, worth, processes, sound_runs, certain_cuts, broken_runs)
 
 
 def main():
