@@ -16,7 +16,7 @@ CHECK, AUDIT = ('check', '--strategy', 'forced'), ('audit',)
 SMALL, LARGE = 500, 20000
 # How many runs of one way there are, but only one when a busy machine has spent so many seconds; and how many runs a store that is not
 # serializable may take until one is refused.
-RUNS, SECONDS, TRIES = 3, 60, 10
+RUNS, SECONDS, TRIES = 3, 90, 10
 
 
 class Wanting(Exception):
@@ -142,23 +142,24 @@ class Checks:
         keys = 40 if transactions < 1000 else 300
         pause = '0.3' if transactions < 1000 else '0'
         size = ['--transactions', str(transactions), '--keys', str(keys), '--pause', pause, '--seed', str(seed)]
-        return run([python, os.path.join(TOP, 'collect', name), *address, *words, *size, self.log], timeout=300)
+        return run([python, os.path.join(TOP, 'collect', name), *address, *words, *size, self.log], timeout=600)
 
     def judged(self):
         """The status and the first line of what the program says of the log."""
-        ran = run([self.program, *(AUDIT if self.has_audit else CHECK), self.log], timeout=300)
+        ran = run([self.program, *(AUDIT if self.has_audit else CHECK), self.log], timeout=600)
         return ran.returncode, ran.stdout.partition('\n')[0]
 
     def way(self, store, collector, words, is_serializable):
         """Runs of one way, small ones, and where the program takes it a large one."""
-        name, refused, answers = ' '.join([store, *words]), False, []
+        name, decided, refused, answers = ' '.join([store, *words]), False, False, []
         runs = [(seed, SMALL) for seed in range(RUNS if is_serializable else TRIES)]
-        if self.has_audit and is_serializable:
-            runs.append((RUNS, LARGE))
+        if self.has_audit and is_serializable and '--moments' not in words:
+            runs.insert(1, (RUNS, LARGE))
         for seed, count in runs:
             began = time.monotonic()
-            if is_serializable and count == SMALL and seed and began > self.late:
-                continue
+            if is_serializable and answers and began > self.late:
+                answers.append('and no time is left for more')
+                break
             collected = self.collect(collector, words, seed, count)
             if collected.returncode:
                 self.expect(False, '%s: %s' % (name, collected.stdout))
@@ -170,11 +171,13 @@ class Checks:
             answers.append('%d in %.1f s, %d unknown, %s' % (count, took, unknown, said[:40]))
             self.expect(unknown == 0 or '--kill' in words, '%s: %d unknown' % (name, unknown))
             refused = refused or status == 1
+            # unknown is no answer
+            decided = decided or status == 0
             if is_serializable:
-                self.expect(status == 0, '%s: status %d, %s' % (name, status, said))
+                self.expect(status in (0, 3), '%s: status %d, %s' % (name, status, said))
             elif refused:
                 break
-        self.expect(refused != is_serializable, '%s: %s' % (name, answers))
+        self.expect(decided if is_serializable else refused, '%s: %s' % (name, answers))
         print('stores: %s: %s' % (name, '; '.join(answers)))
 
 
