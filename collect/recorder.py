@@ -410,7 +410,7 @@ class Transaction:
         return wid
 
     def refused(self, wid):
-        """The store said that it did not do the write of this identity, and the transaction goes on."""
+        """The write of this identity was not done: the store said so, or it was never sent; and the transaction goes on."""
         self._check_open()
         self._lines.remove(self._line_of(wid))
         del self._written[wid]
