@@ -1,20 +1,21 @@
 #!/usr/bin/env python3
-"""collecting.py PROGRAM: logs that examples/collect_sqlite.py collects from real SQLite databases, as docs/COLLECTING.md says.
+"""collecting.py PROGRAM: logs that collect/sqlite.py collects from real SQLite databases, as docs/COLLECTING.md says.
 
-Logs of the sound store, without moments and with them, must be serializable where `check` can tell, also where the outcome of each session's
+Logs of the sound store, with barriers and with all moments, must be serializable where `check` can tell, also where the outcome of each session's
 last committed transaction is said to be unknown, and `verify` must accept the order; of the logs of the store that is broken on purpose one
 at least must be refused. Where this Python has no sqlite3 nothing is run, and a line says so. Last line: 'collecting: N passed, M failed'."""
 import os, re, subprocess, sys, tempfile
 
 TOP = os.path.dirname(os.path.dirname(os.path.abspath(__file__)))
-COLLECTOR, RUNS = os.path.join(TOP, 'examples', 'collect_sqlite.py'), 3
+COLLECTOR, RUNS = os.path.join(TOP, 'collect', 'sqlite.py'), 3
+SIZE, WEAK = ['--transactions', '320', '--keys', '10', '--pause', '2'], ['--level', 'weak']
 
 
 def unlearnt(log):
     """The same log, where no client learnt how the last of its transactions that were committed ended, and went on."""
     header, *sessions = log.split(b'session ')
     cut = [re.sub(rb'(.*)commit.*', rb'\1unknown\n', text, flags=re.DOTALL) for text in sessions]
-    return (header or b'log 2\n') + b''.join(b'session ' + text for text in cut)
+    return header + b''.join(b'session ' + text for text in cut)
 
 
 class Checks:
@@ -50,11 +51,11 @@ def main():
     with tempfile.TemporaryDirectory() as folder:
         checks, path, refused = Checks(os.path.abspath(sys.argv[1]), folder), os.path.join(folder, 'log'), 0
         for run in range(RUNS):
-            for words in ([], ['--moments'], ['--weak']):
-                subprocess.run([sys.executable, COLLECTOR, *words, path], check=True, timeout=600)
+            for words in ([], ['--moments', 'all'], WEAK):
+                subprocess.run([sys.executable, COLLECTOR, *SIZE, *words, path], check=True, timeout=600)
                 with open(path, 'rb') as file:
                     log = file.read()
-                if words == ['--weak']:
+                if words == WEAK:
                     refused += is_refusal(checks.call(log, 'check'))
                 else:
                     name = ' '.join(['log %d' % run, *words])

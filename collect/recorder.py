@@ -1,0 +1,474 @@
+"""recorder.py: a test harness imports this, and its clients get a log for cobra_poly. docs/COLLECTING.md says what must be in one and why.
+
+    run = Recorder('run.log', aborted=(SerializationFailure,), unknown=(ConnectionLost,))
+    with run.session() as session:                                # one for each client, which is a thread
+        with session.transaction(commit=store.commit) as txn:     # leaving the block commits
+            seen = store.get('stock/7')
+            txn.read('stock/7', seen)                             # behind the answer: the identity in it, None where there was nothing
+            wid = txn.write('stock/7')                            # before the statement: an identity to keep beside the value
+            store.put('stock/7', '%d red' % wid)
+    run.close()                                                   # writes run.log, and warns of what makes it worth little
+
+It gives out sessions, identities and moments, and sets barriers: every so many transactions it holds all clients back until none has a
+transaction open, so that the log can be cut there. Nothing of it is proved; it needs Python's standard library alone, 3.8 or later."""
+import atexit, collections, hashlib, itertools, operator, os, re, shutil, sys, tempfile, threading, time
+
+# An identity is a count times CLIENTS plus its client's number: its last three digits are the client.
+CLIENTS, MAX_SESSION, MAX_IDENTITY = 1000, 65535, 2 ** 64 - 1
+# So many lines of a client may stand in memory before they go to its file.
+BUFFER = 4096
+# What `check` takes.
+CHECKED = {'committed': 1000, 'sessions': 64}
+PLAIN_KEY = re.compile(rb'(?!hex:|sha:)[A-Za-z0-9_.:/-]{1,64}\Z')
+# So often the keys of unknown transactions are read before a barrier.
+LOOKS = 3
+
+
+class Misuse(RuntimeError):
+    """The harness does something of which no true log can be written."""
+
+
+def name_of(key):
+    """The log's word for a key: its own bytes where a log has these, else 'hex:' and its bytes in hexadecimal, or 'sha:' and a part of
+    their SHA-256. No two keys have one name, where text is its bytes in UTF-8 and a number its digits."""
+    if isinstance(key, int) and not isinstance(key, bool):
+        key = str(key)
+    if isinstance(key, str):
+        key = key.encode('utf-8', 'surrogatepass')
+    if not isinstance(key, (bytes, bytearray)):
+        raise Misuse("a key is text, bytes or a whole number, and not %r: make one of table and row, as 'stock/7'" % (key,))
+    if PLAIN_KEY.match(key):
+        return key.decode('ascii')
+    return 'hex:' + key.hex() if len(key) <= 30 else 'sha:' + hashlib.sha256(key).hexdigest()[:60]
+
+
+def identity_of(seen):
+    """The identity in what a store gave back: a whole number, or the first word of a text; 0 where there was nothing."""
+    found = 0 if seen is None else seen
+    if isinstance(found, (bytes, bytearray)):
+        found = found.decode('latin-1')
+    if isinstance(found, str):
+        word = re.match('[0-9]+(?= |$)', found)
+        found = int(word[0]) if word else found
+    try:
+        wid = operator.index(found)
+    except TypeError:
+        wid = -1
+    if isinstance(found, bool) or not 0 <= wid <= MAX_IDENTITY:
+        raise Misuse('a read gives back an identity, or a text of which one is the first word, or None where there was nothing, and not %r'
+                     % (seen,))
+    return wid
+
+
+class _Part:
+    """One client's part of the log: a file, the lines that are not in it yet, and how many identities this client has given out."""
+
+    def __init__(self, number, folder):
+        self.number, self.path, self.size, self.lines, self.writes = number, os.path.join(folder, str(number)), 0, [], 0
+
+    def identity(self):
+        self.writes += 1
+        return self.writes * CLIENTS + self.number
+
+    def flush(self):
+        data = ''.join(self.lines).encode('ascii')
+        with open(self.path, 'ab') as file:
+            # where an earlier write failed midway, it is made again
+            file.truncate(self.size)
+            file.write(data)
+        self.size += len(data)
+        self.lines.clear()
+
+
+class Recorder:
+    """The log of one run, which `close` writes to `path`. It may be used by any number of threads.
+
+    barrier_every  after so many transactions of all clients together there is a barrier; None: only where `barrier` asks for one
+    moments        'all': when each transaction began and was committed, for a store that promises strict serializability; 'barriers': no
+                   more of this than that what ended before a barrier came before what began behind it; None: no moments, and no barriers
+    aborted        exceptions that say that a transaction was rolled back; where one leaves a transaction's block, it goes no further
+    unknown        the same of those behind which nobody knows whether it was committed
+    patience       seconds that clients wait at a barrier for the others, before they go on without it
+    clock          whole numbers that never fall, one clock for all clients; microseconds since now where it is not given"""
+
+    def __init__(self, path, barrier_every=200, moments='barriers', aborted=(), unknown=(), patience=10, clock=None):
+        if moments not in ('all', 'barriers', None):
+            raise Misuse("moments are 'all', 'barriers' or None, and not %r" % (moments,))
+        if barrier_every is not None and not (isinstance(barrier_every, int) and barrier_every >= 1):
+            raise Misuse('barrier_every is a whole number from 1, or None, and not %r' % (barrier_every,))
+        if moments is None and barrier_every is not None:
+            raise Misuse('a barrier is told by moments: with moments=None goes barrier_every=None')
+        began = time.monotonic_ns()
+        self.path = os.path.abspath(os.fspath(path))
+        self.barriers = []
+        self._clock, self._last = clock or (lambda: (time.monotonic_ns() - began) // 1000), 0
+        if not isinstance(self._clock(), int) or self._clock() < 0:
+            raise Misuse('a clock gives whole numbers from 0, as time.monotonic_ns does, and not %r' % (self._clock(),))
+        self._barrier_every, self._moments, self._patience = barrier_every, moments, patience
+        self._named = self._outcomes(abort=aborted, unknown=unknown)
+        # All that follows is read and changed with this lock held.
+        self._turn = threading.Condition()
+        self._numbers, self._parts, self._idle = itertools.count(1), [], []
+        self._open, self._due, self._setter, self._ended, self._unseen = {}, False, None, 0, {}
+        self._counts, self._strange, self._left_open, self._warnings = collections.Counter(), None, [], None
+        self._closed, self._process = False, os.getpid()
+        self._folder = tempfile.mkdtemp(prefix=os.path.basename(self.path) + '.', dir=os.path.dirname(self.path))
+        atexit.register(self._at_exit)
+
+    @staticmethod
+    def _outcomes(**classes):
+        named = {}
+        for outcome, kinds in classes.items():
+            for kind in kinds if isinstance(kinds, (tuple, list, set, frozenset)) else (kinds,):
+                if not (isinstance(kind, type) and issubclass(kind, BaseException)):
+                    raise Misuse('%r is no class of exceptions' % (kind,))
+                if named.setdefault(kind, outcome) != outcome:
+                    raise Misuse('%s is named for both outcomes' % kind.__name__)
+        return named
+
+    def outcome_of(self, kind):
+        """What an exception of this class says of its transaction; of several classes that are named, the closest decides."""
+        return next((self._named[it] for it in kind.__mro__ if it in self._named), None)
+
+    def session(self, look=None):
+        """One client. `look(keys)` reads these keys in a transaction of this session that commits; it is called before a barrier, in the
+        client's thread, with what transactions wrote of which nobody knows whether they were committed."""
+        with self._turn:
+            self._check_open()
+            if not self._idle:
+                if len(self._parts) == CLIENTS - 1:
+                    raise Misuse('more than %d sessions at once: leave a session when its client ends' % len(self._parts))
+                self._parts.append(_Part(len(self._parts) + 1, self._folder))
+                self._idle.append(self._parts[-1])
+            return Session(self, self._idle.pop(), look)
+
+    def barrier(self):
+        """Asks for a barrier: no client begins a transaction before none is open."""
+        if self._moments is None:
+            raise Misuse('a barrier is told by moments, and this recorder states none')
+        with self._turn:
+            self._check_open()
+            self._due = True
+
+    def close(self):
+        """Writes the log, and gives a list of what makes it worth little, which is also told on standard error. A transaction that is
+        still open ends as unknown."""
+        with self._turn:
+            if self._warnings is None and os.getpid() == self._process:
+                self._closed = True
+                self._left_open += [it.name for it in self._open]
+                for txn in list(self._open):
+                    self._end(txn, 'unknown')
+                self._turn.notify_all()
+                self._join()
+                self._warnings = list(self._worth_little())
+                for text in self._warnings:
+                    print('recorder: %s: %s' % (self.path, text), file=sys.stderr)
+            return self._warnings
+
+    def __enter__(self):
+        return self
+
+    def __exit__(self, *fault):
+        self.close()
+
+    def _at_exit(self):
+        if not self._closed and os.getpid() == self._process:
+            print('recorder: %s: close() was not called, and is called now' % self.path, file=sys.stderr)
+            self.close()
+
+    def _check_open(self):
+        if os.getpid() != self._process:
+            raise Misuse('this recorder belongs to process %d, and this is another one: clients are threads of one process' % self._process)
+        if self._closed:
+            raise Misuse('the recorder is closed: let all clients end before close()')
+
+    def _join(self):
+        for part in self._parts:
+            part.flush()
+        new = os.path.join(self._folder, 'log')
+        with open(new, 'wb') as log:
+            log.write(b'log 3\n')
+            for part in self._parts:
+                with open(part.path, 'rb') as file:
+                    shutil.copyfileobj(file, log)
+        os.replace(new, self.path)
+        shutil.rmtree(self._folder, ignore_errors=True)
+        atexit.unregister(self._at_exit)
+
+    def _worth_little(self):
+        counts = self._counts
+        ended = counts['commit'] + counts['abort'] + counts['unknown']
+        if not counts['commit']:
+            yield 'no transaction was committed, so there is nothing to judge'
+        elif counts['sessions'] < 2:
+            yield 'there is one session alone: a fault shows where clients meet'
+        elif not counts['reads']:
+            yield 'no read names a write, so any order will do: read keys that others write'
+        elif not counts['reads of others']:
+            yield 'no client read what another one wrote: let them use the same keys, fewer of them'
+        elif not counts['overlaps']:
+            yield 'no two transactions were open at once, so nothing was at risk: let the clients run side by side, with pauses'
+        if ended > 10 and counts['abort'] > ended * 0.9:
+            yield '%d of %d transactions were aborted' % (counts['abort'], ended)
+        if counts['unknown'] > 10 and counts['unknown'] > ended * 0.1:
+            yield 'of %d transactions %d have an unknown outcome: faults that need a true one go unseen' % (ended, counts['unknown'])
+        if self._strange:
+            yield ('%s read %s as %d, which nobody wrote in this run: the keys must be empty before it, and each value keep its identity'
+                   % self._strange)
+        if self._left_open:
+            yield 'transactions were open when their thread or the run ended, and are unknown: ' + ', '.join(self._left_open[:10])
+        if counts['called off']:
+            yield '%d barriers were called off after %g seconds: let no client wait for another one in a transaction' % (
+                counts['called off'], self._patience)
+        if counts['blind']:
+            yield '%d barriers stand behind unknown outcomes that were not looked for: give each session a look' % counts['blind']
+        if counts['commit'] + counts['unknown'] > CHECKED['committed']:
+            yield '%d transactions are committed or unknown, and check takes at most %d' % (
+                counts['commit'] + counts['unknown'], CHECKED['committed'])
+            if not self.barriers and self._moments != 'all':
+                yield 'there was no barrier and no moments, so it cannot be cut'
+        if counts['sessions'] > CHECKED['sessions']:
+            yield 'there are %d sessions, and check takes at most %d' % (counts['sessions'], CHECKED['sessions'])
+
+    # What follows is called with the lock held.
+
+    def _moment(self):
+        """A reading of the clock, greater than each one before: so what is read first is the lesser, on any clock."""
+        self._last = max(self._clock(), self._last + 1)
+        return self._last
+
+    def _begin(self, txn):
+        session = txn.session
+        session._check_free()
+        if (self._due or self._barrier_every is not None) and threading.current_thread() in self._open.values():
+            raise Misuse('one thread has transactions of two sessions open, and would wait for itself at a barrier: give each client a '
+                         'thread of its own, or take barrier_every=None')
+        self._pass_barrier(session)
+        if session.number is None:
+            number = next(self._numbers)
+            if number > MAX_SESSION:
+                raise Misuse('a log has at most %d sessions' % MAX_SESSION)
+            session.number, session._place, session._since = number, 0, 0
+            self._counts['sessions'] += 1
+            txn._lines.append('session %d\n' % session.number)
+        session._place += 1
+        txn.name = '%d.%d' % (session.number, session._place)
+        if self._moments == 'all':
+            txn._lines.append('begin %d\n' % self._moment())
+        elif session._since < len(self.barriers):
+            # nothing is committed yet in this session behind the last barrier
+            txn._lines.append('begin %d\n' % self.barriers[-1])
+        else:
+            txn._lines.append('begin\n')
+        session._txn = txn
+        self._counts['overlaps'] += bool(self._open)
+        self._open[txn] = threading.current_thread()
+
+    def _end(self, txn, outcome):
+        session, part = txn.session, txn.session._part
+        txn.outcome, session._txn = outcome, None
+        del self._open[txn]
+        part.lines += txn._lines
+        part.lines.append('commit %d\n' % self._moment() if outcome == 'commit' and self._moments else outcome + '\n')
+        self._counts[outcome] += 1
+        if outcome == 'commit':
+            session._since = len(self.barriers)
+            self._counts['reads'] += len(txn._reads)
+            self._counts['reads of others'] += sum(not session._is_own(wid) for wid in txn._reads.values())
+            if self._setter is session:
+                self._unseen = {name: key for name, key in self._unseen.items() if name not in txn._looked}
+        elif outcome == 'unknown':
+            session.number = None
+            self._unseen.update(txn._written.values())
+        self._ended += 1
+        if self._barrier_every is not None and self._ended >= self._barrier_every:
+            self._due = True
+        self._turn.notify_all()
+        if len(part.lines) > BUFFER:
+            part.flush()
+
+    def _pass_barrier(self, session):
+        """While a barrier is due, holds a client back until no transaction is open; the first that finds it so sets the barrier."""
+        late = time.monotonic() + self._patience
+        while self._due and self._setter is not session:
+            if not self._open and self._setter is None:
+                self._set_barrier(session)
+            elif time.monotonic() > late:
+                self._due, self._ended = False, 0
+                self._counts['called off'] += 1
+                self._turn.notify_all()
+            else:
+                for txn in [it for it, thread in self._open.items() if not thread.is_alive()]:
+                    self._left_open.append(txn.name)
+                    self._end(txn, 'unknown')
+                self._turn.wait(0.05)
+            session._check_free()
+
+    def _set_barrier(self, session):
+        self._setter = session
+        try:
+            for _ in range(LOOKS):
+                if self._unseen and session._look:
+                    self._without_lock(session._look, list(self._unseen.values()))
+        finally:
+            self._setter = None
+            # a client that lost its patience meanwhile may be in a transaction
+            if not self._open:
+                self.barriers.append(self._moment())
+                self._counts['blind'] += bool(self._unseen)
+                self._unseen.clear()
+            self._due, self._ended = False, 0
+            self._turn.notify_all()
+
+    def _without_lock(self, call, *arguments):
+        self._turn.release()
+        try:
+            call(*arguments)
+        finally:
+            self._turn.acquire()
+
+
+class Session:
+    """One client, which does one thing after the other. Its number in the log is None until it begins a transaction, and behind one of an
+    unknown outcome, where it goes on under a new one."""
+
+    def __init__(self, run, part, look):
+        self.number, self._run, self._part, self._look, self._txn, self._place, self._since = None, run, part, look, None, 0, 0
+        # another client may have had this part before
+        self._first_write = part.writes + 1
+
+    def transaction(self, commit=None):
+        """Begins a transaction: before its first statement is sent. Where `commit` is given, leaving its block calls it, and where it gives
+        back False the transaction was aborted; without it the block itself commits in the store, as its last statement."""
+        return Transaction(self, commit)
+
+    def close(self):
+        """Leaves; a transaction that is open ends as unknown."""
+        with self._run._turn:
+            if self._txn is not None:
+                self._run._left_open.append(self._txn.name)
+                self._run._end(self._txn, 'unknown')
+            if self._part is not None:
+                self._run._idle.append(self._part)
+                self._part = None
+
+    def __enter__(self):
+        return self
+
+    def __exit__(self, *fault):
+        self.close()
+
+    def _is_own(self, wid):
+        writes, client = divmod(wid, CLIENTS)
+        return client == self._part.number and writes >= self._first_write
+
+    def _check_free(self):
+        self._run._check_open()
+        if self._part is None:
+            raise Misuse('this session is closed: each client opens one of its own')
+        if self._txn is not None:
+            raise Misuse('%s is still open: end it first; clients that run at once have a session each' % self._txn.name)
+
+
+class Transaction:
+    """What one transaction did. `name` is its name in the log, SESSION.PLACE, and `outcome` is None while it is open, then 'commit',
+    'abort' or 'unknown'.
+
+    Leaving its block ends it: without an exception as committed, with one that the recorder's harness named as that says, and it goes no
+    further, with any other one as unknown. Where the session has a `commit` that was not called yet, a named exception says abort."""
+
+    def __init__(self, session, commit):
+        self.session, self.name, self.outcome, self._commit = session, None, None, commit
+        self._lines, self._written, self._reads, self._looked = [], {}, {}, set()
+        self._run = session._run
+        with self._run._turn:
+            self._run._begin(self)
+
+    def read(self, key, seen, before=None):
+        """It read the key. `seen` is what the store gave back: the identity, or a text of which it is the first word; None where there was
+        nothing. A statement that reads and writes at once has read before its write of the identity `before`."""
+        name, wid = name_of(key), identity_of(seen)
+        self._check_open()
+        place = len(self._lines) if before is None else self._lines.index(self._line_of(before))
+        self._lines.insert(place, 'r %s %d\n' % (name, wid))
+        self._looked.add(name)
+        if wid:
+            self._reads[name] = wid
+            writes, client = divmod(wid, CLIENTS)
+            parts = self._run._parts
+            if not (0 < client <= len(parts) and 0 < writes <= parts[client - 1].writes):
+                self._run._strange = self._run._strange or (self.name, name, wid)
+
+    def write(self, key):
+        """An identity for a write of the key, to be kept with the value: it is asked for directly before the statement is sent."""
+        name = name_of(key)
+        self._check_open()
+        wid = self.session._part.identity()
+        self._written[wid] = name, key
+        self._lines.append('w %s %d\n' % (name, wid))
+        return wid
+
+    def refused(self, wid):
+        """The write of this identity was not done: the store said so, or it was never sent; and the transaction goes on."""
+        self._check_open()
+        self._lines.remove(self._line_of(wid))
+        del self._written[wid]
+
+    def commit(self):
+        """It is committed: by `commit` of the session's call where that was given; else the store has said so."""
+        self._check_open()
+        if self._commit is None:
+            self._end('commit')
+            return
+        try:
+            answer = self._commit()
+        except BaseException as fault:
+            outcome = self._run.outcome_of(type(fault))
+            self._end(outcome or 'unknown')
+            if outcome is None:
+                raise
+        else:
+            self._end('abort' if answer is False else 'commit')
+
+    def abort(self):
+        """It was rolled back, by the client or by the store."""
+        self._check_open()
+        self._end('abort')
+
+    def unknown(self):
+        """Nobody learnt whether it was committed. The session goes on under another number, and should do so on a new connection."""
+        self._check_open()
+        self._end('unknown')
+
+    def __enter__(self):
+        return self
+
+    def __exit__(self, kind, fault, trace):
+        if kind is None:
+            if self.outcome is None:
+                self.commit()
+            return False
+        outcome = self._run.outcome_of(kind)
+        if self.outcome is None:
+            self._end('abort' if outcome and self._commit is not None else outcome or 'unknown')
+        return outcome is not None
+
+    def _end(self, outcome):
+        with self._run._turn:
+            # it may have been ended by `close` meanwhile
+            if self.outcome is None:
+                self._run._end(self, outcome)
+
+    def _line_of(self, wid):
+        if wid not in self._written:
+            raise Misuse('%s did not write with identity %r' % (self.name, wid))
+        return 'w %s %d\n' % (self._written[wid][0], wid)
+
+    def _check_open(self):
+        if self.outcome is not None:
+            raise Misuse('%s has ended (%s): begin another transaction' % (self.name, self.outcome))
+
+
+if __name__ == '__main__':
+    print(__doc__)
