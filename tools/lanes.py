@@ -31,7 +31,8 @@ class Row:
 
 @dataclass
 class Box:
-    """`look` is told, near (a neighbour), source (the initial value) or nowhere (what the log does not have). `support` is for what only thin arrows need."""
+    """`look` is told, near (a neighbour), source (the initial value) or nowhere (what the log does not have). `support` is for what only thin
+    arrows need."""
     name: str
     lane: str
     place: int
@@ -435,8 +436,8 @@ def number(value):
 
 def words_of(**attributes):
     """Attributes of an element; those without a value are left out."""
-    named = ((name.rstrip('_').replace('_', '-'), value) for name, value in attributes.items())
-    return ''.join(' %s="%s"' % (name, escape(number(value) if isinstance(value, float) else str(value))) for name, value in named if value not in (None, ''))
+    named = ((name.rstrip('_').replace('_', '-'), value) for name, value in attributes.items() if value not in (None, ''))
+    return ''.join(' %s="%s"' % (name, escape(number(value) if isinstance(value, float) else str(value))) for name, value in named)
 
 
 def element(name, inner='', **attributes):
@@ -474,8 +475,8 @@ def head(points):
 def drawn_box(layout, name):
     box = layout.boxes[name]
     left, top, right, bottom = layout.box_at(name)
-    parts = [element('title', escape(box.label)), element('rect', x=left, y=float(top), width=right - left, height=float(bottom - top), rx=6, class_='frame'),
-             text(left + PAD, top + 18, box.heading, class_='name')]
+    frame = element('rect', x=left, y=float(top), width=right - left, height=float(bottom - top), rx=6, class_='frame')
+    parts = [element('title', escape(box.label)), frame, text(left + PAD, top + 18, box.heading, class_='name')]
     if box.badge:
         parts.append(text(right - PAD, top + 18, box.badge, class_='badge', text_anchor='end'))
     for row in box.rows:
@@ -514,7 +515,7 @@ def drawn_pill(route):
 def drawn(boxes, arrows, label, lane_words):
     """The picture, as an element svg: `lane_words` gives what stands above a lane."""
     layout = laid(boxes, arrows)
-    spots = [spot for route in layout.routes for spot in route.points] + [(x, y) for route in layout.routes for x, y in (route.pill[:2], route.pill[2:])]
+    spots = [spot for route in layout.routes for spot in route.points + [route.pill[:2], route.pill[2:]]]
     left, right = min([0] + [x - 6 for x, _ in spots]), max([layout.width] + [x + 6 for x, _ in spots])
     highest = min([y for _, y in spots] + list(layout.top.values())) - 14
     lowest = max([y for _, y in spots] + list(layout.bottom.values())) + 14
@@ -529,5 +530,6 @@ def drawn(boxes, arrows, label, lane_words):
     backwards = layout.routes[::-1]
     parts += [drawn_arrow(route) for route in backwards] + [drawn_pill(route) for route in backwards]
     view = (left - 10, top - 4, right - left + 20, lowest - top + 8)
-    return element('svg', element('title', escape(label)) + ''.join(parts), viewBox=' '.join(map(number, view)), width=int(view[2]), height=int(view[3]),
-                   role='group', aria_label=label, style='--least:%dpx' % (view[2] * LEAST))
+    inner = element('title', escape(label)) + ''.join(parts)
+    return element('svg', inner, viewBox=' '.join(map(number, view)), width=int(view[2]), height=int(view[3]), role='group', aria_label=label,
+                   style='--least:%dpx' % (view[2] * LEAST))

@@ -10,7 +10,7 @@ import argparse, os, re, sys
 from html import escape
 
 import lanes, scripts, told
-from lanes import Arrow, Box, Row
+from lanes import Arrow, Box, Row, element
 
 # A cycle of more edges is drawn in parts, and so many pictures of steps and of circles are drawn; the rest is told in words.
 MOST_EDGES, PART, MOST_PICTURES = 16, 12, 40
@@ -18,6 +18,8 @@ MOST_EDGES, PART, MOST_PICTURES = 16, 12, 40
 MOST_SUPPORT, MOST_NEIGHBOURED = 9, 8
 # A box shows so many operations of those that are not told, and a neighbour so many.
 MOST_ROWS, MOST_NEAR = 10, 3
+# So many keys are listed on top.
+MOST_KEYS = 24
 MEANINGS = {
     'A1': 'A read names a write that the log does not have: the value came from nowhere, or its write was lost.',
     'A2': 'A read saw a write of a transaction that was aborted: the store showed what it took back.',
@@ -27,21 +29,30 @@ MEANINGS = {
     'A6': 'A transaction read two versions of one key: it saw the store in the middle of another transaction.',
     'A7': 'Two transactions read the same version of a key, and both wrote over it: whichever came second had not seen the first. '
           'So each has to stand before the other.',
-    'A8': 'An arrow leads from a transaction to one that has to stand behind it in each serial order. These arrows run in a circle, so there is no such order.',
-    'A9': 'An arrow leads from a transaction to one that has to stand behind it in each serial order. These arrows run in a circle, so there is no such '
-          'order. Why the forced ones have to hold, each step says below.',
-    told.TREE: 'The log does not say which of some versions came first. Whichever order of them is assumed, a circle closes; these are all the circles.',
+    'A8': 'An arrow leads from a transaction to one that has to stand behind it in each serial order. These arrows run in a circle, so there '
+          'is no such order.',
+    'A9': 'An arrow leads from a transaction to one that has to stand behind it in each serial order. These arrows run in a circle, so there '
+          'is no such order. Why the forced ones have to hold, the steps below say.',
+    told.TREE: 'The log does not say which of some versions came first. Whichever order of them is assumed, a circle closes.',
 }
 KINDS = {
     'session': 'both are of one session, in this order',
     'read': 'the second one read what the first one wrote',
     'anti-dependency': 'the first one read a version that the second one wrote over, and so had not seen that write',
-    'version order': "the first one saw the key's initial value, or a version that goes back to it; the second one wrote the key without reading it",
+    'version order': "the first one saw the key's initial value, or a version that goes back to it; the second one wrote the key and had not "
+                     'read it',
     'moments': 'the first one was committed before the second one began',
     'forced': 'a step of pruning keeps it: the other way is impossible',
     'decided': 'it holds in this branch: an order of two versions is assumed',
     'otherwise': 'what would hold the other way, and cannot',
 }
+STEP = ('Suppose that of %s the chain that begins with %s came before the one that begins with %s. Then %s would have to stand before %s '
+        '(dashed). But %s stands before %s, by the bold arrows. So it is the other way round, and this step keeps that.')
+READING = ('Each column is a session, and time runs downwards, %s. <code>r KEY ID</code> read the write with this identity, <code>w KEY ID</code> '
+           'wrote it, as in the log. What is told is bold; pale boxes are neighbours in the session. Point at an operation to see its key '
+           '(underlined) and its identity (filled) wherever they stand; click to keep that.')
+BY_MOMENTS = 'by the moments that the log states, and else by the place in the session'
+BY_PLACE = 'by the place in the session; a reader stands below what it read'
 
 
 def short(key, most=22):
@@ -68,9 +79,9 @@ class History:
         """The number and the identity of the first such operation of a transaction."""
         return next(((number, wid) for number, _, its, wid in self.named[name].operations(kind) if its == key), (None, None))
 
-    def line_of(self, name, lines):
-        """The one of these lines that is this transaction's, and the last one where there are more."""
-        return next((line for line in lines[::-1] if self.owner.get(line) is self.named[name]), None)
+    def lines_of(self, name, lines):
+        """Those of these lines that are this transaction's."""
+        return [line for line in lines if self.owner.get(line) is self.named[name]]
 
 
 class Scene:
@@ -98,8 +109,8 @@ class Scene:
             arrow = self.arrow_of(edge, steps)
             arrow.look, arrow.support, arrow.ordinal = look, support, ordinal if look == 'bold' and len(edges) > 1 else None
             self.add(arrow)
-            self.tell(edge.first, *[line for line in edge.lines if self.history.owner.get(line) is self.history.named[edge.first]], support=support)
-            self.tell(edge.second, *[line for line in edge.lines if self.history.owner.get(line) is self.history.named[edge.second]], support=support)
+            for name in (edge.first, edge.second):
+                self.tell(name, *self.history.lines_of(name, edge.lines), support=support)
         for edge in edges:
             if edge.kind in ('forced', 'decided') and look == 'bold':
                 self.add_ground(edge.first, self.key_of(edge, steps))
@@ -110,20 +121,16 @@ class Scene:
 
     def arrow_of(self, edge, steps):
         """An edge as an arrow between the operations that its reason names, or that its order of versions is about."""
-        history = self.history
-        ends = [history.line_of(name, edge.lines) for name in (edge.first, edge.second)]
+        history, said = self.history, '%s before %s: %s' % (edge.first, edge.second, edge.said)
+        ends = [(history.lines_of(name, edge.lines) or [None])[-1] for name in (edge.first, edge.second)]
         if edge.kind in ('forced', 'decided'):
             ends = self.ends_by_key(edge.first, edge.second, self.key_of(edge, steps))
         elif edge.kind == 'version order':
             ends[0] = history.first(edge.first, 'r', edge.parts[0])[0]
         seen, new = (history.at.get(line, (None, '', '')) for line in ends)
-        words = {'session': lambda: edge.said, 'read': lambda: 'read: %s %s' % (short(new[1]), new[2]),
-                 'anti-dependency': lambda: 'overwritten: %s %s by %s' % (short(seen[1], 16), seen[2], new[2]),
-                 'version order': lambda: 'version order: %s' % short(edge.parts[0]), 'moments': lambda: words_of_moments(*edge.parts),
-                 'forced': lambda: 'forced [%d]: %s' % (edge.step, short(steps[edge.step].key)),
-                 'decided': lambda: 'assumed: %s by %s first' % (short(edge.parts[0], 14), edge.parts[1]), 'another': lambda: short(edge.said, 30)}[edge.kind]()
-        said = '%s before %s: %s' % (edge.first, edge.second, edge.said)
-        return Arrow(edge.first, edge.second, edge.kind, words, said, *ends, number=edge.line, link='#step-%d' % edge.step if edge.step else '')
+        words = words_of(edge, seen[1:], new[1:], steps)
+        link = '#step-%d' % edge.step if edge.step else ''
+        return Arrow(edge.first, edge.second, edge.kind, words, said, *ends, number=edge.line, link=link)
 
     def ends_by_key(self, first, second, key):
         """The lines of an edge from a reader of a version, or from its writer, to the first writer of another."""
@@ -133,11 +140,12 @@ class Scene:
     def add_ground(self, reader, key):
         """A thin arrow from the writer of what a transaction read of a key."""
         line, wid = self.history.first(reader, 'r', key)
-        if (key, wid) in self.history.wrote:
-            writer, written = self.history.wrote[key, wid]
-            if writer.name != reader and not any((it.first, it.second, it.second_line) == (writer.name, reader, line) for it in self.arrows):
-                said = '%s reads %s %s (line %d), which %s wrote (line %d)' % (reader, key, wid, line, writer.name, written)
-                self.add(Arrow(writer.name, reader, 'read', 'read: %s %s' % (short(key), wid), said, written, line, look='thin', support=True))
+        writer, written = self.history.wrote.get((key, wid), (None, None))
+        drawn = [(arrow.first, arrow.second, arrow.second_line) for arrow in self.arrows]
+        if writer and writer.name != reader and (writer.name, reader, line) not in drawn:
+            said = '%s reads %s %s (line %d), which %s wrote (line %d)' % (reader, key, wid, line, writer.name, written)
+            words = 'read: %s %s' % (short(key), wid)
+            self.add(Arrow(writer.name, reader, 'read', words, said, written, line, look='thin', support=True))
 
     # ---- boxes
 
@@ -149,10 +157,10 @@ class Scene:
     def rows(self, it, near):
         """The lines of a transaction that its box shows, with how many are left out between them."""
         shown = [(number, words) for number, words in it.lines if words not in ('begin', 'commit')]
-        whole = len(shown) <= (MOST_NEAR if near else MOST_ROWS)
-        of_keys = [number for number, _ in shown if self.history.at.get(number, (0, None))[1] in self.keys and number not in self.lines]
-        kept = {number for number, words in shown if whole or number in self.lines or words.startswith(('begin ', 'commit ', 'abort', 'unknown')) and not near}
-        kept |= set(of_keys[:MOST_NEAR if near else max(MOST_ROWS - len(kept), 0)])
+        most = MOST_NEAR if near else MOST_ROWS
+        kept = {number for number, words in shown if len(shown) <= most or number in self.lines or not near and number not in self.history.at}
+        of_keys = [number for number, _ in shown if number not in kept and self.history.at.get(number, (0, None))[1] in self.keys]
+        kept |= set(of_keys[:max(most - len(kept), 0)])
         found, left_out = [], []
         for number, words in shown + [(None, None)]:
             if number is not None and number not in kept:
@@ -169,17 +177,17 @@ class Scene:
 
     def box(self, name, look):
         it = self.history.named[name]
-        rows, last = self.rows(it, look == 'near'), it.lines[-1][1].split(' ')
-        outcome = {'commit': 'committed', 'abort': 'aborted', 'unknown': 'outcome unknown'}.get(last[0], last[0])
+        rows, first, last = self.rows(it, look == 'near'), it.lines[0][1].split(' '), it.lines[-1][1].split(' ')
+        outcome = {'commit': 'committed', 'abort': 'aborted', 'unknown': 'outcome unknown'}[last[0]]
         label = 'transaction %s, %s: %s' % (name, outcome, ', '.join(row.note.split('\n')[0] for row in rows) or 'no operations')
-        first = it.lines[0][1].split(' ')
-        moments = [int(words[1]) if len(words) > 1 else None for words in (first, last)]
-        return Box(name, it.session, it.place, name, label, rows, '' if last[0] == 'commit' else outcome, look, self.supports.get(name, False), *moments)
+        badge = '' if last[0] == 'commit' else outcome
+        begun, ended = (int(words[1]) if len(words) > 1 else None for words in (first, last))
+        return Box(name, it.session, it.place, name, label, rows, badge, look, self.supports.get(name, False), begun, ended)
 
     def neighbours(self):
         """The transactions just before and behind those that bold arrows are about, in their sessions."""
-        places = {(it.session, it.place) for it in (self.history.named[name] for name, support in self.supports.items() if not support)}
-        near = {'%s.%d' % (session, place + by) for session, place in places for by in (-1, 1)}
+        its = [self.history.named[name] for name, support in self.supports.items() if not support]
+        near = {'%s.%d' % (it.session, it.place + by) for it in its for by in (-1, 1)}
         return [it.name for it in self.history.all if it.name in near and it.name not in self.supports]
 
     def svg(self):
@@ -194,9 +202,28 @@ class Scene:
         return {'otherwise' if arrow.look == 'otherwise' else arrow.kind for arrow in self.arrows}
 
 
-def words_of_moments(ended, began):
-    said = 'moments: %s < %s' % (ended, began)
-    return said if len(said) <= 26 else 'ended %d before' % (int(began) - int(ended))
+def words_of(edge, seen, new, steps):
+    """What stands on an arrow, with the key and the identity at each of its ends."""
+    if edge.kind == 'session':
+        return edge.said
+    if edge.kind == 'read':
+        return 'read: %s %s' % (short(new[0]), new[1])
+    if edge.kind == 'anti-dependency':
+        return words_of_overwriting(*seen, new[1])
+    if edge.kind == 'version order':
+        return 'version order: %s' % short(edge.parts[0])
+    if edge.kind == 'moments':
+        said = 'moments: %s < %s' % edge.parts
+        return said if len(said) <= 26 else 'ended %d before' % (int(edge.parts[1]) - int(edge.parts[0]))
+    if edge.kind == 'forced':
+        return 'forced [%d]: %s' % (edge.step, short(steps[edge.step].key))
+    if edge.kind == 'decided':
+        return 'assumed: %s by %s first' % (short(edge.parts[0], 14), edge.parts[1])
+    return short(edge.said, 30)
+
+
+def words_of_overwriting(key, seen, new):
+    return 'overwritten: %s %s by %s' % (short(key, 16), seen, new)
 
 
 # ---- scenes
@@ -206,9 +233,12 @@ def writer_of(scene, key, wid):
     if (key, wid) in scene.history.wrote:
         it, line = scene.history.wrote[key, wid]
         return it.name, line
-    name, heading, words = ('initial', 'initial value', '%s %s' % (short(key), wid)) if wid == '0' else ('nowhere', 'no transaction', 'no line  w %s %s' % (short(key), wid))
+    name, heading, words = ('nowhere', 'no transaction', 'no line  w %s %s' % (short(key), wid))
+    if wid == '0':
+        name, heading, words = ('initial', 'initial value', '%s 0' % short(key))
     if name not in [box.name for box in scene.extra]:
-        scene.extra.append(Box(name, name, 0, heading, '%s: %s %s' % (heading, key, wid), [Row(words, None, key, wid)], look='source' if wid == '0' else 'nowhere'))
+        look = 'source' if wid == '0' else 'nowhere'
+        scene.extra.append(Box(name, name, 0, heading, '%s: %s %s' % (heading, key, wid), [Row(words, None, key, wid)], look=look))
     return name, None
 
 
@@ -224,11 +254,12 @@ def scene_of_read(history, explanation):
     words = {'A1': 'read, and never written', 'A2': 'read, though aborted', 'A3': 'read, though overwritten', 'A4': 'read, and not its own write',
              'A5': 'read before it is written', 'A6': 'second read'}[explanation.code]
     writer, written = writer_of(scene, key, wid)
-    scene.add(Arrow(writer, name, 'read', words, explanation.lines[1], written, line, number=2))
+    at = explanation.behind
+    scene.add(Arrow(writer, name, 'read', words, explanation.lines[at - 1], written, line, number=at))
     if explanation.code == 'A6':
         earlier, _, _, seen = next(it for it in history.named[name].operations('r') if it[2] == key and it[0] < line and it[3] != wid)
         writer, written = writer_of(scene, key, seen)
-        scene.add(Arrow(writer, name, 'read', 'first read', explanation.lines[2], written, earlier, look='thin', number=3))
+        scene.add(Arrow(writer, name, 'read', 'first read', explanation.lines[at], written, earlier, look='thin', number=at + 1))
     return scene
 
 
@@ -241,33 +272,36 @@ def scene_of_update(history, explanation):
     for place, name in enumerate(both):
         other, (line, wid), (over, new) = both[1 - place], reads[place], writes[1 - place]
         writer, written = writer_of(scene, key, wid)
-        scene.add(Arrow(writer, name, 'read', 'read: %s %s' % (short(key), wid), explanation.lines[1 + 2 * place], written, line, look='thin', number=2 + 2 * place))
+        read_at, over_at = explanation.behind + 2 * place, explanation.behind + 2 * (1 - place) + 1
+        words = 'read: %s %s' % (short(key), wid)
+        scene.add(Arrow(writer, name, 'read', words, explanation.lines[read_at - 1], written, line, look='thin', number=read_at))
         said = '%s reads %s %s (line %d), and %s overwrites it with %s (line %d)' % (name, key, wid, line, other, new, over)
-        scene.add(Arrow(name, other, 'anti-dependency', 'overwritten: %s %s by %s' % (short(key, 16), wid, new), said, line, over, number=3 + 2 * (1 - place)))
+        scene.add(Arrow(name, other, 'anti-dependency', words_of_overwriting(key, wid, new), said, line, over, number=over_at))
     return scene
 
 
 def scenes_of_cycle(history, edges, steps, title, support=()):
     """The picture of a cycle, with the walks of these steps where it stays small, or parts of a long one."""
     if len(edges) > MOST_EDGES:
-        parts = [edges[at:at + PART] for at in range(0, len(edges), PART)]
-        found = []
-        for place, part in enumerate(parts):
-            scene = Scene(history, '%s, edges %d to %d of %d' % (title, place * PART + 1, place * PART + len(part), len(edges)))
-            scene.add_edges(part, steps)
-            for by, arrow in enumerate([arrow for arrow in scene.arrows if arrow.look == 'bold'], place * PART + 1):
-                arrow.ordinal = by
-            found.append(scene)
-        return found
-    scene = Scene(history, title)
-    scene.add_edges(edges, steps)
-    with_support = Scene(history, title)
-    with_support.add_edges(edges, steps)
-    bold = {(edge.first, edge.second) for edge in edges}
+        return [part_of_cycle(history, edges, steps, title, at) for at in range(0, len(edges), PART)]
+    scene, with_support = Scene(history, title), Scene(history, title)
+    for it in (scene, with_support):
+        it.add_edges(edges, steps)
+    drawn = {(edge.first, edge.second) for edge in edges}
     for step in support:
-        with_support.add_edges([edge for edge in step.walk if (edge.first, edge.second) not in bold], steps, 'thin', True)
-        bold |= {(edge.first, edge.second) for edge in step.walk}
+        with_support.add_edges([edge for edge in step.walk if (edge.first, edge.second) not in drawn], steps, 'thin', True)
+        drawn |= {(edge.first, edge.second) for edge in step.walk}
     return [with_support if len(with_support.supports) <= MOST_SUPPORT else scene]
+
+
+def part_of_cycle(history, edges, steps, title, at):
+    """The picture of some edges, of which the first one has this place."""
+    part = edges[at:at + PART]
+    scene = Scene(history, '%s, edges %d to %d of %d' % (title, at + 1, at + len(part), len(edges)))
+    scene.add_edges(part, steps)
+    for ordinal, arrow in enumerate([arrow for arrow in scene.arrows if arrow.look == 'bold'], at + 1):
+        arrow.ordinal = ordinal
+    return scene
 
 
 def scenes_of_step(history, step, steps):
@@ -297,20 +331,20 @@ class Page:
             self.keys.setdefault(key)
         svg, switches = scene.svg(), ''
         if any(arrow.support for arrow in scene.arrows):
-            switches += self.switch('support', 'what the bold arrows rest on', True)
+            switches += self.switch('support', 'what the bold arrows rest on', ' checked')
         if int(re.search(' width="([0-9]+)"', svg)[1]) > lanes.WIDTH / lanes.LEAST:
             switches += self.switch('fit', 'fit the width of the page')
         return '<figure>%s<div class="picture">%s</div></figure>' % (switches, svg)
 
-    def switch(self, name, words, on=False):
+    def switch(self, name, words, on=''):
         ident = '%s-%d' % (name, self.pictures)
-        return '<input type="checkbox"%s class="%s" id="%s"><label for="%s">%s</label>' % (' checked' * on, name, ident, ident, words)
+        return '<input type="checkbox"%s class="%s" id="%s"><label for="%s">%s</label>' % (on, name, ident, ident, words)
 
     def pictures_of(self, scenes):
         """The first picture, and the others folded."""
         first, *rest = scenes
-        more = ['<details><summary>%s</summary>%s</details>' % (escape(scene.title), self.picture(scene)) for scene in rest]
-        heading = '<p class="part">%s</p>' % escape(first.title) if rest else ''
+        heading = element('p', escape(first.title), class_='part') if rest else ''
+        more = [element('details', element('summary', escape(scene.title)) + self.picture(scene)) for scene in rest]
         return heading + self.picture(first) + ''.join(more)
 
     def line(self, number, ordinal=None, tag='li'):
@@ -319,30 +353,30 @@ class Page:
 
         def of_log(found):
             kind, key, wid = self.history.at.get(int(found[1]), (None, None, None))
-            return lanes.element('span', found[0], class_='at', data_line=found[1], data_key=key, data_wid=wid)
+            return element('span', found[0], class_='at', data_line=found[1], data_key=key, data_wid=wid)
         inner = told.LINE.sub(of_log, escape(said))
         inner = re.sub(r'(forced )\[([0-9]+)\]$', r'\1<a href="#step-\2">[\2]</a>', inner)
         number_of = '<b class="ordinal">%d</b> ' % ordinal if ordinal else ''
-        return lanes.element(tag, number_of + inner, class_='told-line', data_edge=number)
+        return element(tag, number_of + inner, class_='told-line', data_edge=number)
 
     def edges(self, edges):
-        return '<ul class="lines">%s</ul>' % ''.join(self.line(edge.line, place if len(edges) > 1 else None) for place, edge in enumerate(edges, 1))
+        its = [self.line(edge.line, place if len(edges) > 1 else None) for place, edge in enumerate(edges, 1)]
+        return '<ul class="lines">%s</ul>' % ''.join(its)
 
     def step(self, step, draw):
-        says = ('Suppose that of %s the chain that begins with %s came before the one that begins with %s. Then %s would have to stand before %s '
-                '(dashed). But %s stands before %s, by the bold arrows. So it is the other way round, and this step keeps that.')
-        words = says % tuple('<b>%s</b>' % escape(it) for it in (step.key, step.second, step.first, step.late, step.first, step.first, step.late))
+        words = STEP % tuple(element('b', escape(it)) for it in (step.key, step.second, step.first, step.late, step.first, step.first, step.late))
         drawing = self.pictures_of(scenes_of_step(self.history, step, self.steps)) if draw else ''
-        summary = lanes.element('summary', escape(step.said), data_edge=step.line)
-        return '<details class="step"><!-- -->%s<div id="step-%d"><p>%s</p>%s%s</div></details>' % (summary, step.number, words, drawing, self.edges(step.walk))
+        inner = element('div', element('p', words) + drawing + self.edges(step.walk), id='step-%d' % step.number)
+        return element('details', element('summary', escape(step.said), data_edge=step.line) + inner, class_='step')
 
     def steps_section(self):
         if not self.steps:
             return ''
-        near = self.nearest_steps()[:MOST_PICTURES]
+        near, count = self.nearest_steps()[:MOST_PICTURES], len(self.steps)
+        heading = 'The step that it rests on' if count == 1 else 'The %d steps that it rests on' % count
+        note = 'Of %d steps, those %d have a picture that are nearest to the circle.' % (count, len(near)) if len(near) < count else ''
         its = ''.join(self.step(step, step.number in near) for step in self.explanation.steps)
-        note = '' if len(near) == len(self.steps) else '<p>Of %d steps, those %d have a picture that are nearest to the circle.</p>' % (len(self.steps), len(near))
-        return '<section><h2>%s that it rests on</h2>%s%s</section>' % ('The step' if len(self.steps) == 1 else 'The %d steps' % len(self.steps), note, its)
+        return element('section', element('h2', heading) + (element('p', note) if note else '') + its)
 
     def nearest_steps(self):
         """The numbers of the steps, those first that the cycle names, then those that these name, and so on."""
@@ -364,27 +398,29 @@ class Page:
         return list(found.values())
 
     def circle(self, place, its, draw):
-        """One circle of a tree: what is assumed, its picture and its lines."""
-        orders, cycle = its[0]
-        named = [edge.parts for edge in cycle.edges if edge.kind == 'decided']
-        assumed = ' and '.join('of <b>%s</b> the version of <b>%s</b>' % tuple(map(escape, both)) for both in dict.fromkeys(named)) or 'anything'
-        words = '<p>Where %s came first, this circle closes%s.</p>' % (assumed, '' if len(its) == 1 else ', in %d of the branches that are told' % len(its))
-        if not named:
-            words = '<p>This circle closes whatever is assumed.</p>'
+        """One circle of a tree: its picture and its lines, and what is assumed."""
+        cycle = its[0][1]
+        named = dict.fromkeys(edge.parts for edge in cycle.edges if edge.kind == 'decided')
+        assumed = ' and '.join('of %s the version of %s' % both for both in named)
+        words = 'where %s came first' % assumed if named else 'whatever is assumed'
+        words += '; %d of the branches that are told end in it' % len(its) if len(its) > 1 else ''
         drawing = self.pictures_of(scenes_of_cycle(self.history, cycle.edges, self.steps, 'Circle %d' % place)) if draw else ''
-        return words + drawing + self.edges(cycle.edges), re.sub('<[^>]*>', '', words)
+        return drawing + self.edges(cycle.edges), escape(words)
 
     def tree_section(self):
-        circles, parts = self.circles(), []
+        circles, parts, leaves = self.circles(), [], self.explanation.leaves
         for place, its in enumerate(circles, 1):
             inner, words = self.circle(place, its, place <= MOST_PICTURES)
             heading = 'Circle %d of %d' % (place, len(circles))
-            parts.append('<h2>%s</h2>%s' % (heading, inner) if place == 1 else '<details class="circle"><summary>%s: %s</summary>%s</details>' % (heading, words, inner))
-        count, told_here = self.explanation.count or len(self.explanation.leaves), len(self.explanation.leaves)
-        told_words = 'all of its %d branches' % count if count == told_here else 'the first %d of its %d branches' % (told_here, count)
-        start = min(it.line for orders, cycle in self.explanation.leaves[:1] for it in orders + [cycle])
-        tree = '\n'.join(escape(line) for line in self.explanation.lines[start - 1:])
-        return '<section>%s</section><section><details><summary>The whole search, with %s</summary><pre>%s</pre></details></section>' % (''.join(parts), told_words, tree)
+            if place == 1:
+                parts.append(element('h2', heading) + element('p', 'It closes %s.' % words) + inner)
+            else:
+                parts.append(element('details', element('summary', '%s: %s' % (heading, words)) + inner))
+        count, lines = self.explanation.count or len(leaves), self.explanation.lines
+        branches = 'all of its %d branches' % count if count == len(leaves) else 'the first %d of its %d branches' % (len(leaves), count)
+        start = min(it.line for it in leaves[0][0] + [leaves[0][1]])
+        tree = element('summary', 'The whole search, with %s' % branches) + element('pre', escape('\n'.join(lines[start - 1:])))
+        return element('section', ''.join(parts)) + element('section', element('details', tree))
 
     def main_section(self):
         it, history = self.explanation, self.history
@@ -395,29 +431,40 @@ class Page:
             lines = self.edges(it.cycle.edges)
         else:
             scenes = [scene_of_update(history, it) if it.code == 'A7' else scene_of_read(history, it)]
-            lines = '<ul class="lines">%s</ul>' % ''.join(map(self.line, range(2, len(it.lines) + 1)))
+            lines = '<ul class="lines">%s</ul>' % ''.join(map(self.line, range(it.behind, len(it.lines) + 1)))
         return '<section>%s%s</section>' % (self.pictures_of(scenes), lines)
 
     def legend(self):
-        its = ''.join('<li><svg class="sample" width="44" height="14" aria-hidden="true"><path class="%s" d="M1 7L34 7"/><polygon class="%s" points="43,7 33,2 33,12"/></svg>'
-                      '<span><b>%s</b>: %s</span></li>' % (kind.replace(' ', '-'), kind.replace(' ', '-'), kind, KINDS[kind]) for kind in KINDS if kind in self.kinds)
+        kinds = []
+        for kind in filter(self.kinds.__contains__, KINDS):
+            look = kind.replace(' ', '-')
+            line = element('path', d='M1 7L34 7', class_=look) + element('polygon', points='43,7 33,2 33,12', class_=look)
+            sample = element('svg', line, class_='sample', width=44, height=14, aria_hidden='true')
+            kinds.append(element('li', sample + element('span', element('b', kind) + ': ' + KINDS[kind])))
         moments = any(len(words.split(' ')) > 1 for it in self.history.all for _, words in (it.lines[0], it.lines[-1]))
-        order = 'by the moments that the log states, and else by the place in the session' if moments else "by each transaction's place in its session, and a reader stands below what it read"
-        words = ('Each column is a session, and time runs downwards: %s. <code>r KEY ID</code> read the write with this identity, <code>w KEY ID</code> '
-                 'wrote it, as in the log. What is told is bold; pale boxes are the neighbours in the session. Point at an operation to see '
-                 'its key (underlined) and its identity (filled) wherever they stand; click to keep that.' % order)
-        return '<section class="legend"><h2>How to read this</h2><p>%s</p><ul>%s</ul></section>' % (words, its)
+        words = READING % (BY_MOMENTS if moments else BY_PLACE)
+        return element('section', element('h2', 'How to read this') + element('p', words) + element('ul', ''.join(kinds)), class_='legend')
 
     def html(self):
+        it, count = self.explanation, len(self.history.all)
         body = self.main_section() + self.steps_section()
-        keys = ''.join(lanes.element('button', escape(key), type='button', class_='key', data_key=key) for key in list(self.keys)[:24])
-        count = len(self.history.all)
-        named = len([name for name in self.explanation.names if name in self.history.named])
+        named = len([name for name in it.names if name in self.history.named])
         facts = '%s: %d transaction%s, of which the explanation names %d' % (self.name, count, '' if count == 1 else 's', named)
-        head = '<p class="facts">%s</p><h1>%s</h1><p class="meaning">%s</p>' % (escape(facts), escape(self.explanation.verdict), escape(MEANINGS[self.explanation.code]))
-        more = '<p class="switches"><button type="button" id="unfold">unfold all</button><button type="button" id="fold">fold all</button></p>' if '<details' in body else ''
-        chips = '<p class="keys">keys: %s</p>' % keys if keys else ''
-        return PAGE % (escape('%s: %s' % (self.name, self.explanation.verdict)), STYLE, head + chips + more + body + self.legend(), SCRIPT)
+        head = element('p', escape(facts), class_='facts') + element('h1', escape(it.verdict)) + element('p', MEANINGS[it.code], class_='meaning')
+        if self.keys:
+            its = [element('button', escape(key), type='button', class_='key', data_key=key) for key in list(self.keys)[:MOST_KEYS]]
+            head += element('p', 'keys: ' + ''.join(its), class_='keys')
+        if '<details' in body:
+            its = [element('button', name + ' all', type='button', id=name) for name in ('unfold', 'fold')]
+            head += element('p', ''.join(its), class_='switches')
+        title = escape('%s: %s' % (self.name, it.verdict))
+        return PAGE % (title, beside('picture.css'), head + body + self.legend(), beside('picture.js'))
+
+
+def beside(name):
+    """The text of a file that stands beside this script."""
+    with open(os.path.join(os.path.dirname(os.path.abspath(__file__)), name), encoding='utf-8') as file:
+        return file.read()
 
 
 PAGE = '''<!DOCTYPE html>
@@ -436,120 +483,6 @@ PAGE = '''<!DOCTYPE html>
 <script>%s</script>
 </body>
 </html>
-'''
-STYLE = '''
-:root { color-scheme: light dark; --paper: #ffffff; --ink: #1c2024; --pale: #656d76; --faint: #d5dae0; --band: #f4f6f8; --card: #ffffff; --near: #f4f6f8; --told: #eef2f7;
-  --mark: #ffe58a; --mark-ink: #1c2024; --bad: #b3261e; --session: #1c2024; --read: #0b5fc0; --anti: #c62828; --version: #1b7a35; --moments: #7b2fb5; --forced: #b65c00; --decided: #667078; }
-@media (prefers-color-scheme: dark) { :root { --paper: #15181c; --ink: #e8eaed; --pale: #a1a9b3; --faint: #3b424a; --band: #1c2026; --card: #252b32; --near: #1c2026; --told: #323a44;
-  --mark: #7a5d00; --mark-ink: #ffffff; --bad: #ff8a80; --session: #e8eaed; --read: #7db4ff; --anti: #ff8a80; --version: #74d48b; --moments: #d0a2ff; --forced: #ffb35c; --decided: #b0b8c1; } }
-@media print { :root { color-scheme: light; --paper: #ffffff; --ink: #000000; --pale: #4d5359; --faint: #b8bec5; --band: #f7f8f9; --card: #ffffff; --near: #f7f8f9; --told: #eceff3;
-  --bad: #b3261e; --session: #000000; --read: #0b5fc0; --anti: #c62828; --version: #1b7a35; --moments: #7b2fb5; --forced: #b65c00; --decided: #5b646c; } }
-body { margin: 0; background: var(--paper); color: var(--ink); font: 16px/1.5 system-ui, "Segoe UI", "DejaVu Sans", sans-serif; }
-main { max-width: 1800px; margin: 0 auto; padding: 20px 24px 60px; }
-h1 { font-size: 1.5rem; line-height: 1.25; margin: 0 0 .4rem; color: var(--bad); overflow-wrap: anywhere; }
-h2 { font-size: 1.1rem; margin: 1.8rem 0 .5rem; }
-p { margin: .4rem 0; max-width: 75em; }
-.facts, .part { color: var(--pale); font-size: .9rem; overflow-wrap: anywhere; }
-.meaning { font-size: 1.05rem; }
-button { font: inherit; font-size: .85rem; color: inherit; background: var(--card); border: 1px solid var(--faint); border-radius: 6px; padding: 1px 9px; margin: 0 6px 4px 0; cursor: pointer; }
-button.key, pre, code, .lines { font-family: ui-monospace, "DejaVu Sans Mono", Menlo, Consolas, monospace; }
-.keys { color: var(--pale); font-size: .9rem; }
-figure { margin: .8rem 0; }
-figure label { font-size: .9rem; color: var(--pale); margin: 0 16px 0 4px; }
-.picture { overflow-x: auto; padding: 2px 0; }
-.picture svg { display: block; max-width: 100%; height: auto; min-width: var(--least); }
-.support:not(:checked) ~ .picture .support { display: none; }
-.fit:checked ~ .picture svg { min-width: 0; }
-svg text { font: 13px ui-monospace, "DejaVu Sans Mono", Menlo, Consolas, monospace; fill: var(--ink); }
-.lane rect { fill: var(--band); }
-.lane text { fill: var(--pale); font-size: 12px; }
-.box .frame { fill: var(--card); stroke: var(--pale); stroke-width: 1.2; }
-.box.near .frame { fill: var(--near); stroke: var(--faint); stroke-dasharray: 3 3; }
-.box.source .frame { fill: none; stroke-dasharray: 5 4; }
-.box.nowhere .frame { fill: none; stroke: var(--bad); stroke-dasharray: 5 4; }
-.box.near text { fill: var(--pale); }
-.box .name { font-weight: bold; }
-.box .badge { font-size: 11px; fill: var(--bad); }
-.row rect { fill: none; }
-.row .line { font-size: 11px; fill: var(--pale); }
-.row.told rect { fill: var(--told); }
-.row.told .operation { font-weight: bold; }
-.same-key .operation { text-decoration: underline; }
-.row.same-write rect { fill: var(--mark); }
-.row.same-write text { fill: var(--mark-ink); }
-.arrow path, .sample path { fill: none; stroke: var(--kind); }
-.arrow .near { stroke: transparent; stroke-width: 14; pointer-events: stroke; }
-.arrow .stroke { stroke-width: 1.3; }
-.arrow.bold .stroke { stroke-width: 3; }
-.arrow.otherwise .stroke { stroke-width: 2.4; stroke-dasharray: 7 5; }
-.arrow .head, .sample polygon { fill: var(--kind); }
-.sample path { stroke-width: 2.4; }
-.pill rect { fill: var(--paper); stroke: var(--kind); }
-.pill text { font-size: 11.5px; fill: var(--kind); }
-.pill.bold text { font-weight: bold; }
-.pill.thin rect { stroke-opacity: .45; }
-.session { --kind: var(--session); } .read { --kind: var(--read); } .anti-dependency { --kind: var(--anti); } .version-order { --kind: var(--version); }
-.moments { --kind: var(--moments); } .forced { --kind: var(--forced); } .decided { --kind: var(--decided); } .another { --kind: var(--ink); } .otherwise { --kind: var(--decided); }
-.arrow.forced.bold .stroke, .sample .forced { stroke-dasharray: 12 3; }
-.arrow.decided.bold .stroke, .sample .decided { stroke-dasharray: 4 3; }
-.sample .otherwise { stroke-dasharray: 7 5; }
-.pointed .stroke { stroke-width: 5 !important; }
-.pill.pointed rect { fill: var(--mark); } .pill.pointed text { fill: var(--mark-ink); }
-.lines { list-style: none; padding: 0; margin: .6rem 0; font-size: .87rem; }
-.told-line { padding: 1px 8px; border-left: 3px solid var(--faint); overflow-wrap: anywhere; }
-.told-line.pointed, summary.pointed, .at.same-write, button.same-key { background: var(--mark); color: var(--mark-ink); }
-.ordinal { font-weight: bold; }
-.at { color: var(--pale); }
-details { border: 1px solid var(--faint); border-radius: 8px; margin: .5rem 0; padding: .4rem .8rem; }
-summary { cursor: pointer; overflow-wrap: anywhere; }
-.step > summary { font-family: ui-monospace, "DejaVu Sans Mono", Menlo, Consolas, monospace; font-size: .87rem; }
-pre { font-size: .8rem; overflow-x: auto; }
-a { color: inherit; }
-.legend { border-top: 1px solid var(--faint); margin-top: 2rem; font-size: .92rem; color: var(--pale); }
-.legend h2 { font-size: 1rem; margin-top: .8rem; }
-.legend ul { list-style: none; padding: 0; }
-.legend li { display: flex; gap: 10px; align-items: baseline; }
-.sample { flex: none; }
-:focus-visible { outline: 2px solid var(--read); outline-offset: 1px; }
-@page { margin: 12mm; }
-@media print { main { max-width: none; padding: 0; } body { font-size: 11pt; } button, input, figure label, .switches { display: none !important; } .picture svg { min-width: 0; max-height: 24cm; }
-  figure, .told-line { break-inside: avoid; } * { -webkit-print-color-adjust: exact; print-color-adjust: exact; } }
-'''
-SCRIPT = '''
-'use strict';
-(() => {
-  let marked = [], kept = null;
-  const clear = () => { for (const [it, name] of marked) it.classList.remove(name); marked = []; };
-  const mark = (selector, name) => { for (const it of document.querySelectorAll(selector)) { it.classList.add(name); marked.push([it, name]); } };
-  const where = (name, value) => '[data-' + name + '="' + CSS.escape(value) + '"]';
-  const show = it => {
-    clear();
-    if (!it) return;
-    const about = it.dataset;
-    if (about.key) mark(where('key', about.key), 'same-key');
-    if (about.key && about.wid) mark(where('key', about.key) + where('wid', about.wid), 'same-write');
-    const told = it.closest('[data-edge]');
-    if (told) mark(where('edge', told.dataset.edge), 'pointed');
-  };
-  const at = event => event.target instanceof Element ? event.target.closest('[data-key], [data-edge]') : null;
-  document.addEventListener('mouseover', event => show(at(event) || kept));
-  document.addEventListener('focusin', event => show(at(event) || kept));
-  document.addEventListener('click', event => { const it = at(event); kept = it && it !== kept ? it : null; show(kept); });
-  document.addEventListener('keydown', event => { if (event.key === 'Escape') { kept = null; show(null); } });
-  const fold = open => { for (const it of document.querySelectorAll('details')) it.open = open; };
-  for (const [name, open] of [['unfold', true], ['fold', false]]) {
-    const button = document.getElementById(name);
-    if (button) button.addEventListener('click', () => fold(open));
-  }
-  const unfoldTarget = () => {
-    const it = location.hash.length > 1 && document.getElementById(decodeURIComponent(location.hash.slice(1)));
-    if (!it) return;
-    for (let up = it; up; up = up.parentElement) if (up.tagName === 'DETAILS') up.open = true;
-    it.scrollIntoView();
-  };
-  addEventListener('hashchange', unfoldTarget);
-  unfoldTarget();
-})();
 '''
 
 

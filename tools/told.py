@@ -82,10 +82,12 @@ class Order:
 
 @dataclass
 class Explanation:
-    """The verdict, and what stands behind it. `code` is A1 to A9 or TREE, and None where the log is not refuted. A tree is told by its
-    leaves: each cycle with the orders that are decided above it; `count` says how many there are where not all are told."""
+    """The verdict, and what stands behind it. `code` is A1 to A9 or TREE, and None where the log is not refuted; `behind` is the number of the
+    first line of an anomaly behind that. A tree is told by its leaves: each cycle with the orders that are decided above it; `count` says
+    how many there are where not all are told."""
     lines: List[str]
     code: Optional[str] = None
+    behind: int = 2
     steps: List[Step] = field(default_factory=list)
     cycle: Optional[Cycle] = None
     leaves: List[Tuple[List[Order], Cycle]] = field(default_factory=list)
@@ -187,7 +189,7 @@ def read(text):
     it.code = code_of(it.verdict)
     if it.code is None:
         return it
-    reader.at = 1
+    reader.at = it.behind - 1
     if it.code == 'A8':
         cycle = reader.next(ROUND)
         it.cycle = cycle and Cycle(cycle[0], reader.edges())
