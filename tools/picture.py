@@ -18,8 +18,8 @@ MOST_EDGES, PART, MOST_PICTURES = 16, 12, 40
 MOST_SUPPORT, MOST_NEIGHBOURED = 9, 8
 # A box shows so many operations of those that are not told, and a neighbour so many.
 MOST_ROWS, MOST_NEAR = 10, 3
-# So many keys are listed on top.
-MOST_KEYS = 24
+# So many keys are listed on top; and so tall may a picture be that stands before its lines.
+MOST_KEYS, TALL = 24, 800
 MEANINGS = {
     'A1': 'A read names a write that the log does not have: the value came from nowhere, or its write was lost.',
     'A2': 'A read saw a write of a transaction that was aborted: the store showed what it took back.',
@@ -347,6 +347,11 @@ class Page:
         more = [element('details', element('summary', escape(scene.title)) + self.picture(scene)) for scene in rest]
         return heading + self.picture(first) + ''.join(more)
 
+    def with_lines(self, drawing, lines):
+        """A picture and the lines that it shows, which stand first where it is taller than a screen."""
+        heights = [int(height) for height in re.findall('<svg [^>]* height="([0-9]+)"', drawing)]
+        return lines + drawing if max(heights, default=0) > TALL else drawing + lines
+
     def line(self, number, ordinal=None, tag='li'):
         """A told line, in which each line of the log is marked, and each step is a link."""
         said = self.explanation.lines[number - 1].strip(' ')
@@ -366,7 +371,7 @@ class Page:
     def step(self, step, draw):
         words = STEP % tuple(element('b', escape(it)) for it in (step.key, step.second, step.first, step.late, step.first, step.first, step.late))
         drawing = self.pictures_of(scenes_of_step(self.history, step, self.steps)) if draw else ''
-        inner = element('div', element('p', words) + drawing + self.edges(step.walk), id='step-%d' % step.number)
+        inner = element('div', element('p', words) + self.with_lines(drawing, self.edges(step.walk)), id='step-%d' % step.number)
         return element('details', element('summary', escape(step.said), data_edge=step.line) + inner, class_='step')
 
     def steps_section(self):
@@ -405,7 +410,7 @@ class Page:
         words = 'where %s came first' % assumed if named else 'whatever is assumed'
         words += '; %d of the branches that are told end in it' % len(its) if len(its) > 1 else ''
         drawing = self.pictures_of(scenes_of_cycle(self.history, cycle.edges, self.steps, 'Circle %d' % place)) if draw else ''
-        return drawing + self.edges(cycle.edges), escape(words)
+        return self.with_lines(drawing, self.edges(cycle.edges)), escape(words)
 
     def tree_section(self):
         circles, parts, leaves = self.circles(), [], self.explanation.leaves
@@ -432,7 +437,7 @@ class Page:
         else:
             scenes = [scene_of_update(history, it) if it.code == 'A7' else scene_of_read(history, it)]
             lines = '<ul class="lines">%s</ul>' % ''.join(map(self.line, range(it.behind, len(it.lines) + 1)))
-        return '<section>%s%s</section>' % (self.pictures_of(scenes), lines)
+        return element('section', self.with_lines(self.pictures_of(scenes), lines))
 
     def legend(self):
         kinds = []

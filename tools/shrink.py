@@ -48,7 +48,7 @@ class Smaller:
         """Whether these transactions have the fault too; then they are what is kept."""
         status, answer, said = self.program.ask(self.text(kept), 'check')
         # fewer transactions may leave more choices
-        if status not in (scripts.SERIALIZABLE, scripts.NOT_SERIALIZABLE, scripts.UNKNOWN) and said != 'refused: G1':
+        if status not in (scripts.SERIALIZABLE, scripts.NOT_SERIALIZABLE, scripts.UNKNOWN) and 'refused: G1' not in said.split('\n'):
             raise scripts.Stop('check ended with %d: %s' % (status, said), scripts.AROUND)
         if status != scripts.NOT_SERIALIZABLE or self.fault not in (None, code_of(answer)):
             return False
