@@ -122,6 +122,31 @@ def small_log(seed, version=1):
     return text_of(sessions, version)
 
 
+def stale_log(seed, count, sessions, keys, version=1):
+    """A log of so many transactions, which ran one after the other in so many sessions, of a store that now and then shows a version that
+    is one or two writes old."""
+    r = random.Random(seed)
+    names, made, store, left, wid = ['k%d' % n for n in range(keys)], [[] for _ in range(sessions)], {}, {}, 0
+    for turn in range(count):
+        ops, view = [], {}
+        for _ in range(r.randint(1, 5)):
+            key = r.choice(names)
+            if r.random() < 0.4:
+                wid += 1
+                view[key] = wid
+                ops.append(('w', key, wid))
+            else:
+                seen = r.choice(left[key][-3:]) if key in left and r.random() < 3 / count else store.get(key, 0)
+                ops.append(('r', key, view.setdefault(key, seen)))
+        written = {key: wid for kind, key, wid in ops if kind == 'w'}
+        store.update(written)
+        for key, last in written.items():
+            left.setdefault(key, [0]).append(last)
+        said = (10 * turn, 10 * turn + r.randint(1, 40)) if version == 3 else (None, None)
+        r.choice(made).append(stating(ops, 'commit', *said))
+    return text_of(list(enumerate(made, 1)), version)
+
+
 def chained_log(r, version):
     """At most six transactions of which each reads what the one before wrote, most of them unknown, in sessions in any order. In some
     the first one reads what the last one wrote, and in some nobody is committed."""

@@ -1,0 +1,339 @@
+#!/usr/bin/env python3
+"""picture.py PROGRAM: the pages of tools/picture.py, in a real browser.
+
+The page of each refuted example, and of made logs that are refuted, up to 1,000 transactions, is loaded in headless Chromium. Each edge that
+`explain` tells must be an arrow between its two boxes, bold, with the told line as its name, and there are no others but the thin ones; each
+transaction that is told must be a box with those of its operations that are told. Nothing may stand in the browser's console. In the
+browser itself are measured: that words stay in their boxes, that boxes do not meet, and that words on arrows cover no box; and tried: what is marked
+where the mouse is, what is folded, and the switch for what arrows rest on. Then come logs and names that are hostile, and what must end
+with a status. Chromium is Debian's, and is installed where it is not there; where it cannot be had, a line says so and pages are read without it.
+Last line: 'picture: N passed, M failed'."""
+import html, html.parser, json, os, re, shutil, subprocess, sys, tempfile
+
+HERE = os.path.dirname(os.path.abspath(__file__))
+TOP = os.path.dirname(HERE)
+sys.path.insert(0, HERE)
+import explained, generate
+
+sys.path.insert(0, os.path.join(TOP, 'tools'))
+import picture
+
+PICTURE = os.path.join(TOP, 'tools', 'picture.py')
+BROWSERS, AROUND = ('chromium-headless-shell', 'chromium'), 70
+BEFORE, LINE = re.compile(r'^ *([0-9.]+) before ([0-9.]+): (.*)$', re.M), re.compile(r'\(line ([0-9]+)\)')
+# How many pictures a page has, and up to how many edges a cycle is one picture, as tools/picture.py says.
+MOST_PICTURES = 40
+# Measures and tries what only a browser knows, in each page, which is a frame of this one, and leaves what is wrong, and the pages as they stand.
+TRIED = r'''
+const tried = (window, document) => {
+  const {MouseEvent, getComputedStyle} = window, faults = [], told = (holds, what) => { if (!holds) faults.push(what); };
+  const all = (selector, within = document) => [...within.querySelectorAll(selector)];
+  const meet = (a, b) => a.left < b.right - 1 && b.left < a.right - 1 && a.top < b.bottom - 1 && b.top < a.bottom - 1;
+  try {
+    const details = all('details'), unfold = document.getElementById('unfold');
+    told(details.every(it => !it.open), 'something is unfolded at first');
+    if (unfold) { unfold.click(); told(details.every(it => it.open), 'not all is unfolded'); }
+    for (const svg of all('.picture svg')) {
+      const boxes = all('.box', svg).map(it => ({name: it.dataset.box, frame: it.querySelector('.frame').getBoundingClientRect(), it}));
+      const whole = svg.getBoundingClientRect(), pills = all('.pill rect', svg).map(it => it.getBoundingClientRect());
+      for (const {name, frame, it} of boxes) {
+        told(frame.width > 0, name + ' is not seen');
+        for (const words of all('text', it)) {
+          const its = words.getBoundingClientRect();
+          told(its.left >= frame.left - 1 && its.right <= frame.right + 1 && its.top >= frame.top - 2 && its.bottom <= frame.bottom + 2, name + ' is too small for ' + words.textContent);
+        }
+        for (const row of all('.row', it)) {
+          const [operation, line] = ['.operation', '.line'].map(its => row.querySelector(its));
+          told(!line || operation.getBoundingClientRect().right < line.getBoundingClientRect().left, name + ': words on words: ' + row.textContent);
+        }
+        for (const other of boxes) told(other.name === name || !meet(frame, other.frame), name + ' meets ' + other.name);
+        for (const pill of pills) told(!meet(frame, pill), name + ' is covered by words');
+      }
+      for (const pill of all('.pill', svg)) {
+        const its = pill.getBoundingClientRect(), words = pill.querySelector('text').getBoundingClientRect();
+        told(its.left >= whole.left - 1 && its.right <= whole.right + 1 && its.top >= whole.top - 1 && its.bottom <= whole.bottom + 1, 'words are cut off: ' + pill.textContent);
+        told(words.left >= its.left && words.right <= its.right, 'words are longer than their place: ' + pill.textContent);
+      }
+    }
+    const point = it => it.dispatchEvent(new MouseEvent('mouseover', {bubbles: true}));
+    for (const it of all('.row[data-key]').slice(0, 20)) {
+      const {key, wid} = it.dataset;
+      point(it);
+      told(all('.same-key').every(its => its.dataset.key === key) && all('.row').every(its => its.dataset.key !== key || its.classList.contains('same-key')), 'wrong keys are marked: ' + key);
+      told(all('.same-write').every(its => its.dataset.wid === wid && its.dataset.key === key) && it.classList.contains('same-write'), 'wrong identities are marked: ' + wid);
+    }
+    for (const it of all('.told-line').slice(0, 20)) {
+      point(it);
+      told(all('.pointed').length > 1 || !all('.arrow').some(its => its.dataset.edge === it.dataset.edge), 'no arrow is marked: ' + it.textContent);
+      told(all('.pointed').every(its => its.dataset.edge === it.dataset.edge), 'another arrow is marked: ' + it.textContent);
+    }
+    point(document.body);
+    told(!all('.pointed, .same-key').length, 'something stays marked');
+    for (const it of all('input.support')) {
+      const supports = all('.support', it.parentElement.querySelector('svg')), seen = () => supports.filter(its => getComputedStyle(its).display !== 'none').length;
+      told(supports.length && seen() === supports.length, 'what arrows rest on is not seen');
+      it.click();
+      told(seen() === 0 && all('.arrow.bold', it.parentElement).every(its => getComputedStyle(its).display !== 'none'), 'what arrows rest on is still seen');
+      it.click();
+    }
+    if (unfold) { document.getElementById('fold').click(); told(details.every(it => !it.open), 'not all is folded'); }
+    for (const link of all('a[href^="#"]').slice(0, 3)) {
+      const target = document.getElementById(link.getAttribute('href').slice(1));
+      told(target && target.closest('details'), 'a link leads nowhere');
+    }
+  } catch (fault) { faults.push(String(fault)); }
+  return [faults.slice(0, 5), document.documentElement.outerHTML];
+};
+addEventListener('load', () => {
+  const frames = [...document.querySelectorAll('iframe')];
+  document.querySelector('pre').textContent = JSON.stringify(frames.map(it => tried(it.contentWindow, it.contentDocument)));
+  for (const it of frames) it.remove();
+});
+'''
+
+
+class Tags(html.parser.HTMLParser):
+    """What a page has: the names of its elements, and of each picture its boxes, with the lines in them that are marked, and its arrows."""
+
+    def __init__(self, text):
+        super().__init__()
+        self.names, self.pictures, self.box = set(), [], None
+        self.feed(text)
+
+    def handle_starttag(self, tag, pairs):
+        about = dict(pairs)
+        self.names.add(tag)
+        looks = (about.get('class') or '').split()
+        if tag == 'svg' and 'sample' not in looks:
+            self.pictures.append(({}, []))
+        if 'box' in looks:
+            self.box = {'looks': looks, 'name': about['aria-label'], 'lines': set(), 'all': set()}
+            self.pictures[-1][0][about['data-box']] = self.box
+        if 'row' in looks and 'data-line' in about:
+            self.box['all'].add(int(about['data-line']))
+            if 'told' in looks:
+                self.box['lines'].add(int(about['data-line']))
+        if 'arrow' in looks:
+            self.pictures[-1][1].append((looks, about['aria-label'], about['data-first'], about['data-second'], about.get('data-edge')))
+
+
+def find_browser():
+    return next(filter(None, map(shutil.which, BROWSERS)), None)
+
+
+def browser():
+    """The command of headless Chromium, which is installed where it is not there; None where it cannot be had."""
+    quiet = {'stdin': subprocess.DEVNULL, 'stdout': subprocess.DEVNULL, 'stderr': subprocess.DEVNULL, 'env': {**os.environ, 'DEBIAN_FRONTEND': 'noninteractive'}}
+    try:
+        if not find_browser():
+            subprocess.run(['apt-get', 'update'], timeout=300, **quiet)
+        for name in BROWSERS if not find_browser() else ():
+            if subprocess.run(['apt-get', 'install', '-y', '--no-install-recommends', name, 'fonts-dejavu-core'], timeout=600, **quiet).returncode == 0:
+                break
+    except (OSError, subprocess.TimeoutExpired):
+        pass
+    return find_browser()
+
+
+def loaded(command, folder, pages):
+    """What is wrong in each of these pages, and how it stands, once a browser has loaded them all as frames of one; and the browser's console."""
+    whole = os.path.join(folder, 'whole.html')
+    with open(whole, 'w', encoding='utf-8') as out:
+        frames = ''.join('<iframe width="1300" height="900" srcdoc="%s"></iframe>' % html.escape(page) for page in pages)
+        out.write('<!DOCTYPE html><meta charset="utf-8"><script>%s</script><pre></pre>%s' % (TRIED, frames))
+    # the sandbox is left out only where it cannot be, as for root
+    for more in ([], ['--no-sandbox']) if os.geteuid() else (['--no-sandbox'],):
+        words = [command, '--headless', *more, '--disable-gpu', '--no-first-run', '--window-size=1300,900', '--enable-logging=stderr', '--dump-dom',
+                 '--user-data-dir=' + os.path.join(folder, 'browser'), 'file://' + whole]
+        ran = subprocess.run(words, stdin=subprocess.DEVNULL, stdout=subprocess.PIPE, stderr=subprocess.PIPE, timeout=600)
+        said = re.search('<pre>(.*?)</pre>', ran.stdout.decode(), re.S)
+        if said:
+            console = [line for line in ran.stderr.decode(errors='replace').split('\n') if 'CONSOLE' in line]
+            return json.loads(html.unescape(said[1])), console
+    raise RuntimeError('%s ends with %d and no page: %s' % (command, ran.returncode, ran.stderr.decode(errors='replace')[-500:]))
+
+
+def cycles_of(said):
+    """The edges of each run of them in what `explain` says, in its order: (first, second, reason)."""
+    found, run = [], []
+    for line in said.split('\n'):
+        edge = BEFORE.fullmatch(line)
+        if edge:
+            run.append(edge.groups())
+        elif run:
+            found.append(run)
+            run = []
+    return found + [run] * bool(run)
+
+
+def expected(said):
+    """The edges that are bold arrows, and how many arrows else lead from one told line to another."""
+    first, runs = said.split('\n')[0], cycles_of(said)
+    if first == explained.EVERY_CUBE:
+        steps, tree = said.count('\n['), []
+        for run in runs[steps:]:
+            if sorted(run) not in map(sorted, tree):
+                tree.append(run)
+        return tree[:MOST_PICTURES] + runs[:min(steps, MOST_PICTURES)], steps
+    return runs[-1:] + runs[:-1], len(runs) - 1
+
+
+def fault_of_picture(boxes, arrows, text):
+    """What is wrong with the boxes at the ends of these arrows."""
+    lines = text.split('\n')
+    for looks, name, first, second, _ in arrows:
+        if not {first, second} <= set(boxes):
+            return 'an arrow without its box: %s' % name
+        if first == second and 'read' not in looks:
+            return 'an arrow to itself: %s' % name
+        for line in map(int, LINE.findall(name)) if 'otherwise' not in looks else ():
+            if not any(line in boxes[it]['lines'] for it in (first, second)):
+                return 'line %d is not marked: %s' % (line, name)
+    for name, box in boxes.items():
+        if not box['name']:
+            return '%s has no name' % name
+        if any(not re.match('[rw] |begin |commit |abort|unknown', lines[line - 1]) for line in box['all']):
+            return '%s has a line that is no operation' % name
+    return None
+
+
+def fault(page, text, said):
+    """What is wrong with the counts and names of a page, by what `explain` says."""
+    runs, steps = expected(said)
+    drawn = [(sorted((first, second, name) for looks, name, first, second, _ in arrows if 'bold' in looks)) for _, arrows in page.pictures]
+    for boxes, arrows in page.pictures:
+        wrong = fault_of_picture(boxes, arrows, text)
+        if wrong:
+            return wrong
+    marked = {name: set().union(*(boxes[name]['lines'] for boxes, _ in page.pictures if name in boxes)) for boxes, _ in page.pictures for name in boxes}
+    if runs == [[]] or not runs:
+        arrows = page.pictures[0][1]
+        lines, named = said.split('\n')[1:-1], set(map(int, LINE.findall(said)))
+        wanted = {'A6': (1, 1), 'A7': (2, 2)}.get(said.split(' ')[2], (1, 0))
+        counts = tuple(sum(look in looks for looks, *_ in arrows) for look in ('bold', 'thin'))
+        if len(page.pictures) != 1 or counts != wanted or not named <= set().union(*marked.values()):
+            return '%d pictures, bold and thin arrows %r, wanted %r; lines %r of %r' % (len(page.pictures), counts, wanted, marked, named)
+        return None if all(said.split('\n')[int(edge) - 1] in lines for *_, edge in arrows) else 'an arrow of no line'
+    wanted = [sorted((a, b, '%s before %s: %s' % (a, b, reason)) for a, b, reason in run) for run in runs]
+    # a long cycle is drawn in parts
+    if sorted(sum(drawn, [])) != sorted(sum(wanted, [])):
+        return 'the bold arrows are %r, wanted %r' % (drawn, wanted)
+    if drawn[0] != wanted[0] and not set(drawn[0]) < set(wanted[0]):
+        return 'the first picture has %r, wanted %r' % (drawn[0], wanted[0])
+    otherwise = sum('otherwise' in looks for _, arrows in page.pictures for looks, *_ in arrows)
+    told = {name for step in explained.STEP.finditer(said) for name in step.groups()[2:5]} if steps <= MOST_PICTURES else set()
+    if otherwise != min(steps, MOST_PICTURES) or not told <= set(marked):
+        return '%d arrows say otherwise, of %d steps; no box of %r' % (otherwise, steps, told - set(marked))
+    return None
+
+
+class Checks:
+    def __init__(self, program, folder):
+        self.program, self.folder, self.passed, self.failed = program, folder, 0, 0
+
+    def expect(self, holds, what):
+        self.passed, self.failed = self.passed + bool(holds), self.failed + (not holds)
+        if not holds:
+            print('FAILED', what)
+
+    def call(self, *words):
+        ran = subprocess.run([sys.executable, PICTURE, *words], stdin=subprocess.DEVNULL, stdout=subprocess.PIPE, stderr=subprocess.PIPE, timeout=300)
+        return ran.returncode, ran.stdout.decode(), ran.stderr.decode()
+
+    def put(self, name, text):
+        path = os.path.join(self.folder, name)
+        with open(path, 'wb') as file:
+            file.write(text if isinstance(text, bytes) else text.encode())
+        return path
+
+    def pages(self, logs):
+        """The page of each of these logs that is refuted, with its name, the log, and what `explain` says of it."""
+        for name, text in logs:
+            ran = subprocess.run([self.program, 'explain', '--workers', '1', '-'], input=text, stdout=subprocess.PIPE, stderr=subprocess.PIPE, timeout=120)
+            if ran.returncode == 1:
+                yield name, text.decode(), ran.stdout.decode(), picture.page_of(text.decode(), ran.stdout.decode(), name).html()
+
+    def look(self, command, pages):
+        """Holds these pages against what `explain` says, as they stand in the browser where there is one."""
+        broken = '<script>throw new Error("broken on purpose")</script>'
+        seen, console = loaded(command, self.folder, [page for *_, page in pages] + [HOSTILE[2], broken]) if command else ([([], page) for *_, page in pages], [])
+        for (name, text, said, page), (faults, stands) in zip(pages, seen):
+            outside = re.findall(r'(?:src|href)="(?!#)[^"]*"|https?:|@import|url\(', page)
+            faults = ['it names something outside: %r' % outside] * bool(outside) + faults + list(filter(None, [fault(Tags(stands), text, said)]))
+            self.expect(not faults, '%s: %s' % (name, '; '.join(faults)))
+        hostile = Tags(seen[len(pages)][1] if command else HOSTILE[2])
+        self.expect('img' not in hostile.names and len(hostile.pictures[0][1]) == 2, 'hostile keys are elements: %r' % sorted(hostile.names))
+        if command:
+            self.expect(len(console) == 1 and 'broken on purpose' in console[0], 'the console has, beside the error that is made: %r' % console)
+
+    def statuses(self):
+        log = dict(generate.examples((1, 2, 3)))
+        page, whole = os.path.join(self.folder, 'none.html'), lambda name: os.path.join(generate.EXAMPLES, name)
+        skew = whole('write_skew.log')
+        for words, status, said in (
+            ([whole('two_writers.log')], AROUND, 'serializable'), ([whole('unknown_not_last.log')], 2, 'refused: L9 line 6'),
+            ([whole('there_is_none.log')], AROUND, 'there_is_none.log'), ([skew, '--program', '/there/is/none'], AROUND, '/there/is/none'),
+            ([skew, '--program', shutil.which('false')], AROUND, 'it is empty'), ([skew, '--explained', skew], AROUND, 'not serializable'),
+            ([skew, '--explained', self.put('cut', 'not serializable: A8 cycle of known edges\n')], AROUND, 'breaks off'),
+            ([skew, '--explained', self.put('more', 'not serializable: A9 pruning ends in a cycle\nso it is\n')], AROUND, 'so it is'),
+            ([skew, '--explained', self.put('other', subprocess.run([self.program, 'explain', '-'], input=log['long_fork.log'], stdout=subprocess.PIPE).stdout)], AROUND, 'another log'),
+            ([skew, '-o', os.path.join(self.folder, 'no', 'folder')], AROUND, 'No such file'), ([], 2, 'usage'), ([skew, '--what'], 2, 'usage'),
+        ):
+            words = words + ['--program', self.program] * ('--program' not in words) * bool(words)
+            answer = self.call(*words, *['-o', page] * ('-o' not in words) * bool(words))
+            self.expect(answer[0] == status and said in answer[2] and not os.path.exists(page), '%r: %r, wanted status %d and %r' % (words, answer, status, said))
+        answer = self.call('--help')
+        self.expect(answer[0] == 0 and '--explained' in answer[1], '--help: %r' % (answer,))
+        # by ./run's way: the program is asked, and two pages of one log are the same
+        pages = [os.path.join(self.folder, name) for name in ('one.html', 'two.html')]
+        self.expect(all(self.call(whole('long_fork.log'), '-o', page, '--program', self.program)[0] == 0 for page in pages), 'no page')
+        self.expect(open(pages[0], 'rb').read() == open(pages[1], 'rb').read(), 'two pages of one log differ')
+
+
+def hostile():
+    """A log, and what would be said of it, whose keys would be elements of the page and scripts, and its page."""
+    evil = '"><img/src=x/onerror=throw/1>'
+    text = 'session 1\nbegin\nw %s 1\ncommit\nsession 2\nbegin\nr %s 1\nw y 2\ncommit\n' % (evil, evil)
+    said = ('not serializable: A8 cycle of known edges\ncycle 1.1 2.1 1.1\n1.1 before 2.1: 2.1 reads %s 1 (line 7), which 1.1 wrote (line 3)\n'
+            '2.1 before 1.1: %s</script>\n' % (evil, evil))
+    return text, said, picture.page_of(text, said, evil).html()
+
+
+HOSTILE = hostile()
+
+
+def logs():
+    """Logs of which most are refuted: their names and texts."""
+    yield from generate.examples((1, 2, 3))
+    yield 'a large tree', explained.large_tree(8)
+    for version, seeds in ((1, (1, 4)), (3, (0, 1))):
+        for seed in seeds:
+            yield 'stale_log %d of 1,000, version %d' % (seed, version), generate.stale_log(seed, 1000, 40, 150, version)
+    for made, seeds in ((explained.run_log, 12), (explained.forced_log, 8), (explained.searched_log, 8), (generate.small_log, 12)):
+        for seed in range(seeds):
+            yield '%s %d' % (made.__name__, seed), made(seed, 1 + seed % 3)
+    long = [[('w', 'x', 1)]] + [[('r', 'k%d' % n, n), ('w', 'k%d' % (n + 1), n + 1)] for n in range(100, 140)] + [[('r', 'k140', 140), ('r', 'x', 0)]]
+    long[0].append(('w', 'k100', 100))
+    yield 'a long cycle', generate.text_of([(number, [generate.Transaction(ops, 'commit')]) for number, ops in enumerate(long, 1)])
+    key, wid = 'a.long:key/' + 'k' * 53, generate.LAST
+    wide = [[('r', key, 0), ('w', key, wid)], [('r', key, 0), ('w', key, wid - 1)]]
+    yield 'long keys and identities', generate.text_of([(65535 - n, [generate.Transaction(ops * 1 + [('w', '%s%d' % (key[:-2], n), wid - 5 - n)] * 1, 'commit')]) for n, ops in enumerate(wide)])
+    many = [[('r', 'x', 0)] + [('w', 'y%d' % n, n + 1) for n in range(40)] + [('w', 'x', 99)], [('r', 'x', 0), ('w', 'x', 100)]]
+    yield 'many operations', generate.text_of([(n + 1, [generate.Transaction(ops, 'commit')]) for n, ops in enumerate(many)])
+
+
+def main():
+    with tempfile.TemporaryDirectory() as folder:
+        checks, command = Checks(os.path.abspath(sys.argv[1]), folder), browser()
+        if not command:
+            print('picture: no page is looked at in a browser, since Chromium (%s) cannot be had here' % ' or '.join(BROWSERS))
+        pages = list(checks.pages(logs()))
+        print('picture: %d pages' % len(pages))
+        checks.look(command, pages)
+        checks.statuses()
+    print('picture: %d passed, %d failed' % (checks.passed, checks.failed))
+    sys.exit(1 if checks.failed else 0)
+
+
+if __name__ == '__main__':
+    main()

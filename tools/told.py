@@ -1,0 +1,209 @@
+"""What `explain` says as text, read by its grammar (docs/FORMATS.md, 'What `explain` says'). Nothing is judged here: a reader of a text gets
+its parts, each with the number of its line in that text, counted from 1."""
+import re
+from dataclasses import dataclass, field
+from typing import List, Optional, Tuple
+
+NODE, NUMBER, KEY = r'([1-9][0-9]*\.[1-9][0-9]*)', r'([1-9][0-9]*)', r'([A-Za-z0-9_.:/-]+)'
+LINE = re.compile(r'\(line %s\)' % NUMBER)
+REFUTED = re.compile('not serializable: (?:(A[1-9]) .+|every cube is refuted)')
+ROUND = re.compile(r'cycle((?: [0-9]+\.[0-9]+)+)')
+READ = re.compile('not serializable: A[1-6] .+ at %s op %s' % (NODE, NUMBER))
+UPDATE = re.compile(r'not serializable: A7 lost update of %s from ([0-9]+\.[0-9]+) by %s and %s' % (KEY, NODE, NODE))
+EDGE = re.compile('%s before %s: (.+)' % (NODE, NODE))
+STEP = re.compile(r'\[%s\] %s: the chain of %s before the chain of %s, since the other way %s stands before %s, against:'
+                  % (NUMBER, KEY, NODE, NODE, NODE, NODE))
+CYCLE = re.compile('cycle from %s:' % NODE)
+ORDER = re.compile('%s: the chain of %s first' % (KEY, NODE))
+LEAVES = re.compile('%s cubes are refuted by a cycle; the first 1000 of them:' % NUMBER)
+# Where a line of an anomaly names a transaction.
+TELLS = re.compile('(?:^|, which )%s (?=reads |read |wrote |overwrites )' % NODE)
+# The kinds of what is said of an edge, by its form; the first that fits.
+KINDS = [('session', re.compile('session %s' % NUMBER)), ('forced', re.compile(r'forced \[%s\]' % NUMBER)), ('decided', ORDER),
+         ('read', re.compile('.+ reads .+, which .+ wrote .+')),
+         ('anti-dependency', re.compile('.+ reads .+, and .+ overwrites it with .+')),
+         ('version order', re.compile('%s: .+ belongs to the chain of the initial value, and .+ begins another .+' % KEY)),
+         ('moments', re.compile('.+ ended at ([0-9]+) .+, .+ began at ([0-9]+) .+'))]
+# The code of a log of which every cube is refuted: it has none of its own.
+TREE = 'tree'
+
+
+class Unread(Exception):
+    """A line that has none of the forms."""
+
+
+@dataclass
+class Edge:
+    """`first before second: said`; the parts of what is said are those of its kind's form."""
+    line: int
+    first: str
+    second: str
+    said: str
+    kind: str
+    parts: tuple
+
+    @property
+    def lines(self):
+        """The lines of the log that are named."""
+        return [int(number) for number in LINE.findall(self.said)]
+
+    @property
+    def step(self):
+        """The number of the step that keeps it."""
+        return int(self.parts[0]) if self.kind == 'forced' else None
+
+
+@dataclass
+class Cycle:
+    line: int
+    edges: List[Edge] = field(default_factory=list)
+
+
+@dataclass
+class Step:
+    """Of a key, the chain of `first` is kept before that of `second`: the other way `late` would stand before `first`, against the walk."""
+    line: int
+    number: int
+    key: str
+    first: str
+    second: str
+    late: str
+    said: str
+    walk: List[Edge] = field(default_factory=list)
+
+
+@dataclass
+class Order:
+    """A decided order of a tree: of this key the chain of `first` stands first."""
+    line: int
+    key: str
+    first: str
+
+
+@dataclass
+class Explanation:
+    """The verdict, and what stands behind it. `code` is A1 to A9 or TREE, and None where the log is not refuted; `behind` is the number of the
+    first line of an anomaly behind that. A tree is told by its leaves: each cycle with the orders that are decided above it; `count` says
+    how many there are where not all are told."""
+    lines: List[str]
+    code: Optional[str] = None
+    behind: int = 2
+    steps: List[Step] = field(default_factory=list)
+    cycle: Optional[Cycle] = None
+    leaves: List[Tuple[List[Order], Cycle]] = field(default_factory=list)
+    count: Optional[int] = None
+
+    @property
+    def verdict(self):
+        return self.lines[0] if self.lines else ''
+
+    @property
+    def names(self):
+        """Each transaction that is told, in the order of the text; keys may look as names do, and are none."""
+        cycles, found = [cycle for _, cycle in self.leaves] + [self.cycle] * (self.cycle is not None), []
+        for form in (READ, UPDATE):
+            said = form.fullmatch(self.verdict)
+            found += said.groups()[:1] if said and form is READ else said.groups()[1:] if said else ()
+        if not cycles:
+            found += [name for line in self.lines[1:] for name in TELLS.findall(line)]
+        for step in self.steps:
+            found += [step.first, step.second, step.late] + [name for edge in step.walk for name in (edge.first, edge.second)]
+        for cycle in cycles:
+            found += [name for edge in cycle.edges for name in (edge.first, edge.second)]
+        found += [order.first for orders, _ in self.leaves for order in orders]
+        return list(dict.fromkeys(found))
+
+    @property
+    def keys(self):
+        """The keys of which an order of versions is told."""
+        return {step.key for step in self.steps} | {order.key for orders, _ in self.leaves for order in orders}
+
+
+class Reader:
+    def __init__(self, text):
+        self.lines, self.at = text.split('\n'), 0
+        if self.lines[-1] == '':
+            self.lines.pop()
+
+    def next(self, form, depth=0):
+        """The number and the parts of the next line, which is read, if it has this form behind two blanks for each decision above."""
+        line = self.lines[self.at] if self.at < len(self.lines) else ''
+        found = form.fullmatch(line, 2 * depth) if line.startswith('  ' * depth) else None
+        self.at += found is not None
+        return found and (self.at, *found.groups())
+
+    def edges(self, depth=0):
+        found = []
+        while True:
+            edge = self.next(EDGE, depth)
+            if edge is None:
+                return found
+            found.append(Edge(*edge, *kind_of(edge[3])))
+
+    def cycle(self, depth=0):
+        start = self.next(CYCLE, depth)
+        return start and Cycle(start[0], self.edges(depth))
+
+    def steps(self):
+        found = []
+        while True:
+            step = self.next(STEP)
+            if step is None:
+                return found
+            line, number, key, first, second, late, _ = step
+            found.append(Step(line, int(number), key, first, second, late, self.lines[line - 1], self.edges()))
+
+    def leaves(self):
+        """The cycles of a tree, each with the orders that are decided above it."""
+        found, decided = [], []
+        while True:
+            line = self.lines[self.at] if self.at < len(self.lines) else ''
+            depth = (len(line) - len(line.lstrip(' '))) // 2
+            cycle, order = self.cycle(depth), self.next(ORDER, depth)
+            if cycle:
+                found.append((decided[:depth], cycle))
+            if order:
+                decided = decided[:depth] + [Order(*order)]
+            if not cycle and not order:
+                return found
+
+
+def code_of(verdict):
+    """The code of a line that says 'not serializable', and None of any other."""
+    found = REFUTED.fullmatch(verdict)
+    return found and (found[1] or TREE)
+
+
+def kind_of(said):
+    for kind, form in KINDS:
+        found = form.fullmatch(said)
+        if found:
+            return kind, found.groups()
+    return 'another', ()
+
+
+def read(text):
+    """The parts of this text; Unread where a line has none of the forms."""
+    reader = Reader(text)
+    it = Explanation(reader.lines)
+    it.code = code_of(it.verdict)
+    if it.code is None:
+        return it
+    reader.at = it.behind - 1
+    if it.code == 'A8':
+        cycle = reader.next(ROUND)
+        it.cycle = cycle and Cycle(cycle[0], reader.edges())
+    elif it.code in ('A9', TREE):
+        it.steps = reader.steps()
+        if it.code == 'A9':
+            it.cycle = reader.cycle()
+        else:
+            count = reader.next(LEAVES)
+            it.count, it.leaves = count and int(count[1]), reader.leaves()
+    else:
+        reader.at = len(reader.lines)
+    if reader.at < len(reader.lines):
+        raise Unread('line %d of what explain says has none of the forms: %s' % (reader.at + 1, reader.lines[reader.at]))
+    if it.code in ('A8', 'A9') and not (it.cycle and it.cycle.edges) or it.code == TREE and not it.leaves:
+        raise Unread('what explain says breaks off: %s' % it.verdict)
+    return it
