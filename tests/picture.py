@@ -128,7 +128,7 @@ def browser():
         if not find_browser():
             subprocess.run(['apt-get', 'update'], timeout=300, **quiet)
         for name in BROWSERS if not find_browser() else ():
-            if subprocess.run(['apt-get', 'install', '-y', '--no-install-recommends', name, 'fonts-dejavu-core'], timeout=600, **quiet).returncode == 0:
+            if subprocess.run(['apt-get', '-o', 'DPkg::Lock::Timeout=300', 'install', '-y', '--no-install-recommends', name, 'fonts-dejavu-core'], timeout=600, **quiet).returncode == 0:
                 break
     except (OSError, subprocess.TimeoutExpired):
         pass

@@ -36,7 +36,7 @@ def installed(find, name):
         environment = dict(os.environ, DEBIAN_FRONTEND='noninteractive', RUNLEVEL='1')
         for words in (['update'], ['install', '-y', '--no-install-recommends', PACKAGES[name]]):
             with contextlib.suppress(subprocess.TimeoutExpired):
-                run(['apt-get', '-o', 'DPkg::Lock::Timeout=60', *words], env=environment, timeout=120)
+                run(['apt-get', '-o', 'DPkg::Lock::Timeout=300', *words], env=environment, timeout=600)
         found = find()
     if found is None:
         raise Wanting('%s (%s) cannot be had here' % (name, PACKAGES[name]))
