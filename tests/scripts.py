@@ -321,7 +321,7 @@ def main():
         copy.links()
         copy.signals()
         copy.stamps(program)
-        manual(copy, program)
+        manual(copy, copy.proved)
         estimates(copy)
         copy.install()
     print('scripts: %d passed, %d failed' % (copy.passed, copy.failed))

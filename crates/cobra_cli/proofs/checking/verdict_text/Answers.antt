@@ -1,10 +1,8 @@
-use Rattle.std.proofs.Common.{ap, ◌∙◌}
-use Rattle.cobra_answers.specs.Verdicts.{cycle_text}
 use Rattle.cobra_cli.proofs.Answering.{nodes_of_serial}
 use Rattle.cobra_cli.proofs.checking.verdict_text.Goals as goal
 
 pub serial_text-requires : goal.serial_text-requires
-serial_text-requires c = record { nodes = nodes_of_serial c.args.history.now c.in-Serial.order.now (rw c.in-Serial.is at c.requires.decided.decides).0 }
+serial_text-requires c = record { nodes = nodes_of_serial c.args.history.now c.in-Serial.order (rw c.in-Serial.is at c.requires.decided.decides).0 }
 
 pub anomaly_text-requires : goal.anomaly_text-requires
 anomaly_text-requires c = record { reported = (rw c.in-Anomalous.is at c.requires.decided.decides).1 }
