@@ -5,7 +5,8 @@ misuses it.
 A few thousand short runs of a store that is serializable, with commits that are lost, take effect late, or not at all, writes that are
 refused, clients that come late, leave and die, odd keys, with barriers and moments of each kind: each log must be well-formed, hold what
 the store was asked to write, and be serializable; at each barrier the log can be cut. Then runs of stores that are broken, each in the way
-that one of the anomalies A1 to A9 names: some log of each must be refused for it. Last line: 'recorder: N passed, M failed'."""
+that one of the anomalies A1 to A9 names: some log of each must be refused for it; and of one that answers from the past, which is
+refused where the log says all of real time. Last line: 'recorder: N passed, M failed'."""
 import concurrent.futures, contextlib, io, itertools, os, random, re, subprocess, sys, tempfile, threading, time
 
 HERE = os.path.dirname(os.path.abspath(__file__))
@@ -211,6 +212,30 @@ class TwoCopies(Connection):
         with self.store.lock:
             self.store.copies[self.place].update(written)
             self.store.waiting[1 - self.place].append(written)
+
+
+class FromThePast(Connection):
+    """A transaction may see the store as it was, but no earlier than its client did: serializable, and not strictly so."""
+
+    def __init__(self, store, number):
+        super().__init__(store, number)
+        self.least, store.past = 0, [{}]
+
+    def begin(self):
+        super().begin()
+        with self.store.lock:
+            self.place = self.store.dice.randrange(self.least, len(self.store.past))
+
+    def read(self, key):
+        return self.seen.setdefault(key, self.store.past[self.place].get(key)) if key not in self.written else self.written[key]
+
+    def apply(self, seen, written):
+        with self.store.lock:
+            if written:
+                super().apply(seen, written)
+                self.store.past.append(dict(self.store.values))
+                self.place = len(self.store.past) - 1
+            self.least = self.place
 
 
 class Client:
@@ -423,6 +448,20 @@ def broken_runs(checks):
             status, said = checks.check(log)
             code, seed = said.split()[2] if status == 1 else None, seed + 1
         checks.expect(code == store.code, '%s: not refused by %s in %d runs' % (store.__name__, store.code, seed))
+
+
+def real_time(checks):
+    """A store that answers from the past is serializable where the log says nothing of real time, and refused where it says all."""
+    how = dict(store=FromThePast, clients=3, transactions=12, keys=['x', 'y'], losses=0, deaths=0, barrier=None)
+    how.update(kinds=('read', 'read', 'update'))
+    refused = 0
+    for seed in range(20):
+        *_, log = run_once(checks.path('past'), seed, moments=None, **how)
+        status, said = checks.check(log)
+        checks.expect(status == 0, 'from the past, run %d: %d %s' % (seed, status, said[:80]))
+        *_, log = run_once(checks.path('past'), seed, moments='all', **how)
+        refused += checks.check(log)[0] == 1
+    checks.expect(refused > 0, 'no store that answers from the past was refused')
 
 
 def misuse(checks):
@@ -752,7 +791,7 @@ def quiet():
         yield told
 
 
-PARTS = (page, names, misuse, outcomes, stuck, memory, worth, processes, sound_runs, certain_cuts, broken_runs)
+PARTS = (page, names, misuse, outcomes, stuck, memory, worth, processes, sound_runs, certain_cuts, broken_runs, real_time)
 
 
 def main():
@@ -761,7 +800,7 @@ def main():
         for part in PARTS:
             began = time.monotonic()
             part(checks)
-            print('%s %.1f s' % (part.__name__, time.monotonic() - began))
+            print('recorder: %s in %.1f s' % (part.__name__, time.monotonic() - began))
     print('recorder: %d passed, %d failed' % (checks.passed, checks.failed))
     return 1 if checks.failed else 0
 
