@@ -266,7 +266,7 @@ def scene_of_read(history, explanation):
 def scene_of_update(history, explanation):
     """A7: both transactions, what they read, and that each overwrites it."""
     scene = Scene(history, 'Both read one version, and both wrote over it')
-    key, _, *both = told.UPDATE.fullmatch(explanation.verdict).groups()
+    key, *both = told.UPDATE.fullmatch(explanation.verdict).groups()
     reads = [history.first(name, 'r', key) for name in both]
     writes = [[(line, wid) for line, _, its, wid in history.named[name].operations('w') if its == key][-1] for name in both]
     for place, name in enumerate(both):

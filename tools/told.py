@@ -9,7 +9,7 @@ LINE = re.compile(r'\(line %s\)' % NUMBER)
 REFUTED = re.compile('not serializable: (?:(A[1-9]) .+|every cube is refuted)')
 ROUND = re.compile(r'cycle((?: [0-9]+\.[0-9]+)+)')
 READ = re.compile('not serializable: A[1-6] .+ at %s op %s' % (NODE, NUMBER))
-UPDATE = re.compile(r'not serializable: A7 lost update of %s from ([0-9]+\.[0-9]+) by %s and %s' % (KEY, NODE, NODE))
+UPDATE = re.compile(r'not serializable: A7 lost update of %s from [0-9.]+ by %s and %s' % (KEY, NODE, NODE))
 EDGE = re.compile('%s before %s: (.+)' % (NODE, NODE))
 STEP = re.compile(r'\[%s\] %s: the chain of %s before the chain of %s, since the other way %s stands before %s, against:'
                   % (NUMBER, KEY, NODE, NODE, NODE, NODE))
