@@ -1,0 +1,4 @@
+pub mod Repeats
+pub mod Lines
+pub mod Faults
+pub mod Texts

@@ -1,0 +1,208 @@
+-- What holds of a text that is a long log, and of one that is none.
+use Rattle.std.proofs.Common.{◌≡◌, ◌≢◌, ℕ, ◌≤◌, ◌^◌, Bool, true, false, cond, List, [], ◌∷◌, ◌++◌, length, Option, Some, None, refl, sym, ap, ◌∙◌, subst, arith, length-append, nat_eq, nat_lt}
+use Rattle.std.specs.List.{IsDistinct, AllByRecursion}
+use Rattle.std.specs.Option.{option_or}
+use Rattle.std.proofs.lemmas.Bool.{ltb-false, le-ltb}
+use Rattle.session_log.specs.Text.{ClientSession, IsLegal, line_text, text_of_lines, log_text}
+use Rattle.session_log.specs.Version.{header_text, first_line, version_of}
+use Rattle.session_log.specs.Blocks as short
+use Rattle.session_log.specs.Faults.{grammar_fault}
+use Rattle.session_log.specs.declared.line.Line.{Line}
+use Rattle.session_log.specs.declared.fault.Limit.{Limit}
+use Rattle.session_log.specs.declared.fault.Limit.TheVariants as limit
+use Rattle.session_log.specs.declared.fault.LogFault.{LogFault}
+use Rattle.session_log.specs.declared.fault.LogFault.TheVariants.{OverLimit, Memory}
+use Rattle.session_log.specs.declared.version.Version.{Version}
+use Rattle.session_log.proofs.Whole.{grammar_fault_none, log_text_injective, log_by_lines}
+use Rattle.serializability.proofs.Places.{Apart-from_IsDistinct}
+use Rattle.serializability.proofs.Listed.{IsDistinct-from_Apart}
+use Rattle.log_definitions.specs.WellFormed.{log_lines, session_twice, write_twice, session_fault, write_fault, limit_fault, sessions_from, writes_from, written}
+use Rattle.log_definitions.specs.WellFormed as judged
+use Rattle.log_definitions.proofs.Accepted.{IsTextOfSome, sessions_where_no_fault}
+use Rattle.piece_laws.specs.Logs.{IsSoundLog}
+use Rattle.piece_laws.proofs.Sound.{sound_where_legal}
+use Rattle.long_log_definitions.specs.LongLog.{size_fault, list_fault, IsLongLog, IsLongLogFault, memory, size, grammar, list, HasOwnNumbers}
+use Rattle.long_log_definitions.proofs.Repeats.{numbers, apart_where_none, none_where_apart}
+use Rattle.long_log_definitions.proofs.Lines.{session_numbers, written_identities}
+use Rattle.long_log_definitions.proofs.Faults.{NotMemory, size_fault_named, list_fault_named, grammar_fault_named}
+
+pub one_list : (text : List ℕ) (a b : List ClientSession) → IsLongLog text a → IsLongLog text b → a ≡ b
+one_list text a b v w = (log_text_injective (version_of text) (version_of text) a b v.legal w.legal (sym v.lines ∙ w.lines)).1
+
+-- ---- a text with a fault is the text of no long log
+none_some : {A : Type 0} (o : Option A) (x : A) → o ≡ Some x → o ≡ None → ⊥
+none_some o x a b = cc
+
+pub refused : (text : List ℕ) (f : LogFault) → IsLongLogFault text f → f ≢ Memory → (ss : List ClientSession) → IsLongLog text ss → ⊥
+refused text _ memory ne ss w = ne refl
+refused text _ (size f e) ne ss w = none_some _ f e w.size
+refused text _ (grammar f s e) ne ss w = none_some _ f e (ap grammar_fault w.lines ∙ grammar_fault_none (version_of text) ss w.legal w.held)
+refused text _ (list f ts s l k t e) ne ss w =
+    let v = version_of text in
+    none_some _ f e (ap (list_fault (first_line v)) (log_text_injective v v ts ss l w.legal (sym t ∙ w.lines)).1 ∙ w.sessions)
+
+-- ---- a text that is that of no long log has a fault
+abbrev HasFault : List ℕ → Type 0
+HasFault text = (f : LogFault) × IsLongLogFault text f × (f ≢ Memory)
+
+other : (o : Option LogFault) (f : LogFault) → NotMemory o → o ≡ Some f → f ≢ Memory
+other o f named e m = named.never (e ∙ ap (λ g. Some g) m)
+
+pub fault_where_none : (text : List ℕ) → ((ss : List ClientSession) → IsLongLog text ss → ⊥) → HasFault text
+fault_where_none text h = by_size (size_fault text) refl
+  where
+    by_list : size_fault text ≡ None → grammar_fault text ≡ None → HasFault text
+    by_list s g =
+        let some = sessions_where_no_fault text g in
+        go some (list_fault (first_line (version_of text)) some.sessions) refl
+      where
+        go : (some : IsTextOfSome text) (o : Option LogFault) → list_fault (first_line (version_of text)) some.sessions ≡ o → HasFault text
+        go some None e = absurd (h some.sessions (record { legal = some.legal; held = some.held; lines = some.by_text; size = s; sessions = e }))
+        go some (Some f) e = (f, list f some.sessions s some.legal some.held some.by_text e, other _ f (list_fault_named (first_line (version_of text)) some.sessions) e)
+
+    by_grammar : size_fault text ≡ None → (o : Option LogFault) → grammar_fault text ≡ o → HasFault text
+    by_grammar s None e = by_list s e
+    by_grammar s (Some f) e = (f, grammar f s e, other _ f (grammar_fault_named text) e)
+
+    by_size : (o : Option LogFault) → size_fault text ≡ o → HasFault text
+    by_size None e = by_grammar e (grammar_fault text) refl
+    by_size (Some f) e = (f, size f e, other _ f (size_fault_named text) e)
+
+-- ---- its sessions have numbers of their own
+neither : (a b : Option LogFault) → option_or a b ≡ None → (a ≡ None) × (b ≡ None)
+neither None b e = (refl, e)
+neither (Some f) b e = cc
+
+no_session : (o : Option ℕ) → session_fault o ≡ None → o ≡ None
+no_session None e = refl
+no_session (Some n) e = cc
+
+no_write : (o : Option ℕ) → write_fault o ≡ None → o ≡ None
+no_write None e = refl
+no_write (Some n) e = cc
+
+pub numbers_where_no_fault : (n : ℕ) (ss : List ClientSession) → list_fault n ss ≡ None → HasOwnNumbers ss
+unfolding list_fault
+numbers_where_no_fault n ss e =
+    let parts = neither (session_fault (session_twice n (log_lines ss))) (write_fault (write_twice n (log_lines ss))) e in
+    let sessions = apart_where_none [] (sessions_from n (log_lines ss)) (no_session _ parts.0) in
+    let writes = apart_where_none [] (writes_from n (log_lines ss)) (no_write _ parts.1) in
+    record {
+      sessions = subst (IsDistinct nat_eq) (session_numbers ss n) (IsDistinct-from_Apart (numbers (sessions_from n (log_lines ss))) sessions.0);
+      writes = subst (IsDistinct nat_eq) (written_identities ss n) (IsDistinct-from_Apart (numbers (writes_from n (log_lines ss))) writes.0);
+    }
+
+pub sound_where_long : (text : List ℕ) (ss : List ClientSession) → IsLongLog text ss → AllByRecursion IsLegal ss × IsSoundLog ss
+sound_where_long text ss w =
+    let own = numbers_where_no_fault (first_line (version_of text)) ss w.sessions in
+    (w.legal, sound_where_legal ss w.legal own.sessions own.writes)
+
+pub no_fault_where_numbers : (n : ℕ) (ss : List ClientSession) → HasOwnNumbers ss → list_fault n ss ≡ None
+unfolding list_fault
+no_fault_where_numbers n ss h =
+    let sessions : session_twice n (log_lines ss) ≡ None =
+    none_where_apart [] (sessions_from n (log_lines ss)) (Apart-from_IsDistinct (numbers (sessions_from n (log_lines ss))) (subst (IsDistinct nat_eq) (sym (session_numbers ss n)) h.sessions)) (λ w here none. none) in
+    let writes : write_twice n (log_lines ss) ≡ None =
+    none_where_apart [] (writes_from n (log_lines ss)) (Apart-from_IsDistinct (numbers (writes_from n (log_lines ss))) (subst (IsDistinct nat_eq) (sym (written_identities ss n)) h.writes)) (λ w here none. none) in
+    ap (λ o. option_or (session_fault o) (write_fault (write_twice n (log_lines ss)))) sessions ∙ ap write_fault writes
+
+-- ---- of the logs that a log's limits allow
+small : (t : Bool) (text : List ℕ) (rest : Option LogFault) → nat_lt (2 ^ 24) (length text) ≡ t → cond t (Some (OverLimit limit.LogBytes)) rest ≡ None → length text ≤ 2 ^ 24
+small true text rest e h = cc
+small false text rest e h = ltb-false (2 ^ 24) (length text) e
+
+fits : (text : List ℕ) → length text ≤ 2 ^ 30 → size_fault text ≡ None
+unfolding size_fault
+fits text h = rw (le-ltb (2 ^ 30) (length text) h) refl
+
+pub size_where_small : (text : List ℕ) → short.size_fault text ≡ None → size_fault text ≡ None
+unfolding short.size_fault
+size_where_small text e = fits text (let few = small (nat_lt (2 ^ 24) (length text)) text _ refl e in omega arith)
+
+pub long_where_well_formed : (text : List ℕ) (ss : List ClientSession) → judged.IsWellFormed text ss → IsLongLog text ss
+unfolding judged.list_fault list_fault
+long_where_well_formed text ss w =
+    let ls = log_lines ss in
+    let n = first_line (version_of text) in
+    let outer = neither (session_fault (session_twice n ls)) (option_or (limit_fault ss) (write_fault (write_twice n ls))) w.sessions in
+    let inner = neither (limit_fault ss) (write_fault (write_twice n ls)) outer.1 in
+    record {
+      legal = w.legal;
+      held = w.held;
+      lines = w.lines;
+      size = size_where_small text w.size;
+      sessions = ap (λ o. option_or o (write_fault (write_twice n ls))) outer.0 ∙ inner.1;
+    }
+
+pub well_formed_where_small : (text : List ℕ) (ss : List ClientSession) → IsLongLog text ss → short.size_fault text ≡ None → limit_fault ss ≡ None → judged.IsWellFormed text ss
+unfolding judged.list_fault list_fault
+well_formed_where_small text ss w small few =
+    let ls = log_lines ss in
+    let n = first_line (version_of text) in
+    let parts = neither (session_fault (session_twice n ls)) (write_fault (write_twice n ls)) w.sessions in
+    record {
+      legal = w.legal;
+      held = w.held;
+      lines = w.lines;
+      size = small;
+      sessions = ap (λ o. option_or o (option_or (limit_fault ss) (write_fault (write_twice n ls)))) parts.0 ∙ (ap (λ o. option_or o (write_fault (write_twice n ls))) few ∙ parts.1);
+    }
+
+-- each limit has faults of its own
+record OnlyOver (o : Option LogFault) : Type 0 where
+  pub over : (f : LogFault) → o ≡ Some f → (which : Limit) × (f ≡ OverLimit which)
+
+over_or : (t : Bool) (which : Limit) (rest : Option LogFault) → OnlyOver rest → OnlyOver (cond t (Some (OverLimit which)) rest)
+over_or true which rest h = record { over = λ f e. (which, cc) }
+over_or false which rest h = h
+
+never_over : OnlyOver None
+never_over = record { over = λ f e. cc }
+
+small_size_over : (text : List ℕ) → OnlyOver (short.size_fault text)
+unfolding short.size_fault
+small_size_over text = search (over_or, never_over)
+
+limit_over : (ss : List ClientSession) → OnlyOver (limit_fault ss)
+limit_over ss = search (over_or, never_over)
+
+abbrev IsNoLimit : LogFault → Type 0
+IsNoLimit f = (which : Limit) → f ≢ OverLimit which
+
+without_limit : (a limits b : Option LogFault) (f : LogFault) → OnlyOver limits → IsNoLimit f → option_or a (option_or limits b) ≡ Some f → option_or a b ≡ Some f
+without_limit (Some g) limits b f only apart e = e
+without_limit None (Some g) b f only apart e = let is = only.over f e in absurd (apart is.0 is.1)
+without_limit None None b f only apart e = e
+
+pub fault_of_long : (text : List ℕ) (f : LogFault) → judged.IsLogFault text f → ((which : Limit) → f ≢ OverLimit which) → IsLongLogFault text f
+unfolding judged.list_fault list_fault
+fault_of_long text _ judged.memory apart = memory
+fault_of_long text _ (judged.size f e) apart = let is = (small_size_over text).over f e in absurd (apart is.0 is.1)
+fault_of_long text _ (judged.grammar f s e) apart = grammar f (size_where_small text s) e
+fault_of_long text _ (judged.list f ss s legal held lines e) apart =
+    list f ss (size_where_small text s) legal held lines
+    (without_limit (session_fault (session_twice (first_line (version_of text)) (log_lines ss))) (limit_fault ss) (write_fault (write_twice (first_line (version_of text)) (log_lines ss))) f (limit_over ss) apart e)
+
+-- ---- there are no more lines than bytes
+lines_bytes : (fs : List Line) → length fs ≤ length (text_of_lines fs)
+lines_bytes [] = omega arith
+lines_bytes (f ∷ fs) =
+    let ih = lines_bytes fs in
+    let a = length-append (line_text f ++ 10 ∷ []) (text_of_lines fs) in
+    let b = length-append (line_text f) (10 ∷ []) in
+    omega (arith, ih, a, b)
+
+size_of : (text : List ℕ) (t : Bool) → nat_lt (2 ^ 30) (length text) ≡ t → cond t (Some (OverLimit limit.LogBytes)) None ≡ None → length text ≤ 2 ^ 30
+size_of text true e h = cc
+size_of text false e h = ltb-false (2 ^ 30) (length text) e
+
+pub bytes_within : (text : List ℕ) → size_fault text ≡ None → length text ≤ 2 ^ 30
+unfolding size_fault
+bytes_within text s = size_of text (nat_lt (2 ^ 30) (length text)) refl s
+
+pub lines_within : (v : Version) (text : List ℕ) (ss : List ClientSession) → size_fault text ≡ None → text ≡ log_text v ss → length (log_lines ss) ≤ 2 ^ 30
+lines_within v text ss s e =
+    let bytes = bytes_within text s in
+    let fewer = lines_bytes (log_lines ss) in
+    let same = ap length (e ∙ log_by_lines v ss) ∙ length-append (header_text v) (text_of_lines (log_lines ss)) in
+    omega (arith, bytes, fewer, same)

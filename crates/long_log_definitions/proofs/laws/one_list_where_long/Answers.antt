@@ -1,0 +1,5 @@
+use Rattle.long_log_definitions.proofs.Texts.{one_list}
+use Rattle.long_log_definitions.proofs.laws.one_list_where_long.Goals as goal
+
+pub returns : goal.returns
+returns c = one_list

@@ -1,0 +1,5 @@
+use Rattle.long_log_definitions.proofs.Texts.{refused}
+use Rattle.long_log_definitions.proofs.laws.refused_where_no_list.Goals as goal
+
+pub returns : goal.returns
+returns c = refused

@@ -1,0 +1,10 @@
+//! Logs of any length: when the text of client sessions is one, which fault it is refused with, and what holds of its sessions.
+//!
+//! Text and grammar are those of a log. What is asked of its sessions is asked here too, but for the limits on sessions,
+//! operations, transactions and keys. The laws are contracts of functions that do nothing.
+#![tactic(auto)]
+
+pub mod laws;
+mod limits;
+
+pub use limits::MAX_LONG_LOG_BYTES;
