@@ -1,0 +1,4 @@
+pub mod Read
+pub mod Stating
+pub mod Sorting
+pub mod Accepting

@@ -1,0 +1,8 @@
+use Rattle.std.proofs.Common.{map, take, length}
+use Rattle.session_log.specs.Text.{view}
+use Rattle.long_reading.specs.Reading.{AreRead}
+use Rattle.long_reading.proofs.Read.{whole_of}
+use Rattle.long_reading.proofs.reading.joined.Given as goal
+
+abbrev pub invariant-loop-part : goal.invariant-loop-part
+invariant-loop-part l = AreRead l._log (whole_of (take (length l.yielded) (map (λ part. part.now) l.parts))) (map view l.sessions.items)

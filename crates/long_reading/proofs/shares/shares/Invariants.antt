@@ -1,0 +1,9 @@
+use Rattle.std.proofs.Common.{◌≡◌, ◌+◌, ◌++◌, length}
+use Rattle.std.specs.List.{flat_map}
+use Rattle.long_reading.proofs.shares.shares.Given as goal
+
+abbrev pub invariant-loop-worker : goal.invariant-loop-worker
+invariant-loop-worker l = record {
+  count : length l.parts.items + 1 ≡ l.worker;
+  whole : flat_map (λ part. part.now) l.parts.items ++ l.rest ≡ l.fn.blocks;
+}

@@ -1,0 +1,8 @@
+use Rattle.std.proofs.Common.{take}
+use Rattle.std.specs.List.{flat_map}
+use Rattle.session_log.specs.Text.{view_txn, txn_lines}
+use Rattle.long_reading.specs.Statements.{Takes}
+use Rattle.long_reading.proofs.stated.Statements.add_session.Given as goal
+
+abbrev pub invariant-loop-txn : goal.invariant-loop-txn
+invariant-loop-txn l = Takes l.initial.self l.self (flat_map (λ txn. txn_lines (view_txn txn)) (take l.txn-index l.session.txns.items))

@@ -1,0 +1,8 @@
+use Rattle.std.proofs.Common.{take, [], ◌∷◌}
+use Rattle.std.specs.List.{flat_map}
+use Rattle.session_log.specs.Text.{op_line}
+use Rattle.long_reading.specs.Statements.{Takes}
+use Rattle.long_reading.proofs.stated.Statements.add_txn.Given as goal
+
+abbrev pub invariant-loop-op : goal.invariant-loop-op
+invariant-loop-op l = Takes l.initial.self l.self (flat_map (λ op. op_line op ∷ []) (take l.op-index l.txn.ops.items))
