@@ -1,12 +1,11 @@
 //! The sessions of a long log, put together from what workers read.
 
-ghost use Rattle.std.specs.Prelude.{◌≡◌, ◌<◌, ◌^◌, ℕ, List, None, Some, IfOk, IfErr, MatchResult, Contains, length, map, slice_get, slice_index_or};
+ghost use Rattle.std.specs.Prelude.{◌≡◌, ◌<◌, ◌^◌, ℕ, None, Some, IfOk, IfErr, MatchResult, Contains, length, map, slice_get, slice_index_or};
 ghost use Rattle.std.specs.List.{flat_map, AllByRecursion};
 ghost use Rattle.session_log.specs.Text.{view};
 ghost use Rattle.session_log.specs.Version.{version_of, first_line};
 ghost use Rattle.session_log.specs.Faults.{IsFault, grammar_fault};
 ghost use Rattle.session_log.specs.Blocks.{blocks_of};
-ghost use Rattle.session_log.specs.declared.block.Block.{Block as Lies};
 ghost use Rattle.log_definitions.specs.WellFormed.{log_lines};
 ghost use Rattle.long_log_definitions.specs.LongLog.{IsLongLog, IsLongLogFault, list_fault};
 ghost use Rattle.long_reading.specs.Reading.{AreRead, fault_of_blocks};
@@ -54,7 +53,7 @@ fn read_blocks<R: Threads + Sync>(
     let parts = parts.as_slice();
     let part = |worker: usize| -> Result<Vec<Session>, LogFault>
         requires { (worker < length parts.now) × (flat_map (λ part. part.now) parts.now ≡ blocks_of log.now) }
-        ensures { (blocks : List Lies) → slice_get (map (λ part. part.now) parts.entry.now) worker ≡ Some blocks → MatchResult result
+        ensures { (blocks : _) → slice_get (map (λ part. part.now) parts.entry.now) worker ≡ Some blocks → MatchResult result
             (λ ss. AreRead log.entry.now blocks (map view ss.items))
             (λ f. IsFault f (fault_of_blocks log.entry.now blocks)) }
     { read_share(alloc, log, parts[worker]) };
@@ -84,7 +83,7 @@ fn joined(
 ) -> Result<Vec<Session>, LogFault>
     requires whole { flat_map (λ part. part.now) parts.now ≡ blocks_of _log.now }
     requires count { length read.items ≡ length parts.now }
-    requires read { (i : ℕ) (d : _) (blocks : List Lies) → slice_get (map (λ part. part.now) parts.now) i ≡ Some blocks →
+    requires read { (i : ℕ) (d : _) (blocks : _) → slice_get (map (λ part. part.now) parts.now) i ≡ Some blocks →
         MatchResult (slice_index_or read.items i d)
         (λ ss. AreRead _log.now blocks (map view ss.items)) (λ f. IsFault f (fault_of_blocks _log.now blocks)) }
     ensures read { IfOk result (λ ss. AreRead _log.now (blocks_of _log.now) (map view ss.items)) }
