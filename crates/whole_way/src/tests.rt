@@ -436,7 +436,7 @@ fn blind_writers(rt: &impl Abort, alloc: Global, each: usize) -> String {
         let line = format!(in alloc; "session {session}\n").expect(rt, "memory");
         log.push_str(&line).expect(rt, "memory");
         for place in 0..each {
-            let lines = format!(in alloc; "begin\nw x {}\ncommit\n", session * 10 + place).expect(
+            let lines = format!(in alloc; "begin\nw x {session}{place:02}\ncommit\n").expect(
                 rt, "memory",
             );
             log.push_str(&lines).expect(rt, "memory");
