@@ -21,8 +21,6 @@ import picture
 PICTURE = os.path.join(TOP, 'tools', 'picture.py')
 BROWSERS, AROUND = ('chromium-headless-shell', 'chromium'), 70
 BEFORE, LINE = re.compile(r'^ *([0-9.]+) before ([0-9.]+): (.*)$', re.M), re.compile(r'\(line ([0-9]+)\)')
-# How many pictures a page has, and up to how many edges a cycle is one picture, as tools/picture.py says.
-MOST_PICTURES = 40
 # Measures and tries what only a browser knows, in each page, which is a frame of this one, and leaves what is wrong, and the pages as they stand.
 TRIED = r'''
 const tried = (window, document) => {
@@ -174,7 +172,7 @@ def expected(said):
         for run in runs[steps:]:
             if sorted(run) not in map(sorted, tree):
                 tree.append(run)
-        return tree[:MOST_PICTURES] + runs[:min(steps, MOST_PICTURES)], steps
+        return tree[:picture.MOST_PICTURES] + runs[:min(steps, picture.MOST_PICTURES)], steps
     return runs[-1:] + runs[:-1], len(runs) - 1
 
 
@@ -221,8 +219,8 @@ def fault(page, text, said):
     if drawn[0] != wanted[0] and not set(drawn[0]) < set(wanted[0]):
         return 'the first picture has %r, wanted %r' % (drawn[0], wanted[0])
     otherwise = sum('otherwise' in looks for _, arrows in page.pictures for looks, *_ in arrows)
-    told = {name for step in explained.STEP.finditer(said) for name in step.groups()[2:5]} if steps <= MOST_PICTURES else set()
-    if otherwise != min(steps, MOST_PICTURES) or not told <= set(marked):
+    told = {name for step in explained.STEP.finditer(said) for name in step.groups()[2:5]} if steps <= picture.MOST_PICTURES else set()
+    if otherwise != min(steps, picture.MOST_PICTURES) or not told <= set(marked):
         return '%d arrows say otherwise, of %d steps; no box of %r' % (otherwise, steps, told - set(marked))
     return None
 
@@ -309,7 +307,7 @@ def logs():
     for version, seeds in ((1, (1, 4)), (3, (0, 1))):
         for seed in seeds:
             yield 'stale_log %d of 1,000, version %d' % (seed, version), generate.stale_log(seed, 1000, 40, 150, version)
-    for made, seeds in ((explained.run_log, 12), (explained.forced_log, 8), (explained.searched_log, 8), (generate.small_log, 12)):
+    for made, seeds in ((explained.run_log, 8), (explained.forced_log, 5), (explained.searched_log, 4), (generate.small_log, 8)):
         for seed in range(seeds):
             yield '%s %d' % (made.__name__, seed), made(seed, 1 + seed % 3)
     long = [[('w', 'x', 1)]] + [[('r', 'k%d' % n, n), ('w', 'k%d' % (n + 1), n + 1)] for n in range(100, 140)] + [[('r', 'k140', 140), ('r', 'x', 0)]]
