@@ -1,0 +1,223 @@
+//! What is wrong with a line that has none of the forms.
+
+use crate::lines::LogLine;
+use crate::numbers::{NumberFault, number_fault};
+use session_log::{Version, index_of, number_of};
+
+/// What is wrong with a line, where that can be seen.
+#[derive(Clone, Copy, Debug, PartialEq, Eq)]
+pub enum Wrong {
+    ByteOrderMark,
+    WideCharacters,
+    CarriageReturn,
+    Empty,
+    NoLineFeed,
+    NoVersion,
+    LateHeader,
+    Comment,
+    Tab,
+    BlankFirst,
+    BlankLast,
+    TwoBlanks,
+    /// The word stands alone in each version.
+    Alone(&'static str),
+    /// The word stands alone but in version 3.
+    Moment(&'static str),
+    /// The word is none of this version.
+    UnknownInVersionOne,
+    NoKey,
+    NoIdentity,
+    LongKey,
+    KeyByte(u8),
+    TooManyWords,
+    Number(Number, NumberFault),
+    SessionNumber,
+    CapitalLetters,
+    NoSuchWord,
+}
+
+/// What a number says.
+#[derive(Clone, Copy, Debug, PartialEq, Eq)]
+pub enum Number {
+    Session,
+    Identity,
+    Moment,
+}
+
+/// The most bytes of a key.
+const LONGEST_KEY: usize = 64;
+
+/// The bytes before the first blank, and those behind it, where there is one.
+pub fn first_word(bytes: &[u8]) -> (&[u8], Option<&[u8]>) {
+    match index_of(bytes, b' ') {
+        Some(i) => (&bytes[..i], Some(&bytes[i + 1..])),
+        None => (bytes, None),
+    }
+}
+
+fn has_two_blanks(bytes: &[u8]) -> bool {
+    let mut last = 0;
+    for byte in bytes {
+        if *byte == b' ' && last == b' ' {
+            return true;
+        }
+        last = *byte;
+    }
+    false
+}
+
+fn is_key_byte(byte: u8) -> bool {
+    byte.is_ascii_alphanumeric() || matches!(byte, b'_' | b'.' | b':' | b'/' | b'-')
+}
+
+// What the whole line looks like, whatever its words.
+fn wrong_as_a_whole(line: LogLine<'_>, number: usize) -> Option<Wrong> {
+    let bytes = line.bytes;
+    if number == 1 && bytes.starts_with(b"\xef\xbb\xbf") {
+        return Some(Wrong::ByteOrderMark);
+    }
+    if number == 1 && (bytes.starts_with(b"\xff\xfe") || bytes.starts_with(b"\xfe\xff")) {
+        return Some(Wrong::WideCharacters);
+    }
+    if bytes.ends_with(b"\r") {
+        return Some(Wrong::CarriageReturn);
+    }
+    if bytes.is_empty() {
+        return Some(Wrong::Empty);
+    }
+    if !line.ended {
+        return Some(Wrong::NoLineFeed);
+    }
+    if bytes.starts_with(b"#")
+        || bytes.starts_with(b"//")
+        || bytes.starts_with(b"--")
+        || bytes.starts_with(b";")
+    {
+        return Some(Wrong::Comment);
+    }
+    if index_of(bytes, b'\t').is_some() {
+        return Some(Wrong::Tab);
+    }
+    if bytes.starts_with(b" ") {
+        return Some(Wrong::BlankFirst);
+    }
+    if bytes.ends_with(b" ") {
+        return Some(Wrong::BlankLast);
+    }
+    if has_two_blanks(bytes) {
+        return Some(Wrong::TwoBlanks);
+    }
+    None
+}
+
+fn wrong_number(number: Number, word: &[u8]) -> Option<Wrong> {
+    Some(Wrong::Number(number, number_fault(word)?))
+}
+
+fn wrong_session(rest: &[u8]) -> Option<Wrong> {
+    if index_of(rest, b' ').is_some() {
+        return Some(Wrong::TooManyWords);
+    }
+    match number_of(rest) {
+        Some(1..=65535) => None,
+        Some(_) => Some(Wrong::SessionNumber),
+        None => wrong_number(Number::Session, rest),
+    }
+}
+
+fn wrong_key(key: &[u8]) -> Option<Wrong> {
+    if key.is_empty() {
+        return Some(Wrong::NoKey);
+    }
+    if key.len() > LONGEST_KEY {
+        return Some(Wrong::LongKey);
+    }
+    for byte in key {
+        if !is_key_byte(*byte) {
+            return Some(Wrong::KeyByte(*byte));
+        }
+    }
+    None
+}
+
+fn wrong_operation(rest: &[u8]) -> Option<Wrong> {
+    let (key, behind) = first_word(rest);
+    if let Some(wrong) = wrong_key(key) {
+        return Some(wrong);
+    }
+    let Some(identity) = behind else {
+        return Some(Wrong::NoIdentity);
+    };
+    if index_of(identity, b' ').is_some() {
+        return Some(Wrong::TooManyWords);
+    }
+    wrong_number(Number::Identity, identity)
+}
+
+// A word that stands alone, and may state a moment in version 3.
+fn wrong_moment(version: Version, word: &'static str, behind: Option<&[u8]>) -> Option<Wrong> {
+    let moment = behind?;
+    if !version.has_moments() {
+        return Some(Wrong::Moment(word));
+    }
+    if index_of(moment, b' ').is_some() {
+        return Some(Wrong::TooManyWords);
+    }
+    wrong_number(Number::Moment, moment)
+}
+
+// A word that stands alone.
+fn wrong_alone(word: &'static str, behind: Option<&[u8]>) -> Option<Wrong> {
+    behind?;
+    Some(Wrong::Alone(word))
+}
+
+fn wrong_unknown(version: Version, behind: Option<&[u8]>) -> Option<Wrong> {
+    if !version.has_unknown_line() {
+        return Some(Wrong::UnknownInVersionOne);
+    }
+    wrong_alone("unknown", behind)
+}
+
+fn wrong_header(number: usize) -> Wrong {
+    if number == 1 {
+        Wrong::NoVersion
+    } else {
+        Wrong::LateHeader
+    }
+}
+
+fn has_capitals(word: &[u8]) -> bool {
+    word.iter().any(|byte| byte.is_ascii_uppercase())
+}
+
+fn wrong_word(word: &[u8]) -> Wrong {
+    if has_capitals(word) {
+        Wrong::CapitalLetters
+    } else {
+        Wrong::NoSuchWord
+    }
+}
+
+// What is wrong by the words of the line.
+fn wrong_in_words(version: Version, bytes: &[u8], number: usize) -> Option<Wrong> {
+    let (word, behind) = first_word(bytes);
+    match word {
+        b"session" => wrong_session(behind.unwrap_or(&[])),
+        b"r" | b"w" => wrong_operation(behind.unwrap_or(&[])),
+        b"begin" => wrong_moment(version, "begin", behind),
+        b"commit" => wrong_moment(version, "commit", behind),
+        b"abort" => wrong_alone("abort", behind),
+        b"unknown" => wrong_unknown(version, behind),
+        b"log" => Some(wrong_header(number)),
+        _ => Some(wrong_word(word)),
+    }
+}
+
+/// What is wrong with a line of a log of this version, of this number from 1, where that can be seen.
+pub fn wrong_form(version: Version, line: LogLine<'_>, number: usize) -> Option<Wrong> {
+    match wrong_as_a_whole(line, number) {
+        Some(wrong) => Some(wrong),
+        None => wrong_in_words(version, line.bytes, number),
+    }
+}

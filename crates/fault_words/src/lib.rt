@@ -1,0 +1,13 @@
+//! Why a log is refused, in words for people: as `FILE:LINE: WORDS (CODE)`, and each part by itself.
+//!
+//! The fault and its line come from those who read the log. The words are made from that line, and from the lines before it, as
+//! far as it can be seen there what is wrong. No contract says what they are; each call is proved to be safe and to return.
+#![tactic(auto)]
+
+mod form;
+mod lines;
+mod numbers;
+mod quoted;
+mod told;
+
+pub use told::{code_of, line_of, refusal, words_of};

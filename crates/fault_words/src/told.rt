@@ -1,0 +1,247 @@
+//! A fault in words.
+
+use crate::form::{Number, Wrong, first_word, wrong_form};
+use crate::lines::{LogLine, earlier_line, line_at};
+use crate::numbers::NumberFault;
+use crate::quoted::quoted;
+use long_log_definitions::MAX_LONG_LOG_BYTES;
+use serializability::MAX_NODES;
+use session_log::{
+    Limit, LogFault, MAX_KEYS, MAX_LOG_BYTES, MAX_OPERATIONS, MAX_SESSIONS, Version, index_of,
+};
+use std::alloc::{AllocError, Global};
+
+/// The code of a fault, as the table of faults has it, and of a limit its name.
+pub fn code_of(fault: LogFault) -> &'static str {
+    match fault {
+        LogFault::BadLine { .. } => "L1",
+        LogFault::SessionTwice { .. } => "L2",
+        LogFault::OutsideTransaction { .. } => "L3",
+        LogFault::OpenTransaction { .. } => "L4",
+        LogFault::WriteZero { .. } => "L5",
+        LogFault::WriteTwice { .. } => "L6",
+        LogFault::OverLimit { which } => match which {
+            Limit::LogBytes => "L7 log-bytes",
+            Limit::Sessions => "L7 sessions",
+            Limit::Operations => "L7 operations",
+            Limit::Committed => "L7 committed",
+            Limit::Keys => "L7 keys",
+        },
+        LogFault::Memory => "L8",
+        LogFault::UnknownNotLast { .. } => "L9",
+        LogFault::EndsBeforeBegin { .. } => "L10",
+    }
+}
+
+/// The line of a fault, where it has one.
+pub fn line_of(fault: LogFault) -> Option<usize> {
+    match fault {
+        LogFault::BadLine { line }
+        | LogFault::SessionTwice { line }
+        | LogFault::OutsideTransaction { line }
+        | LogFault::OpenTransaction { line }
+        | LogFault::WriteZero { line }
+        | LogFault::WriteTwice { line }
+        | LogFault::UnknownNotLast { line }
+        | LogFault::EndsBeforeBegin { line } => Some(line),
+        LogFault::OverLimit { .. } | LogFault::Memory => None,
+    }
+}
+
+fn number_words(number: Number) -> &'static str {
+    match number {
+        Number::Session => "the number of the session",
+        Number::Identity => "the identity",
+        Number::Moment => "the moment",
+    }
+}
+
+fn number_fault_words(fault: NumberFault) -> &'static str {
+    match fault {
+        NumberFault::Missing => "is missing",
+        NumberFault::Sign => "has a sign, which numbers have not",
+        NumberFault::LeadingZero => "has a leading zero",
+        NumberFault::NotDigits => "is no decimal number",
+        NumberFault::TooLarge => "is more than 18446744073709551615",
+    }
+}
+
+fn form_words(alloc: Global, wrong: Wrong, line: LogLine<'_>) -> Result<String, AllocError> {
+    let words = match wrong {
+        Wrong::ByteOrderMark => "the log begins with a byte order mark, which it may not have",
+        Wrong::WideCharacters => "the log is in UTF-16: it has to be in ASCII",
+        Wrong::CarriageReturn => "the line ends in CR LF: lines end in LF alone",
+        Wrong::Empty => "an empty line: a log has none",
+        Wrong::NoLineFeed => "the last line has no line feed: the log may have been cut off",
+        Wrong::NoVersion => {
+            "no version of a log: it begins with `log 2`, with `log 3`, or with its first session"
+        }
+        Wrong::LateHeader => "a header can only be the first line of a log",
+        Wrong::Comment => "a comment: a log has none",
+        Wrong::Tab => "a tab: words are separated by one blank",
+        Wrong::BlankFirst => "the line begins with a blank",
+        Wrong::BlankLast => "the line ends with a blank",
+        Wrong::TwoBlanks => "two blanks in a row: words are separated by one",
+        Wrong::Alone(word) => {
+            return format!(in alloc; "something stands behind `{word}`, which stands alone");
+        }
+        Wrong::Moment(word) => {
+            return format!(in alloc; "`{word}` states a moment: that needs the header `log 3`");
+        }
+        Wrong::UnknownInVersionOne => "`unknown` needs the header `log 2` or `log 3`",
+        Wrong::NoKey => "the key is missing",
+        Wrong::NoIdentity => "the identity is missing",
+        Wrong::LongKey => "the key has more than 64 bytes",
+        Wrong::KeyByte(byte) => {
+            let shown = quoted(alloc, &[byte])?;
+            return format!(in alloc;
+                "the key has the byte {shown}: keys have A-Z a-z 0-9 _ . : / - alone"
+            );
+        }
+        Wrong::TooManyWords => "the line has too many words",
+        Wrong::Number(number, fault) => {
+            let what = number_words(number);
+            let why = number_fault_words(fault);
+            return format!(in alloc; "{what} {why}");
+        }
+        Wrong::SessionNumber => "the number of the session is not 1 to 65535",
+        Wrong::CapitalLetters => "words are written in small letters",
+        Wrong::NoSuchWord => {
+            let shown = quoted(alloc, first_word(line.bytes).0)?;
+            return format!(in alloc; "no line of a log begins with {shown}");
+        }
+    };
+    String::from_str(alloc, words)
+}
+
+fn bad_line_words(alloc: Global, log: &[u8], number: usize) -> Result<String, AllocError> {
+    let unseen = "the line has none of the forms of a log";
+    let Some(line) = line_at(log, number) else {
+        return String::from_str(alloc, unseen);
+    };
+    match wrong_form(Version::of(log), line, number) {
+        Some(wrong) => form_words(alloc, wrong, line),
+        None => String::from_str(alloc, unseen),
+    }
+}
+
+/// The last word of a line that begins with `w `, which is a write's identity.
+fn identity_of(line: &[u8]) -> Option<&[u8]> {
+    if !line.starts_with(b"w ") {
+        return None;
+    }
+    let words = &line[2..];
+    let blank = index_of(words, b' ')?;
+    Some(&words[blank + 1..])
+}
+
+// What was said before, and where, as far as that is found.
+fn twice_words(
+    alloc: Global,
+    what: &str,
+    said: &str,
+    earlier: Option<usize>,
+) -> Result<String, AllocError> {
+    match earlier {
+        Some(line) => format!(in alloc; "{what} {said} before, in line {line}"),
+        None => format!(in alloc; "{what} {said} before"),
+    }
+}
+
+fn session_twice_words(alloc: Global, log: &[u8], number: usize) -> Result<String, AllocError> {
+    let Some(line) = line_at(log, number) else {
+        return twice_words(alloc, "this session", "began", None);
+    };
+    let earlier = earlier_line(log, number, |bytes| bytes == line.bytes);
+    twice_words(alloc, "this session", "began", earlier)
+}
+
+fn write_twice_words(alloc: Global, log: &[u8], number: usize) -> Result<String, AllocError> {
+    let identity = match line_at(log, number) {
+        Some(line) => identity_of(line.bytes),
+        None => None,
+    };
+    let Some(identity) = identity else {
+        return twice_words(alloc, "this identity", "was written", None);
+    };
+    let earlier = earlier_line(log, number, |bytes| match identity_of(bytes) {
+        Some(other) => other == identity,
+        None => false,
+    });
+    let shown = quoted(alloc, identity)?;
+    let what = format!(in alloc; "identity {shown}")?;
+    twice_words(alloc, &what, "was written", earlier)
+}
+
+fn outside_words(alloc: Global, log: &[u8], number: usize) -> Result<String, AllocError> {
+    let session = earlier_line(log, number, |bytes| bytes.starts_with(b"session"));
+    let words = match session {
+        Some(_) => "no transaction is open here: a `begin` is missing",
+        None => "the line stands before the first session",
+    };
+    String::from_str(alloc, words)
+}
+
+fn limit_words(alloc: Global, log: &[u8], which: Limit) -> Result<String, AllocError> {
+    match which {
+        Limit::LogBytes => {
+            let most = if log.len() > MAX_LONG_LOG_BYTES {
+                MAX_LONG_LOG_BYTES
+            } else {
+                MAX_LOG_BYTES
+            };
+            format!(in alloc; "the log has more than {most} bytes")
+        }
+        Limit::Sessions => format!(in alloc; "the log has more than {MAX_SESSIONS} sessions"),
+        Limit::Operations => {
+            format!(in alloc; "the log has more than {MAX_OPERATIONS} reads and writes")
+        }
+        Limit::Committed => {
+            format!(in alloc;
+                "the log has more than {MAX_NODES} transactions that are committed or unknown"
+            )
+        }
+        Limit::Keys => format!(in alloc; "the log has more than {MAX_KEYS} keys"),
+    }
+}
+
+/// What is wrong with a log that has this fault, as a sentence without its end.
+pub fn words_of(alloc: Global, log: &[u8], fault: LogFault) -> Result<String, AllocError> {
+    let words = match fault {
+        LogFault::BadLine { line } => return bad_line_words(alloc, log, line),
+        LogFault::SessionTwice { line } => return session_twice_words(alloc, log, line),
+        LogFault::OutsideTransaction { line } => return outside_words(alloc, log, line),
+        LogFault::WriteTwice { line } => return write_twice_words(alloc, log, line),
+        LogFault::OverLimit { which } => return limit_words(alloc, log, which),
+        LogFault::OpenTransaction { .. } => {
+            "the transaction that begins here has no `commit`, `abort` or `unknown`"
+        }
+        LogFault::WriteZero { .. } => {
+            "identity 0 is that of the initial value, and no write can have it"
+        }
+        LogFault::UnknownNotLast { .. } => {
+            "the transaction stands behind one whose outcome is unknown: it needs a session of its own"
+        }
+        LogFault::EndsBeforeBegin { .. } => {
+            "the transaction ends at an earlier moment than it begins"
+        }
+        LogFault::Memory => "out of memory",
+    };
+    String::from_str(alloc, words)
+}
+
+/// The line that a compiler would print of a log of this name that has this fault: `FILE:LINE: WORDS (CODE)`, without a line feed,
+/// and without the line where the fault has none.
+pub fn refusal(
+    alloc: Global,
+    name: &str,
+    log: &[u8],
+    fault: LogFault,
+) -> Result<String, AllocError> {
+    let words = words_of(alloc, log, fault)?;
+    let code = code_of(fault);
+    match line_of(fault) {
+        Some(line) => format!(in alloc; "{name}:{line}: {words} ({code})"),
+        None => format!(in alloc; "{name}: {words} ({code})"),
+    }
+}
