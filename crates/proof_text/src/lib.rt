@@ -1,0 +1,21 @@
+//! The texts of proofs that solvers write, read step by step: LRAT (Cruz-Filipe, Heule, Hunt, Kaufmann and Schneider-Kamp 2017) as
+//! text, and DRAT (Wetzler, Heule and Hunt 2014) as text and in its binary form.
+//!
+//! Nothing rests on how a text is read: whatever steps come out, a checker takes only those that follow.
+#![tactic(auto)]
+
+mod cursor;
+mod drat;
+mod fault;
+mod form;
+mod lrat;
+#[cfg(test)]
+mod tests;
+
+pub use drat::{DratAction, DratSteps};
+pub use fault::{ProofFault, StepFault};
+pub use form::{Form, form_of};
+pub use lrat::{LratAction, LratSteps};
+
+/// The most bytes that a proof may have.
+pub const MAX_PROOF_BYTES: usize = 1024 * 1024 * 1024;
