@@ -7,12 +7,12 @@ use desk::seat_no::Workers;
 use session_log::Block;
 use std::alloc::{AllocError, Global};
 
-/// How many of these blocks, from the first on, end before this byte of the log, or at it.
+/// How many of these blocks, from the first on, have their middle before this byte of the log, or at it.
 fn count_before(blocks: &[Block], byte: usize) -> usize
     ensures { result ≤ length blocks.now }
 {
     for (i, block) in blocks.iter().enumerate() {
-        if block.stop > byte {
+        if (block.start / 2).saturating_add(block.stop / 2) > byte {
             return i;
         }
     }
