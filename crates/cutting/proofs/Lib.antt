@@ -1,0 +1,5 @@
+pub mod Views
+pub mod Firsts
+pub mod CutOffs
+pub mod Overs
+pub mod Loops

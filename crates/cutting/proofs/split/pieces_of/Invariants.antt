@@ -1,0 +1,10 @@
+use Rattle.std.proofs.Common.{◌≡◌, ◌++◌, List, map}
+use Rattle.std.specs.Prelude.{nat_eq}
+use Rattle.std.specs.List.{IsDistinct}
+use Rattle.session_log.specs.Text.{ClientSession, view}
+use Rattle.cutting.specs.Parts.{CutOff, parts_view, piece_view}
+use Rattle.cutting.proofs.Firsts.{SplitSoFar}
+use Rattle.cutting.proofs.split.pieces_of.Given as goal
+
+abbrev pub invariant-loop-proposal : goal.invariant-loop-proposal
+invariant-loop-proposal l = SplitSoFar (map view l.fn.sessions) (map piece_view l.pieces.items) (parts_view l.rest)

@@ -1,0 +1,519 @@
+//! Where a log may be cut. Nothing here is trusted.
+
+use crate::known::{all_over, is_committed};
+use crate::part::Part;
+use crate::split::{Count, Proposal, take_first, whole};
+use serializability::MAX_NODES;
+use session_log::{Key, MAX_KEYS, MAX_LOG_BYTES, MAX_OPERATIONS, MAX_SESSIONS, Op, Session, Txn};
+use std::alloc::{AllocError, Global};
+use std::collections::{BTreeMap, BTreeSet};
+
+/// A moment that no log states.
+const NEVER: u64 = u64::MAX;
+
+/// A transaction of the log: its session, its place there, the latest moment at which it or a node before it in its session is said to
+/// have begun (0 where none is), and the least one at which it ended, or a node that is known to come behind it (`NEVER` where none is
+/// said).
+#[derive(Clone, Copy)]
+struct Spot {
+    session: usize,
+    txn: usize,
+    since: u64,
+    over: u64,
+}
+
+/// A write of a node: its identity, and its transaction among those of the log.
+#[derive(Clone, Copy)]
+struct WriteOf {
+    wid: u64,
+    spot: usize,
+}
+
+/// When a node ended.
+#[derive(Clone, Copy)]
+struct EndOf {
+    ended: u64,
+    spot: usize,
+}
+
+fn txn_at<'a>(sessions: &'a [Session], spot: Spot) -> Option<&'a Txn> {
+    match sessions.get(spot.session) {
+        Some(session) => session.txns.get(spot.txn),
+        None => None,
+    }
+}
+
+/// The transactions, session by session.
+fn spots_of(alloc: Global, sessions: &[Session]) -> Result<Vec<Spot>, AllocError> {
+    let mut spots = Vec::new(alloc);
+    for (session, it) in sessions.iter().enumerate() {
+        let mut since = 0;
+        for (txn, each) in it.txns.iter().enumerate() {
+            if is_committed(each) {
+                since = since.max(each.begun.unwrap_or(0));
+            }
+            spots.push(Spot {
+                session,
+                txn,
+                since,
+                over: NEVER,
+            })?;
+        }
+    }
+    Ok(spots)
+}
+
+fn add_writes(writes: &mut Vec<WriteOf>, spot: usize, ops: &[Op]) -> Result<(), AllocError> {
+    for op in ops {
+        if let Op::Write { wid, .. } = op {
+            writes.push(WriteOf { wid: *wid, spot })?;
+        }
+    }
+    Ok(())
+}
+
+/// The writes of nodes, by their identities.
+fn writes_of(
+    alloc: Global,
+    sessions: &[Session],
+    spots: &[Spot],
+) -> Result<Vec<WriteOf>, AllocError> {
+    let mut writes = Vec::new(alloc);
+    for (i, spot) in spots.iter().enumerate() {
+        if let Some(txn) = txn_at(sessions, *spot) {
+            if is_committed(txn) {
+                add_writes(&mut writes, i, &txn.ops)?;
+            }
+        }
+    }
+    writes.sort_unstable_by_key(|write| write.wid);
+    Ok(writes)
+}
+
+/// The ends of nodes, in their order.
+fn ends_of(alloc: Global, sessions: &[Session], spots: &[Spot]) -> Result<Vec<EndOf>, AllocError> {
+    let mut ends = Vec::new(alloc);
+    for (i, spot) in spots.iter().enumerate() {
+        if let Some(txn) = txn_at(sessions, *spot) {
+            if let Some(ended) = txn.ended {
+                if is_committed(txn) {
+                    ends.push(EndOf { ended, spot: i })?;
+                }
+            }
+        }
+    }
+    ends.sort_unstable_by_key(|end| end.ended);
+    Ok(ends)
+}
+
+/// Marks a transaction, and those before it in its session, where they are not marked.
+fn mark(
+    spots: &mut [Spot],
+    todo: &mut Vec<usize>,
+    spot: usize,
+    moment: u64,
+) -> Result<(), AllocError> {
+    if spot >= spots.len() {
+        return Ok(());
+    }
+    let session = spots[spot].session;
+    for back in 0..spot + 1 {
+        let i = spot - back;
+        if i >= spots.len() || spots[i].session != session || spots[i].over != NEVER {
+            break;
+        }
+        spots[i].over = moment;
+        todo.push(i)?;
+    }
+    Ok(())
+}
+
+/// Marks what the operations read from.
+fn mark_sources(
+    spots: &mut [Spot],
+    todo: &mut Vec<usize>,
+    writes: &[WriteOf],
+    ops: &[Op],
+    moment: u64,
+) -> Result<(), AllocError> {
+    for op in ops {
+        if let Op::Read { wid, .. } = op {
+            if let Ok(i) = writes.binary_search_by_key(wid, |write| write.wid) {
+                if let Some(write) = writes.get(i) {
+                    mark(spots, todo, write.spot, moment)?;
+                }
+            }
+        }
+    }
+    Ok(())
+}
+
+/// Marks what is known to come before those that are to be looked at.
+fn mark_all(
+    sessions: &[Session],
+    spots: &mut [Spot],
+    todo: &mut Vec<usize>,
+    writes: &[WriteOf],
+    moment: u64,
+) -> Result<(), AllocError> {
+    for _ in 0..u64::MAX {
+        let Some(i) = todo.pop() else {
+            break;
+        };
+        if i < spots.len() {
+            if let Some(txn) = txn_at(sessions, spots[i]) {
+                if is_committed(txn) {
+                    mark_sources(spots, todo, writes, &txn.ops, moment)?;
+                }
+            }
+        }
+    }
+    Ok(())
+}
+
+/// The transactions, each with the least moment before which it is known to be over, by sessions, readers and ends.
+fn marked(alloc: Global, sessions: &[Session]) -> Result<Vec<Spot>, AllocError> {
+    let mut spots = spots_of(alloc, sessions)?;
+    let writes = writes_of(alloc, sessions, &spots)?;
+    let ends = ends_of(alloc, sessions, &spots)?;
+    let mut todo = Vec::new(alloc);
+    let marks = spots.as_mut_slice();
+    for end in ends.iter() {
+        mark(marks, &mut todo, end.spot, end.ended)?;
+        mark_all(sessions, marks, &mut todo, &writes, end.ended)?;
+    }
+    Ok(spots)
+}
+
+/// By the moments since which transactions come, whether all nodes before each one are over before its moment, and this is later than
+/// that of the one before it.
+fn cuttable(
+    alloc: Global,
+    sessions: &[Session],
+    by_since: &[Spot],
+) -> Result<Vec<bool>, AllocError> {
+    let mut cuttable = Vec::with_capacity(alloc, by_since.len())?;
+    let mut since = 0;
+    let mut over = 0;
+    let mut is_first = true;
+    for spot in by_since {
+        cuttable.push(!is_first && since < spot.since && over < spot.since)?;
+        is_first = false;
+        since = spot.since;
+        if let Some(txn) = txn_at(sessions, *spot) {
+            if is_committed(txn) {
+                over = over.max(spot.over);
+            }
+        }
+    }
+    Ok(cuttable)
+}
+
+/// How large a piece is so far, as a log, with what may be read at its end.
+#[derive(Drop)]
+struct Size<'a> {
+    /// Its number, from 1.
+    piece: usize,
+    nodes: usize,
+    ends: usize,
+    sessions: usize,
+    ops: usize,
+    bytes: usize,
+    /// Its keys, counted once it has so many operations that there may be too many.
+    keys: BTreeSet<&'a Key>,
+    counts_keys: bool,
+    /// By session, the last piece that has transactions of it, and the last in which it writes.
+    seen: Vec<usize>,
+    wrote: Vec<usize>,
+}
+
+/// The most bytes of a line without its key.
+const LINE: usize = 32;
+
+impl<'a> Size<'a> {
+    fn new(alloc: Global, sessions: usize) -> Result<Size<'a>, AllocError> {
+        Ok(Size {
+            piece: 1,
+            nodes: 0,
+            ends: 0,
+            sessions: 0,
+            ops: 0,
+            bytes: 0,
+            keys: BTreeSet::new(alloc),
+            counts_keys: false,
+            seen: vec![in alloc; 0; sessions]?,
+            wrote: vec![in alloc; 0; sessions]?,
+        })
+    }
+
+    /// The next piece begins.
+    fn restart(&mut self) {
+        self.piece = self.piece.saturating_add(1);
+        self.nodes = 0;
+        self.ends = 0;
+        self.sessions = 0;
+        self.ops = 0;
+        self.bytes = 0;
+        self.keys.clear();
+        self.counts_keys = false;
+    }
+
+    fn add_bytes(&mut self, bytes: usize) {
+        self.bytes = self.bytes.saturating_add(bytes);
+    }
+
+    fn add_keys(&mut self, ops: &'a [Op]) -> Result<(), AllocError> {
+        for op in ops {
+            let (Op::Read { key, .. } | Op::Write { key, .. }) = op;
+            self.keys.insert(key)?;
+        }
+        Ok(())
+    }
+
+    /// A write may be read at the end.
+    fn add_end(&mut self, session: usize) {
+        self.ops = self.ops.saturating_add(1);
+        if session < self.wrote.len() && self.wrote[session] != self.piece {
+            self.wrote[session] = self.piece;
+            self.ends = self.ends.saturating_add(1);
+        }
+    }
+
+    fn add_op(&mut self, session: usize, op: &Op) {
+        let (Op::Read { key, .. } | Op::Write { key, .. }) = op;
+        self.ops = self.ops.saturating_add(1);
+        self.add_bytes(2 * LINE + 2 * key.as_bytes().len().min(64));
+        if let Op::Write { .. } = op {
+            self.add_end(session);
+        }
+    }
+
+    fn add(&mut self, session: usize, txn: &'a Txn) -> Result<(), AllocError> {
+        if session < self.seen.len() && self.seen[session] != self.piece {
+            self.seen[session] = self.piece;
+            self.sessions = self.sessions.saturating_add(1);
+            self.add_bytes(LINE);
+        }
+        if is_committed(txn) {
+            self.nodes = self.nodes.saturating_add(1);
+        }
+        self.add_bytes(4 * LINE);
+        for op in &txn.ops {
+            self.add_op(session, op);
+        }
+        if self.counts_keys {
+            self.add_keys(&txn.ops)?;
+        }
+        Ok(())
+    }
+
+    /// Counts the keys, where there may be too many: those of these transactions, which are all of the piece.
+    fn count_keys(&mut self, sessions: &'a [Session], spots: &[Spot]) -> Result<(), AllocError> {
+        if self.counts_keys || self.ops <= MAX_KEYS {
+            return Ok(());
+        }
+        self.counts_keys = true;
+        for spot in spots {
+            if let Some(txn) = txn_at(sessions, *spot) {
+                self.add_keys(&txn.ops)?;
+            }
+        }
+        Ok(())
+    }
+
+    /// Whether a log may not have as much.
+    fn is_too_large(&self) -> bool {
+        self.nodes.saturating_add(self.ends) > MAX_NODES
+            || self.sessions > MAX_SESSIONS
+            || self.ops > MAX_OPERATIONS
+            || self.bytes > MAX_LOG_BYTES
+            || self.keys.len() > MAX_KEYS
+    }
+}
+
+/// Where the next piece ends that begins here, where a cut follows.
+fn next_cut<'a>(
+    sessions: &'a [Session],
+    by_since: &[Spot],
+    cuttable: &[bool],
+    size: &mut Size<'a>,
+    least: usize,
+    start: usize,
+) -> Result<Option<usize>, AllocError> {
+    let mut last = None;
+    for at in start..by_since.len() {
+        if at > start && at < cuttable.len() && cuttable[at] {
+            if size.is_too_large() {
+                return Ok(last.or(Some(at)));
+            }
+            if size.nodes >= least {
+                return Ok(Some(at));
+            }
+            last = Some(at);
+        }
+        if let Some(txn) = txn_at(sessions, by_since[at]) {
+            size.add(by_since[at].session, txn)?;
+            size.count_keys(sessions, &by_since[start..at + 1])?;
+        }
+    }
+    Ok(if size.is_too_large() { last } else { None })
+}
+
+/// The moments at which the log is to be cut.
+fn moments(
+    alloc: Global,
+    sessions: &[Session],
+    least: usize,
+) -> Result<(Vec<Spot>, Vec<u64>), AllocError> {
+    let spots = marked(alloc, sessions)?;
+    let mut by_since = Vec::from_slice(alloc, &spots)?;
+    by_since.sort_unstable_by_key(|spot| spot.since);
+    let cuttable = cuttable(alloc, sessions, &by_since)?;
+    let mut size = Size::new(alloc, sessions.len())?;
+    let mut moments = Vec::new(alloc);
+    let mut start = 0;
+    for _ in 0..by_since.len() {
+        let Some(at) = next_cut(sessions, &by_since, &cuttable, &mut size, least, start)? else {
+            break;
+        };
+        if at >= by_since.len() {
+            break;
+        }
+        moments.push(by_since[at].since)?;
+        start = at;
+        size.restart();
+    }
+    Ok((spots, moments))
+}
+
+/// A cut at each of these moments, before which nothing lies yet.
+fn empty(alloc: Global, moments: &[u64]) -> Result<Vec<Proposal>, AllocError> {
+    let mut proposals = Vec::with_capacity(alloc, moments.len())?;
+    for moment in moments {
+        proposals.push(Proposal {
+            moment: *moment,
+            counts: Vec::new(alloc),
+        })?;
+    }
+    Ok(proposals)
+}
+
+/// So many more of a session's transactions before a cut.
+fn add_count(
+    proposals: &mut [Proposal],
+    piece: usize,
+    session: usize,
+    txns: usize,
+) -> Result<(), AllocError> {
+    if piece < proposals.len() && 0 < txns {
+        proposals[piece].counts.push(Count { session, txns })?;
+    }
+    Ok(())
+}
+
+/// The cuts of a log whose outcomes are known: a piece ends at the first one before which it has at least so many nodes, or at the last
+/// one before it would be too large.
+pub fn proposals(
+    alloc: Global,
+    sessions: &[Session],
+    least: usize,
+) -> Result<Vec<Proposal>, AllocError> {
+    let (spots, moments) = moments(alloc, sessions, least)?;
+    let mut proposals = empty(alloc, &moments)?;
+    let proposed = proposals.as_mut_slice();
+    let mut session = 0;
+    let mut piece = 0;
+    let mut count = 0usize;
+    for spot in spots.iter() {
+        if spot.session != session {
+            add_count(proposed, piece, session, count)?;
+            session = spot.session;
+            piece = 0;
+            count = 0;
+        }
+        for moment in &moments[piece.min(moments.len())..] {
+            if *moment > spot.since {
+                break;
+            }
+            add_count(proposed, piece, session, count)?;
+            piece = piece.saturating_add(1);
+            count = 0;
+        }
+        count = count.saturating_add(1);
+    }
+    add_count(proposed, piece, session, count)?;
+    Ok(proposals)
+}
+
+/// The first transactions of sessions, as many as these are.
+fn first_of<'a>(
+    alloc: Global,
+    rest: &[Part<'a>],
+    counts: &[Count],
+) -> Result<Vec<Part<'a>>, AllocError> {
+    let mut first = Vec::with_capacity(alloc, counts.len())?;
+    for count in counts {
+        if count.session < rest.len() && count.txns <= rest[count.session].txns.len() {
+            let (here, _) = rest[count.session].txns.split_at(count.txns);
+            first.push(Part {
+                number: rest[count.session].number,
+                txns: here,
+                session: count.session,
+                before: 0,
+            })?;
+        }
+    }
+    Ok(first)
+}
+
+/// The counts, by session.
+fn counts_of(alloc: Global, pending: &BTreeMap<usize, usize>) -> Result<Vec<Count>, AllocError> {
+    let mut counts = Vec::new(alloc);
+    for (session, txns) in pending {
+        counts.push(Count {
+            session: *session,
+            txns: *txns,
+        })?;
+    }
+    Ok(counts)
+}
+
+/// The same cuts without those before which not all is over. Behind one that is left out ever more are, so that each transaction is
+/// looked at a few times.
+pub fn joined(
+    alloc: Global,
+    sessions: &[Session],
+    proposed: &[Proposal],
+) -> Result<Vec<Proposal>, AllocError> {
+    let mut whole = whole(alloc, sessions)?;
+    let rest = whole.as_mut_slice();
+    let mut pending = BTreeMap::new(alloc);
+    let mut kept = Vec::new(alloc);
+    let mut skip = 0usize;
+    let mut wait = 1usize;
+    for proposal in proposed {
+        for count in proposal.counts.iter() {
+            let before = pending.get(&count.session).copied().unwrap_or(0usize);
+            pending.insert(count.session, before.saturating_add(count.txns))?;
+        }
+        if skip > 0 {
+            skip -= 1;
+            continue;
+        }
+        let counts = counts_of(alloc, &pending)?;
+        let first = first_of(alloc, rest, &counts)?;
+        if all_over(alloc, &first, proposal.moment)? {
+            take_first(alloc, rest, &counts)?;
+            kept.push(Proposal {
+                moment: proposal.moment,
+                counts,
+            })?;
+            pending.clear();
+            wait = 1;
+        } else {
+            skip = wait;
+            wait = wait.saturating_mul(2);
+        }
+    }
+    Ok(kept)
+}
