@@ -315,6 +315,8 @@ def main():
     if len(sys.argv) != 2 or sys.argv[1].startswith('-'):
         print(__doc__)
         return 0 if '--help' in sys.argv else 2
+    # A shell has what it starts in the background ignore this signal, and bash cannot trap one that it was started to ignore.
+    signal.signal(signal.SIGINT, signal.default_int_handler)
     program = os.path.abspath(sys.argv[1])
     with tempfile.TemporaryDirectory() as folder:
         copy = Copy(program, folder)
