@@ -45,6 +45,7 @@ MODELS = {'two_writers.log': b's SATISFIABLE\nv 1 -2 3 0\n', 'two_chains.log': b
           'forced_choices.log': b's SATISFIABLE\nc none is needed\n', 'unknown_read.log': b's SATISFIABLE\nv 1 -2 3 0\n',
           'overlap_in_time.log': b's SATISFIABLE\n'}
 CHECKED = ('forced_choices.log', 'forced_cycle.log', 'crossed_readers.log', 'lost_update.log', 'unknown_chain.log', 'stale_in_time.log')
+REFUTED, PROOF = 'forced_cycle.log', b'0\n'
 EXPLAINED = {'crossed_readers.log': 'text', 'forced_cycle.log': 'dot', 'unknown_read.log': 'text'}
 MOST = 5000
 
@@ -114,6 +115,11 @@ def calls(folder, names):
             for words in (['encode'], ['encode', '--plain'], ['stats'], ['decode', '--model', answer]):
                 yield [*words, '--workers', workers, log]
         yield ['verify', '--order', order, log]
+    if REFUTED in names:
+        log, proof = os.path.join(generate.EXAMPLES, REFUTED), os.path.join(folder, 'proof')
+        with open(proof, 'wb') as out:
+            out.write(PROOF)
+        yield ['refute', '--workers', '1', '--proof', proof, log]
     for name in CHECKED:
         for words in (['check', '--workers', '1'], ['check', '--workers', '4']) if name in names else ():
             yield [*words, os.path.join(generate.EXAMPLES, name)]

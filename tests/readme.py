@@ -16,11 +16,16 @@ AROUND = 70
 STAND_IN = '''#!%s
 import sys
 sys.path.insert(0, %r)
-import solvers
+import refuting, solvers
 files = [word for word in sys.argv[1:] if not word.startswith('-')]
 with open(files[0], 'rb') if files else sys.stdin.buffer as formula:
-    answer = solvers.own_answer(formula.read()).decode()
-if len(files) == 2:
+    text = formula.read()
+answer = solvers.own_answer(text).decode()
+if len(files) == 2 and sys.argv[0].endswith('cadical'):
+    with open(files[1], 'wb') as proof:
+        proof.write(refuting.own_proof(refuting.read_formula(text)[1]) or b'')
+    sys.stdout.write(answer)
+elif len(files) == 2:
     # as MiniSat
     with open(files[1], 'w') as result:
         result.write(answer.replace('s UNSATISFIABLE', 'UNSAT').replace('s SATISFIABLE', 'SAT').replace('v ', ''))

@@ -15,7 +15,7 @@ import os, shutil, subprocess, sys, tempfile
 
 HERE = os.path.dirname(os.path.abspath(__file__))
 sys.path.insert(0, HERE)
-import explained, generate
+import explained, generate, refuting
 
 # Whether a request for memory is the one that is to be refused.
 REFUSES = r'''
@@ -78,7 +78,7 @@ def main():
         return
     passed, failed = 0, 0
     with tempfile.TemporaryDirectory() as folder:
-        paths = {name: os.path.join(folder, name) for name in ('log', 'answer', 'plain_answer', 'order', 'shim.c', 'shim.so', 'told')}
+        paths = {name: os.path.join(folder, name) for name in ('log', 'answer', 'plain_answer', 'order', 'drat', 'lrat', 'shim.c', 'shim.so', 'told')}
         for name, data in (('log', LOG), ('answer', ANSWER), ('plain_answer', PLAIN_ANSWER), ('order', ORDER), ('shim.c', SHIM.encode())):
             with open(paths[name], 'wb') as out:
                 out.write(data)
@@ -97,6 +97,13 @@ def main():
                       ['decode', '--workers', '4', '--model', paths['answer'], log], ['decode', '--plain', '--model', paths['plain_answer'], log]]
         calls += [['explain', '--workers', count, log] for count, name in (('1', 'forced_cycle'), ('4', 'crossed_readers'), ('4', 'lost_update')) for log in examples(name)]
         calls += [['explain', '--workers', '1', '--format', 'dot', log] for log in examples('crossed_readers', 'stale_in_time', 'intermediate_read')]
+        for log in examples('crossed_readers'):
+            formula = refuting.read_formula(subprocess.run([program, 'encode', log], stdout=subprocess.PIPE, check=True).stdout)
+            drat = refuting.own_proof(formula[1])
+            for form, proof in (('drat', drat), ('lrat', refuting.lrat_of(formula[1], drat, formula[0]))):
+                with open(paths[form], 'wb') as out:
+                    out.write(proof)
+                calls += [['refute', '--workers', count, '--proof', paths[form], log] for count in ('1', '4')]
         for words in calls:
             wanted, refusals, left_to_another = None, 0, 0
             for n in range(MOST):

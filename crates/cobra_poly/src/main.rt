@@ -11,6 +11,8 @@ use cobra_words::{Command, FormatWord, Request, StrategyWord, Words, words_of};
 use desk::gate::OpenGate;
 use dimacs::{Counted, MAX_ANSWER_BYTES};
 use order_text::MAX_ORDER_BYTES;
+use proof_text::{MAX_PROOF_BYTES, ProofFault};
+use refuting::{Refusal, refute};
 use session_log::MAX_LOG_BYTES;
 use std::alloc::Global;
 use std::io::{Eprint, ErrorKind, Read, Write};
@@ -74,14 +76,42 @@ fn format_of(word: FormatWord) -> Format {
     }
 }
 
-/// Runs a command on what was read: first the log, then the answer or the order.
+/// Why a call ends without an answer.
+#[derive(Drop)]
+enum Ending {
+    Stop(Stop),
+    Proof(ProofFault),
+}
+
+impl From<Stop> for Ending {
+    fn from(stop: Stop) -> Ending {
+        Ending::Stop(stop)
+    }
+}
+
+impl From<Fault> for Ending {
+    fn from(fault: Fault) -> Ending {
+        Ending::Stop(Stop::Refused(fault))
+    }
+}
+
+impl From<Refusal> for Ending {
+    fn from(refusal: Refusal) -> Ending {
+        match refusal {
+            Refusal::Command(fault) => Ending::Stop(Stop::Refused(fault)),
+            Refusal::Proof(fault) => Ending::Proof(fault),
+        }
+    }
+}
+
+/// Runs a command on what was read: first the log, then the answer, the proof or the order.
 fn run<R: Runtime + Threads + Wait + Sync, I: Read + Drop, W: Write + Drop>(
     rt: &R,
     alloc: Global,
     request: Request<'_>,
     input: I,
     output: W,
-) -> Result<Status, Stop> {
+) -> Result<Status, Ending> {
     let log = read_log_bytes(rt, alloc, request.log, input)?;
     let options = Options {
         plain: request.plain,
@@ -102,6 +132,14 @@ fn run<R: Runtime + Threads + Wait + Sync, I: Read + Drop, W: Write + Drop>(
             let answer = read_file(rt, alloc, model, MAX_ANSWER_BYTES)?;
             decode(rt, alloc, &log, &answer, &options, &OpenGate, &mut sink)
         }
+        Command::Refute { proof } => {
+            let proof = read_file(rt, alloc, proof, MAX_PROOF_BYTES)?;
+            let (plain, workers) = (request.plain, request.workers);
+            let status = refute(
+                rt, alloc, &log, &proof, plain, workers, &OpenGate, &mut sink,
+            )?;
+            Ok(status)
+        }
         Command::Verify { order } => {
             let order = read_file(rt, alloc, order, MAX_ORDER_BYTES)?;
             verify(rt, alloc, &log, &order, &options, &OpenGate, &mut sink)
@@ -110,16 +148,24 @@ fn run<R: Runtime + Threads + Wait + Sync, I: Read + Drop, W: Write + Drop>(
     match ended {
         Ok(status) => match sink.writer.flush() {
             Ok(()) => Ok(status),
-            Err(_) => Err(Stop::Output),
+            Err(_) => Err(Stop::Output.into()),
         },
         Err(fault) => Err(fault.into()),
     }
 }
 
 /// Says why a call ended without an answer, and gives its exit status.
-fn report<R: Eprint>(rt: &R, stop: Stop) -> u8 {
-    let _ = eprintln!(rt; "{stop}");
-    stop.code()
+fn report<R: Eprint>(rt: &R, ending: Ending) -> u8 {
+    match ending {
+        Ending::Stop(stop) => {
+            let _ = eprintln!(rt; "{stop}");
+            stop.code()
+        }
+        Ending::Proof(fault) => {
+            let _ = eprintln!(rt; "{fault}");
+            fault.code()
+        }
+    }
 }
 
 /// Why the words of a call cannot be had.
@@ -136,16 +182,16 @@ fn answer<R: Runtime + AllocGlobal + Threads + Wait + Sync, I: Read + Drop, W: W
     alloc: Global,
     input: I,
     output: W,
-) -> Result<u8, Stop> {
+) -> Result<u8, Ending> {
     let words: Vec<String> = match env::args(rt) {
-        Ok(words) => words.collect(alloc)?,
-        Err(error) => return Err(words_fault(error.kind())),
+        Ok(words) => words.collect(alloc).map_err(Stop::from)?,
+        Err(error) => return Err(words_fault(error.kind()).into()),
     };
-    match words_of(alloc, &words)? {
+    match words_of(alloc, &words).map_err(Stop::from)? {
         Some(Words::Request(request)) => Ok(run(rt, alloc, request, input, output)?.code()),
         // Help and the version have to arrive; words that are no call are refused in any case.
         Some(Words::Shown(text)) => match text.print(rt) {
-            Err(_) if !text.use_stderr() => Err(Stop::Output),
+            Err(_) if !text.use_stderr() => Err(Stop::Output.into()),
             _ => Ok(text.exit_code() as u8),
         },
         None => Ok(USAGE),
@@ -155,7 +201,7 @@ fn answer<R: Runtime + AllocGlobal + Threads + Wait + Sync, I: Read + Drop, W: W
 fn main(rt: HostRuntime) -> ExitCode {
     let status = match answer(&rt, rt.alloc(), rt.stdin(), rt.stdout()) {
         Ok(status) => status,
-        Err(stop) => report(&rt, stop),
+        Err(ending) => report(&rt, ending),
     };
     ExitCode::from(status)
 }

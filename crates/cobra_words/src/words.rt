@@ -14,6 +14,8 @@ pub enum Command<'a> {
     Encode,
     /// Turn a solver's answer, in this file, into a serial order.
     Decode { model: &'a str },
+    /// Check the solver's proof in this file that the formula of the log cannot be satisfied.
+    Refute { proof: &'a str },
     /// Decide whether some serial order explains the log.
     Check,
     /// Check the order in this file.
@@ -89,6 +91,15 @@ Answers, by exit status:
   2  refused: and a fault as of encode, or of the answer, M1 to M8, or E1 and the first clause
      that the assignment makes false; or usage
   3  unsatisfiable claimed, not checked; or unknown
+  4  out of memory
+  5  device failed: input or output";
+
+/// What `refute` answers, by exit status.
+const ANSWERS_OF_REFUTE: &str = "\
+Answers, by exit status:
+  1  not serializable: the formula is refuted
+  2  refused: and a fault as of encode, or of the proof: R1 and a line of no form, R2 and one whose
+     clause does not follow, R3 where no empty clause was derived, R4 above 1 GiB; or usage
   4  out of memory
   5  device failed: input or output";
 
@@ -236,6 +247,14 @@ fn decode<'a>(alloc: Global) -> Result<clap::Command<'a>, AllocError> {
     with_formula(alloc, command)
 }
 
+fn refute<'a>(alloc: Global) -> Result<clap::Command<'a>, AllocError> {
+    let command = clap::Command::new(alloc, "refute")
+        .about("Check a solver's proof that no serial order explains a log")
+        .after_help(ANSWERS_OF_REFUTE)
+        .arg(required_file(alloc, "proof", "The solver's proof, in LRAT or DRAT"))?;
+    with_formula(alloc, command)
+}
+
 fn check<'a>(alloc: Global) -> Result<clap::Command<'a>, AllocError> {
     let command = clap::Command::new(alloc, "check")
         .about("Decide whether some serial order explains a log")
@@ -283,6 +302,7 @@ fn program<'a>(alloc: Global) -> Result<clap::Command<'a>, AllocError> {
         .subcommand_required(true);
     let program = with_command(Ok(program), encode(alloc));
     let program = with_command(program, decode(alloc));
+    let program = with_command(program, refute(alloc));
     let program = with_command(program, check(alloc));
     let program = with_command(program, verify(alloc));
     let program = with_command(program, stats(alloc));
@@ -320,6 +340,9 @@ fn command_of<'a>(name: &str, matches: &ArgMatches<'a>) -> Option<Command<'a>> {
         "encode" => Some(Command::Encode),
         "decode" => Some(Command::Decode {
             model: matches.get_str("model")?,
+        }),
+        "refute" => Some(Command::Refute {
+            proof: matches.get_str("proof")?,
         }),
         "check" => Some(Command::Check),
         "verify" => Some(Command::Verify {

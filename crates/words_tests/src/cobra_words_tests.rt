@@ -62,6 +62,7 @@ fn refused_words(rt: HostRuntime) {
         "cobra_poly encode --budget 3",
         "cobra_poly encode one two",
         "cobra_poly decode log",
+        "cobra_poly refute log",
         "cobra_poly verify log",
         "cobra_poly verify --order o --workers 4 log",
         "cobra_poly verify --order o --plain log",
@@ -102,6 +103,10 @@ fn texts_of_help(rt: HostRuntime) {
         (
             "cobra_poly decode --help",
             "  3  unsatisfiable claimed, not checked; or unknown\n",
+        ),
+        (
+            "cobra_poly refute --help",
+            "  1  not serializable: the formula is refuted\n",
         ),
         ("cobra_poly check --help", "  1  not serializable: and why"),
         (
@@ -144,6 +149,7 @@ fn files_of_logs(rt: HostRuntime) {
         ("cobra_poly decode --model - -", ""),
         ("cobra_poly check ./-", "./-"),
         ("cobra_poly explain --format dot log", "log"),
+        ("cobra_poly refute --plain --proof p log", "log"),
         ("cobra_poly verify --order order log", "log"),
     ] {
         see_log(&rt, rt.alloc(), line, file);
