@@ -166,6 +166,8 @@ def logs():
 
 
 def main():
+    # A shell has what it starts in the background ignore this signal, and shrink.py is to hear it.
+    signal.signal(signal.SIGINT, signal.default_int_handler)
     with tempfile.TemporaryDirectory() as folder:
         checks, its = Checks(os.path.abspath(sys.argv[1]), folder), list(logs())
         jobs = [(place, name, text, ()) for place, (name, text) in enumerate(its)]
