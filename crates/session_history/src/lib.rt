@@ -21,4 +21,5 @@ pub use names::Name;
 pub use order::Order;
 pub use reads::ReadFrom;
 pub use serializability::{Anomaly, Event, NodeIx, ReadAnomaly};
+pub use taken::taken_among;
 pub use writes::Written;
