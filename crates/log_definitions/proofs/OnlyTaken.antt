@@ -1,9 +1,9 @@
 -- An order of the committed and some unknown transactions becomes one of the committed and the taken ones.
 use Rattle.std.proofs.Common.{◌≡◌, ℕ, zero, suc, ◌+◌, Bool, true, false, List, [], ◌∷◌, ◌++◌, refl, sym, ap, ◌∙◌, subst, inl, inr}
-use Rattle.std.specs.Prelude.{map}
-use Rattle.std.specs.List.{filter, flat_map, enumerate_from, AllByRecursion, Contains}
+use Rattle.std.specs.Prelude.{nat_eq, map}
+use Rattle.std.specs.List.{filter, flat_map, enumerate_from, AllByRecursion, Contains, IsDistinct}
 use Rattle.std.proofs.lemmas.Bool.{cases_Bool, false≢true}
-use Rattle.session_log.specs.Text.{ClientSession, Transaction}
+use Rattle.session_log.specs.Text.{ClientSession, Transaction, IsLegal}
 use Rattle.session_log.specs.declared.session.Op.{Op}
 use Rattle.session_log.specs.declared.session.Op.TheVariants.{Read, Write}
 use Rattle.session_log.specs.declared.session.Outcome.{Outcome}
@@ -194,14 +194,16 @@ HasSome ss = (order : List ℕ) × IsSomeOrder ss order
 abbrev HasSerial : List ClientSession → Type 0
 HasSerial ss = (order : List ℕ) × IsSerialOrder ss order
 
-pub serial_where_some : (ss : List ClientSession) → IsWellFormedList ss → HasSome ss → HasSerial ss
-serial_where_some ss well (order, some) =
-    let rules = rules_where_no_fault 1 ss well.sessions in
+pub serial_where_distinct : (ss : List ClientSession) → AllByRecursion IsLegal ss → IsDistinct nat_eq (written (ops_in ss)) → HasSome ss → HasSerial ss
+serial_where_distinct ss legal writes (order, some) =
     let orders = subst (λ nodes. Orders nodes order) (settled_nodes some.chosen ss) (orders_from_serial (settled some.chosen ss) order some.serial) in
-    let closed = chosen_closed some.chosen ss order well.legal (Apart-from_IsDistinct (written (ops_in ss)) rules.writes) orders in
+    let closed = chosen_closed some.chosen ss order legal (Apart-from_IsDistinct (written (ops_in ss)) writes) orders in
     let fewer = fewer_chosen some.chosen (taken ss) ss order (taken_closed ss) (taken_least ss some.chosen closed) orders in
     let kept = renumbered (marked some.chosen (taken ss) ss) order in
     (kept, serial_from_orders ss kept (subst (λ nodes. Orders nodes kept) (sym (nodes_are ss)) fewer))
+
+pub serial_where_some : (ss : List ClientSession) → IsWellFormedList ss → HasSome ss → HasSerial ss
+serial_where_some ss well = serial_where_distinct ss well.legal (rules_where_no_fault 1 ss well.sessions).writes
 
 pub some_where_serial : (ss : List ClientSession) → HasSerial ss → HasSome ss
 some_where_serial ss (order, serial) =

@@ -1,16 +1,16 @@
 //! Laws of the definitions, each the contract of a function that does nothing.
 
-ghost use Rattle.std.specs.Prelude.{◌≡◌, ◌≢◌, ◌↔◌, ℕ, ◌≤◌, Bool, IsTrue, List, None};
-ghost use Rattle.std.specs.List.{AllByRecursion};
-ghost use Rattle.session_log.specs.Text.{ClientSession};
+ghost use Rattle.std.specs.Prelude.{◌≡◌, ◌≢◌, ◌↔◌, ℕ, ◌≤◌, Bool, IsTrue, nat_eq, List, None};
+ghost use Rattle.std.specs.List.{AllByRecursion, IsDistinct};
+ghost use Rattle.session_log.specs.Text.{ClientSession, IsLegal};
 ghost use Rattle.session_log.specs.declared.session.Outcome.TheVariants.{Unknown};
 ghost use Rattle.session_log.specs.declared.fault.LogFault.{LogFault};
 ghost use Rattle.session_log.specs.declared.fault.LogFault.TheVariants.{Memory};
 ghost use Rattle.serializability.specs.declared.node.TheConstants.{MAX_NODES};
 ghost use Rattle.serializability.specs.Replay.{IsSerial};
 ghost use Rattle.serializability.specs.Reads.{IsNumbered};
-ghost use Rattle.log_definitions.specs.Unknown.{IsClosed, IsNeeded, IsWithin, settled, taken, resolved, txns_in};
-ghost use Rattle.log_definitions.specs.WellFormed.{IsWellFormed, IsLogFault, KeepsRules, list_fault};
+ghost use Rattle.log_definitions.specs.Unknown.{IsClosed, IsNeeded, IsWithin, settled, taken, resolved, txns_in, ops_in};
+ghost use Rattle.log_definitions.specs.WellFormed.{IsWellFormed, IsLogFault, KeepsRules, list_fault, written};
 ghost use Rattle.log_definitions.specs.Serial.{IsSerialOrder, IsSomeOrder};
 ghost use Rattle.log_definitions.specs.Numbers.{IsWellFormedList, log_of};
 
@@ -83,9 +83,9 @@ pub fn closed_are_all_taken()
         IsWithin chosen (taken ss) → IsClosed ss chosen → settled chosen ss ≡ resolved ss }
 {}
 
-/// Some order of the committed transactions and of some whose outcome was not learnt is serial exactly where some order of the
-/// committed and the taken ones is.
+/// Where no identity is written twice, some order of the committed transactions and of some whose outcome was not learnt is serial
+/// exactly where some order of the committed and the taken ones is.
 pub fn only_the_taken()
-    ensures { (ss : List ClientSession) → IsWellFormedList ss →
+    ensures { (ss : List ClientSession) → AllByRecursion IsLegal ss → IsDistinct nat_eq (written (ops_in ss)) →
         (((order : List ℕ) × IsSomeOrder ss order) ↔ ((order : List ℕ) × IsSerialOrder ss order)) }
 {}

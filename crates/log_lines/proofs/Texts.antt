@@ -16,7 +16,7 @@ use Rattle.session_log.specs.declared.session.Op.{Op}
 use Rattle.session_log.proofs.Lines.{lines-nil, lines-cons, lines-cons_lf}
 use Rattle.session_log.proofs.Whole.{log_by_lines, lines_log}
 use Rattle.serializability.proofs.Places.{each_of_append, each_of_map, each_from_append, each_from_map}
-use Rattle.log_definitions.specs.WellFormed.{log_lines, IsWellFormed}
+use Rattle.log_definitions.specs.WellFormed.{log_lines}
 use Rattle.log_lines.specs.Places.{BeginsAt, IsLineOf, has_no_lf, with_lf}
 
 -- ---- no line of a text has an LF inside
@@ -122,41 +122,41 @@ stands_at n ss session place t line b =
     }
 
 -- a line of the transaction is one of the text
-pub line_of_txn : (text : List ℕ) (ss : List ClientSession) → IsWellFormed text ss → (session place line : ℕ) (t : Transaction) → BeginsAt (first_line (version_of text)) ss session place t line
+pub line_of_txn : (text : List ℕ) (ss : List ClientSession) → AllByRecursion IsLegal ss → text ≡ log_text (version_of text) ss → (session place line : ℕ) (t : Transaction) → BeginsAt (first_line (version_of text)) ss session place t line
     → (fs : List Line) (l : Line) (gs : List Line) (k : ℕ) → txn_lines t ≡ fs ++ l ∷ gs → k ≡ line + length fs → IsLineOf text k l
-line_of_txn text ss well session place line t b fs l gs k split at =
+line_of_txn text ss legal whole session place line t b fs l gs k split at =
     let v = version_of text in
     let s = stands_at (first_line v) ss session place t line b in
     let P : List ℕ → Type 0 = λ bytes. IsLineOf bytes k l in
-    subst P (sym well.lines) (line_stands v ss (s.front ++ fs) l (gs ++ s.back) k well.legal
+    subst P (sym whole) (line_stands v ss (s.front ++ fs) l (gs ++ s.back) k legal
     (s.split ∙ ap (λ ls. s.front ++ (ls ++ s.back)) split ∙ ap (λ ls. s.front ++ ls) (append_assoc fs (l ∷ gs) s.back) ∙ sym (append_assoc s.front fs (l ∷ (gs ++ s.back))))
     (omega (arith, at, s.at, length-append s.front fs)))
 
-pub begin_line : (text : List ℕ) (ss : List ClientSession) → IsWellFormed text ss → (session place line : ℕ) (t : Transaction) → BeginsAt (first_line (version_of text)) ss session place t line
+pub begin_line : (text : List ℕ) (ss : List ClientSession) → AllByRecursion IsLegal ss → text ≡ log_text (version_of text) ss → (session place line : ℕ) (t : Transaction) → BeginsAt (first_line (version_of text)) ss session place t line
     → IsLineOf text line (Begin t.begun)
-begin_line text ss well session place line t b =
-    line_of_txn text ss well session place line t b [] (Begin t.begun) (map op_line t.ops ++ end_line t.outcome t.ended ∷ []) line refl (omega arith)
+begin_line text ss legal whole session place line t b =
+    line_of_txn text ss legal whole session place line t b [] (Begin t.begun) (map op_line t.ops ++ end_line t.outcome t.ended ∷ []) line refl (omega arith)
 
 split_ops : (ops : List Op) (i : ℕ) (op : Op) → slice_get ops i ≡ Some op → (fs : List Op) × ((gs : List Op) × ((ops ≡ fs ++ op ∷ gs) × (length fs ≡ i)))
 split_ops [] i op e = cc
 split_ops (o ∷ ops) zero op e = let same : o ≡ op = cc in ([], (ops, (ap (λ x. x ∷ ops) same, refl)))
 split_ops (o ∷ ops) (suc i) op e = let r = split_ops ops i op e in (o ∷ r.0, (r.1.0, (ap (λ x. o ∷ x) r.1.1.0, omega (arith, r.1.1.1))))
 
-pub operation_line : (text : List ℕ) (ss : List ClientSession) → IsWellFormed text ss → (session place line : ℕ) (t : Transaction) → BeginsAt (first_line (version_of text)) ss session place t line
+pub operation_line : (text : List ℕ) (ss : List ClientSession) → AllByRecursion IsLegal ss → text ≡ log_text (version_of text) ss → (session place line : ℕ) (t : Transaction) → BeginsAt (first_line (version_of text)) ss session place t line
     → (i : ℕ) (op : Op) → slice_get t.ops i ≡ Some op → IsLineOf text (line + 1 + i) (op_line op)
-operation_line text ss well session place line t b i op e =
+operation_line text ss legal whole session place line t b i op e =
     let r = split_ops t.ops i op e in
     let fs = r.0 in
     let gs = r.1.0 in
     let end = end_line t.outcome t.ended ∷ [] in
-    line_of_txn text ss well session place line t b (Begin t.begun ∷ map op_line fs) (op_line op) (map op_line gs ++ end) (line + 1 + i)
+    line_of_txn text ss legal whole session place line t b (Begin t.begun ∷ map op_line fs) (op_line op) (map op_line gs ++ end) (line + 1 + i)
     (ap (λ ops. Begin t.begun ∷ (map op_line ops ++ end)) r.1.1.0
     ∙ ap (λ ls. Begin t.begun ∷ (ls ++ end)) (map-append op_line fs (op ∷ gs))
     ∙ ap (λ ls. Begin t.begun ∷ ls) (append_assoc (map op_line fs) (op_line op ∷ map op_line gs) end))
     (omega (arith, r.1.1.1, length-map fs op_line))
 
-pub ending_line : (text : List ℕ) (ss : List ClientSession) → IsWellFormed text ss → (session place line : ℕ) (t : Transaction) → BeginsAt (first_line (version_of text)) ss session place t line
+pub ending_line : (text : List ℕ) (ss : List ClientSession) → AllByRecursion IsLegal ss → text ≡ log_text (version_of text) ss → (session place line : ℕ) (t : Transaction) → BeginsAt (first_line (version_of text)) ss session place t line
     → IsLineOf text (line + 1 + length t.ops) (end_line t.outcome t.ended)
-ending_line text ss well session place line t b =
-    line_of_txn text ss well session place line t b (Begin t.begun ∷ map op_line t.ops) (end_line t.outcome t.ended) [] (line + 1 + length t.ops) refl
+ending_line text ss legal whole session place line t b =
+    line_of_txn text ss legal whole session place line t b (Begin t.begun ∷ map op_line t.ops) (end_line t.outcome t.ended) [] (line + 1 + length t.ops) refl
     (omega (arith, length-map t.ops op_line))
