@@ -251,6 +251,9 @@ class Judge:
         first = checked[1].split(b'\n')[0]
         if checked[0] == 1 and 'text' in words and got[::2] == checked[::2]:
             fault = explained.fault(log, checked[1].decode(), got[1].decode())
+        elif checked[0] == 2 and 'text' in words:
+            holds = got[::2] == checked[::2] and explained.is_refusal_told(*(text.decode() for text in got[1:]))
+            fault = None if holds else 'wanted %r, and why' % (checked,)
         elif checked[0] > 1:
             fault = None if got == checked else 'wanted %r' % (checked,)
         elif 'dot' in words:

@@ -21,8 +21,10 @@ STRATEGIES = ('first', 'most', 'least', 'forced')
 TRY = 'try --strategy forced --workers 1, then a larger --budget, then a SAT solver on what encode writes'
 NODE, NUMBER, KEY = r'([1-9][0-9]*\.[1-9][0-9]*)', r'([1-9][0-9]*)', r'([A-Za-z0-9_.:/-]+)'
 EDGE = re.compile('%s before %s: (.+)' % (NODE, NODE))
-STEP = re.compile(r'\[%s\] %s: the chain of %s before the chain of %s, since the other way %s stands before %s, against:'
-                  % (NUMBER, KEY, NODE, NODE, NODE, NODE))
+VERSION = r'[1-9][0-9]*, which %s wrote \(line [1-9][0-9]*\)' % NODE
+STEP = re.compile(r'\[%s\] %s: %s, comes before %s:' % (NUMBER, KEY, VERSION, VERSION))
+OTHERWISE = re.compile(r'    (?:%s read [0-9]+ \(line [1-9][0-9]*\)(?:, which goes back to [1-9][0-9]*)?, so otherwise it|otherwise %s) would stand before %s, but'
+                       % (NODE, NODE, NODE))
 CYCLE = re.compile('cycle from %s:' % NODE)
 ORDER = re.compile('%s: the chain of %s first' % (KEY, NODE))
 LEAVES = re.compile('%s cubes are refuted by a cycle; the first 1000 of them:' % NUMBER)
@@ -33,9 +35,9 @@ EVERY_CUBE, MOST_LEAVES = 'not serializable: every cube is refuted', 1000
 READ = re.compile('not serializable: A[1-6] .+ at %s op %s' % (NODE, NUMBER))
 UPDATE = re.compile(r'not serializable: A7 lost update of %s from [0-9.]+ by %s and %s' % (KEY, NODE, NODE))
 # The form of what is said of an edge by its kind, and the colour in a graph.
-KINDS = [('session', 'session %s' % NUMBER, 'black'), ('read', '.+ reads .+, which .+ wrote .+', 'blue'),
+KINDS = [('session', 'session %s' % NUMBER, 'black'), ('read', '.+ reads .+, which %s wrote .+' % NODE, 'blue'),
          ('anti-dependency', '.+ reads .+, and .+ overwrites it with .+', 'red'),
-         ('version order', '.+ belongs to the chain of the initial value, and .+ begins another .+', 'darkgreen'),
+         ('version order', '.+ reads .+, (?:the|which goes back to the) initial value, and .+ wrote .+', 'darkgreen'),
          ('moments', '.+ ended at .+, .+ began at .+', 'purple'), ('forced', r'forced \[%s\]' % NUMBER, 'orange')]
 # What has to be met among the logs, so that each form of line is tried.
 WANTED = ['A1', 'A2', 'A3', 'A4', 'A5', 'A6', 'A7', 'A8', 'A9', 'serializable', 'tree', 'unknown', 'refused', 'A9 forced',
@@ -143,7 +145,22 @@ class Log:
         first, *cycle = checked.split('\n')[:-1]
         names = cycle[0].split(' ')[1:] if cycle else ()
         edges = ['%s before %s: %s' % (a, b, self.reason(a, b)[1]) for a, b in zip(names, names[1:])]
-        return edges or self.said_of_anomaly(first)
+        return edges + ['known as: ' + self.known_as(names)] if edges else self.said_of_anomaly(first)
+
+    def known_as(self, names):
+        """The name of a cycle, by the kinds of its edges."""
+        kinds = [self.reason(a, b)[0] for a, b in zip(names, names[1:])]
+        missed = kinds.count('anti-dependency') + kinds.count('version order')
+        by_order = lambda none, session, moments: moments if 'moments' in kinds else session if 'session' in kinds else none
+        if not missed and 'read' not in kinds:
+            return 'sessions and moments that contradict each other'
+        if not missed:
+            return by_order(*('circular information flow (G1c%s)' % end for end in ('', '-process', '-realtime')))
+        if missed == 1 and len(kinds) == 2 and 'read' not in kinds:
+            return by_order(None, 'stale read in a session (G-single-process)', 'stale read (G-single-realtime)')
+        if missed == 1:
+            return by_order('read skew (G-single)', 'G-single-process', 'G-single-realtime')
+        return 'write skew (G2-item)' if len(kinds) == 2 else by_order('G2-item', 'G2-item-process', 'G2-item-realtime')
 
     # ---- an edge
 
@@ -177,10 +194,11 @@ class Log:
 
     def by_version_order(self, a, b):
         for write in b.ops:
-            seen = [read.wid for read in a.reads(write.key)[:1]]
-            if write.kind == 'w' and not b.reads(write.key) and seen and seen[0] in self.initial_chain(write.key):
-                said = (write.key, a.name, b.name, write.line)
-                yield '%s: %s belongs to the chain of the initial value, and %s begins another (line %d)' % said
+            for read in a.reads(write.key)[:1] if write.kind == 'w' and not b.reads(write.key) else ():
+                if read.wid in self.initial_chain(write.key):
+                    goes = 'which goes back to the' if read.wid else 'the'
+                    said = (a.name, read.key, read.wid, read.line, goes, b.name, write.key, write.wid, write.line)
+                    yield '%s reads %s %d (line %d), %s initial value, and %s wrote %s %d (line %d)' % said
 
     def by_moments(self, a, b):
         if None not in (a.ended, b.begun) and a.ended < b.begun:
@@ -200,6 +218,17 @@ class Log:
 
     def begins_chain(self, it, key):
         return it in self.nodes and it.writes(key) and not it.reads(key)
+
+    def said_of_step(self, number, key, first, second, u, v):
+        """The two lines of a step: the versions that the first writers of two chains leave, and whom the other order would let stand before
+        whom, by its first read of the key."""
+        left = [self.named[name].writes(key)[-1] for name in (first, second)]
+        versions = ['%d, which %s wrote (line %d)' % (op.wid, name, op.line) for op, name in zip(left, (first, second))]
+        said = 'otherwise ' + u
+        for read in [op for op in self.named[u].ops if (op.kind, op.key) == ('r', key)][:1]:
+            back = '' if read.wid == left[1].wid else ', which goes back to %d' % left[1].wid
+            said = '%s read %d (line %d)%s, so otherwise it' % (u, read.wid, read.line, back)
+        return ['[%s] %s: %s, comes before %s:' % (number, key, *versions), '    %s would stand before %s, but' % (said, v)]
 
     def side(self, key, first, second):
         """The edges of: the chain that begins with the first before the one that begins with the second."""
@@ -257,7 +286,7 @@ class Telling:
             step = self.next(STEP)
             if step is None:
                 break
-            self.judge_step(*step)
+            self.judge_step(*step, *(self.next(OTHERWISE) or (None, None, None)))
         count = len(self.steps)
         if self.what == 'A9':
             self.cycle([])
@@ -268,10 +297,14 @@ class Telling:
         told(not self.rest(), 'more behind the end: %r' % self.rest())
         told(self.used == set(range(1, count + 1)), 'steps that nothing needs')
 
-    def judge_step(self, number, key, first, second, u, v):
-        where = 'step %s' % number
+    def judge_step(self, number, key, first, second, reader, other, v):
+        where, place, u = 'step %s' % number, self.at, reader or other
+        told(v, '%s: nothing that stands otherwise at %r' % (where, self.rest()))
         told(int(number) == len(self.steps) + 1, '%s stands at place %d' % (where, len(self.steps) + 1))
         self.two_chains(where, key, first, second)
+        told(u in self.log.named, '%s: no transaction %s' % (where, u))
+        right = self.log.said_of_step(number, key, first, second, u, v)
+        told(self.lines[place - 2:place] == right, '%s: wanted %r' % (where, right))
         told((u, v) in self.log.side(key, second, first), '%s: the other side has no such edge' % where)
         walk = self.edges(where, [])
         told((walk[0][0], walk[-1][1]) == (v, u), '%s: the walk leads from %s to %s' % (where, walk[0][0], walk[-1][1]))
@@ -336,7 +369,7 @@ class Telling:
 
     def edges(self, where, decided):
         """The edges that stand next, each with what it rests on. Each has its line, and begins where the one before it ends."""
-        found = []
+        found, before = [], None
         while True:
             edge = self.next(EDGE, len(decided))
             if edge is None:
@@ -348,6 +381,8 @@ class Telling:
             kind, rights = self.rights((a, b), decided)
             told(rights, '%s: %s before %s: no reason, no step and no order' % (where, a, b))
             told(said in rights, '%s: %s before %s: %s: wanted %s' % (where, a, b, said, ' or '.join(rights)))
+            told(not (before == kind == 'session'), '%s: %s before %s: a run of one session in two lines' % (where, a, b))
+            before = kind
             self.used |= {rights[said]} if kind == 'forced' else set()
             self.met['%s %s' % (self.what if decided or self.what == 'A9' else 'step', kind)] += 1
             self.met['an order of 2 decided above'] += len(rights) > 1
@@ -386,8 +421,9 @@ def judge(text, checked, explained):
     right = log.said_behind(checked)
     told(lines == right, 'wanted %r' % right)
     if code == 'A8':
-        met += collections.Counter('A8 ' + log.reason(*EDGE.fullmatch(line).groups()[:2])[0] for line in lines)
-        met['A8 of 4 edges or more'] += len(lines) > 3
+        met += collections.Counter('A8 ' + log.reason(*EDGE.fullmatch(line).groups()[:2])[0] for line in lines[:-1])
+        met['A8 of 4 edges or more'] += len(lines) > 4
+        met[lines[-1]] += 1
     return met
 
 
@@ -463,6 +499,9 @@ def spoilt(r, text, checked, explained):
         a, b, _ = EDGE.fullmatch(bare[n]).groups()
         for _, also in log.reasons(a, b)[1:]:
             yield 'a reason that holds too, and is not the first', instead(n, '%s before %s: %s' % (a, b, also))
+        for it in log.nodes if cycles else ():
+            if log.reason(a, it.name)[0] == log.reason(it.name, b)[0] == 'session':
+                yield 'a run in two lines', instead(n, *('%s before %s: session %s' % (*two, it.session) for two in ((a, it.name), (it.name, b))))
         for it in log.transactions:
             if it not in log.nodes and log.reason(a, it.name)[0] == log.reason(it.name, b)[0] == 'session':
                 way = ((a, it.name), (it.name, b))
@@ -483,17 +522,27 @@ def spoilt(r, text, checked, explained):
     if not steps:
         return
     n = r.choice(steps)
-    behind = next(m for m in range(n + 1, len(lines)) if m not in edges)
-    number, key, first, second, u, v = STEP.fullmatch(lines[n]).groups()
-    step = lambda *words: '[%s] %s: the chain of %s before the chain of %s, since the other way %s stands before %s, against:' % words
+    behind = next(m for m in range(n + 2, len(lines)) if m not in edges)
+    number, key, first, second = STEP.fullmatch(lines[n]).groups()
+    reader, other, v = OTHERWISE.fullmatch(lines[n + 1]).groups()
+    u, both = reader or other, lines[n:n + 2]
+
+    def stepped(*those):
+        return lines[:n] + list(those) + lines[n + 2:]
+
     yield 'a step is missing', without(n, behind)
     yield 'a step is missing, and the others renamed', renamed(without(n, behind), -1, int(number) - 1)
     yield 'a step stands twice', renamed(lines[:behind], 0) + renamed(lines[n:], 1, int(number) - 1)
-    yield 'a step without its walk', without(n + 1, behind)
-    yield 'the chains are exchanged', instead(n, step(number, key, second, first, u, v))
-    yield 'what is refuted is turned round', instead(n, step(number, key, first, second, v, u))
-    yield 'another number', instead(n, step(int(number) + 1, key, first, second, u, v))
-    yield 'another key', instead(n, step(number, key + '_', first, second, u, v))
+    yield 'a step without its walk', without(n + 2, behind)
+    yield 'a step without its second line', without(n + 1)
+    yield 'the versions are exchanged', stepped(*log.said_of_step(number, key, second, first, u, v))
+    yield 'what is refuted is turned round', stepped(*log.said_of_step(number, key, first, second, v, u))
+    yield 'another number', stepped(*log.said_of_step(int(number) + 1, key, first, second, u, v))
+    yield 'another key', stepped(both[0].replace('] %s: ' % key, '] %s_: ' % key), both[1])
+    for place in (0, 1):
+        for at in [found.start() for found in re.finditer(r'[0-9]+(?=, which|[)]|$| \(line)', both[place])]:
+            spoilt_line = both[place][:at] + '9' + both[place][at:]
+            yield 'another number in a step', stepped(*(both[:place] + [spoilt_line] + both[place + 1:]))
     yield 'all numbers one higher', renamed(lines, 1)
 
 
@@ -587,34 +636,41 @@ BY_HAND = [
             '3.1 overwrites it with 8 (line 16)'),
     # session, over an aborted one, and read
     by_hand('session 1, begin, r x 1, commit, begin, w x 9, abort, begin, w x 1, commit', 'A8 cycle of known edges', 'cycle 1.1 1.3 1.1',
-            '1.1 before 1.3: session 1', '1.3 before 1.1: 1.1 reads x 1 (line 3), which 1.3 wrote (line 9)'),
+            '1.1 before 1.3: session 1', '1.3 before 1.1: 1.1 reads x 1 (line 3), which 1.3 wrote (line 9)',
+            'known as: circular information flow (G1c-process)'),
     # anti-dependencies, of the least key, with the first operations
     by_hand('session 1, begin, w b 1, abort, session 2, begin, r a 0, r a 0, r b 0, w a 2, w a 3, w b 4, w b 8, r c 0, r c 0, commit, '
             'session 3, begin, r c 0, w c 5, w c 9, w d 7, r b 0, r b 0, r a 0, commit, session 4, begin, r a 0, w a 6, abort',
             'A8 cycle of known edges', 'cycle 2.1 3.1 2.1',
             '2.1 before 3.1: 2.1 reads c 0 (line 14), and 3.1 overwrites it with 5 (line 20)',
-            '3.1 before 2.1: 3.1 reads b 0 (line 23), and 2.1 overwrites it with 4 (line 12)'),
+            '3.1 before 2.1: 3.1 reads b 0 (line 23), and 2.1 overwrites it with 4 (line 12)',
+            'known as: write skew (G2-item)'),
     # version order, behind a chain of two writers, with the first operation and not the least key
     by_hand('session 1, begin, r z 0, r x 0, w x 1, commit, session 2, begin, r x 1, w x 2, r y 4, r z 0, commit, '
             'session 3, begin, w x 3, w z 9, w y 4, commit', 'A8 cycle of known edges', 'cycle 2.1 3.1 2.1',
-            '2.1 before 3.1: x: 2.1 belongs to the chain of the initial value, and 3.1 begins another (line 16)',
-            '3.1 before 2.1: 2.1 reads y 4 (line 11), which 3.1 wrote (line 18)'),
+            '2.1 before 3.1: 2.1 reads x 1 (line 9), which goes back to the initial value, and 3.1 wrote x 3 (line 16)',
+            '3.1 before 2.1: 2.1 reads y 4 (line 11), which 3.1 wrote (line 18)',
+            'known as: read skew (G-single)'),
     # a read, an anti-dependency and moments one way, an anti-dependency and the order of versions the other
     by_hand('log 3, session 1, begin 1, w x 1, r y 0, r u 0, w u 2, w v 3, commit 3, session 2, begin 5, r v 0, r u 0, r y 0, w y 4, r x 1, '
             'r x 1, commit 6', 'A8 cycle of known edges', 'cycle 1.1 2.1 1.1',
             '1.1 before 2.1: 2.1 reads x 1 (line 16), which 1.1 wrote (line 4)',
-            '2.1 before 1.1: 2.1 reads u 0 (line 13), and 1.1 overwrites it with 2 (line 7)'),
+            '2.1 before 1.1: 2.1 reads u 0 (line 13), and 1.1 overwrites it with 2 (line 7)',
+            'known as: read skew (G-single)'),
     # the order of versions, and moments
     by_hand('log 3, session 1, begin 1, r x 0, r y 2, commit 3, session 2, begin 5, w x 1, w y 2, commit 6',
             'A8 cycle of known edges', 'cycle 1.1 2.1 1.1',
-            '1.1 before 2.1: x: 1.1 belongs to the chain of the initial value, and 2.1 begins another (line 9)',
-            '2.1 before 1.1: 1.1 reads y 2 (line 5), which 2.1 wrote (line 10)'),
+            '1.1 before 2.1: 1.1 reads x 0 (line 4), the initial value, and 2.1 wrote x 1 (line 9)',
+            '2.1 before 1.1: 1.1 reads y 2 (line 5), which 2.1 wrote (line 10)',
+            'known as: read skew (G-single)'),
     # moments
     by_hand('log 3, session 5, begin 7, r x 1, commit 8, session 6, begin 9, w x 1, commit 10', 'A8 cycle of known edges', 'cycle 5.1 6.1 5.1',
-            '5.1 before 6.1: 5.1 ended at 8 (line 5), 6.1 began at 9 (line 7)', '6.1 before 5.1: 5.1 reads x 1 (line 4), which 6.1 wrote (line 8)'),
+            '5.1 before 6.1: 5.1 ended at 8 (line 5), 6.1 began at 9 (line 7)', '6.1 before 5.1: 5.1 reads x 1 (line 4), which 6.1 wrote (line 8)',
+            'known as: circular information flow (G1c-realtime)'),
     # the session of two comes before what one reads of the other
     by_hand('session 1, begin, w x 1, r y 2, commit, begin, r x 1, w y 2, commit', 'A8 cycle of known edges', 'cycle 1.1 1.2 1.1',
-            '1.1 before 1.2: session 1', '1.2 before 1.1: 1.1 reads y 2 (line 4), which 1.2 wrote (line 8)'),
+            '1.1 before 1.2: session 1', '1.2 before 1.1: 1.1 reads y 2 (line 4), which 1.2 wrote (line 8)',
+            'known as: circular information flow (G1c-process)'),
 ]
 
 
@@ -861,13 +917,22 @@ def is_order(text, said):
     return all(name in history.names for name in names) and history.is_serial([history.names.index(name) for name in names])
 
 
+def is_refusal_told(said, refusal):
+    """Whether this may be said in words of a log on standard input that is refused so: its line and code, where the log has a fault."""
+    fault = re.fullmatch('refused: (L[0-9]+)(?: line ([0-9]+)| ([a-z-]+))\n', refusal)
+    if not fault:
+        return not said
+    front, behind = '-:%s: ' % fault[2] if fault[2] else '-: ', ' (%s)\n' % (fault[1] + (' ' + fault[3] if fault[3] else ''))
+    return said.startswith(front) and said.endswith(behind) and said.count('\n') == 1
+
+
 def said_of(program, text, *words):
     """What `check` answers with these words, what `explain` prints, and what is met there; else Wrong."""
     checked, explained = call(program, text, 'check', *words), call(program, text, 'explain', *words)
     told(checked[0] < 4, 'check ends with %d, %r' % checked[::2])
     told((explained[0], explained[2]) == (checked[0], checked[2]), 'ends with %d, %r, and check with %d, %r' % (*explained[::2], *checked[::2]))
     if checked[0] == 2:
-        told(not explained[1], 'refused, and says %r' % explained[1])
+        told(is_refusal_told(explained[1], explained[2]), 'refused, and says %r' % explained[1])
         return checked, '', collections.Counter(['refused'])
     if checked[0] == 0 and checked[1] != explained[1] and '4' in words:
         told(is_order(text, explained[1]), 'another order, and not a serial one')

@@ -22,9 +22,10 @@ ORDER = b'1 1\n3 1\n2 1\n'
 GRAPH = b'// serializable\nstrict digraph explanation {\nnode [shape=box];\n}\n'
 BOTH = [(0, b'serializable\n' + order, b'') for order in (b'1 1\n3 1\n2 1\n', b'2 1\n1 1\n3 1\n')]
 INPUT, OUTPUT, NO_MEMORY = (5, b'', b'device failed: input\n'), (5, b'', b'device failed: output\n'), (4, b'', b'out of memory\n')
+# A user who runs nothing else: a limit of threads counts all that its user runs, and other tests run servers as nobody meanwhile.
+ALONE = 40000 + os.getpid() % 20000
 LETTERS = 'ABCDEFGHIJKLMNOPQRSTUVWXYZabcdefghijklmnopqrstuvwxyz0123456789_.:/-'
 COUNTS = (b'sessions', b'committed', b'aborted', b'unknown', b'taken', b'keys', b'operations')
-NOBODY = 65534
 # The status of the system's loader where it finds no room for the libraries, before the program begins.
 UNLOADED = 127
 # Cases that the program does not pass today, by the first words of their names; they run with --all.
@@ -268,7 +269,7 @@ class Runs:
                  ('a file below a file', self.paths['log'] + '/log', {}), ('a name too long', 'n' * 5000, {}),
                  ('a file that fails', '/proc/self/mem', {})]
         if os.getuid() == 0:
-            words.append(('an unreadable file', unreadable, {'preexec_fn': self.nobody}))
+            words.append(('an unreadable file', unreadable, {'preexec_fn': self.become_another}))
         else:
             words.append(('an unreadable file', unreadable, {}))
         for name, path, means in words:
@@ -308,10 +309,10 @@ class Runs:
         got = self.answer(call, preexec_fn=lambda: os.close(1))
         return None if got == OUTPUT else '%r: %s, wanted %s' % (call, shown(got), shown(OUTPUT))
 
-    def nobody(self):
+    def become_another(self):
         os.setgroups([])
-        os.setgid(NOBODY)
-        os.setuid(NOBODY)
+        os.setgid(ALONE)
+        os.setuid(ALONE)
 
     # ---- limits
 
@@ -339,7 +340,7 @@ class Runs:
         def limit(count):
             def before():
                 resource.setrlimit(resource.RLIMIT_NPROC, (count, count))
-                self.nobody()
+                self.become_another()
             return before
         for words, wanted in list(self.own_calls()) + [(words, [wanted]) for words, wanted in self.large_calls() if words[0] != 'explain']:
             for count in list(range(1, 8)) + [17, 18, 1000]:

@@ -76,7 +76,7 @@ def main():
         if not whole(path, crate):
             wrong.append('%s of %s: an old text does not stand once in its file' % (name, crate))
     told = re.search(r'`crates/CRATE/must-fail/`: (\d+) in (\w+) crates.*?`edits/CRATE/`: (\d+)\.', page, re.S)
-    words = 'no one two three four five six seven eight nine ten eleven twelve thirteen fourteen fifteen sixteen'.split()
+    words = 'no one two three four five six seven eight nine ten eleven twelve thirteen fourteen fifteen sixteen seventeen eighteen nineteen twenty'.split()
     numbers = (str(len(gate)), words[len({crate for crate, _ in gate})], str(len(beside)))
     if told is None or told.groups() != numbers:
         wrong.append('the page tells %s edits in the gate, in %s crates, and %s beside it; there are %s, in %s, and %s' % (*(told.groups() if told else ('no',) * 3), *numbers))

@@ -4,8 +4,9 @@
 PostgreSQL and Redis are started here, as a user that is not root, with all that they have in a temporary folder and on a socket in it;
 where a package of Debian's is missing it is installed, and what cannot be had is passed over, with a note. At each level where a store
 promises to be serializable each log must be found so, also where connections are cut; of each level below some log must be refused.
-Last line: 'stores: N passed, M failed'."""
-import contextlib, os, pwd, shutil, subprocess, sys, tempfile, time
+Logs are judged by `audit`, where the program has it, and then a long one of each sound level is too; for each level a line says how many
+transactions, seconds and pieces there were. Last line: 'stores: N passed, M failed'."""
+import contextlib, os, pwd, re, shutil, subprocess, sys, tempfile, time
 
 TOP = os.path.dirname(os.path.dirname(os.path.abspath(__file__)))
 PACKAGES = {'initdb': 'postgresql-15', 'redis-server': 'redis-server', 'psycopg2': 'python3-psycopg2'}
@@ -145,9 +146,18 @@ class Checks:
         return run([python, os.path.join(TOP, 'collect', name), *address, *words, *size, self.log], timeout=600)
 
     def judged(self):
-        """The status and the first line of what the program says of the log."""
+        """The status and the first line of what the program says of the log; whether they belong together; and its figures."""
+        began = time.monotonic()
         ran = run([self.program, *(AUDIT if self.has_audit else CHECK), self.log], timeout=600)
-        return ran.returncode, ran.stdout.partition('\n')[0]
+        figures = ', judged in %.1f s' % (time.monotonic() - began)
+        said, _, rest = ran.stdout.partition('\n')
+        if not self.has_audit:
+            return ran.returncode, said, True, figures
+        right = {0: said == 'serializable', 1: said == 'not serializable', 3: said.startswith('unknown: ')}.get(ran.returncode, False)
+        counts = dict(re.findall(r'^(\w+) (\d+)$', rest, re.M))
+        told = [counts.get(name, '?') for name in ('committed', 'taken', 'pieces', 'largest')]
+        figures = ', %s committed, %s taken, pieces: %s, the largest of %s' % tuple(told) + figures
+        return ran.returncode, said, right and '?' not in told, figures
 
     def way(self, store, collector, words, is_serializable):
         """Runs of one way, small ones, and where the program takes it a large one."""
@@ -165,10 +175,11 @@ class Checks:
                 self.expect(False, '%s: %s' % (name, collected.stdout))
                 continue
             took = time.monotonic() - began
-            status, said = self.judged()
+            status, said, right, figures = self.judged()
             with open(self.log) as log:
                 unknown = sum(line == 'unknown\n' for line in log)
-            answers.append('%d in %.1f s, %d unknown, %s' % (count, took, unknown, said[:40]))
+            answers.append('%d in %.1f s, %d unknown, %s%s' % (count, took, unknown, said[:40], figures))
+            self.expect(right, '%s: status %d, %s' % (name, status, answers[-1]))
             self.expect(unknown == 0 or '--kill' in words, '%s: %d unknown' % (name, unknown))
             refused = refused or status == 1
             # unknown is no answer

@@ -125,8 +125,6 @@ class Scene:
         ends = [(history.lines_of(name, edge.lines) or [None])[-1] for name in (edge.first, edge.second)]
         if edge.kind in ('forced', 'decided'):
             ends = self.ends_by_key(edge.first, edge.second, self.key_of(edge, steps))
-        elif edge.kind == 'version order':
-            ends[0] = history.first(edge.first, 'r', edge.parts[0])[0]
         seen, new = (history.at.get(line, (None, '', '')) for line in ends)
         words = words_of(edge, seen[1:], new[1:], steps)
         link = '#step-%d' % edge.step if edge.step else ''

@@ -11,18 +11,21 @@ ROUND = re.compile(r'cycle((?: [0-9]+\.[0-9]+)+)')
 READ = re.compile('not serializable: A[1-6] .+ at %s op %s' % (NODE, NUMBER))
 UPDATE = re.compile(r'not serializable: A7 lost update of %s from [0-9.]+ by %s and %s' % (KEY, NODE, NODE))
 EDGE = re.compile('%s before %s: (.+)' % (NODE, NODE))
-STEP = re.compile(r'\[%s\] %s: the chain of %s before the chain of %s, since the other way %s stands before %s, against:'
-                  % (NUMBER, KEY, NODE, NODE, NODE, NODE))
+VERSION = r'([0-9]+), which %s wrote \(line %s\)' % (NODE, NUMBER)
+STEP = re.compile(r'\[%s\] %s: %s, comes before %s:' % (NUMBER, KEY, VERSION, VERSION))
+OTHERWISE = re.compile(r'    (?:%s read [0-9]+ \(line %s\)(?:, which goes back to [0-9]+)?, so otherwise it|otherwise %s) would stand before %s, but'
+                       % (NODE, NUMBER, NODE, NODE))
 CYCLE = re.compile('cycle from %s:' % NODE)
 ORDER = re.compile('%s: the chain of %s first' % (KEY, NODE))
+KNOWN = re.compile('known as: (.+)')
 LEAVES = re.compile('%s cubes are refuted by a cycle; the first 1000 of them:' % NUMBER)
 # Where a line of an anomaly names a transaction.
 TELLS = re.compile('(?:^|, which )%s (?=reads |read |wrote |overwrites )' % NODE)
 # The kinds of what is said of an edge, by its form; the first that fits.
 KINDS = [('session', re.compile('session %s' % NUMBER)), ('forced', re.compile(r'forced \[%s\]' % NUMBER)), ('decided', ORDER),
-         ('read', re.compile('.+ reads .+, which .+ wrote .+')),
+         ('read', re.compile('.+ reads .+, which [1-9][0-9.]+ wrote .+')),
          ('anti-dependency', re.compile('.+ reads .+, and .+ overwrites it with .+')),
-         ('version order', re.compile('%s: .+ belongs to the chain of the initial value, and .+ begins another .+' % KEY)),
+         ('version order', re.compile('.+ reads %s [0-9]+ .+, (?:the|which goes back to the) initial value, and .+ wrote .+' % KEY)),
          ('moments', re.compile('.+ ended at ([0-9]+) .+, .+ began at ([0-9]+) .+'))]
 # The code of a log of which every cube is refuted: it has none of its own.
 TREE = 'tree'
@@ -61,7 +64,7 @@ class Cycle:
 
 @dataclass
 class Step:
-    """Of a key, the chain of `first` is kept before that of `second`: the other way `late` would stand before `first`, against the walk."""
+    """Of a key, the version of `first` comes before that of `second`: the other way `late` would stand before `first`, against the walk."""
     line: int
     number: int
     key: str
@@ -90,6 +93,7 @@ class Explanation:
     behind: int = 2
     steps: List[Step] = field(default_factory=list)
     cycle: Optional[Cycle] = None
+    known_as: Optional[str] = None
     leaves: List[Tuple[List[Order], Cycle]] = field(default_factory=list)
     count: Optional[int] = None
 
@@ -150,8 +154,13 @@ class Reader:
             step = self.next(STEP)
             if step is None:
                 return found
-            line, number, key, first, second, late, _ = step
-            found.append(Step(line, int(number), key, first, second, late, self.lines[line - 1], self.edges()))
+            other = self.next(OTHERWISE)
+            if other is None:
+                self.at -= 1
+                return found
+            line, number, key, _, first, _, _, second, _ = step
+            late = other[1] or other[3]
+            found.append(Step(line, int(number), key, first, second, late, ' '.join(part.strip() for part in self.lines[line - 1:line + 1]), self.edges()))
 
     def leaves(self):
         """The cycles of a tree, each with the orders that are decided above it."""
@@ -193,6 +202,8 @@ def read(text):
     if it.code == 'A8':
         cycle = reader.next(ROUND)
         it.cycle = cycle and Cycle(cycle[0], reader.edges())
+        known = reader.next(KNOWN)
+        it.known_as = known and known[1]
     elif it.code in ('A9', TREE):
         it.steps = reader.steps()
         if it.code == 'A9':

@@ -122,7 +122,7 @@ pub fn read_all<S: Source>(
     ensures memory { IsErrOf result ReadFault.Memory
         → S.failures source.new ≡ S.failures source.old }
 {
-    let mut text = Vec::with_capacity(alloc, limit + 1)?;
+    let mut text = Vec::new(alloc);
     let mut piece = vec![in alloc; 0u8; PIECE]?;
     while text.len() <= limit {
         let room = (limit + 1 - text.len()).min(piece.len());

@@ -4,3 +4,4 @@ pub mod Answering
 pub mod Counting
 pub mod OneFormula
 pub mod Statuses
+pub mod OneVerified

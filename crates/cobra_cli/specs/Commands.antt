@@ -1,5 +1,5 @@
 -- What each command says of sessions, and why it is refused.
-use Rattle.std.specs.Prelude.{◌≡◌, ℕ, List, codes, None, Some, Bool}
+use Rattle.std.specs.Prelude.{◌≡◌, ℕ, List, codes, None, Some, Bool, true, false}
 use Rattle.session_log.specs.Text.{ClientSession}
 use Rattle.session_log.specs.declared.version.Version.{Version}
 use Rattle.serializability.specs.declared.literal.Literal.{Literal}
@@ -16,6 +16,7 @@ use Rattle.dimacs.specs.declared.status.Status.TheVariants as claim
 use Rattle.dimacs.specs.Answer as answer
 use Rattle.order_text.specs.Text.{order_text, AreNodes}
 use Rattle.order_text.specs.Faults as listing
+use Rattle.order_text.specs.declared.fault.OrderFault.TheVariants as listing_fault
 use Rattle.decode_order.specs.declared.fault.ReplayFault.TheVariants.{NotAPermutation, SessionOrder, MomentOrder, ReadMismatch}
 use Rattle.decode_order.specs.Replaying.{replay_fault}
 use Rattle.cobra_formulas.specs.declared.basis.Basis.{Basis}
@@ -137,6 +138,12 @@ pub record IsReplayRefused (given : List ℕ) (ss : List ClientSession) (f : Fau
 abbrev pub IsNotVerified : List ℕ → Fault → List ClientSession → Type 0
 IsNotVerified given (fault.Order e) ss = listing.IsOrderFault e (listing.order_fault ss given)
 IsNotVerified given f ss = IsReplayRefused given ss f
+
+-- want of memory, which may come in place of any other refusal
+abbrev pub is_memory : Fault → Bool
+is_memory fault.Memory = true
+is_memory (fault.Order listing_fault.Memory) = true
+is_memory _ = false
 
 -- ---- stats
 

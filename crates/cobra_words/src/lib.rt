@@ -1,6 +1,13 @@
-//! The words of the command line.
+//! The words of the command line, read by `clap`.
 #![tactic(auto)]
 
-mod words;
+mod answers;
+mod commands;
+mod options;
+mod reading;
+mod request;
 
-pub use words::{Command, FormatWord, Request, StrategyWord, Words, words_of};
+pub use reading::words_of;
+pub use request::{
+    AuditWords, Command, FormatWord, PiecesWord, ReportWord, Request, StrategyWord, Words,
+};

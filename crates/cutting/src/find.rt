@@ -8,18 +8,14 @@ use session_log::{Key, MAX_KEYS, MAX_LOG_BYTES, MAX_OPERATIONS, MAX_SESSIONS, Op
 use std::alloc::{AllocError, Global};
 use std::collections::{BTreeMap, BTreeSet};
 
-/// A moment that no log states.
-const NEVER: u64 = u64::MAX;
-
 /// A transaction of the log: its session, its place there, the latest moment at which it or a node before it in its session is said to
-/// have begun (0 where none is), and the least one at which it ended, or a node that is known to come behind it (`NEVER` where none is
-/// said).
+/// have begun (0 where none is), and the least one at which it ended, or a node that is known to come behind it, where one is said.
 #[derive(Clone, Copy)]
 struct Spot {
     session: usize,
     txn: usize,
     since: u64,
-    over: u64,
+    over: Option<u64>,
 }
 
 /// A write of a node: its identity, and its transaction among those of the log.
@@ -56,7 +52,7 @@ fn spots_of(alloc: Global, sessions: &[Session]) -> Result<Vec<Spot>, AllocError
                 session,
                 txn,
                 since,
-                over: NEVER,
+                over: None,
             })?;
         }
     }
@@ -119,10 +115,10 @@ fn mark(
     let session = spots[spot].session;
     for back in 0..spot + 1 {
         let i = spot - back;
-        if i >= spots.len() || spots[i].session != session || spots[i].over != NEVER {
+        if i >= spots.len() || spots[i].session != session || spots[i].over.is_some() {
             break;
         }
-        spots[i].over = moment;
+        spots[i].over = Some(moment);
         todo.push(i)?;
     }
     Ok(())
@@ -185,6 +181,22 @@ fn marked(alloc: Global, sessions: &[Session]) -> Result<Vec<Spot>, AllocError> 
     Ok(spots)
 }
 
+/// The later moment, where both are known.
+fn later(one: Option<u64>, other: Option<u64>) -> Option<u64> {
+    match (one, other) {
+        (Some(one), Some(other)) => Some(one.max(other)),
+        _ => None,
+    }
+}
+
+/// Whether the moment is known, and before the other.
+fn is_before(over: Option<u64>, moment: u64) -> bool {
+    match over {
+        Some(over) => over < moment,
+        None => false,
+    }
+}
+
 /// By the moments since which transactions come, whether all nodes before each one are over before its moment, and this is later than
 /// that of the one before it.
 fn cuttable(
@@ -194,15 +206,15 @@ fn cuttable(
 ) -> Result<Vec<bool>, AllocError> {
     let mut cuttable = Vec::with_capacity(alloc, by_since.len())?;
     let mut since = 0;
-    let mut over = 0;
+    let mut over = Some(0);
     let mut is_first = true;
     for spot in by_since {
-        cuttable.push(!is_first && since < spot.since && over < spot.since)?;
+        cuttable.push(!is_first && since < spot.since && is_before(over, spot.since))?;
         is_first = false;
         since = spot.since;
         if let Some(txn) = txn_at(sessions, *spot) {
             if is_committed(txn) {
-                over = over.max(spot.over);
+                over = later(over, spot.over);
             }
         }
     }
@@ -262,8 +274,12 @@ impl<'a> Size<'a> {
         self.bytes = self.bytes.saturating_add(bytes);
     }
 
+    /// No more are counted than show that there are too many.
     fn add_keys(&mut self, ops: &'a [Op]) -> Result<(), AllocError> {
         for op in ops {
+            if self.keys.len() > MAX_KEYS {
+                break;
+            }
             let (Op::Read { key, .. } | Op::Write { key, .. }) = op;
             self.keys.insert(key)?;
         }
@@ -331,7 +347,7 @@ impl<'a> Size<'a> {
     }
 }
 
-/// Where the next piece ends that begins here, where a cut follows.
+/// Where the next piece ends that begins here, where a cut follows. Each piece has a node.
 fn next_cut<'a>(
     sessions: &'a [Session],
     by_since: &[Spot],
@@ -342,7 +358,7 @@ fn next_cut<'a>(
 ) -> Result<Option<usize>, AllocError> {
     let mut last = None;
     for at in start..by_since.len() {
-        if at > start && at < cuttable.len() && cuttable[at] {
+        if size.nodes > 0 && at < cuttable.len() && cuttable[at] {
             if size.is_too_large() {
                 return Ok(last.or(Some(at)));
             }
@@ -431,12 +447,10 @@ pub fn proposals(
             piece = 0;
             count = 0;
         }
-        for moment in &moments[piece.min(moments.len())..] {
-            if *moment > spot.since {
-                break;
-            }
+        let behind = moments.partition_point(|moment| *moment <= spot.since);
+        if behind > piece {
             add_count(proposed, piece, session, count)?;
-            piece = piece.saturating_add(1);
+            piece = behind;
             count = 0;
         }
         count = count.saturating_add(1);

@@ -13,3 +13,4 @@ mod split;
 
 pub use cuts::cut;
 pub use part::{Cuts, Part, Piece};
+pub use split::uncut;

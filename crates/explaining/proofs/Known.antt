@@ -138,7 +138,7 @@ inner_reasoned ss clean a b lo c =
 initial_reasoned : (ss : List ClientSession) → IsClean (log_of ss) → (a b : ℕ) → 0 < a → Contains (initial_first (log_of ss)) (a, b) → HasReason ss a b
 initial_reasoned ss clean a b lo c =
     let r = initial_reason ss clean a b lo c in
-    record { first = r.1.first; second = r.1.second; reasoned = λ none. none.initial r.0 r.1 }
+    record { first = r.1.1.first; second = r.1.1.second; reasoned = λ none. none.initial r.0 r.1.0 r.1.1 }
 
 known_reasoned : (ss : List ClientSession) → IsClean (log_of ss) → (a b : ℕ) → 0 < a → Contains (chain_polygraph (log_of ss)).known (a, b) → HasReason ss a b
 known_reasoned ss clean a b lo c =

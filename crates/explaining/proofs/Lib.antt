@@ -3,3 +3,4 @@ pub mod Labels
 pub mod Lines
 pub mod Premises
 pub mod Tellable
+pub mod LeftOver

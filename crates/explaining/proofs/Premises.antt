@@ -1,5 +1,5 @@
 -- What is known of a history where its answer is to be explained.
-use Rattle.std.proofs.Common.{◌≡◌, ℕ, ◌+◌, ◌<◌, ◌≤◌, ◌^◌, List, length, ap, ◌∙◌, arith}
+use Rattle.std.proofs.Common.{◌≡◌, ℕ, ◌+◌, ◌<◌, ◌≤◌, ◌^◌, List, [], length, ap, ◌∙◌, arith}
 use Rattle.session_log.specs.Text.{ClientSession}
 use Rattle.session_log.specs.Version.{first_line}
 use Rattle.session_log.specs.declared.version.Version.{Version}
@@ -14,9 +14,10 @@ use Rattle.prune_ledger.specs.declared.ledger.Ledger.{Ledger}
 use Rattle.reduction.specs.Chained.{IsUnpruned}
 use Rattle.reduction.specs.Outcome.{IsDeadHistory}
 use Rattle.forced_steps.specs.Ledgers.{IsDeadLedger}
+use Rattle.forced_steps.specs.Steps.{IsLineTold}
 use Rattle.forced_steps.specs.declared.item.Item.{Item}
 use Rattle.explanations.specs.Lines.{AreLines}
-use Rattle.explaining.specs.Explained.{told_text, AreWritten}
+use Rattle.explaining.specs.Explained.{told_text, cycle_text, AreWritten, IsCycleWritten}
 use Rattle.explaining.specs.declared.format.Format.{Format}
 
 pub unpruned_clean : (ss : List ClientSession) (p : Polygraph) → IsWellFormedList ss → IsUnpruned (log_of ss) p → IsClean (log_of ss)
@@ -43,3 +44,6 @@ lines_of v ss begins room h = record { from = first_line v; few = omega (arith, 
 -- ---- what is written
 pub are_written : (Told : List Item → Type 0) (format : Format) (ss : List ClientSession) (begin : ℕ → ℕ) (items given : List Item) (text : List ℕ) → Told items → given ≡ items → text ≡ told_text format ss begin given → AreWritten Told format ss begin text
 are_written Told format ss begin items given text told same written = record { items = items; told = told; written = written ∙ ap (told_text format ss begin) same }
+
+pub cycle_written : (line : List ℕ) (format : Format) (ss : List ClientSession) (begin : ℕ → ℕ) (items given : List Item) (text : List ℕ) → IsLineTold ss [] [] line items → given ≡ items → text ≡ cycle_text format ss begin given → IsCycleWritten line format ss begin text
+cycle_written line format ss begin items given text told same written = record { items = items; told = told; written = written ∙ ap (cycle_text format ss begin) same }

@@ -61,7 +61,7 @@ reason_nodes : (ss : List ClientSession) (a b : ℕ) (r : Reason) → IsReason s
 reason_nodes ss a b reason.Session h = record { first = h.first; second = h.second }
 reason_nodes ss a b (reason.Read written read) h = record { first = h.first; second = h.second }
 reason_nodes ss a b (reason.Overwritten read overwrites) h = record { first = h.first; second = h.second }
-reason_nodes ss a b (reason.Initial begins) h = record { first = h.first; second = h.second }
+reason_nodes ss a b (reason.Initial read begins) h = record { first = h.first; second = h.second }
 reason_nodes ss a b reason.Moments h = record { first = h.first; second = h.second }
 
 -- ---- elements of lists by their places

@@ -14,6 +14,7 @@ use Rattle.told_trees.specs.Trees.{IsTreeTold}
 use Rattle.told_trees.specs.Visits.{leaf_count}
 use Rattle.told_texts.specs.Texts.{items_text}
 use Rattle.told_texts.specs.Graphs.{graph_text, quoted}
+use Rattle.explaining.specs.Names.{name_of}
 use Rattle.explaining.specs.declared.format.Format.{Format}
 use Rattle.explaining.specs.declared.format.Format.TheVariants.{Text, Dot}
 
@@ -21,6 +22,14 @@ use Rattle.explaining.specs.declared.format.Format.TheVariants.{Text, Dot}
 abbrev pub told_text : Format → List ClientSession → (ℕ → ℕ) → List Item → List ℕ
 told_text Text ss begin items = items_text ss begin 0 items
 told_text Dot ss begin items = graph_text ss begin items
+
+-- the name of the cycle that these tell, a line of a text
+abbrev pub known_as : Format → List Item → List ℕ
+known_as Text items = codes "known as: " ++ name_of items ++ codes "\n"
+known_as Dot items = []
+
+abbrev pub cycle_text : Format → List ClientSession → (ℕ → ℕ) → List Item → List ℕ
+cycle_text format ss begin items = told_text format ss begin items ++ known_as format items
 
 -- in a label a line break is a backslash and n
 abbrev pub label_byte : ℕ → List ℕ
@@ -51,11 +60,17 @@ pub record AreWritten (Told : List Item → Type 0) (format : Format) (ss : List
   pub told : Told items
   pub written : text ≡ told_text format ss begin items
 
+-- a cycle of known edges, each with its reason, and its name
+pub record IsCycleWritten (line : List ℕ) (format : Format) (ss : List ClientSession) (begin : ℕ → ℕ) (text : List ℕ) : Type 0 where
+  pub items : List Item
+  pub told : IsLineTold ss [] [] line items
+  pub written : text ≡ cycle_text format ss begin items
+
 -- by what is decided; of an order and of a spent budget there is nothing to explain
 abbrev pub IsWhy : Format → ℕ → List ClientSession → (ℕ → ℕ) → Decision → List ℕ → Type 0
 IsWhy format from ss begin (Serial order) text = text ≡ empty_text format
 IsWhy format from ss begin (Anomalous a) text = IsAnomalyExplained format from ss begin a text
-IsWhy format from ss begin (Cyclic line) text = AreWritten (IsLineTold ss [] [] line.items) format ss begin text
+IsWhy format from ss begin (Cyclic line) text = IsCycleWritten line.items format ss begin text
 IsWhy format from ss begin (Dead ledger) text = AreWritten (IsDeadTold ss) format ss begin text
 IsWhy format from ss begin (Refuted left tree) text = AreWritten (IsTreeTold ss (leaf_count tree)) format ss begin text
 IsWhy format from ss begin (Spent closed) text = text ≡ empty_text format

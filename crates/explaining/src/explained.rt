@@ -1,6 +1,6 @@
 //! Cycles, dead ledgers and refutation trees.
 
-ghost use Rattle.std.specs.Prelude.{◌≡◌, [], IfOk};
+ghost use Rattle.std.specs.Prelude.{◌≡◌, IfOk};
 ghost use Rattle.serializability.specs.Reads.{IsClean};
 ghost use Rattle.serializability.specs.Anomalies.{anomaly_of};
 ghost use Rattle.serializability.specs.Polygraph.{arcs};
@@ -9,21 +9,20 @@ ghost use Rattle.log_definitions.specs.Numbers.{log_of};
 ghost use Rattle.reduction.specs.Outcome.{IsCyclicHistory, IsDeadHistory, IsOpenHistory};
 ghost use Rattle.branch_search.specs.Trees.{IsRefutationTree};
 ghost use Rattle.explanations.specs.Lines.{begin_at, AreLines};
-ghost use Rattle.forced_steps.specs.Steps.{IsLineTold, IsDeadTold};
+ghost use Rattle.forced_steps.specs.Steps.{IsDeadTold};
 ghost use Rattle.told_trees.specs.Trees.{IsTreeTold};
 ghost use Rattle.told_trees.specs.Visits.{leaf_count};
-ghost use Rattle.explaining.specs.Explained.{AreWritten};
+ghost use Rattle.explaining.specs.Explained.{AreWritten, IsCycleWritten};
 
 use crate::cycles::tell_cycle;
 use crate::format::Format;
-use crate::written::written;
+use crate::steps::{dead_items, tree_items};
+use crate::written::{written, written_cycle};
 use branch_search::Tree;
-use forced_steps::tell_dead;
 use prune_ledger::{Ledger, Reduced};
 use serializability::NodeIx;
 use session_history::History;
 use std::alloc::{AllocError, Global};
-use told_trees::tell_tree;
 use write_chains::{Chains, chains};
 
 /// The chains of a history whose arcs have no cycle.
@@ -38,7 +37,7 @@ fn chains_of<'a>(alloc: Global, history: &'a History) -> Result<Chains<'a>, Allo
     }
 }
 
-/// The edges of a cycle that is known of a history without an anomaly, each with its reason. Of `begins`, element `v - 1` is the line
+/// The edges of a cycle that is known of a history without an anomaly, each with its reason, and the cycle's name. Of `begins`, element `v - 1` is the line
 /// at which node `v` begins.
 pub fn explain_cycle(
     alloc: Global,
@@ -50,12 +49,12 @@ pub fn explain_cycle(
     requires lines { AreLines history.now begins.now }
     requires none { anomaly_of (log_of history.now) ≡ None }
     requires cyclic { IsCyclicHistory history.now line.now }
-    ensures written { IfOk result (λ text. AreWritten (IsLineTold history.now [] [] line.now) format
+    ensures written { IfOk result (λ text. IsCycleWritten line.now format
         history.now (begin_at begins.now) text.items) }
 {
     let _nodes = history.committed();
     let items = tell_cycle(alloc, history, line)?;
-    written(alloc, history, begins, format, &items)
+    written_cycle(alloc, history, begins, format, &items)
 }
 
 /// The forced steps that the cycle of a dead ledger needs, and the cycle. Of `begins`, element `v - 1` is the line at which node `v`
@@ -74,7 +73,7 @@ pub fn explain_dead(
 {
     let _nodes = history.committed();
     let chains = chains_of(alloc, history)?;
-    let items = tell_dead(alloc, history, &chains, ledger)?;
+    let items = dead_items(alloc, history, &chains, ledger)?;
     written(alloc, history, begins, format, &items)
 }
 
@@ -96,6 +95,6 @@ pub fn explain_tree(
 {
     let _nodes = history.committed();
     let chains = chains_of(alloc, history)?;
-    let items = tell_tree(alloc, history, &chains, reduced, tree)?;
+    let items = tree_items(alloc, history, &chains, reduced, tree)?;
     written(alloc, history, begins, format, &items)
 }

@@ -5,6 +5,8 @@ mod anomaly;
 mod cycles;
 mod explained;
 mod format;
+mod names;
+mod steps;
 mod telling;
 mod written;
 

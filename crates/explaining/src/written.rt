@@ -4,9 +4,10 @@ ghost use Rattle.std.specs.Prelude.{◌≡◌, ◌++◌, IfOk, OnOk};
 ghost use Rattle.std.specs.List.{flat_map};
 ghost use Rattle.explanations.specs.Lines.{begin_at, AreLines};
 ghost use Rattle.told_texts.specs.Texts.{AreTellable};
-ghost use Rattle.explaining.specs.Explained.{told_text, lines_text, label_byte, box_text};
+ghost use Rattle.explaining.specs.Explained.{told_text, known_as, cycle_text, lines_text, label_byte, box_text};
 
 use crate::format::Format;
+use crate::names::name_of;
 use forced_steps::Item;
 use session_history::History;
 use std::alloc::{AllocError, Global};
@@ -30,6 +31,39 @@ pub fn written(
         Format::Text => put_items(&mut out, history, begins, items)?,
         Format::Dot => put_graph(alloc, &mut out, history, begins, items)?,
     }
+    Ok(out)
+}
+
+/// Appends the name of the cycle that these tell, a line of a text.
+fn put_known_as(out: &mut Vec<u8>, format: Format, items: &[Item]) -> Result<(), AllocError>
+    ensures text { OnOk result (out.new.items ≡ out.old.items ++ known_as format items.now) }
+{
+    match format {
+        Format::Text => {
+            out.extend_from_slice(b"known as: ")?;
+            out.extend_from_slice(name_of(items).as_bytes())?;
+            out.extend_from_slice(b"\n")?;
+            Ok(())
+        }
+        Format::Dot => Ok(()),
+    }
+}
+
+/// The edges of a cycle as lines of text and its name, or as a graph.
+pub fn written_cycle(
+    alloc: Global,
+    history: &History,
+    begins: &[usize],
+    format: Format,
+    items: &[Item],
+) -> Result<Vec<u8>, AllocError>
+    requires lines { AreLines history.now begins.now }
+    requires items { AreTellable history.now items.now }
+    ensures text { IfOk result (λ text.
+        text.items ≡ cycle_text format history.now (begin_at begins.now) items.now) }
+{
+    let mut out = written(alloc, history, begins, format, items)?;
+    put_known_as(&mut out, format, items)?;
     Ok(out)
 }
 

@@ -15,9 +15,9 @@ use Rattle.log_definitions.specs.Numbers.{number_in, event_of, events_of, log_of
 use Rattle.log_definitions.proofs.Keys.{numbers_differ}
 use Rattle.session_history.specs.Rows.{event_key}
 use Rattle.reason_laws.proofs.Numbers.{ops_is, listed_at}
-use Rattle.explanations.specs.Reasons.{op_at, key_text}
+use Rattle.explanations.specs.Reasons.{op_at, key_text, op_wid}
 use Rattle.explanations.specs.Events.{event_wid, is_write_in, is_read_in, is_other_in}
-use Rattle.explanations.specs.Anomalies.{is_write_of, is_read_of, is_other_read, last_position, op_wid}
+use Rattle.explanations.specs.Anomalies.{is_write_of, is_read_of, is_other_read, last_position}
 use Rattle.explanations.proofs.Ops.{op_of, key_of_event, text_of_key, wid_is}
 
 -- ---- places in a list whose items are mapped

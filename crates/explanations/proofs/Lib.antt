@@ -8,3 +8,4 @@ pub mod Told
 pub mod Updates
 pub mod Reported
 pub mod EdgeTexts
+pub mod VersionPlaces

@@ -16,9 +16,8 @@ use Rattle.log_definitions.proofs.Keys.{Listed, number_below}
 use Rattle.session_history.specs.Rows.{event_key}
 use Rattle.reason_laws.specs.Reasons.{IsOpAt}
 use Rattle.reason_laws.proofs.Numbers.{ops_is, keys_is, listed_at}
-use Rattle.explanations.specs.Anomalies.{op_wid}
 use Rattle.explanations.specs.Events.{event_wid}
-use Rattle.explanations.specs.Reasons.{op_at, key_text, wid_text}
+use Rattle.explanations.specs.Reasons.{op_at, key_text, wid_text, op_wid}
 
 pub event_count : (ss : List ClientSession) (v : ℕ) → length ((log_of ss).ops v) ≡ length (ops_of ss v)
 event_count ss v = ap (λ es. length es) (ops_is ss v) ∙ length-map (ops_of ss v) (event_of (keys_in ss))

@@ -9,8 +9,8 @@ use Rattle.session_log.specs.declared.session.Session.{Session}
 use Rattle.log_definitions.specs.Unknown.{ops_in}
 use Rattle.log_definitions.specs.WellFormed.{log_lines}
 use Rattle.explanations.specs.declared.writes.WriteAt.{WriteAt}
-use Rattle.explanations.specs.Reasons.{op_at, key_text, reads_text}
-use Rattle.explanations.specs.Anomalies.{Appends, IsRead, IsWriteAt, IsWriterTold, IsReadTold, IsBadReadTold, wrote_text, before_read_text, op_wid}
+use Rattle.explanations.specs.Reasons.{op_at, key_text, reads_text, op_wid}
+use Rattle.explanations.specs.Anomalies.{Appends, IsRead, IsWriteAt, IsWriterTold, IsReadTold, IsBadReadTold, wrote_text, before_read_text}
 use Rattle.explanations.specs.Anomalies.IsWriterTold.{initial, nobody, wrote}
 use Rattle.explanations.specs.Writes.{IsNoneWrite, Finds}
 use Rattle.explanations.proofs.Begun.{begins_within}

@@ -39,12 +39,6 @@ last_position passes xs = option_map (λ back. length xs - (back + 1)) (position
 abbrev pub next_position : {X : Type 0} → (X → Bool) → List X → ℕ → Option ℕ
 next_position passes xs i = option_map (λ more. i + 1 + more) (position passes (drop (i + 1) xs))
 
--- the identity that an operation names
-abbrev pub op_wid : Option Op → ℕ
-op_wid None = 0
-op_wid (Some (Read key wid)) = wid
-op_wid (Some (Write key wid)) = wid
-
 -- it is a read
 pub record IsRead (op : Option Op) : Type 0 where
   pub key : List ℕ

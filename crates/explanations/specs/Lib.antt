@@ -3,3 +3,4 @@ pub mod Events
 pub mod Lines
 pub mod Reasons
 pub mod Writes
+pub mod Versions

@@ -1,6 +1,6 @@
 -- How it is told why one node stands before another, in the log's own lines. `begin v` is the line at which node v begins, from 1;
 -- its operations stand in the lines behind that, and then the line that ends it. Operations count from 0.
-use Rattle.std.specs.Prelude.{◌≡◌, ℕ, ◌+◌, ◌<◌, ◌≤◌, ◌^◌, List, [], ◌∷◌, ◌++◌, length, take, codes, decimal, slice_get, unwrap_or, Option, None, Some}
+use Rattle.std.specs.Prelude.{◌≡◌, ℕ, ◌+◌, ◌<◌, ◌≤◌, ◌^◌, ◌==◌, if◌then◌else◌, List, [], ◌∷◌, ◌++◌, length, take, codes, decimal, slice_get, unwrap_or, Option, None, Some}
 use Rattle.std.specs.List.{Contains, AllByRecursion}
 use Rattle.session_log.specs.Text.{ClientSession}
 use Rattle.session_log.specs.declared.session.Op.{Op}
@@ -53,6 +53,12 @@ wid_text None = []
 wid_text (Some (Read key wid)) = decimal wid
 wid_text (Some (Write key wid)) = decimal wid
 
+-- the identity that an operation names
+abbrev pub op_wid : Option Op → ℕ
+op_wid None = 0
+op_wid (Some (Read key wid)) = wid
+op_wid (Some (Write key wid)) = wid
+
 -- the bytes of key number x
 abbrev pub key_bytes : List ClientSession → ℕ → List ℕ
 key_bytes ss x = unwrap_or (slice_get (keys_in ss) x) []
@@ -61,14 +67,18 @@ key_bytes ss x = unwrap_or (slice_get (keys_in ss) x) []
 abbrev pub reads_text : List ClientSession → (ℕ → ℕ) → ℕ → ℕ → List ℕ
 reads_text ss begin v i = named ss v ++ codes " reads " ++ key_and_wid (op_at ss v i) ++ op_in_line begin v i
 
+-- whether an operation names the initial value itself, or what stands behind it
+abbrev pub origin_text : Option Op → List ℕ
+origin_text op = if op_wid op == 0 then codes ", the initial value" else codes ", which goes back to the initial value"
+
 abbrev pub reason_text : List ClientSession → (ℕ → ℕ) → ℕ → ℕ → Reason → List ℕ
 reason_text ss begin a b reason.Session = codes "session " ++ decimal (session_of ss a)
 reason_text ss begin a b (reason.Read written read) =
     reads_text ss begin b read ++ codes ", which " ++ named ss a ++ codes " wrote" ++ op_in_line begin a written
 reason_text ss begin a b (reason.Overwritten read overwrites) =
     reads_text ss begin a read ++ codes ", and " ++ named ss b ++ codes " overwrites it with " ++ wid_text (op_at ss b overwrites) ++ op_in_line begin b overwrites
-reason_text ss begin a b (reason.Initial begins) =
-    key_text (op_at ss b begins) ++ codes ": " ++ named ss a ++ codes " belongs to the chain of the initial value, and " ++ named ss b ++ codes " begins another" ++ op_in_line begin b begins
+reason_text ss begin a b (reason.Initial read begins) =
+    reads_text ss begin a read ++ origin_text (op_at ss a read) ++ codes ", and " ++ named ss b ++ codes " wrote " ++ key_and_wid (op_at ss b begins) ++ op_in_line begin b begins
 reason_text ss begin a b reason.Moments =
     named ss a ++ codes " ended at " ++ decimal (unwrap_or (ended_of ss a) 0) ++ end_in_line ss begin a ++ codes ", " ++ named ss b ++ codes " began at " ++ decimal (unwrap_or (begun_of ss b) 0) ++ in_line (begin b)
 

@@ -12,10 +12,10 @@ ghost use Rattle.order_text.specs.Text.{name_text};
 ghost use Rattle.reason_laws.specs.Reasons.{IsNode};
 ghost use Rattle.log_lines.specs.Places.{AreBeginLines};
 ghost use Rattle.explanations.specs.Lines.{begin_at, AreLines};
-ghost use Rattle.explanations.specs.Reasons.{named, in_line, op_at, op_in_line, key_and_wid, key_bytes, key_text, wid_text};
+ghost use Rattle.explanations.specs.Reasons.{named, in_line, op_at, op_in_line, key_and_wid, key_bytes, key_text, wid_text, op_wid};
 ghost use Rattle.explanations.specs.Events.{is_read_in};
 ghost use Rattle.explanations.specs.Anomalies as spec;
-ghost use Rattle.explanations.specs.Anomalies.{Appends, IsRead, last_position, IsWriterTold, IsReadTold, IsBadReadTold, IsUpdateTold, IsAnomalyTold, overwrote_text, wrote_text, before_read_text, op_wid};
+ghost use Rattle.explanations.specs.Anomalies.{Appends, IsRead, last_position, IsWriterTold, IsReadTold, IsBadReadTold, IsUpdateTold, IsAnomalyTold, overwrote_text, wrote_text, before_read_text};
 
 use crate::pieces::{
     key_at, op_count, put_in_line, put_key_and_wid, put_named, put_number, put_op_in_line,

@@ -1,18 +1,18 @@
 //! Why one node stands before another, in a line.
 
-ghost use Rattle.std.specs.Prelude.{◌≡◌, ℕ, ◌+◌, ◌<◌, ◌≤◌, ◌^◌, ◌++◌, decimal, codes, OnOk, unwrap_or};
+ghost use Rattle.std.specs.Prelude.{◌≡◌, ℕ, ◌+◌, ◌<◌, ◌≤◌, ◌^◌, ◌++◌, length, decimal, codes, OnOk, unwrap_or};
 ghost use Rattle.reason_laws.specs.Reasons.{IsNode, IsReadBy, IsOverwrittenBy, IsOfInitialBefore, EndsBefore};
 ghost use Rattle.reasons.specs.Given.{IsReason};
 ghost use Rattle.reasons.specs.declared.reason.Reason.TheVariants as kind;
-ghost use Rattle.log_definitions.specs.Serial.{session_of, begun_of, ended_of};
+ghost use Rattle.log_definitions.specs.Serial.{session_of, ops_of, begun_of, ended_of};
 ghost use Rattle.log_definitions.specs.Numbers.{log_of};
 ghost use Rattle.explanations.specs.Lines.{begin_at, AreLines};
 ghost use Rattle.explanations.specs.Reasons as spec;
-ghost use Rattle.explanations.specs.Reasons.{before_text, reason_text, why_text, CanTell, end_in_line, in_line};
+ghost use Rattle.explanations.specs.Reasons.{before_text, reason_text, origin_text, why_text, CanTell, end_in_line, in_line, op_at};
 
 use crate::pieces::{
-    key_at, op_count, put_in_line, put_key, put_named, put_number, put_op_in_line, put_reads,
-    put_wid,
+    op_count, put_in_line, put_key, put_key_and_wid, put_named, put_number, put_op_in_line,
+    put_reads, put_wid, wid_at,
 };
 use crate::why::{ChainOrder, Why};
 use reasons::Reason;
@@ -85,29 +85,44 @@ fn put_overwritten(
     put_op_in_line(out, begins, b, overwrites)
 }
 
-/// Appends that `b` begins another chain of the key than that of the initial value, to which `a` belongs.
+/// Appends whether an operation names the initial value itself, or what stands behind it.
+fn put_origin(
+    out: &mut Vec<u8>,
+    history: &History,
+    node: NodeIx,
+    op: usize,
+) -> Result<(), AllocError>
+    requires op { op < length (ops_of history.now node) }
+    ensures text { OnOk result (out.new.items ≡ out.old.items ++ origin_text (op_at history.now node op)) }
+{
+    if wid_at(history, node, op) == 0 {
+        out.extend_from_slice(b", the initial value")?;
+    } else {
+        out.extend_from_slice(b", which goes back to the initial value")?;
+    }
+    Ok(())
+}
+
+/// Appends that `a` reads a key's initial value, or what stands behind it, and `b` wrote the key.
 fn put_initial(
     out: &mut Vec<u8>,
     history: &History,
     begins: &[usize],
     a: NodeIx,
     b: NodeIx,
+    read: usize,
     write: usize,
 ) -> Result<(), AllocError>
     requires lines { AreLines history.now begins.now }
-    requires reason { IsOfInitialBefore history.now a b write }
+    requires reason { IsOfInitialBefore history.now a read b write }
     ensures text { OnOk result (out.new.items ≡ out.old.items
-        ++ reason_text history.now (begin_at begins.now) a b (kind.Initial write)) }
+        ++ reason_text history.now (begin_at begins.now) a b (kind.Initial read write)) }
 {
-    out.extend_from_slice(key_at(history, b, write))?;
-    put_named(out, b": ", history, a)?;
-    put_named(
-        out,
-        b" belongs to the chain of the initial value, and ",
-        history,
-        b,
-    )?;
-    out.extend_from_slice(b" begins another")?;
+    put_reads(out, history, begins, a, read)?;
+    put_origin(out, history, a, read)?;
+    put_named(out, b", and ", history, b)?;
+    out.extend_from_slice(b" wrote ")?;
+    put_key_and_wid(out, history, b, write)?;
     put_op_in_line(out, begins, b, write)
 }
 
@@ -186,7 +201,10 @@ fn put_reason(
         Reason::Overwritten { read, overwrites } => {
             put_overwritten(out, history, begins, a, b, read, overwrites)
         }
-        Reason::Initial { begins: write } => put_initial(out, history, begins, a, b, write),
+        Reason::Initial {
+            read,
+            begins: write,
+        } => put_initial(out, history, begins, a, b, read, write),
         Reason::Moments => put_moments(out, history, begins, a, b),
     }
 }

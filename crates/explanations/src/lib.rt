@@ -5,10 +5,12 @@ mod anomalies;
 mod edge;
 mod pieces;
 mod places;
+mod versions;
 mod why;
 mod writes;
 
 pub use anomalies::put_anomaly;
 pub use edge::put_edge;
 pub use pieces::{put_key, put_key_and_wid, put_named, put_number, put_op_in_line};
+pub use versions::{put_otherwise, put_version};
 pub use why::{ChainOrder, Why};

@@ -7,9 +7,8 @@ ghost use Rattle.log_definitions.specs.Numbers.{log_of};
 ghost use Rattle.explanations.specs.Lines.{begin_at, AreLines, HasLine};
 ghost use Rattle.session_history.specs.Rows.{event_key};
 ghost use Rattle.explanations.specs.Events.{event_wid};
-ghost use Rattle.explanations.specs.Anomalies.{op_wid};
 ghost use Rattle.explanations.specs.Reasons as spec;
-ghost use Rattle.explanations.specs.Reasons.{named, in_line, op_at, op_in_line, key_and_wid, reads_text};
+ghost use Rattle.explanations.specs.Reasons.{named, in_line, op_at, op_in_line, op_wid, key_and_wid, reads_text};
 
 use itoa::Buffer;
 use order_text::put_name;

@@ -3,10 +3,10 @@
 ghost use Rattle.std.specs.Prelude.{◌≡◌, ℕ, ◌+◌, ◌<◌, ◌≤◌, length, take, drop, reverse, position, IfSome};
 ghost use Rattle.log_definitions.specs.Serial.{ops_of};
 ghost use Rattle.log_definitions.specs.Numbers.{log_of};
-ghost use Rattle.explanations.specs.Reasons.{op_at, key_text};
+ghost use Rattle.explanations.specs.Reasons.{op_at, op_wid, key_text};
 ghost use Rattle.explanations.specs.Events.{is_write_in, is_read_in, is_other_in};
 ghost use Rattle.explanations.specs.Anomalies as spec;
-ghost use Rattle.explanations.specs.Anomalies.{last_position, next_position, op_wid};
+ghost use Rattle.explanations.specs.Anomalies.{last_position, next_position};
 
 use crate::pieces::{event_at, key_of, wid_of};
 use serializability::{Event, NodeIx};
@@ -55,7 +55,7 @@ fn back_of_last(events: &[Event], key: usize) -> Option<usize>
 }
 
 /// The last of these that writes the key.
-fn last_among(events: &[Event], key: usize) -> Option<usize>
+pub fn last_among(events: &[Event], key: usize) -> Option<usize>
     ensures place { result ≡ last_position (is_write_in key) events.now }
     ensures within { IfSome result (λ i. i < length events.now) }
 {
@@ -119,6 +119,14 @@ pub fn other_read(history: &History, node: NodeIx, op: usize) -> Option<usize>
         key_of(event),
         wid_of(event),
     )
+}
+
+/// The first of these that reads the key.
+pub fn first_read_among(events: &[Event], key: usize) -> Option<usize>
+    ensures place { result ≡ position (is_read_in key) events.now }
+    ensures within { IfSome result (λ i. i < length events.now) }
+{
+    events.iter().position(|event| reads(*event, key))
 }
 
 /// The first read of a key in a node.

@@ -63,7 +63,7 @@ pub reason_not_none : (ss : List ClientSession) (a b : ℕ) (r : Reason) → IsR
 reason_not_none ss a b reason.Session h none = none.session h
 reason_not_none ss a b (reason.Read i j) h none = none.read i j h
 reason_not_none ss a b (reason.Overwritten i j) h none = none.overwritten i j h
-reason_not_none ss a b (reason.Initial j) h none = none.initial j h
+reason_not_none ss a b (reason.Initial i j) h none = none.initial i j h
 reason_not_none ss a b reason.Moments h none = none.moments h
 
 -- ---- the first entry that keeps an edge which the log does not show

@@ -122,7 +122,7 @@ known_not ss clean a b lo c none =
         | inl f ↦ arc_not ss clean a b lo f none
         | inr f ↦ (let r = inner_reason ss clean a b lo f in none.overwritten r.0 r.1.0 r.1.1)
       ])
-      | inr d ↦ (let r = initial_reason ss clean a b lo d in none.initial r.0 r.1)
+      | inr d ↦ (let r = initial_reason ss clean a b lo d in none.initial r.0 r.1.0 r.1.1)
     ]
 
 -- ---- the orders that posts keep

@@ -17,7 +17,7 @@ use Rattle.chain_laws.proofs.Coalesced.{head_parts, each_from_readers}
 use Rattle.log_definitions.specs.WellFormed.{keys_in}
 use Rattle.log_definitions.specs.Serial.{begun_of, ended_of}
 use Rattle.log_definitions.specs.Numbers.{number_in, log_of}
-use Rattle.reason_laws.specs.Reasons.{IsNode, ReadsAt, WritesLastAt, AreOfSession, IsReadBy, IsOverwrittenBy, Link, AreLinked, left_by, IsLastLink, IsOfInitialBefore, EndsBefore}
+use Rattle.reason_laws.specs.Reasons.{IsNode, ReadsAt, WritesLastAt, AreOfSession, IsReadBy, IsOverwrittenBy, Link, AreLinked, left_by, IsOfInitialBefore, EndsBefore}
 use Rattle.reason_laws.proofs.Numbers.{node_from, session_is, earlier_is, before_at, reads_after, none_before, writes_in, writes_key, reads_key}
 
 -- ---- arcs
@@ -186,6 +186,12 @@ abbrev end_node : ℕ → List Link → ℕ
 end_node v [] = v
 end_node v (l ∷ ls) = end_node l.node ls
 
+-- the last of them
+abbrev IsLastLink : ℕ → List Link → Type 0
+IsLastLink v [] = ⊥
+IsLastLink v (l ∷ []) = l.node ≡ v
+IsLastLink v (l ∷ k ∷ ls) = IsLastLink v (k ∷ ls)
+
 last_link : (v t : ℕ) (l : Link) (ls : List Link) → end_node v (l ∷ ls) ≡ t → IsLastLink t (l ∷ ls)
 last_link v t l [] e = e
 last_link v t l (k ∷ ls) e = last_link l.node t k ls e
@@ -288,48 +294,64 @@ starts ss clean x b h =
           none_some (source (log_of ss) b x) u.0 p.none (ap (source (log_of ss) b) (sym w.number) ∙ u.1));
     }
 
-last_reads : (ss : List ClientSession) (key : List ℕ) (wid t : ℕ) (links : List Link) → AreLinked ss key wid links → IsLastLink t links → (i : ℕ) × ((w : ℕ) × ReadsAt ss t i key w)
-last_reads ss key wid t [] linked last = absurd last
-last_reads ss key wid t (l ∷ []) linked last = (l.read, (wid, subst (λ n. ReadsAt ss n l.read key wid) last linked.1.0))
-last_reads ss key wid t (l ∷ k ∷ ls) linked last = last_reads ss key l.wid t (k ∷ ls) linked.1.1.1 last
+-- what the last of them reads, behind the others
+record LastReads (ss : List ClientSession) (key : List ℕ) (wid t : ℕ) : Type 0 where
+  pub links : List Link
+  pub linked : AreLinked ss key wid links
+  pub read : ℕ
+  pub reads : ReadsAt ss t read key (left_by wid links)
 
-trail_last : (ss : List ClientSession) (x t : ℕ) → 0 < t → t ≤ (log_of ss).nodes → (b : ℕ) (g : Starts ss x b) → Trail ss g.key x 0 0 t → (j : ℕ) × IsOfInitialBefore ss t b j
+link_before : (ss : List ClientSession) (key : List ℕ) (wid t : ℕ) (l : Link) (ls : List Link) → AreLinked ss key wid (l ∷ ls) → LastReads ss key l.wid t → LastReads ss key wid t
+link_before ss key wid t l ls linked r = record { links = l ∷ r.links; linked = (linked.0, (linked.1.0, (linked.1.1.0, r.linked))); read = r.read; reads = r.reads }
+
+last_reads : (ss : List ClientSession) (key : List ℕ) (wid t : ℕ) (links : List Link) → AreLinked ss key wid links → IsLastLink t links → LastReads ss key wid t
+last_reads ss key wid t [] linked last = absurd last
+last_reads ss key wid t (l ∷ []) linked last = record { links = []; linked = tt; read = l.read; reads = subst (λ n. ReadsAt ss n l.read key wid) last linked.1.0 }
+last_reads ss key wid t (l ∷ k ∷ ls) linked last = link_before ss key wid t l (k ∷ ls) linked (last_reads ss key l.wid t (k ∷ ls) linked.1.1.1 last)
+
+trail_last : (ss : List ClientSession) (x t : ℕ) → 0 < t → t ≤ (log_of ss).nodes → (b : ℕ) (g : Starts ss x b) → Trail ss g.key x 0 0 t → (i : ℕ) × ((j : ℕ) × IsOfInitialBefore ss t i b j)
 trail_last ss x t lo hi b g r =
     let last = some_last_link t r.links lo r.ends in
-    let read = last_reads ss g.key 0 t r.links r.linked last in (
-      g.place,
-      record {
-        first = node_from ss t lo hi;
-        second = g.node;
-        apart = λ e. g.unread read.0 read.1.0 (subst (λ n. ReadsAt ss n read.0 g.key read.1.0) e read.1.1);
-        key = g.key;
-        wid = g.wid;
-        links = r.links;
-        linked = r.linked;
-        follows = inl last;
-        writes = g.writes.write;
-        unread = g.unread;
-      },
+    let from = last_reads ss g.key 0 t r.links r.linked last in (
+      from.read,
+      (
+        g.place,
+        record {
+          first = node_from ss t lo hi;
+          second = g.node;
+          apart = λ e. g.unread from.read (left_by 0 from.links) (subst (λ n. ReadsAt ss n from.read g.key (left_by 0 from.links)) e from.reads);
+          key = g.key;
+          wid = g.wid;
+          links = from.links;
+          linked = from.linked;
+          reads = from.reads;
+          writes = g.writes.write;
+          unread = g.unread;
+        },
+      ),
     )
 
-trail_reader : (ss : List ClientSession) → IsClean (log_of ss) → (x t a b : ℕ) (g : Starts ss x b) → Trail ss g.key x 0 0 t → 0 < a → a ≤ (log_of ss).nodes → source (log_of ss) a x ≡ Some t → (j : ℕ) × IsOfInitialBefore ss a b j
+trail_reader : (ss : List ClientSession) → IsClean (log_of ss) → (x t a b : ℕ) (g : Starts ss x b) → Trail ss g.key x 0 0 t → 0 < a → a ≤ (log_of ss).nodes → source (log_of ss) a x ≡ Some t → (i : ℕ) × ((j : ℕ) × IsOfInitialBefore ss a i b j)
 trail_reader ss clean x t a b g r lo hi from =
     let f = source_is (log_of ss) clean a x t lo hi from in
     let same : f.w ≡ left_by 0 r.links = final_one (log_of ss) t x f.w (left_by 0 r.links) f.final r.final in
     let read = reads_key ss a x f.w g.key f.before g.number f.reads f.external in (
-      g.place,
-      record {
-        first = node_from ss a lo hi;
-        second = g.node;
-        apart = λ e. g.unread read.0 f.w (subst (λ n. ReadsAt ss n read.0 g.key f.w) e read.1);
-        key = g.key;
-        wid = g.wid;
-        links = r.links;
-        linked = r.linked;
-        follows = inr (read.0, subst (λ w. ReadsAt ss a read.0 g.key w) same read.1);
-        writes = g.writes.write;
-        unread = g.unread;
-      },
+      read.0,
+      (
+        g.place,
+        record {
+          first = node_from ss a lo hi;
+          second = g.node;
+          apart = λ e. g.unread read.0 f.w (subst (λ n. ReadsAt ss n read.0 g.key f.w) e read.1);
+          key = g.key;
+          wid = g.wid;
+          links = r.links;
+          linked = r.linked;
+          reads = subst (λ w. ReadsAt ss a read.0 g.key w) same read.1;
+          writes = g.writes.write;
+          unread = g.unread;
+        },
+      ),
     )
 
 trail_of : (ss : List ClientSession) → IsClean (log_of ss) → (x b : ℕ) (g : Starts ss x b) → Trail ss g.key x 0 0 (tail (log_of ss) x 0)
@@ -339,9 +361,9 @@ final_within : (log : Log) (v x w : ℕ) → IsFinal log v x w → v ≤ log.nod
 final_within log v x w (inl z) = omega (arith, z.0)
 final_within log v x w (inr f) = f.1
 
-pub initial_reason : (ss : List ClientSession) → IsClean (log_of ss) → (a b : ℕ) → 0 < a → Contains (initial_first (log_of ss)) (a, b) → (j : ℕ) × IsOfInitialBefore ss a b j
+pub initial_reason : (ss : List ClientSession) → IsClean (log_of ss) → (a b : ℕ) → 0 < a → Contains (initial_first (log_of ss)) (a, b) → (i : ℕ) × ((j : ℕ) × IsOfInitialBefore ss a i b j)
 initial_reason ss clean a b lo c =
-    let Q : Edge → Type 0 = λ e. 0 < e.0 → (j : ℕ) × IsOfInitialBefore ss e.0 e.1 j in
+    let Q : Edge → Type 0 = λ e. 0 < e.0 → (i : ℕ) × ((j : ℕ) × IsOfInitialBefore ss e.0 i e.1 j) in
     each_contained Q (initial_first (log_of ss)) (a, b)
     (each_initial (log_of ss) Q
     (λ x h head tlo. let g = starts ss clean x h head in let r = trail_of ss clean x h g in

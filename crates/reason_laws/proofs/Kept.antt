@@ -19,7 +19,7 @@ use Rattle.log_definitions.specs.Serial.{IsSerialOrder, begun_of, ended_of}
 use Rattle.log_definitions.specs.Numbers.{number_in, IsWellFormedList, log_of}
 use Rattle.log_definitions.proofs.Numbered.{numbered}
 use Rattle.log_definitions.proofs.Renaming.{serial_numbered}
-use Rattle.reason_laws.specs.Reasons.{AreOfSession, IsReadBy, IsOverwrittenBy, Link, AreLinked, left_by, IsLastLink, IsOfInitialBefore, EndsBefore, ReadsAt}
+use Rattle.reason_laws.specs.Reasons.{AreOfSession, IsReadBy, IsOverwrittenBy, Link, AreLinked, left_by, IsOfInitialBefore, EndsBefore, ReadsAt}
 use Rattle.reason_laws.proofs.Texts.{some_parts}
 use Rattle.reason_laws.proofs.Numbers.{within, before_at, reads_after, writes_after, none_before, final_at, writes_some, reads_key, key_within}
 
@@ -152,12 +152,6 @@ all_ahead ss order s key b wid [] g linked a = a
 all_ahead ss order s key b wid (l ∷ ls) g linked a =
     all_ahead ss order s key b l.wid ls g linked.1.1.1 (ahead_on ss order s key b wid l ls g linked a)
 
-last_ahead : (ss : List ClientSession) (order : List ℕ) → Serial (log_of ss) order → (key : List ℕ) (a b wid : ℕ) (links : List Link) → Begins (log_of ss) (number_in (keys_in ss) key) b → AreLinked ss key wid links → Ahead (log_of ss) order (number_in (keys_in ss) key) b wid → IsLastLink a links → Before order a b
-last_ahead ss order s key a b wid [] g linked h last = absurd last
-last_ahead ss order s key a b wid (l ∷ []) g linked h last = subst (λ n. Before order n b) last (one_on ss order s key b wid l [] g linked h)
-last_ahead ss order s key a b wid (l ∷ k ∷ ls) g linked h last =
-    last_ahead ss order s key a b l.wid (k ∷ ls) g linked.1.1.1 (ahead_on ss order s key b wid l (k ∷ ls) g linked h) last
-
 -- ---- of the sessions
 pub session_kept : (ss : List ClientSession) (order : List ℕ) → IsWellFormedList ss → IsSerialOrder ss order → (a b : ℕ) → AreOfSession ss a b → Before order a b
 session_kept ss order h s a b r = s.sessions a b r.first.0 r.order r.second.1 r.session
@@ -184,8 +178,8 @@ unread_source ss clean b key lo hi unread = elim (some_cases (source (log_of ss)
       absurd (unread r.0 f.w r.1)
 ]
 
-pub initial_kept : (ss : List ClientSession) (order : List ℕ) → IsWellFormedList ss → IsSerialOrder ss order → (a b j : ℕ) → IsOfInitialBefore ss a b j → Before order a b
-initial_kept ss order h s a b j r =
+pub initial_kept : (ss : List ClientSession) (order : List ℕ) → IsWellFormedList ss → IsSerialOrder ss order → (a i b j : ℕ) → IsOfInitialBefore ss a i b j → Before order a b
+initial_kept ss order h s a i b j r =
     let facts = serial ss order h s in
     let x = number_in (keys_in ss) r.key in
     let y = writes_some ss b j r.key r.wid r.second r.writes in
@@ -198,13 +192,9 @@ initial_kept ss order h s a b j r =
       none = unread_source ss facts.clean b r.key r.second.0 (within ss b r.second) r.unread;
     } in
     let start : Ahead (log_of ss) order x b 0 = record { node = 0; final = inl (refl, refl); before = zero_first order b r.second.0 } in
-    elim r.follows [
-      | inl last ↦ last_ahead ss order facts r.key a b 0 r.links g r.linked start last
-      | inr reader ↦
-          let t = all_ahead ss order facts r.key b 0 r.links g r.linked start in
-          behind_begins (log_of ss) order facts x b a t.node (left_by 0 r.links) (before_at ss a reader.0) g
-          (reads_after ss a reader.0 r.key (left_by 0 r.links) r.first reader.1.read) (none_before ss a reader.0 r.key (left_by 0 r.links) reader.1) t.final t.before
-    ]
+    let t = all_ahead ss order facts r.key b 0 r.links g r.linked start in
+    behind_begins (log_of ss) order facts x b a t.node (left_by 0 r.links) (before_at ss a i) g
+    (reads_after ss a i r.key (left_by 0 r.links) r.first r.reads.read) (none_before ss a i r.key (left_by 0 r.links) r.reads) t.final t.before
 
 earlier_from : (ss : List ClientSession) (a b end begin : ℕ) → ended_of ss a ≡ Some end → begun_of ss b ≡ Some begin → end < begin → is_earlier (ended_of ss a) (begun_of ss b) ≡ true
 earlier_from ss a b end begin e f lt =

@@ -1,6 +1,6 @@
 -- Why one transaction stands before another in each serial order, in the words of the log. Nodes are those of the sessions, and
 -- operations count from 0. The kinds are those of Adya's dependencies (1999), the order of a session, and that of real time.
-use Rattle.std.specs.Prelude.{◌≡◌, ◌≢◌, ◌⊎◌, ℕ, ◌+◌, ◌<◌, ◌≤◌, List, [], ◌∷◌, length, take, drop, slice_get, Some}
+use Rattle.std.specs.Prelude.{◌≡◌, ◌≢◌, ℕ, ◌+◌, ◌<◌, ◌≤◌, List, [], ◌∷◌, length, take, drop, slice_get, Some}
 use Rattle.std.specs.List.{AllByRecursion}
 use Rattle.session_log.specs.Text.{ClientSession}
 use Rattle.session_log.specs.declared.session.Op.{Op}
@@ -80,15 +80,9 @@ abbrev pub left_by : ℕ → List Link → ℕ
 left_by wid [] = wid
 left_by wid (l ∷ ls) = left_by l.wid ls
 
--- the last of them
-abbrev pub IsLastLink : ℕ → List Link → Type 0
-IsLastLink v [] = ⊥
-IsLastLink v (l ∷ []) = l.node ≡ v
-IsLastLink v (l ∷ k ∷ ls) = IsLastLink v (k ∷ ls)
-
--- a belongs to the chain that begins with the initial value of a key, or reads from one that does, and operation `begins` of b, which
--- reads the key from nobody, writes it: so b's write stands behind those of the chain
-pub record IsOfInitialBefore (ss : List ClientSession) (a b begins : ℕ) : Type 0 where
+-- operation `read` of a, before any own write of the key, names the key's initial value or a write of the chain that begins with it, and
+-- operation `begins` of b, which reads the key from nobody, writes it: so b's write stands behind those of the chain
+pub record IsOfInitialBefore (ss : List ClientSession) (a read b begins : ℕ) : Type 0 where
   pub first : IsNode ss a
   pub second : IsNode ss b
   pub apart : a ≢ b
@@ -96,7 +90,7 @@ pub record IsOfInitialBefore (ss : List ClientSession) (a b begins : ℕ) : Type
   pub wid : ℕ
   pub links : List Link
   pub linked : AreLinked ss key 0 links
-  pub follows : IsLastLink a links ⊎ ((i : ℕ) × ReadsAt ss a i key (left_by 0 links))
+  pub reads : ReadsAt ss a read key (left_by 0 links)
   pub writes : IsOpAt ss b begins (Write key wid)
   pub unread : (i w : ℕ) → ReadsAt ss b i key w → ⊥
 

@@ -20,7 +20,7 @@ pub fn reasons_are_kept()
     ensures overwritten { (ss : List ClientSession) (order : List ℕ) → IsWellFormedList ss → IsSerialOrder ss order →
         (a i b j : ℕ) → IsOverwrittenBy ss a i b j → Before order a b }
     ensures initial { (ss : List ClientSession) (order : List ℕ) → IsWellFormedList ss → IsSerialOrder ss order →
-        (a b j : ℕ) → IsOfInitialBefore ss a b j → Before order a b }
+        (a i b j : ℕ) → IsOfInitialBefore ss a i b j → Before order a b }
     ensures ended { (ss : List ClientSession) (order : List ℕ) → IsWellFormedList ss → IsSerialOrder ss order →
         (a b : ℕ) → EndsBefore ss a b → Before order a b }
 {}
@@ -32,5 +32,5 @@ pub fn known_edges_have_reasons()
     ensures inner { (ss : List ClientSession) → IsWellFormedList ss → IsClean (log_of ss) → (a b : ℕ) → 0 < a → Contains (inner_edges (log_of ss)) (a, b) →
         ((i : ℕ) × ((j : ℕ) × IsOverwrittenBy ss a i b j)) }
     ensures initial { (ss : List ClientSession) → IsWellFormedList ss → IsClean (log_of ss) → (a b : ℕ) → 0 < a → Contains (initial_first (log_of ss)) (a, b) →
-        ((j : ℕ) × IsOfInitialBefore ss a b j) }
+        ((i : ℕ) × ((j : ℕ) × IsOfInitialBefore ss a i b j)) }
 {}

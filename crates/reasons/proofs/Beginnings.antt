@@ -17,9 +17,9 @@ use Rattle.log_definitions.specs.Numbers.{number_in, log_of}
 use Rattle.session_history.proofs.Kept.{no_ops_at_zero}
 use Rattle.session_history.proofs.KeyRows.{slice_get-set_here, slice_get-set_apart}
 use Rattle.write_chains.proofs.Backwards.{none_at_zero}
-use Rattle.reason_laws.specs.Reasons.{IsNode, IsOpAt, ReadsAt, WritesLastAt, Link, AreLinked, left_by, IsLastLink, IsOfInitialBefore}
+use Rattle.reason_laws.specs.Reasons.{IsNode, IsOpAt, ReadsAt, WritesLastAt, Link, AreLinked, left_by, IsOfInitialBefore}
 use Rattle.reason_laws.proofs.Numbers.{within, node_from, before_at, reads_after, none_before, final_at, reads_key, writes_key}
-use Rattle.reasons.specs.Initials.{IsBackIn, IsOfInitial, FollowsInitial, IsBegun, IsBeginning, ArePlain}
+use Rattle.reasons.specs.Initials.{IsBackIn, IsOfInitial, FollowsInitial, IsBegun, IsBeginning, BeginsBehind, ArePlain}
 use Rattle.reasons.specs.Given.{NoneInitial}
 use Rattle.reasons.proofs.Positions.{get_at, get_below}
 use Rattle.reasons.proofs.Ops.{event_at, write_at}
@@ -87,7 +87,7 @@ apart_where : (log : Log) (a b x u : ℕ) → source log b x ≡ None → source
 apart_where log a b x u none e same = let bad : None ≡ Some u = sym none ∙ ap (λ v. source log v x) (sym same) ∙ e in cc
 
 -- the operation is a write of the key, and no key of b with this number is read
-begins_with : (ss : List ClientSession) → IsClean (log_of ss) → (a b j : ℕ) (key : List ℕ) (w : ℕ) → IsNode ss a → IsNode ss b → IsOpAt ss b j (Write key w) → source (log_of ss) b (number_in (keys_in ss) key) ≡ None → FollowsInitial (log_of ss) (number_in (keys_in ss) key) a → IsOfInitialBefore ss a b j
+begins_with : (ss : List ClientSession) → IsClean (log_of ss) → (a b j : ℕ) (key : List ℕ) (w : ℕ) → IsNode ss a → IsNode ss b → IsOpAt ss b j (Write key w) → source (log_of ss) b (number_in (keys_in ss) key) ≡ None → FollowsInitial (log_of ss) (number_in (keys_in ss) key) a → BeginsBehind ss a b j
 begins_with ss clean a b j key w first second writes none f =
     let x = number_in (keys_in ss) key in
     let from = f.initial in
@@ -95,19 +95,23 @@ begins_with ss clean a b j key w first second writes none f =
     let t = trail ss clean key from.steps f.from g.w (source_within (log_of ss) a x f.from f.reads) g.final from.back in
     let read = reads_key ss a x g.w key g.before refl g.reads g.external in
     record {
-      first = first;
-      second = second;
-      apart = apart_where (log_of ss) a b x f.from none f.reads;
-      key = key;
-      wid = w;
-      links = t.links;
-      linked = t.linked;
-      follows = inr (read.0, subst (λ n. ReadsAt ss a read.0 key n) (sym t.left) read.1);
-      writes = writes;
-      unread = λ i v r. read_some ss clean b i key v second r none;
+      read = read.0;
+      is =
+          record {
+            first = first;
+            second = second;
+            apart = apart_where (log_of ss) a b x f.from none f.reads;
+            key = key;
+            wid = w;
+            links = t.links;
+            linked = t.linked;
+            reads = subst (λ n. ReadsAt ss a read.0 key n) (sym t.left) read.1;
+            writes = writes;
+            unread = λ i v r. read_some ss clean b i key v second r none;
+          };
     }
 
-pub begins : (ss : List ClientSession) → IsClean (log_of ss) → (a b j : ℕ) (e : Event) → IsNode ss a → IsNode ss b → slice_get ((log_of ss).ops b) j ≡ Some e → IsBeginning (log_of ss) a b e → IsOfInitialBefore ss a b j
+pub begins : (ss : List ClientSession) → IsClean (log_of ss) → (a b j : ℕ) (e : Event) → IsNode ss a → IsNode ss b → slice_get ((log_of ss).ops b) j ≡ Some e → IsBeginning (log_of ss) a b e → BeginsBehind ss a b j
 begins ss clean a b j (event.Read x w) first second at h = absurd h
 begins ss clean a b j (event.Write x w) first second at h =
     let write = write_at ss b j x w at in
@@ -142,25 +146,13 @@ end_of ss clean key wid u (l ∷ ls) linked final h =
     end_of ss clean key l.wid l.node ls linked.1.1.1 (link_final ss key wid l ls linked)
     (is_one (log_of ss) (number_in (keys_in ss) key) l.node (follows_read ss clean key l.node l.read wid u linked.0 linked.1.0 final h))
 
-last_follows : (ss : List ClientSession) → IsClean (log_of ss) → (key : List ℕ) (wid u a : ℕ) (links : List Link) → AreLinked ss key wid links → IsFinal (log_of ss) u (number_in (keys_in ss) key) wid → IsOfInitial (log_of ss) (number_in (keys_in ss) key) u → IsLastLink a links → FollowsInitial (log_of ss) (number_in (keys_in ss) key) a
-last_follows ss clean key wid u a [] linked final h last = absurd last
-last_follows ss clean key wid u a (l ∷ []) linked final h last =
-    subst (FollowsInitial (log_of ss) (number_in (keys_in ss) key)) last (follows_read ss clean key l.node l.read wid u linked.0 linked.1.0 final h)
-last_follows ss clean key wid u a (l ∷ k ∷ ls) linked final h last =
-    last_follows ss clean key l.wid l.node a (k ∷ ls) linked.1.1.1 (link_final ss key wid l (k ∷ ls) linked)
-    (is_one (log_of ss) (number_in (keys_in ss) key) l.node (follows_read ss clean key l.node l.read wid u linked.0 linked.1.0 final h)) last
-
-follows_links : (ss : List ClientSession) → IsClean (log_of ss) → (a b j : ℕ) (r : IsOfInitialBefore ss a b j) → FollowsInitial (log_of ss) (number_in (keys_in ss) r.key) a
-follows_links ss clean a b j r =
+follows_links : (ss : List ClientSession) → IsClean (log_of ss) → (a i b j : ℕ) (r : IsOfInitialBefore ss a i b j) → FollowsInitial (log_of ss) (number_in (keys_in ss) r.key) a
+follows_links ss clean a i b j r =
     let x = number_in (keys_in ss) r.key in
     let zero_final : IsFinal (log_of ss) 0 x 0 = inl (refl, refl) in
     let zero_initial : IsOfInitial (log_of ss) x 0 = record { steps = 0; back = refl } in
-    elim r.follows [
-      | inl last ↦ last_follows ss clean r.key 0 0 a r.links r.linked zero_final zero_initial last
-      | inr reads ↦
-          let t = end_of ss clean r.key 0 0 r.links r.linked zero_final zero_initial in
-          follows_read ss clean r.key a reads.0 (left_by 0 r.links) t.node r.first reads.1 t.final t.initial
-    ]
+    let t = end_of ss clean r.key 0 0 r.links r.linked zero_final zero_initial in
+    follows_read ss clean r.key a i (left_by 0 r.links) t.node r.first r.reads t.final t.initial
 
 unread_source : (ss : List ClientSession) → IsClean (log_of ss) → (b : ℕ) (key : List ℕ) → IsNode ss b → ((i w : ℕ) → ReadsAt ss b i key w → ⊥) → source (log_of ss) b (number_in (keys_in ss) key) ≡ None
 unread_source ss clean b key node unread = elim (some_cases (source (log_of ss) b (number_in (keys_in ss) key))) [
@@ -171,9 +163,9 @@ unread_source ss clean b key node unread = elim (some_cases (source (log_of ss) 
       absurd (unread r.0 f.w r.1)
 ]
 
-pub begun : (ss : List ClientSession) → IsClean (log_of ss) → (a b j : ℕ) (r : IsOfInitialBefore ss a b j) → (e : Event) × ((slice_get ((log_of ss).ops b) j ≡ Some e) × IsBeginning (log_of ss) a b e)
-begun ss clean a b j r =
-    (event.Write (number_in (keys_in ss) r.key) r.wid, (event_at ss b j (Write r.key r.wid) r.writes, (unread_source ss clean b r.key r.second r.unread, follows_links ss clean a b j r)))
+pub begun : (ss : List ClientSession) → IsClean (log_of ss) → (a i b j : ℕ) (r : IsOfInitialBefore ss a i b j) → (e : Event) × ((slice_get ((log_of ss).ops b) j ≡ Some e) × IsBeginning (log_of ss) a b e)
+begun ss clean a i b j r =
+    (event.Write (number_in (keys_in ss) r.key) r.wid, (event_at ss b j (Write r.key r.wid) r.writes, (unread_source ss clean b r.key r.second r.unread, follows_links ss clean a i b j r)))
 
 -- ---- a loop over the operations of b
 -- none of those before this place begins a chain there
@@ -196,18 +188,18 @@ none_further log a b place es d own lt n h = record {
       ];
 }
 
-pub none_behind : (ss : List ClientSession) → IsClean (log_of ss) → (a b place : ℕ) → NoneBefore (log_of ss) a b place → (j : ℕ) → IsOfInitialBefore ss a b j → place ≤ j
+pub none_behind : (ss : List ClientSession) → IsClean (log_of ss) → (a b place : ℕ) → NoneBefore (log_of ss) a b place → (j : ℕ) → BeginsBehind ss a b j → place ≤ j
 none_behind ss clean a b place n j r = elim (cases_lt j place) [
-  | inl lt ↦ let e = begun ss clean a b j r in absurd (n.none j e.0 lt e.1.0 e.1.1)
+  | inl lt ↦ let e = begun ss clean a r.read b j r.is in absurd (n.none j e.0 lt e.1.0 e.1.1)
   | inr le ↦ le
 ]
 
 pub none_initial : (ss : List ClientSession) → IsClean (log_of ss) → (a b place : ℕ) → NoneBefore (log_of ss) a b place → length ((log_of ss).ops b) ≤ place → NoneInitial ss a b
-none_initial ss clean a b place n all j r =
-    let e = begun ss clean a b j r in
+none_initial ss clean a b place n all i j r =
+    let e = begun ss clean a i b j r in
     n.none j e.0 (omega (arith, all, get_below ((log_of ss).ops b) j e.0 e.1.0)) e.1.0 e.1.1
 
-pub begins_at : (ss : List ClientSession) → IsClean (log_of ss) → (a b place : ℕ) (es : List Event) (d : Event) → IsNode ss a → IsNode ss b → es ≡ (log_of ss).ops b → place < length es → IsBeginning (log_of ss) a b (get_or es place d) → IsOfInitialBefore ss a b place
+pub begins_at : (ss : List ClientSession) → IsClean (log_of ss) → (a b place : ℕ) (es : List Event) (d : Event) → IsNode ss a → IsNode ss b → es ≡ (log_of ss).ops b → place < length es → IsBeginning (log_of ss) a b (get_or es place d) → BeginsBehind ss a b place
 begins_at ss clean a b place es d first second own lt h =
     begins ss clean a b place (get_or es place d) first second (ap (λ l. slice_get l place) (sym own) ∙ get_at es place d (get_or es place d) lt refl) h
 

@@ -5,3 +5,4 @@ pub mod Least
 pub mod Overwrites
 pub mod Walked
 pub mod Beginnings
+pub mod Begun

@@ -107,16 +107,16 @@ some_read ss clean a b o first second l h =
     let f = found ss clean a b o first second l in
     h f.read (event.Read (number_in (keys_in ss) f.key) f.seen) (found_event ss a b o l.wid f) (eq-eqb (number_in (keys_in ss) f.key) o.key f.number)
 
-record ReadEvent (x : ℕ) (e : Event) : Type 0 where
+pub record ReadEvent (x : ℕ) (e : Event) : Type 0 where
   pub wid : ℕ
   pub is : e ≡ event.Read x wid
 
-read_event : (x : ℕ) (e : Event) → is_read_of x e ≡ true → ReadEvent x e
+pub read_event : (x : ℕ) (e : Event) → is_read_of x e ≡ true → ReadEvent x e
 read_event x (event.Read k w) t = record { wid = w; is = ap (λ n. event.Read n w) (eqb-true k x t) }
 read_event x (event.Write k w) t = absurd (false≢true t)
 
 -- the first read of the key, which stands before each write of it, as another one does behind it
-earlier_read : (ss : List ClientSession) → IsClean (log_of ss) → (a i k : ℕ) (key : List ℕ) (w y : ℕ) → IsNode ss a → ReadsAt ss a k key w → i ≤ k → IsOpAt ss a i (Read key y) → ReadsAt ss a i key w
+pub earlier_read : (ss : List ClientSession) → IsClean (log_of ss) → (a i k : ℕ) (key : List ℕ) (w y : ℕ) → IsNode ss a → ReadsAt ss a k key w → i ≤ k → IsOpAt ss a i (Read key y) → ReadsAt ss a i key w
 earlier_read ss clean a i k key w y node r le at =
     let x = number_in (keys_in ss) key in
     let here : ReadsAt ss a i key y = record { read = at; external = take_fewer (IsNoWriteOf key) i k (ops_of ss a) le r.external } in

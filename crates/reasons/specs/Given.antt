@@ -13,7 +13,7 @@ abbrev pub IsReason : List ClientSession → ℕ → ℕ → Reason → Type 0
 IsReason ss a b reason.Session = AreOfSession ss a b
 IsReason ss a b (reason.Read written read) = IsReadBy ss a written b read
 IsReason ss a b (reason.Overwritten read overwrites) = IsOverwrittenBy ss a read b overwrites
-IsReason ss a b (reason.Initial begins) = IsOfInitialBefore ss a b begins
+IsReason ss a b (reason.Initial read begins) = IsOfInitialBefore ss a read b begins
 IsReason ss a b reason.Moments = EndsBefore ss a b
 
 -- ---- no reason of a kind
@@ -24,14 +24,14 @@ abbrev pub NoneOverwritten : List ClientSession → ℕ → ℕ → Type 0
 NoneOverwritten ss a b = (i j : ℕ) → IsOverwrittenBy ss a i b j → ⊥
 
 abbrev pub NoneInitial : List ClientSession → ℕ → ℕ → Type 0
-NoneInitial ss a b = (j : ℕ) → IsOfInitialBefore ss a b j → ⊥
+NoneInitial ss a b = (i j : ℕ) → IsOfInitialBefore ss a i b j → ⊥
 
 -- none of the kinds that stand before this one has a reason: session, read, overwritten, initial, moments
 abbrev pub IsOfFirstKind : List ClientSession → ℕ → ℕ → Reason → Type 0
 IsOfFirstKind ss a b reason.Session = Unit {0}
 IsOfFirstKind ss a b (reason.Read written read) = ¬ AreOfSession ss a b
 IsOfFirstKind ss a b (reason.Overwritten read overwrites) = (¬ AreOfSession ss a b) × NoneRead ss a b
-IsOfFirstKind ss a b (reason.Initial begins) = (¬ AreOfSession ss a b) × NoneRead ss a b × NoneOverwritten ss a b
+IsOfFirstKind ss a b (reason.Initial read begins) = (¬ AreOfSession ss a b) × NoneRead ss a b × NoneOverwritten ss a b
 IsOfFirstKind ss a b reason.Moments = (¬ AreOfSession ss a b) × NoneRead ss a b × NoneOverwritten ss a b × NoneInitial ss a b
 
 -- no kind has a reason
@@ -57,9 +57,14 @@ pub record IsLeastOverwrite (ss : List ClientSession) (a read b overwrites : ℕ
   pub first : (i j : ℕ) (other : IsOverwrittenBy ss a i b j) → other.key ≡ key → read ≤ i
   pub second : (i j : ℕ) (other : IsOverwrittenBy ss a i b j) → other.key ≡ key → overwrites ≤ j
 
+-- no earlier write of b begins a chain there, and no earlier read of a would do for this one
+pub record IsLeastInitial (ss : List ClientSession) (a read b begins : ℕ) : Type 0 where
+  pub second : (i j : ℕ) → IsOfInitialBefore ss a i b j → begins ≤ j
+  pub first : (i : ℕ) → IsOfInitialBefore ss a i b begins → read ≤ i
+
 abbrev pub IsLeast : List ClientSession → ℕ → ℕ → Reason → Type 0
 IsLeast ss a b reason.Session = Unit {0}
 IsLeast ss a b (reason.Read written read) = IsLeastRead ss a written b read
 IsLeast ss a b (reason.Overwritten read overwrites) = IsLeastOverwrite ss a read b overwrites
-IsLeast ss a b (reason.Initial begins) = (j : ℕ) → IsOfInitialBefore ss a b j → begins ≤ j
+IsLeast ss a b (reason.Initial read begins) = IsLeastInitial ss a read b begins
 IsLeast ss a b reason.Moments = Unit {0}

@@ -1,9 +1,11 @@
 -- Who reads a key from the chain of its initial value.
 use Rattle.std.specs.Prelude.{◌≡◌, ℕ, zero, suc, List, length, Bool, true, slice_get, None, Some}
+use Rattle.session_log.specs.Text.{ClientSession}
 use Rattle.serializability.specs.Log.{Log}
 use Rattle.serializability.specs.Polygraph.{source}
 use Rattle.serializability.specs.declared.event.Event.{Event}
 use Rattle.serializability.specs.declared.event.Event.TheVariants as event
+use Rattle.reason_laws.specs.Reasons.{IsOfInitialBefore}
 
 -- so many steps back along the sources of the key lead from v to node 0
 abbrev pub IsBackIn : Log → ℕ → ℕ → ℕ → Type 0
@@ -29,6 +31,11 @@ IsBegun log a b x = (source log b x ≡ None) × FollowsInitial log x a
 abbrev pub IsBeginning : Log → ℕ → ℕ → Event → Type 0
 IsBeginning log a b (event.Read x w) = ⊥
 IsBeginning log a b (event.Write x w) = IsBegun log a b x
+
+-- some read of a stands before operation `begins` of b by the chain of the initial value
+pub record BeginsBehind (ss : List ClientSession) (a b begins : ℕ) : Type 0 where
+  pub read : ℕ
+  pub is : IsOfInitialBefore ss a read b begins
 
 -- a mark for each key: a write of a marked one begins no chain
 pub record ArePlain (log : Log) (a b : ℕ) (plain : List Bool) : Type 0 where

@@ -6,9 +6,11 @@ ghost use Rattle.log_definitions.specs.Numbers.{log_of};
 ghost use Rattle.chain_laws.specs.Chains.{writes};
 ghost use Rattle.session_history.specs.Rows.{event_key};
 ghost use Rattle.reason_laws.specs.Reasons.{IsNode, IsOfInitialBefore};
-ghost use Rattle.reasons.specs.Initials.{IsOfInitial, FollowsInitial, IsBegun, IsBeginning, ArePlain};
-ghost use Rattle.reasons.specs.Given.{NoneInitial};
+ghost use Rattle.reasons.specs.Initials.{IsOfInitial, FollowsInitial, IsBegun, IsBeginning, BeginsBehind, ArePlain};
+ghost use Rattle.reasons.specs.Given.{IsLeastInitial, NoneInitial};
 
+use crate::operations::Operations;
+use crate::read::first_read;
 use serializability::{Event, NodeIx};
 use session_history::History;
 use std::alloc::{AllocError, Global};
@@ -94,7 +96,7 @@ fn is_beginning(plain: &mut [bool], history: &History, a: NodeIx, b: NodeIx, eve
 
 /// The first operation of `b` that begins a chain behind that of the initial value of its key, which `a` reads from. The chain
 /// of each key is walked once, however often `b` writes the key. The one error is that memory runs out for a byte of each key.
-pub fn begins_behind_initial(
+fn begins_behind_initial(
     alloc: Global,
     history: &History,
     a: NodeIx,
@@ -103,9 +105,9 @@ pub fn begins_behind_initial(
     requires clean { IsClean (log_of history.now) }
     requires first { IsNode history.now a }
     requires second { IsNode history.now b }
-    ensures is { IfOk result (λ found. IfSome found (λ begins. IsOfInitialBefore history.now a b begins)) }
+    ensures is { IfOk result (λ found. IfSome found (BeginsBehind history.now a b)) }
     ensures least { IfOk result (λ found. IfSome found (λ begins.
-        (j : ℕ) → IsOfInitialBefore history.now a b j → begins ≤ j)) }
+        (j : ℕ) → BeginsBehind history.now a b j → begins ≤ j)) }
     ensures none { IfOk result (λ found. IfNone found (NoneInitial history.now a b)) }
 {
     let mut table = vec![in alloc; false; history.keys()]?;
@@ -116,4 +118,50 @@ pub fn begins_behind_initial(
         }
     }
     Ok(None)
+}
+
+/// The number of the key of an operation.
+fn key_of(event: Event) -> usize
+    ensures { result ≡ event_key event }
+{
+    match event {
+        Event::Read { key, .. } | Event::Write { key, .. } => key,
+    }
+}
+
+/// The first read of `a` that stands before operation `begins` of `b` by the chain of the initial value of its key.
+fn read_before(history: &History, a: NodeIx, b: NodeIx, begins: usize) -> usize
+    requires clean { IsClean (log_of history.now) }
+    requires begun { BeginsBehind history.now a b begins }
+    ensures is { IsOfInitialBefore history.now a result b begins }
+    ensures least { (i : ℕ) → IsOfInitialBefore history.now a i b begins → result ≤ i }
+{
+    match first_read(history, a, key_of(history.events_of(b)[begins])) {
+        Some(read) => read,
+        None => unreachable!(),
+    }
+}
+
+/// The first operation of `b` that begins a chain behind that of the initial value of its key, and the first read of `a` from that
+/// one. The one error is that memory runs out for a byte of each key.
+pub fn before_by_initial(
+    alloc: Global,
+    history: &History,
+    a: NodeIx,
+    b: NodeIx,
+) -> Result<Option<Operations>, AllocError>
+    requires clean { IsClean (log_of history.now) }
+    requires first { IsNode history.now a }
+    requires second { IsNode history.now b }
+    ensures is { IfOk result (λ found. IfSome found (λ o. IsOfInitialBefore history.now a o.first b o.second)) }
+    ensures least { IfOk result (λ found. IfSome found (λ o. IsLeastInitial history.now a o.first b o.second)) }
+    ensures none { IfOk result (λ found. IfNone found (NoneInitial history.now a b)) }
+{
+    match begins_behind_initial(alloc, history, a, b)? {
+        Some(begins) => Ok(Some(Operations {
+            first: read_before(history, a, b, begins),
+            second: begins,
+        })),
+        None => Ok(None),
+    }
 }

@@ -1,6 +1,6 @@
 //! Reads of a node that do not see a write of another.
 
-ghost use Rattle.std.specs.Prelude.{◌≡◌, ◌≢◌, ◌<◌, None, IfSome, IfNone, position};
+ghost use Rattle.std.specs.Prelude.{◌≡◌, ◌≢◌, ◌<◌, None, IfSome, IfNone};
 ghost use Rattle.serializability.specs.Reads.{IsClean};
 ghost use Rattle.log_definitions.specs.Numbers.{log_of};
 ghost use Rattle.session_history.specs.Rows.{event_key};
@@ -9,6 +9,7 @@ ghost use Rattle.reasons.specs.Events as spec;
 ghost use Rattle.reasons.specs.Given.{IsLeastOverwrite, NoneOverwritten};
 
 use crate::operations::Operations;
+use crate::read::first_read;
 use serializability::{Event, NodeIx};
 use session_history::History;
 
@@ -17,16 +18,6 @@ use session_history::History;
 pub struct KeyWrite {
     pub key: usize,
     pub place: usize,
-}
-
-/// Whether an operation is a read of the key.
-fn is_read_of(key: usize, event: Event) -> bool
-    ensures { result ≡ spec.is_read_of key event }
-{
-    match event {
-        Event::Read { key: read, .. } => read == key,
-        Event::Write { .. } => false,
-    }
 }
 
 /// Whether both nodes read the key from one node.
@@ -88,16 +79,6 @@ fn least_write(history: &History, a: NodeIx, b: NodeIx) -> Option<KeyWrite>
         least = least_after(history, a, b, least, place, *event);
     }
     least
-}
-
-/// The first read of the key in a node.
-fn first_read(history: &History, node: NodeIx, key: usize) -> Option<usize>
-    ensures { result ≡ position (spec.is_read_of key) ((log_of history.now).ops node) }
-{
-    history
-        .events_of(node)
-        .iter()
-        .position(|event| is_read_of(key, *event))
 }
 
 /// The first read in `a` of the least key that both nodes read alike and `b` writes, and the first write of it in `b`.

@@ -10,6 +10,26 @@ use crate::operations::Operations;
 use serializability::{Event, NodeIx};
 use session_history::History;
 
+/// Whether an operation is a read of the key.
+fn is_read_of(key: usize, event: Event) -> bool
+    ensures { result ≡ spec.is_read_of key event }
+{
+    match event {
+        Event::Read { key: read, .. } => read == key,
+        Event::Write { .. } => false,
+    }
+}
+
+/// The first read of the key in a node.
+pub fn first_read(history: &History, node: NodeIx, key: usize) -> Option<usize>
+    ensures { result ≡ position (spec.is_read_of key) ((log_of history.now).ops node) }
+{
+    history
+        .events_of(node)
+        .iter()
+        .position(|event| is_read_of(key, *event))
+}
+
 /// Whether an operation is a read that names this one, which is a write.
 fn names(read: Event, write: Event) -> bool
     ensures { result ≡ spec.names read write }

@@ -6,7 +6,7 @@ ghost use Rattle.log_definitions.specs.Numbers.{log_of};
 ghost use Rattle.reason_laws.specs.Reasons.{IsNode, AreOfSession, EndsBefore};
 ghost use Rattle.reasons.specs.Given.{IsReason, IsOfFirstKind, IsLeast, HaveNone};
 
-use crate::initial::begins_behind_initial;
+use crate::initial::before_by_initial;
 use crate::overwritten::overwritten_by;
 use crate::read::read_by;
 use serializability::NodeIx;
@@ -22,9 +22,9 @@ pub enum Reason {
     Read { written: usize, read: usize },
     /// Both read the same write of a key, by operation `read` of the first, and operation `overwrites` of the second writes the key.
     Overwritten { read: usize, overwrites: usize },
-    /// The first belongs to the chain of a key's initial value, or reads from one that does; operation `begins` of the second,
-    /// which reads the key from nobody, writes it.
-    Initial { begins: usize },
+    /// Operation `read` of the first names a key's initial value, or a write of the chain that begins with it; operation `begins` of
+    /// the second, which reads the key from nobody, writes it.
+    Initial { read: usize, begins: usize },
     /// The first ended before the second began.
     Moments,
 }
@@ -89,8 +89,11 @@ pub fn reason_of(
             overwrites: found.second,
         }));
     }
-    if let Some(begins) = begins_behind_initial(alloc, history, a, b)? {
-        return Ok(Some(Reason::Initial { begins }));
+    if let Some(found) = before_by_initial(alloc, history, a, b)? {
+        return Ok(Some(Reason::Initial {
+            read: found.first,
+            begins: found.second,
+        }));
     }
     if ended_before(history, a, b) {
         return Ok(Some(Reason::Moments));

@@ -64,7 +64,7 @@ reason_before : (ss : List ClientSession) (order : List ℕ) → Setting ss orde
 reason_before ss order s a b reason.Session h = session_kept ss order s.well s.serial a b h
 reason_before ss order s a b (reason.Read written read) h = read_kept ss order s.well s.serial a written b read h
 reason_before ss order s a b (reason.Overwritten read overwrites) h = overwritten_kept ss order s.well s.serial a read b overwrites h
-reason_before ss order s a b (reason.Initial begins) h = initial_kept ss order s.well s.serial a b begins h
+reason_before ss order s a b (reason.Initial read begins) h = initial_kept ss order s.well s.serial a read b begins h
 reason_before ss order s a b reason.Moments h = ended_kept ss order s.well s.serial a b h
 
 why_before : (ss : List ClientSession) (order : List ℕ) → Setting ss order → (steps decided : List ChainOrder) → AreKept ss order steps → AreKept ss order decided → (a b : ℕ) (w : Why) → IsWhy ss steps decided a b w → Before order a b

@@ -185,7 +185,7 @@ reason_within : (ss : List ClientSession) (test : ℕ → ℕ → Bool) (table :
 reason_within ss test table a b reason.Session rows first second h = record { each = tt }
 reason_within ss test table a b (reason.Read written read) rows first second h = record { each = (op_within ss test table a written _ rows first h.writes, (op_within ss test table b read _ rows second h.reads, tt)) }
 reason_within ss test table a b (reason.Overwritten read overwrites) rows first second h = record { each = (op_within ss test table a read _ rows first h.reads.read, (op_within ss test table b overwrites _ rows second h.writes, tt)) }
-reason_within ss test table a b (reason.Initial begins) rows first second h = record { each = (op_within ss test table b begins _ rows second h.writes, tt) }
+reason_within ss test table a b (reason.Initial read begins) rows first second h = record { each = (op_within ss test table a read _ rows first h.reads.read, (op_within ss test table b begins _ rows second h.writes, tt)) }
 reason_within ss test table a b reason.Moments rows first second h = record { each = tt }
 
 why_within : (ss : List ClientSession) (test : ℕ → ℕ → Bool) (table : List (Vec Bool Global)) (a b : ℕ) (w : Why) → AreRows ss ((log_of ss).nodes + 1) test table → IsNode ss a → IsNode ss b → CanTell ss a b w → AreWithin (why_names a b w) table

@@ -25,7 +25,7 @@ abbrev pub reason_names : ℕ → ℕ → Reason → List (ℕ × ℕ)
 reason_names a b reason.Session = []
 reason_names a b (reason.Read written read) = (a, written) ∷ (b, read) ∷ []
 reason_names a b (reason.Overwritten read overwrites) = (a, read) ∷ (b, overwrites) ∷ []
-reason_names a b (reason.Initial begins) = (b, begins) ∷ []
+reason_names a b (reason.Initial read begins) = (a, read) ∷ (b, begins) ∷ []
 reason_names a b reason.Moments = []
 
 abbrev pub why_names : ℕ → ℕ → Why → List (ℕ × ℕ)
@@ -124,14 +124,14 @@ abbrev pub reason_kind : Reason → List ℕ
 reason_kind reason.Session = codes "session"
 reason_kind (reason.Read written read) = codes "read"
 reason_kind (reason.Overwritten read overwrites) = codes "anti-dependency"
-reason_kind (reason.Initial begins) = codes "version order"
+reason_kind (reason.Initial read begins) = codes "version order"
 reason_kind reason.Moments = codes "moments"
 
 abbrev pub reason_colour : Reason → List ℕ
 reason_colour reason.Session = codes "black"
 reason_colour (reason.Read written read) = codes "blue"
 reason_colour (reason.Overwritten read overwrites) = codes "red"
-reason_colour (reason.Initial begins) = codes "darkgreen"
+reason_colour (reason.Initial read begins) = codes "darkgreen"
 reason_colour reason.Moments = codes "purple"
 
 abbrev pub chosen_kind : List ClientSession → ChainOrder → List ℕ

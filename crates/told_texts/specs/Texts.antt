@@ -1,10 +1,11 @@
--- How an explanation is written as text, a line for each thing that it says. `begin v` is the line at which node v begins.
+-- How an explanation is written as text, a line for each thing that it says, and two for a step. `begin v` is the line at which node v begins.
 use Rattle.std.specs.Prelude.{◌≤◌, ◌<◌, ◌^◌, ℕ, ◌+◌, ◌*◌, List, [], ◌∷◌, ◌++◌, codes, decimal, replicate}
 use Rattle.std.specs.List.{AllByRecursion}
 use Rattle.session_log.specs.Text.{ClientSession}
 use Rattle.log_definitions.specs.Numbers.{log_of}
 use Rattle.reason_laws.specs.Reasons.{IsNode}
 use Rattle.explanations.specs.Reasons.{named, key_bytes, why_text, CanTell}
+use Rattle.explanations.specs.Versions.{version_text, otherwise_text}
 use Rattle.explanations.specs.declared.why.ChainOrder.{ChainOrder}
 use Rattle.forced_steps.specs.declared.item.Item.{Item}
 use Rattle.forced_steps.specs.declared.item.Item.TheVariants.{Step, Edge, Cycle, Decided, Leaves}
@@ -13,18 +14,25 @@ use Rattle.forced_steps.specs.declared.item.Item.TheVariants.{Step, Edge, Cycle,
 abbrev pub indent : ℕ → List ℕ
 indent depth = replicate (2 * depth) 32
 
--- `[1] x: the chain of 2.1 before the chain of 1.1, since the other way 1.1 stands before 4.1, against:`
-abbrev pub step_line : List ClientSession → ℕ → ChainOrder → ℕ → ℕ → List ℕ
-step_line ss number o u v =
-    codes "[" ++ decimal number ++ codes "] " ++ key_bytes ss o.key ++ codes ": the chain of " ++ named ss o.first ++ codes " before the chain of " ++ named ss o.second
-    ++ codes ", since the other way " ++ named ss u ++ codes " stands before " ++ named ss v ++ codes ", against:\n"
+-- `[1] x: 25, which 2.1 wrote (line 9), comes before 20, which 1.1 wrote (line 4):`
+abbrev pub versions_line : List ClientSession → (ℕ → ℕ) → ℕ → ChainOrder → List ℕ
+versions_line ss begin number o =
+    codes "[" ++ decimal number ++ codes "] " ++ key_bytes ss o.key ++ codes ": " ++ version_text ss begin o.key o.first
+    ++ codes ", comes before " ++ version_text ss begin o.key o.second ++ codes ":\n"
+
+-- `    4.1 read 20 (line 15), so otherwise it would stand before 2.1, but`
+abbrev pub otherwise_line : List ClientSession → (ℕ → ℕ) → ChainOrder → ℕ → ℕ → List ℕ
+otherwise_line ss begin o u v = codes "    " ++ otherwise_text ss begin o.key o.second u ++ codes " would stand before " ++ named ss v ++ codes ", but\n"
+
+abbrev pub step_lines : List ClientSession → (ℕ → ℕ) → ℕ → ChainOrder → ℕ → ℕ → List ℕ
+step_lines ss begin number o u v = versions_line ss begin number o ++ otherwise_line ss begin o u v
 
 -- `x: the chain of 1.1 first`
 abbrev pub order_line : List ClientSession → ChainOrder → List ℕ
 order_line ss o = key_bytes ss o.key ++ codes ": the chain of " ++ named ss o.first ++ codes " first\n"
 
 abbrev pub item_line : List ClientSession → (ℕ → ℕ) → Item → List ℕ
-item_line ss begin (Step number o u v) = step_line ss number o u v
+item_line ss begin (Step number o u v) = step_lines ss begin number o u v
 item_line ss begin (Edge a b why) = why_text ss begin a b why
 item_line ss begin (Cycle start edges) = codes "cycle from " ++ named ss start ++ codes ":\n"
 item_line ss begin (Decided depth o) = order_line ss o

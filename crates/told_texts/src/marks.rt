@@ -83,7 +83,7 @@ fn mark_reason(operations: &mut [Vec<bool>], first: NodeIx, second: NodeIx, reas
         Reason::Overwritten { read, overwrites } => {
             mark_both(operations, first, read, second, overwrites)
         }
-        Reason::Initial { begins } => mark(operations, second, begins),
+        Reason::Initial { read, begins } => mark_both(operations, first, read, second, begins),
     }
 }
 

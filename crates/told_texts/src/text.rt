@@ -6,7 +6,9 @@ ghost use Rattle.explanations.specs.Lines.{begin_at, AreLines};
 ghost use Rattle.told_texts.specs.Texts as spec;
 ghost use Rattle.told_texts.specs.Texts.{IsOrderOf, IsTellable, AreTellable};
 
-use explanations::{ChainOrder, put_edge, put_key, put_named, put_number};
+use explanations::{
+    ChainOrder, put_edge, put_key, put_named, put_number, put_otherwise, put_version,
+};
 use forced_steps::Item;
 use serializability::NodeIx;
 use session_history::History;
@@ -22,31 +24,72 @@ fn put_indent(out: &mut Vec<u8>, depth: usize) -> Result<(), AllocError>
     Ok(())
 }
 
-/// Appends the line of a forced step.
-fn put_step(
+/// Appends the versions of a key of which a forced step says that the one comes before the other.
+fn put_versions(
     out: &mut Vec<u8>,
     history: &History,
+    begins: &[usize],
     number: usize,
-    order: ChainOrder,
-    source: NodeIx,
-    target: NodeIx,
+    order: &ChainOrder,
 ) -> Result<(), AllocError>
-    requires order { IsOrderOf history.now order }
-    requires source { source ≤ (log_of history.now).nodes }
-    requires target { target ≤ (log_of history.now).nodes }
+    requires lines { AreLines history.now begins.now }
+    requires order { IsOrderOf history.now order.now }
     ensures text { OnOk result (out.new.items
-        ≡ out.old.items ++ spec.step_line history.now number order source target) }
+        ≡ out.old.items ++ spec.versions_line history.now (begin_at begins.now) number order.now) }
 {
     out.extend_from_slice(b"[")?;
     put_number(out, number as u64)?;
     out.extend_from_slice(b"] ")?;
     put_key(out, history, order.key)?;
-    put_named(out, b": the chain of ", history, order.first)?;
-    put_named(out, b" before the chain of ", history, order.second)?;
-    put_named(out, b", since the other way ", history, source)?;
-    put_named(out, b" stands before ", history, target)?;
-    out.extend_from_slice(b", against:\n")?;
+    out.extend_from_slice(b": ")?;
+    put_version(out, history, begins, order.key, order.first)?;
+    out.extend_from_slice(b", comes before ")?;
+    put_version(out, history, begins, order.key, order.second)?;
+    out.extend_from_slice(b":\n")?;
     Ok(())
+}
+
+/// Appends who would stand before whom otherwise, and by which read.
+fn put_other_way(
+    out: &mut Vec<u8>,
+    history: &History,
+    begins: &[usize],
+    order: &ChainOrder,
+    source: NodeIx,
+    target: NodeIx,
+) -> Result<(), AllocError>
+    requires lines { AreLines history.now begins.now }
+    requires source { source ≤ (log_of history.now).nodes }
+    requires target { target ≤ (log_of history.now).nodes }
+    ensures text { OnOk result (out.new.items
+        ≡ out.old.items ++ spec.otherwise_line history.now (begin_at begins.now) order.now source target) }
+{
+    out.extend_from_slice(b"    ")?;
+    put_otherwise(out, history, begins, order.key, order.second, source)?;
+    put_named(out, b" would stand before ", history, target)?;
+    out.extend_from_slice(b", but\n")?;
+    Ok(())
+}
+
+/// Appends the two lines of a forced step.
+fn put_step(
+    out: &mut Vec<u8>,
+    history: &History,
+    begins: &[usize],
+    number: usize,
+    order: ChainOrder,
+    source: NodeIx,
+    target: NodeIx,
+) -> Result<(), AllocError>
+    requires lines { AreLines history.now begins.now }
+    requires order { IsOrderOf history.now order }
+    requires source { source ≤ (log_of history.now).nodes }
+    requires target { target ≤ (log_of history.now).nodes }
+    ensures text { OnOk result (out.new.items
+        ≡ out.old.items ++ spec.step_lines history.now (begin_at begins.now) number order source target) }
+{
+    put_versions(out, history, begins, number, &order)?;
+    put_other_way(out, history, begins, &order, source, target)
 }
 
 /// Appends the line of an order of two chains.
@@ -81,7 +124,7 @@ fn put_leaves(out: &mut Vec<u8>, count: usize) -> Result<(), AllocError>
     Ok(())
 }
 
-/// Appends the line of an item.
+/// Appends the lines of an item.
 fn put_item(
     out: &mut Vec<u8>,
     history: &History,
@@ -99,7 +142,7 @@ fn put_item(
             order,
             source,
             target,
-        } => put_step(out, history, number, order, source, target),
+        } => put_step(out, history, begins, number, order, source, target),
         Item::Edge { first, second, why } => put_edge(out, history, begins, first, second, why),
         Item::Cycle { start, edges: _ } => put_start(out, history, start),
         Item::Decided { depth: _, order } => put_order(out, history, order),

@@ -1,5 +1,5 @@
 use clap::Error;
-use cobra_words::{Command, FormatWord, Request, StrategyWord, Words, words_of};
+use cobra_words::{Command, FormatWord, PiecesWord, Request, StrategyWord, Words, words_of};
 use std::alloc::Global;
 use std::process::Abort;
 
@@ -66,6 +66,15 @@ fn refused_words(rt: HostRuntime) {
         "cobra_poly verify log",
         "cobra_poly verify --order o --workers 4 log",
         "cobra_poly verify --order o --plain log",
+        "cobra_poly audit --size 0 log",
+        "cobra_poly audit --size 901 log",
+        "cobra_poly audit --seconds 0 log",
+        "cobra_poly audit --format dot log",
+        "cobra_poly audit --plain log",
+        "cobra_poly check --size 3 log",
+        "cobra_poly pieces --piece 0 log",
+        "cobra_poly pieces --piece 1 --into d log",
+        "cobra_poly pieces --budget 3 log",
     ] {
         see_status(&rt, rt.alloc(), line, 2);
     }
@@ -122,6 +131,11 @@ fn texts_of_help(rt: HostRuntime) {
             "cobra_poly stats --help",
             "How many workers take part, 1 to 16 [default: 4]\n",
         ),
+        (
+            "cobra_poly audit --help",
+            "How many cubes a search may close, 1 to 1000000 [default: 100000]\n",
+        ),
+        ("cobra_poly pieces --help", "each as K.log, and as K.map"),
     ] {
         see_text(&rt, rt.alloc(), line, part);
     }
@@ -228,5 +242,77 @@ fn words_of_explain(rt: HostRuntime) {
         ),
     ] {
         see_form(&rt, rt.alloc(), line, form);
+    }
+}
+
+/// The size, the least number of commits and the seconds of a call, and its budget, where it is one of `audit`.
+fn audit_asked(request: &Request<'_>) -> Option<(Option<usize>, usize, Option<u32>, usize)> {
+    match &request.command {
+        Command::Audit(words) => Some((
+            words.size,
+            words.at_least,
+            words.seconds,
+            request.budget.get(),
+        )),
+        _ => None,
+    }
+}
+
+/// Words are a call of `audit` with these.
+fn see_audit(
+    rt: &impl Abort,
+    alloc: Global,
+    line: &str,
+    wanted: (Option<usize>, usize, Option<u32>, usize),
+) {
+    let words = words(rt, alloc, line);
+    assert!(rt;
+        audit_asked(&request(rt, alloc, &words)) == Some(wanted),
+        "{line}"
+    );
+}
+
+#[test]
+fn words_of_audit(rt: HostRuntime) {
+    for (line, wanted) in [
+        ("cobra_poly audit log", (None, 1, None, 100_000)),
+        (
+            "cobra_poly audit --size 900 --at-least 100 --seconds 60 --budget 1",
+            (Some(900), 100, Some(60), 1),
+        ),
+    ] {
+        see_audit(&rt, rt.alloc(), line, wanted);
+    }
+}
+
+/// Whether a call is one of `pieces` that asks for the log of this one, or into this directory.
+fn asks_for(request: &Request<'_>, number: usize, directory: &str) -> bool {
+    match &request.command {
+        Command::Pieces { wanted, .. } => match wanted {
+            PiecesWord::List => number == 0 && directory.is_empty(),
+            PiecesWord::Piece(piece) => *piece == number,
+            PiecesWord::Into(into) => *into == directory,
+        },
+        _ => false,
+    }
+}
+
+/// Words are a call of `pieces` that asks for this.
+fn see_pieces(rt: &impl Abort, alloc: Global, line: &str, number: usize, directory: &str) {
+    let words = words(rt, alloc, line);
+    assert!(rt;
+        asks_for(&request(rt, alloc, &words), number, directory),
+        "{line}"
+    );
+}
+
+#[test]
+fn words_of_pieces(rt: HostRuntime) {
+    for (line, number, directory) in [
+        ("cobra_poly pieces --size 3 log", 0, ""),
+        ("cobra_poly pieces --piece 17", 17, ""),
+        ("cobra_poly pieces --into new log", 0, "new"),
+    ] {
+        see_pieces(&rt, rt.alloc(), line, number, directory);
     }
 }

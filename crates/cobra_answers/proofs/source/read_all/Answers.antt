@@ -7,8 +7,8 @@ use Rattle.cobra_answers.proofs.source.read_all.Goals as goal
 pub loop-text-init : goal.loop-text-init
 loop-text-init g c = record {
   taken = subst (λ (t : List ℕ). Takes (g.S.Source.rest c.args.source.now) (g.S.Source.rest c.args.source.now) t)
-      (sym c.in_ok-text.ensures.items) (takes_nothing (g.S.Source.rest c.args.source.now));
-  most = omega (arith, c.in_ok-text.ensures.len);
+      (sym c.new-text.ensures.items) (takes_nothing (g.S.Source.rest c.args.source.now));
+  most = omega (arith, c.new-text.ensures.len);
   count = refl;
   room = omega (arith, c.in_ok-piece.ensures.len);
 }

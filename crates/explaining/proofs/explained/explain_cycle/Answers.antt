@@ -2,24 +2,23 @@ use Rattle.std.proofs.Common.{[], subst, sym, lit<}
 use Rattle.std.proofs.lemmas.Result.{IfOk-weaker}
 use Rattle.headline.proofs.Answered.{clean_log}
 use Rattle.explanations.specs.Lines.{begin_at}
-use Rattle.forced_steps.specs.Steps.{IsLineTold}
 use Rattle.told_texts.specs.Texts.{AreTellable}
-use Rattle.explaining.proofs.Premises.{are_written}
+use Rattle.explaining.proofs.Premises.{cycle_written}
 use Rattle.explaining.proofs.Tellable.{line_tellable}
 use Rattle.explaining.proofs.explained.explain_cycle.Goals as goal
 
 pub tell_cycle-requires-clause-clean : goal.tell_cycle-requires-clause-clean
 tell_cycle-requires-clause-clean c = clean_log c.args.history.now c.committed-nodes.ensures.well_formed c.requires.none
 
-pub written-requires-clause-items : goal.written-requires-clause-items
-written-requires-clause-items c =
+pub written_cycle-requires-clause-items : goal.written_cycle-requires-clause-items
+written_cycle-requires-clause-items c =
     let ss = c.args.history.now in
     let items = c.in_ok-items.items.items in
     subst (AreTellable ss) (sym c.deref.ensures.value) (line_tellable ss [] [] c.args.line.now items (lit< tt) tt tt c.in_ok-items.ensures.told)
 
 pub returns : goal.returns
 returns c = record {
-  written = IfOk-weaker c.written.result _ _
-      (λ made e. are_written (IsLineTold c.args.history.now [] [] c.args.line.now) c.args.format c.args.history.now (begin_at c.args.begins.now) c.in_ok-items.items.items c.deref.result.now made.items c.in_ok-items.ensures.told c.deref.ensures.value e)
-      c.written.ensures.text;
+  written = IfOk-weaker c.written_cycle.result _ _
+      (λ made e. cycle_written c.args.line.now c.args.format c.args.history.now (begin_at c.args.begins.now) c.in_ok-items.items.items c.deref.result.now made.items c.in_ok-items.ensures.told c.deref.ensures.value e)
+      c.written_cycle.ensures.text;
 }

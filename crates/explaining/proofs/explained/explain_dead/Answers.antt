@@ -10,11 +10,11 @@ use Rattle.explaining.proofs.explained.explain_dead.Goals as goal
 pub chains_of-requires-clause-clean : goal.chains_of-requires-clause-clean
 chains_of-requires-clause-clean c = unpruned_clean c.args.history.now c.requires.dead.poly c.committed-nodes.ensures.well_formed c.requires.dead.unpruned
 
-pub tell_dead-requires-clause-clean : goal.tell_dead-requires-clause-clean
-tell_dead-requires-clause-clean c = unpruned_clean c.args.history.now c.requires.dead.poly c.committed-nodes.ensures.well_formed c.requires.dead.unpruned
+pub dead_items-requires-clause-clean : goal.dead_items-requires-clause-clean
+dead_items-requires-clause-clean c = unpruned_clean c.args.history.now c.requires.dead.poly c.committed-nodes.ensures.well_formed c.requires.dead.unpruned
 
-pub tell_dead-requires-clause-ledger : goal.tell_dead-requires-clause-ledger
-tell_dead-requires-clause-ledger c = dead_ledger c.args.history.now c.args.ledger.now c.requires.dead
+pub dead_items-requires-clause-ledger : goal.dead_items-requires-clause-ledger
+dead_items-requires-clause-ledger c = dead_ledger c.args.history.now c.args.ledger.now c.requires.dead
 
 pub written-requires-clause-items : goal.written-requires-clause-items
 written-requires-clause-items c =

@@ -11,8 +11,8 @@ use Rattle.explaining.proofs.explained.explain_tree.Goals as goal
 pub chains_of-requires-clause-clean : goal.chains_of-requires-clause-clean
 chains_of-requires-clause-clean c = unpruned_clean c.args.history.now c.requires.left.poly c.committed-nodes.ensures.well_formed c.requires.left.unpruned
 
-pub tell_tree-requires-clause-clean : goal.tell_tree-requires-clause-clean
-tell_tree-requires-clause-clean c = unpruned_clean c.args.history.now c.requires.left.poly c.committed-nodes.ensures.well_formed c.requires.left.unpruned
+pub tree_items-requires-clause-clean : goal.tree_items-requires-clause-clean
+tree_items-requires-clause-clean c = unpruned_clean c.args.history.now c.requires.left.poly c.committed-nodes.ensures.well_formed c.requires.left.unpruned
 
 pub written-requires-clause-items : goal.written-requires-clause-items
 written-requires-clause-items c =

@@ -21,11 +21,11 @@ overwritten_by-requires-clause-first c = node_from c.args.history.now c.args.a c
 pub overwritten_by-requires-clause-second : goal.overwritten_by-requires-clause-second
 overwritten_by-requires-clause-second c = node_from c.args.history.now c.args.b c.requires.second.0 c.requires.second.1
 
-pub begins_behind_initial-requires-clause-first : goal.begins_behind_initial-requires-clause-first
-begins_behind_initial-requires-clause-first c = node_from c.args.history.now c.args.a c.requires.first.0 c.requires.first.1
+pub before_by_initial-requires-clause-first : goal.before_by_initial-requires-clause-first
+before_by_initial-requires-clause-first c = node_from c.args.history.now c.args.a c.requires.first.0 c.requires.first.1
 
-pub begins_behind_initial-requires-clause-second : goal.begins_behind_initial-requires-clause-second
-begins_behind_initial-requires-clause-second c = node_from c.args.history.now c.args.b c.requires.second.0 c.requires.second.1
+pub before_by_initial-requires-clause-second : goal.before_by_initial-requires-clause-second
+before_by_initial-requires-clause-second c = node_from c.args.history.now c.args.b c.requires.second.0 c.requires.second.1
 
 pub ended_before-requires-clause-first : goal.ended_before-requires-clause-first
 ended_before-requires-clause-first c = node_from c.args.history.now c.args.a c.requires.first.0 c.requires.first.1
@@ -38,7 +38,7 @@ returns-then-ended_before-clause-first c = (
   λ s. false≢true (sym c.if-are_of_session.false ∙ c.are_of_session.ensures.1 s),
   c.in_default.ensures.none,
   c.in_default-overwritten_by.ensures.none,
-  rw c.in_default-2.is at c.in_ok-begins.ensures.none,
+  rw c.in_default-2.is at c.in_ok-found.ensures.none,
 )
 
 pub returns-clause-none : goal.returns-clause-none
@@ -46,6 +46,6 @@ returns-clause-none c = record {
   session = λ s. false≢true (sym c.if-are_of_session.false ∙ c.are_of_session.ensures.1 s);
   read = c.in_default.ensures.none;
   overwritten = c.in_default-overwritten_by.ensures.none;
-  initial = rw c.in_default-2.is at c.in_ok-begins.ensures.none;
+  initial = rw c.in_default-2.is at c.in_ok-found.ensures.none;
   moments = λ e. false≢true (sym c.if-ended_before.false ∙ c.ended_before.ensures.1 e);
 }

@@ -1,0 +1,24 @@
+//! The command `audit`: what is said of a log of any length, over the bytes of the log and a sink.
+//!
+//! # What is promised
+//!
+//! The first line and the status are those of the verdict on the whole log, the code and the piece that are told belong together, and the
+//! counts are those of the log. What stands between them, where a piece lies and how to go on, is told without a promise.
+#![tactic(auto)]
+
+mod command;
+mod counting;
+mod lying;
+mod objects;
+mod openings;
+mod options;
+mod refuted;
+mod reports;
+mod told;
+mod totals;
+mod undecided;
+
+pub use command::audit;
+pub use openings::status_of;
+pub use options::{AuditOptions, Form};
+pub use totals::Totals;

@@ -1,0 +1,80 @@
+//! Where transactions lie in a log.
+
+use cutting::Part;
+use session_log::{Session, Txn, Version};
+use std::alloc::{AllocError, Global};
+
+/// How many lines transactions have.
+fn line_count(txns: &[Txn]) -> usize {
+    let mut count: usize = 0;
+    for txn in txns {
+        count = count.saturating_add(txn.ops.len()).saturating_add(2);
+    }
+    count
+}
+
+/// The lines of a log.
+#[derive(Drop)]
+pub struct Lines<'a> {
+    sessions: &'a [Session],
+    /// The line at which each session begins.
+    begins: Vec<usize>,
+}
+
+/// Where the transactions of a part lie: the places of the first and the last of them in their session, and the lines of the log.
+#[derive(Clone, Copy)]
+pub struct Span {
+    pub session: u16,
+    pub first: usize,
+    pub last: usize,
+    pub begin: usize,
+    pub end: usize,
+}
+
+impl<'a> Lines<'a> {
+    /// Those of a log of this version, of these sessions.
+    pub fn of(
+        alloc: Global,
+        version: Version,
+        sessions: &'a [Session],
+    ) -> Result<Lines<'a>, AllocError> {
+        let mut begins = Vec::new(alloc);
+        let mut line = version.first_line();
+        for session in sessions {
+            begins.push(line)?;
+            line = line
+                .saturating_add(1)
+                .saturating_add(line_count(&session.txns));
+        }
+        Ok(Lines { sessions, begins })
+    }
+
+    /// The line at which a transaction begins before which so many stand in this session.
+    pub fn begin_of(&self, session: usize, before: usize) -> usize {
+        let earlier = match self.sessions.get(session) {
+            Some(of) => match of.txns.get(..before) {
+                Some(earlier) => line_count(earlier),
+                None => 0,
+            },
+            None => 0,
+        };
+        match self.begins.get(session) {
+            Some(begin) => begin.saturating_add(1).saturating_add(earlier),
+            None => 0,
+        }
+    }
+
+    /// Where a part lies.
+    pub fn span_of(&self, part: &Part) -> Span {
+        let begin = self.begin_of(part.session, part.before);
+        Span {
+            session: part.number,
+            first: part.before.saturating_add(1),
+            last: part.before.saturating_add(part.txns.len()),
+            begin,
+            end: begin
+                .saturating_add(line_count(part.txns))
+                .saturating_sub(1),
+        }
+    }
+}

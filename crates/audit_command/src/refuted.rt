@@ -1,0 +1,121 @@
+//! What is told of a refuted piece.
+
+use crate::lying::{Lines, Span};
+use crate::options::AuditOptions;
+use auditing::Refuted;
+use cutting::Part;
+use deciding::StrategyName;
+use held_pieces::Pieces;
+use std::alloc::{AllocError, Global};
+
+/// Of how many sessions it is told where the piece lies.
+const LISTED: usize = 20;
+
+fn span_text(alloc: Global, span: Span) -> Result<String, AllocError> {
+    let session = span.session;
+    let first = span.first;
+    let last = span.last;
+    let begin = span.begin;
+    let end = span.end;
+    if first == last {
+        return format!(in alloc; "{session}.{first} (lines {begin} to {end})");
+    }
+    format!(in alloc; "{session}.{first} to {session}.{last} (lines {begin} to {end})")
+}
+
+/// Which transactions a piece of these parts has.
+fn lying_text(alloc: Global, lines: &Lines, parts: &[Part]) -> Result<String, AllocError> {
+    let mut text = String::from_str(alloc, "transactions")?;
+    for (i, part) in parts.iter().take(LISTED).enumerate() {
+        if i > 0 {
+            text.push_str(",")?;
+        }
+        let span = span_text(alloc, lines.span_of(part))?;
+        text.push_str(" ")?;
+        text.push_str(&span)?;
+    }
+    let more = parts.len().saturating_sub(LISTED);
+    if more > 0 {
+        let more = format!(in alloc; " and {more} more sessions")?;
+        text.push_str(&more)?;
+    }
+    text.push_str("\n")?;
+    Ok(text)
+}
+
+fn strategy_word(strategy: StrategyName) -> &'static str {
+    match strategy {
+        StrategyName::First => "first",
+        StrategyName::Most => "most",
+        StrategyName::Least => "least",
+        StrategyName::Forced => "forced",
+    }
+}
+
+/// Whether a shell takes the byte as it is.
+fn is_plain(byte: u8) -> bool {
+    byte.is_ascii_alphanumeric()
+        || matches!(
+            byte,
+            b'_' | b'.' | b'/' | b':' | b'-' | b'+' | b'=' | b'@' | b'%' | b','
+        )
+}
+
+/// A name as a word of a shell.
+fn shell_word(alloc: Global, name: &str) -> Result<String, AllocError> {
+    if !name.is_empty() && name.as_bytes().iter().all(|byte| is_plain(*byte)) {
+        return String::from_str(alloc, name);
+    }
+    let mut word = String::from_str(alloc, "'")?;
+    for letter in name.chars() {
+        if letter == '\'' {
+            word.push_str("'\\''")?;
+        } else {
+            word.push(letter)?;
+        }
+    }
+    word.push_str("'")?;
+    Ok(word)
+}
+
+/// The two commands that tell why the piece has no order.
+pub fn commands(
+    alloc: Global,
+    options: &AuditOptions<'_>,
+    refuted: Refuted,
+) -> Result<String, AllocError> {
+    let number = refuted.piece.saturating_add(1);
+    let strategy = strategy_word(options.means.strategy);
+    let budget = options.means.budget.get();
+    let size = match options.size {
+        Some(size) => format!(in alloc; " --size {size}")?,
+        None => String::new(alloc),
+    };
+    let front = match options.file {
+        Some(_) => "",
+        None => "keep the log in a file, then:\n",
+    };
+    let name = match options.file {
+        Some(name) => shell_word(alloc, name)?,
+        None => String::from_str(alloc, "LOG")?,
+    };
+    format!(in alloc;
+        "{front}cobra_poly pieces{size} --piece {number} {name} > piece.log\ncobra_poly explain --strategy {strategy} --budget {budget} piece.log\n"
+    )
+}
+
+/// The lines behind that of the finding: where the piece lies, and why it has no order.
+pub fn refuted_text(
+    alloc: Global,
+    lines: &Lines,
+    pieces: &Pieces,
+    refuted: Refuted,
+    why: &str,
+) -> Result<String, AllocError> {
+    if refuted.piece >= pieces.count() {
+        return Ok(String::new(alloc));
+    }
+    let mut text = lying_text(alloc, lines, pieces.parts(refuted.piece))?;
+    text.push_str(why)?;
+    Ok(text)
+}

@@ -1,0 +1,151 @@
+//! What is told of pieces that are not decided.
+
+use crate::counting::is_committed;
+use crate::lying::Lines;
+use auditing::{Undecided, Why, counted};
+use cutting::Part;
+use held_pieces::Pieces;
+use serializability::MAX_NODES;
+use session_log::{
+    Limit, MAX_KEYS, MAX_LOG_BYTES, MAX_OPERATIONS, MAX_SESSIONS, Session, Txn, print_log,
+};
+use std::alloc::{AllocError, Global};
+
+/// Of how many pieces it is told why they are not decided.
+const LISTED: usize = 10;
+
+fn node_count(sessions: &[Session]) -> usize {
+    let mut count: usize = 0;
+    for session in sessions {
+        for txn in &session.txns {
+            if is_committed(txn) {
+                count = count.saturating_add(1);
+            }
+        }
+    }
+    count
+}
+
+fn operation_count(sessions: &[Session]) -> usize {
+    let mut count: usize = 0;
+    for session in sessions {
+        for txn in &session.txns {
+            count = count.saturating_add(txn.ops.len());
+        }
+    }
+    count
+}
+
+/// How much a log has of this, what it is, and how much it may have.
+fn excess(
+    alloc: Global,
+    log: &[Session],
+    which: Limit,
+) -> Result<(usize, &'static str, usize), AllocError> {
+    Ok(match which {
+        Limit::LogBytes => (print_log(alloc, log)?.len(), "bytes", MAX_LOG_BYTES),
+        Limit::Sessions => (log.len(), "sessions", MAX_SESSIONS),
+        Limit::Operations => (operation_count(log), "operations", MAX_OPERATIONS),
+        Limit::Committed => (node_count(log), "transactions", MAX_NODES),
+        Limit::Keys => (counted(alloc, log)?.keys, "keys", MAX_KEYS),
+    })
+}
+
+/// What the log of a piece has too many of.
+fn excess_text(
+    alloc: Global,
+    pieces: &Pieces,
+    piece: usize,
+    which: Limit,
+) -> Result<String, AllocError> {
+    if piece >= pieces.count() {
+        return String::from_str(alloc, "too large");
+    }
+    let log = pieces.log(alloc, piece)?;
+    let (count, what, most) = excess(alloc, &log, which)?;
+    format!(in alloc; "{count} {what}, at most {most}")
+}
+
+fn states_moment(txns: &[Txn]) -> bool {
+    txns.iter()
+        .any(|txn| txn.begun.is_some() || txn.ended.is_some())
+}
+
+/// The first node, of which and of all behind it no end is stated.
+fn open_node(txns: &[Txn]) -> Option<usize> {
+    let mut open = None;
+    for (i, txn) in txns.iter().enumerate() {
+        if is_committed(txn) {
+            if txn.ended.is_some() {
+                open = None;
+            } else if open.is_none() {
+                open = Some(i);
+            }
+        }
+    }
+    open
+}
+
+/// Why a piece was not cut, as far as that can be seen.
+fn uncut_text(alloc: Global, lines: &Lines, parts: &[Part]) -> Result<String, AllocError> {
+    if !parts.iter().any(|part| states_moment(part.txns)) {
+        return String::from_str(alloc, "; no transaction states a moment");
+    }
+    for part in parts {
+        if let Some(node) = open_node(part.txns) {
+            let before = part.before.saturating_add(node);
+            let line = lines.begin_of(part.session, before);
+            let session = part.number;
+            let place = before.saturating_add(1);
+            return format!(in alloc; "; {session}.{place} (line {line}) has no known end");
+        }
+    }
+    Ok(String::new(alloc))
+}
+
+fn too_large_text(
+    alloc: Global,
+    lines: &Lines,
+    pieces: &Pieces,
+    piece: usize,
+    which: Limit,
+) -> Result<String, AllocError> {
+    let mut text = excess_text(alloc, pieces, piece, which)?;
+    if piece < pieces.count() {
+        let uncut = uncut_text(alloc, lines, pieces.parts(piece))?;
+        text.push_str(&uncut)?;
+    }
+    Ok(text)
+}
+
+/// Why a piece is not decided.
+pub fn why_text(
+    alloc: Global,
+    lines: &Lines,
+    pieces: &Pieces,
+    undecided: &Undecided,
+) -> Result<String, AllocError> {
+    match undecided.why {
+        Why::Spent { closed } => format!(in alloc; "{closed} closed"),
+        Why::TooLarge { which } => too_large_text(alloc, lines, pieces, undecided.piece, which),
+        Why::TooManyChoices => String::from_str(alloc, "more than 100000 choices"),
+        Why::NotBegun => String::from_str(alloc, "not begun"),
+    }
+}
+
+/// A line for each of the first undecided pieces.
+pub fn undecided_text(
+    alloc: Global,
+    lines: &Lines,
+    pieces: &Pieces,
+    undecided: &[Undecided],
+) -> Result<String, AllocError> {
+    let mut text = String::new(alloc);
+    for piece in undecided.iter().take(LISTED) {
+        let why = why_text(alloc, lines, pieces, piece)?;
+        let number = piece.piece.saturating_add(1);
+        let line = format!(in alloc; "piece {number}: {why}\n")?;
+        text.push_str(&line)?;
+    }
+    Ok(text)
+}

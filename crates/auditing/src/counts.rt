@@ -1,0 +1,163 @@
+//! How much a log of any length holds.
+
+ghost use Rattle.std.specs.Prelude.{◌≡◌, ◌+◌, ◌-◌, ◌^◌, ◌<◌, ◌++◌, ◌∷◌, [], List, length, map, min, count_by, IfOk, OnOk, IsTrue};
+ghost use Rattle.std.specs.List.{flat_map};
+ghost use Rattle.session_log.specs.Text.{Transaction, view, view_txn};
+ghost use Rattle.session_log.specs.declared.session.Op.{Op};
+ghost use Rattle.log_definitions.specs.Unknown.{txns_in, ops_in, is_committed, is_unknown};
+ghost use Rattle.log_definitions.specs.WellFormed.{is_aborted, keys_in, key_of};
+ghost use Rattle.auditing.specs.Counts.{AreCounts, IsTally, HasKeys};
+
+use session_log::{Key, Op, Outcome, Session, Txn};
+use std::alloc::{AllocError, Global};
+use std::collections::BTreeSet;
+
+/// How much a log holds.
+#[derive(Clone, Copy, Debug, PartialEq, Eq)]
+pub struct LogCounts {
+    pub sessions: usize,
+    /// The transactions that the log says are committed.
+    pub committed: usize,
+    pub aborted: usize,
+    /// Those whose outcome the client was not told.
+    pub unknown: usize,
+    pub keys: usize,
+    pub operations: usize,
+}
+
+/// How many transactions ended in each way, and how many operations they have, each up to `usize::MAX`.
+#[derive(Clone, Copy)]
+pub(crate) struct Tally {
+    committed: usize,
+    aborted: usize,
+    unknown: usize,
+    pub operations: usize,
+}
+
+impl Tally {
+    /// With a transaction more.
+    fn plus(self, txn: &Txn) -> Tally
+        ensures { (txns : List Transaction) → IsTally txns self →
+            IsTally (txns ++ view_txn txn.now ∷ []) result }
+    {
+        let mut tally = self;
+        match txn.outcome {
+            Outcome::Commit => tally.committed = tally.committed.saturating_add(1),
+            Outcome::Abort => tally.aborted = tally.aborted.saturating_add(1),
+            Outcome::Unknown => tally.unknown = tally.unknown.saturating_add(1),
+        }
+        tally.operations = tally.operations.saturating_add(txn.ops.len());
+        tally
+    }
+
+    /// With a session more.
+    fn with_session(self, session: &Session) -> Tally
+        ensures { (txns : List Transaction) → IsTally txns self →
+            IsTally (txns ++ (view session.now).txns) result }
+    {
+        let mut tally = self;
+        for txn in &session.txns {
+            tally = tally.plus(txn);
+        }
+        tally
+    }
+
+    /// Of these sessions.
+    pub fn of(sessions: &[Session]) -> Tally
+        ensures { IsTally (txns_in (map view sessions.now)) result }
+    {
+        let mut tally = Tally {
+            committed: 0,
+            aborted: 0,
+            unknown: 0,
+            operations: 0,
+        };
+        for session in sessions {
+            tally = tally.with_session(session);
+        }
+        tally
+    }
+
+    /// Whether each number is below `usize::MAX`, as it is of all that memory holds.
+    fn is_exact(self) -> bool
+        ensures { IsTrue result → ((self.committed < 2 ^ 64 - 1) × (self.aborted < 2 ^ 64 - 1) × (self.unknown < 2 ^ 64 - 1) × (self.operations < 2 ^ 64 - 1)) }
+    {
+        self.committed < usize::MAX
+            && self.aborted < usize::MAX
+            && self.unknown < usize::MAX
+            && self.operations < usize::MAX
+    }
+}
+
+/// The key of an operation.
+fn key_of(op: &Op) -> &Key
+    ensures { result.now ≡ key_of op.now }
+{
+    match op {
+        Op::Read { key, wid: _ } | Op::Write { key, wid: _ } => key,
+    }
+}
+
+/// Adds the key of an operation, where it is new. Keys are found by comparison, so that no choice of them makes the search long.
+fn add_key(alloc: Global, keys: &mut BTreeSet<Key>, op: &Op) -> Result<(), AllocError>
+    ensures { (before : List Op) → HasKeys before keys.old → OnOk result (HasKeys (before ++ op.now ∷ []) keys.new) }
+{
+    let key = key_of(op);
+    if !keys.contains(key) {
+        keys.insert(key.to_owned_key(alloc)?)?;
+    }
+    Ok(())
+}
+
+/// Adds those of a transaction.
+fn add_keys_of(alloc: Global, keys: &mut BTreeSet<Key>, txn: &Txn) -> Result<(), AllocError>
+    ensures { (before : List Op) → HasKeys before keys.old → OnOk result (HasKeys (before ++ (view_txn txn.now).ops) keys.new) }
+{
+    for op in &txn.ops {
+        add_key(alloc, keys, op)?;
+    }
+    Ok(())
+}
+
+/// Adds those of a session.
+fn add_session(alloc: Global, keys: &mut BTreeSet<Key>, session: &Session) -> Result<(), AllocError>
+    ensures { (before : List Op) → HasKeys before keys.old →
+        OnOk result (HasKeys (before ++ flat_map (λ t. t.ops) (view session.now).txns) keys.new) }
+{
+    for txn in &session.txns {
+        add_keys_of(alloc, keys, txn)?;
+    }
+    Ok(())
+}
+
+/// How many keys these sessions have.
+fn key_count(alloc: Global, sessions: &[Session]) -> Result<usize, AllocError>
+    ensures { IfOk result (λ count. count ≡ length (keys_in (map view sessions.now))) }
+{
+    let mut keys = BTreeSet::new(alloc);
+    for session in sessions {
+        add_session(alloc, &mut keys, session)?;
+    }
+    Ok(keys.len())
+}
+
+/// How much these sessions hold.
+///
+/// # Errors
+/// Where memory was refused, and where a number is `usize::MAX`, of which no memory holds as many.
+pub fn counted(alloc: Global, sessions: &[Session]) -> Result<LogCounts, AllocError>
+    ensures counts { IfOk result (AreCounts (map view sessions.now)) }
+{
+    let tally = Tally::of(sessions);
+    if !tally.is_exact() {
+        return Err(AllocError);
+    }
+    Ok(LogCounts {
+        sessions: sessions.len(),
+        committed: tally.committed,
+        aborted: tally.aborted,
+        unknown: tally.unknown,
+        keys: key_count(alloc, sessions)?,
+        operations: tally.operations,
+    })
+}

@@ -1,0 +1,18 @@
+//! What is said of a log of any length that is cut into pieces: each piece is judged by itself, several at once, and what holds of the
+//! whole log follows.
+#![tactic(auto)]
+
+mod counts;
+mod found;
+mod judged;
+mod judging;
+mod means;
+mod rounds;
+mod sizes;
+mod verdict;
+
+pub use counts::{LogCounts, counted};
+pub use judged::{Finding, Judged, Refuted, Undecided, Why};
+pub use judging::{Progress, SoFar, judge};
+pub use means::{AuditMeans, Deadline};
+pub use verdict::{Verdict, verdict_of};

@@ -1,0 +1,112 @@
+//! What the words of a call ask for.
+
+use clap::Error;
+use cube_machine::Budget;
+use desk::seat_no::Workers;
+
+/// What is to be done with a log.
+#[derive(Debug, Drop)]
+pub enum Command<'a> {
+    /// Write the formula of the log.
+    Encode,
+    /// Turn a solver's answer, in this file, into a serial order.
+    Decode {
+        model: &'a str,
+    },
+    /// Check the solver's proof in this file that the formula of the log cannot be satisfied.
+    Refute {
+        proof: &'a str,
+    },
+    /// Decide whether some serial order explains the log.
+    Check,
+    /// Check the order in this file.
+    Verify {
+        order: &'a str,
+    },
+    /// Write how large the log and its formula are.
+    Stats,
+    /// Say why no serial order explains the log.
+    Explain {
+        format: FormatWord,
+    },
+    /// Decide whether some serial order explains a log of any length, piece by piece.
+    Audit(AuditWords),
+    /// Cut the log into pieces, of at least so many transactions where this is stated.
+    Pieces {
+        size: Option<usize>,
+        wanted: PiecesWord<'a>,
+    },
+}
+
+/// What is asked of `audit` alone.
+#[derive(Clone, Copy, Debug)]
+pub struct AuditWords {
+    /// How many transactions a piece is to have at least, where this is stated.
+    pub size: Option<usize>,
+    /// How many committed transactions the log must have.
+    pub at_least: usize,
+    /// For how many seconds pieces are begun, where that is limited.
+    pub seconds: Option<u32>,
+    /// Why no serial order explains the log is to be said.
+    pub explain: bool,
+    pub format: ReportWord,
+    /// The first line alone is asked for.
+    pub quiet: bool,
+    /// How far it is is to be told from time to time.
+    pub progress: bool,
+}
+
+/// In what form a report is written.
+#[derive(Clone, Copy, Debug, PartialEq, Eq)]
+pub enum ReportWord {
+    Text,
+    Json,
+}
+
+/// What is asked of the pieces of a log.
+#[derive(Clone, Copy, Debug, PartialEq, Eq)]
+pub enum PiecesWord<'a> {
+    /// How large each is.
+    List,
+    /// The log of this one, from 1.
+    Piece(usize),
+    /// The log of each in a file of this directory.
+    Into(&'a str),
+}
+
+/// In what form an explanation is written.
+#[derive(Clone, Copy, Debug, PartialEq, Eq)]
+pub enum FormatWord {
+    Text,
+    Dot,
+}
+
+/// How a search is to pick the choice that it decides next.
+#[derive(Clone, Copy, Debug, PartialEq, Eq)]
+pub enum StrategyWord {
+    First,
+    Most,
+    Least,
+    Forced,
+}
+
+/// A call of the program.
+#[derive(Drop)]
+pub struct Request<'a> {
+    pub command: Command<'a>,
+    /// The plain formula was asked for.
+    pub plain: bool,
+    pub workers: Workers,
+    pub strategy: StrategyWord,
+    /// How many cubes a search may close.
+    pub budget: Budget,
+    /// The file of the log, or standard input.
+    pub log: Option<&'a str>,
+}
+
+/// A call, or a text of help or usage that is to be shown in its place.
+#[derive(Drop)]
+pub enum Words<'a> {
+    Request(Request<'a>),
+    Shown(Error),
+}

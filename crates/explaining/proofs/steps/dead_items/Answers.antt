@@ -1,0 +1,13 @@
+use Rattle.std.proofs.Common.{sym, ap, ◌∙◌, subst}
+use Rattle.std.proofs.lemmas.Result.{IfOk-weaker}
+use Rattle.forced_steps.specs.Steps.{IsDeadTold}
+use Rattle.told_runs.specs.Runs.{joined_items}
+use Rattle.told_runs.proofs.Told.{dead_joined}
+use Rattle.explaining.proofs.steps.dead_items.Goals as goal
+
+pub returns : goal.returns
+returns c = record {
+  told = IfOk-weaker c.joined.result _ _
+      (λ made e. subst (IsDeadTold c.args.history.now) (sym (e ∙ ap joined_items c.deref.ensures.value)) (dead_joined c.args.history.now c.in_ok-told.told.items c.in_ok-told.ensures.told))
+      c.joined.ensures.joined;
+}

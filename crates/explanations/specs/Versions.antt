@@ -1,0 +1,43 @@
+-- Versions of a key, by their writers.
+use Rattle.std.specs.Prelude.{ℕ, ◌==◌, if◌then◌else◌, List, [], ◌++◌, position, codes, decimal, Option, None, Some}
+use Rattle.session_log.specs.Text.{ClientSession}
+use Rattle.log_definitions.specs.Numbers.{log_of}
+use Rattle.explanations.specs.Events.{is_write_in, is_read_in}
+use Rattle.explanations.specs.Reasons.{named, op_at, op_wid, wid_text, op_in_line}
+use Rattle.explanations.specs.Anomalies.{last_position}
+
+-- the place of a node's last write of key number x, which is the version that it leaves; of its first read
+abbrev pub left_at : List ClientSession → ℕ → ℕ → Option ℕ
+left_at ss x v = last_position (is_write_in x) ((log_of ss).ops v)
+
+abbrev pub read_at : List ClientSession → ℕ → ℕ → Option ℕ
+read_at ss x v = position (is_read_in x) ((log_of ss).ops v)
+
+-- the identity of an operation, if there is one
+abbrev pub wid_of_place : List ClientSession → ℕ → Option ℕ → ℕ
+wid_of_place ss v None = 0
+wid_of_place ss v (Some i) = op_wid (op_at ss v i)
+
+-- the version of the key that a node leaves: `25, which 11.1 wrote (line 54)`
+abbrev pub version_at : List ClientSession → (ℕ → ℕ) → ℕ → Option ℕ → List ℕ
+version_at ss begin v None = named ss v
+version_at ss begin v (Some i) = wid_text (op_at ss v i) ++ codes ", which " ++ named ss v ++ codes " wrote" ++ op_in_line begin v i
+
+abbrev pub version_text : List ClientSession → (ℕ → ℕ) → ℕ → ℕ → List ℕ
+version_text ss begin x v = version_at ss begin v (left_at ss x v)
+
+abbrev pub back_text : ℕ → List ℕ
+back_text version = codes ", which goes back to " ++ decimal version
+
+-- that a read names what stands behind this version, where it is another
+abbrev pub behind_text : ℕ → ℕ → List ℕ
+behind_text wid version = if wid == version then [] else back_text version
+
+-- what lets a node stand elsewhere, were the version of `head` earlier: its first read of the key
+abbrev pub otherwise_at : List ClientSession → (ℕ → ℕ) → ℕ → ℕ → Option ℕ → List ℕ
+otherwise_at ss begin version v None = codes "otherwise " ++ named ss v
+otherwise_at ss begin version v (Some i) =
+    named ss v ++ codes " read " ++ wid_text (op_at ss v i) ++ op_in_line begin v i ++ behind_text (op_wid (op_at ss v i)) version ++ codes ", so otherwise it"
+
+abbrev pub otherwise_text : List ClientSession → (ℕ → ℕ) → ℕ → ℕ → ℕ → List ℕ
+otherwise_text ss begin x head v = otherwise_at ss begin (wid_of_place ss head (left_at ss x head)) v (read_at ss x v)

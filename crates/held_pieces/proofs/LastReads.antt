@@ -1,0 +1,84 @@
+-- The reads at the end of a session, from its last operation on; and the log of a piece, session by session.
+use Rattle.std.proofs.Common.{◌≡◌, ◌⊎◌, ℕ, suc, ◌+◌, ◌-◌, ◌<◌, Bool, true, false, cond, ◌||◌, List, [], ◌∷◌, ◌++◌, map, length, reverse, Option, Some, None, refl, sym, ap, ◌∙◌, inl, inr, arith, nat_cmp}
+use Rattle.std.specs.Prelude.{drop, slice_get}
+use Rattle.std.specs.List.{list_any}
+use Rattle.std.specs.Str.{bytes_eq}
+use Rattle.std.specs.Cmp.Lexicographic.{slice_cmp}
+use Rattle.std.specs.BTreeSet.{BTreeSet, UpdatesBy, contains_by}
+use Rattle.std.proofs.lemmas.Bool.{cases_Bool}
+use Rattle.std.proofs.lemmas.List.{map-append, reverse-append}
+use Rattle.std.proofs.lemmas.Slice.Eq.{bytes_eq-Decides}
+use Rattle.session_log.specs.Text.{ClientSession, Transaction}
+use Rattle.session_log.specs.declared.session.Op.{Op}
+use Rattle.session_log.specs.declared.session.Op.TheVariants.{Write}
+use Rattle.piece_laws.specs.Held.{Held, open_op, open_ops, read_held, writes_key, closing}
+use Rattle.piece_laws.specs.Logs.{open_txn, opened, committed_reads, closed}
+use Rattle.cutting.proofs.Views.{get_drop}
+use Rattle.held_pieces.specs.Ops.{seen}
+use Rattle.held_pieces.specs.Kept.{session_of}
+use Rattle.held_pieces.proofs.Steps.{ref_cmp, is_key}
+use denote.Ref.{Bor}
+
+-- ---- one operation more, from the end
+pub seen_before : (ops : List (Bor Op)) (back j : ℕ) (o : Bor Op) → back < length ops → j ≡ length ops - 1 - back → slice_get ops j ≡ Some o → seen (drop (length ops - (back + 1)) ops) ≡ o.now ∷ seen (drop (length ops - back) ops)
+seen_before ops back j o lt e at =
+    let here : length ops - (back + 1) ≡ j = omega (arith, lt, e) in
+    let next : suc j ≡ length ops - back = omega (arith, lt, e) in
+    ap (λ n. seen (drop n ops)) here ∙ ap seen (get_drop ops j o at) ∙ ap (λ n. o.now ∷ seen (drop n ops)) next
+
+one_reversed : (before : Held) (key : List ℕ) (o : Option ℕ) → reverse (open_ops before (read_held key o)) ≡ open_ops before (read_held key o)
+one_reversed before key None = refl
+one_reversed before key (Some wid) = refl
+
+pub read_added : (before behind : Held) (old new : List Op) (key : List ℕ) (wid : ℕ) (rest : List Op) → list_any (writes_key key) rest ≡ false → new ≡ old ++ open_ops before (read_held key (behind key)) → reverse old ≡ open_ops before (closing behind rest)
+    → reverse new ≡ open_ops before (closing behind (Write key wid ∷ rest))
+read_added before behind old new key wid rest none is h =
+    let one = read_held key (behind key) in
+    let at : closing behind (Write key wid ∷ rest) ≡ one ++ closing behind rest = rw none refl in
+    ap reverse is
+    ∙ reverse-append old (open_ops before one)
+    ∙ ap (λ l. l ++ reverse old) (one_reversed before key (behind key))
+    ∙ ap (λ l. open_ops before one ++ l) h
+    ∙ sym (map-append (open_op before) one (closing behind rest))
+    ∙ ap (open_ops before) (sym at)
+
+pub read_known : (behind : Held) (key : List ℕ) (wid : ℕ) (rest : List Op) → list_any (writes_key key) rest ≡ true → closing behind rest ≡ closing behind (Write key wid ∷ rest)
+read_known behind key wid rest some = (let at : closing behind (Write key wid ∷ rest) ≡ closing behind rest = rw some refl in sym at)
+
+ref : List ℕ → Bor (List ℕ)
+ref key = record { ref_ptr = (0, 0); now = key }
+
+abbrev pub Done : BTreeSet (Bor (List ℕ)) → List Op → Type 0
+Done done ops = (q : List ℕ) → contains_by (λ k. slice_cmp nat_cmp q k.now) done ≡ list_any (writes_key q) ops
+
+cond_or : (a b : Bool) → cond a true b ≡ (a || b)
+cond_or true b = refl
+cond_or false b = refl
+
+pub done_more : (old new : BTreeSet (Bor (List ℕ))) (key : List ℕ) (wid : ℕ) (rest : List Op) → UpdatesBy ref_cmp (λ q. slice_cmp nat_cmp key q.now) old new true → Done old rest → Done new (Write key wid ∷ rest)
+unfolding ref
+done_more old new key wid rest h before q =
+    h.0 (ref q)
+    ∙ ap (λ b. cond b true (contains_by (λ (k : Bor (List ℕ)). slice_cmp nat_cmp q k.now) old)) (is_key key q)
+    ∙ cond_or (bytes_eq q key) (contains_by (λ (k : Bor (List ℕ)). slice_cmp nat_cmp q k.now) old)
+    ∙ ap (λ b. bytes_eq q key || b) (before q)
+
+pub done_known : (done : BTreeSet (Bor (List ℕ))) (key : List ℕ) (wid : ℕ) (rest : List Op) → list_any (writes_key key) rest ≡ true → Done done rest → Done done (Write key wid ∷ rest)
+done_known done key wid rest some before q = before q ∙ same (cases_Bool (bytes_eq q key))
+  where
+    same : (bytes_eq q key ≡ true) ⊎ (bytes_eq q key ≡ false) → list_any (writes_key q) rest ≡ (bytes_eq q key || list_any (writes_key q) rest)
+    same (inl t) = ap (λ k. list_any (writes_key k) rest) ((bytes_eq-Decides q key).0 t) ∙ some ∙ sym (ap (λ b. b || list_any (writes_key q) rest) t)
+    same (inr t) = sym (ap (λ b. b || list_any (writes_key q) rest) t)
+
+-- ---- the last transaction
+pub reads_opened : (before : Held) (ops : List Op) → committed_reads (open_ops before ops) ≡ map (open_txn before) (committed_reads ops)
+reads_opened before [] = refl
+reads_opened before (o ∷ ops) = refl
+
+pub txns_joined : (before : Held) (ts : List Transaction) (ops : List Op) → map (open_txn before) ts ++ committed_reads (open_ops before ops) ≡ map (open_txn before) (ts ++ committed_reads ops)
+txns_joined before ts ops = ap (λ l. map (open_txn before) ts ++ l) (reads_opened before ops) ∙ sym (map-append (open_txn before) ts (committed_reads ops))
+
+-- ---- the log
+pub each_session : (before behind : Held) (ss : List ClientSession) → map (session_of before behind) ss ≡ opened before (closed behind ss)
+each_session before behind [] = refl
+each_session before behind (s ∷ ss) = ap (λ l. session_of before behind s ∷ l) (each_session before behind ss)

@@ -1,0 +1,4 @@
+pub mod Pieces
+pub mod Ops
+pub mod Reigns
+pub mod Kept

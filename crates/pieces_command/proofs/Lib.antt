@@ -1,0 +1,2 @@
+pub mod LongLogs
+pub mod Lines

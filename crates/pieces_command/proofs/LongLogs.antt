@@ -1,0 +1,33 @@
+-- Pieces of a long log.
+use Rattle.std.proofs.Common.{◌≡◌, ℕ, List, map, Result, Ok, Err, sym, ◌∙◌, subst}
+use Rattle.std.specs.Prelude.{IfOk}
+use Rattle.session_log.specs.Text.{ClientSession, view}
+use Rattle.session_log.specs.Version.{first_line, version_of}
+use Rattle.log_definitions.specs.Unknown.{resolved}
+use Rattle.piece_laws.specs.Logs.{IsSoundLog, IsLearntLog}
+use Rattle.piece_laws.proofs.Several.{sound_resolved, learnt_once_resolved}
+use Rattle.long_log_definitions.specs.LongLog.{IsLongLog, HasOwnNumbers}
+use Rattle.long_log_definitions.proofs.Texts.{sound_where_long, numbers_where_no_fault}
+use Rattle.held_pieces.specs.Pieces.{HeldPiece, ArePieces}
+use Rattle.pieces_command.specs.declared.known.KnownLog.{KnownLog}
+use Rattle.pieces_command.specs.Told.{IsKnown, ArePiecesOf}
+
+pub if_ok : {A E : Type 0} {P Q : A → Type 0} (r : Result A E) → ((a : A) → P a → Q a) → IfOk r P → IfOk r Q
+if_ok (Ok a) f h = f a h
+if_ok (Err e) f h = tt
+
+-- no two sessions of a long log have one number, and no two of its writes one identity
+pub own_numbers : (log : List ℕ) (ss : List ClientSession) → IsLongLog log ss → HasOwnNumbers ss
+own_numbers log ss long = numbers_where_no_fault (first_line (version_of log)) ss long.sessions
+
+pub pieces_of_known : (log : List ℕ) (ss : List ClientSession) (known : KnownLog) (ps : List HeldPiece) → ss ≡ map view known.sessions.items → (IsSoundLog ss → IsLearntLog ss → ArePieces ss ps) → IsKnown log known → ArePiecesOf log ps
+pieces_of_known log ss known ps e of k = record { sessions = k.sessions; long = k.long; are = subst (λ l. ArePieces l ps) whole (of sound learnt) }
+  where
+    whole : ss ≡ resolved k.sessions
+    whole = e ∙ k.resolved
+
+    sound : IsSoundLog ss
+    sound = subst IsSoundLog (sym whole) (sound_resolved k.sessions (sound_where_long log k.sessions k.long).1)
+
+    learnt : IsLearntLog ss
+    learnt = subst IsLearntLog (sym whole) (learnt_once_resolved k.sessions)

@@ -1,0 +1,44 @@
+//! Why a log is not cut.
+
+ghost use Rattle.std.specs.Prelude.{◌≡◌};
+ghost use Rattle.session_log.specs.declared.fault.LogFault.TheVariants.{Memory};
+ghost use Rattle.pieces_command.specs.declared.fault.PiecesFault.TheVariants.{Log, Output};
+
+use dimacs::WriteFault;
+use session_log::LogFault;
+use std::alloc::AllocError;
+
+/// Why a log is not cut, or its pieces are not told.
+#[derive(Clone, Copy, Debug, PartialEq, Eq)]
+pub enum PiecesFault {
+    /// It is no long log, or memory was refused.
+    Log(LogFault),
+    /// It has only so many pieces.
+    NoSuchPiece { pieces: usize },
+    /// The sink failed.
+    Output,
+}
+
+impl From<LogFault> for PiecesFault {
+    ghost from_gives = { λ f e. e ≡ Log f };
+
+    fn from(fault: LogFault) -> PiecesFault {
+        PiecesFault::Log(fault)
+    }
+}
+
+impl From<AllocError> for PiecesFault {
+    ghost from_gives = { λ _ e. e ≡ Log Memory };
+
+    fn from(_refused: AllocError) -> PiecesFault {
+        PiecesFault::Log(LogFault::Memory)
+    }
+}
+
+impl From<WriteFault> for PiecesFault {
+    ghost from_gives = { λ _ e. e ≡ Output };
+
+    fn from(_failed: WriteFault) -> PiecesFault {
+        PiecesFault::Output
+    }
+}

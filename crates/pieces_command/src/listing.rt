@@ -1,0 +1,185 @@
+//! The lines and the logs of pieces.
+
+ghost use Rattle.std.specs.Prelude.{◌≡◌, ◌++◌, ◌∷◌, [], ◌+◌, ◌-◌, ◌<◌, ℕ, List, Some, IfOk, IfErr, OnOk, length, map, slice_get, decimal};
+ghost use Rattle.session_log.specs.Text.{Transaction, view_txn};
+ghost use Rattle.log_definitions.specs.Unknown.{txns_in};
+ghost use Rattle.cutting.specs.Parts.{parts_view};
+ghost use Rattle.held_pieces.specs.Pieces.{HeldPiece};
+ghost use Rattle.pieces_command.specs.Told.{AreNodes, line_of, lines_from, piece_text, IsListed, IsPieceTold, IsRefusal};
+
+use crate::fault::PiecesFault;
+use crate::known::read_known;
+use cutting::Part;
+use desk::seat_no::Workers;
+use dimacs::{Sink, write_all};
+use held_pieces::Pieces;
+use itoa::Buffer;
+use session_log::{Outcome, Txn, print_log};
+use std::alloc::{AllocError, Global};
+use std::thread::Threads;
+
+/// How many nodes there are, and how many operations they have.
+#[derive(Clone, Copy)]
+pub struct NodeCounts {
+    pub nodes: usize,
+    pub operations: usize,
+}
+
+/// A sum, which is told as want of memory where it is too large for any.
+fn sum(one: usize, other: usize) -> Result<usize, AllocError>
+    ensures { IfOk result (λ sum. sum ≡ one + other) }
+{
+    one.checked_add(other).ok_or(AllocError)
+}
+
+impl NodeCounts {
+    /// With a transaction more.
+    fn plus(self, txn: &Txn) -> Result<NodeCounts, AllocError>
+        ensures { (txns : List Transaction) → AreNodes txns self →
+            IfOk result (AreNodes (txns ++ view_txn txn.now ∷ [])) }
+    {
+        match txn.outcome {
+            Outcome::Commit => Ok(NodeCounts {
+                nodes: sum(self.nodes, 1)?,
+                operations: sum(self.operations, txn.ops.len())?,
+            }),
+            Outcome::Abort | Outcome::Unknown => Ok(self),
+        }
+    }
+
+    /// With a part more.
+    fn with_part(self, part: &Part) -> Result<NodeCounts, AllocError>
+        ensures { (txns : List Transaction) → AreNodes txns self →
+            IfOk result (AreNodes (txns ++ map view_txn part.now.txns.now)) }
+    {
+        let mut counts = self;
+        for txn in part.txns {
+            counts = counts.plus(txn)?;
+        }
+        Ok(counts)
+    }
+
+    /// Of these parts.
+    fn of(parts: &[Part]) -> Result<NodeCounts, AllocError>
+        ensures { IfOk result (AreNodes (txns_in (parts_view parts.now))) }
+    {
+        let mut counts = NodeCounts {
+            nodes: 0,
+            operations: 0,
+        };
+        for part in parts {
+            counts = counts.with_part(part)?;
+        }
+        Ok(counts)
+    }
+}
+
+/// Appends a number and a byte.
+fn put_number(out: &mut Vec<u8>, number: usize, behind: u8) -> Result<(), AllocError>
+    ensures { OnOk result (out.new.items ≡ out.old.items ++ (decimal number ++ behind ∷ [])) }
+{
+    let mut digits = Buffer::new();
+    out.extend_from_slice(digits.format(number).as_bytes())?;
+    out.push(behind)?;
+    Ok(())
+}
+
+/// Appends the line of a piece, where it has transactions.
+fn put_line(out: &mut Vec<u8>, number: usize, parts: &[Part]) -> Result<(), AllocError>
+    ensures { OnOk result (out.new.items ≡ out.old.items ++ line_of number (parts_view parts.now)) }
+{
+    if parts.is_empty() {
+        return Ok(());
+    }
+    let counts = NodeCounts::of(parts)?;
+    put_number(out, number, b' ')?;
+    put_number(out, counts.nodes, b' ')?;
+    put_number(out, counts.operations, b'\n')
+}
+
+/// The lines of pieces.
+fn list_text(alloc: Global, pieces: &Pieces) -> Result<Vec<u8>, AllocError>
+    ensures { IfOk result (λ text. text.items ≡ lines_from 1 pieces.now) }
+{
+    let mut out = Vec::new(alloc);
+    for piece in 0..pieces.count() {
+        put_line(&mut out, piece + 1, pieces.parts(piece))?;
+    }
+    Ok(out)
+}
+
+/// How many pieces have transactions: none does where the log has none.
+pub fn count_of(pieces: &Pieces) -> usize {
+    let count = pieces.count();
+    if count == 1 && pieces.parts(0).is_empty() {
+        return 0;
+    }
+    count
+}
+
+/// The text of a piece's log.
+pub fn piece_text(alloc: Global, pieces: &Pieces, piece: usize) -> Result<Vec<u8>, AllocError>
+    requires { piece < length pieces.now }
+    ensures { IfOk result (λ text. (p : HeldPiece) → slice_get pieces.now piece ≡ Some p → text.items ≡ piece_text p) }
+{
+    let log = pieces.log(alloc, piece)?;
+    print_log(alloc, &log)
+}
+
+/// The text of the log of the piece of this number, from 1.
+fn numbered_text(alloc: Global, pieces: &Pieces, number: usize) -> Result<Vec<u8>, PiecesFault>
+    ensures told { IfOk result (λ text. (p : HeldPiece) × (slice_get pieces.now (number - 1) ≡ Some p) × (text.items ≡ piece_text p)) }
+    ensures refused { IfErr result (λ f. (log : List ℕ) → IsRefusal log f) }
+{
+    let count = count_of(pieces);
+    if number == 0 || number > count || number > pieces.count() {
+        return Err(PiecesFault::NoSuchPiece { pieces: count });
+    }
+    Ok(piece_text(alloc, pieces, number - 1)?)
+}
+
+/// Puts a line `K TRANSACTIONS OPERATIONS` for each piece of a long log into a sink: its number from 1, its nodes, and their operations.
+/// A piece ends at the first cut before which it has at least so many nodes.
+///
+/// # Errors
+/// The log's first fault, and nothing is written; the sink's failure; want of memory.
+pub fn list<R: Threads + Sync, W: Sink>(
+    rt: &R,
+    alloc: Global,
+    log: &[u8],
+    size: Option<usize>,
+    workers: Workers,
+    sink: &mut W,
+) -> Result<(), PiecesFault>
+    ensures listed { OnOk result (IsListed log.now (W.bytes sink.old) (W.bytes sink.new)) }
+    ensures refused { IfErr result (IsRefusal log.now) }
+{
+    let known = read_known(rt, alloc, log, size, workers)?;
+    let pieces = known.pieces(alloc)?;
+    let text = list_text(alloc, &pieces)?;
+    write_all(sink, &text)?;
+    Ok(())
+}
+
+/// Puts the log of a piece of a long log into a sink, of the piece of this number, from 1.
+///
+/// # Errors
+/// The log's first fault, or that it has no such piece, and nothing is written; the sink's failure; want of memory.
+pub fn put_piece<R: Threads + Sync, W: Sink>(
+    rt: &R,
+    alloc: Global,
+    log: &[u8],
+    size: Option<usize>,
+    workers: Workers,
+    number: usize,
+    sink: &mut W,
+) -> Result<(), PiecesFault>
+    ensures told { OnOk result (IsPieceTold log.now number (W.bytes sink.old) (W.bytes sink.new)) }
+    ensures refused { IfErr result (IsRefusal log.now) }
+{
+    let known = read_known(rt, alloc, log, size, workers)?;
+    let pieces = known.pieces(alloc)?;
+    let text = numbered_text(alloc, &pieces, number)?;
+    write_all(sink, &text)?;
+    Ok(())
+}

@@ -1,0 +1,17 @@
+//! What `explain` says of a piece, in the words of the whole log.
+//!
+//! # What is promised
+//!
+//! Where a transaction of a piece stands in the whole log, and at which line it begins there. The text itself is tested.
+#![tactic(auto)]
+
+mod context;
+mod lines;
+mod names;
+mod retelling;
+mod spots;
+mod versions;
+mod words;
+
+pub use lines::{begin_line, place_of, session_lines};
+pub use retelling::retell;

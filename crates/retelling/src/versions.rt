@@ -1,0 +1,165 @@
+//! Who wrote and who read the versions of keys that a piece reads.
+
+use crate::lines::{line_behind, place_of};
+use cutting::Part;
+use held_pieces::Pieces;
+use session_log::{Key, Op, Outcome, Txn};
+use std::alloc::{AllocError, Global};
+
+/// A version of a key, by the identity of its write: 0 of the initial value.
+#[derive(Clone, Copy, PartialEq, Eq, PartialOrd, Ord)]
+pub struct KeyVersion<'k> {
+    pub wid: u64,
+    pub key: &'k Key,
+}
+
+/// An operation of the whole log.
+#[derive(Clone, Copy)]
+pub struct OpAt {
+    /// The number of its session, and the place of its transaction there, from 1.
+    pub session: u16,
+    pub place: usize,
+    /// The piece that its transaction is of, from 0.
+    pub piece: usize,
+    pub line: usize,
+    /// The line at which its transaction was aborted.
+    pub aborted: Option<usize>,
+}
+
+/// What is known of a version.
+#[derive(Clone, Copy)]
+pub struct Seen {
+    pub writer: Option<OpAt>,
+    /// The first node that reads it in the piece or behind it.
+    pub reader: Option<OpAt>,
+    /// The first node that reads it behind the piece.
+    pub behind: Option<OpAt>,
+}
+
+/// Versions of keys, in order, and what is known of each.
+#[derive(Drop)]
+pub struct Versions<'k> {
+    names: Vec<KeyVersion<'k>>,
+    seen: Vec<Seen>,
+}
+
+/// The line at which the first transaction of each session begins, where the sessions begin at these.
+fn firsts(alloc: Global, lines: &[usize]) -> Result<Vec<usize>, AllocError> {
+    let mut firsts = Vec::with_capacity(alloc, lines.len())?;
+    for line in lines {
+        firsts.push(line.saturating_add(1))?;
+    }
+    Ok(firsts)
+}
+
+impl<'k> Versions<'k> {
+    /// These versions, of which nothing is known yet.
+    fn new(alloc: Global, sought: Vec<KeyVersion<'k>>) -> Result<Versions<'k>, AllocError> {
+        let mut sought = sought;
+        sought.sort_unstable();
+        let mut names: Vec<KeyVersion<'k>> = Vec::new(alloc);
+        let mut seen = Vec::new(alloc);
+        for version in &sought {
+            if names.last() != Some(version) {
+                names.push(*version)?;
+                seen.push(Seen {
+                    writer: None,
+                    reader: None,
+                    behind: None,
+                })?;
+            }
+        }
+        Ok(Versions { names, seen })
+    }
+
+    /// What is known of a version.
+    pub fn of(&self, key: &Key, wid: u64) -> Option<Seen> {
+        match self.names.binary_search(&KeyVersion { wid, key }) {
+            Ok(at) => self.seen.get(at).copied(),
+            Err(_) => None,
+        }
+    }
+
+    fn put_write(&mut self, key: &Key, wid: u64, at: OpAt) {
+        if let Ok(i) = self.names.binary_search(&KeyVersion { wid, key }) {
+            if let Some(seen) = self.seen.get_mut(i) {
+                seen.writer = Some(at);
+            }
+        }
+    }
+
+    fn put_read(&mut self, key: &Key, wid: u64, at: OpAt, piece: usize) {
+        if at.piece < piece || at.aborted.is_some() {
+            return;
+        }
+        if let Ok(i) = self.names.binary_search(&KeyVersion { wid, key }) {
+            if let Some(seen) = self.seen.get_mut(i) {
+                if seen.reader.is_none() {
+                    seen.reader = Some(at);
+                }
+                if at.piece > piece && seen.behind.is_none() {
+                    seen.behind = Some(at);
+                }
+            }
+        }
+    }
+
+    /// Sees a transaction of the whole log, of which this is its `begin`, and which ends at the line before this one.
+    fn see(&mut self, txn: &Txn, begin: OpAt, behind: usize, piece: usize) {
+        let mut at = begin;
+        at.aborted = match txn.outcome {
+            Outcome::Commit => None,
+            Outcome::Abort | Outcome::Unknown => Some(behind.saturating_sub(1)),
+        };
+        for op in &txn.ops {
+            at.line = at.line.saturating_add(1);
+            match op {
+                Op::Write { key, wid } => self.put_write(key, *wid, at),
+                Op::Read { key, wid } => self.put_read(key, *wid, at, piece),
+            }
+        }
+    }
+
+    /// Sees a part of a piece, which begins at this line; gives the line behind it.
+    fn see_part(
+        &mut self,
+        part: &Part,
+        of: usize,
+        line: usize,
+        piece: usize,
+    ) -> Result<usize, AllocError> {
+        let mut line = line;
+        for (i, txn) in part.txns.iter().enumerate() {
+            let begin = OpAt {
+                session: part.number,
+                place: place_of(part, i),
+                piece: of,
+                line,
+                aborted: None,
+            };
+            line = line_behind(txn, line)?;
+            self.see(txn, begin, line, piece);
+        }
+        Ok(line)
+    }
+
+    /// Who wrote these versions, and who reads them in this piece and behind it: one pass over the whole log.
+    pub fn seen(
+        alloc: Global,
+        lines: &[usize],
+        pieces: &Pieces,
+        piece: usize,
+        sought: Vec<KeyVersion<'k>>,
+    ) -> Result<Versions<'k>, AllocError> {
+        let mut versions = Versions::new(alloc, sought)?;
+        let mut next = firsts(alloc, lines)?;
+        for of in 0..pieces.count() {
+            for part in pieces.parts(of) {
+                if let Some(line) = next.get_mut(part.session) {
+                    *line = versions.see_part(part, of, *line, piece)?;
+                }
+            }
+        }
+        Ok(versions)
+    }
+}
