@@ -58,15 +58,22 @@ eq_then Greater b = refl
 abbrev ref : List ℕ → Bor (List ℕ)
 ref key = record { ref_ptr = (0, 0); now = key }
 
-abbrev pub pair_cmp : Bor (List ℕ) × ℕ → Bor (List ℕ) × ℕ → Ordering
-pair_cmp a b = ordering_then (slice_cmp nat_cmp a.0.now b.0.now) (nat_cmp a.1 b.1)
+abbrev pub pair_cmp : ℕ × Bor (List ℕ) → ℕ × Bor (List ℕ) → Ordering
+pair_cmp a b = ordering_then (nat_cmp a.0 b.0) (slice_cmp nat_cmp a.1.now b.1.now)
 
 abbrev pub ref_cmp : Bor (List ℕ) → Bor (List ℕ) → Ordering
 ref_cmp a b = slice_cmp nat_cmp a.now b.now
 
-is_pair : (k key : List ℕ) (w wid : ℕ) → is_eq (ordering_then (slice_cmp nat_cmp k key) (nat_cmp w wid)) ≡ is_read key wid (Read k w)
+and_flip : (a b : Bool) → (a && b) ≡ (b && a)
+and_flip true true = refl
+and_flip true false = refl
+and_flip false true = refl
+and_flip false false = refl
+
+is_pair : (k key : List ℕ) (w wid : ℕ) → is_eq (ordering_then (nat_cmp w wid) (slice_cmp nat_cmp k key)) ≡ is_read key wid (Read k w)
 is_pair k key w wid =
-    eq_then (slice_cmp nat_cmp k key) (nat_cmp w wid)
+    eq_then (nat_cmp w wid) (slice_cmp nat_cmp k key)
+    ∙ and_flip (is_eq (nat_cmp w wid)) (is_eq (slice_cmp nat_cmp k key))
     ∙ ap (λ b. b && is_eq (nat_cmp w wid)) (is_key k key)
     ∙ ap (λ b. bytes_eq key k && b) (sym (unsigned_ties w wid) ∙ eqb_flip w wid)
 
@@ -95,12 +102,12 @@ unwrap_cond : {X : Type 0} (b : Bool) (n : X) (o : Option X) (z : X) → unwrap_
 unwrap_cond true n o z = refl
 unwrap_cond false n o z = refl
 
-inserted : (old new : BTreeMap (Bor (List ℕ) × ℕ) ℕ) (k : List ℕ) (w n : ℕ) → UpdatesBy pair_cmp (read_cmp k w) old new (Some n) → (key : List ℕ) (wid : ℕ) → last_in new key wid ≡ cond (is_read key wid (Read k w)) n (last_in old key wid)
+inserted : (old new : BTreeMap (ℕ × Bor (List ℕ)) ℕ) (k : List ℕ) (w n : ℕ) → UpdatesBy pair_cmp (read_cmp k w) old new (Some n) → (key : List ℕ) (wid : ℕ) → last_in new key wid ≡ cond (is_read key wid (Read k w)) n (last_in old key wid)
 inserted old new k w n h key wid =
-    ap (λ o. unwrap_or o 0) (h.0 (ref key, wid) ∙ ap (λ b. cond b (Some n) (get_by (read_cmp key wid) old)) (is_pair k key w wid))
+    ap (λ o. unwrap_or o 0) (h.0 (wid, ref key) ∙ ap (λ b. cond b (Some n) (get_by (read_cmp key wid) old)) (is_pair k key w wid))
     ∙ unwrap_cond (is_read key wid (Read k w)) n (get_by (read_cmp key wid) old) 0
 
-pub read_taken : (ops : List (Bor Op)) (i : ℕ) (o : Bor Op) (k : List ℕ) (w n : ℕ) (f : Lasts) (old new : BTreeMap (Bor (List ℕ) × ℕ) ℕ) → slice_get ops i ≡ Some o → o.now ≡ Read k w → UpdatesBy pair_cmp (read_cmp k w) old new (Some n)
+pub read_taken : (ops : List (Bor Op)) (i : ℕ) (o : Bor Op) (k : List ℕ) (w n : ℕ) (f : Lasts) (old new : BTreeMap (ℕ × Bor (List ℕ)) ℕ) → slice_get ops i ≡ Some o → o.now ≡ Read k w → UpdatesBy pair_cmp (read_cmp k w) old new (Some n)
     → ((key : List ℕ) (wid : ℕ) → last_in old key wid ≡ put n (seen (take i ops)) f key wid) → (key : List ℕ) (wid : ℕ) → last_in new key wid ≡ put n (seen (take (i + 1) ops)) f key wid
 read_taken ops i o k w n f old new at is h before key wid =
     inserted old new k w n h key wid
@@ -122,13 +129,13 @@ other_taken ops i o n f g at other before key wid =
 pub reign_more : (ops : List (Bor Op)) (i : ℕ) (o : Bor Op) (f : Lasts) (key : List ℕ) (r : Reign) → slice_get ops i ≡ Some o → reign_from f key r (seen (take (i + 1) ops)) ≡ reign_from f key (reign_from f key r (seen (take i ops))) (o.now ∷ [])
 reign_more ops i o f key r at = ap (reign_from f key r) (seen_more ops i o at) ∙ reign_append f key r (seen (take i ops)) (o.now ∷ [])
 
-put_reign : (f : Lasts) (old new : BTreeMap (Bor (List ℕ)) Reign) (k : List ℕ) (r : Reign) → UpdatesBy ref_cmp (λ q. slice_cmp nat_cmp k q.now) old new (Some r) → (key : List ℕ) → reign_in f new key ≡ cond (bytes_eq key k) r (reign_in f old key)
+put_reign : (f : Lasts) (old new : BTreeMap (List ℕ) Reign) (k : List ℕ) (r : Reign) → Updates (slice_cmp nat_cmp) old new k (Some r) → (key : List ℕ) → reign_in f new key ≡ cond (bytes_eq key k) r (reign_in f old key)
 put_reign f old new k r h key =
-    ap (λ o. unwrap_or o (first_reign f key)) (h.0 (ref key) ∙ ap (λ b. cond b (Some r) (get_by (λ (q : Bor (List ℕ)). slice_cmp nat_cmp key q.now) old)) (is_key k key))
-    ∙ unwrap_cond (bytes_eq key k) r (get_by (λ (q : Bor (List ℕ)). slice_cmp nat_cmp key q.now) old) (first_reign f key)
+    ap (λ o. unwrap_or o (first_reign f key)) (h.0 key ∙ ap (λ b. cond b (Some r) (get (slice_cmp nat_cmp) old key)) (is_key k key))
+    ∙ unwrap_cond (bytes_eq key k) r (get (slice_cmp nat_cmp) old key) (first_reign f key)
 
 -- a write begins a reign, where it is read for longer
-pub reign_begun : (f : Lasts) (old new : BTreeMap (Bor (List ℕ)) Reign) (k : List ℕ) (w until : ℕ) → until ≡ f k w → (reign_in f old k).until < until → UpdatesBy ref_cmp (λ q. slice_cmp nat_cmp k q.now) old new (Some (record { wid = w; until = until }))
+pub reign_begun : (f : Lasts) (old new : BTreeMap (List ℕ) Reign) (k : List ℕ) (w until : ℕ) → until ≡ f k w → (reign_in f old k).until < until → Updates (slice_cmp nat_cmp) old new k (Some (record { wid = w; until = until }))
     → (key : List ℕ) → reign_in f new key ≡ next_reign f key (reign_in f old key) k w
 reign_begun f old new k w until is lt h key = put_reign f old new k (record { wid = w; until = until }) h key ∙ elim (cases_Bool (bytes_eq key k)) [
   | inl t ↦

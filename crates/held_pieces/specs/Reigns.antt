@@ -5,7 +5,7 @@ use Rattle.std.specs.Str.{bytes_eq}
 use Rattle.std.specs.Ordering.{nat_cmp, ordering_then}
 use Rattle.std.specs.Cmp.Lexicographic.{slice_cmp}
 use Rattle.std.specs.declared.cmp.Ordering.{Ordering}
-use Rattle.std.specs.BTreeMap.{BTreeMap, get_by}
+use Rattle.std.specs.BTreeMap.{BTreeMap, get, get_by}
 use Rattle.std.specs.declared.alloc.Global.{Global}
 use Rattle.session_log.specs.Text.{ClientSession}
 use Rattle.session_log.specs.declared.session.Op.{Op}
@@ -25,10 +25,10 @@ Lasts = List ℕ → ℕ → ℕ
 abbrev pub put : ℕ → List Op → Lasts → Lasts
 put n ops f key wid = if reads key wid ops then n else f key wid
 
-abbrev pub read_cmp : List ℕ → ℕ → Bor (List ℕ) × ℕ → Ordering
-read_cmp key wid k = ordering_then (slice_cmp nat_cmp key k.0.now) (nat_cmp wid k.1)
+abbrev pub read_cmp : List ℕ → ℕ → ℕ × Bor (List ℕ) → Ordering
+read_cmp key wid k = ordering_then (nat_cmp wid k.0) (slice_cmp nat_cmp key k.1.now)
 
-abbrev pub last_in : BTreeMap (Bor (List ℕ) × ℕ) ℕ → Lasts
+abbrev pub last_in : BTreeMap (ℕ × Bor (List ℕ)) ℕ → Lasts
 last_in t key wid = unwrap_or (get_by (read_cmp key wid) t) 0
 
 -- whether a node of these pieces reads the key under the identity
@@ -50,8 +50,8 @@ reign_from f key r [] = r
 reign_from f key r (Read k w ∷ ops) = reign_from f key r ops
 reign_from f key r (Write k w ∷ ops) = reign_from f key (if bytes_eq key k && nat_lt r.until (f key w) then record { wid = w; until = f key w } else r) ops
 
-abbrev pub reign_in : Lasts → BTreeMap (Bor (List ℕ)) Reign → List ℕ → Reign
-reign_in f t key = unwrap_or (get_by (λ k. slice_cmp nat_cmp key k.now) t) (first_reign f key)
+abbrev pub reign_in : Lasts → BTreeMap (List ℕ) Reign → List ℕ → Reign
+reign_in f t key = unwrap_or (get (slice_cmp nat_cmp) t key) (first_reign f key)
 
 -- what is held where so many pieces lie before
 abbrev pub held_by : ℕ → Reign → Option ℕ

@@ -48,8 +48,8 @@ fn pieces_of<'a>(alloc: Global, cuts: &Cuts<'a>) -> Result<Vec<Vec<Part<'a>>>, A
 /// Keeps the next piece, before which so many lie.
 fn keep_piece<'a>(
     alloc: Global,
-    lasts: &BTreeMap<(&'a Key, u64), usize>,
-    reigns: &mut BTreeMap<&'a Key, Reign>,
+    lasts: &BTreeMap<(u64, &'a Key), usize>,
+    reigns: &mut BTreeMap<Key, Reign>,
     parts: &[Part<'a>],
     count: usize,
 ) -> Result<Kept<'a>, AllocError>
@@ -61,7 +61,7 @@ fn keep_piece<'a>(
 {
     let ops = ops_of(alloc, parts, Whose::All)?;
     let before = held_keys(alloc, lasts, reigns, &ops, count)?;
-    advance(lasts, reigns, &ops)?;
+    advance(alloc, lasts, reigns, &ops)?;
     let behind = held_keys(alloc, lasts, reigns, &ops, count + 1)?;
     let parts = copied(alloc, parts)?;
     Ok(Kept {
@@ -74,7 +74,7 @@ fn keep_piece<'a>(
 /// Keeps the pieces.
 fn keep_all<'a>(
     alloc: Global,
-    lasts: &BTreeMap<(&'a Key, u64), usize>,
+    lasts: &BTreeMap<(u64, &'a Key), usize>,
     pieces: &[Vec<Part<'a>>],
 ) -> Result<Vec<Kept<'a>>, AllocError>
     ensures { IfOk result (λ kept. AreKept (last_in lasts.now) 0 [] (sessions_in pieces.now) (map kept_view kept.items)) }

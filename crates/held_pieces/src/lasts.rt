@@ -12,7 +12,7 @@ use std::collections::BTreeMap;
 
 /// Takes what is read in the last of so many pieces.
 fn add_reads<'a>(
-    lasts: &mut BTreeMap<(&'a Key, u64), usize>,
+    lasts: &mut BTreeMap<(u64, &'a Key), usize>,
     ops: &[&'a Op],
     count: usize,
 ) -> Result<(), AllocError>
@@ -22,7 +22,7 @@ fn add_reads<'a>(
     for op in ops {
         let op: &'a Op = *op;
         if let Op::Read { key, wid } = op {
-            lasts.insert((key, *wid), count)?;
+            lasts.insert((*wid, key), count)?;
         }
     }
     Ok(())
@@ -32,7 +32,7 @@ fn add_reads<'a>(
 pub fn lasts_of<'a>(
     alloc: Global,
     pieces: &[Vec<Part<'a>>],
-) -> Result<BTreeMap<(&'a Key, u64), usize>, AllocError>
+) -> Result<BTreeMap<(u64, &'a Key), usize>, AllocError>
     ensures { IfOk result (λ lasts. AreLasts (last_in lasts) 0 (sessions_in pieces.now)) }
 {
     let mut lasts = BTreeMap::new(alloc);

@@ -20,23 +20,23 @@ pub struct Reign {
 ghost use Rattle.held_pieces.specs.Ops.{seen};
 ghost use Rattle.held_pieces.specs.Reigns.{last_in, reign_in, reign_from, held_by, held_among};
 
-fn last<'a>(lasts: &BTreeMap<(&'a Key, u64), usize>, key: &'a Key, wid: u64) -> usize
+fn last<'a>(lasts: &BTreeMap<(u64, &'a Key), usize>, key: &'a Key, wid: u64) -> usize
     ensures { result ≡ last_in lasts.now key.now wid }
 {
-    match lasts.get(&(key, wid)) {
+    match lasts.get(&(wid, key)) {
         Some(last) => *last,
         None => 0,
     }
 }
 
 fn reign_of<'a>(
-    lasts: &BTreeMap<(&'a Key, u64), usize>,
-    reigns: &BTreeMap<&'a Key, Reign>,
+    lasts: &BTreeMap<(u64, &'a Key), usize>,
+    reigns: &BTreeMap<Key, Reign>,
     key: &'a Key,
 ) -> Reign
     ensures { result ≡ reign_in (last_in lasts.now) reigns.now key.now }
 {
-    match reigns.get(&key) {
+    match reigns.get(key) {
         Some(reign) => *reign,
         None => Reign {
             wid: 0,
@@ -58,8 +58,9 @@ fn held(reign: Reign, count: usize) -> Option<u64>
 
 /// Takes the writes of a piece.
 pub fn advance<'a>(
-    lasts: &BTreeMap<(&'a Key, u64), usize>,
-    reigns: &mut BTreeMap<&'a Key, Reign>,
+    alloc: Global,
+    lasts: &BTreeMap<(u64, &'a Key), usize>,
+    reigns: &mut BTreeMap<Key, Reign>,
     ops: &[&'a Op],
 ) -> Result<(), AllocError>
     ensures { OnOk result ((key : List ℕ) → reign_in (last_in lasts.now) reigns.new key
@@ -70,6 +71,7 @@ pub fn advance<'a>(
         if let Op::Write { key, wid } = op {
             let until = last(lasts, key, *wid);
             if reign_of(lasts, reigns, key).until < until {
+                let key = key.to_owned_key(alloc)?;
                 reigns.insert(key, Reign { wid: *wid, until })?;
             }
         }
@@ -80,8 +82,8 @@ pub fn advance<'a>(
 /// What the keys of these operations hold where so many pieces lie before.
 pub fn held_keys<'a>(
     alloc: Global,
-    lasts: &BTreeMap<(&'a Key, u64), usize>,
-    reigns: &BTreeMap<&'a Key, Reign>,
+    lasts: &BTreeMap<(u64, &'a Key), usize>,
+    reigns: &BTreeMap<Key, Reign>,
     ops: &[&'a Op],
     count: usize,
 ) -> Result<BTreeMap<Key, u64>, AllocError>
