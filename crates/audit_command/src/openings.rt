@@ -2,13 +2,12 @@
 
 ghost use Rattle.std.specs.Prelude.{◌≡◌, ◌++◌, ◌∷◌, [], IfOk, OnOk, codes, decimal};
 ghost use Rattle.std.specs.String.{string_bytes};
-ghost use Rattle.cobra_answers.specs.Verdicts.{read_title};
 ghost use Rattle.audit_command.specs.Report.{status_of, verdict_word, first_line, anomaly_title, finding_title, piece_line, count_line, counts_text};
 ghost use Rattle.audit_command.specs.Report.{read_code, anomaly_code, finding_code, object_front, object_finding, NamesOneOf};
 
 use crate::totals::Totals;
 use auditing::{Finding, Verdict};
-use cobra_answers::Status;
+use cobra_answers::{Status, read_title};
 use session_history::{Anomaly, ReadAnomaly};
 use std::alloc::{AllocError, Global};
 
@@ -84,20 +83,6 @@ pub fn first_line(alloc: Global, all: usize, verdict: Verdict) -> Result<String,
             all,
             " pieces not decided\n",
         ),
-    }
-}
-
-/// The number and the name of an anomaly of a read.
-fn read_title(kind: ReadAnomaly) -> &'static str
-    ensures title { result.now ≡ read_title kind }
-{
-    match kind {
-        ReadAnomaly::Unknown => "A1 unknown read",
-        ReadAnomaly::Aborted => "A2 aborted read",
-        ReadAnomaly::Intermediate => "A3 intermediate read",
-        ReadAnomaly::OwnWriteMissed => "A4 own write missed",
-        ReadAnomaly::Future => "A5 future read",
-        ReadAnomaly::Split => "A6 split read",
     }
 }
 

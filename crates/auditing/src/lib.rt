@@ -15,4 +15,5 @@ pub use counts::{LogCounts, counted};
 pub use judged::{Finding, Judged, Refuted, Undecided, Why};
 pub use judging::{Progress, SoFar, judge};
 pub use means::{AuditMeans, Deadline};
+pub use sizes::line_count;
 pub use verdict::{Verdict, verdict_of};

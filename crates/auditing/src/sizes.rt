@@ -27,7 +27,7 @@ fn with_lines(lines: usize, session: &Session) -> usize
 }
 
 /// How many lines these sessions have, up to `usize::MAX`.
-fn line_count(sessions: &[Session]) -> usize
+pub fn line_count(sessions: &[Session]) -> usize
     ensures { result ≡ capped (length (log_lines (map view sessions.now))) }
 {
     let mut lines = 0;

@@ -14,4 +14,4 @@ pub use reply::{Reply, tell};
 pub use source::{CountedRead, ReadFault, Source, SourceFailed, read_all};
 pub use status::Status;
 pub use stop::Stop;
-pub use verdict::{anomaly_text, cycle_text, serial_text, spent_text};
+pub use verdict::{anomaly_text, cycle_text, read_title, serial_text, spent_text};

@@ -27,7 +27,7 @@ fn put_named(
 }
 
 /// The number and the name of an anomaly of a read.
-fn read_title(kind: ReadAnomaly) -> &'static str
+pub fn read_title(kind: ReadAnomaly) -> &'static str
     ensures title { result.now ≡ read_title kind }
 {
     match kind {

@@ -1,14 +1,13 @@
 //! Why a piece has no order, in the words of the whole log.
 #![tactic(auto)]
 
-ghost use Rattle.std.specs.Prelude.{◌≡◌, ℕ, ◌+◌, ◌<◌, ◌^◌, length, map};
-ghost use Rattle.session_log.specs.Text.{view, session_lines};
+ghost use Rattle.std.specs.Prelude.{◌+◌, ◌<◌, ◌^◌, length, map};
+ghost use Rattle.session_log.specs.Text.{view};
 ghost use Rattle.log_definitions.specs.WellFormed.{log_lines};
 ghost use Rattle.piece_laws.specs.Logs.{IsLog};
 ghost use Rattle.auditing.specs.Audits.{ArePiecesOfLog};
-ghost use Rattle.auditing.specs.Counts.{capped};
 
-use auditing::AuditMeans;
+use auditing::{AuditMeans, line_count};
 use deciding::{Means, decide};
 use desk::gate::OpenGate;
 use desk::seat_no::Workers;
@@ -25,28 +24,6 @@ use std::time::Clock;
 
 /// More lines than any log has.
 const MANY_LINES: usize = 1_000_000_000;
-
-/// So many lines, and those of a session more, up to `usize::MAX`.
-fn with_lines(lines: usize, session: &Session) -> usize
-    ensures { (before : ℕ) → lines ≡ capped before → result ≡ capped (before + length (session_lines (view session.now))) }
-{
-    let mut count = lines.saturating_add(1);
-    for txn in &session.txns {
-        count = count.saturating_add(txn.ops.len()).saturating_add(2);
-    }
-    count
-}
-
-/// How many lines these sessions have, up to `usize::MAX`.
-fn line_count(sessions: &[Session]) -> usize
-    ensures { result ≡ capped (length (log_lines (map view sessions.now))) }
-{
-    let mut lines = 0;
-    for session in sessions {
-        lines = with_lines(lines, session);
-    }
-    lines
-}
 
 /// Why a log has no order, where that is found of it.
 fn reasons_in<R: Threads + Wait + Clock + Sync>(
