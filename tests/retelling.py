@@ -12,7 +12,7 @@ CASES, SEED, SHOWN, LATE = 200, 1, 20, 60
 # So often each example stands between what is written before it and read behind it.
 AROUND = 4
 TOP = os.path.dirname(os.path.dirname(os.path.abspath(__file__)))
-KEYS = ('x', 'y', '1.1', '2.1:', 'reads', 'the', 'before', 'wrote', 'line', 'a/very-long-key.of_more:than.fourteen-bytes')
+KEYS = ('x', 'y', '1.1', '2.1:', 'reads', 'which', 'before', 'wrote', 'line', 'a/very-long-key.of_more:than.fourteen-bytes')
 COUNTS = ('sessions', 'committed', 'aborted', 'unknown', 'taken', 'keys', 'operations', 'pieces', 'largest')
 
 NAME, KEY, NUMBER, LINE = r'(\d+\.\d+)', r'([A-Za-z0-9_.:/-]+)', r'(\d+)', r'\(line (\d+)\)'

@@ -114,6 +114,9 @@ class Scene:
         for edge in edges:
             if edge.kind in ('forced', 'decided') and look == 'bold':
                 self.add_ground(edge.first, self.key_of(edge, steps))
+            if edge.kind == 'decided':
+                _, _, writer, line, *_ = edge.parts
+                self.tell(writer, int(line), support=True)
 
     @staticmethod
     def key_of(edge, steps):
