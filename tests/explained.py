@@ -22,11 +22,12 @@ TRY = 'try --strategy forced --workers 1, then a larger --budget, then a SAT sol
 NODE, NUMBER, KEY = r'([1-9][0-9]*\.[1-9][0-9]*)', r'([1-9][0-9]*)', r'([A-Za-z0-9_.:/-]+)'
 EDGE = re.compile('%s before %s: (.+)' % (NODE, NODE))
 VERSION = r'[1-9][0-9]*, which %s wrote \(line [1-9][0-9]*\)' % NODE
-STEP = re.compile(r'\[%s\] %s: %s, comes before %s:' % (NUMBER, KEY, VERSION, VERSION))
+VERSIONS = '%s: %s, comes before %s' % (KEY, VERSION, VERSION)
+STEP = re.compile(r'\[%s\] %s:' % (NUMBER, VERSIONS))
 OTHERWISE = re.compile(r'    (?:%s read [0-9]+ \(line [1-9][0-9]*\)(?:, which goes back to [1-9][0-9]*)?, so otherwise it|otherwise %s) would stand before %s, but'
                        % (NODE, NODE, NODE))
 CYCLE = re.compile('cycle from %s:' % NODE)
-ORDER = re.compile('%s: the chain of %s first' % (KEY, NODE))
+ORDER, CHOSEN = re.compile('if %s:' % VERSIONS), re.compile(VERSIONS)
 LEAVES = re.compile('%s cubes are refuted by a cycle; the first 1000 of them:' % NUMBER)
 GRAPHVIZ = shutil.which('dot')
 # An explanation of so many bytes is not spoilt.
@@ -219,16 +220,20 @@ class Log:
     def begins_chain(self, it, key):
         return it in self.nodes and it.writes(key) and not it.reads(key)
 
+    def said_of_order(self, key, first, second):
+        """Which of the versions that the first writers of two chains leave comes first."""
+        left = [(name, self.named[name].writes(key)[-1]) for name in (first, second)]
+        return '%s: %s, comes before %s' % (key, *('%d, which %s wrote (line %d)' % (op.wid, name, op.line) for name, op in left))
+
     def said_of_step(self, number, key, first, second, u, v):
-        """The two lines of a step: the versions that the first writers of two chains leave, and whom the other order would let stand before
-        whom, by its first read of the key."""
-        left = [self.named[name].writes(key)[-1] for name in (first, second)]
-        versions = ['%d, which %s wrote (line %d)' % (op.wid, name, op.line) for op, name in zip(left, (first, second))]
+        """The two lines of a step: the order that it keeps, and whom the other order would let stand before whom, by its first read of the
+        key."""
+        left = self.named[second].writes(key)[-1]
         said = 'otherwise ' + u
         for read in [op for op in self.named[u].ops if (op.kind, op.key) == ('r', key)][:1]:
-            back = '' if read.wid == left[1].wid else ', which goes back to %d' % left[1].wid
+            back = '' if read.wid == left.wid else ', which goes back to %d' % left.wid
             said = '%s read %d (line %d)%s, so otherwise it' % (u, read.wid, read.line, back)
-        return ['[%s] %s: %s, comes before %s:' % (number, key, *versions), '    %s would stand before %s, but' % (said, v)]
+        return ['[%s] %s:' % (number, self.said_of_order(key, first, second)), '    %s would stand before %s, but' % (said, v)]
 
     def side(self, key, first, second):
         """The edges of: the chain that begins with the first before the one that begins with the second."""
@@ -337,22 +342,19 @@ class Telling:
             self.leaves += 1
             self.met['tree of depth %d' % depth if depth < 4 else 'tree of depth 4 or more'] += 1
             return
-        (key, p), (other, q) = first, self.second(depth)
-        told(other == key, 'two keys are split, %s and %s' % (key, other))
-        self.two_chains('a choice of %s' % key, key, p, q)
+        key, p, q = first
+        self.order(depth, key, p, q)
         told(not {(key, p, q), (key, q, p)} & set(decided), 'a choice of %s is split twice' % key)
         self.below(decided + [(key, p, q)])
-        told(self.next(ORDER, depth) == (key, q), 'the second order of %s is not at %r' % (key, self.rest()))
+        told(self.next(ORDER, depth) == (key, q, p), 'the second order of %s is not at %r' % (key, self.rest()))
+        self.order(depth, key, q, p)
         self.below(decided + [(key, q, p)])
 
-    def second(self, depth):
-        """The second order of a choice of which the first one was just read: the next line that is indented no further."""
-        place = self.at
-        while place < len(self.lines) and self.lines[place].startswith('  ' * depth + ' '):
-            place += 1
-        found = self.line_at(place, ORDER, depth)
-        told(found, 'an order stands alone, before %r' % self.lines[place:place + 1])
-        return found
+    def order(self, depth, key, *both):
+        """The decided order of the line that was just read."""
+        self.two_chains('a choice of %s' % key, key, *both)
+        right = '  ' * depth + 'if %s:' % self.log.said_of_order(key, *both)
+        told(self.lines[self.at - 1] == right, 'wanted %r' % right)
 
     # ---- edges
 
@@ -398,7 +400,7 @@ class Telling:
         for number, kept in enumerate(self.steps, 1):
             if edge in kept:
                 return 'forced', {'forced [%d]' % number: number}
-        return 'decided', {'%s: the chain of %s first' % order[:2]: order for order in decided if edge in self.log.side(*order)}
+        return 'decided', {self.log.said_of_order(*order): order for order in decided if edge in self.log.side(*order)}
 
 
 def judge(text, checked, explained):
@@ -431,7 +433,7 @@ def judge(text, checked, explained):
 
 def kind_of(said):
     """The kind of an edge by what is said of it, and its colour."""
-    if ORDER.fullmatch(said):
+    if CHOSEN.fullmatch(said):
         return said, 'gray'
     return next((said if colour == 'orange' else kind, colour) for kind, form, colour in KINDS if re.fullmatch(form, said))
 
@@ -445,7 +447,7 @@ def graph_of(text, checked, explained):
     else:
         edges = [found.groups() for found in (EDGE.fullmatch(line.lstrip(' ')) for line in lines) if found]
         parts = {name for edge in edges for name in edge[:2]}
-        named = {int(line) for *_, said in edges for line in re.findall(r'\(line ([0-9]+)\)', said)}
+        named = {int(line) for *_, said in edges if not CHOSEN.fullmatch(said) for line in re.findall(r'\(line ([0-9]+)\)', said)}
         drawn = ['"%s" [label="%s"];' % (it.name, '\\n'.join([it.name] + ['%s %s %d (line %d)' % op for op in it.ops if op.line in named]))
                  for it in (log.transactions if log else ()) if it.name in parts]
         drawn += ['"%s" -> "%s" [label="%s" color="%s"];' % (a, b, *kind_of(said)) for a, b, said in edges]
@@ -553,18 +555,20 @@ def spoilt_tree(r, log, lines, bare, without, instead):
     behind = lambda n: next((m for m in range(n + 1, len(lines)) if depth[m] <= depth[n]), len(lines))
     pairs = [(n, behind(n), behind(behind(n))) for n in orders if depth[n] in depth[behind(n):behind(n) + 1]]
     n, m, end = r.choice(pairs)
-    (key, p), (_, q) = (ORDER.fullmatch(bare[at]).groups() for at in (n, m))
-    order = '%s: the chain of %s first'
-    for at, stop in ((n, m), (m, end)):
+    key = ORDER.fullmatch(bare[n])[1]
+    for at, stop, other in ((n, m, m), (m, end, n)):
+        first = ORDER.fullmatch(bare[at])[2]
         yield 'an order is missing', without(at)
         yield 'an order is missing, with all below it', without(at, stop)
         yield 'nothing stands below an order', without(at + 1, stop)
-        yield 'an order stands twice', instead(at, order % (key, q if at == n else p))
-        yield 'an order of another key', instead(at, order % (key + '_', p if at == n else q))
+        yield 'an order stands twice', instead(at, bare[other])
+        yield 'an order of another key', instead(at, bare[at].replace('if %s: ' % key, 'if %s_: ' % key))
         for it in [it for it in log.transactions if not log.begins_chain(it, key)][:1]:
-            yield 'an order of no chain', instead(at, order % (key, it.name))
+            yield 'an order of no chain', instead(at, bare[at].replace(', which %s wrote' % first, ', which %s wrote' % it.name))
+        for place in [found.start() for found in re.finditer(r'[0-9]+(?=, which|[)])', bare[at])]:
+            yield 'another number in an order', instead(at, bare[at][:place] + '9' + bare[at][place:])
     for first, second, _ in pairs:
-        needed = ' before %s: %s' % (ORDER.fullmatch(bare[second])[2], bare[first])
+        needed = ' before %s: %s' % (ORDER.fullmatch(bare[first])[3], bare[first][len('if '):-1])
         if any(line.endswith(needed) for line in bare[first + 1:second]):
             both = instead(first, bare[second])
             both[second] = lines[first]
@@ -573,10 +577,11 @@ def spoilt_tree(r, log, lines, bare, without, instead):
             below = ['  ' + line for line in lines[first + 1:second]]
             once_more = ['  ' + lines[first], *below, '  ' + lines[second], *below]
             yield 'a choice is split twice', lines[:first + 1] + once_more + lines[second:]
-    chosen = [(n, *found.groups()) for n, found in ((n, EDGE.fullmatch(line)) for n, line in enumerate(bare)) if found and ORDER.fullmatch(found[3])]
+    chosen = [(n, *found.groups()) for n, found in ((n, EDGE.fullmatch(line)) for n, line in enumerate(bare)) if found and CHOSEN.fullmatch(found[3])]
     for n, a, b, said in chosen[:3]:
-        yield 'the other order is named', instead(n, '%s before %s: %s' % (a, b, order % (ORDER.fullmatch(said)[1], b)))
-        yield 'an order of another key is named', instead(n, '%s before %s: %s' % (a, b, order % (ORDER.fullmatch(said)[1] + '_', b)))
+        key, p, q = CHOSEN.fullmatch(said).groups()
+        yield 'the other order is named', instead(n, '%s before %s: %s' % (a, b, log.said_of_order(key, q, p)))
+        yield 'an order of another key is named', instead(n, '%s before %s: %s' % (a, b, key + '_' + said[len(key):]))
     n = r.randrange(orders[0], len(lines))
     for moved in [' ' + lines[n], '  ' + lines[n]] + [lines[n][by:] for by in (1, 2) if depth[n]]:
         yield 'a line is moved', lines[:n] + [moved] + lines[n + 1:]

@@ -12,7 +12,7 @@ CASES, SEED, SHOWN, LATE = 200, 1, 20, 60
 # So often each example stands between what is written before it and read behind it.
 AROUND = 4
 TOP = os.path.dirname(os.path.dirname(os.path.abspath(__file__)))
-KEYS = ('x', 'y', '1.1', '2.1:', 'reads', 'the', 'before', 'wrote', 'line', 'a/very-long-key.of_more:than.fourteen-bytes')
+KEYS = ('x', 'y', '1.1', '2.1:', 'reads', 'which', 'before', 'wrote', 'line', 'a/very-long-key.of_more:than.fourteen-bytes')
 COUNTS = ('sessions', 'committed', 'aborted', 'unknown', 'taken', 'keys', 'operations', 'pieces', 'largest')
 
 NAME, KEY, NUMBER, LINE = r'(\d+\.\d+)', r'([A-Za-z0-9_.:/-]+)', r'(\d+)', r'\(line (\d+)\)'
@@ -24,8 +24,9 @@ BUT = re.compile(', but (?=%s reads )' % NAME)
 OVERWRITES = re.compile(', and %s overwrites it with %s %s' % (NAME, NUMBER, LINE))
 WROTE = re.compile(', and %s wrote %s %s %s' % (NAME, KEY, NUMBER, LINE))
 EDGE = re.compile('%s before %s: ' % (NAME, NAME))
-STEP = re.compile(r'\[(\d+)\] %s: %s, which %s wrote %s, comes before %s, which %s wrote %s:' % (KEY, NUMBER, NAME, LINE, NUMBER, NAME, LINE))
-OLD_STEP = re.compile(r'\[(\d+)\] %s: the chain of %s before the chain of %s, since the other way %s stands before %s, against:' % (KEY, NAME, NAME, NAME, NAME))
+VERSIONS = re.compile('%s: %s, which %s wrote %s, comes before %s, which %s wrote %s' % (KEY, NUMBER, NAME, LINE, NUMBER, NAME, LINE))
+STEP = re.compile(r'\[(\d+)\] %s:' % VERSIONS.pattern)
+ORDER = re.compile('if %s:' % VERSIONS.pattern)
 OTHERWISE = re.compile('    (?:%s read %s %s%s(?:, which goes back to %s)?, so otherwise it|otherwise %s) would stand before %s, but'
                        % (NAME, NUMBER, LINE, WHERE, NUMBER, NAME, NAME))
 RANGE = re.compile(r'(\d+)\.(\d+)(?: to \d+\.(\d+))? \(lines (\d+) to (\d+)\)')
@@ -263,6 +264,11 @@ class Checked:
         if aborted:
             self.must(int(aborted) == last, 'line of abort')
 
+    def versions(self, key, one, first, first_line, other, second, second_line):
+        """Two versions of a key, by their writers."""
+        self.operation(first, 'w %s %s' % (key, one), first_line)
+        self.operation(second, 'w %s %s' % (key, other), second_line)
+
     def edge(self, steps):
         first, second = self.take(EDGE)
         self.placed(first, self.side(first) if self.side(first) != 'here' else None)
@@ -278,9 +284,8 @@ class Checked:
         elif self.word('forced ['):
             number, self.rest = self.rest[:-1], ''
             self.must(number.isdigit() and int(number) <= steps, 'forced by no step')
-        elif re.fullmatch('%s: the chain of %s first' % (KEY, NAME), self.rest):
-            name = re.fullmatch('%s: the chain of %s first' % (KEY, NAME), self.rest)[2]
-            self.placed(name, None)
+        elif VERSIONS.fullmatch(self.rest):
+            self.versions(*VERSIONS.fullmatch(self.rest).groups())
             self.rest = ''
         elif re.match('%s ended at ' % NAME, self.rest):
             found = self.take(re.compile('%s ended at %s %s, %s began at %s %s' % (NAME, NUMBER, LINE, NAME, NUMBER, LINE)))
@@ -339,17 +344,10 @@ class Checked:
             if text.startswith('known as: ') or text.endswith('the first 1000 of them:'):
                 continue
             if STEP.fullmatch(text):
-                number, key, one, first, first_line, other, second, second_line = STEP.fullmatch(text).groups()
+                number, key, *both = STEP.fullmatch(text).groups()
                 steps += 1
                 self.must(int(number) == steps, 'number of a step')
-                self.operation(first, 'w %s %s' % (key, one), first_line)
-                self.operation(second, 'w %s %s' % (key, other), second_line)
-            elif OLD_STEP.fullmatch(text):
-                number, key, *names = OLD_STEP.fullmatch(text).groups()
-                steps += 1
-                self.must(int(number) == steps, 'number of a step')
-                for name in names:
-                    self.must(name in self.log.spans, 'no transaction')
+                self.versions(key, *both)
             elif OTHERWISE.fullmatch(text):
                 late, wid, line, where, back, other, target = OTHERWISE.fullmatch(text).groups()
                 if late:
@@ -357,8 +355,8 @@ class Checked:
                 self.placed(target, None)
             elif re.fullmatch('cycle from %s:' % NAME, bare):
                 cycles.append((bare[11:-1], []))
-            elif re.fullmatch('%s: the chain of %s first' % (KEY, NAME), bare):
-                self.placed(re.fullmatch('%s: the chain of %s first' % (KEY, NAME), bare)[2], None)
+            elif ORDER.fullmatch(bare):
+                self.versions(*ORDER.fullmatch(bare).groups())
             elif EDGE.match(bare):
                 edge = self.edge(steps)
                 self.must(self.rest == '', 'left: ' + self.rest)

@@ -46,7 +46,7 @@ KINDS = {
     'decided': 'it holds in this branch: an order of two versions is assumed',
     'otherwise': 'what would hold the other way, and cannot',
 }
-STEP = ('Suppose that of %s the chain that begins with %s came before the one that begins with %s. Then %s would have to stand before %s '
+STEP = ('Suppose that of %s the version of %s came before that of %s. Then %s would have to stand before %s '
         '(dashed). But %s stands before %s, by the bold arrows. So it is the other way round, and this step keeps that.')
 READING = ('Each column is a session, and time runs downwards, %s. <code>r KEY ID</code> read the write with this identity, <code>w KEY ID</code> '
            'wrote it, as in the log. What is told is bold; pale boxes are neighbours in the session. Point at an operation to see its key '
@@ -114,6 +114,9 @@ class Scene:
         for edge in edges:
             if edge.kind in ('forced', 'decided') and look == 'bold':
                 self.add_ground(edge.first, self.key_of(edge, steps))
+            if edge.kind == 'decided':
+                _, _, writer, line, *_ = edge.parts
+                self.tell(writer, int(line), support=True)
 
     @staticmethod
     def key_of(edge, steps):
@@ -216,7 +219,8 @@ def words_of(edge, seen, new, steps):
     if edge.kind == 'forced':
         return 'forced [%d]: %s' % (edge.step, short(steps[edge.step].key))
     if edge.kind == 'decided':
-        return 'assumed: %s by %s first' % (short(edge.parts[0], 14), edge.parts[1])
+        key, earlier, _, _, later, *_ = edge.parts
+        return 'assumed: %s %s before %s' % (short(key, 14), earlier, later)
     return short(edge.said, 30)
 
 
@@ -404,8 +408,9 @@ class Page:
         """One circle of a tree: its picture and its lines, and what is assumed."""
         cycle = its[0][1]
         named = dict.fromkeys(edge.parts for edge in cycle.edges if edge.kind == 'decided')
-        assumed = ' and '.join('of %s the version of %s' % both for both in named)
-        words = 'where %s came first' % assumed if named else 'whatever is assumed'
+        assumed = ' and '.join('of %s the version of %s came before that of %s' % (key, first, second)
+                               for key, _, first, _, _, second, _ in named)
+        words = 'where %s' % assumed if named else 'whatever is assumed'
         words += '; %d of the branches that are told end in it' % len(its) if len(its) > 1 else ''
         drawing = self.pictures_of(scenes_of_cycle(self.history, cycle.edges, self.steps, 'Circle %d' % place)) if draw else ''
         return self.with_lines(drawing, self.edges(cycle.edges)), escape(words)

@@ -12,17 +12,18 @@ READ = re.compile('not serializable: A[1-6] .+ at %s op %s' % (NODE, NUMBER))
 UPDATE = re.compile(r'not serializable: A7 lost update of %s from [0-9.]+ by %s and %s' % (KEY, NODE, NODE))
 EDGE = re.compile('%s before %s: (.+)' % (NODE, NODE))
 VERSION = r'([0-9]+), which %s wrote \(line %s\)' % (NODE, NUMBER)
-STEP = re.compile(r'\[%s\] %s: %s, comes before %s:' % (NUMBER, KEY, VERSION, VERSION))
+VERSIONS = '%s: %s, comes before %s' % (KEY, VERSION, VERSION)
+STEP = re.compile(r'\[%s\] %s:' % (NUMBER, VERSIONS))
 OTHERWISE = re.compile(r'    (?:%s read [0-9]+ \(line %s\)(?:, which goes back to [0-9]+)?, so otherwise it|otherwise %s) would stand before %s, but'
                        % (NODE, NUMBER, NODE, NODE))
 CYCLE = re.compile('cycle from %s:' % NODE)
-ORDER = re.compile('%s: the chain of %s first' % (KEY, NODE))
+ORDER = re.compile('if %s:' % VERSIONS)
 KNOWN = re.compile('known as: (.+)')
 LEAVES = re.compile('%s cubes are refuted by a cycle; the first 1000 of them:' % NUMBER)
 # Where a line of an anomaly names a transaction.
 TELLS = re.compile('(?:^|, which )%s (?=reads |read |wrote |overwrites )' % NODE)
 # The kinds of what is said of an edge, by its form; the first that fits.
-KINDS = [('session', re.compile('session %s' % NUMBER)), ('forced', re.compile(r'forced \[%s\]' % NUMBER)), ('decided', ORDER),
+KINDS = [('session', re.compile('session %s' % NUMBER)), ('forced', re.compile(r'forced \[%s\]' % NUMBER)), ('decided', re.compile(VERSIONS)),
          ('read', re.compile('.+ reads .+, which [1-9][0-9.]+ wrote .+')),
          ('anti-dependency', re.compile('.+ reads .+, and .+ overwrites it with .+')),
          ('version order', re.compile('.+ reads %s [0-9]+ .+, (?:the|which goes back to the) initial value, and .+ wrote .+' % KEY)),
@@ -77,10 +78,11 @@ class Step:
 
 @dataclass
 class Order:
-    """A decided order of a tree: of this key the chain of `first` stands first."""
+    """A decided order of a tree: of this key the version of `first` comes before that of `second`."""
     line: int
     key: str
     first: str
+    second: str
 
 
 @dataclass
@@ -114,7 +116,7 @@ class Explanation:
             found += [step.first, step.second, step.late] + [name for edge in step.walk for name in (edge.first, edge.second)]
         for cycle in cycles:
             found += [name for edge in cycle.edges for name in (edge.first, edge.second)]
-        found += [order.first for orders, _ in self.leaves for order in orders]
+        found += [name for orders, _ in self.leaves for order in orders for name in (order.first, order.second)]
         return list(dict.fromkeys(found))
 
     @property
@@ -172,7 +174,8 @@ class Reader:
             if cycle:
                 found.append((decided[:depth], cycle))
             if order:
-                decided = decided[:depth] + [Order(*order)]
+                line, key, _, first, _, _, second, _ = order
+                decided = decided[:depth] + [Order(line, key, first, second)]
             if not cycle and not order:
                 return found
 

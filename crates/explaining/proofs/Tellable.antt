@@ -95,10 +95,9 @@ can_write ss steps decided a b (Forced k) few os ds h =
     }
 can_write ss steps decided a b (Chosen c) few os ds h =
     let o = each_contained (IsOrder (log_of ss)) decided c ds h.2 in
-    let there = order_there ss c o in
     record {
       nodes = order_nodes ss c a b o h.3;
-      tells = (there.0, there.1);
+      tells = order_there ss c o;
     }
 
 -- ---- lines, steps and cycles

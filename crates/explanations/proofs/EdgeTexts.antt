@@ -4,8 +4,9 @@ use Rattle.session_log.specs.Text.{ClientSession}
 use Rattle.explanations.specs.declared.why.ChainOrder.{ChainOrder}
 use Rattle.explanations.specs.declared.why.Why.{Why}
 use Rattle.explanations.specs.declared.why.Why.TheVariants as why
-use Rattle.explanations.specs.Reasons.{IsWhy, IsEdgeTold, why_text}
-use Rattle.explanations.specs.Reasons.IsEdgeTold.{known, forced, chosen}
+use Rattle.explanations.specs.Reasons.{IsWhy}
+use Rattle.explanations.specs.Edges.{IsEdgeTold, why_text}
+use Rattle.explanations.specs.Edges.IsEdgeTold.{known, forced, chosen}
 
 -- where this is why, its text tells the edge
 pub edge_told : (ss : List ClientSession) (begin : ℕ → ℕ) (steps decided : List ChainOrder) (a b : ℕ) (w : Why) → IsWhy ss steps decided a b w → IsEdgeTold ss begin steps decided a b (why_text ss begin a b w)

@@ -9,3 +9,10 @@ three old a b c one mid new p q r = two old (a ++ b) c mid new (two old a b one 
 
 pub five : (old a b c d e one two' mid four new : List ℕ) → one ≡ old ++ a → two' ≡ one ++ b → mid ≡ two' ++ c → four ≡ mid ++ d → new ≡ four ++ e → new ≡ old ++ ((((a ++ b) ++ c) ++ d) ++ e)
 five old a b c d e one two' mid four new p q r s t = three old ((a ++ b) ++ c) d e mid four new (three old a b c one two' mid p q r) s t
+
+joined : (a b c d e : List ℕ) → ((((a ++ b) ++ c) ++ d) ++ e) ≡ (a ++ b ++ c ++ d ++ e)
+joined a b c d e = simp append_assoc
+
+-- five pieces, as they stand one behind the other
+pub five_joined : (old a b c d e one two' mid four new : List ℕ) → one ≡ old ++ a → two' ≡ one ++ b → mid ≡ two' ++ c → four ≡ mid ++ d → new ≡ four ++ e → new ≡ old ++ (a ++ b ++ c ++ d ++ e)
+five_joined old a b c d e one two' mid four new p q r s t = five old a b c d e one two' mid four new p q r s t ∙ ap (λ l. old ++ l) (joined a b c d e)

@@ -1,4 +1,5 @@
 pub mod Anomalies
+pub mod Edges
 pub mod Events
 pub mod Lines
 pub mod Reasons

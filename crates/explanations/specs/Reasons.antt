@@ -86,9 +86,6 @@ reason_text ss begin a b reason.Moments =
 abbrev pub before_text : List ClientSession → ℕ → ℕ → List ℕ
 before_text ss a b = named ss a ++ codes " before " ++ named ss b ++ codes ": "
 
-abbrev pub edge_text : List ClientSession → (ℕ → ℕ) → ℕ → ℕ → Reason → List ℕ
-edge_text ss begin a b r = before_text ss a b ++ reason_text ss begin a b r ++ 10 ∷ []
-
 -- a reason of this edge: it holds of the log, no kind that stands before its own has one, and no lesser operations would do
 pub record IsGiven (ss : List ClientSession) (a b : ℕ) (r : Reason) : Type 0 where
   pub holds : IsReason ss a b r
@@ -123,33 +120,8 @@ IsWhy ss steps chosen a b (why.Known r) = IsGiven ss a b r
 IsWhy ss steps chosen a b (why.Forced k) = IsForcedBy ss steps a b k
 IsWhy ss steps chosen a b (why.Chosen o) = IsChosenBy ss steps chosen a b o
 
--- ---- what is written
-abbrev pub forced_text : List ClientSession → ℕ → ℕ → ℕ → List ℕ
-forced_text ss a b k = before_text ss a b ++ codes "forced [" ++ decimal (k + 1) ++ codes "]\n"
-
-abbrev pub chosen_text : List ClientSession → ℕ → ℕ → ChainOrder → List ℕ
-chosen_text ss a b o = before_text ss a b ++ key_bytes ss o.key ++ codes ": the chain of " ++ named ss o.first ++ codes " first\n"
-
-abbrev pub why_text : List ClientSession → (ℕ → ℕ) → ℕ → ℕ → Why → List ℕ
-why_text ss begin a b (why.Known r) = edge_text ss begin a b r
-why_text ss begin a b (why.Forced k) = forced_text ss a b k
-why_text ss begin a b (why.Chosen o) = chosen_text ss a b o
-
--- what the text names is there
+-- ---- what is told of an edge is there
 abbrev pub CanTell : List ClientSession → ℕ → ℕ → Why → Type 0
 CanTell ss a b (why.Known r) = IsReason ss a b r
 CanTell ss a b (why.Forced k) = k + 1 < 2 ^ 64
-CanTell ss a b (why.Chosen o) = (o.key < (log_of ss).keys) × (o.first ≤ (log_of ss).nodes)
-
--- ---- lines of nodes
--- an edge, told by a reason that the log shows, by the first forced step that has it, or by a decided order that has it
-pub data IsEdgeTold (ss : List ClientSession) (begin : ℕ → ℕ) (steps chosen : List ChainOrder) (a b : ℕ) : List ℕ → Type 0 where
-  known : (r : Reason) → IsGiven ss a b r → IsEdgeTold ss begin steps chosen a b (edge_text ss begin a b r)
-  forced : (k : ℕ) → IsForcedBy ss steps a b k → IsEdgeTold ss begin steps chosen a b (forced_text ss a b k)
-  chosen : (o : ChainOrder) → IsChosenBy ss steps chosen a b o → IsEdgeTold ss begin steps chosen a b (chosen_text ss a b o)
-
--- the edges of a line of nodes, one behind the other
-pub data IsLineTold (ss : List ClientSession) (begin : ℕ → ℕ) (steps chosen : List ChainOrder) : List ℕ → List ℕ → Type 0 where
-  ends : (v : ℕ) → IsLineTold ss begin steps chosen (v ∷ []) []
-  goes : (a b : ℕ) (rest edge text : List ℕ) → IsEdgeTold ss begin steps chosen a b edge → IsLineTold ss begin steps chosen (b ∷ rest) text →
-      IsLineTold ss begin steps chosen (a ∷ b ∷ rest) (edge ++ text)
+CanTell ss a b (why.Chosen o) = (o.key < (log_of ss).keys) × (o.first ≤ (log_of ss).nodes) × (o.second ≤ (log_of ss).nodes)

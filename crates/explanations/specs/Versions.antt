@@ -3,8 +3,9 @@ use Rattle.std.specs.Prelude.{ℕ, ◌==◌, if◌then◌else◌, List, [], ◌+
 use Rattle.session_log.specs.Text.{ClientSession}
 use Rattle.log_definitions.specs.Numbers.{log_of}
 use Rattle.explanations.specs.Events.{is_write_in, is_read_in}
-use Rattle.explanations.specs.Reasons.{named, op_at, op_wid, wid_text, op_in_line}
+use Rattle.explanations.specs.Reasons.{named, key_bytes, op_at, op_wid, wid_text, op_in_line}
 use Rattle.explanations.specs.Anomalies.{last_position}
+use Rattle.explanations.specs.declared.why.ChainOrder.{ChainOrder}
 
 -- the place of a node's last write of key number x, which is the version that it leaves; of its first read
 abbrev pub left_at : List ClientSession → ℕ → ℕ → Option ℕ
@@ -25,6 +26,11 @@ version_at ss begin v (Some i) = wid_text (op_at ss v i) ++ codes ", which " ++ 
 
 abbrev pub version_text : List ClientSession → (ℕ → ℕ) → ℕ → ℕ → List ℕ
 version_text ss begin x v = version_at ss begin v (left_at ss x v)
+
+-- which of two versions of a key comes first: `x: 25, which 11.1 wrote (line 54), comes before 20, which 6.1 wrote (line 28)`
+abbrev pub versions_text : List ClientSession → (ℕ → ℕ) → ChainOrder → List ℕ
+versions_text ss begin o =
+    key_bytes ss o.key ++ codes ": " ++ version_text ss begin o.key o.first ++ codes ", comes before " ++ version_text ss begin o.key o.second
 
 abbrev pub back_text : ℕ → List ℕ
 back_text version = codes ", which goes back to " ++ decimal version

@@ -7,13 +7,15 @@ ghost use Rattle.reasons.specs.declared.reason.Reason.TheVariants as kind;
 ghost use Rattle.log_definitions.specs.Serial.{session_of, ops_of, begun_of, ended_of};
 ghost use Rattle.log_definitions.specs.Numbers.{log_of};
 ghost use Rattle.explanations.specs.Lines.{begin_at, AreLines};
-ghost use Rattle.explanations.specs.Reasons as spec;
-ghost use Rattle.explanations.specs.Reasons.{before_text, reason_text, origin_text, why_text, CanTell, end_in_line, in_line, op_at};
+ghost use Rattle.explanations.specs.Reasons.{before_text, reason_text, origin_text, CanTell, end_in_line, in_line, op_at};
+ghost use Rattle.explanations.specs.Edges.{why_text};
+ghost use Rattle.explanations.specs.Versions.{versions_text};
 
 use crate::pieces::{
-    op_count, put_in_line, put_key, put_key_and_wid, put_named, put_number, put_op_in_line,
+    op_count, put_in_line, put_key_and_wid, put_named, put_number, put_op_in_line,
     put_reads, put_wid, wid_at,
 };
+use crate::versions::put_versions;
 use crate::why::{ChainOrder, Why};
 use reasons::Reason;
 use serializability::NodeIx;
@@ -221,21 +223,22 @@ fn put_step(out: &mut Vec<u8>, step: usize) -> Result<(), AllocError>
     Ok(())
 }
 
-/// Appends which chain of a key was decided to stand first, and ends the line.
-fn put_chain_order(
+/// Appends which of two versions of a key was decided to come first, and ends the line.
+fn put_chosen(
     out: &mut Vec<u8>,
     history: &History,
+    begins: &[usize],
     order: ChainOrder,
 ) -> Result<(), AllocError>
+    requires lines { AreLines history.now begins.now }
     requires key { order.key < (log_of history.now).keys }
     requires first { order.first ≤ (log_of history.now).nodes }
+    requires second { order.second ≤ (log_of history.now).nodes }
     ensures text { OnOk result (out.new.items ≡ out.old.items
-        ++ (spec.key_bytes history.now order.key ++ codes ": the chain of "
-        ++ spec.named history.now order.first ++ codes " first\n")) }
+        ++ (versions_text history.now (begin_at begins.now) order ++ codes "\n")) }
 {
-    put_key(out, history, order.key)?;
-    put_named(out, b": the chain of ", history, order.first)?;
-    out.extend_from_slice(b" first\n")?;
+    put_versions(out, history, begins, order)?;
+    out.extend_from_slice(b"\n")?;
     Ok(())
 }
 
@@ -265,6 +268,6 @@ pub fn put_edge(
             Ok(())
         }
         Why::Forced(step) => put_step(out, step),
-        Why::Chosen(order) => put_chain_order(out, history, order),
+        Why::Chosen(order) => put_chosen(out, history, begins, order),
     }
 }

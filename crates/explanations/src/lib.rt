@@ -12,5 +12,5 @@ mod writes;
 pub use anomalies::put_anomaly;
 pub use edge::put_edge;
 pub use pieces::{put_key, put_key_and_wid, put_named, put_number, put_op_in_line};
-pub use versions::{put_otherwise, put_version};
+pub use versions::{put_otherwise, put_versions};
 pub use why::{ChainOrder, Why};

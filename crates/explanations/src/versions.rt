@@ -6,10 +6,11 @@ ghost use Rattle.log_definitions.specs.Serial.{ops_of};
 ghost use Rattle.log_definitions.specs.Numbers.{log_of};
 ghost use Rattle.explanations.specs.Lines.{begin_at, AreLines};
 ghost use Rattle.explanations.specs.Versions as spec;
-ghost use Rattle.explanations.specs.Versions.{version_at, version_text, back_text, behind_text, otherwise_at, otherwise_text};
+ghost use Rattle.explanations.specs.Versions.{version_at, version_text, versions_text, back_text, behind_text, otherwise_at, otherwise_text};
 
-use crate::pieces::{put_named, put_number, put_op_in_line, put_wid, wid_at};
+use crate::pieces::{put_key, put_named, put_number, put_op_in_line, put_wid, wid_at};
 use crate::places::{first_read_among, last_among};
+use crate::why::ChainOrder;
 use serializability::NodeIx;
 use session_history::History;
 use std::alloc::AllocError;
@@ -51,7 +52,7 @@ fn put_version_at(
 }
 
 /// Appends the version of a key that a node leaves, as `25, which 11.1 wrote (line 54)`.
-pub fn put_version(
+fn put_version(
     out: &mut Vec<u8>,
     history: &History,
     begins: &[usize],
@@ -67,6 +68,27 @@ pub fn put_version(
         Some(op) => put_version_at(out, history, begins, node, op),
         None => put_named(out, b"", history, node),
     }
+}
+
+/// Appends which of two versions of a key comes first, as `x: 25, which 11.1 wrote (line 54), comes before 20, which 6.1 wrote (line 28)`.
+pub fn put_versions(
+    out: &mut Vec<u8>,
+    history: &History,
+    begins: &[usize],
+    order: ChainOrder,
+) -> Result<(), AllocError>
+    requires lines { AreLines history.now begins.now }
+    requires key { order.key < (log_of history.now).keys }
+    requires first { order.first ≤ (log_of history.now).nodes }
+    requires second { order.second ≤ (log_of history.now).nodes }
+    ensures text { OnOk result (out.new.items
+        ≡ out.old.items ++ versions_text history.now (begin_at begins.now) order) }
+{
+    put_key(out, history, order.key)?;
+    out.extend_from_slice(b": ")?;
+    put_version(out, history, begins, order.key, order.first)?;
+    out.extend_from_slice(b", comes before ")?;
+    put_version(out, history, begins, order.key, order.second)
 }
 
 /// The identity of the version of a key that a node leaves.

@@ -44,7 +44,7 @@ fn key_of_edge<'t>(line: &Line<'t>, steps: &[&'t str]) -> Option<&'t str> {
     if line.word(3) == "forced" {
         return key_of_step(line.word(4), steps);
     }
-    if line.word(4) == "the" && line.word(5) == "chain" {
+    if line.word(5) == "which" && line.word(7) == "wrote" {
         return line.word(3).strip_suffix(':');
     }
     if line.word(4) == "reads" && line.word(3) == line.word(0) {

@@ -366,7 +366,7 @@ impl<'c, 'a> Retelling<'c, 'a> {
         if word.starts_with('[') {
             return self.put_as_is(out, line, at, 2);
         }
-        if next == "the" && line.behind(at, 2) == "chain" && word.ends_with(':') {
+        if line.behind(at, 2) == "which" && word.ends_with(':') {
             return self.put_as_is(out, line, at, 1);
         }
         self.put_word(out, line, at, key)

@@ -63,10 +63,10 @@ words_told ss v i d lt =
     subst (λ es. op_words (op_at ss v i) ≡ event_word (get_or es i d) ++ key_and_wid (op_at ss v i)) (sym (ops_is ss v)) (words_in (keys_in ss) (ops_of ss v) i d (omega (arith, count, lt)))
 
 -- ---- arrows
-pub arrows_more : (ss : List ClientSession) (items : List Item) (i : ℕ) (d : Item) → i < length items → arrows ss (take (i + 1) items) ≡ arrows ss (take i items) ++ arrow ss (get_or items i d)
+pub arrows_more : (ss : List ClientSession) (begin : ℕ → ℕ) (items : List Item) (i : ℕ) (d : Item) → i < length items → arrows ss begin (take (i + 1) items) ≡ arrows ss begin (take i items) ++ arrow ss begin (get_or items i d)
 unfolding arrows
-arrows_more ss items i d lt = mapped_more (arrow ss) items i d lt
+arrows_more ss begin items i d lt = mapped_more (arrow ss begin) items i d lt
 
-pub arrows_none : (ss : List ClientSession) (items : List Item) → arrows ss (take 0 items) ≡ []
+pub arrows_none : (ss : List ClientSession) (begin : ℕ → ℕ) (items : List Item) → arrows ss begin (take 0 items) ≡ []
 unfolding arrows
-arrows_none ss items = refl
+arrows_none ss begin items = refl

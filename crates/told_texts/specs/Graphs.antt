@@ -13,7 +13,8 @@ use Rattle.log_definitions.specs.Serial.{ops_of}
 use Rattle.log_definitions.specs.Numbers.{log_of}
 use Rattle.reasons.specs.declared.reason.Reason.{Reason}
 use Rattle.reasons.specs.declared.reason.Reason.TheVariants as reason
-use Rattle.explanations.specs.Reasons.{named, key_bytes, key_and_wid, op_in_line, op_at}
+use Rattle.explanations.specs.Reasons.{named, key_and_wid, op_in_line, op_at}
+use Rattle.explanations.specs.Versions.{versions_text}
 use Rattle.explanations.specs.declared.why.ChainOrder.{ChainOrder}
 use Rattle.explanations.specs.declared.why.Why.{Why}
 use Rattle.explanations.specs.declared.why.Why.TheVariants as why
@@ -134,31 +135,28 @@ reason_colour (reason.Overwritten read overwrites) = codes "red"
 reason_colour (reason.Initial read begins) = codes "darkgreen"
 reason_colour reason.Moments = codes "purple"
 
-abbrev pub chosen_kind : List ClientSession → ChainOrder → List ℕ
-chosen_kind ss o = key_bytes ss o.key ++ codes ": the chain of " ++ named ss o.first ++ codes " first"
-
-abbrev pub why_kind : List ClientSession → Why → List ℕ
-why_kind ss (why.Known r) = reason_kind r
-why_kind ss (why.Forced k) = codes "forced [" ++ decimal (k + 1) ++ codes "]"
-why_kind ss (why.Chosen o) = chosen_kind ss o
+abbrev pub why_kind : List ClientSession → (ℕ → ℕ) → Why → List ℕ
+why_kind ss begin (why.Known r) = reason_kind r
+why_kind ss begin (why.Forced k) = codes "forced [" ++ decimal (k + 1) ++ codes "]"
+why_kind ss begin (why.Chosen o) = versions_text ss begin o
 
 abbrev pub why_colour : Why → List ℕ
 why_colour (why.Known r) = reason_colour r
 why_colour (why.Forced k) = codes "orange"
 why_colour (why.Chosen o) = codes "gray"
 
-abbrev pub arrow_text : List ClientSession → ℕ → ℕ → Why → List ℕ
-arrow_text ss a b w =
-    quoted (named ss a) ++ codes " -> " ++ quoted (named ss b) ++ codes " [label=" ++ quoted (why_kind ss w) ++ codes " color=" ++ quoted (why_colour w) ++ codes "];\n"
+abbrev pub arrow_text : List ClientSession → (ℕ → ℕ) → ℕ → ℕ → Why → List ℕ
+arrow_text ss begin a b w =
+    quoted (named ss a) ++ codes " -> " ++ quoted (named ss b) ++ codes " [label=" ++ quoted (why_kind ss begin w) ++ codes " color=" ++ quoted (why_colour w) ++ codes "];\n"
 
-abbrev pub arrow : List ClientSession → Item → List ℕ
-arrow ss (Edge a b w) = arrow_text ss a b w
-arrow ss _ = []
+abbrev pub arrow : List ClientSession → (ℕ → ℕ) → Item → List ℕ
+arrow ss begin (Edge a b w) = arrow_text ss begin a b w
+arrow ss begin _ = []
 
-unfoldable pub arrows : List ClientSession → List Item → List ℕ
-arrows ss items = flat_map (arrow ss) items
+unfoldable pub arrows : List ClientSession → (ℕ → ℕ) → List Item → List ℕ
+arrows ss begin items = flat_map (arrow ss begin) items
 
 -- two arrows between the same boxes are drawn as one
 abbrev pub graph_text : List ClientSession → (ℕ → ℕ) → List Item → List ℕ
 graph_text ss begin items =
-    codes "strict digraph explanation {\nnode [shape=box];\n" ++ boxes ss begin items (log_of ss).nodes ++ arrows ss items ++ codes "}\n"
+    codes "strict digraph explanation {\nnode [shape=box];\n" ++ boxes ss begin items (log_of ss).nodes ++ arrows ss begin items ++ codes "}\n"

@@ -4,8 +4,9 @@ use Rattle.std.specs.List.{AllByRecursion}
 use Rattle.session_log.specs.Text.{ClientSession}
 use Rattle.log_definitions.specs.Numbers.{log_of}
 use Rattle.reason_laws.specs.Reasons.{IsNode}
-use Rattle.explanations.specs.Reasons.{named, key_bytes, why_text, CanTell}
-use Rattle.explanations.specs.Versions.{version_text, otherwise_text}
+use Rattle.explanations.specs.Reasons.{named, CanTell}
+use Rattle.explanations.specs.Edges.{why_text}
+use Rattle.explanations.specs.Versions.{versions_text, otherwise_text}
 use Rattle.explanations.specs.declared.why.ChainOrder.{ChainOrder}
 use Rattle.forced_steps.specs.declared.item.Item.{Item}
 use Rattle.forced_steps.specs.declared.item.Item.TheVariants.{Step, Edge, Cycle, Decided, Leaves}
@@ -16,9 +17,7 @@ indent depth = replicate (2 * depth) 32
 
 -- `[1] x: 25, which 2.1 wrote (line 9), comes before 20, which 1.1 wrote (line 4):`
 abbrev pub versions_line : List ClientSession → (ℕ → ℕ) → ℕ → ChainOrder → List ℕ
-versions_line ss begin number o =
-    codes "[" ++ decimal number ++ codes "] " ++ key_bytes ss o.key ++ codes ": " ++ version_text ss begin o.key o.first
-    ++ codes ", comes before " ++ version_text ss begin o.key o.second ++ codes ":\n"
+versions_line ss begin number o = codes "[" ++ decimal number ++ codes "] " ++ versions_text ss begin o ++ codes ":\n"
 
 -- `    4.1 read 20 (line 15), so otherwise it would stand before 2.1, but`
 abbrev pub otherwise_line : List ClientSession → (ℕ → ℕ) → ChainOrder → ℕ → ℕ → List ℕ
@@ -27,15 +26,15 @@ otherwise_line ss begin o u v = codes "    " ++ otherwise_text ss begin o.key o.
 abbrev pub step_lines : List ClientSession → (ℕ → ℕ) → ℕ → ChainOrder → ℕ → ℕ → List ℕ
 step_lines ss begin number o u v = versions_line ss begin number o ++ otherwise_line ss begin o u v
 
--- `x: the chain of 1.1 first`
-abbrev pub order_line : List ClientSession → ChainOrder → List ℕ
-order_line ss o = key_bytes ss o.key ++ codes ": the chain of " ++ named ss o.first ++ codes " first\n"
+-- `if x: 25, which 2.1 wrote (line 9), comes before 20, which 1.1 wrote (line 4):`
+abbrev pub order_line : List ClientSession → (ℕ → ℕ) → ChainOrder → List ℕ
+order_line ss begin o = codes "if " ++ versions_text ss begin o ++ codes ":\n"
 
 abbrev pub item_line : List ClientSession → (ℕ → ℕ) → Item → List ℕ
 item_line ss begin (Step number o u v) = step_lines ss begin number o u v
 item_line ss begin (Edge a b why) = why_text ss begin a b why
 item_line ss begin (Cycle start edges) = codes "cycle from " ++ named ss start ++ codes ":\n"
-item_line ss begin (Decided depth o) = order_line ss o
+item_line ss begin (Decided depth o) = order_line ss begin o
 item_line ss begin (Leaves count) = decimal count ++ codes " cubes are refuted by a cycle; the first 1000 of them:\n"
 
 -- how many choices are decided above an item, where so many were before it; and behind it

@@ -1,13 +1,13 @@
 //! The arrows of a graph: edges, labelled and coloured by their kinds.
 
-ghost use Rattle.std.specs.Prelude.{◌≡◌, ◌+◌, ◌<◌, ◌≤◌, ◌^◌, ◌++◌, codes, decimal, OnOk};
+ghost use Rattle.std.specs.Prelude.{◌≡◌, ◌+◌, ◌<◌, ◌^◌, ◌++◌, codes, decimal, OnOk};
 ghost use Rattle.reason_laws.specs.Reasons.{IsNode};
-ghost use Rattle.log_definitions.specs.Numbers.{log_of};
+ghost use Rattle.explanations.specs.Lines.{begin_at, AreLines};
 ghost use Rattle.explanations.specs.Reasons.{CanTell};
 ghost use Rattle.told_texts.specs.Graphs as spec;
 ghost use Rattle.told_texts.specs.Texts.{IsTellable, AreTellable};
 
-use explanations::{ChainOrder, Why, put_key, put_named, put_number};
+use explanations::{Why, put_named, put_number, put_versions};
 use forced_steps::Item;
 use reasons::Reason;
 use serializability::NodeIx;
@@ -63,29 +63,19 @@ fn put_forced(out: &mut Vec<u8>, step: usize) -> Result<(), AllocError>
     Ok(())
 }
 
-/// Appends which chain of a key was decided to stand first.
-fn put_chosen(out: &mut Vec<u8>, history: &History, order: ChainOrder) -> Result<(), AllocError>
-    requires key { order.key < (log_of history.now).keys }
-    requires first { order.first ≤ (log_of history.now).nodes }
-    ensures text { OnOk result (out.new.items
-        ≡ out.old.items ++ spec.chosen_kind history.now order) }
-{
-    put_key(out, history, order.key)?;
-    put_named(out, b": the chain of ", history, order.first)?;
-    out.extend_from_slice(b" first")?;
-    Ok(())
-}
-
 /// Appends the kind of an edge.
 fn put_kind(
     out: &mut Vec<u8>,
     history: &History,
+    begins: &[usize],
     first: NodeIx,
     second: NodeIx,
     why: Why,
 ) -> Result<(), AllocError>
+    requires lines { AreLines history.now begins.now }
     requires why { CanTell history.now first second why }
-    ensures text { OnOk result (out.new.items ≡ out.old.items ++ spec.why_kind history.now why) }
+    ensures text { OnOk result (out.new.items
+        ≡ out.old.items ++ spec.why_kind history.now (begin_at begins.now) why) }
 {
     match why {
         Why::Known(reason) => {
@@ -93,7 +83,7 @@ fn put_kind(
             Ok(())
         }
         Why::Forced(step) => put_forced(out, step),
-        Why::Chosen(order) => put_chosen(out, history, order),
+        Why::Chosen(order) => put_versions(out, history, begins, order),
     }
 }
 
@@ -101,20 +91,22 @@ fn put_kind(
 fn put_arrow(
     out: &mut Vec<u8>,
     history: &History,
+    begins: &[usize],
     first: NodeIx,
     second: NodeIx,
     why: Why,
 ) -> Result<(), AllocError>
+    requires lines { AreLines history.now begins.now }
     requires first { IsNode history.now first }
     requires second { IsNode history.now second }
     requires why { CanTell history.now first second why }
     ensures text { OnOk result (out.new.items
-        ≡ out.old.items ++ spec.arrow_text history.now first second why) }
+        ≡ out.old.items ++ spec.arrow_text history.now (begin_at begins.now) first second why) }
 {
     put_named(out, b"\"", history, first)?;
     put_named(out, b"\" -> \"", history, second)?;
     out.extend_from_slice(b"\" [label=\"")?;
-    put_kind(out, history, first, second, why)?;
+    put_kind(out, history, begins, first, second, why)?;
     out.extend_from_slice(b"\" color=\"")?;
     out.extend_from_slice(why_colour(&why).as_bytes())?;
     out.extend_from_slice(b"\"];\n")?;
@@ -122,23 +114,37 @@ fn put_arrow(
 }
 
 /// Appends the arrow of an item, where it is an edge.
-fn put_where_edge(out: &mut Vec<u8>, history: &History, item: Item) -> Result<(), AllocError>
+fn put_where_edge(
+    out: &mut Vec<u8>,
+    history: &History,
+    begins: &[usize],
+    item: Item,
+) -> Result<(), AllocError>
+    requires lines { AreLines history.now begins.now }
     requires item { IsTellable history.now item }
-    ensures text { OnOk result (out.new.items ≡ out.old.items ++ spec.arrow history.now item) }
+    ensures text { OnOk result (out.new.items
+        ≡ out.old.items ++ spec.arrow history.now (begin_at begins.now) item) }
 {
     match item {
-        Item::Edge { first, second, why } => put_arrow(out, history, first, second, why),
+        Item::Edge { first, second, why } => put_arrow(out, history, begins, first, second, why),
         _ => Ok(()),
     }
 }
 
 /// Appends the arrows of the edges.
-pub fn put_arrows(out: &mut Vec<u8>, history: &History, items: &[Item]) -> Result<(), AllocError>
+pub fn put_arrows(
+    out: &mut Vec<u8>,
+    history: &History,
+    begins: &[usize],
+    items: &[Item],
+) -> Result<(), AllocError>
+    requires lines { AreLines history.now begins.now }
     requires items { AreTellable history.now items.now }
-    ensures text { OnOk result (out.new.items ≡ out.old.items ++ spec.arrows history.now items.now) }
+    ensures text { OnOk result (out.new.items
+        ≡ out.old.items ++ spec.arrows history.now (begin_at begins.now) items.now) }
 {
     for item in items {
-        put_where_edge(out, history, *item)?;
+        put_where_edge(out, history, begins, *item)?;
     }
     Ok(())
 }

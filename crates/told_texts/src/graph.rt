@@ -28,7 +28,7 @@ pub fn put_graph(
 {
     out.extend_from_slice(b"strict digraph explanation {\nnode [shape=box];\n")?;
     put_boxes(alloc, out, history, begins, items)?;
-    put_arrows(out, history, items)?;
+    put_arrows(out, history, begins, items)?;
     out.extend_from_slice(b"}\n")?;
     Ok(())
 }

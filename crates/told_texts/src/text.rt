@@ -6,9 +6,7 @@ ghost use Rattle.explanations.specs.Lines.{begin_at, AreLines};
 ghost use Rattle.told_texts.specs.Texts as spec;
 ghost use Rattle.told_texts.specs.Texts.{IsOrderOf, IsTellable, AreTellable};
 
-use explanations::{
-    ChainOrder, put_edge, put_key, put_named, put_number, put_otherwise, put_version,
-};
+use explanations::{ChainOrder, put_edge, put_named, put_number, put_otherwise, put_versions};
 use forced_steps::Item;
 use serializability::NodeIx;
 use session_history::History;
@@ -24,27 +22,23 @@ fn put_indent(out: &mut Vec<u8>, depth: usize) -> Result<(), AllocError>
     Ok(())
 }
 
-/// Appends the versions of a key of which a forced step says that the one comes before the other.
-fn put_versions(
+/// Appends the line that says which of two versions of a key comes first by a forced step.
+fn put_forced(
     out: &mut Vec<u8>,
     history: &History,
     begins: &[usize],
     number: usize,
-    order: &ChainOrder,
+    order: ChainOrder,
 ) -> Result<(), AllocError>
     requires lines { AreLines history.now begins.now }
-    requires order { IsOrderOf history.now order.now }
+    requires order { IsOrderOf history.now order }
     ensures text { OnOk result (out.new.items
-        ≡ out.old.items ++ spec.versions_line history.now (begin_at begins.now) number order.now) }
+        ≡ out.old.items ++ spec.versions_line history.now (begin_at begins.now) number order) }
 {
     out.extend_from_slice(b"[")?;
     put_number(out, number as u64)?;
     out.extend_from_slice(b"] ")?;
-    put_key(out, history, order.key)?;
-    out.extend_from_slice(b": ")?;
-    put_version(out, history, begins, order.key, order.first)?;
-    out.extend_from_slice(b", comes before ")?;
-    put_version(out, history, begins, order.key, order.second)?;
+    put_versions(out, history, begins, order)?;
     out.extend_from_slice(b":\n")?;
     Ok(())
 }
@@ -88,18 +82,25 @@ fn put_step(
     ensures text { OnOk result (out.new.items
         ≡ out.old.items ++ spec.step_lines history.now (begin_at begins.now) number order source target) }
 {
-    put_versions(out, history, begins, number, &order)?;
+    put_forced(out, history, begins, number, order)?;
     put_other_way(out, history, begins, &order, source, target)
 }
 
-/// Appends the line of an order of two chains.
-fn put_order(out: &mut Vec<u8>, history: &History, order: ChainOrder) -> Result<(), AllocError>
+/// Appends the line that says which of two versions of a key was decided to come first.
+fn put_order(
+    out: &mut Vec<u8>,
+    history: &History,
+    begins: &[usize],
+    order: ChainOrder,
+) -> Result<(), AllocError>
+    requires lines { AreLines history.now begins.now }
     requires order { IsOrderOf history.now order }
-    ensures text { OnOk result (out.new.items ≡ out.old.items ++ spec.order_line history.now order) }
+    ensures text { OnOk result (out.new.items
+        ≡ out.old.items ++ spec.order_line history.now (begin_at begins.now) order) }
 {
-    put_key(out, history, order.key)?;
-    put_named(out, b": the chain of ", history, order.first)?;
-    out.extend_from_slice(b" first\n")?;
+    out.extend_from_slice(b"if ")?;
+    put_versions(out, history, begins, order)?;
+    out.extend_from_slice(b":\n")?;
     Ok(())
 }
 
@@ -145,7 +146,7 @@ fn put_item(
         } => put_step(out, history, begins, number, order, source, target),
         Item::Edge { first, second, why } => put_edge(out, history, begins, first, second, why),
         Item::Cycle { start, edges: _ } => put_start(out, history, start),
-        Item::Decided { depth: _, order } => put_order(out, history, order),
+        Item::Decided { depth: _, order } => put_order(out, history, begins, order),
         Item::Leaves { count } => put_leaves(out, count),
     }
 }

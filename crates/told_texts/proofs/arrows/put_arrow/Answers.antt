@@ -1,6 +1,7 @@
 use Rattle.std.proofs.Common.{◌++◌, [], ◌∷◌, ap, ◌∙◌}
 use Rattle.std.specs.Prelude.{codes}
 use Rattle.reason_laws.proofs.Numbers.{within}
+use Rattle.explanations.specs.Lines.{begin_at}
 use Rattle.explanations.specs.Reasons.{named}
 use Rattle.told_texts.specs.Graphs.{why_kind, why_colour}
 use Rattle.told_texts.proofs.Pieces.{add_piece, add_named, arrow_parts}
@@ -18,7 +19,7 @@ returns c =
     let old = c.args.out.now.items in
     let first = named ss c.args.first in
     let second = named ss c.args.second in
-    let kind = why_kind ss c.args.why in
+    let kind = why_kind ss (begin_at c.args.begins.now) c.args.why in
     let colour = why_colour c.args.why in
     let quote = 34 ∷ [] in
     let to = 34 ∷ codes " -> " ++ 34 ∷ [] in

@@ -1,5 +1,19 @@
-use Rattle.std.proofs.Common.{append_assoc}
+use Rattle.std.specs.Prelude.{codes}
+use Rattle.explanations.specs.Lines.{begin_at}
+use Rattle.explanations.specs.Versions.{versions_text}
+use Rattle.told_texts.proofs.Pieces.{add_piece}
+use Rattle.std.proofs.Common.{◌++◌}
 use Rattle.told_texts.proofs.text.put_order.Goals as goal
 
 pub returns : goal.returns
-returns c = record { text = simp (c.in_ok-extend_from_slice.ensures.items, c.in_ok-put_named.ensures.text, c.in_ok-put_key.ensures.text, append_assoc) }
+returns c =
+    let old = c.args.out.now.items in
+    let word = codes "if " in
+    let versions = versions_text c.args.history.now (begin_at c.args.begins.now) c.args.order in
+    let last = codes ":\n" in
+    let a = c.extend_from_slice.new.self.items in
+    let b = c.put_versions.new.out.items in
+    let new = c.extend_from_slice-2.new.self.items in
+    let two = add_piece old word a versions b c.in_ok-extend_from_slice.ensures.items c.in_ok-put_versions.ensures.text in
+    let three = add_piece old (word ++ versions) b last new two c.in_ok-extend_from_slice-2.ensures.items in
+    record { text = three }

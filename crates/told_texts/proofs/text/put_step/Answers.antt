@@ -11,10 +11,10 @@ returns c =
     let old = c.args.out.now.items in
     let one = versions_line ss begin c.args.number c.args.order in
     let two = otherwise_line ss begin c.args.order c.args.source c.args.target in
-    let middle = c.put_versions.new.out.items in
+    let middle = c.put_forced.new.out.items in
     let new = c.put_other_way.new.out.items in
     record {
       text =
           on_ok c.put_other_way.result (new ≡ middle ++ two) (new ≡ old ++ (one ++ two))
-          (λ e. e ∙ ap (λ l. l ++ two) c.in_ok-put_versions.ensures.text ∙ append_assoc old one two) c.put_other_way.ensures.text;
+          (λ e. e ∙ ap (λ l. l ++ two) c.in_ok-put_forced.ensures.text ∙ append_assoc old one two) c.put_other_way.ensures.text;
     }

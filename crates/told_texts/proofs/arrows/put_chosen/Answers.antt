@@ -1,5 +1,0 @@
-use Rattle.std.proofs.Common.{append_assoc}
-use Rattle.told_texts.proofs.arrows.put_chosen.Goals as goal
-
-pub returns : goal.returns
-returns c = record { text = simp (c.in_ok-extend_from_slice.ensures.items, c.in_ok-put_named.ensures.text, c.in_ok-put_key.ensures.text, append_assoc) }
