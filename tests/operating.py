@@ -205,7 +205,7 @@ class Runs:
             late.start()
             _, status, used = os.wait4(child.pid, 0)
             late.cancel()
-            child.returncode = os.waitstatus_to_exitcode(status)
+            child.returncode = -os.WTERMSIG(status) if os.WIFSIGNALED(status) else os.WEXITSTATUS(status)
             out.seek(0), error.seek(0)
             return (child.returncode, out.read(4096), error.read(4096)), used.ru_maxrss
 

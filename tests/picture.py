@@ -20,6 +20,8 @@ import picture
 
 PICTURE = os.path.join(TOP, 'tools', 'picture.py')
 BROWSERS, AROUND = ('chromium-headless-shell', 'chromium'), 70
+# Another test installs what it needs meanwhile, and of two that read the lists of packages at once one would fail.
+ALONE = 'flock', '--no-fork', '/var/lib/apt'
 BEFORE, LINE = re.compile(r'^ *([0-9.]+) before ([0-9.]+): (.*)$', re.M), re.compile(r'\(line ([0-9]+)\)')
 # Measures and tries what only a browser knows, in each page, which is a frame of this one, and leaves what is wrong, and the pages as they stand.
 TRIED = r'''
@@ -124,9 +126,9 @@ def browser():
     quiet = {'stdin': subprocess.DEVNULL, 'stdout': subprocess.DEVNULL, 'stderr': subprocess.DEVNULL, 'env': {**os.environ, 'DEBIAN_FRONTEND': 'noninteractive'}}
     try:
         if not find_browser():
-            subprocess.run(['apt-get', 'update'], timeout=300, **quiet)
+            subprocess.run([*ALONE, 'apt-get', 'update'], timeout=600, **quiet)
         for name in BROWSERS if not find_browser() else ():
-            if subprocess.run(['apt-get', '-o', 'DPkg::Lock::Timeout=300', 'install', '-y', '--no-install-recommends', name, 'fonts-dejavu-core'], timeout=600, **quiet).returncode == 0:
+            if subprocess.run([*ALONE, 'apt-get', '-o', 'DPkg::Lock::Timeout=300', 'install', '-y', '--no-install-recommends', name, 'fonts-dejavu-core'], timeout=600, **quiet).returncode == 0:
                 break
     except (OSError, subprocess.TimeoutExpired):
         pass

@@ -50,7 +50,7 @@ def whole(path, crate):
                 if texts[file].count(old) != 1:
                     return False
             elif line.startswith('new:'):
-                texts[file] = texts[file].replace(old, line[len('new:'):].removeprefix(' '))
+                texts[file] = texts[file].replace(old, re.sub('^ ', '', line[len('new:'):]))
     return bool(texts)
 
 

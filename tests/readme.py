@@ -12,7 +12,8 @@ import os, re, shutil, subprocess, sys, tempfile, time
 HERE = os.path.dirname(os.path.abspath(__file__))
 TOP = os.path.dirname(HERE)
 PROVING = re.compile(r'^\./(prove|check)\b', re.M)
-AROUND = 70
+# A command of the page may build the program first, in one to two minutes, or in many on a slow and busy machine.
+AROUND, LATE = 70, 3600
 STAND_IN = '''#!%s
 import sys
 sys.path.insert(0, %r)
@@ -74,7 +75,7 @@ class Page:
 
     def told(self, ran, command, status, text):
         """What a command wrote, and how it ended, against the page."""
-        out, error = ran.communicate(timeout=900)
+        out, error = ran.communicate(timeout=LATE)
         got = (ran.returncode, out.decode())
         agrees = got == (status, text) or ran.returncode == status and self.is_another_order(command, got[1], text)
         self.expect(agrees, '%s: %r, and README.md has %r\n%s' % (command, got, (status, text), error.decode()))
@@ -89,7 +90,7 @@ class Page:
             order.write(''.join(line + '\n' for line in told[1:]))
             order.flush()
             ran = self.start('./run verify --order %s %s' % (order.name, words[-1]))
-            return ran.communicate(timeout=900)[0] == b'accepted\n' and ran.returncode == 0
+            return ran.communicate(timeout=LATE)[0] == b'accepted\n' and ran.returncode == 0
 
 
 def stand_ins(folder):
@@ -136,7 +137,7 @@ def main():
             ("./solve examples/chain.log --solver 'false'", 'the solver failed', {}),
         ):
             ran = page.start(command, **more)
-            error = ran.communicate(timeout=900)[1].decode()
+            error = ran.communicate(timeout=LATE)[1].decode()
             page.expect(ran.returncode == AROUND and wanted in error, '%s: status %d, %s' % (command, ran.returncode, error))
         left = [name for name in os.listdir(os.path.join(clone, 'out', 'unproved')) if name.startswith('new.')]
         page.expect(not left, 'folders are left in out/unproved: %s' % left)

@@ -587,7 +587,7 @@ def stuck(checks):
                     txn.write('y')
 
     for what, client, patience in (('dies', None, 60), ('hangs', threading.Event(), 0.3), ('idles', threading.Event(), 60)):
-        run = Recorder(checks.path('stuck'), barrier_every=4, patience=patience)
+        run, began = Recorder(checks.path('stuck'), barrier_every=4, patience=patience), threading.Event()
 
         def work():
             session = run.session()
@@ -595,19 +595,20 @@ def stuck(checks):
                 session.transaction().commit()
             else:
                 session.transaction().write('x')
+            began.set()
             if client:
                 client.wait(60)
 
         thread = threading.Thread(target=work)
         thread.start()
-        time.sleep(0.1)
-        began = time.monotonic()
+        began.wait(60) if client else thread.join()
+        before = time.monotonic()
         others = [threading.Thread(target=other, args=(run, 6)) for _ in range(2)]
         for it in others:
             it.start()
         for it in others:
             it.join()
-        took = time.monotonic() - began
+        took = time.monotonic() - before
         if client:
             client.set()
         thread.join()

@@ -8,7 +8,7 @@ line of each operation, its key and identity, its transaction, who wrote it and 
 edges of a cycle must close it. Last line: 'retelling: N passed, M failed'."""
 import argparse, collections, glob, os, random, re, subprocess, sys
 
-CASES, SEED, SHOWN, LATE = 200, 1, 20, 60
+CASES, SEED, SHOWN, LATE = 200, 1, 20, 120
 # So often each example stands between what is written before it and read behind it.
 AROUND = 4
 TOP = os.path.dirname(os.path.dirname(os.path.abspath(__file__)))

@@ -10,6 +10,8 @@ import contextlib, os, pwd, re, shutil, subprocess, sys, tempfile, time
 
 TOP = os.path.dirname(os.path.dirname(os.path.abspath(__file__)))
 PACKAGES = {'initdb': 'postgresql-15', 'redis-server': 'redis-server', 'psycopg2': 'python3-psycopg2'}
+# Another test installs what it needs meanwhile, and of two that read the lists of packages at once one would fail.
+ALONE = 'flock', '--no-fork', '/var/lib/apt'
 # PostgreSQL starts for no root; nobody is somebody everywhere.
 USER = 'nobody'
 # How a log is judged: by `audit`, where the program has it, and then a large one is too.
@@ -37,7 +39,7 @@ def installed(find, name):
         environment = dict(os.environ, DEBIAN_FRONTEND='noninteractive', RUNLEVEL='1')
         for words in (['update'], ['install', '-y', '--no-install-recommends', PACKAGES[name]]):
             with contextlib.suppress(subprocess.TimeoutExpired):
-                run(['apt-get', '-o', 'DPkg::Lock::Timeout=300', *words], env=environment, timeout=600)
+                run([*ALONE, 'apt-get', '-o', 'DPkg::Lock::Timeout=300', *words], env=environment, timeout=600)
         found = find()
     if found is None:
         raise Wanting('%s (%s) cannot be had here' % (name, PACKAGES[name]))

@@ -4,12 +4,19 @@
 Logs at the limits, and logs that are refused, of all versions or with --version-1 of the first alone, go through `encode` and `stats`,
 with `--plain` and without it, with 1, 3, 4 and 16 workers; the answers must be equal, byte for byte. Where the formula takes long, `check`
 takes its place, if one order alone is serial. So must be what `explain` says of small logs that are refused, or that have an anomaly or a
-cycle of known edges, of these as text and as a graph. Last line: 'workers: N passed, M failed'."""
+cycle of known edges, of these as text and as a graph.
+
+Logs of many pieces, of which none, one or several are refuted, and some are not decided, go through `audit`, with each number of workers from
+1 to 16: the first line, the status, which piece is named and how many there are must be those that the log was made for, and the answers
+equal. Then a small library that stands before the C library's allocator holds each worker back, once it has asked for memory often enough
+in a round of pieces, until four have: so it is seen that four judge at once, and that three never pass for four. That needs a C compiler;
+what was seen is said. With --version-1 no log is cut. Last line: 'workers: N passed, M failed'."""
 import glob, os, subprocess, sys, tempfile
 
 HERE = os.path.dirname(os.path.abspath(__file__))
 sys.path.insert(0, HERE)
 import generate, reference
+from refused_memory import c_compiler
 
 WORKERS = ['1', '3', '4', '16']
 PLAIN, REDUCED = [['encode', '--plain'], ['stats', '--plain']], [['encode'], ['stats']]
@@ -44,6 +51,67 @@ REFUSED = {
     'many transactions with moments': b'log 3\nsession 1\n' + b''.join(b'begin %d\ncommit %d\n' % (n, n) for n in range(1001)),
 }
 
+# Of logs of a hundred pieces, each an example: which pieces are other examples than FINE, counted from 1, the first line and the status.
+FINE, PIECES, LATE = 'forced_choices', 100, 600
+SPENT, MANY = {n: 'crossed_readers' for n in (3, 40, 41, 77)}, {n: name for n, name in zip((19, 36, 37, 66, 100), ('write_skew', 'forced_cycle', 'lost_update') * 2)}
+AUDITED = {
+    'none refuted': ({}, [], 'serializable', 0), 'one refuted': ({71: 'lost_update'}, [], 'not serializable', 1),
+    'one refuted, the last': ({PIECES: 'crossed_readers'}, [], 'not serializable', 1), 'several refuted': (MANY, [], 'not serializable', 1),
+    'several not decided': (SPENT, ['--budget', '1'], 'unknown: 4 of 100 pieces not decided', 3),
+    'several refuted behind one that is not decided': ({**MANY, **SPENT}, ['--budget', '1'], 'not serializable', 1)}
+EACH_FORM = ['1', '4', '16']
+# Counts the rounds in which threads were started, in a file, and in another one those in which so many were at work at once, from a round on.
+GATE = r'''
+#define _GNU_SOURCE
+#include <dlfcn.h>
+#include <fcntl.h>
+#include <pthread.h>
+#include <stdlib.h>
+#include <unistd.h>
+static _Atomic int alive, turn, came, left;
+static __thread int mine;
+static __thread long asked;
+static long number(const char *name) { char *n = getenv(name); return n ? atol(n) : 0; }
+static void mark(const char *name) {
+    int file = open(getenv(name), O_CREAT | O_WRONLY | O_APPEND, 0600);
+    if (file >= 0) { (void) !write(file, "x", 1); close(file); }
+}
+static void ask(void) {
+    int now = turn;
+    if (!number("AT_ONCE") || !alive || now <= number("BEFORE")) return;
+    if (mine != now) { mine = now; asked = 0; }
+    if (++asked != number("ASKED")) return;
+    if (++came == number("AT_ONCE")) mark("MET");
+    for (long n = 0; came < number("AT_ONCE") && !left && n < number("PATIENCE"); n++) usleep(1000);
+}
+static void leave(void) { if (mine != turn || asked < number("ASKED")) left = 1; }
+struct work { void *(*start)(void *); void *given; };
+static void *run(void *given) {
+    struct work *work = given;
+    void *result = work->start(work->given);
+    leave();
+    return result;
+}
+int pthread_create(pthread_t *thread, const pthread_attr_t *about, void *(*start)(void *), void *given) {
+    static int (*real)(pthread_t *, const pthread_attr_t *, void *(*)(void *), void *);
+    if (!real) real = dlsym(RTLD_NEXT, "pthread_create");
+    struct work *work = calloc(1, sizeof *work);
+    work->start = start, work->given = given;
+    if (alive++ == 0) { came = 0, left = 0, turn++; mark("ROUNDS"); }
+    return real(thread, about, run, work);
+}
+int pthread_join(pthread_t thread, void **result) {
+    static int (*real)(pthread_t, void **);
+    if (!real) real = dlsym(RTLD_NEXT, "pthread_join");
+    leave();
+    int status = real(thread, result);
+    alive--;
+    return status;
+}
+void *malloc(size_t n) { static void *(*real)(size_t); if (!real) real = dlsym(RTLD_NEXT, "malloc"); ask(); return real(n); }
+void *realloc(void *p, size_t n) { static void *(*real)(void *, size_t); if (!real) real = dlsym(RTLD_NEXT, "realloc"); ask(); return real(p, n); }
+'''
+
 
 def explained(text):
     """The calls of `explain` of which each schedule gives one text."""
@@ -54,15 +122,78 @@ def explained(text):
     return [['explain'], ['explain', '--format', 'dot']] if known and ': A9 ' not in known else []
 
 
-def answers(program, words, text):
-    for count in WORKERS:
-        ran = subprocess.run([program, *words, '--workers', count], input=text, stdout=subprocess.PIPE, stderr=subprocess.PIPE, timeout=120)
+def answers(program, words, text, workers=WORKERS):
+    for count in workers:
+        ran = subprocess.run([program, *words, '--workers', count], input=text, stdout=subprocess.PIPE, stderr=subprocess.PIPE, timeout=LATE)
         yield ran.returncode, ran.stdout, ran.stderr
+
+
+def cut_log(names):
+    """A log of which each piece is one of these examples, with keys, identities and moments of its own."""
+    logs, sessions = dict(generate.examples((1, 2, 3))), {}
+    for piece, name in enumerate(names):
+        for number, transactions in reference.read_log(logs[name + '.log']):
+            for it in transactions:
+                ops = [(kind, '%s.%d' % (key, piece), wid and wid + 1000 * piece) for kind, key, wid in it.ops]
+                ended = 10 * piece + 9 if it.outcome == 'commit' else None
+                sessions.setdefault(number, []).append(it._replace(ops=ops, begun=10 * piece, ended=ended))
+    return generate.text_of(sorted(sessions.items()), 3)
+
+
+def audit_fault(program, others, words, first, status):
+    """What is wrong with what is said of a log of these pieces, or nothing."""
+    text = cut_log([others.get(n, FINE) for n in range(1, PIECES + 1)])
+    for form, workers in (('text', map(str, range(1, 17))), ('json', EACH_FORM)):
+        got, *rest = answers(program, ['audit', '--size', '1', '--format', form, *words], text, workers)
+        if any(other != got for other in rest):
+            return 'its %s depends on the number of workers' % form
+        said = got[1].decode()
+        if form == 'text':
+            refuted = [n for n in sorted(others) if others[n] != 'crossed_readers' or not words]
+            wanted = [first + '\n'] + ['piece %d of %d: ' % (n, PIECES) for n in refuted[:1]] + ['pieces %d\n' % PIECES]
+            if got[0] != status or got[2] or not said.startswith(wanted[0]) or not all(it in said for it in wanted):
+                return 'it says %r, wanted %r' % (got, wanted)
+    return None
+
+
+def marks(path):
+    """How many marks a file has, which is removed."""
+    if not os.path.exists(path):
+        return 0
+    size = os.path.getsize(path)
+    os.remove(path)
+    return size
+
+
+def at_once(program, folder, compiler):
+    """Whether four workers judge at once: in each round of `audit` that `pieces`, which reads and cuts the same log, has not."""
+    source, library, log = (os.path.join(folder, name) for name in ('gate.c', 'gate.so', 'many.log'))
+    for path, data in ((source, GATE.encode()), (log, cut_log([FINE] * 256))):
+        with open(path, 'wb') as out:
+            out.write(data)
+    subprocess.run([compiler, '-shared', '-fPIC', '-o', library, source, '-ldl'], check=True)
+    place = dict(os.environ, LD_PRELOAD=library, MET=os.path.join(folder, 'met'), ROUNDS=os.path.join(folder, 'rounds'), ASKED='40')
+
+    def rounds(command, workers, **more):
+        ran = subprocess.run([program, command, '--size', '1', '--workers', workers, log], stdin=subprocess.DEVNULL, stdout=subprocess.PIPE,
+                             stderr=subprocess.PIPE, env={**place, **more}, timeout=LATE)
+        return ran.returncode, marks(place['ROUNDS']), marks(place['MET'])
+
+    passed, wanted = 0, [('4', '4', '120000'), ('4', '3', '20')]
+    for judges, workers, patience in wanted:
+        _, before, _ = rounds('pieces', workers)
+        status, all_rounds, met = rounds('audit', workers, AT_ONCE=judges, BEFORE=str(before), PATIENCE=patience)
+        judging = all_rounds - before
+        right = status == 0 and judging > 1 and met == (judging if workers == judges else 0)
+        passed += right
+        print('%sworkers: of %s, %s judged at once in %d of %d rounds' % ('' if right else 'FAILED ', workers, judges, met, judging))
+    return passed, len(wanted) - passed
 
 
 def main():
     program, versions = os.path.abspath(sys.argv[1]), generate.versions(sys.argv)
     passed, failed = 0, 0
+    compiler = c_compiler()
     with tempfile.TemporaryDirectory() as folder:
         subprocess.run([sys.executable, os.path.join(HERE, '..', 'bench', 'make_logs.py'), folder], check=True)
         logs = {**REFUSED, **dict(generate.examples(versions))}
@@ -79,8 +210,19 @@ def main():
                 else:
                     failed += 1
                     print('FAILED %s of %s depends on the number of workers' % (' '.join(words), name))
+        for name, made in AUDITED.items() if 3 in versions else ():
+            fault = audit_fault(program, *made)
+            passed, failed = passed + (fault is None), failed + (fault is not None)
+            if fault:
+                print('FAILED audit of a log with %s: %s' % (name, fault))
+        if compiler and 3 in versions:
+            seen, unseen = at_once(program, folder, compiler)
+            passed, failed = passed + seen, failed + unseen
+        else:
+            print('workers: that four judge at once cannot be tried, ' + ('logs of version 1 are not cut' if compiler else 'there is no C compiler here'))
     print('workers: %d passed, %d failed' % (passed, failed))
     sys.exit(1 if failed else 0)
 
 
-main()
+if __name__ == '__main__':
+    main()
