@@ -102,7 +102,7 @@ class Program:
         """What `explain` says of a refuted log; Stop, with the program's status where it refuses or does not know, where it is none."""
         status, told, said = self.ask(text, 'explain', '--workers', '1', *words)
         if status != NOT_SERIALIZABLE:
-            verdict = told.split('\n')[0]
-            raise Stop('\n'.join(filter(None, ["explain does not say 'not serializable', but (status %d): %s" % (status, verdict), said])),
+            verdict, hint = told.split('\n')[0], 'audit names the piece that is not serializable, and pieces --piece K hands it out' * ('L7' in said)
+            raise Stop('\n'.join(filter(None, ["explain does not say 'not serializable', but (status %d): %s" % (status, verdict), said, hint])),
                        status or AROUND)
         return told
