@@ -99,8 +99,8 @@ class Program:
         return ran.returncode, ran.stdout.decode(), said
 
     def explain(self, text, *words):
-        """What `explain` says of a refuted log; Stop, with the program's status where it refuses or does not know, where it is none."""
-        status, told, said = self.ask(text, 'explain', '--workers', '1', *words)
+        """What `explain` says of a refuted log, by the strategy that mostly tells the fewest cycles; Stop, with the program's status where it refuses or does not know, where it is none."""
+        status, told, said = self.ask(text, 'explain', '--strategy', 'forced', '--workers', '1', *words)
         if status != NOT_SERIALIZABLE:
             verdict, hint = told.split('\n')[0], 'audit names the piece that is not serializable, and pieces --piece K hands it out' * ('L7' in said)
             raise Stop('\n'.join(filter(None, ["explain does not say 'not serializable', but (status %d): %s" % (status, verdict), said, hint])),
