@@ -17,8 +17,8 @@ import atexit, collections, hashlib, itertools, operator, os, re, shutil, sys, t
 CLIENTS, MAX_SESSION, MAX_IDENTITY = 1000, 65535, 2 ** 64 - 1
 # So many lines of a client may stand in memory before they go to its file.
 BUFFER = 4096
-# What `check` takes.
-CHECKED = {'committed': 1000, 'sessions': 64}
+# What `audit` judges at once: a piece of the log, between two barriers.
+PIECE = {'transactions': 1000, 'sessions': 64}
 PLAIN_KEY = re.compile(rb'(?!hex:|sha:)[A-Za-z0-9_.:/-]{1,64}\Z')
 # So often the keys of unknown transactions are read before a barrier.
 LOOKS = 3
@@ -111,6 +111,8 @@ class Recorder:
         self._numbers, self._parts, self._idle = itertools.count(1), [], []
         self._open, self._due, self._setter, self._ended, self._unseen = {}, False, None, 0, {}
         self._counts, self._strange, self._left_open, self._warnings = collections.Counter(), None, [], None
+        # what a piece of the log has so far, and the most that one had
+        self._piece, self._most = {'transactions': 0, 'sessions': set()}, dict.fromkeys(PIECE, 0)
         self._closed, self._process = False, os.getpid()
         self._folder = tempfile.mkdtemp(prefix=os.path.basename(self.path) + '.', dir=os.path.dirname(self.path))
         atexit.register(self._at_exit)
@@ -223,13 +225,12 @@ class Recorder:
                 counts['called off'], self._patience)
         if counts['blind']:
             yield '%d barriers stand behind unknown outcomes that were not looked for: give each session a look' % counts['blind']
-        if counts['commit'] + counts['unknown'] > CHECKED['committed']:
-            yield '%d transactions are committed or unknown, and check takes at most %d' % (
-                counts['commit'] + counts['unknown'], CHECKED['committed'])
-            if not self.barriers and self._moments != 'all':
-                yield 'there was no barrier and no moments, so it cannot be cut'
-        if counts['sessions'] > CHECKED['sessions']:
-            yield 'there are %d sessions, and check takes at most %d' % (counts['sessions'], CHECKED['sessions'])
+        self._end_piece()
+        for name, most in PIECE.items():
+            # with all moments it is cut wherever nothing is under way
+            if self._most[name] > most and self._moments != 'all':
+                yield '%d %s %s, and audit judges no more than %d at once: let there be more barriers' % (
+                    self._most[name], name, 'between two barriers' if self.barriers else 'without a barrier', most)
 
     # What follows is called with the lock held.
 
@@ -272,6 +273,8 @@ class Recorder:
         part.lines += txn._lines
         part.lines.append('commit %d\n' % self._moment() if outcome == 'commit' and self._moments else outcome + '\n')
         self._counts[outcome] += 1
+        self._piece['transactions'] += outcome != 'abort'
+        self._piece['sessions'].add(session.number)
         if outcome == 'commit':
             session._since = len(self.barriers)
             self._counts['reads'] += len(txn._reads)
@@ -287,6 +290,11 @@ class Recorder:
         self._turn.notify_all()
         if len(part.lines) > BUFFER:
             part.flush()
+
+    def _end_piece(self):
+        for name, had in (('transactions', self._piece['transactions']), ('sessions', len(self._piece['sessions']))):
+            self._most[name] = max(self._most[name], had)
+        self._piece = {'transactions': 0, 'sessions': set()}
 
     def _pass_barrier(self, session):
         """While a barrier is due, holds a client back until no transaction is open; the first that finds it so sets the barrier."""
@@ -316,6 +324,7 @@ class Recorder:
             # a client that lost its patience meanwhile may be in a transaction
             if not self._open:
                 self.barriers.append(self._moment())
+                self._end_piece()
                 self._counts['blind'] += bool(self._unseen)
                 self._unseen.clear()
             self._due, self._ended = False, 0

@@ -268,6 +268,12 @@ class Checks:
         if command:
             self.expect(len(console) == 1 and 'broken on purpose' in console[0], 'the console has, beside the error that is made: %r' % console)
 
+    def lanes(self):
+        """A session whose first transaction behind a barrier was aborted has one lane: the next one states the same barrier."""
+        text = 'log 3\nsession 1\nbegin 5\nw x 1\nabort\nbegin 5\nr x 0\nw x 2\ncommit 8\nsession 2\nbegin 5\nr x 0\nw x 3\ncommit 9\n'
+        (_, _, _, page), = self.pages([('a barrier', text.encode())])
+        self.expect(page.count('>session 1</text>') == 1 and 'data-box="1.1"' in page, 'session 1 has %d lanes' % page.count('>session 1</text>'))
+
     def statuses(self):
         log = dict(generate.examples((1, 2, 3)))
         page, whole = os.path.join(self.folder, 'none.html'), lambda name: os.path.join(generate.EXAMPLES, name)
@@ -332,6 +338,7 @@ def main():
         pages = list(checks.pages(logs()))
         print('picture: %d pages' % len(pages))
         checks.look(command, pages)
+        checks.lanes()
         checks.statuses()
     print('picture: %d passed, %d failed' % (checks.passed, checks.failed))
     sys.exit(1 if checks.failed else 0)

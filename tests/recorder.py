@@ -646,7 +646,7 @@ def memory(checks):
     checks.expect(text.count('session ') == 2001 and len(writes) == len(set(writes)) == 17000, 'all lines')
     checks.expect(len(run.barriers) == 13, '%d barriers' % len(run.barriers))
     told = ' '.join(warnings)
-    checks.expect('7000 transactions' in told and '2001 sessions' in told, 'limits: %s' % told)
+    checks.expect('500 sessions between two barriers' in told and ' transactions' not in told, 'limits: %s' % told)
 
 
 def worth(checks):
@@ -674,12 +674,15 @@ def worth(checks):
         (([write], [nothing]), 'no read names a write'), (([write, own], [write]), 'no client read what another'),
         (([write], [own]), 'no two transactions'),
         (([write, own], [write, ('r', 'x', 55001)]), 'nobody wrote in this run'), (([write],) * 65, '65 sessions'),
-        (([write] * 1001, [own]), '1002 transactions'), (([('abort', 0, 0)] * 20 + [write], [own]), 'aborted'),
+        (([('abort', 0, 0)] * 20 + [write], [own]), 'aborted'),
         (([('unknown', 0, 0)] * 20 + [write], [own]), 'unknown outcome'),
     ):
         found = log(*sessions)
         checks.expect(said in found, '%s: %s' % (said, found))
-    checks.expect('cannot be cut' in log([write] * 1001, [own], barrier_every=None), 'no barrier')
+    many = [write] * 1001
+    checks.expect('1002 transactions without a barrier' in log(many, [own], barrier_every=None), 'no barrier')
+    checks.expect('1001 transactions between two barriers' in log(many, [own], barrier_every=1001), 'barriers far from each other')
+    checks.expect(not any('at once:' in log(many, [own], **words) for words in ({}, {'barrier_every': None, 'moments': 'all'})), 'a long run')
     run = Recorder(checks.path('worth'), barrier_every=None)
     with run.session() as first, run.session() as second:
         with first.transaction() as txn, second.transaction() as other:

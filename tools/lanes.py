@@ -198,10 +198,17 @@ class Layout:
         heights, boxes = Heights(), list(self.boxes.values())
         begin, end = {}, {}
         moments = sorted({moment for box in boxes for moment in (box.begun, box.ended) if moment is not None})
+        first = {}
+        for box in sorted(boxes, key=lambda box: box.place):
+            first.setdefault((box.lane, box.begun), box.name)
         for box in boxes:
-            begin[box.name] = ('begin', box.name) if box.begun is None else ('begun', box.begun)
+            # of several of one session that state one barrier only the first began there
+            is_first = box.begun is not None and first[box.lane, box.begun] == box.name
+            begin[box.name] = ('begun', box.begun) if is_first else ('begin', box.name)
             end[box.name] = ('end', box.name) if box.ended is None else ('ended', box.ended)
             heights.put(begin[box.name], end[box.name], self.height(box))
+            if box.begun is not None and not is_first:
+                heights.put(('begun', box.begun), begin[box.name], 0)
         for moment, later in zip(moments, moments[1:] + [None]):
             heights.put(('begun', moment), ('ended', moment), 0)
             if later is not None:

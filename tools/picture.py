@@ -18,8 +18,8 @@ MOST_EDGES, PART, MOST_PICTURES = 16, 12, 40
 MOST_SUPPORT, MOST_NEIGHBOURED = 9, 8
 # A box shows so many operations of those that are not told, and a neighbour so many.
 MOST_ROWS, MOST_NEAR = 10, 3
-# So many keys are listed on top; and so tall may a picture be that stands before its lines.
-MOST_KEYS, TALL = 24, 800
+# So many keys are listed on top; so tall may a picture be that stands before its lines; and a window that is wider needs no switch to fit it.
+MOST_KEYS, TALL, NARROW = 24, 800, 750
 MEANINGS = {
     'A1': 'A read names a write that the log does not have: the value came from nowhere, or its write was lost.',
     'A2': 'A read saw a write of a transaction that was aborted: the store showed what it took back.',
@@ -334,7 +334,7 @@ class Page:
         svg, switches = scene.svg(), ''
         if any(arrow.support for arrow in scene.arrows):
             switches += self.switch('support', 'what the bold arrows rest on', ' checked')
-        if int(re.search(' width="([0-9]+)"', svg)[1]) > lanes.WIDTH / lanes.LEAST:
+        if int(re.search(' width="([0-9]+)"', svg)[1]) > NARROW / lanes.LEAST:
             switches += self.switch('fit', 'fit the width of the page')
         return '<figure>%s<div class="picture">%s</div></figure>' % (switches, svg)
 
@@ -374,7 +374,7 @@ class Page:
         words = STEP % tuple(element('b', escape(it)) for it in (step.key, step.second, step.first, step.late, step.first, step.first, step.late))
         drawing = self.pictures_of(scenes_of_step(self.history, step, self.steps)) if draw else ''
         inner = element('div', element('p', words) + self.with_lines(drawing, self.edges(step.walk)), id='step-%d' % step.number)
-        return element('details', element('summary', escape(step.said), data_edge=step.line) + inner, class_='step')
+        return element('details', element('summary', escape(re.sub(', but$', '', step.said)), data_edge=step.line) + inner, class_='step')
 
     def steps_section(self):
         if not self.steps:

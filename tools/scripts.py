@@ -99,10 +99,13 @@ class Program:
         return ran.returncode, ran.stdout.decode(), said
 
     def explain(self, text, *words):
-        """What `explain` says of a refuted log; Stop, with the program's status where it refuses or does not know, where it is none."""
-        status, told, said = self.ask(text, 'explain', '--workers', '1', *words)
+        """What `explain` says of a refuted log, by the strategy that mostly tells the fewest cycles. Stop where it is none, with the
+        program's status where it refuses or does not know."""
+        status, told, said = self.ask(text, 'explain', '--strategy', 'forced', '--workers', '1', *words)
         if status != NOT_SERIALIZABLE:
-            verdict = told.split('\n')[0]
-            raise Stop('\n'.join(filter(None, ["explain does not say 'not serializable', but (status %d): %s" % (status, verdict), said])),
-                       status or AROUND)
+            verdict, hint = told.split('\n')[0], ''
+            if 'L7' in said:
+                hint = 'audit names the piece that is not serializable, and pieces --piece K hands it out'
+            words = "explain does not say 'not serializable', but (status %d): %s" % (status, verdict)
+            raise Stop('\n'.join(filter(None, [words, said, hint])), status or AROUND)
         return told
