@@ -9,6 +9,7 @@ mod fault;
 mod form;
 mod lrat;
 mod number;
+mod reading;
 #[cfg(test)]
 mod tests;
 mod words;

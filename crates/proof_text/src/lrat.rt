@@ -1,12 +1,15 @@
 //! LRAT as text: `ID LITERALS 0 HINTS 0` adds a clause, and `ID d IDS 0` deletes clauses.
 
-ghost use Rattle.std.specs.Prelude.{◌≡◌};
+ghost use Rattle.std.specs.Prelude.{◌≡◌, IfOk};
+ghost use Rattle.proof_text.specs.Numbers.{numbers_of};
 ghost use Rattle.proof_text.specs.Reads.{IsRead};
-ghost use Rattle.proof_text.specs.Steps.{lrat_steps};
+ghost use Rattle.proof_text.specs.Steps.{lrat_step, lrat_steps, lrat_with, deletion_of, addition_of};
 
 use crate::fault::StepFault;
-use crate::words::Lines;
+use crate::reading::{read_last_ids, read_literals};
+use crate::words::{Lines, Words};
 use serializability::Literal;
+use std::alloc::AllocError;
 use std::marker::Model;
 
 /// What a step of an LRAT proof does.
@@ -61,6 +64,76 @@ impl<'a> LratSteps<'a> {
             ids = ids.new.items;
         }) result }
     {
-        Err(StepFault::Memory)
+        match self.text.next_line() {
+            Some((line, mut words)) => {
+                match read_step(&mut words, self.variables, literals, ids) {
+                    Ok(Some(action)) => Ok(Some((line, action))),
+                    Ok(None) => Err(StepFault::BadLine { line }),
+                    Err(refused) => Err(StepFault::from(refused)),
+                }
+            }
+            None => Ok(None),
+        }
+    }
+}
+
+/// Reads the step of a line.
+fn read_step(
+    words: &mut Words<'_>,
+    variables: u32,
+    literals: &mut Vec<Literal>,
+    ids: &mut Vec<Option<u64>>,
+) -> Result<Option<LratAction>, AllocError>
+    ensures { IfOk result (λ action.
+        lrat_step variables words.old ≡ lrat_with action literals.new.items ids.new.items) }
+{
+    let Some(id) = words.next_number() else {
+        return Ok(None);
+    };
+    if id.negative || id.size == 0 {
+        return Ok(None);
+    }
+    if words.take_delete() {
+        read_deletion(words, literals, ids)
+    } else {
+        read_addition(words, variables, id.size, literals, ids)
+    }
+}
+
+/// Reads `IDS 0`.
+fn read_deletion(
+    words: &mut Words<'_>,
+    literals: &mut Vec<Literal>,
+    ids: &mut Vec<Option<u64>>,
+) -> Result<Option<LratAction>, AllocError>
+    ensures { IfOk result (λ action.
+        deletion_of (numbers_of words.old) ≡ lrat_with action literals.new.items ids.new.items) }
+{
+    literals.clear();
+    if read_last_ids(words, false, ids)? {
+        Ok(Some(LratAction::Delete))
+    } else {
+        Ok(None)
+    }
+}
+
+/// Reads `LITERALS 0 HINTS 0`.
+fn read_addition(
+    words: &mut Words<'_>,
+    variables: u32,
+    id: u64,
+    literals: &mut Vec<Literal>,
+    ids: &mut Vec<Option<u64>>,
+) -> Result<Option<LratAction>, AllocError>
+    ensures { IfOk result (λ action. addition_of variables id (numbers_of words.old) ≡
+        lrat_with action literals.new.items ids.new.items) }
+{
+    if !read_literals(words, variables, literals)? {
+        return Ok(None);
+    }
+    if read_last_ids(words, true, ids)? {
+        Ok(Some(LratAction::Add(id)))
+    } else {
+        Ok(None)
     }
 }
