@@ -1,3 +1,4 @@
 pub mod Cutting
 pub mod Digits
-pub mod Reading
+pub mod Stepping
+pub mod UpToZero

@@ -1,7 +1,7 @@
 -- The steps of proofs in texts.
 use Rattle.std.specs.Prelude.{ℕ, Bool, true, false, ◌||◌, if◌then◌else◌, ◌==◌, List, [], ◌∷◌, map, drop, Option, Some, None, option_map, option_and_then}
 use Rattle.serializability.specs.declared.literal.Literal.{Literal}
-use Rattle.proof_text.specs.Words.{is_delete, lines_of}
+use Rattle.proof_text.specs.Words.{is_delete, behind_delete, lines_of}
 use Rattle.proof_text.specs.Numbers.{numbers_of, literal_of, first_number, id_of, before_zero, whole}
 use Rattle.proof_text.specs.declared.number.Number.{Number}
 use Rattle.proof_text.specs.declared.lrat.LratAction.{LratAction}
@@ -40,16 +40,19 @@ addition_with id clause = option_map (lrat_addition id clause.0) (whole (before_
 unfoldable pub addition_of : ℕ → ℕ → List (Option Number) → Option LratStep
 addition_of v id ns = option_and_then (addition_with id) (before_zero (literal_of v) ns)
 
--- what stands behind the ID of a line
-unfoldable pub behind_id : ℕ → List (List ℕ) → Option Number → Option LratStep
-behind_id v ws None = None
-behind_id v ws (Some id) =
-    if id.negative || id.size == 0 then None else
-    (if is_delete ws then deletion_of (numbers_of (drop 1 ws)) else addition_of v id.size (numbers_of ws))
+-- the ID of a line, which is above 0
+unfoldable pub line_id : Option Number → Option ℕ
+line_id None = None
+line_id (Some n) = if n.negative || n.size == 0 then None else Some n.size
+
+-- the step of a line with this ID, and these words behind it
+unfoldable pub step_of_id : ℕ → List (List ℕ) → Option ℕ → Option LratStep
+step_of_id v ws None = None
+step_of_id v ws (Some id) = if is_delete ws then deletion_of (numbers_of (drop 1 ws)) else addition_of v id (numbers_of ws)
 
 -- the step of a line: `ID d IDS 0`, or `ID LITERALS 0 HINTS 0`
 unfoldable pub lrat_step : ℕ → List (List ℕ) → Option LratStep
-lrat_step v ws = behind_id v (drop 1 ws) (first_number (numbers_of ws))
+lrat_step v ws = step_of_id v (drop 1 ws) (line_id (first_number (numbers_of ws)))
 
 -- the step of a clause
 abbrev pub drat_clause : DratAction → List Literal → DratStep
@@ -59,9 +62,13 @@ drat_clause action literals = record { action = action; literals = literals }
 unfoldable pub clause_of : ℕ → DratAction → List (Option Number) → Option DratStep
 clause_of v action ns = option_map (drat_clause action) (whole (before_zero (literal_of v) ns))
 
+-- what the step of a line does
+abbrev pub action_of : List (List ℕ) → DratAction
+action_of ws = if is_delete ws then drat.Delete else drat.Add
+
 -- the step of a line: `d LITERALS 0`, or `LITERALS 0`
 unfoldable pub drat_step : ℕ → List (List ℕ) → Option DratStep
-drat_step v ws = if is_delete ws then clause_of v drat.Delete (numbers_of (drop 1 ws)) else clause_of v drat.Add (numbers_of ws)
+drat_step v ws = clause_of v (action_of ws) (numbers_of (behind_delete ws))
 
 -- the step of an action, where there is one
 abbrev pub lrat_with : Option LratAction → List Literal → List (Option ℕ) → Option LratStep

@@ -1,5 +1,5 @@
 -- The words and the lines of a text.
-use Rattle.std.specs.Prelude.{◌≡◌, ℕ, ◌+◌, ◌^◌, ◌≤◌, Bool, true, false, ◌||◌, not, if◌then◌else◌, ◌==◌, List, [], ◌∷◌, length}
+use Rattle.std.specs.Prelude.{◌≡◌, ℕ, ◌+◌, ◌^◌, ◌≤◌, Bool, true, false, ◌||◌, not, if◌then◌else◌, ◌==◌, List, [], ◌∷◌, length, drop}
 use Rattle.std.specs.Str.{bytes_eq}
 
 -- a space, a tab or a carriage return
@@ -49,6 +49,10 @@ lines_of text = stated 1 (lines text)
 abbrev pub is_delete : List (List ℕ) → Bool
 is_delete [] = false
 is_delete (w ∷ ws) = bytes_eq w (100 ∷ [])
+
+-- what stands behind that word, where it stands first
+abbrev pub behind_delete : List (List ℕ) → List (List ℕ)
+behind_delete ws = if is_delete ws then drop 1 ws else ws
 
 -- no word is left
 abbrev pub is_empty : List (List ℕ) → Bool

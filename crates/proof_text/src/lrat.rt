@@ -1,11 +1,12 @@
 //! LRAT as text: `ID LITERALS 0 HINTS 0` adds a clause, and `ID d IDS 0` deletes clauses.
 
-ghost use Rattle.std.specs.Prelude.{◌≡◌, IfOk};
+ghost use Rattle.std.specs.Prelude.{◌≡◌, IfOk, Some};
 ghost use Rattle.proof_text.specs.Numbers.{numbers_of};
 ghost use Rattle.proof_text.specs.Reads.{IsRead};
-ghost use Rattle.proof_text.specs.Steps.{lrat_step, lrat_steps, lrat_with, deletion_of, addition_of};
+ghost use Rattle.proof_text.specs.Steps.{lrat_step, lrat_steps, lrat_with, line_id, step_of_id, deletion_of, addition_of};
 
 use crate::fault::StepFault;
+use crate::number::Number;
 use crate::reading::{read_last_ids, read_literals};
 use crate::words::{Lines, Words};
 use serializability::Literal;
@@ -87,16 +88,38 @@ fn read_step(
     ensures { IfOk result (λ action.
         lrat_step variables words.old ≡ lrat_with action literals.new.items ids.new.items) }
 {
-    let Some(id) = words.next_number() else {
-        return Ok(None);
-    };
-    if id.negative || id.size == 0 {
-        return Ok(None);
+    match line_id(words.next_number()) {
+        Some(id) => read_behind_id(words, variables, id, literals, ids),
+        None => Ok(None),
     }
+}
+
+/// The ID of a line, which is above 0.
+#[tactic(auto, unfolding(crate::specs::Steps::line_id))]
+fn line_id(number: Option<Number>) -> Option<u64>
+    ensures { result ≡ line_id number }
+{
+    match number {
+        Some(id) if !id.negative && id.size != 0 => Some(id.size),
+        _ => None,
+    }
+}
+
+/// Reads what stands behind the ID.
+fn read_behind_id(
+    words: &mut Words<'_>,
+    variables: u32,
+    id: u64,
+    literals: &mut Vec<Literal>,
+    ids: &mut Vec<Option<u64>>,
+) -> Result<Option<LratAction>, AllocError>
+    ensures { IfOk result (λ action. step_of_id variables words.old (Some id) ≡
+        lrat_with action literals.new.items ids.new.items) }
+{
     if words.take_delete() {
         read_deletion(words, literals, ids)
     } else {
-        read_addition(words, variables, id.size, literals, ids)
+        read_addition(words, variables, id, literals, ids)
     }
 }
 
@@ -110,7 +133,8 @@ fn read_deletion(
         deletion_of (numbers_of words.old) ≡ lrat_with action literals.new.items ids.new.items) }
 {
     literals.clear();
-    if read_last_ids(words, false, ids)? {
+    let read = read_last_ids(words, false, ids)?;
+    if read {
         Ok(Some(LratAction::Delete))
     } else {
         Ok(None)
@@ -128,10 +152,12 @@ fn read_addition(
     ensures { IfOk result (λ action. addition_of variables id (numbers_of words.old) ≡
         lrat_with action literals.new.items ids.new.items) }
 {
-    if !read_literals(words, variables, literals)? {
+    let has_clause = read_literals(words, variables, literals)?;
+    if !has_clause {
         return Ok(None);
     }
-    if read_last_ids(words, true, ids)? {
+    let has_hints = read_last_ids(words, true, ids)?;
+    if has_hints {
         Ok(Some(LratAction::Add(id)))
     } else {
         Ok(None)

@@ -1,11 +1,11 @@
 //! The lines of a text that say something, and the words of each.
 
-ghost use Rattle.std.specs.Prelude.{◌≡◌, ◌+◌, ◌^◌, ◌<◌, ◌≤◌, ℕ, [], ◌∷◌, not, length, drop, position, if◌then◌else◌, ◌==◌, MatchOption};
+ghost use Rattle.std.specs.Prelude.{◌≡◌, ◌+◌, ◌^◌, ◌<◌, ◌≤◌, ℕ, [], ◌∷◌, not, length, drop, position, ◌==◌, MatchOption};
 ghost use Rattle.std.specs.List.{position_or_len};
 ghost use Rattle.std.specs.Str.{bytes_eq};
 ghost use Rattle.proof_text.specs.Forms.{first_line};
 ghost use Rattle.proof_text.specs.Numbers.{numbers_of, first_number};
-ghost use Rattle.proof_text.specs.Words.{is_blank, words, lines, begins_comment, is_passed, is_delete, is_empty, stated, lines_of, IsFound};
+ghost use Rattle.proof_text.specs.Words.{is_blank, words, lines, begins_comment, is_passed, is_delete, behind_delete, is_empty, stated, lines_of, IsFound};
 
 use crate::number::{Number, number_of};
 use std::marker::Model;
@@ -36,7 +36,8 @@ impl<'a> Words<'a> {
 
     /// Takes the next word.
     pub(crate) fn next_word(&mut self) -> Option<&'a [u8]>
-        ensures { MatchOption result (self.old ≡ []) (λ word. self.old ≡ word.now ∷ self.new) }
+        ensures word { MatchOption result (self.old ≡ []) (λ word. self.old ≡ word.now ∷ self.new) }
+        ensures rest { self.new ≡ drop 1 self.old }
     {
         match cut_word(self.rest) {
             Some((word, rest)) => {
@@ -68,7 +69,7 @@ impl<'a> Words<'a> {
     /// Takes the word `d`, where it is the next.
     pub(crate) fn take_delete(&mut self) -> bool
         ensures found { result ≡ is_delete self.old }
-        ensures taken { self.new ≡ (if is_delete self.old then drop 1 self.old else self.old) }
+        ensures rest { self.new ≡ behind_delete self.old }
     {
         match cut_word(self.rest) {
             Some((word, rest)) if is_d(word) => {

@@ -1,6 +1,6 @@
 use Rattle.std.proofs.Common.{◌≡◌, length}
 use Rattle.proof_text.specs.Numbers.{numbers_of, before_zero, literal_of}
-use Rattle.proof_text.proofs.Reading.{behind}
+use Rattle.proof_text.proofs.UpToZero.{behind}
 use Rattle.proof_text.proofs.reading.read_literals.Given as goal
 
 abbrev pub invariant-loop-number : goal.invariant-loop-number

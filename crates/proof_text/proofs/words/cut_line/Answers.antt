@@ -6,7 +6,7 @@ use Rattle.proof_text.proofs.Cutting.{lines_at, lines_unended, stated_last}
 use Rattle.proof_text.proofs.words.cut_line.Goals as goal
 
 pub returns-in-Some-clause-first : goal.returns-in-Some-clause-first
-returns-in-Some-clause-first c = rw take_rest (sym (ap first_line (lines_at c.args.text.now c.in-Some.end c.in-Some.ensures)))
+returns-in-Some-clause-first c = sym (ap first_line (lines_at c.args.text.now c.in-Some.end c.in-Some.ensures))
 
 pub returns-in-Some-clause-lines : goal.returns-in-Some-clause-lines
 returns-in-Some-clause-lines c = λ n. rw take_rest (ap (stated n) (lines_at c.args.text.now c.in-Some.end c.in-Some.ensures))
