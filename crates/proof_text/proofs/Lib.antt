@@ -1,4 +1,5 @@
 pub mod Cutting
 pub mod Digits
+pub mod Forming
 pub mod Stepping
 pub mod UpToZero

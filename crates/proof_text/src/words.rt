@@ -142,10 +142,9 @@ fn first_feed(text: &[u8]) -> Option<usize>
 
 /// The first line of a text, and what stands behind it.
 pub(crate) fn cut_line(text: &[u8]) -> (&[u8], &[u8])
-    requires { 0 < length text.now }
     ensures first { result.0.now ≡ first_line (lines text.now) }
     ensures lines { (n : ℕ) → stated n (lines text.now) ≡ stated n (result.0.now ∷ lines result.1.now) }
-    ensures shorter { length result.1.now < length text.now }
+    ensures shorter { 0 < length text.now → length result.1.now < length text.now }
 {
     match first_feed(text) {
         Some(end) => (&text[..end], &text[end + 1..]),
