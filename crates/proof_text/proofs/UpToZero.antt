@@ -1,5 +1,5 @@
 -- Reading up to a 0.
-use Rattle.std.proofs.Common.{◌≡◌, ℕ, Bool, true, false, ◌&&◌, List, [], ◌∷◌, ◌++◌, drop, Option, Some, None, refl, sym, ap, ◌∙◌, append_assoc, ◌==◌}
+use Rattle.std.proofs.Common.{◌≡◌, ℕ, Bool, true, false, ◌&&◌, List, [], ◌∷◌, ◌++◌, map, drop, Option, Some, None, refl, sym, ap, ◌∙◌, append_assoc, ◌==◌}
 use Rattle.std.proofs.lemmas.Bool.{ne_eqb}
 use Rattle.std.proofs.lemmas.List.{append-nil}
 use Rattle.proof_text.specs.Words.{is_empty}
@@ -27,9 +27,9 @@ none_is f (None ∷ ns) e = refl
 none_is f (Some n ∷ ns) e = cc
 
 -- the numbers, when one was taken
-pub taken : (old new : List (List ℕ)) (n : Number) → Some n ≡ first_number (numbers_of old) → new ≡ drop 1 old → numbers_of old ≡ Some n ∷ numbers_of new
-taken [] new n e is = cc
-taken (w ∷ ws) new n e is = cc
+pub taken : (number : List ℕ → Option Number) (old new : List (List ℕ)) (n : Number) → Some n ≡ first_number (map number old) → new ≡ drop 1 old → map number old ≡ Some n ∷ map number new
+taken number [] new n e is = cc
+taken number (w ∷ ws) new n e is = cc
 
 -- nothing is before, with nothing read
 pub behind_none : {A B : Type 0} (m : Option (List A × B)) → m ≡ behind [] m
@@ -40,31 +40,31 @@ behind_more : {A B : Type 0} (xs : List A) (x : A) (m : Option (List A × B)) �
 behind_more xs x None = refl
 behind_more xs x (Some m) = ap (λ ys. Some (ys, m.1)) (sym (append_assoc xs (x ∷ []) m.0))
 
-module _ {A : Type 0} (f : Number → Option A) (all : List (Option Number)) (xs : List A) (old new : List (List ℕ)) (so_far : before_zero f all ≡ behind xs (before_zero f (numbers_of old))) where
+module _ {A : Type 0} (number : List ℕ → Option Number) (f : Number → Option A) (all : List (Option Number)) (xs : List A) (old new : List (List ℕ)) (so_far : before_zero f all ≡ behind xs (before_zero f (map number old))) where
   -- no number is next
-  pub at_end : None ≡ first_number (numbers_of old) → before_zero f all ≡ None
-  at_end none = so_far ∙ ap (behind xs) (none_is f (numbers_of old) none)
+  pub at_end : None ≡ first_number (map number old) → before_zero f all ≡ None
+  at_end none = so_far ∙ ap (behind xs) (none_is f (map number old) none)
 
   -- a 0
-  pub at_zero : (n : Number) → Some n ≡ first_number (numbers_of old) → new ≡ drop 1 old → n.size ≡ 0 → before_zero f all ≡ Some (xs, numbers_of new)
+  pub at_zero : (n : Number) → Some n ≡ first_number (map number old) → new ≡ drop 1 old → n.size ≡ 0 → before_zero f all ≡ Some (xs, map number new)
   at_zero n first is zero =
-      let nums = taken old new n first is in
-      let there = zero_is f n (numbers_of new) (ap (λ k. k == 0) zero) in
-      so_far ∙ (ap (λ ns. behind xs (before_zero f ns)) nums ∙ (ap (behind xs) there ∙ ap (λ ys. Some (ys, numbers_of new)) (append-nil xs)))
+      let nums = taken number old new n first is in
+      let there = zero_is f n (map number new) (ap (λ k. k == 0) zero) in
+      so_far ∙ (ap (λ ns. behind xs (before_zero f ns)) nums ∙ (ap (behind xs) there ∙ ap (λ ys. Some (ys, map number new)) (append-nil xs)))
 
   -- a number that stands for nothing
-  pub at_bad : (n : Number) → Some n ≡ first_number (numbers_of old) → new ≡ drop 1 old → (n.size ≡ 0 → ⊥) → None ≡ f n → before_zero f all ≡ None
+  pub at_bad : (n : Number) → Some n ≡ first_number (map number old) → new ≡ drop 1 old → (n.size ≡ 0 → ⊥) → None ≡ f n → before_zero f all ≡ None
   at_bad n first is ne bad =
-      let nums = taken old new n first is in
-      let there = more_is f n (numbers_of new) (ne_eqb n.size 0 ne) in
-      so_far ∙ (ap (λ ns. behind xs (before_zero f ns)) nums ∙ (ap (behind xs) there ∙ ap (λ o. behind xs (with_front o (before_zero f (numbers_of new)))) (sym bad)))
+      let nums = taken number old new n first is in
+      let there = more_is f n (map number new) (ne_eqb n.size 0 ne) in
+      so_far ∙ (ap (λ ns. behind xs (before_zero f ns)) nums ∙ (ap (behind xs) there ∙ ap (λ o. behind xs (with_front o (before_zero f (map number new)))) (sym bad)))
 
   -- one that stands for something
-  pub at_item : (n : Number) (x : A) (ys : List A) → Some n ≡ first_number (numbers_of old) → new ≡ drop 1 old → (n.size ≡ 0 → ⊥) → Some x ≡ f n → ys ≡ xs ++ x ∷ [] → before_zero f all ≡ behind ys (before_zero f (numbers_of new))
+  pub at_item : (n : Number) (x : A) (ys : List A) → Some n ≡ first_number (map number old) → new ≡ drop 1 old → (n.size ≡ 0 → ⊥) → Some x ≡ f n → ys ≡ xs ++ x ∷ [] → before_zero f all ≡ behind ys (before_zero f (map number new))
   at_item n x ys first is ne good pushed =
-      let nums = taken old new n first is in
-      let there = more_is f n (numbers_of new) (ne_eqb n.size 0 ne) in
-      so_far ∙ (ap (λ ns. behind xs (before_zero f ns)) nums ∙ (ap (behind xs) there ∙ (ap (λ o. behind xs (with_front o (before_zero f (numbers_of new)))) (sym good) ∙ (behind_more xs x (before_zero f (numbers_of new)) ∙ ap (λ zs. behind zs (before_zero f (numbers_of new))) (sym pushed)))))
+      let nums = taken number old new n first is in
+      let there = more_is f n (map number new) (ne_eqb n.size 0 ne) in
+      so_far ∙ (ap (λ ns. behind xs (before_zero f ns)) nums ∙ (ap (behind xs) there ∙ (ap (λ o. behind xs (with_front o (before_zero f (map number new)))) (sym good) ∙ (behind_more xs x (before_zero f (map number new)) ∙ ap (λ zs. behind zs (before_zero f (map number new))) (sym pushed)))))
 
 -- read to the end of the line
 pub last_read : {A : Type 0} (m : Option (List A × List (Option Number))) (read over : Bool) (xs : List A) (ws : List (List ℕ)) → m ≡ if_read read xs (numbers_of ws) → over ≡ is_empty ws → whole m ≡ if_true (read && over) xs
@@ -91,7 +91,7 @@ pub pass_none : (old : List (List ℕ)) → None ≡ first_number (numbers_of ol
 pass_none old none = behind_zero_none (numbers_of old) none
 
 pub pass_zero : (old new : List (List ℕ)) (n : Number) → Some n ≡ first_number (numbers_of old) → new ≡ drop 1 old → n.size ≡ 0 → behind_zero (numbers_of old) ≡ Some (numbers_of new)
-pass_zero old new n first is zero = ap behind_zero (taken old new n first is) ∙ behind_zero_is n (numbers_of new) (ap (λ k. k == 0) zero)
+pass_zero old new n first is zero = ap behind_zero (taken number_of old new n first is) ∙ behind_zero_is n (numbers_of new) (ap (λ k. k == 0) zero)
 
 pub pass_more : (old new : List (List ℕ)) (n : Number) → Some n ≡ first_number (numbers_of old) → new ≡ drop 1 old → (n.size ≡ 0 → ⊥) → behind_zero (numbers_of old) ≡ behind_zero (numbers_of new)
-pass_more old new n first is ne = ap behind_zero (taken old new n first is) ∙ behind_zero_more n (numbers_of new) (ne_eqb n.size 0 ne)
+pass_more old new n first is ne = ap behind_zero (taken number_of old new n first is) ∙ behind_zero_more n (numbers_of new) (ne_eqb n.size 0 ne)

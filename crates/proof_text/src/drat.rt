@@ -7,6 +7,7 @@ ghost use Rattle.proof_text.specs.Reads.{IsRead};
 ghost use Rattle.proof_text.specs.Steps.{steps_by, action_of, drat_step, drat_with};
 ghost use Rattle.proof_text.specs.Words.{behind_delete};
 
+use crate::binary::BinaryLines;
 use crate::fault::StepFault;
 use crate::reading::read_last_literals;
 use crate::words::{Lines, Words};
@@ -21,13 +22,19 @@ pub enum DratAction {
     Delete,
 }
 
+/// The lines of a DRAT proof that are left.
+#[derive(Drop)]
+enum Source<'a> {
+    Text(Lines<'a>),
+    Binary(BinaryLines<'a>),
+}
+
 /// The steps of a DRAT proof that are left. Contracts see each with its line, and none where the line has no form; of the binary form
 /// a line is a step.
 #[derive(Drop)]
 pub struct DratSteps<'a> {
-    text: Lines<'a>,
+    source: Source<'a>,
     variables: u32,
-    binary: bool,
 }
 
 impl<'a> Model for DratSteps<'a> {
@@ -36,20 +43,27 @@ impl<'a> Model for DratSteps<'a> {
 
     ghost Value = { List (ℕ × Option DratStep) };
 
-    ghost use Rattle.proof_text.specs.Steps.{steps_by, drat_step};
+    ghost use Rattle.proof_text.specs.Sources.{steps_left};
 
-    ghost view = { λ s. steps_by (drat_step s.variables) s.text };
+    ghost view = { λ s. steps_left s.variables s.source };
 }
 
 impl<'a> DratSteps<'a> {
     /// The steps of a text, or of its binary form, for a formula of so many variables.
+    #[tactic(auto, unfolding(crate::specs::Binary::drat_steps_in, crate::specs::Steps::drat_steps))]
     pub fn new(text: &'a [u8], variables: u32, binary: bool) -> DratSteps<'a>
         ensures { result ≡ drat_steps_in binary variables text.now }
     {
-        DratSteps {
-            text: Lines::of(text),
-            variables,
-            binary,
+        if binary {
+            DratSteps {
+                source: Source::Binary(BinaryLines::of(text)),
+                variables,
+            }
+        } else {
+            DratSteps {
+                source: Source::Text(Lines::of(text)),
+                variables,
+            }
         }
     }
 
@@ -63,7 +77,10 @@ impl<'a> DratSteps<'a> {
             literals = literals.new.items;
         }) result }
     {
-        read_line(&mut self.text, self.variables, literals)
+        match &mut self.source {
+            Source::Text(lines) => read_line(lines, self.variables, literals),
+            Source::Binary(lines) => lines.read(self.variables, literals),
+        }
     }
 }
 

@@ -4,6 +4,7 @@
 //! Nothing rests on how a text is read: whatever steps come out, a checker takes only those that follow.
 #![tactic(auto)]
 
+mod binary;
 mod drat;
 mod fault;
 mod form;

@@ -6,8 +6,8 @@ use Rattle.proof_text.proofs.form.deletes.Goals as goal
 
 pub returns-then-take_delete : goal.returns-then-take_delete
 returns-then-take_delete c =
-    c.ends_at_zero.ensures ∙ (deletes_yes c.of.result c.take_delete.new.self (sym c.take_delete.ensures.found ∙ c.if-take_delete.true) c.take_delete.ensures.rest ∙ ap deletes c.of.ensures)
+    c.ends_at_zero.ensures ∙ (deletes_yes c.of-words.result c.take_delete.new.self (sym c.take_delete.ensures.found ∙ c.if-take_delete.true) c.take_delete.ensures.rest ∙ ap deletes c.of-words.ensures)
 
 pub returns-else-take_delete : goal.returns-else-take_delete
 returns-else-take_delete c =
-    deletes_no c.of.result (sym c.take_delete.ensures.found ∙ c.if-take_delete.false) ∙ ap deletes c.of.ensures
+    deletes_no c.of-words.result (sym c.take_delete.ensures.found ∙ c.if-take_delete.false) ∙ ap deletes c.of-words.ensures
