@@ -1,11 +1,13 @@
 -- Words, lines and steps of bytes.
-use Rattle.std.proofs.Common.{◌≡◌, ℕ, ◌+◌, ◌*◌, ◌%◌, ◌^◌, ◌<◌, ◌≤◌, suc, Bool, true, false, not, List, [], ◌∷◌, length, take, drop, map, nat_lt, position, Option, Some, None, option_map, refl, sym, ap, ◌∙◌, arith, ◌==◌}
+use Rattle.std.proofs.Common.{◌≡◌, ℕ, ◌+◌, ◌*◌, ◌%◌, ◌^◌, ◌<◌, ◌≤◌, zero, suc, Bool, true, false, not, List, [], ◌∷◌, length, take, drop, map, nat_lt, position, Option, Some, None, option_map, refl, sym, ap, ◌∙◌, arith, ◌==◌}
 use Rattle.std.proofs.lemmas.Bool.{ne_eqb}
 use Rattle.std.specs.List.{position_or_len, enumerate_from}
+use Rattle.std.proofs.lemmas.Slice.Eq.{bytes_eq-Decides}
+use Rattle.std.specs.Str.{bytes_eq}
 use Rattle.serializability.specs.declared.literal.Literal.{Literal}
 use Rattle.proof_text.specs.Words.{onto_first}
-use Rattle.proof_text.specs.Numbers.{first_number, before_zero, with_front, whole, if_whole, if_read, literal_of}
-use Rattle.proof_text.specs.Binary.{binary_words, sevens, signed, binary_number, binary_numbers, is_zero, onto_line, binary_lines, up_to_zero, behind_line, binary_action, clause_with, binary_step}
+use Rattle.proof_text.specs.Numbers.{first_number, before_zero, with_front, whole, if_whole, if_read, if_true, literal_of}
+use Rattle.proof_text.specs.Binary.{action_of_word, binary_words, sevens, signed, binary_number, binary_numbers, is_zero, onto_line, binary_lines, up_to_zero, behind_line, binary_action, clause_with, binary_step}
 use Rattle.proof_text.specs.Steps.{DratStep, drat_clause, drat_with, clause_of, steps_by}
 use Rattle.proof_text.specs.declared.number.Number.{Number}
 use Rattle.proof_text.specs.declared.drat.DratAction.{DratAction}
@@ -176,7 +178,7 @@ front_same : {A : Type 0} (o : Option A) (m k : Option (List A × List (Option N
 front_same None m k e = refl
 front_same (Some x) None None e = refl
 front_same (Some x) None (Some k) e = cc
-front_same (Some x) (Some m) k e = go m.0 m.1 k e
+front_same {A = A} (Some x) (Some m) k e = go m.0 m.1 k e
   where
     go : (ls : List A) (ms : List (Option Number)) (k : Option (List A × List (Option Number))) → if_whole ls ms ≡ items k → if_whole (x ∷ ls) ms ≡ items (with_front (Some x) k)
     go ls [] None e = cc
@@ -199,9 +201,91 @@ whole_line f (w ∷ ws) = go (binary_number w) refl (whole_line f ws)
 
 -- behind a word that is taken
 pub behind_at_zero : (old new : List (List ℕ)) (n : Number) → Some n ≡ first_number (binary_numbers old) → new ≡ drop 1 old → n.size ≡ 0 → behind_line old ≡ new
-behind_at_zero [] new n e is zero = cc
-behind_at_zero (w ∷ ws) new n e is zero = behind_zero_is w ws (ap is_zero (sym e) ∙ ap (λ k. k == 0) zero) ∙ sym is
+behind_at_zero [] new n e is none = cc
+behind_at_zero (w ∷ ws) new n e is none = behind_zero_is w ws (ap is_zero (sym e) ∙ ap (λ k. k == 0) none) ∙ sym is
 
 pub behind_at_more : (old new : List (List ℕ)) (n : Number) → Some n ≡ first_number (binary_numbers old) → new ≡ drop 1 old → (n.size ≡ 0 → ⊥) → behind_line old ≡ behind_line new
 behind_at_more [] new n e is ne = cc
 behind_at_more (w ∷ ws) new n e is ne = behind_more_is w ws (ap is_zero (sym e) ∙ ne_eqb n.size 0 ne) ∙ ap behind_line (sym is)
+
+-- the first word of the first line is that of all
+first_action : (ws : List (List ℕ)) → binary_action (up_to_zero ws) ≡ binary_action ws
+first_action [] = ap binary_action up_nil
+first_action (w ∷ ws) = go (is_zero (binary_number w)) refl
+  where
+    go : (t : Bool) → is_zero (binary_number w) ≡ t → binary_action (up_to_zero (w ∷ ws)) ≡ binary_action (w ∷ ws)
+    go true e = ap binary_action (up_zero w ws e)
+    go false e = ap binary_action (up_more w ws e)
+
+pub step_none : (v : ℕ) (ws : List (List ℕ)) → None ≡ binary_action ws → binary_step v (up_to_zero ws) ≡ None
+unfolding binary_step clause_with
+step_none v ws none = ap (clause_with v (binary_numbers (drop 1 (up_to_zero ws)))) (first_action ws ∙ sym none)
+
+letter_a : is_zero (binary_number (97 ∷ [])) ≡ false
+unfolding binary_number sevens signed
+letter_a = refl
+
+letter_d : is_zero (binary_number (100 ∷ [])) ≡ false
+unfolding binary_number sevens signed
+letter_d = refl
+
+-- neither `a` nor `d` is a 0
+action_word : (w : List ℕ) (action : DratAction) → Some action ≡ action_of_word w → is_zero (binary_number w) ≡ false
+action_word w action e = go (bytes_eq w (97 ∷ [])) (bytes_eq w (100 ∷ [])) refl refl
+  where
+    go : (t s : Bool) → bytes_eq w (97 ∷ []) ≡ t → bytes_eq w (100 ∷ []) ≡ s → is_zero (binary_number w) ≡ false
+    go true s a d = ap (λ u. is_zero (binary_number u)) ((bytes_eq-Decides w (97 ∷ [])).0 a) ∙ letter_a
+    go false true a d = ap (λ u. is_zero (binary_number u)) ((bytes_eq-Decides w (100 ∷ [])).0 d) ∙ letter_d
+    go false false a d = let no = rw (a, d) at e in cc
+
+items_read : {A B : Type 0} (m : Option (List A × List B)) (read : Bool) (xs : List A) (ys : List B) → m ≡ if_read read xs ys → items m ≡ if_true read xs
+items_read m true xs ys e = ap items e
+items_read m false xs ys e = ap items e
+
+with_clause : (v : ℕ) (ns : List (Option Number)) (action : DratAction) → clause_with v ns (Some action) ≡ option_map (drat_clause action) (whole (before_zero (literal_of v) ns))
+unfolding clause_with clause_of
+with_clause v ns action = refl
+
+binary_step_is : (v : ℕ) (w : List ℕ) (ws : List (List ℕ)) → binary_step v (w ∷ ws) ≡ clause_with v (binary_numbers ws) (action_of_word w)
+unfolding binary_step
+binary_step_is v w ws = refl
+
+pub step_read : (v : ℕ) (ws mid : List (List ℕ)) (action : DratAction) (read : Bool) (literals : List Literal) (left : List (Option Number)) → Some action ≡ binary_action ws → mid ≡ drop 1 ws → before_zero (literal_of v) (binary_numbers mid) ≡ if_read read literals left → binary_step v (up_to_zero ws) ≡ option_map (drat_clause action) (if_true read literals)
+step_read v [] mid action read literals left a is e = cc
+step_read v (w ∷ ws) mid action read literals left a is e =
+    let found : whole (before_zero (literal_of v) (binary_numbers (up_to_zero ws))) ≡ if_true read literals =
+        whole_line (literal_of v) ws ∙ items_read (before_zero (literal_of v) (binary_numbers ws)) read literals left (ap (λ us. before_zero (literal_of v) (binary_numbers us)) (sym is) ∙ e) in
+    ap (binary_step v) (up_more w ws (action_word w action a)) ∙ (binary_step_is v w (up_to_zero ws) ∙ (ap (clause_with v (binary_numbers (up_to_zero ws))) (sym a) ∙ (with_clause v (binary_numbers (up_to_zero ws)) action ∙ ap (option_map (drat_clause action)) found)))
+
+pub behind_read : (ws mid : List (List ℕ)) (action : DratAction) → Some action ≡ binary_action ws → mid ≡ drop 1 ws → behind_line mid ≡ behind_line ws
+behind_read [] mid action a is = cc
+behind_read (w ∷ ws) mid action a is = ap behind_line is ∙ sym (behind_more_is w ws (action_word w action a))
+
+some_words : (bs : List ℕ) → 0 < length bs → 0 < length (binary_words bs)
+some_words [] h = absurd (omega arith)
+some_words (b ∷ bs) h = go (nat_lt b 128) refl
+  where
+    onto : (ws : List (List ℕ)) → 0 < length (onto_first b ws)
+    onto [] = omega arith
+    onto (w ∷ ws) = omega arith
+
+    go : (t : Bool) → nat_lt b 128 ≡ t → 0 < length (binary_words (b ∷ bs))
+    go true e = rw (words_end b bs e) (omega arith)
+    go false e = rw (words_more b bs e) (onto (binary_words bs))
+
+-- the numbered steps of bytes, the first line of which has this number
+abbrev pub steps_at : ℕ → ℕ → List (List ℕ) → List (ℕ × Option DratStep)
+steps_at v n ws = steps_by (binary_step v) (enumerate_from n (binary_lines ws))
+
+pub steps_none : (v n : ℕ) (bytes : List ℕ) → length bytes ≡ 0 → steps_at v n (binary_words bytes) ≡ []
+steps_none v n bytes e = ap (steps_at v n) (binary_nil bytes e) ∙ ap (λ ls. steps_by (binary_step v) (enumerate_from n ls)) lines_nil
+
+pub steps_first : (v n : ℕ) (bytes : List ℕ) (words : List (List ℕ)) (step : Option DratStep) → 0 < length bytes → words ≡ binary_words bytes → binary_step v (up_to_zero words) ≡ step → steps_at v n (binary_words bytes) ≡ (n, step) ∷ steps_at v (n + 1) (behind_line words)
+steps_first v n bytes words step some is e =
+    let many : 0 < length words = omega (arith, some_words bytes some, ap length is) in
+    ap (steps_at v n) (sym is) ∙ (ap (λ ls. steps_by (binary_step v) (enumerate_from n ls)) (lines_cut words many) ∙ ap (λ o. (n, o) ∷ steps_at v (n + 1) (behind_line words)) e)
+
+pub behind_within : (bytes : List ℕ) (words new : List (List ℕ)) (n limit : ℕ) → 0 < length bytes → words ≡ binary_words bytes → new ≡ behind_line words → n + length (binary_words bytes) ≤ limit → n + 1 + length new ≤ limit
+behind_within bytes words new n limit some is left h =
+    let many : 0 < length words = omega (arith, some_words bytes some, ap length is) in
+    omega (arith, behind_fewer words many, ap length is, ap length left)

@@ -1,6 +1,7 @@
 //! DRAT in its binary form: words of bytes, in lines that end behind a 0.
 
-ghost use Rattle.std.specs.Prelude.{◌≡◌, ◌<◌, ◌≤◌, [], ◌∷◌, length, drop, position, nat_lt, MatchOption, IfOk, OnTrue, OnSome};
+ghost use Rattle.std.specs.Prelude.{◌≡◌, ◌<◌, ◌≤◌, [], ◌∷◌, length, drop, position, nat_lt, MatchOption, IfOk, OnSome};
+ghost use Rattle.std.specs.Bool.{OnTrue};
 ghost use Rattle.std.specs.List.{list_any};
 ghost use Rattle.std.specs.Str.{bytes_eq};
 ghost use Rattle.proof_text.specs.Binary.{binary_words, binary_number, binary_numbers, is_binary, sevens, signed, up_to_zero, behind_line, action_of_word, binary_action, binary_step, binary_lines_of};
