@@ -255,8 +255,8 @@ impl<'a> BinaryLines<'a> {
     ) -> Result<Option<(usize, DratAction)>, StepFault>
         ensures { IsRead (steps_by (binary_step variables) self.old) (steps_by (binary_step variables) self.new)
             (λ action. record {
-                action = action;
-                literals = literals.new.items;
+              action = action;
+              literals = literals.new.items;
             }) result }
     {
         if self.rest.is_empty() {

@@ -73,8 +73,8 @@ impl<'a> DratSteps<'a> {
         literals: &mut Vec<Literal>,
     ) -> Result<Option<(usize, DratAction)>, StepFault>
         ensures { IsRead self.old self.new (λ action. record {
-            action = action;
-            literals = literals.new.items;
+          action = action;
+          literals = literals.new.items;
         }) result }
     {
         match &mut self.source {
@@ -92,8 +92,8 @@ fn read_line(
 ) -> Result<Option<(usize, DratAction)>, StepFault>
     ensures { IsRead (steps_by (drat_step variables) lines.old) (steps_by (drat_step variables) lines.new)
         (λ action. record {
-            action = action;
-            literals = literals.new.items;
+          action = action;
+          literals = literals.new.items;
         }) result }
 {
     match lines.next_line() {

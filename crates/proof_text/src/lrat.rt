@@ -60,9 +60,9 @@ impl<'a> LratSteps<'a> {
         ids: &mut Vec<Option<u64>>,
     ) -> Result<Option<(usize, LratAction)>, StepFault>
         ensures { IsRead self.old self.new (λ action. record {
-            action = action;
-            literals = literals.new.items;
-            ids = ids.new.items;
+          action = action;
+          literals = literals.new.items;
+          ids = ids.new.items;
         }) result }
     {
         match self.text.next_line() {

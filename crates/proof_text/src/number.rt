@@ -10,9 +10,9 @@ use serializability::Literal;
 
 /// A number as it is written, without its sign.
 #[derive(Clone, Copy, PartialEq, Eq)]
-pub struct Number {
-    pub size: u64,
-    pub negative: bool,
+pub(crate) struct Number {
+    pub(crate) size: u64,
+    pub(crate) negative: bool,
 }
 
 /// The most digits that a number may have.
