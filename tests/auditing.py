@@ -22,7 +22,7 @@ TITLES = {'A1 unknown read', 'A2 aborted read', 'A3 intermediate read', 'A4 own 
           'A8 cycle of known edges', 'A9 pruning ends in a cycle', 'every cube is refuted'}
 STATUS = {'serializable': 0, 'not serializable': 1, 'unknown': 3, 'refused': 2}
 RANGE = re.compile(r'(\d+)\.(\d+)(?: to (\d+)\.(\d+))? \(lines (\d+) to (\d+)\)')
-LATE = 120
+LATE = 600
 
 
 def call(program, *words, text=b''):

@@ -12,7 +12,7 @@ HERE = os.path.dirname(os.path.abspath(__file__))
 sys.path.insert(0, HERE)
 import answers, explained, generate
 
-BYTES, MEMORY, LATE = 16 * 1024 * 1024, 128 * 1024, 120
+BYTES, MEMORY, LATE = 16 * 1024 * 1024, 128 * 1024, 600
 LOG = b'session 1\nbegin\nw x 1\ncommit\nsession 2\nbegin\nw x 2\ncommit\nsession 3\nbegin\nr x 1\ncommit\n'
 # Logs with the same formulas and the same orders.
 LOGS = {1: LOG, 2: b'log 2\n' + LOG.replace(b'commit', b'unknown', 1),
