@@ -4,6 +4,7 @@ pub mod Answers
 pub mod Chosen
 pub mod Marking
 pub mod Ledgers
+pub mod Shortcuts
 pub mod ChainSides
 pub mod Telling
 pub mod Leading

@@ -4,8 +4,8 @@ ghost use Rattle.std.specs.Prelude.{◌≡◌, IfOk};
 ghost use Rattle.serializability.specs.Reads.{IsClean};
 ghost use Rattle.log_definitions.specs.Numbers.{log_of};
 ghost use Rattle.forced_steps.specs.Steps.{IsDeadTold};
-ghost use Rattle.forced_steps.specs.Lines.{AreGrounds};
-ghost use Rattle.forced_steps.specs.Ledgers.{IsDeadLedger, AreEntries, IsClosed, kept_by};
+ghost use Rattle.forced_steps.specs.Lines.{AreGrounds, AreAnswers, IsBasis};
+ghost use Rattle.forced_steps.specs.Ledgers.{IsDeadLedger, AreEntries, AreSteps, IsClosed, kept_by};
 
 use crate::firsts::grounds_of;
 use crate::ground::{Basis, Grounds, no_answers};
@@ -13,8 +13,10 @@ use crate::item::Item;
 use crate::lines::put_edges;
 use crate::marks::needed_entries;
 use crate::orders::{choice_orders, kept_orders};
+use crate::shorter::shortened;
 use crate::steps::told_steps;
 use prune_ledger::{Ledger, LedgerEntry};
+use reasons::Reason;
 use serializability::NodeIx;
 use session_history::History;
 use std::alloc::{AllocError, Global};
@@ -38,7 +40,30 @@ pub fn grounds_in(
     grounds_of(alloc, chains, kept)
 }
 
-/// The steps that this cycle over what the entries of a ledger keep needs, and the cycle.
+/// The steps that this cycle needs, which tell entries of a ledger, and the cycle.
+fn tell_steps(
+    basis: &Basis<'_>,
+    answers: &mut [Option<Option<Reason>>],
+    entries: &[LedgerEntry],
+    cycle: &[NodeIx],
+) -> Result<Vec<Item>, AllocError>
+    requires basis { IsBasis basis.now }
+    requires answers { AreAnswers basis.now.history.now answers.old }
+    requires steps { AreSteps basis.now.history.now basis.now.grounds.now.kept.items entries.now }
+    requires closed { IsClosed basis.now.history.now basis.now.grounds.now.kept.items cycle.now }
+    ensures told { IfOk result (λ items. IsDeadTold basis.now.history.now items.items) }
+{
+    let marks = needed_entries(basis, answers, entries, &[cycle])?;
+    let told = told_steps(basis, answers, &marks, entries)?;
+    let mut items = told.items;
+    let start = cycle[0];
+    let edges = cycle.len() - 1;
+    items.extend_from_slice(&[Item::Cycle { start, edges }])?;
+    put_edges(&mut items, basis, answers, &told.numbers, cycle)?;
+    Ok(items)
+}
+
+/// The steps that this cycle over what the entries of a ledger keep needs, with shorter walks, and the cycle.
 fn tell_with(
     alloc: Global,
     history: &History,
@@ -60,14 +85,8 @@ fn tell_with(
         history,
         grounds: &grounds,
     };
-    let marks = needed_entries(&basis, answers, entries, &[cycle])?;
-    let told = told_steps(&basis, answers, &marks, entries)?;
-    let mut items = told.items;
-    let start = cycle[0];
-    let edges = cycle.len() - 1;
-    items.extend_from_slice(&[Item::Cycle { start, edges }])?;
-    put_edges(&mut items, &basis, answers, &told.numbers, cycle)?;
-    Ok(items)
+    let shorter = shortened(&basis, answers, entries, &[cycle])?;
+    tell_steps(&basis, answers, &shorter, cycle)
 }
 
 /// A dead ledger, told as forced steps, and the cycle that they end in: only the steps that the cycle needs, numbered from 1, each of

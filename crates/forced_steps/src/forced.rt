@@ -14,6 +14,7 @@ use crate::firsts::grounds_of;
 use crate::ground::{Basis, Grounds, answer, entry_with, no_answers};
 use crate::item::Item;
 use crate::marks::needed_entries;
+use crate::shorter::shortened;
 use crate::steps::told_steps;
 use explanations::{ChainOrder, Why};
 use prune_ledger::LedgerEntry;
@@ -72,8 +73,10 @@ pub fn steps_of<'a>(
         history,
         grounds: &grounds,
     };
-    let marks = needed_entries(&basis, answers, entries, lines)?;
-    let told = told_steps(&basis, answers, &marks, entries)?;
+    let shorter = shortened(&basis, answers, entries, lines)?;
+    let walks = shorter.as_slice();
+    let marks = needed_entries(&basis, answers, walks, lines)?;
+    let told = told_steps(&basis, answers, &marks, walks)?;
     let firsts = grounds_of(alloc, chains, told.orders)?;
     Ok(Steps {
         history,

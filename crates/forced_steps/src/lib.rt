@@ -12,6 +12,7 @@ mod item;
 mod lines;
 mod marks;
 mod orders;
+mod shorter;
 mod steps;
 
 pub use dead::tell_dead;

@@ -1,0 +1,15 @@
+use Rattle.std.proofs.Common.{◌<◌, length}
+use Rattle.std.specs.Prelude.{reverse}
+use Rattle.forced_steps.specs.Lines.{AreAnswers}
+use Rattle.forced_steps.specs.Shorter.{IsShort}
+use Rattle.forced_steps.proofs.shorter.shorter_line.Given as goal
+
+abbrev pub invariant-loop-at : goal.invariant-loop-at
+invariant-loop-at l = record {
+  answers : AreAnswers l.basis.history.now l.answers;
+  within : l.at < length l.line;
+  short : IsShort l.basis.history.now l.line l.at (reverse l.back.items);
+}
+
+abbrev pub decreases-loop-at : goal.decreases-loop-at
+decreases-loop-at l = l.at
