@@ -96,10 +96,13 @@ short_ends ss line made h first last inner shape = go h.behind h.is h.last h.mor
   where
     size : length line ≡ length inner + 2
     size = ap length shape ∙ (let e = length-append inner (last ∷ []) in omega (arith, e))
+
     begins : get_or line 0 0 ≡ first
     begins = ap (λ l. get_or l 0 0) shape
+
     ends : get_or line (length line - 1) 0 ≡ last
     ends = ap (λ l. get_or l (length line - 1) 0) shape ∙ end_of first last inner (length line - 1) (omega (arith, size))
+
     go : (behind : List ℕ) → made ≡ get_or line 0 0 ∷ behind → last_of (get_or line 0 0) behind ≡ get_or line (length line - 1) 0 → (behind ≡ [] → 0 + 1 ≡ length line) → HasEnds first last made
     go [] is end more = let one = more refl in absurd (omega (arith, one, size))
     go (w ∷ rest) is end more =
@@ -164,6 +167,7 @@ front_more ss kept count made new x added step h = record {
   where
     many : length (posts_in made) ≡ count
     many = length-map made (λ (e : LedgerEntry). e.post) ∙ h.long
+
     go : (k : ℕ) (q : Posted) → (slice_get (posts_in made) k ≡ Some q) ⊎ ((k ≡ length (posts_in made)) × (x.post ≡ q)) → IsStep ss kept k q
     go k q c = elim c [
       | inl a ↦ h.each k q a

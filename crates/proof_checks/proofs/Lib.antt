@@ -1,0 +1,6 @@
+pub mod Checks
+pub mod Once
+pub mod Passed
+pub mod Places
+pub mod Rounds
+pub mod Taken
