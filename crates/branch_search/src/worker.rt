@@ -1,8 +1,10 @@
 //! What one thread does.
 
-ghost use Rattle.std.specs.Prelude.{◌≡◌, IfOk};
+ghost use Rattle.std.specs.Prelude.{◌≡◌, ◌<◌, Some, IfOk, IfSome, IsTrue, length};
 ghost use Rattle.std.specs.List.{All};
 ghost use Rattle.branching.specs.View.{opened};
+ghost use Rattle.branch_search.specs.declared.worker.Request.TheVariants.{Any};
+ghost use Rattle.branch_search.specs.Requests.{event_for, split_in, first_child, IsByStrategy, IsViewFor};
 
 use crate::retrace::{Step, Trail, go_down, retrace};
 use branching::laws::turn;
@@ -131,6 +133,8 @@ fn take_turn<'a, 'v, S: Strategy, J: Naming, R: Wait>(
     ensures number { seat.new.0 ≡ seat.old.0 }
     ensures polygraph { place.new.view.polygraph ≡ place.old.view.polygraph }
     ensures kept { IfOk result (λ _. All (λ k. k.view.polygraph ≡ place.new.view.polygraph) place.new.trail.kept.items) }
+    ensures next { IfOk result (λ next. IfSome next (IsByStrategy
+        (S.picks task.now.strategy.now place.new.view) (S.first_of task.now.strategy.now place.new.view))) }
 {
     let reply = send(rt, desk, seat, event_of(&request))?;
     match reply {
@@ -148,7 +152,9 @@ fn take_turn<'a, 'v, S: Strategy, J: Naming, R: Wait>(
     }
 }
 
-fn event_of(request: &Request) -> Event {
+fn event_of(request: &Request) -> Event
+    ensures event { result ≡ event_for request.now }
+{
     match request {
         Request::Any => Event::TakeAny,
         Request::Own(child) => Event::Claim(child.node),
@@ -167,6 +173,8 @@ fn see<'v>(
     requires kept { All (λ k. k.view.polygraph ≡ view.old.polygraph) trail.old.kept.items }
     ensures kept { IfOk result (λ _. All (λ k. k.view.polygraph ≡ view.new.polygraph) trail.new.kept.items) }
     ensures polygraph { view.new.polygraph ≡ view.old.polygraph }
+    ensures view { IfOk result (λ seen. IsTrue seen →
+        IsViewFor request.now trail.old.kept.items view.old node view.new) }
 {
     match request {
         Request::Any => retrace(alloc, trail, view, row, node),
@@ -185,6 +193,8 @@ fn settle<'a, S: Strategy, J: Naming, R: Wait>(
 ) -> Result<Option<Request>, AllocError>
     requires polygraph { view.now.polygraph ≡ task.now.reduced.now.poly }
     ensures number { seat.new.0 ≡ seat.old.0 }
+    ensures next { IfOk result (λ next. IfSome next (IsByStrategy
+        (S.picks task.now.strategy.now view.now) (S.first_of task.now.strategy.now view.now))) }
 {
     let event = turn(alloc, task.reduced, view, task.strategy)?;
     let choice = split_by(&event);
@@ -198,7 +208,9 @@ fn settle<'a, S: Strategy, J: Naming, R: Wait>(
 }
 
 // The choice by which an event splits a cube.
-fn split_by(event: &Event) -> Option<ChoiceIx> {
+fn split_by(event: &Event) -> Option<ChoiceIx>
+    ensures choice { result ≡ split_in event.now }
+{
     match event {
         Event::Split(choice) => Some(*choice),
         _ => None,
@@ -212,13 +224,13 @@ fn first_child<S: Strategy>(
     choice: Option<ChoiceIx>,
     one: usize,
     two: usize,
-) -> Request {
+) -> Request
+    requires choice { IfSome choice (λ c. c < length view.now.sides) }
+    ensures child { result ≡ first_child (S.first_of strategy.now view.now) choice one two }
+{
     let Some(choice) = choice else {
         return Request::Any;
     };
-    if choice.get() >= view.count() {
-        return Request::Any;
-    }
     let side = strategy.first_side(view, choice);
     let node = match side {
         Side::One => one,
@@ -234,6 +246,7 @@ fn give_back<'a, J: Naming, R: Wait>(
     seat: &mut Seat<CubeMachine<'a>, J>,
 ) -> Result<Option<Request>, AllocError>
     ensures number { seat.new.0 ≡ seat.old.0 }
+    ensures any { IfOk result (λ next. next ≡ Some Any) }
 {
     send(rt, desk, seat, Event::Release)?;
     Ok(Some(Request::Any))
