@@ -1,5 +1,5 @@
 #!/usr/bin/env python3
-"""refused_memory.py PROGRAM GRAPHS [--all] [--version-1]: each allocation of each command is refused in turn.
+"""refused_memory.py PROGRAM GRAPHS [--version-1]: each allocation of each command is refused in turn.
 
 The program runs with the Nth request for memory refused, for N = 1, 2, .. until it makes fewer. Each such run must either
 say `out of memory` with status 4 and write nothing, or do what it does with ample memory. Where two workers search a log of which
@@ -7,8 +7,8 @@ each cube is refuted, a refusal to one of them must at least once leave the answ
 explanation may then be another one, that tests/explained.py finds right. Needs a C compiler, for a small library that stands before the
 allocator of the C library.
 
-Of `pieces --into` what a refused run leaves must be the first of the files that it writes with ample memory, each of them whole. UNSETTLED is
-said today and ought not to be: with --all it fails.
+Of `pieces --into` what a refused run leaves must be the first of the files that it writes with ample memory, each of them whole. The object
+of a log that is refused goes out first: it stands where memory for the line on standard error is refused.
 
 Once the first piece of a formula went out, a run in which every further request is refused must write the same text, and make none.
 
@@ -59,9 +59,6 @@ MOST = 2000
 # `check` may print either of the two serial orders of LOG where several workers search.
 BOTH = [(0, b'serializable\n' + order, b'') for order in (b'1 1\n3 1\n2 1\n', b'2 1\n1 1\n3 1\n')]
 NO_MEMORY = (4, b'', b'out of memory\n')
-# What `audit --format json` writes where memory is refused while the log is read: that the log is refused. Where it is refused while the
-# refusal is told on standard error, the log's own object stands.
-UNSETTLED = b'{"verdict":"refused","code":"L8","line":null,"words":"out of memory"}\n'
 
 
 def c_compiler():
@@ -78,10 +75,10 @@ def is_right(words, wanted, got):
     return got == wanted or words[0] == 'check' and got in BOTH
 
 
-def is_unsettled(words, wanted, got):
-    """Whether an object stands beside `out of memory`."""
-    objects = [UNSETTLED] + [wanted[1]] * (wanted[0] == 2)
-    return 'json' in words and (got[0], got[2]) == NO_MEMORY[::2] and got[1] in objects and '--all' not in sys.argv
+def ends_without_memory(words, wanted, got):
+    """Whether this says that memory was refused, and nothing else but the object of a log that is refused."""
+    objects = [wanted[1]] if 'json' in words and wanted[0] == 2 else []
+    return got[::2] == NO_MEMORY[::2] and got[1] in [b'', *objects]
 
 
 def main():
@@ -90,7 +87,7 @@ def main():
     if not compiler:
         print('refused memory: cannot be tried, there is no C compiler here')
         return
-    passed, failed, unsettled = 0, 0, 0
+    passed, failed = 0, 0
     with tempfile.TemporaryDirectory() as folder:
         paths = {name: os.path.join(folder, name) for name in ('log', 'answer', 'plain_answer', 'order', 'drat', 'lrat', 'shim.c', 'shim.so', 'told')}
         for name, data in (('log', LOG), ('answer', ANSWER), ('plain_answer', PLAIN_ANSWER), ('order', ORDER), ('shim.c', SHIM.encode())):
@@ -145,10 +142,8 @@ def main():
                     left_to_another += refused
                     if n > refusals + 50:
                         break
-                elif got == NO_MEMORY and list(files.items()) == list(whole.items())[:len(files)]:
+                elif ends_without_memory(words, wanted, got) and list(files.items()) == list(whole.items())[:len(files)]:
                     passed, refusals = passed + 1, n
-                elif is_unsettled(words, wanted, got):
-                    unsettled, refusals = unsettled + 1, n
                 else:
                     failed += 1
                     print('FAILED %s with request %d refused: %r' % (words[0], n, got))
@@ -190,8 +185,6 @@ def main():
                 else:
                     failed += 1
                     print('FAILED graphs %s with request %d refused: %r' % (words[0], n, (ran.returncode, got)))
-    if unsettled:
-        print('refused memory: %d answers are not settled, and fail with --all' % unsettled)
     print('refused memory: %d passed, %d failed' % (passed, failed))
     sys.exit(1 if failed else 0)
 

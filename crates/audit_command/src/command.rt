@@ -116,6 +116,7 @@ pub fn audit<R: Threads + Wait + Clock + Eprint + Sync, W: Sink, P: Progress>(
             let reply = reply_of(rt, alloc, log, version, sessions, options, progress)?;
             tell(sink, &reply)
         }
+        Err(LogFault::Memory) => Err(Fault::Memory),
         Err(fault) => Err(refused(alloc, log, fault, options, sink)),
     }
 }
