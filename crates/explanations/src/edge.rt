@@ -12,8 +12,8 @@ ghost use Rattle.explanations.specs.Edges.{why_text};
 ghost use Rattle.explanations.specs.Versions.{versions_text};
 
 use crate::pieces::{
-    op_count, put_in_line, put_key_and_wid, put_named, put_number, put_op_in_line,
-    put_reads, put_wid, wid_at,
+    op_count, put_in_line, put_key_and_wid, put_named, put_number, put_op_in_line, put_reads,
+    put_wid, wid_at,
 };
 use crate::versions::put_versions;
 use crate::why::{ChainOrder, Why};

@@ -15,7 +15,7 @@ use Rattle.prune_ledger.specs.Pruned.{posts_in}
 use Rattle.prune_ledger.specs.declared.ledger.LedgerEntry.{LedgerEntry}
 use Rattle.forced_steps.specs.Steps.{turned, edges_in}
 use Rattle.forced_steps.specs.Lines.{sides_of, IsBetween, IsLineOfNodes, Rests, LineRests}
-use Rattle.forced_steps.specs.Ledgers.{IsStep, AreSteps}
+use Rattle.forced_steps.specs.Ledgers.{IsStep, AreSteps, IsClosed}
 use Rattle.forced_steps.specs.Shorter.{Leads, HasEnds, KeepsEnds, KeepsPost, last_of, IsShort}
 use Rattle.forced_steps.proofs.Ledgers.{line_one, line_cons}
 
@@ -96,10 +96,13 @@ short_ends ss line made h first last inner shape = go h.behind h.is h.last h.mor
   where
     size : length line ≡ length inner + 2
     size = ap length shape ∙ (let e = length-append inner (last ∷ []) in omega (arith, e))
+
     begins : get_or line 0 0 ≡ first
     begins = ap (λ l. get_or l 0 0) shape
+
     ends : get_or line (length line - 1) 0 ≡ last
     ends = ap (λ l. get_or l (length line - 1) 0) shape ∙ end_of first last inner (length line - 1) (omega (arith, size))
+
     go : (behind : List ℕ) → made ≡ get_or line 0 0 ∷ behind → last_of (get_or line 0 0) behind ≡ get_or line (length line - 1) 0 → (behind ≡ [] → 0 + 1 ≡ length line) → HasEnds first last made
     go [] is end more = let one = more refl in absurd (omega (arith, one, size))
     go (w ∷ rest) is end more =
@@ -115,6 +118,15 @@ same_keeps ss line made e = record {
   rests = λ sides bound r. subst (LineRests ss sides bound) (sym e) r;
   ends = λ first last inner shape. record { inner = inner; is = e ∙ shape };
 }
+
+-- ---- a cycle
+pub closed_nodes : (ss : List ClientSession) (kept : List ChainOrder) (line : List ℕ) → IsClosed ss kept line → IsLineOfNodes ss line
+closed_nodes ss kept line c = record { some = c.rests.some; nodes = c.rests.nodes }
+
+pub closed_kept : (ss : List ClientSession) (kept : List ChainOrder) (line made : List ℕ) → KeepsEnds ss line made → IsClosed ss kept line → IsClosed ss kept made
+closed_kept ss kept line made h c =
+    let e = h.ends c.start c.start c.inner c.shape in
+    record { start = c.start; inner = e.inner; shape = e.is; rests = h.rests (sides_of ss kept) (length kept) c.rests }
 
 -- ---- entries
 pub walk_nodes : (ss : List ClientSession) (kept : List ChainOrder) (k : ℕ) (q : Posted) → IsStep ss kept k q → IsLineOfNodes ss q.walk
@@ -164,6 +176,7 @@ front_more ss kept count made new x added step h = record {
   where
     many : length (posts_in made) ≡ count
     many = length-map made (λ (e : LedgerEntry). e.post) ∙ h.long
+
     go : (k : ℕ) (q : Posted) → (slice_get (posts_in made) k ≡ Some q) ⊎ ((k ≡ length (posts_in made)) × (x.post ≡ q)) → IsStep ss kept k q
     go k q c = elim c [
       | inl a ↦ h.each k q a
