@@ -15,7 +15,7 @@ use Rattle.prune_ledger.specs.Pruned.{posts_in}
 use Rattle.prune_ledger.specs.declared.ledger.LedgerEntry.{LedgerEntry}
 use Rattle.forced_steps.specs.Steps.{turned, edges_in}
 use Rattle.forced_steps.specs.Lines.{sides_of, IsBetween, IsLineOfNodes, Rests, LineRests}
-use Rattle.forced_steps.specs.Ledgers.{IsStep, AreSteps}
+use Rattle.forced_steps.specs.Ledgers.{IsStep, AreSteps, IsClosed}
 use Rattle.forced_steps.specs.Shorter.{Leads, HasEnds, KeepsEnds, KeepsPost, last_of, IsShort}
 use Rattle.forced_steps.proofs.Ledgers.{line_one, line_cons}
 
@@ -118,6 +118,15 @@ same_keeps ss line made e = record {
   rests = λ sides bound r. subst (LineRests ss sides bound) (sym e) r;
   ends = λ first last inner shape. record { inner = inner; is = e ∙ shape };
 }
+
+-- ---- a cycle
+pub closed_nodes : (ss : List ClientSession) (kept : List ChainOrder) (line : List ℕ) → IsClosed ss kept line → IsLineOfNodes ss line
+closed_nodes ss kept line c = record { some = c.rests.some; nodes = c.rests.nodes }
+
+pub closed_kept : (ss : List ClientSession) (kept : List ChainOrder) (line made : List ℕ) → KeepsEnds ss line made → IsClosed ss kept line → IsClosed ss kept made
+closed_kept ss kept line made h c =
+    let e = h.ends c.start c.start c.inner c.shape in
+    record { start = c.start; inner = e.inner; shape = e.is; rests = h.rests (sides_of ss kept) (length kept) c.rests }
 
 -- ---- entries
 pub walk_nodes : (ss : List ClientSession) (kept : List ChainOrder) (k : ℕ) (q : Posted) → IsStep ss kept k q → IsLineOfNodes ss q.walk

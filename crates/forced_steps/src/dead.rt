@@ -13,7 +13,7 @@ use crate::item::Item;
 use crate::lines::put_edges;
 use crate::marks::needed_entries;
 use crate::orders::{choice_orders, kept_orders};
-use crate::shorter::shortened;
+use crate::shorter::{shortened, shorter_line};
 use crate::steps::told_steps;
 use prune_ledger::{Ledger, LedgerEntry};
 use reasons::Reason;
@@ -63,7 +63,7 @@ fn tell_steps(
     Ok(items)
 }
 
-/// The steps that this cycle over what the entries of a ledger keep needs, with shorter walks, and the cycle.
+/// The steps that this cycle over what the entries of a ledger keep needs, and the cycle, where the log shows a shortcut with that.
 fn tell_with(
     alloc: Global,
     history: &History,
@@ -85,8 +85,10 @@ fn tell_with(
         history,
         grounds: &grounds,
     };
-    let shorter = shortened(&basis, answers, entries, &[cycle])?;
-    tell_steps(&basis, answers, &shorter, cycle)
+    let round = shorter_line(&basis, answers, cycle)?;
+    let line = round.as_slice();
+    let shorter = shortened(&basis, answers, entries, &[line])?;
+    tell_steps(&basis, answers, &shorter, line)
 }
 
 /// A dead ledger, told as forced steps, and the cycle that they end in: only the steps that the cycle needs, numbered from 1, each of

@@ -62,7 +62,7 @@ fn earliest(
 
 /// A line from the same node to the same one, of some of its nodes: from the last one on, each is reached from the first that the log
 /// shows to stand before it.
-fn shorter_line(
+pub fn shorter_line(
     basis: &Basis<'_>,
     answers: &mut [Option<Option<Reason>>],
     line: &[NodeIx],
