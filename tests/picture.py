@@ -262,6 +262,8 @@ class Checks:
         for (name, text, said, page), (faults, stands) in zip(pages, seen):
             outside = re.findall(r'(?:src|href)="(?!#)[^"]*"|https?:|@import|url\(', page)
             faults = ['it names something outside: %r' % outside] * bool(outside) + faults + list(filter(None, [fault(Tags(stands), text, said)]))
+            known = re.search('^known as: .*', said, re.M)
+            faults += ['it does not say %r' % known[0]] if known and html.escape(known[0][1:]) not in page else []
             self.expect(not faults, '%s: %s' % (name, '; '.join(faults)))
         hostile = Tags(seen[len(pages)][1] if command else HOSTILE[2])
         self.expect('img' not in hostile.names and len(hostile.pictures[0][1]) == 2, 'hostile keys are elements: %r' % sorted(hostile.names))

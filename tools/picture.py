@@ -334,12 +334,13 @@ class Page:
         svg, switches = scene.svg(), ''
         if any(arrow.support for arrow in scene.arrows):
             switches += self.switch('support', 'what the bold arrows rest on', ' checked')
-        if int(re.search(' width="([0-9]+)"', svg)[1]) > NARROW / lanes.LEAST:
-            switches += self.switch('fit', 'fit the width of the page')
+        least = int(re.search(' width="([0-9]+)"', svg)[1]) * lanes.LEAST
+        if least > NARROW:
+            switches += self.switch('fit' if least > lanes.WIDTH else 'fit narrow', 'fit the width of the page')
         return '<figure>%s<div class="picture">%s</div></figure>' % (switches, svg)
 
     def switch(self, name, words, on=''):
-        ident = '%s-%d' % (name, self.pictures)
+        ident = '%s-%d' % (name.split(' ')[0], self.pictures)
         return '<input type="checkbox"%s class="%s" id="%s"><label for="%s">%s</label>' % (on, name, ident, ident, words)
 
     def pictures_of(self, scenes):
@@ -459,6 +460,8 @@ class Page:
         named = len([name for name in it.names if name in self.history.named])
         facts = '%s: %d transaction%s, of which the explanation names %d' % (self.name, count, '' if count == 1 else 's', named)
         head = element('p', escape(facts), class_='facts') + element('h1', escape(it.verdict)) + element('p', MEANINGS[it.code], class_='meaning')
+        if it.known_as:
+            head += element('p', escape('Known as: ' + it.known_as))
         if self.keys:
             its = [element('button', escape(key), type='button', class_='key', data_key=key) for key in list(self.keys)[:MOST_KEYS]]
             head += element('p', 'keys: ' + ''.join(its), class_='keys')
