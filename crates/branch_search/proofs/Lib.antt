@@ -9,3 +9,5 @@ pub mod Planted
 pub mod Upward
 pub mod Checked
 pub mod Ends
+pub mod Retraced
+pub mod Asked

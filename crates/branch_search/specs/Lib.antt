@@ -1,4 +1,6 @@
 pub mod Answers
 pub mod Checks
 pub mod Growing
+pub mod Requests
 pub mod Trees
+pub mod Views

@@ -1,8 +1,10 @@
 //! How a worker comes to see the cube that it was given.
 
-ghost use Rattle.std.specs.Prelude.{◌≡◌, ◌<◌, [], IfOk, IfSome, length};
-ghost use Rattle.serializability.specs.Polygraph.{Polygraph};
+ghost use Rattle.std.specs.Prelude.{◌≡◌, ℕ, ◌<◌, None, Some, [], IfOk, IfSome, IsTrue, not, length};
 ghost use Rattle.std.specs.List.{All};
+ghost use Rattle.serializability.specs.Polygraph.{Polygraph};
+ghost use Rattle.branching.specs.View.{View, decided};
+ghost use Rattle.branch_search.specs.Views.{place_in, kept_view, view_after, IsRetraced, AreViews};
 
 use branching::{CubeView, SavedView};
 use cube_machine::Row;
@@ -72,6 +74,10 @@ pub fn go_down<'a>(
     requires kept { All (λ k. k.view.polygraph ≡ view.old.polygraph) trail.old.kept.items }
     ensures kept { IfOk result (λ _. All (λ k. k.view.polygraph ≡ view.new.polygraph) trail.new.kept.items) }
     ensures polygraph { view.new.polygraph ≡ view.old.polygraph }
+    ensures decided { IfOk result (λ seen. IsTrue seen → view.new ≡ decided view.old step.choice step.side) }
+    ensures views { (view_of : ℕ → View) → AreViews view_of trail.old.kept.items →
+        decided view.old step.choice step.side ≡ view_of step.node →
+        IfOk result (λ _. AreViews view_of trail.new.kept.items) }
 {
     let Some(edges) = extend(view, step.choice, step.side) else {
         return Ok(false);
@@ -99,6 +105,8 @@ pub fn retrace<'a>(
     requires kept { All (λ k. k.view.polygraph ≡ view.old.polygraph) trail.old.kept.items }
     ensures kept { IfOk result (λ _. All (λ k. k.view.polygraph ≡ view.new.polygraph) trail.new.kept.items) }
     ensures polygraph { view.new.polygraph ≡ view.old.polygraph }
+    ensures retraced { IfOk result (λ seen. IsTrue seen →
+        IsRetraced trail.old.kept.items view.old.polygraph node view.new) }
 {
     trail.ahead.clear();
     let mut at = node;
@@ -123,7 +131,12 @@ pub fn retrace<'a>(
 fn go_back<'a>(trail: &mut Trail<'a>, view: &mut CubeView<'a>, node: usize) -> bool
     requires kept { All (λ k. k.view.polygraph ≡ view.old.polygraph) trail.old.kept.items }
     ensures same { trail.new.kept ≡ trail.old.kept }
+    ensures ahead { trail.new.ahead ≡ trail.old.ahead }
     ensures polygraph { view.new.polygraph ≡ view.old.polygraph }
+    ensures seen { IsTrue result →
+        kept_view trail.old.kept.items view.old.polygraph node ≡ Some view.new }
+    ensures none { IsTrue (not result) →
+        kept_view trail.old.kept.items view.old.polygraph node ≡ None }
 {
     if node == 0 {
         view.restart();
@@ -141,6 +154,7 @@ fn go_back<'a>(trail: &mut Trail<'a>, view: &mut CubeView<'a>, node: usize) -> b
 
 // The place of the cube of a node, where it was kept.
 fn place_of(kept: &[KeptCube<'_>], node: usize) -> Option<usize>
+    ensures place { result ≡ place_in kept.now node }
     ensures within { IfSome result (λ place. place < length kept.now) }
 {
     kept.iter().position(|cube| cube.node == node)
@@ -155,6 +169,8 @@ fn replay<'a>(
     requires kept { All (λ k. k.view.polygraph ≡ view.old.polygraph) trail.old.kept.items }
     ensures kept { IfOk result (λ _. All (λ k. k.view.polygraph ≡ view.new.polygraph) trail.new.kept.items) }
     ensures polygraph { view.new.polygraph ≡ view.old.polygraph }
+    ensures made { IfOk result (λ seen. IsTrue seen →
+        view.new ≡ view_after trail.old.ahead.items view.old) }
 {
     while let Some(step) = trail.ahead.pop() {
         trail.turned = true;
@@ -178,6 +194,8 @@ fn keep<'a>(
 ) -> Result<(), AllocError>
     requires kept { All (λ k. k.view.polygraph ≡ view.now.polygraph) trail.old.kept.items }
     ensures kept { IfOk result (λ _. All (λ k. k.view.polygraph ≡ view.now.polygraph) trail.new.kept.items) }
+    ensures views { (view_of : ℕ → View) → AreViews view_of trail.old.kept.items →
+        view.now ≡ view_of node → IfOk result (λ _. AreViews view_of trail.new.kept.items) }
     ensures ahead { trail.new.ahead ≡ trail.old.ahead }
 {
     let cube = KeptCube {
@@ -195,6 +213,8 @@ fn keep<'a>(
 fn put<'a>(kept: &mut Vec<KeptCube<'a>>, place: usize, cube: KeptCube<'a>) -> Result<(), AllocError>
     ensures kept { (p : Polygraph) → All (λ k. k.view.polygraph ≡ p) kept.old.items →
         cube.entry.view.polygraph ≡ p → IfOk result (λ _. All (λ k. k.view.polygraph ≡ p) kept.new.items) }
+    ensures views { (view_of : ℕ → View) → AreViews view_of kept.old.items →
+        cube.entry.view ≡ view_of cube.entry.node → IfOk result (λ _. AreViews view_of kept.new.items) }
 {
     if place < kept.len() {
         kept[place] = cube;
@@ -207,6 +227,7 @@ fn put<'a>(kept: &mut Vec<KeptCube<'a>>, place: usize, cube: KeptCube<'a>) -> Re
 // Decides one choice more, where it is open, and says how many edges its side has.
 fn extend(view: &mut CubeView<'_>, choice: ChoiceIx, side: Side) -> Option<usize>
     ensures polygraph { view.new.polygraph ≡ view.old.polygraph }
+    ensures decided { IfSome result (λ _. view.new ≡ decided view.old choice side) }
 {
     if choice.get() >= view.count() || !view.is_open(choice) {
         return None;

@@ -1,8 +1,10 @@
 //! What one thread does.
 
-ghost use Rattle.std.specs.Prelude.{◌≡◌, IfOk};
+ghost use Rattle.std.specs.Prelude.{◌≡◌, ℕ, ◌<◌, [], ◌∷◌, ◌++◌, Option, IfOk, IfSome, IsTrue, length};
 ghost use Rattle.std.specs.List.{All};
+ghost use Rattle.pruning_laws.specs.declared.side.Side as side;
 ghost use Rattle.branching.specs.View.{opened};
+ghost use Rattle.branch_search.specs.Requests.{event_for, split_in, first_child, IsByStrategy, IsAskedAfter, IsViewFor};
 
 use crate::retrace::{Step, Trail, go_down, retrace};
 use branching::laws::turn;
@@ -131,6 +133,10 @@ fn take_turn<'a, 'v, S: Strategy, J: Naming, R: Wait>(
     ensures number { seat.new.0 ≡ seat.old.0 }
     ensures polygraph { place.new.view.polygraph ≡ place.old.view.polygraph }
     ensures kept { IfOk result (λ _. All (λ k. k.view.polygraph ≡ place.new.view.polygraph) place.new.trail.kept.items) }
+    ensures next { IfOk result (λ next. IfSome next (IsByStrategy
+        (S.picks task.now.strategy.now place.new.view) (S.first_of task.now.strategy.now place.new.view))) }
+    ensures asked { IfOk result (λ next. IfSome next
+        (IsAskedAfter (S.first_of task.now.strategy.now place.new.view) seat.new.1)) }
 {
     let reply = send(rt, desk, seat, event_of(&request))?;
     match reply {
@@ -148,7 +154,9 @@ fn take_turn<'a, 'v, S: Strategy, J: Naming, R: Wait>(
     }
 }
 
-fn event_of(request: &Request) -> Event {
+fn event_of(request: &Request) -> Event
+    ensures event { result ≡ event_for request.now }
+{
     match request {
         Request::Any => Event::TakeAny,
         Request::Own(child) => Event::Claim(child.node),
@@ -167,6 +175,8 @@ fn see<'v>(
     requires kept { All (λ k. k.view.polygraph ≡ view.old.polygraph) trail.old.kept.items }
     ensures kept { IfOk result (λ _. All (λ k. k.view.polygraph ≡ view.new.polygraph) trail.new.kept.items) }
     ensures polygraph { view.new.polygraph ≡ view.old.polygraph }
+    ensures view { IfOk result (λ seen. IsTrue seen →
+        IsViewFor request.now trail.old.kept.items view.old node view.new) }
 {
     match request {
         Request::Any => retrace(alloc, trail, view, row, node),
@@ -185,6 +195,10 @@ fn settle<'a, S: Strategy, J: Naming, R: Wait>(
 ) -> Result<Option<Request>, AllocError>
     requires polygraph { view.now.polygraph ≡ task.now.reduced.now.poly }
     ensures number { seat.new.0 ≡ seat.old.0 }
+    ensures next { IfOk result (λ next. IfSome next (IsByStrategy
+        (S.picks task.now.strategy.now view.now) (S.first_of task.now.strategy.now view.now))) }
+    ensures asked { IfOk result (λ next. IfSome next
+        (IsAskedAfter (S.first_of task.now.strategy.now view.now) seat.new.1)) }
 {
     let event = turn(alloc, task.reduced, view, task.strategy)?;
     let choice = split_by(&event);
@@ -198,7 +212,9 @@ fn settle<'a, S: Strategy, J: Naming, R: Wait>(
 }
 
 // The choice by which an event splits a cube.
-fn split_by(event: &Event) -> Option<ChoiceIx> {
+fn split_by(event: &Event) -> Option<ChoiceIx>
+    ensures choice { result ≡ split_in event.now }
+{
     match event {
         Event::Split(choice) => Some(*choice),
         _ => None,
@@ -212,13 +228,13 @@ fn first_child<S: Strategy>(
     choice: Option<ChoiceIx>,
     one: usize,
     two: usize,
-) -> Request {
+) -> Request
+    requires choice { IfSome choice (λ c. c < length view.now.sides) }
+    ensures child { result ≡ first_child (S.first_of strategy.now view.now) choice one two }
+{
     let Some(choice) = choice else {
         return Request::Any;
     };
-    if choice.get() >= view.count() {
-        return Request::Any;
-    }
     let side = strategy.first_side(view, choice);
     let node = match side {
         Side::One => one,
@@ -234,6 +250,10 @@ fn give_back<'a, J: Naming, R: Wait>(
     seat: &mut Seat<CubeMachine<'a>, J>,
 ) -> Result<Option<Request>, AllocError>
     ensures number { seat.new.0 ≡ seat.old.0 }
+    ensures next { (pick : Option ℕ) (first : ℕ → side.Side) →
+        IfOk result (λ next. IfSome next (IsByStrategy pick first)) }
+    ensures asked { (first : ℕ → side.Side) →
+        IfOk result (λ next. IfSome next (IsAskedAfter first seat.new.1)) }
 {
     send(rt, desk, seat, Event::Release)?;
     Ok(Some(Request::Any))
@@ -247,6 +267,7 @@ fn send<'a, J: Naming, R: Wait>(
     event: Event,
 ) -> Result<Reply, AllocError>
     ensures number { seat.new.0 ≡ seat.old.0 }
+    ensures called { IfOk result (λ reply. seat.new.1 ≡ seat.old.1 ++ (event, reply) ∷ []) }
 {
     match desk.call(rt, seat, event) {
         Ok(reply) => Ok(reply),

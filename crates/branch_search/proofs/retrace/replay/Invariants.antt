@@ -1,9 +1,13 @@
 use Rattle.std.proofs.Common.{◌≡◌, length}
 use Rattle.std.specs.List.{All}
+use Rattle.branch_search.specs.Views.{view_after}
 use Rattle.branch_search.proofs.retrace.replay.Given as goal
 
 abbrev pub invariant-loop-step : goal.invariant-loop-step
-invariant-loop-step l = (l.view.polygraph ≡ l.fn.view.polygraph) × All (λ k. k.view.polygraph ≡ l.view.polygraph) l.trail.kept.items
+invariant-loop-step l =
+    (l.view.polygraph ≡ l.fn.view.polygraph)
+    × All (λ k. k.view.polygraph ≡ l.view.polygraph) l.trail.kept.items
+    × (view_after l.trail.ahead.items l.view ≡ view_after l.fn.trail.ahead.items l.fn.view)
 
 abbrev pub decreases-loop-step : goal.decreases-loop-step
 decreases-loop-step l = length l.trail.ahead.items

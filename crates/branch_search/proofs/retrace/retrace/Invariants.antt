@@ -1,6 +1,11 @@
 use Rattle.std.proofs.Common.{◌≡◌}
 use Rattle.std.specs.List.{All}
+use Rattle.branch_search.specs.Views.{end_of}
 use Rattle.branch_search.proofs.retrace.retrace.Given as goal
 
 abbrev pub invariant-loop : goal.invariant-loop
-invariant-loop l = (l.view.polygraph ≡ l.fn.view.polygraph) × All (λ k. k.view.polygraph ≡ l.view.polygraph) l.trail.kept.items
+invariant-loop l =
+    (l.view.polygraph ≡ l.fn.view.polygraph)
+    × All (λ k. k.view.polygraph ≡ l.view.polygraph) l.trail.kept.items
+    × (l.trail.kept ≡ l.fn.trail.kept)
+    × (end_of l.at l.trail.ahead.items ≡ l.node)
