@@ -1,10 +1,7 @@
 //! Cycles, dead ledgers and refutation trees.
 
 ghost use Rattle.std.specs.Prelude.{◌≡◌, IfOk};
-ghost use Rattle.serializability.specs.Reads.{IsClean};
 ghost use Rattle.serializability.specs.Anomalies.{anomaly_of};
-ghost use Rattle.serializability.specs.Polygraph.{arcs};
-ghost use Rattle.reach_laws.specs.Reach.{IsCyclic};
 ghost use Rattle.log_definitions.specs.Numbers.{log_of};
 ghost use Rattle.reduction.specs.Outcome.{IsCyclicHistory, IsDeadHistory, IsOpenHistory};
 ghost use Rattle.branch_search.specs.Trees.{IsRefutationTree};
@@ -20,22 +17,10 @@ use crate::steps::{dead_items, tree_items};
 use crate::written::{written, written_cycle};
 use branch_search::Tree;
 use prune_ledger::{Ledger, Reduced};
+use reduction::open_chains;
 use serializability::NodeIx;
 use session_history::History;
 use std::alloc::{AllocError, Global};
-use write_chains::{Chains, chains};
-
-/// The chains of a history whose arcs have no cycle.
-fn chains_of<'a>(alloc: Global, history: &'a History) -> Result<Chains<'a>, AllocError>
-    requires clean { IsClean (log_of history.now) }
-    requires acyclic { ¬ IsCyclic (arcs (log_of history.now)) }
-    ensures chains { IfOk result (λ chains. chains ≡ history.now) }
-{
-    match chains(alloc, history)? {
-        Ok(found) => Ok(found),
-        Err(_) => unreachable!(),
-    }
-}
 
 /// The edges of a cycle that is known of a history without an anomaly, each with its reason, and the cycle's name. Of `begins`, element `v - 1` is the line
 /// at which node `v` begins.
@@ -72,7 +57,7 @@ pub fn explain_dead(
         history.now (begin_at begins.now) text.items) }
 {
     let _nodes = history.committed();
-    let chains = chains_of(alloc, history)?;
+    let chains = open_chains(alloc, history)?;
     let items = dead_items(alloc, history, &chains, ledger)?;
     written(alloc, history, begins, format, &items)
 }
@@ -94,7 +79,7 @@ pub fn explain_tree(
         history.now (begin_at begins.now) text.items) }
 {
     let _nodes = history.committed();
-    let chains = chains_of(alloc, history)?;
+    let chains = open_chains(alloc, history)?;
     let items = tree_items(alloc, history, &chains, reduced, tree)?;
     written(alloc, history, begins, format, &items)
 }

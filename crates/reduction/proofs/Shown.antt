@@ -1,5 +1,5 @@
 -- What each answer of the steps rests on.
-use Rattle.std.proofs.Common.{◌≡◌, ◌↔◌, ℕ, ◌≤◌, List, [], ◌∷◌, ◌++◌, length, None, Result, Ok, Err, IfOk, subst, sym, inl, inr}
+use Rattle.std.proofs.Common.{◌≡◌, ◌↔◌, ℕ, ◌≤◌, List, [], ◌∷◌, ◌++◌, length, None, Result, Ok, Err, IfOk, IfErr, IsOk, refl, subst, sym, inl, inr}
 use Rattle.std.proofs.lemmas.List.Elements.{All-nil, All-cons}
 use Rattle.std.specs.List.{All, Contains}
 use Rattle.session_log.specs.Text.{ClientSession}
@@ -25,6 +25,11 @@ use Rattle.reduction.specs.Outcome.{IsCyclicHistory, IsDeadHistory, IsOpenHistor
 -- a cycle listed is a cycle
 pub cyclic : (edges : List Edge) (line : List ℕ) → IsCycle edges line → IsCyclic edges
 cyclic edges line c = (c.0, (c.1.inner, c.1.steps))
+
+-- a result whose refusal is a cycle, where there is none
+pub none_closed : {A B : Type 0} (edges : List Edge) (line_of : B → List ℕ) (found : Result A B) → IfErr found (λ b. IsCycle edges (line_of b)) → (IsCyclic edges → ⊥) → IsOk found
+none_closed edges line_of (Ok a) cycle acyclic = refl
+none_closed edges line_of (Err b) cycle acyclic = absurd (acyclic (cyclic edges (line_of b) cycle))
 
 -- among edges that are all among more, a walk is one among those
 walk_among : (edges more : List Edge) → ((e : Edge) → Contains edges e → Contains more e) → (ws : List ℕ) (u v : ℕ) → Walk edges u ws v → Walk more u ws v

@@ -6,4 +6,4 @@ mod outcome;
 mod steps;
 
 pub use outcome::Reduction;
-pub use steps::reduce;
+pub use steps::{open_chains, reduce};

@@ -3,6 +3,7 @@
 ghost use Rattle.std.specs.Prelude.{◌≡◌, ◌≤◌, length, None, IfOk, IfErr, OnOk};
 ghost use Rattle.serializability.specs.Reads.{IsClean};
 ghost use Rattle.serializability.specs.Anomalies.{anomaly_of};
+ghost use Rattle.serializability.specs.Polygraph.{arcs};
 ghost use Rattle.reach_laws.specs.Reach.{IsCyclic};
 ghost use Rattle.chain_laws.specs.Chains.{chain_choices};
 ghost use Rattle.log_definitions.specs.Numbers.{log_of, IsWellFormedList};
@@ -21,11 +22,21 @@ use known_graph::Known;
 use polygraph::{PolyFault, Polygraph};
 use prune_ledger::{Pruned, prune};
 use session_history::History;
-use std::alloc::Global;
+use std::alloc::{AllocError, Global};
 use std::sync::Wait;
 use std::thread::Threads;
 use std::time::Clock;
-use write_chains::chains;
+use write_chains::{Chains, chains};
+
+/// The chains of a clean history whose arcs have no cycle, so that no chain closes on itself.
+pub fn open_chains<'a>(alloc: Global, history: &'a History) -> Result<Chains<'a>, AllocError>
+    requires clean { IsClean (log_of history.now) }
+    requires acyclic { ¬ IsCyclic (arcs (log_of history.now)) }
+    ensures chains { IfOk result (λ chains. chains ≡ history.now) }
+{
+    let found = chains(alloc, history)?;
+    Ok(found.unwrap())
+}
 
 /// The polygraph of the chains of a clean history, to which its arcs are given, which have no cycle.
 fn chained(alloc: Global, history: &History, arcs: Known) -> Result<Polygraph, PolyFault>
@@ -37,10 +48,8 @@ fn chained(alloc: Global, history: &History, arcs: Known) -> Result<Polygraph, P
     ensures few { OnOk result (length (chain_choices (log_of history.now)) ≤ MAX_CHOICES) }
     ensures fault { IfErr result (IsPolyFault (chain_choices (log_of history.now))) }
 {
-    match chains(alloc, history)? {
-        Ok(found) => coalesce(alloc, history, &found, arcs),
-        Err(_) => unreachable!(),
-    }
+    let found = open_chains(alloc, history)?;
+    coalesce(alloc, history, &found, arcs)
 }
 
 /// The steps behind the search for an anomaly, which found none.

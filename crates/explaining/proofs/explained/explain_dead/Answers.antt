@@ -7,8 +7,8 @@ use Rattle.explaining.proofs.Premises.{unpruned_clean, dead_ledger, are_written}
 use Rattle.explaining.proofs.Tellable.{dead_tellable}
 use Rattle.explaining.proofs.explained.explain_dead.Goals as goal
 
-pub chains_of-requires-clause-clean : goal.chains_of-requires-clause-clean
-chains_of-requires-clause-clean c = unpruned_clean c.args.history.now c.requires.dead.poly c.committed-nodes.ensures.well_formed c.requires.dead.unpruned
+pub open_chains-requires-clause-clean : goal.open_chains-requires-clause-clean
+open_chains-requires-clause-clean c = unpruned_clean c.args.history.now c.requires.dead.poly c.committed-nodes.ensures.well_formed c.requires.dead.unpruned
 
 pub dead_items-requires-clause-clean : goal.dead_items-requires-clause-clean
 dead_items-requires-clause-clean c = unpruned_clean c.args.history.now c.requires.dead.poly c.committed-nodes.ensures.well_formed c.requires.dead.unpruned

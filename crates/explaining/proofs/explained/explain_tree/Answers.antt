@@ -8,8 +8,8 @@ use Rattle.explaining.proofs.Premises.{unpruned_clean, are_written}
 use Rattle.explaining.proofs.Tellable.{tree_tellable}
 use Rattle.explaining.proofs.explained.explain_tree.Goals as goal
 
-pub chains_of-requires-clause-clean : goal.chains_of-requires-clause-clean
-chains_of-requires-clause-clean c = unpruned_clean c.args.history.now c.requires.left.poly c.committed-nodes.ensures.well_formed c.requires.left.unpruned
+pub open_chains-requires-clause-clean : goal.open_chains-requires-clause-clean
+open_chains-requires-clause-clean c = unpruned_clean c.args.history.now c.requires.left.poly c.committed-nodes.ensures.well_formed c.requires.left.unpruned
 
 pub tree_items-requires-clause-clean : goal.tree_items-requires-clause-clean
 tree_items-requires-clause-clean c = unpruned_clean c.args.history.now c.requires.left.poly c.committed-nodes.ensures.well_formed c.requires.left.unpruned
