@@ -1,13 +1,17 @@
 -- What a worker asks for after a split.
-use Rattle.std.proofs.Common.{◌≡◌, ℕ, zero, suc, ◌<◌, true, false, List, [], ◌∷◌, length, Option, Some, IfSome, arith}
+use Rattle.std.proofs.Common.{◌≡◌, ℕ, zero, suc, ◌<◌, true, false, List, [], ◌∷◌, ◌++◌, length, Option, Some, IfSome, Result, Ok, Err, IfOk, refl, arith}
 use Rattle.std.specs.Prelude.{slice_get, is_none}
 use Rattle.std.specs.Option.{option_map_or}
 use Rattle.pruning_laws.specs.declared.side.Side.{Side}
 use Rattle.cube_laws.specs.declared.messages.Event.{Event}
 use Rattle.cube_laws.specs.declared.messages.Event.TheVariants.{Claim, TakeAny, Split, Refute, Solve, Release}
+use Rattle.cube_laws.specs.declared.messages.Reply.{Reply}
+use Rattle.cube_laws.specs.declared.messages.Reply.TheVariants.{Finished, HasCube, NotOpen, NoneNow, Cube as Given, NoCube, BadChoice, Children, BadCycle, Closed, BadOrder, Solved, Released}
 use Rattle.branching.specs.View.{View, is_open_in}
 use Rattle.branching.specs.Turns.{IsDecision}
-use Rattle.branch_search.specs.Requests.{split_in}
+use Rattle.branch_search.specs.declared.worker.Request.{Request}
+use Rattle.branch_search.specs.declared.worker.Request.TheVariants.{Any}
+use Rattle.branch_search.specs.Requests.{split_in, request_after, IsAskedAfter}
 
 open_within : (sides : List (Option Side)) (c : ℕ) → option_map_or is_none (slice_get sides c) false ≡ true → c < length sides
 open_within [] c e = absurd (cc)
@@ -21,3 +25,28 @@ split_within v pick (Split c) opens d = open_within v.sides c (opens c d.1)
 split_within v pick (Refute line) opens d = tt
 split_within v pick (Solve order) opens d = tt
 split_within v pick Release opens d = tt
+
+pub asked_after : (first : ℕ → Side) (earlier calls : List (Event × Reply)) (e : Event) (r : Reply) (request : Request) → calls ≡ earlier ++ (e, r) ∷ [] → request ≡ request_after first e r → IsAskedAfter first calls request
+asked_after first earlier calls e r request last asked = record { earlier = earlier; event = e; reply = r; last = last; asked = asked }
+
+released : (first : ℕ → Side) (r : Reply) → Any ≡ request_after first Release r
+released first Finished = refl
+released first HasCube = refl
+released first NotOpen = refl
+released first NoneNow = refl
+released first (Given id) = refl
+released first NoCube = refl
+released first BadChoice = refl
+released first (Children one two) = refl
+released first BadCycle = refl
+released first Closed = refl
+released first BadOrder = refl
+released first Solved = refl
+released first Released = refl
+
+pub after_release : (first : ℕ → Side) (earlier calls : List (Event × Reply)) (r : Reply) → calls ≡ earlier ++ (Release, r) ∷ [] → IsAskedAfter first calls Any
+after_release first earlier calls r last = asked_after first earlier calls Release r Any last (released first r)
+
+pub ok_always : {A E P : Type 0} (r : Result A E) → P → IfOk r (λ _. P)
+ok_always (Ok a) p = p
+ok_always (Err e) p = tt

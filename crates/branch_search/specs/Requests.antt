@@ -1,9 +1,11 @@
 -- The cube that a worker asks for next.
-use Rattle.std.specs.Prelude.{◌≡◌, ℕ, Option, Some, None, List}
+use Rattle.std.specs.Prelude.{◌≡◌, ℕ, List, [], ◌∷◌, ◌++◌, Option, Some, None}
 use Rattle.pruning_laws.specs.declared.side.Side.{Side}
 use Rattle.pruning_laws.specs.declared.side.Side.TheVariants.{One, Two}
 use Rattle.cube_laws.specs.declared.messages.Event.{Event}
 use Rattle.cube_laws.specs.declared.messages.Event.TheVariants.{Claim, TakeAny, Split, Refute, Solve, Release}
+use Rattle.cube_laws.specs.declared.messages.Reply.{Reply}
+use Rattle.cube_laws.specs.declared.messages.Reply.TheVariants.{Children}
 use Rattle.branching.specs.View.{View, decided}
 use Rattle.branch_search.specs.declared.retrace.KeptCube.{KeptCube}
 use Rattle.branch_search.specs.declared.worker.Request.{Request}
@@ -36,6 +38,19 @@ child c side one two = Own (record { node = child_by side one two; choice = c; s
 abbrev pub first_child : (ℕ → Side) → Option ℕ → ℕ → ℕ → Request
 first_child first None one two = Any
 first_child first (Some c) one two = child c (first c) one two
+
+-- what is asked for after a call: where it split a cube, the child by the side that is searched first, else any cube
+abbrev pub request_after : (ℕ → Side) → Event → Reply → Request
+request_after first e (Children one two) = first_child first (split_in e) one two
+request_after first e _ = Any
+
+-- this is asked for after the last of a seat's calls
+pub record IsAskedAfter (first : ℕ → Side) (calls : List (Event × Reply)) (request : Request) : Type 0 where
+  pub earlier : List (Event × Reply)
+  pub event : Event
+  pub reply : Reply
+  pub last : calls ≡ earlier ++ (event, reply) ∷ []
+  pub asked : request ≡ request_after first event reply
 
 -- any cube, or a child by the choice that is picked and the side of it that is searched first
 abbrev pub IsByStrategy : Option ℕ → (ℕ → Side) → Request → Type 0

@@ -1,10 +1,10 @@
 //! What one thread does.
 
-ghost use Rattle.std.specs.Prelude.{◌≡◌, ◌<◌, Some, IfOk, IfSome, IsTrue, length};
+ghost use Rattle.std.specs.Prelude.{◌≡◌, ℕ, ◌<◌, [], ◌∷◌, ◌++◌, Option, IfOk, IfSome, IsTrue, length};
 ghost use Rattle.std.specs.List.{All};
+ghost use Rattle.pruning_laws.specs.declared.side.Side as side;
 ghost use Rattle.branching.specs.View.{opened};
-ghost use Rattle.branch_search.specs.declared.worker.Request.TheVariants.{Any};
-ghost use Rattle.branch_search.specs.Requests.{event_for, split_in, first_child, IsByStrategy, IsViewFor};
+ghost use Rattle.branch_search.specs.Requests.{event_for, split_in, first_child, IsByStrategy, IsAskedAfter, IsViewFor};
 
 use crate::retrace::{Step, Trail, go_down, retrace};
 use branching::laws::turn;
@@ -135,6 +135,8 @@ fn take_turn<'a, 'v, S: Strategy, J: Naming, R: Wait>(
     ensures kept { IfOk result (λ _. All (λ k. k.view.polygraph ≡ place.new.view.polygraph) place.new.trail.kept.items) }
     ensures next { IfOk result (λ next. IfSome next (IsByStrategy
         (S.picks task.now.strategy.now place.new.view) (S.first_of task.now.strategy.now place.new.view))) }
+    ensures asked { IfOk result (λ next. IfSome next
+        (IsAskedAfter (S.first_of task.now.strategy.now place.new.view) seat.new.1)) }
 {
     let reply = send(rt, desk, seat, event_of(&request))?;
     match reply {
@@ -195,6 +197,8 @@ fn settle<'a, S: Strategy, J: Naming, R: Wait>(
     ensures number { seat.new.0 ≡ seat.old.0 }
     ensures next { IfOk result (λ next. IfSome next (IsByStrategy
         (S.picks task.now.strategy.now view.now) (S.first_of task.now.strategy.now view.now))) }
+    ensures asked { IfOk result (λ next. IfSome next
+        (IsAskedAfter (S.first_of task.now.strategy.now view.now) seat.new.1)) }
 {
     let event = turn(alloc, task.reduced, view, task.strategy)?;
     let choice = split_by(&event);
@@ -246,7 +250,10 @@ fn give_back<'a, J: Naming, R: Wait>(
     seat: &mut Seat<CubeMachine<'a>, J>,
 ) -> Result<Option<Request>, AllocError>
     ensures number { seat.new.0 ≡ seat.old.0 }
-    ensures any { IfOk result (λ next. next ≡ Some Any) }
+    ensures next { (pick : Option ℕ) (first : ℕ → side.Side) →
+        IfOk result (λ next. IfSome next (IsByStrategy pick first)) }
+    ensures asked { (first : ℕ → side.Side) →
+        IfOk result (λ next. IfSome next (IsAskedAfter first seat.new.1)) }
 {
     send(rt, desk, seat, Event::Release)?;
     Ok(Some(Request::Any))
@@ -260,6 +267,7 @@ fn send<'a, J: Naming, R: Wait>(
     event: Event,
 ) -> Result<Reply, AllocError>
     ensures number { seat.new.0 ≡ seat.old.0 }
+    ensures called { IfOk result (λ reply. seat.new.1 ≡ seat.old.1 ++ (event, reply) ∷ []) }
 {
     match desk.call(rt, seat, event) {
         Ok(reply) => Ok(reply),

@@ -1,12 +1,13 @@
 //! The machine of the search.
 
-ghost use Rattle.std.specs.Prelude.{◌≡◌, ℕ, ◌+◌, ◌<◌, ◌^◌, true, false, ◌∷◌, [], length, slice_get, Some, IfOk};
+ghost use Rattle.std.specs.Prelude.{◌≡◌, ℕ, ◌+◌, ◌<◌, ◌≤◌, ◌^◌, true, false, ◌∷◌, [], length, slice_get, Some, IfOk};
 ghost use Rattle.std.specs.Option.{option_map};
 ghost use Rattle.cube_laws.specs.State.{opening_state, root};
 ghost use Rattle.cube_laws.specs.Steps.{has_solved, is_finished, is_exhausted, node_held, last_open, claim_reply, any_reply, split_reply, refute_reply, solve_reply, claimed, taken, held_where, split_where, refuted_where, solved_where, opened_at, can_split, cube_at, is_cycle, decides_all, is_solution, waits_of};
 ghost use Rattle.cube_laws.specs.Cubes.{edges_under};
 ghost use Rattle.cube_laws.specs.declared.messages.Event.TheVariants.{TakeAny};
 ghost use Rattle.cube_laws.specs.declared.messages.Reply.TheVariants.{Released};
+ghost use Rattle.cube_machine.specs.Growth.{most_nodes};
 ghost use Rattle.cube_machine.specs.Ways.{IsWay};
 ghost use Rattle.cube_machine.specs.Noted.{AreNoted};
 
@@ -57,12 +58,15 @@ impl<'a> Model for CubeMachine<'a> {
 
 impl<'a> CubeMachine<'a> {
     /// The opening state: node 0 alone, open, with no choice decided. All memory is taken here.
+    ///
+    /// In the row each node that the budget allows has a word.
     pub fn opening(
         alloc: Global,
         polygraph: &'a Polygraph,
         budget: Budget,
         row: &'a Row,
     ) -> Result<CubeMachine<'a>, AllocError>
+        requires row { most_nodes budget ≤ row.now }
         ensures opening { IfOk result (λ m. m ≡ opening_state polygraph.now budget) }
     {
         let tree = Tree::root(alloc, 2 * budget.get() + 1)?;

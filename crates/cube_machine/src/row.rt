@@ -1,8 +1,9 @@
 //! A row of words that the machine lends to workers.
 
-ghost use Rattle.std.specs.Prelude.{◌≡◌, ◌<◌, Some, IfSome};
+ghost use Rattle.std.specs.Prelude.{◌≡◌, ◌<◌, Some, IfOk, IfSome};
 ghost use Rattle.pruning_laws.specs.declared.side.Side.{Side};
 ghost use Rattle.cube_machine.specs.declared.origin.Origin.{Origin};
+ghost use Rattle.cube_machine.specs.Growth.{most_nodes};
 ghost use Rattle.cube_machine.specs.Words.{side_bit, word_of, Fits};
 
 use crate::budget::Budget;
@@ -10,6 +11,7 @@ use crate::origin::Origin;
 use polygraph::ChoiceIx;
 use pruning_laws::Side;
 use std::alloc::{AllocError, Global};
+use std::marker::Model;
 use std::sync::atomic::{AtomicU64, Ordering};
 
 // A word has the side in bit 0, the choice in bits 1 to 17, the parent in bits 18 to 38, and bit 39 set.
@@ -23,15 +25,25 @@ const WRITTEN: u64 = 1 << 39;
 
 /// A row of atomic words, one for each node of the tree, in which the machine notes how a node was led to
 /// before it replies. Nothing that is proved rests on it: who reads something senseless there sends it,
-/// and is refused.
+/// and is refused. Contracts see for how many nodes it has a word.
 #[derive(Drop)]
 pub struct Row {
     words: Vec<AtomicU64>,
 }
 
+impl Model for Row {
+    ghost use Rattle.std.specs.Prelude.{ℕ, length};
+
+    ghost Value = { ℕ };
+
+    ghost view = { λ r. length r.words.items };
+}
+
 impl Row {
-    /// The row for a budget, with nothing noted.
-    pub fn new(alloc: Global, budget: Budget) -> Result<Row, AllocError> {
+    /// The row for a budget, with a word for each node that it allows, and nothing noted.
+    pub fn new(alloc: Global, budget: Budget) -> Result<Row, AllocError>
+        ensures words { IfOk result (λ row. row ≡ most_nodes budget) }
+    {
         let len = 2 * budget.get() + 1;
         let mut words = Vec::with_capacity(alloc, len)?;
         for _ in 0..len {

@@ -111,10 +111,9 @@ fn steps_until_a_side_is_refuted(rt: HostRuntime) {
     let rt = &rt;
     let alloc = rt.alloc();
     let polygraph = four_readers(rt, alloc);
-    let row = Row::new(alloc, budget(rt, 7)).expect(rt, "memory");
-    let machine = &mut CubeMachine::opening(alloc, &polygraph, budget(rt, 7), &row).expect(
-        rt, "memory",
-    );
+    let few = budget(rt, 7);
+    let row = Row::new(alloc, few).expect(rt, "memory");
+    let machine = &mut CubeMachine::opening(alloc, &polygraph, few, &row).expect(rt, "memory");
     see(rt, machine, 1, Event::TakeAny, Reply::Cube(0));
     see(rt, machine, 1, Event::Claim(0), Reply::HasCube);
     see(rt, machine, 2, Event::Claim(0), Reply::NotOpen);
@@ -149,10 +148,9 @@ fn steps_with_a_release(rt: HostRuntime) {
     let rt = &rt;
     let alloc = rt.alloc();
     let polygraph = four_readers(rt, alloc);
-    let row = Row::new(alloc, budget(rt, 7)).expect(rt, "memory");
-    let machine = &mut CubeMachine::opening(alloc, &polygraph, budget(rt, 7), &row).expect(
-        rt, "memory",
-    );
+    let few = budget(rt, 7);
+    let row = Row::new(alloc, few).expect(rt, "memory");
+    let machine = &mut CubeMachine::opening(alloc, &polygraph, few, &row).expect(rt, "memory");
     see(rt, machine, 1, Event::Claim(0), Reply::Cube(0));
     see(rt, machine, 1, Event::Release, Reply::Released);
     see(rt, machine, 2, Event::Claim(0), Reply::Cube(0));
@@ -191,10 +189,9 @@ fn steps_until_a_cube_is_solved(rt: HostRuntime) {
     let rt = &rt;
     let alloc = rt.alloc();
     let polygraph = either_order(rt, alloc);
-    let row = Row::new(alloc, budget(rt, 3)).expect(rt, "memory");
-    let machine = &mut CubeMachine::opening(alloc, &polygraph, budget(rt, 3), &row).expect(
-        rt, "memory",
-    );
+    let few = budget(rt, 3);
+    let row = Row::new(alloc, few).expect(rt, "memory");
+    let machine = &mut CubeMachine::opening(alloc, &polygraph, few, &row).expect(rt, "memory");
     assert!(rt; !waits(rt, machine, 2, Event::TakeAny));
     see(rt, machine, 1, Event::TakeAny, Reply::Cube(0));
     assert!(rt; waits(rt, machine, 2, Event::TakeAny));
