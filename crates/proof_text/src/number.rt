@@ -4,7 +4,8 @@ ghost use Rattle.std.specs.Prelude.{◌≡◌, ◌≤◌, true, length};
 ghost use Rattle.std.specs.List.{list_all};
 ghost use Rattle.std.specs.Char.{is_ascii_digit};
 ghost use Rattle.std.specs.Str.Parse.{digits_value};
-ghost use Rattle.proof_text.specs.Numbers.{is_decimal, size_of, below_zero, not_below_zero, number_of, literal_of, id_of};
+ghost use Rattle.proof_text.specs.Numbers.{is_decimal, size_of, below_zero, not_below_zero};
+ghost use Rattle.proof_text.specs.Numbers.{number_of, literal_of, id_of};
 
 use serializability::Literal;
 

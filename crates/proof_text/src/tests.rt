@@ -110,7 +110,7 @@ fn numbers_of_five_bytes(rt: HostRuntime) {
     assert_eq!(rt; next_drat(&rt, &mut steps), None);
 }
 
-// The line of the next step of an LRAT proof over three variables, what it does, and how many literals and numbers it has.
+// The line of the next step of an LRAT proof, what it does, and how many literals and IDs it has.
 fn next_lrat(
     rt: &(impl Abort + AllocGlobal),
     steps: &mut LratSteps<'_>,
