@@ -6,10 +6,10 @@ and `explain`, with 1 and 4 workers and each strategy in turn. The first lines o
 Behind them, of an anomaly and of a cycle of known edges the text must be the one that a plain reading of the log's lines gives, to the
 byte. Where pruning ends in a cycle, or every cube is refuted, the steps and the tree may be others by the schedule; then each line is held
 against the log: each edge has the reason that comes first, or is one of an earlier step and names the first such, or of an order that is
-decided above, edges follow each other, a walk leads from where it has to to where it has to, each cycle closes, each step is needed, and
-each choice that is split has both its orders, with all that is below them. Of each explanation of cycles, lines are then spoilt in many
-ways, and each has to be seen; so the test is tested too. The graph of one worker must be what the lines of the text tell, to the byte; where
-Graphviz is there, it draws those of the examples. Where SEEDS is not said, each form of line has to be met among the logs. Last line:
+decided above, edges follow each other, a walk leads from where it has to to where it has to, a walk and the cycle behind steps take each
+shortcut that the log shows, each cycle closes, each step is needed, and each choice that is split has both its orders, with all that is
+below them. Of each explanation of cycles, lines are then spoilt in many ways, and each has to be seen; so the test is tested too. The graph
+of one worker must be what the lines of the text tell, to the byte; where Graphviz is there, it draws those of the examples. Where SEEDS is not said, each form of line has to be met among the logs. Last line:
 'explained: N passed, M failed'."""
 import collections, concurrent.futures, os, random, re, shutil, subprocess, sys
 
@@ -313,8 +313,16 @@ class Telling:
         told((u, v) in self.log.side(key, second, first), '%s: the other side has no such edge' % where)
         walk = self.edges(where, [])
         told((walk[0][0], walk[-1][1]) == (v, u), '%s: the walk leads from %s to %s' % (where, walk[0][0], walk[-1][1]))
+        self.no_way_around(where, walk)
         self.steps.append(self.log.side(key, first, second))
         self.met['a walk of 4 edges or more'] += len(walk) > 3
+
+    def no_way_around(self, where, edges):
+        """Of what these edges lead over, only neighbours are an edge that the log shows."""
+        names = [edges[0][0]] + [b for _, b, _ in edges]
+        for place, a in enumerate(names):
+            for b in names[place + 2:]:
+                told(not self.log.reason(a, b)[0], '%s: a way around %s before %s' % (where, a, b))
 
     def two_chains(self, where, key, *both):
         told(both[0] != both[1], '%s has one chain' % where)
@@ -363,6 +371,8 @@ class Telling:
         told(start, 'no cycle at %r' % self.rest())
         edges = self.edges('the cycle', decided)
         told(edges[0][0] == start[0] == edges[-1][1], 'the cycle does not close')
+        if self.what == 'A9':
+            self.no_way_around('the cycle', edges)
         grounds = {ground for _, _, ground in edges} - {None}
         steps = grounds - set(decided)
         self.met['a cycle with 2 steps'] += len(steps) > 1
@@ -504,6 +514,10 @@ def spoilt(r, text, checked, explained):
         for it in log.nodes if cycles else ():
             if log.reason(a, it.name)[0] == log.reason(it.name, b)[0] == 'session':
                 yield 'a run in two lines', instead(n, *('%s before %s: session %s' % (*two, it.session) for two in ((a, it.name), (it.name, b))))
+        for it in log.nodes if cycles and (n < cycles[0] or not orders) and log.reason(a, b)[0] else ():
+            if log.reason(a, it.name)[0] and log.reason(it.name, b)[0]:
+                way = ((a, it.name), (it.name, b))
+                yield 'a way around', instead(n, *('%s before %s: %s' % (*two, log.reason(*two)[1]) for two in way))
         for it in log.transactions:
             if it not in log.nodes and log.reason(a, it.name)[0] == log.reason(it.name, b)[0] == 'session':
                 way = ((a, it.name), (it.name, b))

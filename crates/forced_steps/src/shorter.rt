@@ -34,7 +34,8 @@ fn shows(
     }
 }
 
-/// The first place of a line from which the log shows an edge to this one; where it shows none, the place before.
+/// The first place of a line from which the log shows an edge to this one; where it shows none, the
+/// place before.
 fn earliest(
     basis: &Basis<'_>,
     answers: &mut [Option<Option<Reason>>],
@@ -60,8 +61,8 @@ fn earliest(
     Ok(at - 1)
 }
 
-/// A line from the same node to the same one, of some of its nodes: from the last one on, each is reached from the first that the log
-/// shows to stand before it.
+/// A line with the same ends, of some of its nodes: from the last one back, each is reached from the
+/// first that the log shows to stand before it.
 pub fn shorter_line(
     basis: &Basis<'_>,
     answers: &mut [Option<Option<Reason>>],
@@ -84,7 +85,7 @@ pub fn shorter_line(
     Ok(back)
 }
 
-/// A walk from the same node to the same one, and a shorter one where it is to be told.
+/// A walk with the same ends: a shorter one where it is to be told, else the same.
 fn walk_of(
     basis: &Basis<'_>,
     answers: &mut [Option<Option<Reason>>],
