@@ -70,8 +70,7 @@ fn put_version(
     }
 }
 
-/// Appends which of two versions of a key comes first, as `x: 25, which 11.1 wrote (line 54), comes
-/// before 20, which 6.1 wrote (line 28)`.
+/// Appends which of two versions of a key comes first, as `x: 25, which 11.1 wrote (line 54), comes before 20, which 6.1 wrote (line 28)`.
 pub fn put_versions(
     out: &mut Vec<u8>,
     history: &History,
