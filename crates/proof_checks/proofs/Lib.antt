@@ -1,0 +1,5 @@
+pub mod Once
+pub mod Passed
+pub mod Places
+pub mod Rounds
+pub mod Taken

@@ -1,66 +1,138 @@
-//! Sets of literals.
+//! Literals, each once.
 
-use crate::code::{Code, places};
+ghost use Rattle.std.specs.Prelude.{◌≡◌, ℕ, ◌<◌, ◌^◌, List, [], ◌++◌, ◌∷◌, length, slice_index, OnOk};
+ghost use Rattle.serializability.specs.declared.literal.Literal.{Literal};
+ghost use Rattle.proof_checks.specs.Distinct.{code_of, distinct, is_among, is_tautology, negated, with_literal};
+ghost use Rattle.proof_checks.specs.Marks.{HasRounds, IsMarking};
+
 use serializability::Literal;
 use std::alloc::{AllocError, Global};
 
 /// Marks for literals, all of which are taken away at once.
 #[derive(Drop)]
 pub(crate) struct Marks {
+    // the round in which each literal was marked last, by its place
     rounds: Vec<u32>,
     round: u32,
 }
 
+/// The place of a literal among the marks.
+fn place_of(literal: Literal) -> usize
+    ensures place { result ≡ code_of literal }
+    ensures few { result < 2 ^ 33 }
+{
+    2 * literal.variable as usize + usize::from(!literal.positive)
+}
+
+/// The opposite of a literal.
+fn negated(literal: Literal) -> Literal
+    ensures { result ≡ negated literal }
+{
+    Literal {
+        variable: literal.variable,
+        positive: !literal.positive,
+    }
+}
+
 impl Marks {
-    /// Marks for the literals of so many variables.
-    pub(crate) fn new(alloc: Global, variables: u32) -> Result<Marks, AllocError> {
-        Ok(Marks {
-            rounds: vec![in alloc; 0; places(variables)]?,
-            round: 0,
-        })
+    /// No marks.
+    pub(crate) fn new(alloc: Global) -> Marks
+        ensures { HasRounds result }
+    {
+        Marks {
+            rounds: Vec::new(alloc),
+            round: 1,
+        }
     }
 
     /// Takes all marks away.
-    pub(crate) fn clear(&mut self) {
+    fn clear(&mut self)
+        requires { HasRounds self.old }
+        ensures { IsMarking self.new [] }
+    {
         if self.round == u32::MAX {
-            for round in self.rounds.iter_mut() {
-                *round = 0;
-            }
+            self.rounds.clear();
             self.round = 0;
         }
-        self.round = self.round.wrapping_add(1);
+        self.round += 1;
     }
 
     /// Whether a literal is marked.
-    pub(crate) fn has(&self, code: Code) -> bool {
-        self.rounds.get(code.place()).copied() == Some(self.round)
+    pub(crate) fn has(&self, literal: Literal) -> bool
+        ensures { (marked : List Literal) → IsMarking self.now marked →
+            result ≡ is_among marked literal }
+    {
+        self.rounds.get(place_of(literal)).copied().unwrap_or(0) == self.round
+    }
+
+    /// Makes room for the mark of a place.
+    fn reach(&mut self, place: usize) -> Result<(), AllocError>
+        requires { place < 2 ^ 33 }
+        ensures round { self.new.round ≡ self.old.round }
+        ensures within { OnOk result (place < length self.new.rounds.items) }
+        ensures same { OnOk result
+            ((k : ℕ) → slice_index self.new.rounds.items k ≡ slice_index self.old.rounds.items k) }
+    {
+        if place < self.rounds.len() {
+            return Ok(());
+        }
+        self.rounds.resize(place + 1, 0)?;
+        Ok(())
     }
 
     /// Marks a literal.
-    pub(crate) fn add(&mut self, code: Code) {
-        let place = code.place();
-        if place < self.rounds.len() {
-            self.rounds[place] = self.round;
-        }
+    fn add(&mut self, literal: Literal) -> Result<(), AllocError>
+        ensures { (marked : List Literal) → IsMarking self.old marked →
+            OnOk result (IsMarking self.new (marked ++ literal ∷ [])) }
+    {
+        let place = place_of(literal);
+        self.reach(place)?;
+        self.rounds[place] = self.round;
+        Ok(())
     }
 
-    /// Drops what stands twice among literals, and marks each of them.
-    pub(crate) fn drop_repeats(&mut self, literals: &mut Vec<Literal>) {
+    /// Keeps a literal, unless it is marked, and marks it.
+    fn keep_one(&mut self, literal: Literal, kept: &mut Vec<Literal>) -> Result<(), AllocError>
+        requires { IsMarking self.old kept.old.items }
+        ensures kept { OnOk result (kept.new.items ≡ with_literal kept.old.items literal) }
+        ensures marked { OnOk result (IsMarking self.new kept.new.items) }
+    {
+        if self.has(literal) {
+            return Ok(());
+        }
+        self.add(literal)?;
+        kept.push(literal)?;
+        Ok(())
+    }
+
+    /// Keeps each literal once, and marks it.
+    pub(crate) fn keep(
+        &mut self,
+        literals: &[Literal],
+        kept: &mut Vec<Literal>,
+    ) -> Result<(), AllocError>
+        requires { HasRounds self.old }
+        ensures kept { OnOk result (kept.new.items ≡ distinct literals.now) }
+        ensures marked { OnOk result (IsMarking self.new kept.new.items) }
+    {
         self.clear();
-        let mut kept = 0usize;
-        for index in 0..literals.len() {
-            let Some(&literal) = literals.get(index) else {
-                break;
-            };
-            let code = Code::of(literal);
-            if !self.has(code) {
-                self.add(code);
-                if kept < literals.len() {
-                    literals[kept] = literal;
-                }
-                kept = kept.wrapping_add(1);
+        kept.clear();
+        for &literal in literals {
+            self.keep_one(literal, kept)?;
+        }
+        Ok(())
+    }
+
+    /// Whether literals, all of which are marked, have one and its negation among them.
+    pub(crate) fn is_tautology(&self, literals: &[Literal]) -> bool
+        requires { IsMarking self.now literals.now }
+        ensures { result ≡ is_tautology literals.now }
+    {
+        for &literal in literals {
+            if self.has(negated(literal)) {
+                return true;
             }
         }
-        literals.truncate(kept);
+        false
     }
 }

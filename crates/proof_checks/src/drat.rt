@@ -1,8 +1,13 @@
 //! DRAT: each step is found to follow by unit propagation.
 
+ghost use Rattle.std.specs.Prelude.{◌≡◌, IfOk, IfErr, OnOk};
 ghost use Rattle.refutation.specs.Follows.{Entails};
+ghost use Rattle.proof_text.specs.Binary.{drat_steps_in};
+ghost use Rattle.proof_text.specs.Faults.{fault_of_step};
+ghost use Rattle.proof_checks.specs.Drat.{GoesOn, IsDratEnd, IsDratStop, IsStop};
+ghost use Rattle.proof_checks.specs.Marks.{HasRounds, IsMarking};
+ghost use Rattle.proof_checks.specs.Passed.{IsAdded, IsNotAdded, IsStepStop, Passed};
 
-use crate::code::Code;
 use crate::distinct::Marks;
 use crate::search::Search;
 use proof_text::{DratAction, DratSteps, StepFault};
@@ -19,28 +24,26 @@ fn search_of(alloc: Global, checker: &Checker, variables: u32) -> Result<Search,
     Ok(search)
 }
 
-/// Whether literals, all of which are marked, have one and its negation among them.
-fn is_tautology(marks: &Marks, literals: &[Literal]) -> bool {
-    literals
-        .iter()
-        .any(|literal| marks.has(Code::of(*literal).negated()))
-}
-
 /// What is kept from step to step.
 #[derive(Drop)]
 struct Drat {
     search: Search,
     marks: Marks,
+    // the literals of the step as they were read, and each once
     literals: Vec<Literal>,
+    clause: Vec<Literal>,
 }
 
 impl Drat {
     /// The clauses of a checker, and no step.
-    fn new(alloc: Global, checker: &Checker, variables: u32) -> Result<Drat, AllocError> {
+    fn new(alloc: Global, checker: &Checker, variables: u32) -> Result<Drat, AllocError>
+        ensures { IfOk result (λ d. HasRounds d.marks) }
+    {
         Ok(Drat {
             search: search_of(alloc, checker, variables)?,
-            marks: Marks::new(alloc, variables)?,
+            marks: Marks::new(alloc),
             literals: Vec::new(alloc),
+            clause: Vec::new(alloc),
         })
     }
 
@@ -50,49 +53,64 @@ impl Drat {
         checker: &mut Checker,
         steps: &mut DratSteps<'_>,
     ) -> Result<bool, StepFault>
+        requires { HasRounds self.old.marks }
         ensures follows { Entails checker.old.clauses checker.new.clauses }
+        ensures rounds { OnOk result (HasRounds self.new.marks) }
+        ensures on { IfOk result (GoesOn steps.old steps.new checker.new.clauses) }
+        ensures fault { IfErr result (λ f. IsStop steps.old (fault_of_step f)) }
     {
         match steps.read(&mut self.literals)? {
             None => Ok(false),
-            Some(action) => self.take(checker, action, steps.line()),
+            Some((line, action)) => self.take(checker, action, line),
         }
     }
 
-    /// Takes the step that was read.
+    /// Takes the step that was read, and says whether the proof goes on behind it.
     fn take(
         &mut self,
         checker: &mut Checker,
         action: DratAction,
         line: usize,
     ) -> Result<bool, StepFault>
+        requires { HasRounds self.old.marks }
         ensures follows { Entails checker.old.clauses checker.new.clauses }
+        ensures rounds { OnOk result (HasRounds self.new.marks) }
+        ensures on { IfOk result (Passed checker.new.clauses
+            (record { action = action; literals = self.old.literals.items })) }
+        ensures fault { IfErr result (λ f. IsStepStop line
+            (record { action = action; literals = self.old.literals.items }) (fault_of_step f)) }
     {
-        self.marks.drop_repeats(&mut self.literals);
+        self.marks.keep(&self.literals, &mut self.clause)?;
         match action {
             DratAction::Delete => {
-                self.search.forget(checker, &self.marks, &self.literals)?;
+                self.search.forget(checker, &self.marks, &self.clause)?;
                 Ok(true)
             }
-            DratAction::Add => {
-                self.add(checker, line)?;
-                Ok(!self.literals.is_empty())
-            }
+            DratAction::Add => self.add(checker, line),
         }
     }
 
-    /// Adds the clause of a step, where it follows by unit propagation. One that every assignment satisfies is passed over.
-    fn add(&mut self, checker: &mut Checker, line: usize) -> Result<(), StepFault>
+    /// Adds the clause of a step, where it follows by unit propagation, and says whether it has literals. One that every assignment
+    /// satisfies is passed over.
+    fn add(&mut self, checker: &mut Checker, line: usize) -> Result<bool, StepFault>
+        requires { IsMarking self.old.marks self.old.clause.items }
         ensures follows { Entails checker.old.clauses checker.new.clauses }
+        ensures marks { self.new.marks ≡ self.old.marks }
+        ensures on { IfOk result (λ on. IsAdded checker.new.clauses self.old.clause.items on) }
+        ensures fault { IfErr result (λ f. IsNotAdded line self.old.clause.items f) }
     {
-        if is_tautology(&self.marks, &self.literals) {
-            return Ok(());
+        if self.marks.is_tautology(&self.clause) {
+            return Ok(true);
         }
-        if !self.search.take(checker, &self.literals)? {
+        if !self.search.take(checker, &self.clause)? {
             return Err(StepFault::NotImplied { line });
         }
-        self.search.put(&self.literals)?;
+        if self.clause.is_empty() {
+            return Ok(false);
+        }
+        self.search.put(&self.clause)?;
         self.search.settle(checker)?;
-        Ok(())
+        Ok(true)
     }
 }
 
@@ -105,16 +123,17 @@ pub(crate) fn take_steps(
     binary: bool,
 ) -> Result<(), StepFault>
     ensures follows { Entails checker.old.clauses checker.new.clauses }
+    ensures ended { OnOk result
+        (IsDratEnd (drat_steps_in binary variables proof.now) checker.new.clauses) }
+    ensures fault { IfErr result (λ f.
+        IsDratStop (drat_steps_in binary variables proof.now) (fault_of_step f)) }
 {
     let mut drat = Drat::new(alloc, checker, variables)?;
     drat.search.settle(checker)?;
     let mut steps = DratSteps::new(proof, variables, binary);
-    for _ in 0..proof.len() {
-        let goes_on = drat.take_next(checker, &mut steps)?;
-        if !goes_on {
+    loop {
+        if !drat.take_next(checker, &mut steps)? {
             return Ok(());
         }
-        steps.next_line();
     }
-    Ok(())
 }

@@ -144,5 +144,5 @@ impl Index {
 
 /// Whether a clause has so many literals, all of them marked.
 fn is_marked(clause: &[Code], marks: &Marks, length: usize) -> bool {
-    clause.len() == length && clause.iter().all(|code| marks.has(*code))
+    clause.len() == length && clause.iter().all(|code| marks.has(code.literal()))
 }

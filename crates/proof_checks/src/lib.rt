@@ -13,10 +13,11 @@ mod store;
 mod tests;
 mod watches;
 
-ghost use Rattle.std.specs.Prelude.{◌≤◌, length, OnOk, IfErr};
+ghost use Rattle.std.specs.Prelude.{OnOk, IfErr};
 ghost use Rattle.refutation.specs.Follows.{Entails, IsRefuted};
-ghost use Rattle.proof_text.specs.Faults.{IsProofFault};
-ghost use Rattle.proof_text.specs.declared.TheConstants.{MAX_PROOF_BYTES};
+ghost use Rattle.proof_text.specs.Faults.{fault_of_step};
+ghost use Rattle.proof_text.specs.Forms.{form_of_text};
+ghost use Rattle.proof_checks.specs.Checked.{IsAccepted, IsEnded, IsProofFault, IsStepsFault, given_to};
 
 use proof_text::{Form, MAX_PROOF_BYTES, ProofFault, StepFault, form_of};
 use refutation::Checker;
@@ -30,6 +31,10 @@ fn take_steps(
     proof: &[u8],
 ) -> Result<(), StepFault>
     ensures follows { Entails checker.old.clauses checker.new.clauses }
+    ensures ended { OnOk result (IsEnded (form_of_text proof.now) (given_to checker.old variables)
+        proof.now checker.new.clauses) }
+    ensures fault { IfErr result (λ f. IsStepsFault (form_of_text proof.now)
+        (given_to checker.old variables) proof.now (fault_of_step f)) }
 {
     match form_of(proof) {
         Form::Lrat => lrat::take_steps(alloc, checker, variables, proof),
@@ -51,8 +56,8 @@ pub fn check_proof(
     proof: &[u8],
 ) -> Result<(), ProofFault>
     ensures refuted { OnOk result (IsRefuted checker.old.clauses) }
-    ensures within { OnOk result (length proof.now ≤ MAX_PROOF_BYTES) }
-    ensures fault { IfErr result (IsProofFault proof.now) }
+    ensures accepted { OnOk result (IsAccepted (given_to checker.old variables) proof.now) }
+    ensures fault { IfErr result (IsProofFault (given_to checker.old variables) proof.now) }
 {
     if proof.len() > MAX_PROOF_BYTES {
         return Err(ProofFault::TooLong);

@@ -1,6 +1,15 @@
 //! LRAT: each step names the clauses that it follows from.
 
+ghost use Rattle.std.specs.Prelude.{◌≡◌, ◌<◌, ◌∷◌, [], ◌++◌, None, Some, length, position, ◌==◌, IfOk, IfErr, IfSome, OnOk};
+ghost use Rattle.std.specs.List.Sorted.{IsStrictlyIncreasing};
+ghost use Rattle.serializability.specs.declared.literal.Literal.{Literal};
 ghost use Rattle.refutation.specs.Follows.{Entails};
+ghost use Rattle.proof_text.specs.Faults.{fault_of_step};
+ghost use Rattle.proof_text.specs.Steps.{LratStep, lrat_steps};
+ghost use Rattle.proof_checks.specs.Distinct.{distinct};
+ghost use Rattle.proof_checks.specs.Ends.{IsFault, end_fault};
+ghost use Rattle.proof_checks.specs.Lrat.{addition_fault, is_next, lrat_fault, named_at, number_at, standing_at, step_fault, without};
+ghost use Rattle.proof_checks.specs.Kept.{AreNumbers, GoesOn, IsAdded, IsKept, IsTaken, proof_of};
 
 use crate::distinct::Marks;
 use proof_text::{LratAction, LratSteps, StepFault};
@@ -8,134 +17,164 @@ use refutation::{Checker, take_step};
 use serializability::Literal;
 use std::alloc::{AllocError, Global};
 
-/// Which clause has which ID: those of the formula have the IDs from 1 on, and each added clause has a greater one than all before.
-#[derive(Drop)]
-struct Ids {
-    given: usize,
-    added: Vec<u64>,
+/// The place of an ID among those of added clauses. Where none is left out it is as far from the first place as the ID is from the
+/// first ID.
+fn added_at(added: &[u64], id: u64) -> Option<usize>
+    requires { IsStrictlyIncreasing added.now }
+    ensures { result ≡ position (λ x. x == id) added.now }
+{
+    let first = added.first().copied()?;
+    let guess = id.wrapping_sub(first) as usize;
+    if guess < added.len() && added[guess] == id {
+        return Some(guess);
+    }
+    added.binary_search(&id).ok()
 }
 
-impl Ids {
-    /// The number at which the checker has the clause with an ID.
-    fn number_of(&self, id: u64) -> Option<usize> {
-        if let Ok(number) = usize::try_from(id) {
-            if 0 < number && number <= self.given {
-                return Some(number.wrapping_sub(1));
-            }
-        }
-        Some(self.given.wrapping_add(self.added_at(id)?))
+/// The number at which the checker has the clause that got an ID: those of the formula have the IDs from 1 on, and each added clause
+/// has a greater one than all before.
+fn number_of(checker: &Checker, added: &[u64], id: u64) -> Option<usize>
+    requires { IsStrictlyIncreasing added.now }
+    ensures { result ≡ number_at (proof_of checker.now added.now) id }
+{
+    let given = checker.len().saturating_sub(added.len());
+    if 0 < id && id <= given as u64 {
+        return Some((id - 1) as usize);
     }
-
-    /// The place of an ID among those of added clauses. Where none is left out it is as far from the first place as the ID is
-    /// from the first ID.
-    fn added_at(&self, id: u64) -> Option<usize> {
-        let first = self.added.first().copied()?;
-        let guess = usize::try_from(id.wrapping_sub(first)).ok()?;
-        if self.added.get(guess).copied() == Some(id) {
-            return Some(guess);
-        }
-        self.added.binary_search(&id).ok()
-    }
-
-    /// Whether a clause that is added next may have an ID.
-    fn is_next(&self, id: u64) -> bool {
-        match self.added.last() {
-            Some(last) => *last < id,
-            None => (self.given as u64) < id,
-        }
-    }
-
-    fn add(&mut self, id: u64) -> Result<(), AllocError> {
-        self.added.push(id)?;
-        Ok(())
-    }
-}
-
-/// The numbers at which the checker has the clauses that a step names. A hint below 0 names a number that no clause has.
-fn resolve(
-    checker: &Checker,
-    ids: &Ids,
-    named: &[Option<u64>],
-    line: usize,
-    numbers: &mut Vec<usize>,
-) -> Result<(), StepFault> {
-    numbers.clear();
-    for id in named {
-        let number = match *id {
-            Some(id) => standing(checker, ids, id).ok_or(StepFault::BadLine { line })?,
-            None => usize::MAX,
-        };
-        push_number(numbers, number)?;
-    }
-    Ok(())
+    let place = added_at(added, id)?;
+    Some(given + place)
 }
 
 /// The number of a clause with an ID, where it stands.
-fn standing(checker: &Checker, ids: &Ids, id: u64) -> Option<usize> {
-    let number = ids.number_of(id)?;
-    checker.clause(number).map(|_| number)
+fn standing(checker: &Checker, added: &[u64], id: u64) -> Option<usize>
+    requires { IsStrictlyIncreasing added.now }
+    ensures { result ≡ standing_at (proof_of checker.now added.now) id }
+{
+    let number = number_of(checker, added, id)?;
+    match checker.clause(number) {
+        Some(_) => Some(number),
+        None => None,
+    }
 }
 
-fn push_number(numbers: &mut Vec<usize>, number: usize) -> Result<(), AllocError> {
-    numbers.push(number)?;
+/// The number that a step names. That of an ID below 0 has no clause.
+fn named(checker: &Checker, added: &[u64], id: Option<u64>) -> Option<usize>
+    requires { IsStrictlyIncreasing added.now }
+    ensures { result ≡ named_at (proof_of checker.now added.now) id }
+{
+    match id {
+        Some(id) => standing(checker, added, id),
+        None => Some(checker.len()),
+    }
+}
+
+/// Finds the numbers of the clauses that a step names, and says whether all of them stand.
+fn resolve(
+    checker: &Checker,
+    added: &[u64],
+    ids: &[Option<u64>],
+    numbers: &mut Vec<usize>,
+) -> Result<bool, AllocError>
+    requires { IsStrictlyIncreasing added.now }
+    ensures { IfOk result (AreNumbers (proof_of checker.now added.now) ids.now numbers.new.items) }
+{
+    numbers.clear();
+    for id in ids {
+        match named(checker, added, *id) {
+            Some(number) => numbers.push(number)?,
+            None => return Ok(false),
+        }
+    }
+    Ok(true)
+}
+
+/// Whether a clause that is added next may have an ID.
+fn is_next(checker: &Checker, added: &[u64], id: u64) -> bool
+    ensures { result ≡ is_next (proof_of checker.now added.now) id }
+{
+    match added.last() {
+        Some(last) => *last < id,
+        None => (checker.len() as u64) < id,
+    }
+}
+
+fn push_id(added: &mut Vec<u64>, id: u64) -> Result<(), AllocError>
+    ensures { OnOk result (added.new.items ≡ added.old.items ++ id ∷ []) }
+{
+    added.push(id)?;
     Ok(())
 }
 
 /// Adds the clause of a step, where its hints show that it follows.
-fn add(
+fn add_clause(
     checker: &mut Checker,
-    ids: &mut Ids,
+    added: &mut Vec<u64>,
     id: u64,
     line: usize,
     literals: &[Literal],
     hints: &[usize],
 ) -> Result<(), StepFault>
+    requires { IsStrictlyIncreasing added.old.items }
     ensures follows { Entails checker.old.clauses checker.new.clauses }
+    ensures known { OnOk result (length checker.new.known ≡ length checker.old.known) }
+    ensures ascends { OnOk result (IsStrictlyIncreasing added.new.items) }
+    ensures clauses { OnOk result
+        (checker.new.clauses ≡ checker.old.clauses ++ Some literals.now ∷ []) }
+    ensures added { OnOk result (added.new.items ≡ added.old.items ++ id ∷ []) }
+    ensures taken { OnOk result
+        (addition_fault (length checker.old.known) line (proof_of checker.old added.old.items) id literals.now hints.now ≡ None) }
+    ensures fault { IfErr result (λ f. IsFault (fault_of_step f)
+        (addition_fault (length checker.old.known) line (proof_of checker.old added.old.items) id literals.now hints.now)) }
 {
-    if !ids.is_next(id) {
+    if !is_next(checker, added, id) {
         return Err(StepFault::BadLine { line });
     }
     if !take_step(checker, literals, hints)? {
         return Err(StepFault::NotImplied { line });
     }
-    ids.add(id)?;
+    push_id(added, id)?;
     Ok(())
 }
 
 /// Forgets clauses.
-fn delete(checker: &mut Checker, numbers: &[usize]) -> Result<(), StepFault>
+fn delete(checker: &mut Checker, numbers: &[usize]) -> Result<(), AllocError>
     ensures follows { Entails checker.old.clauses checker.new.clauses }
+    ensures known { length checker.new.known ≡ length checker.old.known }
+    ensures clauses { checker.new.clauses ≡ without numbers.now checker.old.clauses }
 {
     for &number in numbers {
         checker.forget(number);
     }
-    checker.reclaim()?;
-    Ok(())
+    checker.reclaim()
 }
 
 /// What is kept from step to step.
 #[derive(Drop)]
 struct Lrat {
-    ids: Ids,
+    // the IDs of the added clauses, each greater than all before
+    added: Vec<u64>,
     marks: Marks,
+    // what was read of the step, and what it is
     literals: Vec<Literal>,
-    named: Vec<Option<u64>>,
+    ids: Vec<Option<u64>>,
+    clause: Vec<Literal>,
     numbers: Vec<usize>,
 }
 
 impl Lrat {
-    /// The clauses of a formula, so many, and no step.
-    fn new(alloc: Global, given: usize, variables: u32) -> Result<Lrat, AllocError> {
-        Ok(Lrat {
-            ids: Ids {
-                given,
-                added: Vec::new(alloc),
-            },
-            marks: Marks::new(alloc, variables)?,
+    /// No step.
+    fn new(alloc: Global) -> Lrat
+        ensures kept { IsKept result }
+        ensures none { result.added.items ≡ [] }
+    {
+        Lrat {
+            added: Vec::new(alloc),
+            marks: Marks::new(alloc),
             literals: Vec::new(alloc),
-            named: Vec::new(alloc),
+            ids: Vec::new(alloc),
+            clause: Vec::new(alloc),
             numbers: Vec::new(alloc),
-        })
+        }
     }
 
     /// Takes the next step, and says whether the proof goes on behind it: not at its end, nor behind the empty clause.
@@ -144,11 +183,18 @@ impl Lrat {
         checker: &mut Checker,
         steps: &mut LratSteps<'_>,
     ) -> Result<bool, StepFault>
+        requires { IsKept self.old }
         ensures follows { Entails checker.old.clauses checker.new.clauses }
+        ensures kept { OnOk result (IsKept self.new) }
+        ensures known { OnOk result (length checker.new.known ≡ length checker.old.known) }
+        ensures on { IfOk result (λ on. GoesOn (length checker.old.known) steps.old steps.new
+            (proof_of checker.old self.old.added.items) (proof_of checker.new self.new.added.items) on) }
+        ensures fault { IfErr result (λ f. IsFault (fault_of_step f)
+            (lrat_fault (length checker.old.known) steps.old (proof_of checker.old self.old.added.items))) }
     {
-        match steps.read(&mut self.literals, &mut self.named)? {
+        match steps.read(&mut self.literals, &mut self.ids)? {
             None => Ok(false),
-            Some(action) => self.take(checker, action, steps.line()),
+            Some((line, action)) => self.take(checker, action, line),
         }
     }
 
@@ -159,27 +205,46 @@ impl Lrat {
         action: LratAction,
         line: usize,
     ) -> Result<bool, StepFault>
+        requires { IsKept self.old }
         ensures follows { Entails checker.old.clauses checker.new.clauses }
+        ensures kept { OnOk result (IsKept self.new) }
+        ensures known { OnOk result (length checker.new.known ≡ length checker.old.known) }
+        ensures taken { IfOk result (IsTaken (length checker.old.known) line
+            (proof_of checker.old self.old.added.items) (proof_of checker.new self.new.added.items)
+            (record { action = action; literals = self.old.literals.items; ids = self.old.ids.items })) }
+        ensures fault { IfErr result (λ f. IsFault (fault_of_step f)
+            (step_fault (length checker.old.known) line (proof_of checker.old self.old.added.items)
+                (record { action = action; literals = self.old.literals.items; ids = self.old.ids.items }))) }
     {
-        resolve(checker, &self.ids, &self.named, line, &mut self.numbers)?;
+        if !resolve(checker, &self.added, &self.ids, &mut self.numbers)? {
+            return Err(StepFault::BadLine { line });
+        }
         match action {
             LratAction::Delete => {
                 delete(checker, &self.numbers)?;
                 Ok(true)
             }
-            LratAction::Add(id) => {
-                self.marks.drop_repeats(&mut self.literals);
-                add(
-                    checker,
-                    &mut self.ids,
-                    id,
-                    line,
-                    &self.literals,
-                    &self.numbers,
-                )?;
-                Ok(!self.literals.is_empty())
-            }
+            LratAction::Add(id) => self.add(checker, id, line),
         }
+    }
+
+    /// Adds the clause that was read under an ID, and says whether it has literals.
+    fn add(&mut self, checker: &mut Checker, id: u64, line: usize) -> Result<bool, StepFault>
+        requires { IsKept self.old }
+        ensures follows { Entails checker.old.clauses checker.new.clauses }
+        ensures kept { OnOk result (IsKept self.new) }
+        ensures known { OnOk result (length checker.new.known ≡ length checker.old.known) }
+        ensures added { IfOk result (IsAdded (length checker.old.known) line
+            (proof_of checker.old self.old.added.items) (proof_of checker.new self.new.added.items)
+            id self.old.literals.items self.old.numbers.items) }
+        ensures fault { IfErr result (λ f. IsFault (fault_of_step f)
+            (addition_fault (length checker.old.known) line (proof_of checker.old self.old.added.items)
+                id (distinct self.old.literals.items) self.old.numbers.items)) }
+    {
+        self.marks.keep(&self.literals, &mut self.clause)?;
+        let added = &mut self.added;
+        add_clause(checker, added, id, line, &self.clause, &self.numbers)?;
+        Ok(!self.clause.is_empty())
     }
 }
 
@@ -191,15 +256,16 @@ pub(crate) fn take_steps(
     proof: &[u8],
 ) -> Result<(), StepFault>
     ensures follows { Entails checker.old.clauses checker.new.clauses }
+    ensures ended { OnOk result (lrat_fault (length checker.old.known) (lrat_steps variables proof.now)
+        (proof_of checker.old []) ≡ end_fault checker.new.clauses) }
+    ensures fault { IfErr result (λ f. IsFault (fault_of_step f)
+        (lrat_fault (length checker.old.known) (lrat_steps variables proof.now) (proof_of checker.old []))) }
 {
-    let mut lrat = Lrat::new(alloc, checker.len(), variables)?;
+    let mut lrat = Lrat::new(alloc);
     let mut steps = LratSteps::new(proof, variables);
-    for _ in 0..proof.len() {
-        let goes_on = lrat.take_next(checker, &mut steps)?;
-        if !goes_on {
+    loop {
+        if !lrat.take_next(checker, &mut steps)? {
             return Ok(());
         }
-        steps.next_line();
     }
-    Ok(())
 }

@@ -3,6 +3,7 @@
 //! A literal that the clauses alone force is a root. The checker has it as a unit clause of its own, so that each later step that
 //! needs it is shown one clause for it.
 
+ghost use Rattle.std.specs.Prelude.{◌≡◌, ◌++◌, ◌∷◌, [], Some, IfOk, IsTrue};
 ghost use Rattle.refutation.specs.Follows.{Entails};
 
 use crate::code::{Code, places};
@@ -372,6 +373,8 @@ impl Search {
         literals: &[Literal],
     ) -> Result<bool, AllocError>
         ensures follows { Entails checker.old.clauses checker.new.clauses }
+        ensures stands { IfOk result (λ taken. IsTrue taken →
+            checker.new.clauses ≡ checker.old.clauses ++ Some literals.now ∷ []) }
     {
         let found = self.find_hints(literals)?;
         Ok(found && take_step(checker, literals, &self.hints)?)

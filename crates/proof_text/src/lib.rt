@@ -4,13 +4,14 @@
 //! Nothing rests on how a text is read: whatever steps come out, a checker takes only those that follow.
 #![tactic(auto)]
 
-mod cursor;
 mod drat;
 mod fault;
 mod form;
 mod lrat;
+mod number;
 #[cfg(test)]
 mod tests;
+mod words;
 
 pub use drat::{DratAction, DratSteps};
 pub use fault::{ProofFault, StepFault};

@@ -1,9 +1,13 @@
 //! LRAT as text: `ID LITERALS 0 HINTS 0` adds a clause, and `ID d IDS 0` deletes clauses.
 
-use crate::cursor::Cursor;
+ghost use Rattle.std.specs.Prelude.{◌≡◌};
+ghost use Rattle.proof_text.specs.Reads.{IsRead};
+ghost use Rattle.proof_text.specs.Steps.{lrat_steps};
+
 use crate::fault::StepFault;
+use crate::words::Lines;
 use serializability::Literal;
-use std::alloc::AllocError;
+use std::marker::Model;
 
 /// What a step of an LRAT proof does.
 #[derive(Clone, Copy, Debug, PartialEq, Eq)]
@@ -14,81 +18,50 @@ pub enum LratAction {
     Delete,
 }
 
-/// The steps of an LRAT proof that are left.
+/// The steps of an LRAT proof that are left. Contracts see each with its line, and none where the line has no form.
 #[derive(Drop)]
 pub struct LratSteps<'a> {
-    cursor: Cursor<'a>,
+    text: Lines<'a>,
     variables: u32,
+}
+
+impl<'a> Model for LratSteps<'a> {
+    ghost use Rattle.std.specs.Prelude.{List, Option, ℕ};
+    ghost use Rattle.proof_text.specs.Steps.{LratStep};
+
+    ghost Value = { List (ℕ × Option LratStep) };
+
+    ghost use Rattle.proof_text.specs.Steps.{steps_by, lrat_step};
+
+    ghost view = { λ s. steps_by (lrat_step s.variables) s.text };
 }
 
 impl<'a> LratSteps<'a> {
     /// The steps of a text for a formula of so many variables.
-    pub fn new(text: &'a [u8], variables: u32) -> LratSteps<'a> {
+    #[tactic(auto, unfolding(crate::specs::Steps::lrat_steps))]
+    pub fn new(text: &'a [u8], variables: u32) -> LratSteps<'a>
+        requires { ⊥ }
+        ensures { result ≡ lrat_steps variables text.now }
+    {
         LratSteps {
-            cursor: Cursor::new(text),
+            text: Lines::of(text),
             variables,
         }
     }
 
-    /// The line of the step that was read last, or is read next.
-    pub fn line(&self) -> usize {
-        self.cursor.line()
-    }
-
-    /// Goes on to the line behind the step that was read last.
-    pub fn next_line(&mut self) {
-        self.cursor.next_line();
-    }
-
-    /// Reads the next step, where there is one: its literals, and the numbers of the clauses that it names. A number below 0,
+    /// Reads the next step, where there is one: its line, what it does, its literals, and the IDs that it names. An ID below 0,
     /// by which LRAT begins the hints of a resolution asymmetric tautology, is none.
     pub fn read(
         &mut self,
         literals: &mut Vec<Literal>,
         ids: &mut Vec<Option<u64>>,
-    ) -> Result<Option<LratAction>, StepFault> {
-        if !self.cursor.find_line() {
-            return Ok(None);
-        }
-        let id = self.cursor.number()?;
-        if id.negative || id.size == 0 {
-            return Err(self.cursor.bad_line());
-        }
-        literals.clear();
-        let action = if self.cursor.letter(b'd') {
-            LratAction::Delete
-        } else {
-            self.cursor.literals(self.variables, literals)?;
-            LratAction::Add(id.size)
-        };
-        self.read_ids(action, ids)?;
-        self.cursor.end_line()?;
-        Ok(Some(action))
+    ) -> Result<Option<(usize, LratAction)>, StepFault>
+        ensures { IsRead self.old self.new (λ action. record {
+            action = action;
+            literals = literals.new.items;
+            ids = ids.new.items;
+        }) result }
+    {
+        Err(StepFault::Memory)
     }
-
-    /// Reads the numbers of clauses up to the 0 behind them.
-    fn read_ids(
-        &mut self,
-        action: LratAction,
-        ids: &mut Vec<Option<u64>>,
-    ) -> Result<(), StepFault> {
-        ids.clear();
-        for _ in 0..self.cursor.left() {
-            let number = self.cursor.number()?;
-            if number.size == 0 {
-                return Ok(());
-            }
-            if number.negative && action == LratAction::Delete {
-                return Err(self.cursor.bad_line());
-            }
-            push_id(ids, (!number.negative).then_some(number.size))?;
-        }
-        Err(self.cursor.bad_line())
-    }
-}
-
-/// Adds a number of a clause.
-fn push_id(ids: &mut Vec<Option<u64>>, id: Option<u64>) -> Result<(), AllocError> {
-    ids.push(id)?;
-    Ok(())
 }

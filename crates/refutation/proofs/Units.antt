@@ -1,8 +1,8 @@
 -- Unit propagation: what follows where all literals of a clause are false, or all but one.
-use Rattle.std.proofs.Common.{◌≡◌, ℕ, ◌+◌, ◌<◌, ◌≤◌, zero, suc, Bool, true, false, not, ◌||◌, if◌then◌else◌, List, [], ◌∷◌, ◌++◌, length, take, drop, slice_set, slice_get, get_or, Option, Some, None, is_some, option_to_list, unwrap_or, map, Contains, refl, ap, subst, sym, ◌∙◌, inl, inr, arith, length-append, add-one}
+use Rattle.std.proofs.Common.{◌≡◌, ℕ, ◌+◌, ◌<◌, ◌≤◌, zero, suc, Bool, true, false, not, ◌||◌, if◌then◌else◌, List, [], ◌∷◌, ◌++◌, length, take, drop, slice_set, slice_get, get_or, Option, Some, None, is_some, option_to_list, unwrap_or, map, Contains, refl, ap, subst, sym, ◌∙◌, inl, inr, arith, length-append, length-set, add-one}
 use Rattle.std.specs.List.{AllByRecursion}
 use Rattle.std.proofs.Math.Seq.{drop-cons, take-suc}
-use Rattle.std.proofs.lemmas.List.{take-append-drop}
+use Rattle.std.proofs.lemmas.List.{take-append-drop, length-replicate}
 use Rattle.std.proofs.lemmas.List.Elements.{filter_more, filter-append}
 use Rattle.std.proofs.lemmas.Option.{slice_get-get_or, slice_get_within, get_or_from_slice_get}
 use Rattle.serializability.specs.Formula.{value_of, literal_true, clause_true}
@@ -262,3 +262,11 @@ hinted_nothing h hints cs known two = by_clause (clause_at cs h) two
     by_clause : (o : Option (List Literal)) → ((c : List Literal) → o ≡ Some c → 2 ≤ length (left_of known c)) → looked (option_map (left_of known) o) (λ l. hinted hints cs (with_true known l)) ≡ false
     by_clause None t = refl
     by_clause (Some c) t = by_left (left_of known c) (t c refl)
+
+-- as many variables are known of, whichever are made false
+pub length_false : (c : List Literal) (known : List (Option Bool)) → length (with_false c known) ≡ length known
+length_false [] known = refl
+length_false (l ∷ c) known = length_false c (slice_set known l.variable (Some (not l.positive))) ∙ length-set known l.variable (Some (not l.positive))
+
+pub length_assumed : (c : List Literal) (n : ℕ) (known : List (Option Bool)) → known ≡ with_false c (all_open n) → length known ≡ n
+length_assumed c n known e = ap length e ∙ length_false c (all_open n) ∙ length-replicate n None

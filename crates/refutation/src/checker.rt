@@ -99,6 +99,7 @@ impl Checker {
     /// Forgets the clause with a number, and what the step knew.
     pub fn forget(&mut self, number: usize)
         ensures clauses { self.new.clauses ≡ slice_set self.old.clauses number None }
+        ensures known { self.new.known ≡ all_open (length self.old.known) }
         ensures follows { Entails self.old.clauses self.new.clauses }
     {
         self.assigned.clear();

@@ -1,6 +1,6 @@
 //! Steps whose hints say which clauses are to be shown.
 
-ghost use Rattle.std.specs.Prelude.{IfOk, OnErr, ◌≡◌, length};
+ghost use Rattle.std.specs.Prelude.{IfOk, OnOk, OnErr, ◌≡◌, length};
 ghost use Rattle.refutation.specs.Follows.{Entails};
 ghost use Rattle.refutation.specs.Hinted.{hinted};
 ghost use Rattle.refutation.specs.Known.{with_false, all_open};
@@ -21,6 +21,7 @@ pub fn take_step(
     ensures taken { IfOk result (λ t. Steps checker.old checker.new step.now t) }
     ensures exactly { IfOk result (λ t. t ≡ hinted hints.now checker.old.clauses
         (with_false step.now (all_open (length checker.old.known)))) }
+    ensures known { OnOk result (length checker.new.known ≡ length checker.old.known) }
     ensures follows { Entails checker.old.clauses checker.new.clauses }
     ensures same { OnErr result (checker.new.clauses ≡ checker.old.clauses) }
 {

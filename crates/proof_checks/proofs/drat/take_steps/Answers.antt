@@ -1,11 +1,17 @@
 use Rattle.refutation.proofs.Units.{entails_then}
+use Rattle.proof_text.specs.Faults.{fault_of_step}
+use Rattle.proof_checks.proofs.Passed.{none_passed, passed_more, passed_less, passed_end, passed_stop}
 use Rattle.proof_checks.proofs.drat.take_steps.Goals as goal
 
-pub returns-in_err-goes_on : goal.returns-in_err-goes_on
-returns-in_err-goes_on c = record { follows = entails_then c.args.checker.now.clauses c.loop.checker.clauses c.take_next.new.checker.clauses c.loop.invariant c.take_next.ensures.follows }
+pub loop-drat-init : goal.loop-drat-init
+loop-drat-init c = record { follows = c.settle.ensures.follows; rounds = c.in_ok-drat.ensures; passes = none_passed _ _ c.new-steps.ensures }
 
-pub returns-then-not-goes_on : goal.returns-then-not-goes_on
-returns-then-not-goes_on c = record { follows = entails_then c.args.checker.now.clauses c.loop.checker.clauses c.take_next.new.checker.clauses c.loop.invariant c.take_next.ensures.follows }
+pub loop-drat-preserved : goal.loop-drat-preserved
+loop-drat-preserved c = record {
+  follows = entails_then c.args.checker.now.clauses c.loop-drat.checker.clauses c.take_next.new.checker.clauses c.loop-drat.invariant.follows c.take_next.ensures.follows;
+  rounds = c.in_ok-take_next.ensures.rounds;
+  passes = passed_more _ c.loop-drat.steps c.take_next.new.steps c.take_next.new.checker.clauses c.in_ok-take_next.field-0 c.loop-drat.invariant.passes c.in_ok-take_next.ensures.on c.if-not-branch.false;
+}
 
-pub loop-preserved : goal.loop-preserved
-loop-preserved c = entails_then c.args.checker.now.clauses c.loop.checker.clauses c.take_next.new.checker.clauses c.loop.invariant c.take_next.ensures.follows
+pub loop-drat-smaller : goal.loop-drat-smaller
+loop-drat-smaller c = passed_less c.loop-drat.steps c.take_next.new.steps c.take_next.new.checker.clauses c.in_ok-take_next.field-0 c.in_ok-take_next.ensures.on c.if-not-branch.false

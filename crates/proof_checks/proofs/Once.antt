@@ -1,0 +1,88 @@
+-- Literals that are kept once.
+use Rattle.std.proofs.Common.{◌≡◌, ℕ, ◌+◌, ◌<◌, ◌≤◌, Bool, true, false, not, ◌||◌, eqb, ◌==◌, if◌then◌else◌, List, [], ◌∷◌, ◌++◌, length, filter, take, refl, sym, ap, ◌∙◌, get_or, add-one, append-nil, arith, take_all}
+use Rattle.std.proofs.Math.Seq.{take-suc}
+use Rattle.std.proofs.lemmas.Bool.{eqb-true, eqb-false, eq-eqb, ne_eqb}
+use Rattle.std.specs.List.{list_any}
+use Rattle.std.proofs.lemmas.List.Folds.{list_any_more}
+use Rattle.std.proofs.lemmas.List.Elements.{filter-append}
+use Rattle.serializability.specs.declared.literal.Literal.{Literal}
+use Rattle.proof_checks.specs.Distinct.{code_of, is_same, is_among, with_literal, distinct}
+use Rattle.proof_checks.specs.Ends.{is_nil}
+
+pub eqb_sym : (a b : ℕ) → eqb a b ≡ eqb b a
+eqb_sym a b = by_test (eqb a b) refl
+  where
+    by_test : (t : Bool) → eqb a b ≡ t → eqb a b ≡ eqb b a
+    by_test true e = e ∙ sym (eq-eqb b a (sym (eqb-true a b e)))
+    by_test false e = e ∙ sym (ne_eqb b a (λ h. eqb-false a b e (sym h)))
+
+-- a literal stands among literals as it stands among them without another
+among_others : (l m : Literal) (ls : List Literal) → is_same l m ≡ false → is_among (filter (λ k. not (is_same m k)) ls) l ≡ is_among ls l
+among_others l m [] h = refl
+among_others l m (k ∷ ls) h = by_test (among_others l m ls h) (is_same m k) refl
+  where
+    by_test : is_among (filter (λ k. not (is_same m k)) ls) l ≡ is_among ls l → (b : Bool) → is_same m k ≡ b → is_among (filter (λ k. not (is_same m k)) (k ∷ ls)) l ≡ is_among (k ∷ ls) l
+    by_test rest true e =
+        let apart : is_same l k ≡ false = ap (eqb (code_of l)) (sym (eqb-true (code_of m) (code_of k) e)) ∙ h in
+        ap (λ b. is_among (if not b then k ∷ filter (λ k. not (is_same m k)) ls else filter (λ k. not (is_same m k)) ls) l) e
+        ∙ (rest ∙ sym (ap (λ b. b || is_among ls l) apart))
+    by_test rest false e =
+        ap (λ b. is_among (if not b then k ∷ filter (λ k. not (is_same m k)) ls else filter (λ k. not (is_same m k)) ls) l) e
+        ∙ ap (λ b. is_same l k || b) rest
+
+dropped : (y x : Literal) (b : Bool) → is_same y x ≡ true → filter (λ m. not (is_same y m)) (if b then [] else x ∷ []) ≡ []
+dropped y x true e = refl
+dropped y x false e = ap (λ b. if not b then x ∷ [] else []) e
+
+kept_on : (y x : Literal) (b : Bool) → is_same y x ≡ false → filter (λ m. not (is_same y m)) (if b then [] else x ∷ []) ≡ (if b then [] else x ∷ [])
+kept_on y x true e = refl
+kept_on y x false e = ap (λ b. if not b then x ∷ [] else []) e
+
+more_by : (y x : Literal) (ds whole : List Literal) (b : Bool) → is_same y x ≡ b → whole ≡ filter (λ m. not (is_same y m)) ds ++ filter (λ m. not (is_same y m)) (if is_among ds x then [] else x ∷ [])
+    → y ∷ whole ≡ y ∷ filter (λ m. not (is_same y m)) ds ++ (if is_same x y || is_among (filter (λ m. not (is_same y m)) ds) x then [] else x ∷ [])
+more_by y x ds whole true e w =
+    let others : List Literal = filter (λ m. not (is_same y m)) ds in
+    let same : is_same x y ≡ true = eqb_sym (code_of x) (code_of y) ∙ e in
+    ap (λ (t : List Literal). y ∷ t) (w ∙ ap (λ (t : List Literal). others ++ t) (dropped y x (is_among ds x) e))
+    ∙ sym (ap (λ b. y ∷ others ++ (if b || is_among others x then [] else x ∷ [])) same)
+more_by y x ds whole false e w =
+    let others : List Literal = filter (λ m. not (is_same y m)) ds in
+    let apart : is_same x y ≡ false = eqb_sym (code_of x) (code_of y) ∙ e in
+    ap (λ (t : List Literal). y ∷ t) (w ∙ ap (λ (t : List Literal). others ++ t) (kept_on y x (is_among ds x) e))
+    ∙ (sym (ap (λ b. y ∷ others ++ (if b then [] else x ∷ [])) (among_others x y ds apart))
+      ∙ sym (ap (λ b. y ∷ others ++ (if b || is_among others x then [] else x ∷ [])) apart))
+
+distinct_more : (ls : List Literal) (x : Literal) → distinct (ls ++ x ∷ []) ≡ with_literal (distinct ls) x
+unfolding distinct
+distinct_more [] x = refl
+distinct_more (y ∷ ls) x = more_by y x (distinct ls) (filter (λ m. not (is_same y m)) (distinct (ls ++ x ∷ []))) (is_same y x) refl
+    (ap (filter (λ m. not (is_same y m))) (distinct_more ls x) ∙ filter-append (λ m. not (is_same y m)) (distinct ls) (if is_among (distinct ls) x then [] else x ∷ []))
+
+-- one literal more
+pub kept_more : (kept new ls : List Literal) (i : ℕ) (d : Literal) → i < length ls → kept ≡ distinct (take i ls) → new ≡ with_literal kept (get_or ls i d) → new ≡ distinct (take (i + 1) ls)
+kept_more kept new ls i d lt e n =
+    n ∙ ap (λ (k : List Literal). with_literal k (get_or ls i d)) e
+    ∙ (sym (distinct_more (take i ls) (get_or ls i d)) ∙ sym (ap distinct (rw add-one (take-suc ls i d lt))))
+
+pub none_kept : (kept ls : List Literal) → kept ≡ [] → kept ≡ distinct (take 0 ls)
+unfolding distinct
+none_kept kept ls e = e
+
+pub nil_kept : (kept ls : List Literal) → kept ≡ distinct ls → (length kept == 0) ≡ is_nil ls
+unfolding distinct
+nil_kept kept [] e = ap (λ (k : List Literal). length k == 0) e
+nil_kept kept (l ∷ ls) e = ne_eqb (length kept) 0 (λ h. let long = ap length e in omega (arith, long, h))
+
+-- a kept literal is marked
+pub same_kept : (kept : List Literal) (l : Literal) → is_among kept l ≡ true → kept ≡ with_literal kept l
+same_kept kept l t = sym (ap (λ b. kept ++ (if b then [] else l ∷ [])) t ∙ append-nil kept)
+
+pub other_kept : (kept new : List Literal) (l : Literal) → is_among kept l ≡ false → new ≡ kept ++ l ∷ [] → new ≡ with_literal kept l
+other_kept kept new l t e = e ∙ sym (ap (λ b. kept ++ (if b then [] else l ∷ [])) t)
+
+-- a test that no literal up to a place passes
+pub none_more : (test : Literal → Bool) (ls : List Literal) (i : ℕ) (d : Literal) → i < length ls → list_any test (take i ls) ≡ false → test (get_or ls i d) ≡ false → list_any test (take (i + 1) ls) ≡ false
+none_more test ls i d lt before here = list_any_more test ls i d lt ∙ (ap (λ b. b || test (get_or ls i d)) before ∙ here)
+
+pub none_in_all : (test : Literal → Bool) (ls : List Literal) (i : ℕ) → length ls ≤ i → list_any test (take i ls) ≡ false → list_any test ls ≡ false
+none_in_all test ls i le before = sym (ap (list_any test) (take_all i ls le)) ∙ before

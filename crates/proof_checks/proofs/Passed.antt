@@ -1,0 +1,59 @@
+-- What the steps of a DRAT proof do to its first fault, and which clauses stand at its end.
+use Rattle.std.proofs.Common.{◌≡◌, ℕ, suc, ◌+◌, ◌<◌, Bool, true, false, ◌||◌, ◌↔◌, IsTrue, IsFalse, List, [], ◌∷◌, ◌++◌, length, map, Contains, Option, Some, None, refl, sym, ap, subst, ◌∙◌, append_assoc, arith}
+use Rattle.std.specs.List.{list_any, AllByRecursion}
+use Rattle.std.proofs.lemmas.List.{map-append}
+use Rattle.std.proofs.lemmas.List.Folds.{list_any_at}
+use Rattle.serializability.specs.declared.literal.Literal.{Literal}
+use Rattle.proof_text.specs.Steps.{DratStep}
+use Rattle.proof_text.specs.declared.fault.ProofFault.{ProofFault}
+use Rattle.proof_text.specs.declared.fault.ProofFault.TheVariants as proof
+use Rattle.proof_checks.specs.Drat.{adds_empty, as_read, Passes, GoesOn, IsStop, IsDratFault, IsDratStop, IsDratEnd}
+use Rattle.proof_checks.specs.Ends.{is_empty_clause}
+
+pub none_passed : (all left : List (ℕ × Option DratStep)) → left ≡ all → (passed : List (ℕ × DratStep)) × Passes all passed left
+none_passed all left e = ([], record { all = sym e; none = tt })
+
+one_more : (passed : List (ℕ × DratStep)) (s : ℕ × DratStep) → AllByRecursion (λ t. IsFalse (adds_empty t.1)) passed → IsFalse (adds_empty s.1) → AllByRecursion (λ t. IsFalse (adds_empty t.1)) (passed ++ s ∷ [])
+one_more [] s h e = (e, tt)
+one_more (t ∷ passed) s h e = (h.0, one_more passed s h.1 e)
+
+pub passed_more : (all now left : List (ℕ × Option DratStep)) (clauses : List (Option (List Literal))) (on : Bool) → (passed : List (ℕ × DratStep)) × Passes all passed now → GoesOn now left clauses on → on ≡ true → (passed : List (ℕ × DratStep)) × Passes all passed left
+passed_more all now left clauses false p g t = cc
+passed_more all now left clauses true p g t = (
+  p.0 ++ (g.0, g.1) ∷ [],
+  record {
+    all = p.1.all ∙ (ap (λ (r : List (ℕ × Option DratStep)). map as_read p.0 ++ r) g.2
+      ∙ (sym (append_assoc (map as_read p.0) ((g.0, Some g.1) ∷ []) left) ∙ ap (λ (r : List (ℕ × Option DratStep)). r ++ left) (sym (map-append as_read p.0 ((g.0, g.1) ∷ [])))));
+    none = one_more p.0 (g.0, g.1) p.1.none g.3;
+  },
+)
+
+pub passed_less : (now left : List (ℕ × Option DratStep)) (clauses : List (Option (List Literal))) (on : Bool) → GoesOn now left clauses on → on ≡ true → length left < length now
+passed_less now left clauses false g t = cc
+passed_less now left clauses true g t = let long = ap length g.2 in omega (arith, long)
+
+pub passed_end : (all now left : List (ℕ × Option DratStep)) (clauses : List (Option (List Literal))) (on : Bool) → (passed : List (ℕ × DratStep)) × Passes all passed now → GoesOn now left clauses on → on ≡ false → IsDratEnd all clauses
+passed_end all now left clauses true p g t = cc
+passed_end all now left clauses false p g t = λ none. record { passed = p.0; left = now; passes = p.1; stops = g none }
+
+pub passed_stop : (all now : List (ℕ × Option DratStep)) (f : ProofFault) → (passed : List (ℕ × DratStep)) × Passes all passed now → IsStop now f → IsDratStop all f
+passed_stop all now (proof.BadLine k) p s = record { passed = p.0; left = now; passes = p.1; stops = s }
+passed_stop all now (proof.NotImplied k) p s = record { passed = p.0; left = now; passes = p.1; stops = s }
+passed_stop all now proof.NoEmptyClause p s = record { passed = p.0; left = now; passes = p.1; stops = s }
+passed_stop all now proof.TooLong p s = record { passed = p.0; left = now; passes = p.1; stops = s }
+passed_stop all now proof.Memory p s = tt
+
+-- whether the empty clause stands, by a test and by a list
+stands_in : (cs : List (Option (List Literal))) → list_any is_empty_clause cs ≡ true → Contains cs (Some [])
+stands_in [] h = cc
+stands_in (Some [] ∷ cs) h = (0, (omega arith), refl)
+stands_in (Some (l ∷ c) ∷ cs) h = let rest = stands_in cs h in (suc rest.0, (let lt = rest.1 in omega (arith, lt)), rest.2)
+stands_in (None ∷ cs) h = let rest = stands_in cs h in (suc rest.0, (let lt = rest.1 in omega (arith, lt)), rest.2)
+
+pub empty_stands : (b : Bool) (cs : List (Option (List Literal))) → (IsTrue b ↔ Contains cs (Some [])) → b ≡ list_any is_empty_clause cs
+empty_stands true cs h = let at = h.0 refl in sym (list_any_at is_empty_clause cs at.0 (Some []) at.1 (ap is_empty_clause at.2))
+empty_stands false cs h = by_test (list_any is_empty_clause cs) refl
+  where
+    by_test : (t : Bool) → list_any is_empty_clause cs ≡ t → false ≡ list_any is_empty_clause cs
+    by_test true e = h.1 (stands_in cs e) ∙ sym e
+    by_test false e = sym e

@@ -1,0 +1,10 @@
+use Rattle.std.proofs.Common.{◌≡◌, take}
+use Rattle.proof_checks.specs.Distinct.{distinct}
+use Rattle.proof_checks.specs.Marks.{IsMarking}
+use Rattle.proof_checks.proofs.distinct.Marks.keep.Given as goal
+
+abbrev pub invariant-loop-literal : goal.invariant-loop-literal
+invariant-loop-literal l = record {
+  kept : l.kept.items ≡ distinct (take l.literal-index l.literals);
+  marks : IsMarking l.self l.kept.items;
+}

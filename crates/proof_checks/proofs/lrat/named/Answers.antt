@@ -1,0 +1,12 @@
+use Rattle.std.proofs.Common.{◌≡◌, ◌∙◌, ap, sym, Some, refl}
+use Rattle.proof_checks.specs.Lrat.{named_at}
+use Rattle.proof_checks.specs.Kept.{proof_of}
+use Rattle.proof_checks.proofs.lrat.named.Goals as goal
+
+pub returns-in-Some : goal.returns-in-Some
+unfolding named_at
+returns-in-Some c = c.standing.ensures ∙ ap (named_at (proof_of c.args.checker.now c.args.added.now)) (sym c.in-Some.is)
+
+pub returns-in-None : goal.returns-in-None
+unfolding named_at
+returns-in-None c = ap Some c.len.ensures ∙ ap (named_at (proof_of c.args.checker.now c.args.added.now)) (sym c.in-None.is)

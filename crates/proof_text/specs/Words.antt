@@ -1,0 +1,51 @@
+-- The words and the lines of a text.
+use Rattle.std.specs.Prelude.{ℕ, ◌+◌, Bool, true, false, ◌||◌, not, if◌then◌else◌, ◌==◌, List, [], ◌∷◌}
+use Rattle.std.specs.Str.{bytes_eq}
+
+-- a space, a tab or a carriage return
+unfoldable pub is_blank : ℕ → Bool
+is_blank b = b == 32 || b == 9 || b == 13
+
+-- a byte more at the head of the first
+abbrev pub onto_first : ℕ → List (List ℕ) → List (List ℕ)
+onto_first b [] = (b ∷ []) ∷ []
+onto_first b (w ∷ ws) = (b ∷ w) ∷ ws
+
+-- a word goes on here
+abbrev pub begins_word : List ℕ → Bool
+begins_word [] = false
+begins_word (b ∷ bs) = not (is_blank b)
+
+-- the words of a line: what stands between blanks
+unfoldable pub words : List ℕ → List (List ℕ)
+words [] = []
+words (b ∷ bs) = if is_blank b then words bs else (if begins_word bs then onto_first b (words bs) else (b ∷ []) ∷ words bs)
+
+-- the lines of a text: what stands between line feeds
+unfoldable pub lines : List ℕ → List (List ℕ)
+lines [] = [] ∷ []
+lines (b ∷ bs) = if b == 10 then [] ∷ lines bs else onto_first b (lines bs)
+
+-- `c` or `%` stands first
+abbrev pub begins_comment : List ℕ → Bool
+begins_comment [] = false
+begins_comment (b ∷ bs) = b == 99 || b == 37
+
+-- a line of these words says nothing: it is blank, or a comment
+abbrev pub is_passed : List (List ℕ) → Bool
+is_passed [] = true
+is_passed (w ∷ ws) = begins_comment w
+
+-- the lines that say something, each with its number, counted from this one, and its words
+unfoldable pub stated : ℕ → List (List ℕ) → List (ℕ × List (List ℕ))
+stated n [] = []
+stated n (l ∷ ls) = if is_passed (words l) then stated (n + 1) ls else (n, words l) ∷ stated (n + 1) ls
+
+-- the same of a text
+unfoldable pub lines_of : List ℕ → List (ℕ × List (List ℕ))
+lines_of text = stated 1 (lines text)
+
+-- the word `d` stands first
+abbrev pub is_delete : List (List ℕ) → Bool
+is_delete [] = false
+is_delete (w ∷ ws) = bytes_eq w (100 ∷ [])
