@@ -1,3 +1,4 @@
+pub mod Checks
 pub mod Once
 pub mod Passed
 pub mod Places

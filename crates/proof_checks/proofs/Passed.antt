@@ -1,5 +1,5 @@
 -- What the steps of a DRAT proof do to its first fault, and which clauses stand at its end.
-use Rattle.std.proofs.Common.{◌≡◌, ℕ, suc, ◌+◌, ◌<◌, Bool, true, false, ◌||◌, ◌↔◌, IsTrue, IsFalse, List, [], ◌∷◌, ◌++◌, length, map, Contains, Option, Some, None, refl, sym, ap, subst, ◌∙◌, append_assoc, arith}
+use Rattle.std.proofs.Common.{◌≡◌, ℕ, suc, ◌+◌, ◌<◌, Bool, true, false, ◌||◌, ◌&&◌, ◌↔◌, IsTrue, IsFalse, List, [], ◌∷◌, ◌++◌, length, map, Contains, Option, Some, None, Result, Ok, Err, IfOk, refl, sym, ap, subst, ◌∙◌, append_assoc, arith}
 use Rattle.std.specs.List.{list_any, AllByRecursion}
 use Rattle.std.proofs.lemmas.List.{map-append}
 use Rattle.std.proofs.lemmas.List.Folds.{list_any_at}
@@ -7,8 +7,13 @@ use Rattle.serializability.specs.declared.literal.Literal.{Literal}
 use Rattle.proof_text.specs.Steps.{DratStep}
 use Rattle.proof_text.specs.declared.fault.ProofFault.{ProofFault}
 use Rattle.proof_text.specs.declared.fault.ProofFault.TheVariants as proof
-use Rattle.proof_checks.specs.Drat.{adds_empty, as_read, Passes, GoesOn, IsStop, IsDratFault, IsDratStop, IsDratEnd}
-use Rattle.proof_checks.specs.Ends.{is_empty_clause}
+use Rattle.proof_checks.specs.Drat.{adds, adds_empty, as_read, Passes, GoesOn, IsStop, IsDratFault, IsDratStop, IsDratEnd}
+use Rattle.proof_text.specs.declared.fault.StepFault.{StepFault}
+use Rattle.proof_text.specs.declared.drat.DratAction.{DratAction}
+use Rattle.proof_text.specs.declared.drat.DratAction.TheVariants.{Add}
+use Rattle.proof_checks.specs.Distinct.{distinct}
+use Rattle.proof_checks.specs.Passed.{IsAdded, Passed}
+use Rattle.proof_checks.specs.Ends.{is_nil, is_empty_clause}
 
 pub none_passed : (all left : List (ℕ × Option DratStep)) → left ≡ all → (passed : List (ℕ × DratStep)) × Passes all passed left
 none_passed all left e = ([], record { all = sym e; none = tt })
@@ -57,3 +62,18 @@ empty_stands false cs h = by_test (list_any is_empty_clause cs) refl
     by_test : (t : Bool) → list_any is_empty_clause cs ≡ t → false ≡ list_any is_empty_clause cs
     by_test true e = h.1 (stands_in cs e) ∙ sym e
     by_test false e = sym e
+
+-- the literals of a clause, each once, are none where the literals are
+same_nil : (ls : List Literal) → is_nil (distinct ls) ≡ is_nil ls
+unfolding distinct
+same_nil [] = refl
+same_nil (l ∷ ls) = refl
+
+one_passed : (clauses : List (Option (List Literal))) (c : List Literal) (s : DratStep) (on : Bool) → c ≡ distinct s.literals → s.action ≡ Add → IsAdded clauses c on → Passed clauses s on
+one_passed clauses c s false e a h = h
+one_passed clauses c s true e a h =
+    ap (λ (b : DratAction). adds b && is_nil s.literals) a ∙ (sym (same_nil s.literals) ∙ (sym (ap is_nil e) ∙ h))
+
+pub passed_one : (clauses : List (Option (List Literal))) (c : List Literal) (s : DratStep) (r : Result Bool StepFault) → c ≡ distinct s.literals → s.action ≡ Add → IfOk r (IsAdded clauses c) → IfOk r (Passed clauses s)
+passed_one clauses c s (Ok on) e a h = one_passed clauses c s on e a h
+passed_one clauses c s (Err f) e a h = tt

@@ -110,7 +110,7 @@ fault_behind n line p new all left s empty e none stands adds =
 
 -- the empty clause stands behind the step that adds it
 empty_stands : (p : Proof) (s : LratStep) → adds_empty s ≡ true → list_any is_empty_clause (after_step p s).clauses ≡ true
-unfolding after_step, distinct
+unfolding after_step distinct
 empty_stands p s e = by_step s.action s.literals e
   where
     or_true : (b : Bool) → (b || true) ≡ true

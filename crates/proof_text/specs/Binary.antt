@@ -1,10 +1,11 @@
 -- DRAT in its binary form: it is read as words of bytes, in lines that end behind a 0.
-use Rattle.std.specs.Prelude.{ℕ, ◌+◌, ◌*◌, ◌/◌, ◌%◌, Bool, false, ◌&&◌, if◌then◌else◌, nat_lt, nat_le, ◌==◌, List, [], ◌∷◌, length, map, Option, Some, None}
+use Rattle.std.specs.Prelude.{ℕ, ◌+◌, ◌*◌, ◌/◌, ◌%◌, Bool, false, ◌&&◌, if◌then◌else◌, nat_lt, nat_le, ◌==◌, List, [], ◌∷◌, length, map, drop, Option, Some, None}
 use Rattle.std.specs.List.{enumerate_from, list_any}
 use Rattle.std.specs.Str.{bytes_eq}
 use Rattle.proof_text.specs.Words.{onto_first}
 use Rattle.proof_text.specs.Steps.{DratStep, clause_of, steps_by, drat_steps}
 use Rattle.proof_text.specs.declared.number.Number.{Number}
+use Rattle.proof_text.specs.declared.drat.DratAction.{DratAction}
 use Rattle.proof_text.specs.declared.drat.DratAction.TheVariants.{Add, Delete}
 
 -- the words: each ends with its first byte below 128, and only the last may lack it
@@ -43,17 +44,41 @@ unfoldable pub binary_lines : List (List ℕ) → List (List (List ℕ))
 binary_lines [] = []
 binary_lines (w ∷ ws) = if is_zero (binary_number w) then (w ∷ []) ∷ binary_lines ws else onto_line w (binary_lines ws)
 
--- the step of a line: `a` or `d`, and the literals up to a 0
-unfoldable pub binary_step : ℕ → List (List ℕ) → Option DratStep
-binary_step v [] = None
-binary_step v (w ∷ ws) =
-    if bytes_eq w (97 ∷ []) then clause_of v Add (map binary_number ws) else
-    (if bytes_eq w (100 ∷ []) then clause_of v Delete (map binary_number ws) else None)
+-- the numbers of words
+abbrev pub binary_numbers : List (List ℕ) → List (Option Number)
+binary_numbers ws = map binary_number ws
 
--- the steps of bytes, numbered from this one
-unfoldable pub binary_steps_from : ℕ → ℕ → List ℕ → List (ℕ × Option DratStep)
-binary_steps_from v n bytes = steps_by (binary_step v) (enumerate_from n (binary_lines (binary_words bytes)))
+-- the words of the first line
+unfoldable pub up_to_zero : List (List ℕ) → List (List ℕ)
+up_to_zero [] = []
+up_to_zero (w ∷ ws) = if is_zero (binary_number w) then w ∷ [] else w ∷ up_to_zero ws
+
+-- the words behind it
+unfoldable pub behind_line : List (List ℕ) → List (List ℕ)
+behind_line [] = []
+behind_line (w ∷ ws) = if is_zero (binary_number w) then ws else behind_line ws
+
+-- what a step does: `a` or `d`
+abbrev pub action_of_word : List ℕ → Option DratAction
+action_of_word w = if bytes_eq w (97 ∷ []) then Some Add else (if bytes_eq w (100 ∷ []) then Some Delete else None)
+
+abbrev pub binary_action : List (List ℕ) → Option DratAction
+binary_action [] = None
+binary_action (w ∷ ws) = action_of_word w
+
+-- the step of an action, and the literals up to a 0
+unfoldable pub clause_with : ℕ → List (Option Number) → Option DratAction → Option DratStep
+clause_with v ns None = None
+clause_with v ns (Some action) = clause_of v action ns
+
+-- the step of a line
+unfoldable pub binary_step : ℕ → List (List ℕ) → Option DratStep
+binary_step v ws = clause_with v (binary_numbers (drop 1 ws)) (binary_action ws)
+
+-- the numbered lines of bytes
+unfoldable pub binary_lines_of : List ℕ → List (ℕ × List (List ℕ))
+binary_lines_of bytes = enumerate_from 1 (binary_lines (binary_words bytes))
 
 -- the numbered steps of a proof
 unfoldable pub drat_steps_in : Bool → ℕ → List ℕ → List (ℕ × Option DratStep)
-drat_steps_in binary v proof = if binary then binary_steps_from v 1 proof else drat_steps v proof
+drat_steps_in binary v proof = if binary then steps_by (binary_step v) (binary_lines_of proof) else drat_steps v proof

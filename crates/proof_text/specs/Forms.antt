@@ -1,7 +1,7 @@
 -- Which form a proof has.
-use Rattle.std.specs.Prelude.{ℕ, Bool, true, false, ◌&&◌, ◌||◌, not, if◌then◌else◌, nat_lt, ◌==◌, List, [], ◌∷◌, drop, Option, Some, None, is_some}
+use Rattle.std.specs.Prelude.{ℕ, Bool, true, false, ◌&&◌, ◌||◌, not, if◌then◌else◌, nat_lt, ◌==◌, List, [], ◌∷◌, drop, Option, Some, None}
 use Rattle.proof_text.specs.Words.{words, lines, lines_of, is_delete}
-use Rattle.proof_text.specs.Numbers.{number_of, numbers_of, before_zero, whole}
+use Rattle.proof_text.specs.Numbers.{numbers_of, first_number}
 use Rattle.proof_text.specs.declared.number.Number.{Number}
 use Rattle.proof_text.specs.declared.form.Form.{Form}
 use Rattle.proof_text.specs.declared.form.Form.TheVariants.{Lrat, Drat, BinaryDrat}
@@ -11,22 +11,32 @@ abbrev pub begins_with : ℕ → List ℕ → Bool
 begins_with c [] = false
 begins_with c (b ∷ bs) = b == c
 
--- the first 0 stands last
-unfoldable pub has_zero_last : List (Option Number) → Bool
-has_zero_last ns = is_some (whole (before_zero Some ns))
+-- what stands behind the first 0, where only numbers stand before it
+unfoldable pub behind_zero : List (Option Number) → Option (List (Option Number))
+behind_zero [] = None
+behind_zero (None ∷ ns) = None
+behind_zero (Some n ∷ ns) = if n.size == 0 then Some ns else behind_zero ns
 
--- the first 0 stands before the last
-unfoldable pub has_zero_inside : List (Option Number) → Bool
-has_zero_inside ns = is_some (before_zero Some ns) && not (has_zero_last ns)
+-- something does
+abbrev pub is_more : Option (List (Option Number)) → Bool
+is_more None = false
+is_more (Some []) = false
+is_more (Some (n ∷ ns)) = true
 
--- a line of these words deletes a clause of DRAT
-abbrev pub deletes : List (List ℕ) → Bool
-deletes ws = is_delete ws && has_zero_last (numbers_of (drop 1 ws))
+-- nothing does
+abbrev pub is_end : Option (List (Option Number)) → Bool
+is_end None = false
+is_end (Some []) = true
+is_end (Some (n ∷ ns)) = false
 
--- the first line does
-abbrev pub deletes_first : List (List ℕ) → Bool
-deletes_first [] = false
-deletes_first (l ∷ ls) = deletes (words l)
+-- a line of these words deletes a clause of DRAT: `d`, and the first 0 stands last
+unfoldable pub deletes : List (List ℕ) → Bool
+deletes ws = is_delete ws && is_end (behind_zero (numbers_of (drop 1 ws)))
+
+-- the first line
+abbrev pub first_line : List (List ℕ) → List ℕ
+first_line [] = []
+first_line (l ∷ ls) = l
 
 -- a number other than 0
 abbrev pub is_some_nonzero : Option Number → Bool
@@ -35,8 +45,7 @@ is_some_nonzero (Some n) = nat_lt 0 n.size
 
 -- a line of these words is one of LRAT: its first number is not 0, and `d` is next, or a 0 stands before the last word
 unfoldable pub is_lrat : List (List ℕ) → Bool
-is_lrat [] = false
-is_lrat (w ∷ ws) = is_some_nonzero (number_of w) && (is_delete ws || has_zero_inside (numbers_of ws))
+is_lrat ws = is_some_nonzero (first_number (numbers_of ws)) && (is_delete (drop 1 ws) || is_more (behind_zero (numbers_of (drop 1 ws))))
 
 -- the form of a text, by its first line that says something
 abbrev pub text_form : List (ℕ × List (List ℕ)) → Form
@@ -45,7 +54,7 @@ text_form (l ∷ ls) = if is_lrat l.1 then Lrat else Drat
 
 -- it begins with `a`, or with `d` where its first line deletes nothing
 unfoldable pub is_binary_proof : List ℕ → Bool
-is_binary_proof proof = begins_with 97 proof || (begins_with 100 proof && not (deletes_first (lines proof)))
+is_binary_proof proof = begins_with 97 proof || (begins_with 100 proof && not (deletes (words (first_line (lines proof)))))
 
 -- the form of a proof
 unfoldable pub form_of_text : List ℕ → Form

@@ -4,5 +4,6 @@ pub mod Forms
 pub mod Numbers
 pub mod Reads
 pub mod Refusals
+pub mod Sources
 pub mod Steps
 pub mod Words

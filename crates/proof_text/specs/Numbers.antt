@@ -1,14 +1,18 @@
 -- Numbers, and what they stand for.
-use Rattle.std.specs.Prelude.{ℕ, Bool, true, false, ◌&&◌, not, if◌then◌else◌, nat_le, nat_lt, ◌==◌, List, [], ◌∷◌, length, map, Option, Some, None, option_map}
+use Rattle.std.specs.Prelude.{ℕ, Bool, true, false, ◌&&◌, not, if◌then◌else◌, nat_le, nat_lt, ◌==◌, List, [], ◌∷◌, length, map, Option, Some, None}
 use Rattle.std.specs.List.{list_all}
 use Rattle.std.specs.Char.{is_ascii_digit}
 use Rattle.std.specs.Str.Parse.{digits_value}
 use Rattle.serializability.specs.declared.literal.Literal.{Literal}
 use Rattle.proof_text.specs.declared.number.Number.{Number}
 
--- what 1 to 18 decimal digits write
+-- 1 to 18 decimal digits
+abbrev pub is_decimal : List ℕ → Bool
+is_decimal word = nat_le 1 (length word) && nat_le (length word) 18 && list_all is_ascii_digit word
+
+-- what they write
 unfoldable pub size_of : List ℕ → Option ℕ
-size_of word = if nat_le 1 (length word) && nat_le (length word) 18 && list_all is_ascii_digit word then Some (digits_value 10 word) else None
+size_of word = if is_decimal word then Some (digits_value 10 word) else None
 
 -- a number of this size, behind a `-`
 abbrev pub below_zero : Option ℕ → Option Number
@@ -29,17 +33,18 @@ number_of (b ∷ bs) = if b == 45 then below_zero (size_of bs) else not_below_ze
 abbrev pub numbers_of : List (List ℕ) → List (Option Number)
 numbers_of ws = map number_of ws
 
+-- the first, where it is a number
+abbrev pub first_number : List (Option Number) → Option Number
+first_number [] = None
+first_number (n ∷ ns) = n
+
 -- the literal of one of the variables 1 to v
 unfoldable pub literal_of : ℕ → Number → Option Literal
 literal_of v n = if nat_lt 0 n.size && nat_le n.size v then Some (record { variable = n.size; positive = not n.negative }) else None
 
--- the ID of a deleted clause
-abbrev pub deleted_id : Number → Option (Option ℕ)
-deleted_id n = if n.negative then None else Some (Some n.size)
-
--- the ID of a hint, where it is not below 0
-abbrev pub hint_id : Number → Option (Option ℕ)
-hint_id n = if n.negative then Some None else Some (Some n.size)
+-- the ID that a number is; only that of a hint may be below 0, and is none
+unfoldable pub id_of : Bool → Number → Option (Option ℕ)
+id_of is_hint n = if n.negative then (if is_hint then Some None else None) else Some (Some n.size)
 
 -- the first, and the others that are read behind it
 abbrev pub with_front : {A B : Type 0} → Option A → Option (List A × B) → Option (List A × B)
@@ -61,3 +66,13 @@ if_whole xs (y ∷ ys) = None
 abbrev pub whole : {A B : Type 0} → Option (List A × List B) → Option (List A)
 whole None = None
 whole (Some m) = if_whole m.0 m.1
+
+-- a value, where it was read
+abbrev pub if_true : {A : Type 0} → Bool → A → Option A
+if_true true x = Some x
+if_true false x = None
+
+-- what was read, and what is left
+abbrev pub if_read : {A B : Type 0} → Bool → List A → List B → Option (List A × List B)
+if_read true xs ys = Some (xs, ys)
+if_read false xs ys = None

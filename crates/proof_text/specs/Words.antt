@@ -1,5 +1,5 @@
 -- The words and the lines of a text.
-use Rattle.std.specs.Prelude.{ℕ, ◌+◌, Bool, true, false, ◌||◌, not, if◌then◌else◌, ◌==◌, List, [], ◌∷◌}
+use Rattle.std.specs.Prelude.{◌≡◌, ℕ, ◌+◌, ◌^◌, ◌≤◌, Bool, true, false, ◌||◌, not, if◌then◌else◌, ◌==◌, List, [], ◌∷◌, length, drop}
 use Rattle.std.specs.Str.{bytes_eq}
 
 -- a space, a tab or a carriage return
@@ -49,3 +49,17 @@ lines_of text = stated 1 (lines text)
 abbrev pub is_delete : List (List ℕ) → Bool
 is_delete [] = false
 is_delete (w ∷ ws) = bytes_eq w (100 ∷ [])
+
+-- what stands behind that word, where it stands first
+abbrev pub behind_delete : List (List ℕ) → List (List ℕ)
+behind_delete ws = if is_delete ws then drop 1 ws else ws
+
+-- no word is left
+abbrev pub is_empty : List (List ℕ) → Bool
+is_empty [] = true
+is_empty (w ∷ ws) = false
+
+-- of a text, the first line of which has this number: the first that says something is line n, and this stands behind it
+pub record IsFound (first : ℕ) (text : List ℕ) (n : ℕ) (line behind : List ℕ) : Type 0 where
+  pub stated_are : stated first (lines text) ≡ (n, words line) ∷ stated (n + 1) (lines behind)
+  pub within : n + 1 + length behind ≤ 2 ^ 63

@@ -4,11 +4,13 @@
 //! Nothing rests on how a text is read: whatever steps come out, a checker takes only those that follow.
 #![tactic(auto)]
 
+mod binary;
 mod drat;
 mod fault;
 mod form;
 mod lrat;
 mod number;
+mod reading;
 #[cfg(test)]
 mod tests;
 mod words;

@@ -1,12 +1,16 @@
 //! LRAT as text: `ID LITERALS 0 HINTS 0` adds a clause, and `ID d IDS 0` deletes clauses.
 
-ghost use Rattle.std.specs.Prelude.{◌≡◌};
+ghost use Rattle.std.specs.Prelude.{◌≡◌, IfOk, Some};
+ghost use Rattle.proof_text.specs.Numbers.{numbers_of};
 ghost use Rattle.proof_text.specs.Reads.{IsRead};
-ghost use Rattle.proof_text.specs.Steps.{lrat_steps};
+ghost use Rattle.proof_text.specs.Steps.{lrat_step, lrat_steps, lrat_with, line_id, step_of_id, deletion_of, addition_of};
 
 use crate::fault::StepFault;
-use crate::words::Lines;
+use crate::number::Number;
+use crate::reading::{read_last_ids, read_literals};
+use crate::words::{Lines, Words};
 use serializability::Literal;
+use std::alloc::AllocError;
 use std::marker::Model;
 
 /// What a step of an LRAT proof does.
@@ -40,7 +44,6 @@ impl<'a> LratSteps<'a> {
     /// The steps of a text for a formula of so many variables.
     #[tactic(auto, unfolding(crate::specs::Steps::lrat_steps))]
     pub fn new(text: &'a [u8], variables: u32) -> LratSteps<'a>
-        requires { ⊥ }
         ensures { result ≡ lrat_steps variables text.now }
     {
         LratSteps {
@@ -62,6 +65,101 @@ impl<'a> LratSteps<'a> {
             ids = ids.new.items;
         }) result }
     {
-        Err(StepFault::Memory)
+        match self.text.next_line() {
+            Some((line, mut words)) => {
+                match read_step(&mut words, self.variables, literals, ids) {
+                    Ok(Some(action)) => Ok(Some((line, action))),
+                    Ok(None) => Err(StepFault::BadLine { line }),
+                    Err(refused) => Err(StepFault::from(refused)),
+                }
+            }
+            None => Ok(None),
+        }
+    }
+}
+
+/// Reads the step of a line.
+fn read_step(
+    words: &mut Words<'_>,
+    variables: u32,
+    literals: &mut Vec<Literal>,
+    ids: &mut Vec<Option<u64>>,
+) -> Result<Option<LratAction>, AllocError>
+    ensures { IfOk result (λ action.
+        lrat_step variables words.old ≡ lrat_with action literals.new.items ids.new.items) }
+{
+    match line_id(words.next_number()) {
+        Some(id) => read_behind_id(words, variables, id, literals, ids),
+        None => Ok(None),
+    }
+}
+
+/// The ID of a line, which is above 0.
+#[tactic(auto, unfolding(crate::specs::Steps::line_id))]
+fn line_id(number: Option<Number>) -> Option<u64>
+    ensures { result ≡ line_id number }
+{
+    match number {
+        Some(id) if !id.negative && id.size != 0 => Some(id.size),
+        _ => None,
+    }
+}
+
+/// Reads what stands behind the ID.
+fn read_behind_id(
+    words: &mut Words<'_>,
+    variables: u32,
+    id: u64,
+    literals: &mut Vec<Literal>,
+    ids: &mut Vec<Option<u64>>,
+) -> Result<Option<LratAction>, AllocError>
+    ensures { IfOk result (λ action. step_of_id variables words.old (Some id) ≡
+        lrat_with action literals.new.items ids.new.items) }
+{
+    if words.take_delete() {
+        read_deletion(words, literals, ids)
+    } else {
+        read_addition(words, variables, id, literals, ids)
+    }
+}
+
+/// Reads `IDS 0`.
+fn read_deletion(
+    words: &mut Words<'_>,
+    literals: &mut Vec<Literal>,
+    ids: &mut Vec<Option<u64>>,
+) -> Result<Option<LratAction>, AllocError>
+    ensures { IfOk result (λ action.
+        deletion_of (numbers_of words.old) ≡ lrat_with action literals.new.items ids.new.items) }
+{
+    literals.clear();
+    let read = read_last_ids(words, false, ids)?;
+    if read {
+        Ok(Some(LratAction::Delete))
+    } else {
+        Ok(None)
+    }
+}
+
+/// Reads `LITERALS 0 HINTS 0`.
+fn read_addition(
+    words: &mut Words<'_>,
+    variables: u32,
+    id: u64,
+    literals: &mut Vec<Literal>,
+    ids: &mut Vec<Option<u64>>,
+) -> Result<Option<LratAction>, AllocError>
+    ensures { IfOk result (λ action. addition_of variables id (numbers_of words.old) ≡
+        lrat_with action literals.new.items ids.new.items) }
+{
+    let has_clause = read_literals(words, variables, literals)?;
+    if !has_clause {
+        return Ok(None);
+    }
+    let has_hints = read_last_ids(words, true, ids)?;
+    if has_hints {
+        Ok(Some(LratAction::Add(id)))
+    } else {
+        Ok(None)
     }
 }

@@ -1,8 +1,13 @@
 //! The lines of a text that say something, and the words of each.
 
-ghost use Rattle.std.specs.Prelude.{◌≡◌};
-ghost use Rattle.proof_text.specs.Words.{lines_of};
+ghost use Rattle.std.specs.Prelude.{◌≡◌, ◌+◌, ◌^◌, ◌<◌, ◌≤◌, ℕ, [], ◌∷◌, not, length, drop, position, ◌==◌, MatchOption};
+ghost use Rattle.std.specs.List.{position_or_len};
+ghost use Rattle.std.specs.Str.{bytes_eq};
+ghost use Rattle.proof_text.specs.Forms.{first_line};
+ghost use Rattle.proof_text.specs.Numbers.{numbers_of, first_number};
+ghost use Rattle.proof_text.specs.Words.{is_blank, words, lines, begins_comment, is_passed, is_delete, behind_delete, is_empty, stated, lines_of, IsFound};
 
+use crate::number::{Number, number_of};
 use std::marker::Model;
 
 /// The words of a line that are left.
@@ -19,6 +24,171 @@ impl<'a> Model for Words<'a> {
     ghost use Rattle.proof_text.specs.Words.{words};
 
     ghost view = { λ w. words w.rest.now };
+}
+
+impl<'a> Words<'a> {
+    /// The words of a line.
+    pub(crate) fn of(line: &'a [u8]) -> Words<'a>
+        ensures { result ≡ words line.now }
+    {
+        Words { rest: line }
+    }
+
+    /// Takes the next word.
+    pub(crate) fn next_word(&mut self) -> Option<&'a [u8]>
+        ensures word { MatchOption result (self.old ≡ []) (λ word. self.old ≡ word.now ∷ self.new) }
+        ensures rest { self.new ≡ drop 1 self.old }
+    {
+        match cut_word(self.rest) {
+            Some((word, rest)) => {
+                self.rest = rest;
+                Some(word)
+            }
+            None => None,
+        }
+    }
+
+    /// Takes the next word, and gives the number that it is.
+    pub(crate) fn next_number(&mut self) -> Option<Number>
+        ensures number { result ≡ first_number (numbers_of self.old) }
+        ensures rest { self.new ≡ drop 1 self.old }
+    {
+        match self.next_word() {
+            Some(word) => number_of(word),
+            None => None,
+        }
+    }
+
+    /// Whether no word is left.
+    pub(crate) fn are_over(&self) -> bool
+        ensures { result ≡ is_empty self.now }
+    {
+        cut_word(self.rest).is_none()
+    }
+
+    /// Takes the word `d`, where it is the next.
+    pub(crate) fn take_delete(&mut self) -> bool
+        ensures found { result ≡ is_delete self.old }
+        ensures rest { self.new ≡ behind_delete self.old }
+    {
+        match cut_word(self.rest) {
+            Some((word, rest)) if is_d(word) => {
+                self.rest = rest;
+                true
+            }
+            _ => false,
+        }
+    }
+}
+
+#[tactic(auto, unfolding(crate::specs::Words::is_blank))]
+fn is_blank(byte: u8) -> bool
+    ensures { result ≡ is_blank byte }
+{
+    byte == b' ' || byte == b'\t' || byte == b'\r'
+}
+
+/// Whether a word is `d`.
+fn is_d(word: &[u8]) -> bool
+    ensures { result ≡ bytes_eq word.now (100 ∷ []) }
+{
+    word == b"d".as_slice()
+}
+
+/// The place of the first byte that is no blank.
+fn first_text(line: &[u8]) -> Option<usize>
+    ensures { result ≡ position (λ b. not (is_blank b)) line.now }
+{
+    line.iter().position(|b| !is_blank(*b))
+}
+
+/// The place of the first blank.
+fn first_blank(line: &[u8]) -> Option<usize>
+    ensures { result ≡ position is_blank line.now }
+{
+    line.iter().position(|b| is_blank(*b))
+}
+
+/// How many bytes stand before the first blank.
+fn end_of_word(line: &[u8]) -> usize
+    ensures { result ≡ position_or_len is_blank line.now }
+{
+    match first_blank(line) {
+        Some(end) => end,
+        None => line.len(),
+    }
+}
+
+/// The first word of a line, where it has one, and what stands behind it.
+fn cut_word(line: &[u8]) -> Option<(&[u8], &[u8])>
+    ensures { MatchOption result (words line.now ≡ [])
+        (λ cut. words line.now ≡ cut.0.now ∷ words cut.1.now) }
+{
+    match first_text(line) {
+        Some(start) => {
+            let (_, from) = line.split_at(start);
+            Some(from.split_at(end_of_word(from)))
+        }
+        None => None,
+    }
+}
+
+/// The place of the first line feed.
+fn first_feed(text: &[u8]) -> Option<usize>
+    ensures { result ≡ position (λ b. b == 10) text.now }
+{
+    text.iter().position(|b| *b == b'\n')
+}
+
+/// The first line of a text, and what stands behind it.
+pub(crate) fn cut_line(text: &[u8]) -> (&[u8], &[u8])
+    ensures first { result.0.now ≡ first_line (lines text.now) }
+    ensures lines { (n : ℕ) → stated n (lines text.now) ≡ stated n (result.0.now ∷ lines result.1.now) }
+    ensures shorter { 0 < length text.now → length result.1.now < length text.now }
+{
+    match first_feed(text) {
+        Some(end) => (&text[..end], &text[end + 1..]),
+        None => (text, &[]),
+    }
+}
+
+/// Whether a word begins a comment.
+fn begins_comment(word: &[u8]) -> bool
+    ensures { result ≡ begins_comment word.now }
+{
+    match word.first() {
+        Some(byte) => *byte == b'c' || *byte == b'%',
+        None => false,
+    }
+}
+
+/// Whether a line says nothing.
+fn is_passed(line: &[u8]) -> bool
+    ensures { result ≡ is_passed (words line.now) }
+{
+    match cut_word(line) {
+        Some((word, _)) => begins_comment(word),
+        None => true,
+    }
+}
+
+/// The first line that says something: its number, the line, and what stands behind it.
+fn find_line(text: &[u8], number: usize) -> Option<(usize, &[u8], &[u8])>
+    requires { number + length text.now ≤ 2 ^ 63 }
+    ensures { MatchOption result (stated number (lines text.now) ≡ [])
+        (λ found. IsFound number text.now found.0 found.1.now found.2.now) }
+{
+    let mut rest = text;
+    let mut number = number;
+    while !rest.is_empty() {
+        let (line, behind) = cut_line(rest);
+        if !is_passed(line) {
+            return Some((number, line, behind));
+        }
+        rest = behind;
+        number += 1;
+    }
+    None
 }
 
 /// The lines of a text that are left and say something, each with its number.
@@ -43,13 +213,27 @@ impl<'a> Model for Lines<'a> {
 
 impl<'a> Lines<'a> {
     /// The lines of a text.
+    #[tactic(auto, unfolding(crate::specs::Words::lines_of))]
     pub(crate) fn of(text: &'a [u8]) -> Lines<'a>
-        requires { ⊥ }
         ensures { result ≡ lines_of text.now }
     {
         Lines {
             rest: text,
             number: 1,
+        }
+    }
+
+    /// Takes the next line: its number and its words.
+    pub(crate) fn next_line(&mut self) -> Option<(usize, Words<'a>)>
+        ensures { MatchOption result (self.old ≡ []) (λ line. self.old ≡ line ∷ self.new) }
+    {
+        match find_line(self.rest, self.number) {
+            Some((number, line, rest)) => {
+                self.rest = rest;
+                self.number = number + 1;
+                Some((number, Words::of(line)))
+            }
+            None => None,
         }
     }
 }

@@ -1,0 +1,8 @@
+use Rattle.std.proofs.Common.{◌∙◌, ap}
+use Rattle.proof_checks.specs.Distinct.{distinct}
+use Rattle.proof_checks.proofs.Passed.{passed_one}
+use Rattle.proof_checks.proofs.drat.Drat.take.Goals as goal
+
+pub returns-in-Add-clause-on : goal.returns-in-Add-clause-on
+returns-in-Add-clause-on c =
+    passed_one c.add.new.checker.clauses c.keep.new.kept.items (record { action = c.args.action; literals = c.args.self.now.literals.items }) c.add.result (c.in_ok-keep.ensures.kept ∙ ap distinct c.deref.ensures.value) c.in-Add.is c.add.ensures.on

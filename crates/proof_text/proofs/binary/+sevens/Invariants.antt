@@ -1,0 +1,5 @@
+use Rattle.std.proofs.Common.{length}
+use Rattle.proof_text.proofs.binary.+sevens.Given as goal
+
+abbrev pub decreases-sevens : goal.decreases-sevens
+decreases-sevens l = length l.word.now
