@@ -1,5 +1,6 @@
 use Rattle.std.proofs.Common.{◌≡◌, sym, ◌∙◌, length, Some}
 use Rattle.std.proofs.lemmas.Result.{err_from_is_err_and}
+use Rattle.proof_text.specs.declared.lrat.LratAction.{LratAction}
 use Rattle.proof_checks.specs.Kept.{proof_of}
 use Rattle.proof_checks.proofs.Taken.{read_fault, read_end, read_step, goes_on, stops}
 use Rattle.proof_checks.proofs.lrat.Lrat.take_next.Goals as goal
@@ -7,7 +8,8 @@ use Rattle.proof_checks.proofs.lrat.Lrat.take_next.Goals as goal
 pub returns-in_err-read-clause-fault : goal.returns-in_err-read-clause-fault
 returns-in_err-read-clause-fault c =
     let p = err_from_is_err_and c.from_residual.result c.from_residual.ensures.1 in
-    rw (p.1, p.2) (read_fault (length c.args.checker.now.known) (proof_of c.args.checker.now c.args.self.now.added.items) c.args.steps.now c.read.new.self _ c.in_err-read.field-0.0 c.in_err-read.ensures)
+    rw (p.1, p.2) (read_fault (length c.args.checker.now.known) (proof_of c.args.checker.now c.args.self.now.added.items) c.args.steps.now c.read.new.self
+    (λ (a : LratAction). record { action = a; literals = c.read.new.literals.items; ids = c.read.new.ids.items }) c.in_err-read.field-0.0 c.in_err-read.ensures)
 
 pub returns-in-None-clause-on : goal.returns-in-None-clause-on
 returns-in-None-clause-on c =
