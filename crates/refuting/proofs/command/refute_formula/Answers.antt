@@ -1,7 +1,7 @@
 use Rattle.std.proofs.Common.{◌∙◌, length, ◌+◌}
 use Rattle.std.proofs.lemmas.Result.{err_from_is_err_and}
 use Rattle.order_cnf.specs.Data.{cnf_of}
-use Rattle.refutation.proofs.Units.{opened}
+use Rattle.proof_checks.proofs.Places.{opened}
 use Rattle.refuting.proofs.Refusing.{shown_by, fault_by}
 use Rattle.refuting.proofs.command.refute_formula.Goals as goal
 
