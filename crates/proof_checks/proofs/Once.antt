@@ -50,7 +50,7 @@ more_by y x ds whole false e w =
     let apart : is_same x y ≡ false = eqb_sym (code_of x) (code_of y) ∙ e in
     ap (λ (t : List Literal). y ∷ t) (w ∙ ap (λ (t : List Literal). others ++ t) (kept_on y x (is_among ds x) e))
     ∙ (sym (ap (λ b. y ∷ others ++ (if b then [] else x ∷ [])) (among_others x y ds apart))
-      ∙ sym (ap (λ b. y ∷ others ++ (if b || is_among others x then [] else x ∷ [])) apart))
+    ∙ sym (ap (λ b. y ∷ others ++ (if b || is_among others x then [] else x ∷ [])) apart))
 
 distinct_more : (ls : List Literal) (x : Literal) → distinct (ls ++ x ∷ []) ≡ with_literal (distinct ls) x
 unfolding distinct

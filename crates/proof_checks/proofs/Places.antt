@@ -1,10 +1,10 @@
 -- The places of IDs among ascending ones, and the numbers of clauses.
-use Rattle.std.proofs.Common.{◌≡◌, ℕ, ◌+◌, ◌-◌, ◌<◌, ◌≤◌, Bool, true, false, ◌&&◌, ◌||◌, if◌then◌else◌, is_some, eqb, ltb, cond, nat_lt, nat_le, ◌==◌, List, [], ◌∷◌, ◌++◌, length, Option, Some, None, Result, Ok, Err, MatchResult, refl, sym, ap, subst, ◌∙◌, get_or, position, inl, inr, arith, append_assoc, append-nil, length-append, drop, add-one, slice_set}
+use Rattle.std.proofs.Common.{◌≡◌, ℕ, ◌+◌, ◌-◌, ◌<◌, ◌≤◌, Bool, true, false, ◌&&◌, if◌then◌else◌, is_some, cond, nat_lt, nat_le, ◌==◌, List, [], ◌∷◌, ◌++◌, length, Option, Some, None, Result, Ok, Err, MatchResult, refl, sym, ap, ◌∙◌, get_or, position, inl, inr, arith, append_assoc, append-nil, drop, add-one, slice_set}
 use Rattle.std.specs.List.{position_or_len}
 use Rattle.std.specs.List.Sorted.{IsStrictlyIncreasing, IsBinarySearchResult}
 use Rattle.std.specs.Ordering.{nat_cmp}
 use Rattle.std.specs.Option.{option_map, option_and_then}
-use Rattle.std.proofs.lemmas.Bool.{eqb-true, eqb-false, eq-eqb, ne_eqb, lt-ltb, le-ltb, le-leb, ltb-true, leb-true, cases_lt, cases_eq}
+use Rattle.std.proofs.lemmas.Bool.{eq-eqb, ne_eqb, lt-ltb, le-ltb, le-leb, ltb-true, leb-true, cases_lt, cases_eq}
 use Rattle.std.proofs.lemmas.List.Quantifiers.{position-Some}
 use Rattle.std.proofs.lemmas.List.Sums.{position_or_len_is}
 use Rattle.std.proofs.lemmas.List.Kept.{AllPairs-from_increasing}
@@ -86,8 +86,8 @@ map_onto_none (Some r) ns e = ap (λ (m : List ℕ). Some (m ++ r)) e
 pub number_given : (p : Proof) (id : ℕ) → 0 < id → id ≤ given_of p → Some (id - 1) ≡ number_at p id
 unfolding number_at
 number_given p id low high = sym (
-  ap (λ b. if b && nat_le id (given_of p) then Some (id - 1) else option_map (λ k. given_of p + k) (position (λ x. x == id) p.added)) (lt-ltb 0 id low)
-  ∙ ap (λ b. if b then Some (id - 1) else option_map (λ k. given_of p + k) (position (λ x. x == id) p.added)) (le-leb id (given_of p) high))
+    ap (λ b. if b && nat_le id (given_of p) then Some (id - 1) else option_map (λ k. given_of p + k) (position (λ x. x == id) p.added)) (lt-ltb 0 id low)
+    ∙ ap (λ b. if b then Some (id - 1) else option_map (λ k. given_of p + k) (position (λ x. x == id) p.added)) (le-leb id (given_of p) high))
 
 pub number_added : (p : Proof) (id : ℕ) (o : Option ℕ) → (0 < id → id ≤ given_of p → ⊥) → o ≡ position (λ x. x == id) p.added → option_map (λ k. given_of p + k) o ≡ number_at p id
 unfolding number_at
@@ -96,8 +96,8 @@ number_added p id o none e = ap (option_map (λ k. given_of p + k)) e ∙ by_tes
     by_tests : (s t : Bool) → nat_lt 0 id ≡ s → nat_le id (given_of p) ≡ t → option_map (λ k. given_of p + k) (position (λ x. x == id) p.added) ≡ (if nat_lt 0 id && nat_le id (given_of p) then Some (id - 1) else option_map (λ k. given_of p + k) (position (λ x. x == id) p.added))
     by_tests true true a b = absurd (none (ltb-true 0 id a) (leb-true id (given_of p) b))
     by_tests true false a b = sym (
-      ap (λ s. if s && nat_le id (given_of p) then Some (id - 1) else option_map (λ k. given_of p + k) (position (λ x. x == id) p.added)) a
-      ∙ ap (λ s. if s then Some (id - 1) else option_map (λ k. given_of p + k) (position (λ x. x == id) p.added)) b)
+        ap (λ s. if s && nat_le id (given_of p) then Some (id - 1) else option_map (λ k. given_of p + k) (position (λ x. x == id) p.added)) a
+        ∙ ap (λ s. if s then Some (id - 1) else option_map (λ k. given_of p + k) (position (λ x. x == id) p.added)) b)
     by_tests false t a b = sym (ap (λ s. if s && nat_le id (given_of p) then Some (id - 1) else option_map (λ k. given_of p + k) (position (λ x. x == id) p.added)) a)
 
 pub place_within : (xs : List ℕ) (x k : ℕ) → Some k ≡ position (λ y. y == x) xs → k < length xs
@@ -106,14 +106,14 @@ place_within xs x k e = (position-Some (λ y. y == x) xs k 0 (sym e)).0
 pub stands : (p : Proof) (id n : ℕ) (c : List Literal) → Some n ≡ number_at p id → clause_at p.clauses n ≡ Some c → Some n ≡ standing_at p id
 unfolding standing_at
 stands p id n c e at = sym (
-  ap (option_and_then (λ m. if is_some (clause_at p.clauses m) then Some m else None)) (sym e)
-  ∙ ap (λ o. if is_some o then Some n else None) at)
+    ap (option_and_then (λ m. if is_some (clause_at p.clauses m) then Some m else None)) (sym e)
+    ∙ ap (λ o. if is_some o then Some n else None) at)
 
 pub stands_not : (p : Proof) (id n : ℕ) → Some n ≡ number_at p id → clause_at p.clauses n ≡ None → None ≡ standing_at p id
 unfolding standing_at
 stands_not p id n e at = sym (
-  ap (option_and_then (λ m. if is_some (clause_at p.clauses m) then Some m else None)) (sym e)
-  ∙ ap (λ o. if is_some o then Some n else None) at)
+    ap (option_and_then (λ m. if is_some (clause_at p.clauses m) then Some m else None)) (sym e)
+    ∙ ap (λ o. if is_some o then Some n else None) at)
 
 pub has_no_number : (p : Proof) (id : ℕ) → None ≡ number_at p id → None ≡ standing_at p id
 unfolding standing_at
@@ -128,7 +128,7 @@ pub numbers_step : (p : Proof) (ns new : List ℕ) (ids : List (Option ℕ)) (i 
 numbers_step p ns new ids i d n lt inv e more =
     ap (λ (ms : List ℕ). option_map (λ r. ms ++ r) (numbers_at p (drop (i + 1) ids))) more
     ∙ (sym (numbers_more p ns (get_or ids i d) (drop (i + 1) ids) n (sym e))
-      ∙ (ap (λ (xs : List (Option ℕ)). option_map (λ r. ns ++ r) (numbers_at p xs)) (sym (step_to ids i d lt)) ∙ inv))
+    ∙ (ap (λ (xs : List (Option ℕ)). option_map (λ r. ns ++ r) (numbers_at p xs)) (sym (step_to ids i d lt)) ∙ inv))
 
 pub numbers_stop : (p : Proof) (ns : List ℕ) (ids : List (Option ℕ)) (i : ℕ) (d : Option ℕ) → i < length ids → option_map (λ r. ns ++ r) (numbers_at p (drop i ids)) ≡ numbers_at p ids
     → None ≡ named_at p (get_or ids i d) → numbers_at p ids ≡ None

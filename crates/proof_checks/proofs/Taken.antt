@@ -1,5 +1,5 @@
 -- What a step of an LRAT proof does to its first fault.
-use Rattle.std.proofs.Common.{◌≡◌, ℕ, ◌+◌, ◌<◌, Bool, true, false, not, ◌&&◌, ◌||◌, ◌==◌, if◌then◌else◌, List, [], ◌∷◌, ◌++◌, length, Option, Some, None, Result, Ok, Err, IfOk, IfErr, refl, sym, ap, subst, ◌∙◌, unwrap_or, arith}
+use Rattle.std.proofs.Common.{◌≡◌, ℕ, ◌<◌, Bool, true, false, not, ◌&&◌, ◌||◌, ◌==◌, if◌then◌else◌, List, [], ◌∷◌, ◌++◌, length, Option, Some, None, Result, Ok, Err, IfOk, IfErr, refl, sym, ap, subst, ◌∙◌, unwrap_or, arith}
 use Rattle.std.specs.List.{list_any}
 use Rattle.std.specs.Option.{option_or}
 use Rattle.std.proofs.lemmas.List.Folds.{list_any-append}
@@ -15,7 +15,7 @@ use Rattle.proof_text.specs.declared.lrat.LratAction.{LratAction}
 use Rattle.proof_text.specs.declared.lrat.LratAction.TheVariants.{Add, Delete}
 use Rattle.proof_checks.specs.Distinct.{distinct}
 use Rattle.proof_checks.specs.Ends.{is_nil, is_empty_clause, end_fault, IsFault}
-use Rattle.proof_checks.specs.Lrat.{Proof, numbers_at, is_next, follows_by, without, addition_fault, action_fault, fault_by, step_fault, after_action, after_step, adds, adds_empty, fault_from, lrat_fault}
+use Rattle.proof_checks.specs.Lrat.{Proof, numbers_at, is_next, follows_by, without, addition_fault, action_fault, fault_by, step_fault, after_action, after_step, adds, adds_empty, lrat_fault}
 use Rattle.proof_checks.specs.Kept.{AreNumbers, IsAdded, IsTaken, GoesOn}
 use Rattle.proof_checks.proofs.Once.{nil_kept}
 
@@ -106,7 +106,7 @@ unfolding lrat_fault
 fault_behind n line p new all left s empty e none stands adds =
     ap (λ (ss : List (ℕ × Option LratStep)). lrat_fault n ss p) e
     ∙ (ap (λ (o : Option ProofFault). option_or o (if adds_empty s then None else lrat_fault n left (after_step p s))) none
-      ∙ (ap (λ b. if b then None else lrat_fault n left (after_step p s)) adds ∙ ap (λ (q : Proof). if empty then None else lrat_fault n left q) (sym stands)))
+    ∙ (ap (λ b. if b then None else lrat_fault n left (after_step p s)) adds ∙ ap (λ (q : Proof). if empty then None else lrat_fault n left q) (sym stands)))
 
 -- the empty clause stands behind the step that adds it
 empty_stands : (p : Proof) (s : LratStep) → adds_empty s ≡ true → list_any is_empty_clause (after_step p s).clauses ≡ true

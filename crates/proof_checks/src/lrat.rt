@@ -214,7 +214,7 @@ impl Lrat {
             (record { action = action; literals = self.old.literals.items; ids = self.old.ids.items })) }
         ensures fault { IfErr result (λ f. IsFault (fault_of_step f)
             (step_fault (length checker.old.known) line (proof_of checker.old self.old.added.items)
-                (record { action = action; literals = self.old.literals.items; ids = self.old.ids.items }))) }
+            (record { action = action; literals = self.old.literals.items; ids = self.old.ids.items }))) }
     {
         if !resolve(checker, &self.added, &self.ids, &mut self.numbers)? {
             return Err(StepFault::BadLine { line });
@@ -239,7 +239,7 @@ impl Lrat {
             id self.old.literals.items self.old.numbers.items) }
         ensures fault { IfErr result (λ f. IsFault (fault_of_step f)
             (addition_fault (length checker.old.known) line (proof_of checker.old self.old.added.items)
-                id (distinct self.old.literals.items) self.old.numbers.items)) }
+            id (distinct self.old.literals.items) self.old.numbers.items)) }
     {
         self.marks.keep(&self.literals, &mut self.clause)?;
         let added = &mut self.added;

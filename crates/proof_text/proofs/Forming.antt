@@ -1,6 +1,6 @@
 -- What the definitions of forms say, part by part.
-use Rattle.std.proofs.Common.{◌≡◌, ℕ, Bool, true, false, not, ◌&&◌, ◌||◌, List, [], ◌∷◌, drop, Option, Some, None, refl, sym, ap, ◌∙◌}
-use Rattle.proof_text.specs.Words.{words, is_delete, behind_delete, is_empty}
+use Rattle.std.proofs.Common.{◌≡◌, ℕ, Bool, true, false, not, ◌&&◌, List, [], ◌∷◌, drop, Option, refl, sym, ap, ◌∙◌}
+use Rattle.proof_text.specs.Words.{is_delete, behind_delete, is_empty}
 use Rattle.proof_text.specs.Numbers.{numbers_of, first_number, if_true}
 use Rattle.proof_text.specs.Forms.{behind_zero, is_more, is_end, deletes, is_some_nonzero, is_lrat}
 use Rattle.proof_text.specs.declared.number.Number.{Number}

@@ -1,5 +1,5 @@
 -- Words, lines and steps of bytes.
-use Rattle.std.proofs.Common.{◌≡◌, ℕ, ◌+◌, ◌*◌, ◌%◌, ◌^◌, ◌<◌, ◌≤◌, zero, suc, Bool, true, false, not, List, [], ◌∷◌, length, take, drop, map, nat_lt, position, Option, Some, None, option_map, refl, sym, ap, ◌∙◌, arith, ◌==◌}
+use Rattle.std.proofs.Common.{◌≡◌, ℕ, ◌+◌, ◌^◌, ◌<◌, ◌≤◌, zero, suc, Bool, true, false, List, [], ◌∷◌, length, take, drop, nat_lt, position, Option, Some, None, option_map, refl, sym, ap, ◌∙◌, arith, ◌==◌}
 use Rattle.std.proofs.lemmas.Bool.{ne_eqb}
 use Rattle.std.specs.List.{position_or_len, enumerate_from}
 use Rattle.std.proofs.lemmas.Slice.Eq.{bytes_eq-Decides}
@@ -8,7 +8,7 @@ use Rattle.serializability.specs.declared.literal.Literal.{Literal}
 use Rattle.proof_text.specs.Words.{onto_first}
 use Rattle.proof_text.specs.Numbers.{first_number, before_zero, with_front, whole, if_whole, if_read, if_true, literal_of}
 use Rattle.proof_text.specs.Binary.{action_of_word, binary_words, sevens, signed, binary_number, binary_numbers, is_zero, onto_line, binary_lines, up_to_zero, behind_line, binary_action, clause_with, binary_step}
-use Rattle.proof_text.specs.Steps.{DratStep, drat_clause, drat_with, clause_of, steps_by}
+use Rattle.proof_text.specs.Steps.{DratStep, drat_clause, clause_of, steps_by}
 use Rattle.proof_text.specs.declared.number.Number.{Number}
 use Rattle.proof_text.specs.declared.drat.DratAction.{DratAction}
 use Rattle.proof_text.proofs.Cutting.{position_some, position_none}
@@ -254,7 +254,7 @@ pub step_read : (v : ℕ) (ws mid : List (List ℕ)) (action : DratAction) (read
 step_read v [] mid action read literals left a is e = cc
 step_read v (w ∷ ws) mid action read literals left a is e =
     let found : whole (before_zero (literal_of v) (binary_numbers (up_to_zero ws))) ≡ if_true read literals =
-        whole_line (literal_of v) ws ∙ items_read (before_zero (literal_of v) (binary_numbers ws)) read literals left (ap (λ us. before_zero (literal_of v) (binary_numbers us)) (sym is) ∙ e) in
+    whole_line (literal_of v) ws ∙ items_read (before_zero (literal_of v) (binary_numbers ws)) read literals left (ap (λ us. before_zero (literal_of v) (binary_numbers us)) (sym is) ∙ e) in
     ap (binary_step v) (up_more w ws (action_word w action a)) ∙ (binary_step_is v w (up_to_zero ws) ∙ (ap (clause_with v (binary_numbers (up_to_zero ws))) (sym a) ∙ (with_clause v (binary_numbers (up_to_zero ws)) action ∙ ap (option_map (drat_clause action)) found)))
 
 pub behind_read : (ws mid : List (List ℕ)) (action : DratAction) → Some action ≡ binary_action ws → mid ≡ drop 1 ws → behind_line mid ≡ behind_line ws

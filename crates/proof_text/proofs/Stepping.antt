@@ -1,9 +1,9 @@
 -- What the definitions of steps say, part by part.
-use Rattle.std.proofs.Common.{◌≡◌, ℕ, Bool, true, false, List, [], ◌∷◌, drop, Option, Some, None, option_map, option_and_then, refl, sym, ap, ◌∙◌}
+use Rattle.std.proofs.Common.{◌≡◌, ℕ, Bool, true, false, List, drop, Option, Some, None, option_map, option_and_then, refl, ap, ◌∙◌}
 use Rattle.serializability.specs.declared.literal.Literal.{Literal}
 use Rattle.proof_text.specs.Words.{is_delete, behind_delete}
-use Rattle.proof_text.specs.Numbers.{numbers_of, first_number, literal_of, id_of, before_zero, whole, if_true, if_read}
-use Rattle.proof_text.specs.Steps.{LratStep, DratStep, lrat_deletion, lrat_addition, deletion_of, addition_with, addition_of, line_id, step_of_id, lrat_step, drat_clause, clause_of, drat_step, action_of}
+use Rattle.proof_text.specs.Numbers.{numbers_of, first_number, literal_of, id_of, before_zero, whole, if_true}
+use Rattle.proof_text.specs.Steps.{lrat_deletion, lrat_addition, deletion_of, addition_with, addition_of, line_id, step_of_id, lrat_step, drat_clause, clause_of, drat_step, action_of}
 use Rattle.proof_text.specs.declared.number.Number.{Number}
 use Rattle.proof_text.specs.declared.drat.DratAction.{DratAction}
 

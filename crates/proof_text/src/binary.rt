@@ -1,10 +1,14 @@
 //! DRAT in its binary form: words of bytes, in lines that end behind a 0.
 
-ghost use Rattle.std.specs.Prelude.{◌≡◌, ◌<◌, ◌≤◌, [], ◌∷◌, length, drop, position, nat_lt, MatchOption, IfOk, OnSome};
+ghost use Rattle.std.specs.Prelude.{◌≡◌, ◌≤◌, [], ◌∷◌, length, drop, position, nat_lt};
+ghost use Rattle.std.specs.Prelude.{MatchOption, IfOk, OnSome};
 ghost use Rattle.std.specs.Bool.{OnTrue};
 ghost use Rattle.std.specs.List.{list_any};
 ghost use Rattle.std.specs.Str.{bytes_eq};
-ghost use Rattle.proof_text.specs.Binary.{binary_words, binary_number, binary_numbers, is_binary, sevens, signed, up_to_zero, behind_line, action_of_word, binary_action, binary_step, binary_lines_of};
+ghost use Rattle.proof_text.specs.Binary.{binary_words, is_binary, sevens, signed, binary_number};
+ghost use Rattle.proof_text.specs.Binary.{binary_numbers, up_to_zero, behind_line};
+ghost use Rattle.proof_text.specs.Binary.{action_of_word, binary_action, binary_step};
+ghost use Rattle.proof_text.specs.Binary.{binary_lines_of};
 ghost use Rattle.proof_text.specs.Numbers.{first_number, before_zero, literal_of, if_read};
 ghost use Rattle.proof_text.specs.Reads.{IsRead};
 ghost use Rattle.proof_text.specs.Steps.{steps_by, drat_with};
@@ -178,8 +182,8 @@ fn read_literals(
     variables: u32,
     literals: &mut Vec<Literal>,
 ) -> Result<bool, AllocError>
-    ensures read { IfOk result (λ read. before_zero (literal_of variables) (binary_numbers words.old) ≡
-        if_read read literals.new.items (binary_numbers words.new)) }
+    ensures read { IfOk result (λ read.
+        before_zero (literal_of variables) (binary_numbers words.old) ≡ if_read read literals.new.items (binary_numbers words.new)) }
     ensures rest { IfOk result (λ read. OnTrue read (words.new ≡ behind_line words.old)) }
 {
     literals.clear();
@@ -253,10 +257,12 @@ impl<'a> BinaryLines<'a> {
         variables: u32,
         literals: &mut Vec<Literal>,
     ) -> Result<Option<(usize, DratAction)>, StepFault>
-        ensures { IsRead (steps_by (binary_step variables) self.old) (steps_by (binary_step variables) self.new)
+        ensures { IsRead
+            (steps_by (binary_step variables) self.old)
+            (steps_by (binary_step variables) self.new)
             (λ action. record {
-                action = action;
-                literals = literals.new.items;
+              action = action;
+              literals = literals.new.items;
             }) result }
     {
         if self.rest.is_empty() {

@@ -1,5 +1,6 @@
-//! DRAT: as text `LITERALS 0` adds a clause and `d LITERALS 0` deletes one; in its binary form `a` and `d` stand before the literals,
-//! each of which is a number of seven bits a byte, twice the variable and one more for its negation, with 0 at the end.
+//! DRAT: as text `LITERALS 0` adds a clause and `d LITERALS 0` deletes one; in its binary form `a`
+//! and `d` stand before the literals, each of which is a number of seven bits a byte, twice the
+//! variable and one more for its negation, with 0 at the end.
 
 ghost use Rattle.std.specs.Prelude.{◌≡◌, IfOk};
 ghost use Rattle.proof_text.specs.Binary.{drat_steps_in};
@@ -29,8 +30,8 @@ enum Source<'a> {
     Binary(BinaryLines<'a>),
 }
 
-/// The steps of a DRAT proof that are left. Contracts see each with its line, and none where the line has no form; of the binary form
-/// a line is a step.
+/// The steps of a DRAT proof that are left. Contracts see each with its line, and none where the
+/// line has no form; of the binary form a line is a step.
 #[derive(Drop)]
 pub struct DratSteps<'a> {
     source: Source<'a>,
@@ -73,8 +74,8 @@ impl<'a> DratSteps<'a> {
         literals: &mut Vec<Literal>,
     ) -> Result<Option<(usize, DratAction)>, StepFault>
         ensures { IsRead self.old self.new (λ action. record {
-            action = action;
-            literals = literals.new.items;
+          action = action;
+          literals = literals.new.items;
         }) result }
     {
         match &mut self.source {
@@ -90,10 +91,12 @@ fn read_line(
     variables: u32,
     literals: &mut Vec<Literal>,
 ) -> Result<Option<(usize, DratAction)>, StepFault>
-    ensures { IsRead (steps_by (drat_step variables) lines.old) (steps_by (drat_step variables) lines.new)
+    ensures { IsRead
+        (steps_by (drat_step variables) lines.old)
+        (steps_by (drat_step variables) lines.new)
         (λ action. record {
-            action = action;
-            literals = literals.new.items;
+          action = action;
+          literals = literals.new.items;
         }) result }
 {
     match lines.next_line() {

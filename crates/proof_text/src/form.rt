@@ -1,7 +1,9 @@
 //! Which form a proof has.
 
 ghost use Rattle.std.specs.Prelude.{◌≡◌};
-ghost use Rattle.proof_text.specs.Forms.{begins_with, is_more, is_end, behind_zero, deletes, first_line, is_some_nonzero, is_lrat, text_form, is_binary_proof, form_of_text};
+ghost use Rattle.proof_text.specs.Forms.{begins_with, is_more, is_end, behind_zero, deletes};
+ghost use Rattle.proof_text.specs.Forms.{first_line, is_some_nonzero, is_lrat, text_form};
+ghost use Rattle.proof_text.specs.Forms.{is_binary_proof, form_of_text};
 ghost use Rattle.proof_text.specs.Numbers.{numbers_of};
 ghost use Rattle.proof_text.specs.Words.{words, lines, lines_of};
 
@@ -20,8 +22,9 @@ pub enum Form {
     BinaryDrat,
 }
 
-/// The form of a proof. It is binary where its first byte is `a`, or `d` and its first line is no deletion. A text is LRAT where the
-/// second word of its first step is `d`, or a 0 stands before the last word.
+/// The form of a proof. It is binary where its first byte is `a`, or `d` and its first line is no
+/// deletion. A text is LRAT where the first number of its first step is not 0, and `d` is next or a
+/// 0 stands before the last word.
 #[tactic(auto, unfolding(crate::specs::Forms::form_of_text))]
 pub fn form_of(proof: &[u8]) -> Form
     ensures { result ≡ form_of_text proof.now }

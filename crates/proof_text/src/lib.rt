@@ -1,7 +1,9 @@
-//! The texts of proofs that solvers write, read step by step: LRAT (Cruz-Filipe, Heule, Hunt, Kaufmann and Schneider-Kamp 2017) as
-//! text, and DRAT (Wetzler, Heule and Hunt 2014) as text and in its binary form.
+//! The texts of proofs that solvers write, read step by step: LRAT (Cruz-Filipe, Heule, Hunt,
+//! Kaufmann and Schneider-Kamp 2017) as text, and DRAT (Wetzler, Heule and Hunt 2014) as text and
+//! in its binary form.
 //!
-//! Nothing rests on how a text is read: whatever steps come out, a checker takes only those that follow.
+//! Contracts say which steps a text has, each with its line. That a refuted formula has no solution
+//! does not rest on them: whatever steps come out, a checker takes only those that follow.
 #![tactic(auto)]
 
 mod binary;

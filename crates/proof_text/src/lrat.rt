@@ -3,7 +3,8 @@
 ghost use Rattle.std.specs.Prelude.{◌≡◌, IfOk, Some};
 ghost use Rattle.proof_text.specs.Numbers.{numbers_of};
 ghost use Rattle.proof_text.specs.Reads.{IsRead};
-ghost use Rattle.proof_text.specs.Steps.{lrat_step, lrat_steps, lrat_with, line_id, step_of_id, deletion_of, addition_of};
+ghost use Rattle.proof_text.specs.Steps.{lrat_step, lrat_steps, lrat_with, line_id};
+ghost use Rattle.proof_text.specs.Steps.{step_of_id, deletion_of, addition_of};
 
 use crate::fault::StepFault;
 use crate::number::Number;
@@ -22,7 +23,8 @@ pub enum LratAction {
     Delete,
 }
 
-/// The steps of an LRAT proof that are left. Contracts see each with its line, and none where the line has no form.
+/// The steps of an LRAT proof that are left. Contracts see each with its line, and none where the
+/// line has no form.
 #[derive(Drop)]
 pub struct LratSteps<'a> {
     text: Lines<'a>,
@@ -52,17 +54,18 @@ impl<'a> LratSteps<'a> {
         }
     }
 
-    /// Reads the next step, where there is one: its line, what it does, its literals, and the IDs that it names. An ID below 0,
-    /// by which LRAT begins the hints of a resolution asymmetric tautology, is none.
+    /// Reads the next step, where there is one: its line, what it does, its literals, and the IDs
+    /// that it names. An ID below 0, by which LRAT begins the hints of a resolution asymmetric
+    /// tautology, is none.
     pub fn read(
         &mut self,
         literals: &mut Vec<Literal>,
         ids: &mut Vec<Option<u64>>,
     ) -> Result<Option<(usize, LratAction)>, StepFault>
         ensures { IsRead self.old self.new (λ action. record {
-            action = action;
-            literals = literals.new.items;
-            ids = ids.new.items;
+          action = action;
+          literals = literals.new.items;
+          ids = ids.new.items;
         }) result }
     {
         match self.text.next_line() {

@@ -4,15 +4,16 @@ ghost use Rattle.std.specs.Prelude.{◌≡◌, ◌≤◌, true, length};
 ghost use Rattle.std.specs.List.{list_all};
 ghost use Rattle.std.specs.Char.{is_ascii_digit};
 ghost use Rattle.std.specs.Str.Parse.{digits_value};
-ghost use Rattle.proof_text.specs.Numbers.{is_decimal, size_of, below_zero, not_below_zero, number_of, literal_of, id_of};
+ghost use Rattle.proof_text.specs.Numbers.{is_decimal, size_of, below_zero, not_below_zero};
+ghost use Rattle.proof_text.specs.Numbers.{number_of, literal_of, id_of};
 
 use serializability::Literal;
 
 /// A number as it is written, without its sign.
 #[derive(Clone, Copy, PartialEq, Eq)]
-pub struct Number {
-    pub size: u64,
-    pub negative: bool,
+pub(crate) struct Number {
+    pub(crate) size: u64,
+    pub(crate) negative: bool,
 }
 
 /// The most digits that a number may have.

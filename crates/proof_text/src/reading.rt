@@ -1,7 +1,8 @@
 //! The numbers of a line, read up to a 0.
 
 ghost use Rattle.std.specs.Prelude.{◌≡◌, IfOk};
-ghost use Rattle.proof_text.specs.Numbers.{numbers_of, before_zero, whole, literal_of, id_of, if_true, if_read};
+ghost use Rattle.proof_text.specs.Numbers.{numbers_of, before_zero, whole, literal_of, id_of};
+ghost use Rattle.proof_text.specs.Numbers.{if_true, if_read};
 ghost use Rattle.proof_text.specs.Forms.{behind_zero};
 
 use crate::number::{id_of, literal_of};
@@ -72,8 +73,8 @@ pub(crate) fn read_last_literals(
     variables: u32,
     literals: &mut Vec<Literal>,
 ) -> Result<bool, AllocError>
-    ensures { IfOk result (λ read. whole (before_zero (literal_of variables) (numbers_of words.old)) ≡
-        if_true read literals.new.items) }
+    ensures { IfOk result (λ read.
+        whole (before_zero (literal_of variables) (numbers_of words.old)) ≡ if_true read literals.new.items) }
 {
     let read = read_literals(words, variables, literals)?;
     Ok(read && words.are_over())

@@ -40,7 +40,10 @@ fn next_drat(
 fn drat_as_text(rt: HostRuntime) {
     let mut steps = DratSteps::new(b"1 -2 0\n\nd 3 0\r\n0", 3, false);
     assert_eq!(rt; next_drat(&rt, &mut steps), Some((1, DratAction::Add, 2)));
-    assert_eq!(rt; next_drat(&rt, &mut steps), Some((3, DratAction::Delete, 1)));
+    assert_eq!(rt;
+        next_drat(&rt, &mut steps),
+        Some((3, DratAction::Delete, 1))
+    );
     assert_eq!(rt; next_drat(&rt, &mut steps), Some((4, DratAction::Add, 0)));
     assert_eq!(rt; next_drat(&rt, &mut steps), None);
 }
@@ -49,7 +52,10 @@ fn drat_as_text(rt: HostRuntime) {
 fn drat_in_its_binary_form(rt: HostRuntime) {
     let mut steps = DratSteps::new(b"a\x02\x05\x00d\x06\x00a\x00", 3, true);
     assert_eq!(rt; next_drat(&rt, &mut steps), Some((1, DratAction::Add, 2)));
-    assert_eq!(rt; next_drat(&rt, &mut steps), Some((2, DratAction::Delete, 1)));
+    assert_eq!(rt;
+        next_drat(&rt, &mut steps),
+        Some((2, DratAction::Delete, 1))
+    );
     assert_eq!(rt; next_drat(&rt, &mut steps), Some((3, DratAction::Add, 0)));
     assert_eq!(rt; next_drat(&rt, &mut steps), None);
 }
@@ -91,7 +97,10 @@ fn bytes_of_no_form(rt: HostRuntime) {
     assert_eq!(rt; drat_fault(&rt, b"a\x82", true), bad);
     assert_eq!(rt; drat_fault(&rt, b"b\x02\x00", true), bad);
     assert_eq!(rt; drat_fault(&rt, b"\x00", true), bad);
-    assert_eq!(rt; drat_fault(&rt, b"a\x82\x80\x80\x80\x80\x00\x00", true), bad);
+    assert_eq!(rt;
+        drat_fault(&rt, b"a\x82\x80\x80\x80\x80\x00\x00", true),
+        bad
+    );
 }
 
 #[test]
@@ -101,7 +110,7 @@ fn numbers_of_five_bytes(rt: HostRuntime) {
     assert_eq!(rt; next_drat(&rt, &mut steps), None);
 }
 
-// The line of the next step of an LRAT proof over three variables, what it does, and how many literals and numbers it has.
+// The line of the next step of an LRAT proof, what it does, and how many literals and IDs it has.
 fn next_lrat(
     rt: &(impl Abort + AllocGlobal),
     steps: &mut LratSteps<'_>,
@@ -115,9 +124,18 @@ fn next_lrat(
 #[test]
 fn lrat_as_text(rt: HostRuntime) {
     let mut steps = LratSteps::new(b"5 1 -2 0 3 -4 2 0\n5 d 1 2 0\n\n6 0 5 0", 3);
-    assert_eq!(rt; next_lrat(&rt, &mut steps), Some((1, LratAction::Add(5), 2, 3)));
-    assert_eq!(rt; next_lrat(&rt, &mut steps), Some((2, LratAction::Delete, 0, 2)));
-    assert_eq!(rt; next_lrat(&rt, &mut steps), Some((4, LratAction::Add(6), 0, 1)));
+    assert_eq!(rt;
+        next_lrat(&rt, &mut steps),
+        Some((1, LratAction::Add(5), 2, 3))
+    );
+    assert_eq!(rt;
+        next_lrat(&rt, &mut steps),
+        Some((2, LratAction::Delete, 0, 2))
+    );
+    assert_eq!(rt;
+        next_lrat(&rt, &mut steps),
+        Some((4, LratAction::Add(6), 0, 1))
+    );
     assert_eq!(rt; next_lrat(&rt, &mut steps), None);
 }
 

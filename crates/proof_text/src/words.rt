@@ -1,11 +1,14 @@
 //! The lines of a text that say something, and the words of each.
 
-ghost use Rattle.std.specs.Prelude.{◌≡◌, ◌+◌, ◌^◌, ◌<◌, ◌≤◌, ℕ, [], ◌∷◌, not, length, drop, position, ◌==◌, MatchOption};
+ghost use Rattle.std.specs.Prelude.{◌≡◌, ◌+◌, ◌^◌, ◌<◌, ◌≤◌, ℕ, [], ◌∷◌, not, length, drop};
+ghost use Rattle.std.specs.Prelude.{position, ◌==◌, MatchOption};
 ghost use Rattle.std.specs.List.{position_or_len};
 ghost use Rattle.std.specs.Str.{bytes_eq};
 ghost use Rattle.proof_text.specs.Forms.{first_line};
 ghost use Rattle.proof_text.specs.Numbers.{numbers_of, first_number};
-ghost use Rattle.proof_text.specs.Words.{is_blank, words, lines, begins_comment, is_passed, is_delete, behind_delete, is_empty, stated, lines_of, IsFound};
+ghost use Rattle.proof_text.specs.Words.{is_blank, words, lines, begins_comment, is_passed};
+ghost use Rattle.proof_text.specs.Words.{is_delete, behind_delete, is_empty, stated, lines_of};
+ghost use Rattle.proof_text.specs.Words.{IsFound};
 
 use crate::number::{Number, number_of};
 use std::marker::Model;
@@ -143,7 +146,8 @@ fn first_feed(text: &[u8]) -> Option<usize>
 /// The first line of a text, and what stands behind it.
 pub(crate) fn cut_line(text: &[u8]) -> (&[u8], &[u8])
     ensures first { result.0.now ≡ first_line (lines text.now) }
-    ensures lines { (n : ℕ) → stated n (lines text.now) ≡ stated n (result.0.now ∷ lines result.1.now) }
+    ensures lines { (n : ℕ) →
+        stated n (lines text.now) ≡ stated n (result.0.now ∷ lines result.1.now) }
     ensures shorter { 0 < length text.now → length result.1.now < length text.now }
 {
     match first_feed(text) {

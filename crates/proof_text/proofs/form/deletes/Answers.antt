@@ -1,5 +1,4 @@
 use Rattle.std.proofs.Common.{sym, ap, ◌∙◌}
-use Rattle.proof_text.specs.Words.{words}
 use Rattle.proof_text.specs.Forms.{deletes}
 use Rattle.proof_text.proofs.Forming.{deletes_yes, deletes_no}
 use Rattle.proof_text.proofs.form.deletes.Goals as goal

@@ -1,6 +1,6 @@
-use Rattle.std.proofs.Common.{◌≡◌, ◌+◌, List, ℕ, ◌∷◌, [], take, drop, sym, ap, refl}
+use Rattle.std.proofs.Common.{[], sym, ap, refl}
 use Rattle.std.proofs.lemmas.List.{take_rest}
-use Rattle.proof_text.specs.Words.{lines, stated}
+use Rattle.proof_text.specs.Words.{stated}
 use Rattle.proof_text.specs.Forms.{first_line}
 use Rattle.proof_text.proofs.Cutting.{lines_at, lines_unended, stated_last}
 use Rattle.proof_text.proofs.words.cut_line.Goals as goal

@@ -1,4 +1,4 @@
-use Rattle.std.proofs.Common.{◌≤◌, ◌<◌, length, arith}
+use Rattle.std.proofs.Common.{arith}
 use Rattle.proof_text.specs.Words.{is_blank}
 use Rattle.proof_text.proofs.Cutting.{is_text, position_some, position_within, words_at, words_none}
 use Rattle.proof_text.proofs.words.cut_word.Goals as goal

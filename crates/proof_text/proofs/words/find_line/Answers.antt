@@ -9,9 +9,9 @@ returns-then-not-is_passed c =
     let some : 0 < length c.loop-rest.rest.now = omega (arith, eqb-false (length c.loop-rest.rest.now) 0 (sym c.is_empty.ensures ∙ c.loop-rest-test.true)) in
     let shorter = c.cut_line.ensures.shorter some in
     record {
-    stated_are = c.loop-rest.invariant.0 ∙ (c.cut_line.ensures.lines c.loop-rest.number ∙ stated_first c.loop-rest.number c.cut_line.result.0.now (lines c.cut_line.result.1.now) (sym c.is_passed.ensures ∙ c.if-not-is_passed.true));
-    within = omega (arith, shorter);
-}
+      stated_are = c.loop-rest.invariant.0 ∙ (c.cut_line.ensures.lines c.loop-rest.number ∙ stated_first c.loop-rest.number c.cut_line.result.0.now (lines c.cut_line.result.1.now) (sym c.is_passed.ensures ∙ c.if-not-is_passed.true));
+      within = omega (arith, shorter);
+    }
 
 pub loop-rest-preserved : goal.loop-rest-preserved
 loop-rest-preserved c =

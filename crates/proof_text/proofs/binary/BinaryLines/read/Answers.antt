@@ -1,4 +1,4 @@
-use Rattle.std.proofs.Common.{◌≡◌, ◌+◌, ◌^◌, ◌<◌, ◌≤◌, ◌∷◌, length, Some, None, arith, sym, ap, ◌∙◌}
+use Rattle.std.proofs.Common.{◌+◌, ◌^◌, ◌<◌, ◌∷◌, length, Some, None, arith, sym, ap, ◌∙◌}
 use Rattle.std.proofs.lemmas.Bool.{eqb-true, eqb-false}
 use Rattle.proof_text.specs.Binary.{binary_words, behind_line, binary_step}
 use Rattle.proof_text.specs.Steps.{drat_clause, steps_by}
@@ -29,6 +29,7 @@ returns-in-Ok-Some c =
 pub returns-in-Ok-None : goal.returns-in-Ok-None
 returns-in-Ok-None c =
     let some : 0 < length c.self.inside.rest.now = omega (arith, eqb-false (length c.self.inside.rest.now) 0 (sym c.is_empty.ensures ∙ c.if-is_empty.false)) in
-    let step = rw c.in-Ok-None.field-0-is at c.in-Ok-None.ensures.step in
-    (steps_at c.args.variables (c.self.inside.number + 1) (behind_line c.of-words.result),
-    ap (steps_by (binary_step c.args.variables)) (sym c.self.view_is) ∙ steps_first c.args.variables c.self.inside.number c.self.inside.rest.now c.of-words.result None some c.of-words.ensures step)
+    let step = rw c.in-Ok-None.field-0-is at c.in-Ok-None.ensures.step in (
+      steps_at c.args.variables (c.self.inside.number + 1) (behind_line c.of-words.result),
+      ap (steps_by (binary_step c.args.variables)) (sym c.self.view_is) ∙ steps_first c.args.variables c.self.inside.number c.self.inside.rest.now c.of-words.result None some c.of-words.ensures step,
+    )
