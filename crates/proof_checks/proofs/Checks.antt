@@ -1,5 +1,5 @@
 -- What the forms of proofs have in common.
-use Rattle.std.proofs.Common.{◌≡◌, ℕ, ◌≤◌, Bool, true, false, if◌then◌else◌, List, [], Option, Some, None, Result, Ok, Err, IfErr, length, refl, sym, ap, subst, ◌∙◌}
+use Rattle.std.proofs.Common.{◌≡◌, ℕ, ◌≤◌, true, false, if◌then◌else◌, List, Option, Some, None, Result, Ok, Err, IfErr, length, ap, ◌∙◌}
 use Rattle.std.specs.List.{list_any}
 use Rattle.serializability.specs.declared.literal.Literal.{Literal}
 use Rattle.proof_text.specs.Binary.{drat_steps_in}
@@ -10,7 +10,6 @@ use Rattle.proof_text.specs.declared.form.Form.{Form}
 use Rattle.proof_text.specs.declared.form.Form.TheVariants.{Lrat, Drat, BinaryDrat}
 use Rattle.proof_text.specs.declared.fault.StepFault.{StepFault}
 use Rattle.proof_text.specs.declared.fault.StepFault.TheVariants as step
-use Rattle.proof_text.specs.declared.fault.ProofFault.{ProofFault}
 use Rattle.proof_text.specs.declared.fault.ProofFault.TheVariants.{NoEmptyClause}
 use Rattle.proof_checks.specs.Checked.{Given, lrat_fault_of, HasFault, HasNoFault, IsStepsFault, IsEnded, IsAccepted, HasFaultWithin, IsProofFault}
 use Rattle.proof_checks.specs.Drat.{IsDratStop}

@@ -1,12 +1,12 @@
 -- Literals that are kept once.
-use Rattle.std.proofs.Common.{◌≡◌, ℕ, ◌+◌, ◌<◌, ◌≤◌, Bool, true, false, not, ◌||◌, eqb, ◌==◌, if◌then◌else◌, List, [], ◌∷◌, ◌++◌, length, filter, take, refl, sym, ap, ◌∙◌, get_or, add-one, append-nil, arith, take_all}
+use Rattle.std.proofs.Common.{◌≡◌, ℕ, ◌+◌, ◌*◌, ◌<◌, ◌≤◌, Bool, true, false, not, ◌||◌, eqb, ◌==◌, if◌then◌else◌, List, [], ◌∷◌, ◌++◌, length, filter, take, refl, sym, ap, ◌∙◌, get_or, add-one, append-nil, arith, take_all}
 use Rattle.std.proofs.Math.Seq.{take-suc}
 use Rattle.std.proofs.lemmas.Bool.{eqb-true, eqb-false, eq-eqb, ne_eqb}
 use Rattle.std.specs.List.{list_any}
 use Rattle.std.proofs.lemmas.List.Folds.{list_any_more}
 use Rattle.std.proofs.lemmas.List.Elements.{filter-append}
 use Rattle.serializability.specs.declared.literal.Literal.{Literal}
-use Rattle.proof_checks.specs.Distinct.{code_of, is_same, is_among, with_literal, distinct}
+use Rattle.proof_checks.specs.Distinct.{code_of, is_same, is_among, with_literal, distinct, negated, is_tautology}
 use Rattle.proof_checks.specs.Ends.{is_nil}
 
 pub eqb_sym : (a b : ℕ) → eqb a b ≡ eqb b a
@@ -86,3 +86,70 @@ none_more test ls i d lt before here = list_any_more test ls i d lt ∙ (ap (λ 
 
 pub none_in_all : (test : Literal → Bool) (ls : List Literal) (i : ℕ) → length ls ≤ i → list_any test (take i ls) ≡ false → list_any test ls ≡ false
 none_in_all test ls i le before = sym (ap (list_any test) (take_all i ls le)) ∙ before
+
+-- what stands among literals stands among them where each is kept once
+pub among_distinct : (ls : List Literal) (x : Literal) → is_among (distinct ls) x ≡ is_among ls x
+unfolding distinct
+among_distinct [] x = refl
+among_distinct (l ∷ ls) x = by_test (among_distinct ls x) (is_same x l) refl
+  where
+    by_test : is_among (distinct ls) x ≡ is_among ls x → (b : Bool) → is_same x l ≡ b → (is_same x l || is_among (filter (λ m. not (is_same l m)) (distinct ls)) x) ≡ (is_same x l || is_among ls x)
+    by_test rest true e = ap (λ b. b || is_among (filter (λ m. not (is_same l m)) (distinct ls)) x) e ∙ sym (ap (λ b. b || is_among ls x) e)
+    by_test rest false e = ap (λ b. is_same x l || b) (among_others x l (distinct ls) e ∙ rest)
+
+-- a test that a literal fails passes elsewhere, or not at all
+any_others : (test : Literal → Bool) → ((l m : Literal) → is_same l m ≡ true → test l ≡ test m) → (l : Literal) (ms : List Literal) → test l ≡ false → list_any test (filter (λ m. not (is_same l m)) ms) ≡ list_any test ms
+any_others test alike l [] e = refl
+any_others test alike l (m ∷ ms) e = by_test (any_others test alike l ms e) (is_same l m) refl
+  where
+    by_test : list_any test (filter (λ m. not (is_same l m)) ms) ≡ list_any test ms → (b : Bool) → is_same l m ≡ b → list_any test (filter (λ m. not (is_same l m)) (m ∷ ms)) ≡ (test m || list_any test ms)
+    by_test rest true s =
+        ap (λ b. list_any test (if not b then m ∷ filter (λ m. not (is_same l m)) ms else filter (λ m. not (is_same l m)) ms)) s
+        ∙ (rest ∙ sym (ap (λ b. b || list_any test ms) (sym (alike l m s) ∙ e)))
+    by_test rest false s =
+        ap (λ b. list_any test (if not b then m ∷ filter (λ m. not (is_same l m)) ms else filter (λ m. not (is_same l m)) ms)) s
+        ∙ ap (λ b. test m || b) rest
+
+any_distinct : (test : Literal → Bool) → ((l m : Literal) → is_same l m ≡ true → test l ≡ test m) → (ls : List Literal) → list_any test (distinct ls) ≡ list_any test ls
+unfolding distinct
+any_distinct test alike [] = refl
+any_distinct test alike (l ∷ ls) = by_test (any_distinct test alike ls) (test l) refl
+  where
+    by_test : list_any test (distinct ls) ≡ list_any test ls → (b : Bool) → test l ≡ b → (test l || list_any test (filter (λ m. not (is_same l m)) (distinct ls))) ≡ (test l || list_any test ls)
+    by_test rest true e = ap (λ b. b || list_any test (filter (λ m. not (is_same l m)) (distinct ls))) e ∙ sym (ap (λ b. b || list_any test ls) e)
+    by_test rest false e = ap (λ b. test l || b) (any_others test alike l (distinct ls) e ∙ rest)
+
+same_literal : (l m : Literal) → code_of l ≡ code_of m → l ≡ m
+same_literal l m e = by_signs l.positive m.positive refl refl
+  where
+    by_signs : (p q : Bool) → l.positive ≡ p → m.positive ≡ q → l ≡ m
+    by_signs true true a b =
+        let one : code_of l ≡ 2 * l.variable + 0 = ap (λ p. 2 * l.variable + (if p then 0 else 1)) a in
+        let two : code_of m ≡ 2 * m.variable + 0 = ap (λ p. 2 * m.variable + (if p then 0 else 1)) b in
+        let v : l.variable ≡ m.variable = omega (arith, e, one, two) in
+        let s : l.positive ≡ m.positive = a ∙ sym b in
+        λ i. record { variable = v i; positive = s i }
+    by_signs true false a b =
+        let one : code_of l ≡ 2 * l.variable + 0 = ap (λ p. 2 * l.variable + (if p then 0 else 1)) a in
+        let two : code_of m ≡ 2 * m.variable + 1 = ap (λ p. 2 * m.variable + (if p then 0 else 1)) b in
+        absurd (omega (arith, e, one, two))
+    by_signs false true a b =
+        let one : code_of l ≡ 2 * l.variable + 1 = ap (λ p. 2 * l.variable + (if p then 0 else 1)) a in
+        let two : code_of m ≡ 2 * m.variable + 0 = ap (λ p. 2 * m.variable + (if p then 0 else 1)) b in
+        absurd (omega (arith, e, one, two))
+    by_signs false false a b =
+        let one : code_of l ≡ 2 * l.variable + 1 = ap (λ p. 2 * l.variable + (if p then 0 else 1)) a in
+        let two : code_of m ≡ 2 * m.variable + 1 = ap (λ p. 2 * m.variable + (if p then 0 else 1)) b in
+        let v : l.variable ≡ m.variable = omega (arith, e, one, two) in
+        let s : l.positive ≡ m.positive = a ∙ sym b in
+        λ i. record { variable = v i; positive = s i }
+
+any_where : (f g : Literal → Bool) → ((l : Literal) → f l ≡ g l) → (ls : List Literal) → list_any f ls ≡ list_any g ls
+any_where f g e [] = refl
+any_where f g e (l ∷ ls) = ap (λ b. b || list_any f ls) (e l) ∙ ap (λ b. g l || b) (any_where f g e ls)
+
+-- so a clause is a tautology where its literals, each once, are one
+pub tautology_distinct : (ls : List Literal) → is_tautology (distinct ls) ≡ is_tautology ls
+tautology_distinct ls =
+    any_distinct (λ l. is_among (distinct ls) (negated l)) (λ l m s. ap (λ (k : Literal). is_among (distinct ls) (negated k)) (same_literal l m (eqb-true (code_of l) (code_of m) s))) ls
+    ∙ any_where (λ l. is_among (distinct ls) (negated l)) (λ l. is_among ls (negated l)) (λ l. among_distinct ls (negated l)) ls

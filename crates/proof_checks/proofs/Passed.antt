@@ -1,5 +1,5 @@
 -- What the steps of a DRAT proof do to its first fault, and which clauses stand at its end.
-use Rattle.std.proofs.Common.{◌≡◌, ℕ, suc, ◌+◌, ◌<◌, Bool, true, false, ◌||◌, ◌&&◌, ◌↔◌, IsTrue, IsFalse, List, [], ◌∷◌, ◌++◌, length, map, Contains, Option, Some, None, Result, Ok, Err, IfOk, refl, sym, ap, subst, ◌∙◌, append_assoc, arith}
+use Rattle.std.proofs.Common.{◌≡◌, ℕ, suc, ◌<◌, Bool, true, false, ◌&&◌, ◌↔◌, IsTrue, IsFalse, List, [], ◌∷◌, ◌++◌, length, map, Contains, Option, Some, None, Result, Ok, Err, IfOk, IfErr, refl, sym, ap, ◌∙◌, append_assoc, arith}
 use Rattle.std.specs.List.{list_any, AllByRecursion}
 use Rattle.std.proofs.lemmas.List.{map-append}
 use Rattle.std.proofs.lemmas.List.Folds.{list_any_at}
@@ -7,12 +7,15 @@ use Rattle.serializability.specs.declared.literal.Literal.{Literal}
 use Rattle.proof_text.specs.Steps.{DratStep}
 use Rattle.proof_text.specs.declared.fault.ProofFault.{ProofFault}
 use Rattle.proof_text.specs.declared.fault.ProofFault.TheVariants as proof
-use Rattle.proof_checks.specs.Drat.{adds, adds_empty, as_read, Passes, GoesOn, IsStop, IsDratFault, IsDratStop, IsDratEnd}
+use Rattle.proof_checks.specs.Drat.{adds, adds_empty, as_read, Passes, GoesOn, IsStop, IsDratStop, IsDratEnd}
+use Rattle.proof_text.specs.Faults.{fault_of_step}
 use Rattle.proof_text.specs.declared.fault.StepFault.{StepFault}
+use Rattle.proof_text.specs.declared.fault.StepFault.TheVariants as step
 use Rattle.proof_text.specs.declared.drat.DratAction.{DratAction}
 use Rattle.proof_text.specs.declared.drat.DratAction.TheVariants.{Add}
-use Rattle.proof_checks.specs.Distinct.{distinct}
-use Rattle.proof_checks.specs.Passed.{IsAdded, Passed}
+use Rattle.proof_checks.specs.Distinct.{distinct, is_tautology}
+use Rattle.proof_checks.specs.Passed.{IsAdded, IsNotAdded, IsStepStop, Passed}
+use Rattle.proof_checks.proofs.Once.{tautology_distinct}
 use Rattle.proof_checks.specs.Ends.{is_nil, is_empty_clause}
 
 pub none_passed : (all left : List (ℕ × Option DratStep)) → left ≡ all → (passed : List (ℕ × DratStep)) × Passes all passed left
@@ -77,3 +80,15 @@ one_passed clauses c s true e a h =
 pub passed_one : (clauses : List (Option (List Literal))) (c : List Literal) (s : DratStep) (r : Result Bool StepFault) → c ≡ distinct s.literals → s.action ≡ Add → IfOk r (IsAdded clauses c) → IfOk r (Passed clauses s)
 passed_one clauses c s (Ok on) e a h = one_passed clauses c s on e a h
 passed_one clauses c s (Err f) e a h = tt
+
+pub not_passed : (line : ℕ) (c : List Literal) (s : DratStep) (r : Result Bool StepFault) → c ≡ distinct s.literals → s.action ≡ Add → IfErr r (λ f. IsNotAdded line c f) → IfErr r (λ f. IsStepStop line s (fault_of_step f))
+not_passed line c s (Ok on) e a h = tt
+not_passed line c s (Err (step.BadLine k)) e a h = absurd h
+not_passed line c s (Err (step.NotImplied k)) e a h = (
+  h.0,
+  record {
+    adds = ap adds a;
+    no_tautology = sym (tautology_distinct s.literals) ∙ (sym (ap is_tautology e) ∙ h.1);
+  },
+)
+not_passed line c s (Err step.Memory) e a h = tt

@@ -1,5 +1,5 @@
 -- What a step of an LRAT proof does to its first fault.
-use Rattle.std.proofs.Common.{◌≡◌, ℕ, ◌+◌, ◌<◌, Bool, true, false, not, ◌&&◌, ◌||◌, ◌==◌, if◌then◌else◌, List, [], ◌∷◌, ◌++◌, length, Option, Some, None, Result, Ok, Err, IfOk, IfErr, refl, sym, ap, subst, ◌∙◌, unwrap_or, arith}
+use Rattle.std.proofs.Common.{◌≡◌, ℕ, ◌<◌, Bool, true, false, not, ◌&&◌, ◌||◌, ◌==◌, if◌then◌else◌, List, [], ◌∷◌, ◌++◌, length, Option, Some, None, Result, Ok, Err, IfOk, IfErr, refl, sym, ap, subst, ◌∙◌, unwrap_or, arith}
 use Rattle.std.specs.List.{list_any}
 use Rattle.std.specs.Option.{option_or}
 use Rattle.std.proofs.lemmas.List.Folds.{list_any-append}
@@ -15,7 +15,7 @@ use Rattle.proof_text.specs.declared.lrat.LratAction.{LratAction}
 use Rattle.proof_text.specs.declared.lrat.LratAction.TheVariants.{Add, Delete}
 use Rattle.proof_checks.specs.Distinct.{distinct}
 use Rattle.proof_checks.specs.Ends.{is_nil, is_empty_clause, end_fault, IsFault}
-use Rattle.proof_checks.specs.Lrat.{Proof, numbers_at, is_next, follows_by, without, addition_fault, action_fault, fault_by, step_fault, after_action, after_step, adds, adds_empty, fault_from, lrat_fault}
+use Rattle.proof_checks.specs.Lrat.{Proof, numbers_at, is_next, follows_by, without, addition_fault, action_fault, fault_by, step_fault, after_action, after_step, adds, adds_empty, lrat_fault}
 use Rattle.proof_checks.specs.Kept.{AreNumbers, IsAdded, IsTaken, GoesOn}
 use Rattle.proof_checks.proofs.Once.{nil_kept}
 

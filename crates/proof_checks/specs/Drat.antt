@@ -7,7 +7,7 @@ use Rattle.proof_text.specs.declared.fault.ProofFault.{ProofFault}
 use Rattle.proof_text.specs.declared.fault.ProofFault.TheVariants.{BadLine, NotImplied, NoEmptyClause, Memory}
 use Rattle.proof_text.specs.declared.drat.DratAction.{DratAction}
 use Rattle.proof_text.specs.declared.drat.DratAction.TheVariants.{Add, Delete}
-use Rattle.proof_checks.specs.Distinct.{distinct, is_tautology}
+use Rattle.proof_checks.specs.Distinct.{is_tautology}
 use Rattle.proof_checks.specs.Ends.{is_nil, is_empty_clause}
 
 abbrev pub adds : DratAction → Bool
@@ -21,7 +21,7 @@ adds_empty s = adds s.action && is_nil s.literals
 -- a step adds a clause that not every assignment satisfies
 pub record MayFail (s : DratStep) : Type 0 where
   pub adds : IsTrue (adds s.action)
-  pub contingent : IsFalse (is_tautology (distinct s.literals))
+  pub no_tautology : IsFalse (is_tautology s.literals)
 
 -- the first of the steps that are left may have this fault: a line of no form; a clause that may not follow; the end
 abbrev pub StopsAt : List (ℕ × Option DratStep) → ProofFault → Type 0

@@ -4,6 +4,7 @@ use Rattle.std.specs.List.Sorted.{IsStrictlyIncreasing}
 use Rattle.serializability.specs.declared.literal.Literal.{Literal}
 use Rattle.refutation.specs.Standing.{Standing}
 use Rattle.proof_text.specs.Steps.{LratStep}
+use Rattle.proof_text.specs.declared.lrat.LratAction.{LratAction}
 use Rattle.proof_text.specs.declared.lrat.LratAction.TheVariants.{Add}
 use Rattle.proof_checks.specs.Distinct.{distinct}
 use Rattle.proof_checks.specs.Ends.{is_nil, end_fault}
@@ -14,6 +15,14 @@ use Rattle.proof_checks.specs.declared.lrat.Lrat.{Lrat}
 -- the clauses of a checker, with the IDs of the added ones
 abbrev pub proof_of : Standing → List ℕ → Proof
 proof_of s added = record { clauses = s.clauses; added = added }
+
+-- the same by what is kept
+abbrev pub held : Standing → Lrat → Proof
+held s lrat = proof_of s lrat.added.items
+
+-- the step that was read
+abbrev pub step_read : Lrat → LratAction → LratStep
+step_read lrat action = record { action = action; literals = lrat.literals.items; ids = lrat.ids.items }
 
 -- the IDs of added clauses ascend, and the marks can be taken away
 pub record IsKept (lrat : Lrat) : Type 0 where

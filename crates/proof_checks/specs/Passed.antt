@@ -1,5 +1,5 @@
 -- What a step of a DRAT proof did, as the code goes on from step to step.
-use Rattle.std.specs.Prelude.{◌≡◌, ℕ, Bool, true, false, IsFalse, List, [], Option}
+use Rattle.std.specs.Prelude.{◌≡◌, ℕ, Bool, true, false, IsFalse, List, Option}
 use Rattle.std.specs.List.{list_any}
 use Rattle.serializability.specs.declared.literal.Literal.{Literal}
 use Rattle.proof_text.specs.Steps.{DratStep}

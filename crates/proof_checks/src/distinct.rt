@@ -1,8 +1,10 @@
 //! Literals, each once.
 
-ghost use Rattle.std.specs.Prelude.{◌≡◌, ℕ, ◌<◌, ◌^◌, List, [], ◌++◌, ◌∷◌, length, slice_index, OnOk};
+ghost use Rattle.std.specs.Prelude.{◌≡◌, ℕ, ◌<◌, ◌^◌, List, [], ◌++◌, ◌∷◌, length};
+ghost use Rattle.std.specs.Prelude.{slice_index, OnOk};
 ghost use Rattle.serializability.specs.declared.literal.Literal.{Literal};
-ghost use Rattle.proof_checks.specs.Distinct.{code_of, distinct, is_among, is_tautology, negated, with_literal};
+ghost use Rattle.proof_checks.specs.Distinct.{code_of, distinct, is_among, is_tautology};
+ghost use Rattle.proof_checks.specs.Distinct.{negated, with_literal};
 ghost use Rattle.proof_checks.specs.Marks.{HasRounds, IsMarking};
 
 use serializability::Literal;
@@ -70,8 +72,8 @@ impl Marks {
         requires { place < 2 ^ 33 }
         ensures round { self.new.round ≡ self.old.round }
         ensures within { OnOk result (place < length self.new.rounds.items) }
-        ensures same { OnOk result
-            ((k : ℕ) → slice_index self.new.rounds.items k ≡ slice_index self.old.rounds.items k) }
+        ensures same { OnOk result ((k : ℕ) →
+            slice_index self.new.rounds.items k ≡ slice_index self.old.rounds.items k) }
     {
         if place < self.rounds.len() {
             return Ok(());

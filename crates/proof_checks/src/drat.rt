@@ -47,7 +47,8 @@ impl Drat {
         })
     }
 
-    /// Takes the next step, and says whether the proof goes on behind it: not at its end, nor behind the empty clause.
+    /// Takes the next step, and says whether the proof goes on behind it: not at its end, nor behind
+    /// the empty clause.
     fn take_next(
         &mut self,
         checker: &mut Checker,
@@ -90,8 +91,8 @@ impl Drat {
         }
     }
 
-    /// Adds the clause of a step, where it follows by unit propagation, and says whether it has literals. One that every assignment
-    /// satisfies is passed over.
+    /// Adds the clause of a step, where it follows by unit propagation, and says whether it has
+    /// literals. One that every assignment satisfies is passed over.
     fn add(&mut self, checker: &mut Checker, line: usize) -> Result<bool, StepFault>
         requires { IsMarking self.old.marks self.old.clause.items }
         ensures follows { Entails checker.old.clauses checker.new.clauses }

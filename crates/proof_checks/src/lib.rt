@@ -17,7 +17,8 @@ ghost use Rattle.std.specs.Prelude.{OnOk, IfErr};
 ghost use Rattle.refutation.specs.Follows.{Entails, IsRefuted};
 ghost use Rattle.proof_text.specs.Faults.{fault_of_step};
 ghost use Rattle.proof_text.specs.Forms.{form_of_text};
-ghost use Rattle.proof_checks.specs.Checked.{IsAccepted, IsEnded, IsProofFault, IsStepsFault, given_to};
+ghost use Rattle.proof_checks.specs.Checked.{IsAccepted, IsEnded, IsProofFault, IsStepsFault};
+ghost use Rattle.proof_checks.specs.Checked.{given_to};
 
 use proof_text::{Form, MAX_PROOF_BYTES, ProofFault, StepFault, form_of};
 use refutation::Checker;

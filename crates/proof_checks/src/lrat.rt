@@ -1,15 +1,17 @@
 //! LRAT: each step names the clauses that it follows from.
 
-ghost use Rattle.std.specs.Prelude.{◌≡◌, ◌<◌, ◌∷◌, [], ◌++◌, None, Some, length, position, ◌==◌, IfOk, IfErr, IfSome, OnOk};
+ghost use Rattle.std.specs.Prelude.{◌≡◌, ◌==◌, ◌∷◌, [], ◌++◌, None, Some, length, position};
+ghost use Rattle.std.specs.Prelude.{IfOk, IfErr, OnOk};
 ghost use Rattle.std.specs.List.Sorted.{IsStrictlyIncreasing};
-ghost use Rattle.serializability.specs.declared.literal.Literal.{Literal};
 ghost use Rattle.refutation.specs.Follows.{Entails};
 ghost use Rattle.proof_text.specs.Faults.{fault_of_step};
-ghost use Rattle.proof_text.specs.Steps.{LratStep, lrat_steps};
+ghost use Rattle.proof_checks.specs.Checked.{given_to, lrat_fault_of};
 ghost use Rattle.proof_checks.specs.Distinct.{distinct};
 ghost use Rattle.proof_checks.specs.Ends.{IsFault, end_fault};
-ghost use Rattle.proof_checks.specs.Lrat.{addition_fault, is_next, lrat_fault, named_at, number_at, standing_at, step_fault, without};
-ghost use Rattle.proof_checks.specs.Kept.{AreNumbers, GoesOn, IsAdded, IsKept, IsTaken, proof_of};
+ghost use Rattle.proof_checks.specs.Kept.{AreNumbers, GoesOn, IsAdded, IsKept, IsTaken};
+ghost use Rattle.proof_checks.specs.Kept.{held, proof_of, step_read};
+ghost use Rattle.proof_checks.specs.Lrat.{addition_fault, is_next, lrat_fault, named_at};
+ghost use Rattle.proof_checks.specs.Lrat.{number_at, standing_at, step_fault, without};
 
 use crate::distinct::Marks;
 use proof_text::{LratAction, LratSteps, StepFault};
@@ -17,8 +19,8 @@ use refutation::{Checker, take_step};
 use serializability::Literal;
 use std::alloc::{AllocError, Global};
 
-/// The place of an ID among those of added clauses. Where none is left out it is as far from the first place as the ID is from the
-/// first ID.
+/// The place of an ID among those of added clauses. Where none is left out it is as far from the
+/// first place as the ID is from the first ID.
 fn added_at(added: &[u64], id: u64) -> Option<usize>
     requires { IsStrictlyIncreasing added.now }
     ensures { result ≡ position (λ x. x == id) added.now }
@@ -31,8 +33,8 @@ fn added_at(added: &[u64], id: u64) -> Option<usize>
     added.binary_search(&id).ok()
 }
 
-/// The number at which the checker has the clause that got an ID: those of the formula have the IDs from 1 on, and each added clause
-/// has a greater one than all before.
+/// The number at which the checker has the clause that got an ID: those of the formula have the IDs
+/// from 1 on, and each added clause has a greater one than all before.
 fn number_of(checker: &Checker, added: &[u64], id: u64) -> Option<usize>
     requires { IsStrictlyIncreasing added.now }
     ensures { result ≡ number_at (proof_of checker.now added.now) id }
@@ -121,10 +123,11 @@ fn add_clause(
     ensures clauses { OnOk result
         (checker.new.clauses ≡ checker.old.clauses ++ Some literals.now ∷ []) }
     ensures added { OnOk result (added.new.items ≡ added.old.items ++ id ∷ []) }
-    ensures taken { OnOk result
-        (addition_fault (length checker.old.known) line (proof_of checker.old added.old.items) id literals.now hints.now ≡ None) }
+    ensures taken { OnOk result (addition_fault (length checker.old.known) line
+        (proof_of checker.old added.old.items) id literals.now hints.now ≡ None) }
     ensures fault { IfErr result (λ f. IsFault (fault_of_step f)
-        (addition_fault (length checker.old.known) line (proof_of checker.old added.old.items) id literals.now hints.now)) }
+        (addition_fault (length checker.old.known) line
+        (proof_of checker.old added.old.items) id literals.now hints.now)) }
 {
     if !is_next(checker, added, id) {
         return Err(StepFault::BadLine { line });
@@ -177,7 +180,8 @@ impl Lrat {
         }
     }
 
-    /// Takes the next step, and says whether the proof goes on behind it: not at its end, nor behind the empty clause.
+    /// Takes the next step, and says whether the proof goes on behind it: not at its end, nor behind
+    /// the empty clause.
     fn take_next(
         &mut self,
         checker: &mut Checker,
@@ -188,9 +192,9 @@ impl Lrat {
         ensures kept { OnOk result (IsKept self.new) }
         ensures known { OnOk result (length checker.new.known ≡ length checker.old.known) }
         ensures on { IfOk result (λ on. GoesOn (length checker.old.known) steps.old steps.new
-            (proof_of checker.old self.old.added.items) (proof_of checker.new self.new.added.items) on) }
+            (held checker.old self.old) (held checker.new self.new) on) }
         ensures fault { IfErr result (λ f. IsFault (fault_of_step f)
-            (lrat_fault (length checker.old.known) steps.old (proof_of checker.old self.old.added.items))) }
+            (lrat_fault (length checker.old.known) steps.old (held checker.old self.old))) }
     {
         match steps.read(&mut self.literals, &mut self.ids)? {
             None => Ok(false),
@@ -210,11 +214,10 @@ impl Lrat {
         ensures kept { OnOk result (IsKept self.new) }
         ensures known { OnOk result (length checker.new.known ≡ length checker.old.known) }
         ensures taken { IfOk result (IsTaken (length checker.old.known) line
-            (proof_of checker.old self.old.added.items) (proof_of checker.new self.new.added.items)
-            (record { action = action; literals = self.old.literals.items; ids = self.old.ids.items })) }
+            (held checker.old self.old) (held checker.new self.new) (step_read self.old action)) }
         ensures fault { IfErr result (λ f. IsFault (fault_of_step f)
-            (step_fault (length checker.old.known) line (proof_of checker.old self.old.added.items)
-            (record { action = action; literals = self.old.literals.items; ids = self.old.ids.items }))) }
+            (step_fault (length checker.old.known) line
+            (held checker.old self.old) (step_read self.old action))) }
     {
         if !resolve(checker, &self.added, &self.ids, &mut self.numbers)? {
             return Err(StepFault::BadLine { line });
@@ -235,10 +238,10 @@ impl Lrat {
         ensures kept { OnOk result (IsKept self.new) }
         ensures known { OnOk result (length checker.new.known ≡ length checker.old.known) }
         ensures added { IfOk result (IsAdded (length checker.old.known) line
-            (proof_of checker.old self.old.added.items) (proof_of checker.new self.new.added.items)
+            (held checker.old self.old) (held checker.new self.new)
             id self.old.literals.items self.old.numbers.items) }
         ensures fault { IfErr result (λ f. IsFault (fault_of_step f)
-            (addition_fault (length checker.old.known) line (proof_of checker.old self.old.added.items)
+            (addition_fault (length checker.old.known) line (held checker.old self.old)
             id (distinct self.old.literals.items) self.old.numbers.items)) }
     {
         self.marks.keep(&self.literals, &mut self.clause)?;
@@ -256,10 +259,10 @@ pub(crate) fn take_steps(
     proof: &[u8],
 ) -> Result<(), StepFault>
     ensures follows { Entails checker.old.clauses checker.new.clauses }
-    ensures ended { OnOk result (lrat_fault (length checker.old.known) (lrat_steps variables proof.now)
-        (proof_of checker.old []) ≡ end_fault checker.new.clauses) }
+    ensures ended { OnOk result (lrat_fault_of (given_to checker.old variables) proof.now
+        ≡ end_fault checker.new.clauses) }
     ensures fault { IfErr result (λ f. IsFault (fault_of_step f)
-        (lrat_fault (length checker.old.known) (lrat_steps variables proof.now) (proof_of checker.old []))) }
+        (lrat_fault_of (given_to checker.old variables) proof.now)) }
 {
     let mut lrat = Lrat::new(alloc);
     let mut steps = LratSteps::new(proof, variables);

@@ -77,3 +77,24 @@ fn lrat(rt: HostRuntime) {
         Err(ProofFault::NotImplied { line: 1 })
     );
 }
+
+#[test]
+fn lrat_ids(rt: HostRuntime) {
+    assert_eq!(rt;
+        shown(&rt, b"5 1 0 1 2 0\n9 -1 0 3 4 0\n12 0 5 9 0\n"),
+        Ok(())
+    );
+    assert_eq!(rt; shown(&rt, b"5 1 1 0 1 2 0\n6 0 5 3 4 0\n"), Ok(()));
+    assert_eq!(rt;
+        shown(&rt, b"5 1 0 1 2 0\n5 0 5 3 4 0\n"),
+        Err(ProofFault::BadLine { line: 2 })
+    );
+    assert_eq!(rt;
+        shown(&rt, b"5 1 0 1 2 0\n9 0 8 3 4 0\n"),
+        Err(ProofFault::BadLine { line: 2 })
+    );
+    assert_eq!(rt;
+        shown(&rt, b"c\n\n5 1 0 1 -2 0\n"),
+        Err(ProofFault::NotImplied { line: 3 })
+    );
+}

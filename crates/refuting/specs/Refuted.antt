@@ -1,12 +1,11 @@
 -- What `refute` says of sessions, and why it is refused.
-use Rattle.std.specs.Prelude.{◌≡◌, ℕ, ◌≤◌, Bool, List, Option, Result, Ok, Err, length, codes}
+use Rattle.std.specs.Prelude.{◌≡◌, ℕ, ◌+◌, Bool, List, Option, Some, Result, Ok, Err, map, codes}
 use Rattle.std.specs.Io.KnownBytes.{Keeps}
 use Rattle.session_log.specs.Text.{ClientSession}
 use Rattle.serializability.specs.Formula.{Cnf, Satisfies}
 use Rattle.log_definitions.specs.Serial.{IsSomeOrder}
 use Rattle.log_definitions.specs.WellFormed.{IsWellFormed}
-use Rattle.proof_text.specs.Faults.{IsProofFault}
-use Rattle.proof_text.specs.declared.TheConstants.{MAX_PROOF_BYTES}
+use Rattle.proof_checks.specs.Checked.{Given, IsAccepted, IsProofFault}
 use Rattle.proof_text.specs.declared.fault.ProofFault.{ProofFault}
 use Rattle.cobra_formulas.specs.Formulas.{IsFormulaOf, IsFormulaFault}
 use Rattle.cobra_answers.specs.declared.status.Status.{Status}
@@ -18,13 +17,17 @@ use Rattle.cobra_answers.specs.declared.fault.Fault.TheVariants as fault
 use Rattle.refuting.specs.declared.refusal.Refusal.{Refusal}
 use Rattle.refuting.specs.declared.refusal.Refusal.TheVariants.{Command, Proof}
 
+-- what a proof of a formula is checked against: its clauses, over its variables, which count from 1
+abbrev pub given_by : Cnf → Given
+given_by f = record { clauses = map Some f.clauses; variables = f.variables; known = f.variables + 1 }
+
 -- no assignment satisfies the formula
 abbrev pub IsUnsatisfiable : Cnf → Type 0
 IsUnsatisfiable f = (values : List Bool) → Satisfies values f → ⊥
 
--- a proof of at most 1 GiB was given of it
+-- an accepted proof was given of it
 pub record IsShownBy (proof : List ℕ) (f : Cnf) : Type 0 where
-  pub within : length proof ≤ MAX_PROOF_BYTES
+  pub accepted : IsAccepted (given_by f) proof
   pub unsatisfiable : IsUnsatisfiable f
 
 abbrev pub refuted_text : List ℕ
@@ -44,7 +47,7 @@ pub record IsRefutation (plain : Bool) (proof : List ℕ) (ss : List ClientSessi
 pub record IsProofRefused (plain : Bool) (proof : List ℕ) (ss : List ClientSession) (e : ProofFault) : Type 0 where
   pub formula : Cnf
   pub belongs : IsFormulaOf plain ss formula
-  pub refused : IsProofFault proof e
+  pub refused : IsProofFault (given_by formula) proof e
 
 -- the sessions have no formula for this reason
 abbrev pub HasNoFormula : Bool → Fault → List ClientSession → Type 0

@@ -4,8 +4,8 @@ ghost use Rattle.std.specs.Prelude.{◌≡◌, IfOk, IfErr, OnOk};
 ghost use Rattle.log_definitions.specs.WellFormed.{IsWellFormed, IsLogFault};
 ghost use Rattle.order_cnf.specs.Data.{cnf_of};
 ghost use Rattle.cobra_answers.specs.Answers.{IsTold};
-ghost use Rattle.proof_text.specs.Faults.{IsProofFault};
-ghost use Rattle.refuting.specs.Refuted.{IsRefutation, IsNotRefuted, IsRefuteRefused, IsShownBy, failures_of};
+ghost use Rattle.proof_checks.specs.Checked.{IsProofFault};
+ghost use Rattle.refuting.specs.Refuted.{IsRefutation, IsNotRefuted, IsRefuteRefused, IsShownBy, failures_of, given_by};
 
 use crate::formula::formula_of;
 use crate::given::checker_of;
@@ -28,7 +28,7 @@ use std::time::Clock;
 /// Checks a proof that a formula cannot be satisfied.
 fn refute_formula(alloc: Global, formula: &Formula, proof: &[u8]) -> Result<(), ProofFault>
     ensures shown { OnOk result (IsShownBy proof.now (cnf_of formula.now)) }
-    ensures fault { IfErr result (IsProofFault proof.now) }
+    ensures fault { IfErr result (IsProofFault (given_by (cnf_of formula.now)) proof.now) }
 {
     let mut checker = checker_of(alloc, formula)?;
     check_proof(alloc, &mut checker, formula.vars() as u32, proof)?;
@@ -79,7 +79,7 @@ fn read_log<R: Threads + Wait + Clock + Sync, G: Gate>(
 /// # Errors
 /// Those of the log and of its formula, as at `encode`; then those of the proof: R4 above 1 GiB, else the first of its steps that has
 /// none of the forms (R1) or does not follow (R2), or R3 where none derives the empty clause; the sink's failure; want of memory.
-/// Which of R1 to R3 a proof has is tested, and not proved.
+/// Of LRAT this is the proof's first fault; of DRAT it is that up to what unit propagation finds.
 pub fn refute<R: Threads + Wait + Clock + Sync, G: Gate, W: Sink>(
     rt: &R,
     alloc: Global,

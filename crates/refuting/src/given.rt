@@ -1,7 +1,8 @@
 //! The clauses of a formula, given to a checker.
 
-ghost use Rattle.std.specs.Prelude.{◌≡◌, ◌++◌, ◌∷◌, [], Some, map, IfOk, OnOk};
+ghost use Rattle.std.specs.Prelude.{◌≡◌, ◌+◌, ◌++◌, ◌∷◌, [], Some, map, IfOk, OnOk};
 ghost use Rattle.order_cnf.specs.Clauses.{literals};
+ghost use Rattle.refutation.specs.Known.{all_open};
 
 use order_cnf::{Clause, Formula};
 use refutation::Checker;
@@ -9,7 +10,9 @@ use std::alloc::{AllocError, Global};
 
 /// Gives a checker one more clause.
 fn give(checker: &mut Checker, clause: Clause) -> Result<(), AllocError>
-    ensures { OnOk result (checker.new.clauses ≡ checker.old.clauses ++ Some (literals clause) ∷ []) }
+    ensures clauses { OnOk result
+        (checker.new.clauses ≡ checker.old.clauses ++ Some (literals clause) ∷ []) }
+    ensures known { OnOk result (checker.new.known ≡ checker.old.known) }
 {
     match clause {
         Clause::Unit(a) => checker.give(&[a]),
@@ -20,7 +23,8 @@ fn give(checker: &mut Checker, clause: Clause) -> Result<(), AllocError>
 
 /// A checker to which the clauses of a formula were given.
 pub(crate) fn checker_of(alloc: Global, formula: &Formula) -> Result<Checker, AllocError>
-    ensures { IfOk result (λ c. c.clauses ≡ map Some formula.now.clauses) }
+    ensures clauses { IfOk result (λ c. c.clauses ≡ map Some formula.now.clauses) }
+    ensures known { IfOk result (λ c. c.known ≡ all_open (formula.now.variables + 1)) }
 {
     let mut checker = Checker::new(alloc, formula.vars() + 1)?;
     for clause in formula.clauses() {

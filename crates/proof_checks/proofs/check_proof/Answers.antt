@@ -1,6 +1,5 @@
-use Rattle.std.proofs.Common.{◌≡◌, ◌≤◌, ◌∙◌, sym, length}
+use Rattle.std.proofs.Common.{◌∙◌, sym}
 use Rattle.refutation.proofs.Units.{refuted_before}
-use Rattle.proof_text.specs.declared.TheConstants.{MAX_PROOF_BYTES}
 use Rattle.proof_checks.specs.Checked.{given_to}
 use Rattle.proof_checks.proofs.Checks.{no_empty_clause}
 use Rattle.proof_checks.proofs.Passed.{empty_stands}

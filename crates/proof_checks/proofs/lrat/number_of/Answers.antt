@@ -1,4 +1,4 @@
-use Rattle.std.proofs.Common.{◌≡◌, ℕ, ◌+◌, ◌-◌, ◌∙◌, Some, None, ap, sym, length, arith}
+use Rattle.std.proofs.Common.{◌≡◌, ℕ, ◌+◌, ◌-◌, ◌∙◌, Some, None, ap, length, arith}
 use Rattle.proof_checks.specs.Kept.{proof_of}
 use Rattle.proof_checks.proofs.Places.{number_given, number_added}
 use Rattle.proof_checks.proofs.lrat.number_of.Goals as goal

@@ -1,5 +1,4 @@
 use Rattle.std.proofs.Common.{◌≡◌, refl, ap, Some, length}
-use Rattle.proof_text.specs.Steps.{LratStep}
 use Rattle.proof_checks.specs.Kept.{proof_of}
 use Rattle.proof_checks.specs.Lrat.{numbers_at}
 use Rattle.proof_checks.proofs.Taken.{not_all_stand, all_stand, taken_deletion, taken_addition, fault_of_addition}

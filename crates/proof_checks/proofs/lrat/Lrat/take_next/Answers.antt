@@ -1,4 +1,4 @@
-use Rattle.std.proofs.Common.{◌≡◌, sym, ◌∙◌, length, Some}
+use Rattle.std.proofs.Common.{length}
 use Rattle.std.proofs.lemmas.Result.{err_from_is_err_and}
 use Rattle.proof_text.specs.declared.lrat.LratAction.{LratAction}
 use Rattle.proof_checks.specs.Kept.{proof_of}
