@@ -8,12 +8,14 @@ use session_log::{Key, MAX_KEYS, MAX_LOG_BYTES, MAX_OPERATIONS, MAX_SESSIONS, Op
 use std::alloc::{AllocError, Global};
 use std::collections::{BTreeMap, BTreeSet};
 
-/// A transaction of the log: its session, its place there, the latest moment at which it or a node before it in its session is said to
-/// have begun (0 where none is), and the least one at which it ended, or a node that is known to come behind it, where one is said.
+/// A transaction of the log: its session, its place there, whether it is a node, the latest moment at which it or a node before it in its
+/// session is said to have begun (0 where none is), and the least one at which it ended, or a node that is known to come behind it, where
+/// one is said.
 #[derive(Clone, Copy)]
 struct Spot {
     session: usize,
     txn: usize,
+    is_node: bool,
     since: u64,
     over: Option<u64>,
 }
@@ -39,22 +41,48 @@ fn txn_at<'a>(sessions: &'a [Session], spot: Spot) -> Option<&'a Txn> {
     }
 }
 
+/// Transactions of a session that are no nodes come since they began, as far as those behind them do. So one that stands first in its
+/// session does not lie in the first piece for that.
+fn raise_others(txns: &[Txn], spots: &mut [Spot]) {
+    let mut behind = u64::MAX;
+    for back in 0..txns.len() {
+        let txn = txns.len() - 1 - back;
+        if let Some(spot) = spots.get_mut(txn) {
+            if !is_committed(&txns[txn]) {
+                let begun = txns[txn].begun.unwrap_or(0);
+                spot.since = spot.since.max(begun.min(behind));
+            }
+            behind = spot.since;
+        }
+    }
+}
+
+/// The transactions of a session.
+fn spots_in(alloc: Global, session: usize, txns: &[Txn]) -> Result<Vec<Spot>, AllocError> {
+    let mut spots = Vec::with_capacity(alloc, txns.len())?;
+    let mut since = 0;
+    for (txn, each) in txns.iter().enumerate() {
+        let is_node = is_committed(each);
+        if is_node {
+            since = since.max(each.begun.unwrap_or(0));
+        }
+        spots.push(Spot {
+            session,
+            txn,
+            is_node,
+            since,
+            over: None,
+        })?;
+    }
+    raise_others(txns, spots.as_mut_slice());
+    Ok(spots)
+}
+
 /// The transactions, session by session.
 fn spots_of(alloc: Global, sessions: &[Session]) -> Result<Vec<Spot>, AllocError> {
     let mut spots = Vec::new(alloc);
     for (session, it) in sessions.iter().enumerate() {
-        let mut since = 0;
-        for (txn, each) in it.txns.iter().enumerate() {
-            if is_committed(each) {
-                since = since.max(each.begun.unwrap_or(0));
-            }
-            spots.push(Spot {
-                session,
-                txn,
-                since,
-                over: None,
-            })?;
-        }
+        spots.extend_from_slice(&spots_in(alloc, session, &it.txns)?)?;
     }
     Ok(spots)
 }
@@ -209,7 +237,9 @@ fn cuttable(
     let mut over = Some(0);
     let mut is_first = true;
     for spot in by_since {
-        cuttable.push(!is_first && since < spot.since && is_before(over, spot.since))?;
+        cuttable.push(
+            !is_first && spot.is_node && since < spot.since && is_before(over, spot.since),
+        )?;
         is_first = false;
         since = spot.since;
         if let Some(txn) = txn_at(sessions, *spot) {
@@ -383,7 +413,7 @@ fn moments(
 ) -> Result<(Vec<Spot>, Vec<u64>), AllocError> {
     let spots = marked(alloc, sessions)?;
     let mut by_since = Vec::from_slice(alloc, &spots)?;
-    by_since.sort_unstable_by_key(|spot| spot.since);
+    by_since.sort_unstable_by_key(|spot| (spot.since, !spot.is_node));
     let cuttable = cuttable(alloc, sessions, &by_since)?;
     let mut size = Size::new(alloc, sessions.len())?;
     let mut moments = Vec::new(alloc);
