@@ -1,5 +1,5 @@
 -- Cubes that are kept, and views by steps.
-use Rattle.std.proofs.Common.{◌≡◌, ℕ, zero, suc, ◌+◌, ◌<◌, ◌≤◌, ◌==◌, Bool, true, false, List, [], ◌∷◌, ◌++◌, length, Option, Some, None, refl, sym, ap, ◌∙◌, arith}
+use Rattle.std.proofs.Common.{◌≡◌, ℕ, zero, suc, ◌<◌, ◌≤◌, ◌==◌, Bool, List, [], ◌∷◌, ◌++◌, length, Option, Some, None, refl, sym, ap, ◌∙◌, subst, arith}
 use Rattle.std.specs.Prelude.{slice_get, slice_index_or, if◌then◌else◌}
 use Rattle.std.specs.List.{find, position_or_len}
 use Rattle.std.specs.Option.{option_map}
@@ -10,7 +10,7 @@ use Rattle.serializability.specs.Polygraph.{Polygraph}
 use Rattle.branching.specs.View.{View, opened, decided}
 use Rattle.branch_search.specs.declared.retrace.KeptCube.{KeptCube}
 use Rattle.branch_search.specs.declared.retrace.Step.{Step}
-use Rattle.branch_search.specs.Views.{place_in, kept_view, view_after}
+use Rattle.branch_search.specs.Views.{place_in, kept_view, view_after, AreViews, AreLed}
 
 abbrev is_of : ℕ → KeptCube → Bool
 is_of node k = k.node == node
@@ -54,3 +54,30 @@ view_after_more (x ∷ steps) s v = ap (λ (w : View). decided w x.choice x.side
 -- the last of the steps is taken
 pub step_taken : (old new : List Step) (s : Step) (v w : View) → old ≡ new ++ s ∷ [] → w ≡ decided v s.choice s.side → view_after new w ≡ view_after old v
 step_taken old new s v w e d = ap (λ (u : View). view_after new u) d ∙ sym (view_after_more new s v) ∙ ap (λ (l : List Step). view_after l v) (sym e)
+
+led_before : (view_of : ℕ → View) (new : List Step) (s : Step) (v : View) → AreLed view_of v (new ++ s ∷ []) → (decided v s.choice s.side ≡ view_of s.node) × AreLed view_of (decided v s.choice s.side) new
+led_before view_of [] s v led = (led.0, tt)
+led_before view_of (x ∷ new) s v led = let rest = led_before view_of new s v led.1 in (rest.0, (sym (view_after_more (x ∷ new) s v) ∙ led.0, rest.1))
+
+-- then the view is that of the step's node, and the other steps lead on from it
+pub led_on : (view_of : ℕ → View) (old new : List Step) (s : Step) (v w : View) → old ≡ new ++ s ∷ [] → w ≡ decided v s.choice s.side → AreLed view_of v old → (w ≡ view_of s.node) × AreLed view_of w new
+led_on view_of old new s v w e d led = subst (λ (u : View). (u ≡ view_of s.node) × AreLed view_of u new) (sym d) (led_before view_of new s v (subst (λ (l : List Step). AreLed view_of v l) e led))
+
+-- what was kept are views, and what is left leads on
+pub record AreKept (fn_kept kept : List KeptCube) (fn_ahead ahead : List Step) (fn_view v : View) : Type 0 where
+  pub each : (view_of : ℕ → View) → AreViews view_of fn_kept → AreLed view_of fn_view fn_ahead → AreViews view_of kept × AreLed view_of v ahead
+
+module _ (fn_kept kept : List KeptCube) (fn_ahead old new : List Step) (s : Step) (fn_view v w : View) (k : AreKept fn_kept kept fn_ahead old fn_view v) (e : old ≡ new ++ s ∷ []) (d : w ≡ decided v s.choice s.side) where
+  pub kept_on : AreKept fn_kept kept fn_ahead new fn_view w
+  kept_on = record {
+    each = λ view_of views led. (let now = k.each view_of views led in (now.0, (led_on view_of old new s v w e d now.1).1));
+  }
+
+  pub kept_more : (more : List KeptCube) (ahead : List Step) → ahead ≡ new → ((view_of : ℕ → View) → AreViews view_of kept → w ≡ view_of s.node → AreViews view_of more) → AreKept fn_kept more fn_ahead ahead fn_view w
+  kept_more more ahead same keeps = record {
+    each = λ view_of views led. (
+        let now = k.each view_of views led in
+        let on = led_on view_of old new s v w e d now.1 in
+        (keeps view_of now.0 on.0, subst (λ (l : List Step). AreLed view_of w l) (sym same) on.1)
+        );
+  }

@@ -38,3 +38,8 @@ pub record IsRetraced (kept : List KeptCube) (p : Polygraph) (node : ℕ) (v : V
 -- each cube is kept as its node's view
 abbrev pub AreViews : (ℕ → View) → List KeptCube → Type 0
 AreViews view_of kept = All (λ k. k.view ≡ view_of k.node) kept
+
+-- with the last step taken first, from this view each step leads to its node's view
+abbrev pub AreLed : (ℕ → View) → View → List Step → Type 0
+AreLed view_of v [] = Unit {0}
+AreLed view_of v (s ∷ steps) = (view_after (s ∷ steps) v ≡ view_of s.node) × AreLed view_of v steps

@@ -4,7 +4,7 @@ ghost use Rattle.std.specs.Prelude.{◌≡◌, ℕ, ◌<◌, None, Some, [], IfO
 ghost use Rattle.std.specs.List.{All};
 ghost use Rattle.serializability.specs.Polygraph.{Polygraph};
 ghost use Rattle.branching.specs.View.{View, decided};
-ghost use Rattle.branch_search.specs.Views.{place_in, kept_view, view_after, IsRetraced, AreViews};
+ghost use Rattle.branch_search.specs.Views.{place_in, kept_view, view_after, IsRetraced, AreViews, AreLed};
 
 use branching::{CubeView, SavedView};
 use cube_machine::Row;
@@ -171,6 +171,9 @@ fn replay<'a>(
     ensures polygraph { view.new.polygraph ≡ view.old.polygraph }
     ensures made { IfOk result (λ seen. IsTrue seen →
         view.new ≡ view_after trail.old.ahead.items view.old) }
+    ensures views { (view_of : ℕ → View) → AreViews view_of trail.old.kept.items →
+        AreLed view_of view.old trail.old.ahead.items →
+        IfOk result (λ _. AreViews view_of trail.new.kept.items) }
 {
     while let Some(step) = trail.ahead.pop() {
         trail.turned = true;
