@@ -310,6 +310,18 @@ def burst_log(stale=None):
     return generate.text_of(sessions, 3), name
 
 
+def late_sessions(count=100, each=12):
+    """Sessions one behind the other, each of which begins with a transaction that was aborted."""
+    lines, wid = ['log 3'], 0
+    for number in range(1, count + 1):
+        start = 100 * number
+        lines += ['session %d' % number, 'begin %d' % start, 'w k%d %d' % (number, 10 ** 6 + number), 'abort']
+        for turn in range(1, each + 1):
+            wid += 1
+            lines += ['begin %d' % (start + 2 * turn), 'w k%d %d' % (number, wid), 'commit %d' % (start + 2 * turn + 1)]
+    return ''.join(line + '\n' for line in lines).encode()
+
+
 SMALL = b'log 3\nsession 1\nbegin 1\nw x 1\ncommit 2\nbegin 5\nr x 1\ncommit 6\nsession 2\nbegin 3\nw y 2\nabort\n'
 TAKEN = b'log 2\nsession 1\nbegin\nw x 1\nunknown\nsession 2\nbegin\nr x 1\ncommit\n'
 LOST = b'session 1\nbegin\nr x 0\nw x 1\ncommit\nsession 2\nbegin\nr x 0\nw x 2\ncommit\n'
@@ -337,6 +349,7 @@ ANSWERED = [
      'unknown: 1 of 1 pieces not decided', ['piece 1: 1002 transactions, at most 1000']),
     ('65 sessions', blind_log(130, 65, 130), [], 'unknown: 1 of 1 pieces not decided', ['piece 1: 65 sessions, at most 64', 'no transaction states a moment']),
     ('65 sessions of which one has no transactions', blind_log(128, 64, 128) + b'session 999\n', [], 'serializable', []),
+    ('100 sessions that begin late, with an aborted transaction', late_sessions(), [], 'serializable', []),
     ('200,001 operations', blind_log(1, 1, 9, ops=200001), [], 'unknown: 1 of 1 pieces not decided',
      ['piece 1: 200001 operations, at most 200000']),
     ('10,001 keys', blind_log(1, 1, 10001, ops=10001), [], 'unknown: 1 of 1 pieces not decided', ['piece 1: 10001 keys, at most 10000']),
