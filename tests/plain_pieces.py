@@ -133,13 +133,26 @@ class Definitions:
     def least(self, size):
         return size
 
+    def first_since(self, transactions, moment):
+        """The place of a session's first node that began at the moment or later."""
+        return next((n for n, it in enumerate(transactions) if it.outcome == 'commit' and it.begun is not None and it.begun >= moment), len(transactions))
+
+    def first_part(self, transactions, moment, since):
+        """How many lie before the moment: up to the first node since it, without those just before that one that are no nodes and began
+        when the first node of all since it did, or later."""
+        count = self.first_since(transactions, moment)
+        while count and transactions[count - 1].outcome != 'commit' and (transactions[count - 1].begun or 0) >= since:
+            count -= 1
+        return count
+
     def cuts(self, sessions, size):
         """For each piece how many transactions of each session it has. A piece ends at the first cut before which it has so many nodes."""
         pieces, rest = [], sessions
         moments = sorted({it.begun for _, transactions in sessions for it in transactions if it.outcome == 'commit' and it.begun is not None})
         for moment in moments if size is not None else []:
-            counts = {number: next((n for n, it in enumerate(transactions) if it.outcome == 'commit' and it.begun is not None and it.begun >= moment),
-                                   len(transactions)) for number, transactions in rest}
+            nodes = [it for _, transactions in rest for it in transactions[self.first_since(transactions, moment):][:1]]
+            since = min([it.begun for it in nodes], default=moment)
+            counts = {number: self.first_part(transactions, moment, since) for number, transactions in rest}
             piece, behind = parted(rest, counts)
             if len(nodes_of(piece)) >= self.least(size) and nodes_of(behind) and self.is_cut(piece, behind, moment):
                 pieces.append(counts)
