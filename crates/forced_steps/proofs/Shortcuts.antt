@@ -13,11 +13,14 @@ use Rattle.explanations.specs.declared.why.ChainOrder.{ChainOrder}
 use Rattle.prune_ledger.specs.Posted.{Posted}
 use Rattle.prune_ledger.specs.Pruned.{posts_in}
 use Rattle.prune_ledger.specs.declared.ledger.LedgerEntry.{LedgerEntry}
-use Rattle.forced_steps.specs.Steps.{turned, edges_in}
+use Rattle.forced_steps.specs.Steps.{turned, edges_in, IsOrder}
 use Rattle.forced_steps.specs.Lines.{sides_of, IsBetween, IsLineOfNodes, Rests, LineRests}
 use Rattle.forced_steps.specs.Ledgers.{IsStep, AreSteps, IsClosed}
-use Rattle.forced_steps.specs.Shorter.{Leads, HasEnds, KeepsEnds, KeepsPost, last_of, IsShort}
+use Rattle.forced_steps.specs.Shorter.{Leads, HasEnds, KeepsEnds, LeadsTo, IsNear, IsNearOf, IsWalkOf, KeepsPost, last_of, IsShort}
+use Rattle.forced_steps.specs.declared.near.Near.{Near}
 use Rattle.forced_steps.proofs.Ledgers.{line_one, line_cons}
+use Rattle.forced_steps.proofs.ChainSides.{order_target}
+use Rattle.forced_steps.proofs.Chosen.{turned_order}
 
 -- ---- edges
 pub not_none : (ss : List ClientSession) (a b : ℕ) (r : Reason) → IsReason ss a b r → HaveNone ss a b → ⊥
@@ -43,20 +46,36 @@ leads_next ss line at low high =
       rests = λ sides bound r. subst (λ k. Rests ss sides bound (get_or line (at - 1) 0) (get_or line k 0)) next (r.each (at - 1) (omega (arith, low, high)));
     }
 
--- ---- a line from its end
-pub short_one : (ss : List ClientSession) (line : List ℕ) (at x : ℕ) → at + 1 ≡ length line → x ≡ get_or line at 0 → IsShort ss line at (x ∷ [])
-short_one ss line at x last read =
-    let end : at ≡ length line - 1 = omega (arith, last) in
-    record {
-      behind = [];
-      is = ap (λ y. y ∷ []) read;
-      last = ap (λ k. get_or line k 0) end;
-      more = λ e. last;
-      rests = λ sides bound r. line_one ss sides bound x (subst (IsBetween ss) (sym read) (r.nodes at 0 (omega (arith, last))));
-    }
+pub near_of : (ss : List ClientSession) (order : ChainOrder) (line : List ℕ) (place from source : ℕ) → place < length line → from ≡ get_or line place 0 → IsNear ss order from source → IsNearOf ss order line (record { place = place; source = source })
+near_of ss order line place from source within read h = record {
+  on = record { within = within; between = h.between; shown = λ none. h.shown (subst (λ a. HaveNone ss a source) (sym read) none) };
+  edge = h.edge;
+}
 
-pub short_more : (ss : List ClientSession) (line : List ℕ) (at j x : ℕ) (made : List ℕ) → Leads ss line j at → x ≡ get_or line j 0 → IsShort ss line at made → IsShort ss line j (x ∷ made)
-short_more ss line at j x made leads read h = record {
+-- ---- a line from its end
+short_one : (ss : List ClientSession) (line : List ℕ) (at x : ℕ) → at + 1 ≡ length line → x ≡ get_or line at 0 → IsShort ss line (get_or line at 0) at (x ∷ [])
+short_one ss line at x last read = record {
+  behind = [];
+  is = ap (λ y. y ∷ []) read;
+  last = refl;
+  more = λ e. last;
+  rests = λ sides bound r. line_one ss sides bound x (subst (IsBetween ss) (sym read) (r.nodes at 0 (omega (arith, last))));
+}
+
+short_two : (ss : List ClientSession) (line : List ℕ) (at source x : ℕ) → at < length line → x ≡ get_or line at 0 → IsBetween ss source → (HaveNone ss (get_or line at 0) source → ⊥) → IsShort ss line source at (x ∷ source ∷ [])
+short_two ss line at source x within read between shown = record {
+  behind = source ∷ [];
+  is = ap (λ y. y ∷ source ∷ []) read;
+  last = refl;
+  more = λ e. let f : source ∷ [] ≡ [] = e in absurd (cc);
+  rests = λ sides bound r.
+      let edge : Rests ss sides bound (get_or line at 0) source = record { first = r.nodes at 0 within; second = between; kept = λ none. absurd (shown none) } in
+      let all = line_cons ss sides bound (get_or line at 0) source [] edge (line_one ss sides bound source between) in
+      subst (λ y. LineRests ss sides bound (y ∷ source ∷ [])) (sym read) all;
+}
+
+short_more : (ss : List ClientSession) (line : List ℕ) (end at j x : ℕ) (made : List ℕ) → Leads ss line j at → x ≡ get_or line j 0 → IsShort ss line end at made → IsShort ss line end j (x ∷ made)
+short_more ss line end at j x made leads read h = record {
   behind = made;
   is = ap (λ y. y ∷ made) read;
   last = ap (last_of (get_or line j 0)) h.is ∙ h.last;
@@ -69,13 +88,18 @@ short_more ss line at j x made leads read h = record {
 }
 
 -- the nodes with the last first
-pub turned_one : (ss : List ClientSession) (line back : List ℕ) (at x : ℕ) → back ≡ x ∷ [] → at + 1 ≡ length line → x ≡ get_or line at 0 → IsShort ss line at (reverse back)
-turned_one ss line back at x is last read = subst (IsShort ss line at) (sym (ap reverse is)) (short_one ss line at x last read)
+pub turned_one : (ss : List ClientSession) (line back : List ℕ) (at x : ℕ) → back ≡ x ∷ [] → at + 1 ≡ length line → x ≡ get_or line at 0 → IsShort ss line (get_or line at 0) at (reverse back)
+turned_one ss line back at x is last read = subst (IsShort ss line (get_or line at 0) at) (sym (ap reverse is)) (short_one ss line at x last read)
 
-pub turned_more : (ss : List ClientSession) (line back new : List ℕ) (at j x : ℕ) → new ≡ back ++ x ∷ [] → Leads ss line j at → x ≡ get_or line j 0 → IsShort ss line at (reverse back) → IsShort ss line j (reverse new)
-turned_more ss line back new at j x added leads read h =
+pub turned_two : (ss : List ClientSession) (line back new : List ℕ) (at source x : ℕ) → back ≡ source ∷ [] → new ≡ back ++ x ∷ [] → at < length line → x ≡ get_or line at 0 → IsBetween ss source → (HaveNone ss (get_or line at 0) source → ⊥) → IsShort ss line source at (reverse new)
+turned_two ss line back new at source x is added within read between shown =
+    let e : new ≡ source ∷ x ∷ [] = added ∙ ap (λ l. l ++ x ∷ []) is in
+    subst (IsShort ss line source at) (sym (ap reverse e)) (short_two ss line at source x within read between shown)
+
+pub turned_more : (ss : List ClientSession) (line back new : List ℕ) (end at j x : ℕ) → new ≡ back ++ x ∷ [] → Leads ss line j at → x ≡ get_or line j 0 → IsShort ss line end at (reverse back) → IsShort ss line end j (reverse new)
+turned_more ss line back new end at j x added leads read h =
     let e : reverse new ≡ x ∷ reverse back = ap reverse added ∙ reverse-append back (x ∷ []) in
-    subst (IsShort ss line j) (sym e) (short_more ss line at j x (reverse back) leads read h)
+    subst (IsShort ss line end j) (sym e) (short_more ss line end at j x (reverse back) leads read h)
 
 -- ---- its ends
 ends_at : (v : ℕ) (rest : List ℕ) → (inner : List ℕ) × (v ∷ rest ≡ inner ++ last_of v rest ∷ [])
@@ -86,38 +110,39 @@ last_node : (inner : List ℕ) (u : ℕ) → get_or (inner ++ u ∷ []) (length 
 last_node [] u = refl
 last_node (x ∷ inner) u = last_node inner u
 
-end_of : (first last : ℕ) (inner : List ℕ) (k : ℕ) → k ≡ length inner + 1 → get_or (first ∷ (inner ++ last ∷ [])) k 0 ≡ last
-end_of first last inner k e =
-    let f : k ≡ suc (length inner) = omega (arith, e) in
-    ap (λ n. get_or (first ∷ (inner ++ last ∷ [])) n 0) f ∙ last_node inner last
+shape_long : (line : List ℕ) (first last : ℕ) (inner : List ℕ) → line ≡ first ∷ (inner ++ last ∷ []) → length line ≡ length inner + 2
+shape_long line first last inner shape = ap length shape ∙ (let e = length-append inner (last ∷ []) in omega (arith, e))
 
-short_ends : (ss : List ClientSession) (line made : List ℕ) → IsShort ss line 0 made → (first last : ℕ) (inner : List ℕ) → line ≡ first ∷ (inner ++ last ∷ []) → HasEnds first last made
-short_ends ss line made h first last inner shape = go h.behind h.is h.last h.more
+shape_last : (line : List ℕ) (first last : ℕ) (inner : List ℕ) (at : ℕ) → line ≡ first ∷ (inner ++ last ∷ []) → at + 1 ≡ length line → get_or line at 0 ≡ last
+shape_last line first last inner at shape e =
+    let size = shape_long line first last inner shape in
+    let f : at ≡ suc (length inner) = omega (arith, e, size) in
+    ap (λ l. get_or l at 0) shape ∙ ap (λ n. get_or (first ∷ (inner ++ last ∷ [])) n 0) f ∙ last_node inner last
+
+short_ends : (ss : List ClientSession) (line made : List ℕ) (end : ℕ) → IsShort ss line end 0 made → (first last : ℕ) (inner : List ℕ) → line ≡ first ∷ (inner ++ last ∷ []) → HasEnds first end made
+short_ends ss line made end h first last inner shape = go h.behind h.is h.last h.more
   where
     size : length line ≡ length inner + 2
-    size = ap length shape ∙ (let e = length-append inner (last ∷ []) in omega (arith, e))
+    size = shape_long line first last inner shape
 
     begins : get_or line 0 0 ≡ first
     begins = ap (λ l. get_or l 0 0) shape
 
-    ends : get_or line (length line - 1) 0 ≡ last
-    ends = ap (λ l. get_or l (length line - 1) 0) shape ∙ end_of first last inner (length line - 1) (omega (arith, size))
-
-    go : (behind : List ℕ) → made ≡ get_or line 0 0 ∷ behind → last_of (get_or line 0 0) behind ≡ get_or line (length line - 1) 0 → (behind ≡ [] → 0 + 1 ≡ length line) → HasEnds first last made
-    go [] is end more = let one = more refl in absurd (omega (arith, one, size))
-    go (w ∷ rest) is end more =
+    go : (behind : List ℕ) → made ≡ get_or line 0 0 ∷ behind → last_of (get_or line 0 0) behind ≡ end → (behind ≡ [] → 0 + 1 ≡ length line) → HasEnds first end made
+    go [] is ends more = let one = more refl in absurd (omega (arith, one, size))
+    go (w ∷ rest) is ends more =
         let r = ends_at w rest in
-        let tail : w ∷ rest ≡ r.0 ++ last ∷ [] = r.1 ∙ ap (λ x. r.0 ++ x ∷ []) (end ∙ ends) in
+        let tail : w ∷ rest ≡ r.0 ++ end ∷ [] = r.1 ∙ ap (λ x. r.0 ++ x ∷ []) ends in
         record { inner = r.0; is = is ∙ ap (λ x. x ∷ w ∷ rest) begins ∙ ap (λ l. first ∷ l) tail }
 
-pub short_keeps : (ss : List ClientSession) (line made : List ℕ) → IsShort ss line 0 made → KeepsEnds ss line made
-short_keeps ss line made h = record { rests = h.rests; ends = short_ends ss line made h }
-
-pub same_keeps : (ss : List ClientSession) (line made : List ℕ) → made ≡ line → KeepsEnds ss line made
-same_keeps ss line made e = record {
-  rests = λ sides bound r. subst (LineRests ss sides bound) (sym e) r;
-  ends = λ first last inner shape. record { inner = inner; is = e ∙ shape };
+pub short_keeps : (ss : List ClientSession) (line made : List ℕ) (at : ℕ) → at + 1 ≡ length line → IsShort ss line (get_or line at 0) 0 made → KeepsEnds ss line made
+short_keeps ss line made at e h = record {
+  rests = h.rests;
+  ends = λ first last inner shape. subst (λ u. HasEnds first u made) (shape_last line first last inner at shape e) (short_ends ss line made (get_or line at 0) h first last inner shape);
 }
+
+pub short_leads : (ss : List ClientSession) (line made : List ℕ) (end : ℕ) → IsShort ss line end 0 made → LeadsTo ss line end made
+short_leads ss line made end h = record { rests = h.rests; ends = short_ends ss line made end h }
 
 -- ---- a cycle
 pub closed_nodes : (ss : List ClientSession) (kept : List ChainOrder) (line : List ℕ) → IsClosed ss kept line → IsLineOfNodes ss line
@@ -128,22 +153,68 @@ closed_kept ss kept line made h c =
     let e = h.ends c.start c.start c.inner c.shape in
     record { start = c.start; inner = e.inner; shape = e.is; rests = h.rests (sides_of ss kept) (length kept) c.rests }
 
--- ---- entries
-pub walk_nodes : (ss : List ClientSession) (kept : List ChainOrder) (k : ℕ) (q : Posted) → IsStep ss kept k q → IsLineOfNodes ss q.walk
-walk_nodes ss kept k q s = record { some = s.rests.some; nodes = s.rests.nodes }
+-- ---- posts
+pub same_post : (ss : List ClientSession) (order : ChainOrder) (post made : Posted) → IsWalkOf ss order post → made ≡ post → KeepsPost ss order post made
+same_post ss order post made w e = subst (KeepsPost ss order post) (sym e) (record {
+  edge = w.edge;
+  rests = λ sides bound r. r;
+  ends = λ inner shape. record { inner = inner; is = shape };
+})
 
-pub step_kept : (ss : List ClientSession) (kept : List ChainOrder) (k : ℕ) (q made : Posted) → KeepsPost ss q made → IsStep ss kept k q → IsStep ss kept k made
-step_kept ss kept k q made h s =
-    let e = h.walk.ends q.edge.1 q.edge.0 s.inner s.shape in
+pub shorter_post : (ss : List ClientSession) (order : ChainOrder) (post made : Posted) (line : List ℕ) → IsWalkOf ss order post → KeepsEnds ss post.walk line → made.edge ≡ post.edge → made.walk ≡ line → KeepsPost ss order post made
+shorter_post ss order post made line w keeps edge walk = record {
+  edge = subst (Contains (edges_in (log_of ss) order)) (sym edge) w.edge;
+  rests = λ sides bound r. subst (LineRests ss sides bound) (sym walk) (keeps.rests sides bound r);
+  ends = λ inner shape.
+      let e = keeps.ends post.edge.1 post.edge.0 inner shape in
+      subst (λ (x : Edge). HasEnds x.1 x.0 made.walk) (sym edge) (record { inner = e.inner; is = walk ∙ e.is });
+}
+
+pub nearer_post : (ss : List ClientSession) (order : ChainOrder) (post made : Posted) (line walk : List ℕ) (near : Near) → IsWalkOf ss order post → KeepsEnds ss post.walk line → IsNearOf ss order line near → LeadsTo ss line near.source walk
+    → made.edge ≡ (near.source, post.edge.1) → made.walk ≡ walk → KeepsPost ss order post made
+nearer_post ss order post made line walk near w keeps close leads edge is =
+    let target : post.edge.1 ≡ order.second = order_target (log_of ss) order post.edge w.edge in
+    let here : made.edge ≡ (near.source, order.second) = edge ∙ ap (λ (v : ℕ). (near.source, v)) target in
+    record {
+      edge = subst (Contains (edges_in (log_of ss) order)) (sym here) close.edge;
+      rests = λ sides bound r. subst (LineRests ss sides bound) (sym is) (leads.rests sides bound (keeps.rests sides bound r));
+      ends = λ inner shape.
+          let e = keeps.ends post.edge.1 post.edge.0 inner shape in
+          let f = leads.ends post.edge.1 post.edge.0 e.inner e.is in
+          subst (λ (x : Edge). HasEnds x.1 x.0 made.walk) (sym edge) (record { inner = f.inner; is = is ∙ f.is });
+    }
+
+-- ---- entries
+-- the order that an entry keeps, as its place in the list has it
+same_order : (kept : List ChainOrder) (k : ℕ) (o x : ChainOrder) → slice_get kept k ≡ Some o → slice_get kept k ≡ Some x → o ≡ x
+same_order kept k o x a b = let e : Some o ≡ Some x = sym a ∙ b in cc
+
+pub step_walk : (ss : List ClientSession) (kept : List ChainOrder) (k : ℕ) (x order : ChainOrder) (q : Posted) → slice_get kept k ≡ Some x → order ≡ turned x → IsStep ss kept k q → IsWalkOf ss order q
+step_walk ss kept k x order q at is s =
+    let e : turned s.order ≡ order = ap turned (same_order kept k s.order x s.at at) ∙ sym is in
+    record { sides = sides_of ss kept; bound = k; rests = s.rests; edge = subst (λ o. Contains (edges_in (log_of ss) o) q.edge) e s.refuted }
+
+pub step_order : (ss : List ClientSession) (kept : List ChainOrder) (k : ℕ) (x order : ChainOrder) (q : Posted) → slice_get kept k ≡ Some x → order ≡ turned x → IsStep ss kept k q → IsOrder (log_of ss) order
+step_order ss kept k x order q at is s =
+    let e : turned s.order ≡ order = ap turned (same_order kept k s.order x s.at at) ∙ sym is in
+    subst (IsOrder (log_of ss)) e (turned_order (log_of ss) s.order s.two_chains)
+
+pub step_kept : (ss : List ClientSession) (kept : List ChainOrder) (k : ℕ) (x order : ChainOrder) (q made : Posted) → slice_get kept k ≡ Some x → order ≡ turned x → KeepsPost ss order q made → IsStep ss kept k q → IsStep ss kept k made
+step_kept ss kept k x order q made at is h s =
+    let e : turned s.order ≡ order = ap turned (same_order kept k s.order x s.at at) ∙ sym is in
+    let f = h.ends s.inner s.shape in
     record {
       order = s.order;
       at = s.at;
       two_chains = s.two_chains;
-      refuted = subst (λ x. Contains (edges_in (log_of ss) (turned s.order)) x) (sym h.edge) s.refuted;
-      inner = e.inner;
-      shape = subst (λ (x : Edge). made.walk ≡ x.1 ∷ (e.inner ++ x.0 ∷ [])) (sym h.edge) e.is;
-      rests = h.walk.rests (sides_of ss kept) k s.rests;
+      refuted = subst (λ o. Contains (edges_in (log_of ss) o) made.edge) (sym e) h.edge;
+      inner = f.inner;
+      shape = f.is;
+      rests = h.rests (sides_of ss kept) k s.rests;
     }
+
+pub walk_nodes : (ss : List ClientSession) (sides : List (List Edge)) (bound : ℕ) (line : List ℕ) → LineRests ss sides bound line → IsLineOfNodes ss line
+walk_nodes ss sides bound line r = record { some = r.some; nodes = r.nodes }
 
 -- the first so many entries are steps
 pub record AreFrontSteps (ss : List ClientSession) (kept : List ChainOrder) (count : ℕ) (made : List LedgerEntry) : Type 0 where

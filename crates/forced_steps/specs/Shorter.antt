@@ -1,9 +1,15 @@
--- Lines that leave nodes out.
-use Rattle.std.specs.Prelude.{◌≡◌, ℕ, ◌+◌, ◌-◌, List, [], ◌∷◌, ◌++◌, length, slice_index}
+-- Lines that leave nodes out, and lines that lead to another node.
+use Rattle.std.specs.Prelude.{◌≡◌, ℕ, ◌+◌, ◌-◌, ◌<◌, List, [], ◌∷◌, ◌++◌, length, slice_index}
+use Rattle.std.specs.List.{Contains}
 use Rattle.session_log.specs.Text.{ClientSession}
 use Rattle.serializability.specs.Polygraph.{Edge}
+use Rattle.log_definitions.specs.Numbers.{log_of}
+use Rattle.reasons.specs.Given.{HaveNone}
+use Rattle.explanations.specs.declared.why.ChainOrder.{ChainOrder}
 use Rattle.prune_ledger.specs.Posted.{Posted}
-use Rattle.forced_steps.specs.Lines.{Rests, LineRests}
+use Rattle.forced_steps.specs.Steps.{edges_in}
+use Rattle.forced_steps.specs.Lines.{IsBetween, Rests, LineRests}
+use Rattle.forced_steps.specs.declared.near.Near.{Near}
 
 -- on what the line rests, an edge from one of its places to another does
 pub record Leads (ss : List ClientSession) (line : List ℕ) (i j : ℕ) : Type 0 where
@@ -19,19 +25,49 @@ pub record KeepsEnds (ss : List ClientSession) (line made : List ℕ) : Type 0 w
   pub rests : (sides : List (List Edge)) (bound : ℕ) → LineRests ss sides bound line → LineRests ss sides bound made
   pub ends : (first last : ℕ) (inner : List ℕ) → line ≡ first ∷ (inner ++ last ∷ []) → HasEnds first last made
 
--- a post of the same edge, the walk of which keeps the ends
-pub record KeepsPost (ss : List ClientSession) (post made : Posted) : Type 0 where
-  pub edge : made.edge ≡ post.edge
-  pub walk : KeepsEnds ss post.walk made.walk
+-- it begins as a line does, leads to this node, and rests on what the line rests on
+pub record LeadsTo (ss : List ClientSession) (line : List ℕ) (end : ℕ) (made : List ℕ) : Type 0 where
+  pub rests : (sides : List (List Edge)) (bound : ℕ) → LineRests ss sides bound line → LineRests ss sides bound made
+  pub ends : (first last : ℕ) (inner : List ℕ) → line ≡ first ∷ (inner ++ last ∷ []) → HasEnds first end made
+
+-- a node that the log shows to stand behind another, and an edge of the order leads from it
+pub record IsNear (ss : List ClientSession) (order : ChainOrder) (from source : ℕ) : Type 0 where
+  pub between : IsBetween ss source
+  pub shown : HaveNone ss from source → ⊥
+  pub edge : Contains (edges_in (log_of ss) order) (source, order.second)
+
+-- the log shows an edge from this place of the line to this node
+pub record IsNearOn (ss : List ClientSession) (line : List ℕ) (near : Near) : Type 0 where
+  pub within : near.place < length line
+  pub between : IsBetween ss near.source
+  pub shown : HaveNone ss (slice_index line near.place) near.source → ⊥
+
+-- the same, and an edge of the order leads from the node
+pub record IsNearOf (ss : List ClientSession) (order : ChainOrder) (line : List ℕ) (near : Near) : Type 0 where
+  pub on : IsNearOn ss line near
+  pub edge : Contains (edges_in (log_of ss) order) (near.source, order.second)
+
+-- a post against an edge of the order, of which the walk rests on something
+pub record IsWalkOf (ss : List ClientSession) (order : ChainOrder) (post : Posted) : Type 0 where
+  pub sides : List (List Edge)
+  pub bound : ℕ
+  pub rests : LineRests ss sides bound post.walk
+  pub edge : Contains (edges_in (log_of ss) order) post.edge
+
+-- another post against an edge of the order, with what that rests on
+pub record KeepsPost (ss : List ClientSession) (order : ChainOrder) (post made : Posted) : Type 0 where
+  pub edge : Contains (edges_in (log_of ss) order) made.edge
+  pub rests : (sides : List (List Edge)) (bound : ℕ) → LineRests ss sides bound post.walk → LineRests ss sides bound made.walk
+  pub ends : (inner : List ℕ) → post.walk ≡ post.edge.1 ∷ (inner ++ post.edge.0 ∷ []) → HasEnds made.edge.1 made.edge.0 made.walk
 
 abbrev pub last_of : ℕ → List ℕ → ℕ
 last_of v [] = v
 last_of v (w ∷ rest) = last_of w rest
 
--- of nodes of the line: the one at this place, and then some behind it up to the last
-pub record IsShort (ss : List ClientSession) (line : List ℕ) (at : ℕ) (made : List ℕ) : Type 0 where
+-- the node of the line at this place, and then some that lead from it to the end
+pub record IsShort (ss : List ClientSession) (line : List ℕ) (end at : ℕ) (made : List ℕ) : Type 0 where
   pub behind : List ℕ
   pub is : made ≡ slice_index line at ∷ behind
-  pub last : last_of (slice_index line at) behind ≡ slice_index line (length line - 1)
+  pub last : last_of (slice_index line at) behind ≡ end
   pub more : behind ≡ [] → at + 1 ≡ length line
   pub rests : (sides : List (List Edge)) (bound : ℕ) → LineRests ss sides bound line → LineRests ss sides bound made

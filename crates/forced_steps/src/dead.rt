@@ -87,7 +87,7 @@ fn tell_with(
     };
     let round = shorter_line(&basis, answers, cycle)?;
     let line = round.as_slice();
-    let shorter = shortened(&basis, answers, entries, &[line])?;
+    let shorter = shortened(&basis, answers, chains, entries, &[line])?;
     tell_steps(&basis, answers, &shorter, line)
 }
 

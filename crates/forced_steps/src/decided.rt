@@ -24,7 +24,7 @@ fn leads_from(chain: &Chain, node: NodeIx) -> bool
 }
 
 /// Whether the order has the edge.
-fn has_edge(chains: &Chains<'_>, order: ChainOrder, a: NodeIx, b: NodeIx) -> bool
+pub fn has_edge(chains: &Chains<'_>, order: ChainOrder, a: NodeIx, b: NodeIx) -> bool
     requires order { IsOrder (log_of chains.now) order }
     ensures yes { IsTrue result → Contains (edges_in (log_of chains.now) order) (a, b) }
     ensures no { IsTrue (not result) → Contains (edges_in (log_of chains.now) order) (a, b) → ⊥ }

@@ -73,7 +73,7 @@ pub fn steps_of<'a>(
         history,
         grounds: &grounds,
     };
-    let shorter = shortened(&basis, answers, entries, lines)?;
+    let shorter = shortened(&basis, answers, chains, entries, lines)?;
     let walks = shorter.as_slice();
     let marks = needed_entries(&basis, answers, walks, lines)?;
     let told = told_steps(&basis, answers, &marks, walks)?;

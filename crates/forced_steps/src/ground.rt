@@ -7,6 +7,7 @@ ghost use Rattle.serializability.specs.Polygraph.{Edge};
 ghost use Rattle.serializability.specs.Reads.{IsClean};
 ghost use Rattle.serializability.specs.declared.node.TheConstants.{MAX_NODES};
 ghost use Rattle.log_definitions.specs.Numbers.{log_of};
+ghost use Rattle.reasons.specs.Given.{HaveNone};
 ghost use Rattle.forced_steps.specs.Firsts as spec;
 ghost use Rattle.forced_steps.specs.Lines.{sides_by, IsBetween, Rests, IsAnswer, AreAnswers, IsBasis, IsEntry, IsGround};
 
@@ -106,11 +107,31 @@ pub fn entry_with(grounds: &Grounds, a: NodeIx, b: NodeIx) -> Option<usize>
 }
 
 /// Whether this is a node other than node 0.
-fn is_between(history: &History, node: NodeIx) -> bool
+pub fn is_between(history: &History, node: NodeIx) -> bool
     ensures yes { IsTrue result → IsBetween history.now node }
     ensures no { IsTrue (not result) → IsBetween history.now node → ⊥ }
 {
     node.get() != 0 && node.get() <= history.committed()
+}
+
+/// Whether the log shows that `a` stands before `b`.
+pub fn shows(
+    basis: &Basis<'_>,
+    answers: &mut [Option<Option<Reason>>],
+    a: NodeIx,
+    b: NodeIx,
+) -> Result<bool, AllocError>
+    requires basis { IsBasis basis.now }
+    requires answers { AreAnswers basis.now.history.now answers.old }
+    requires first { IsBetween basis.now.history.now a }
+    requires second { IsBetween basis.now.history.now b }
+    ensures answers { AreAnswers basis.now.history.now answers.new }
+    ensures shown { IfOk result (λ shown. IsTrue shown → HaveNone basis.now.history.now a b → ⊥) }
+{
+    match answer(basis.alloc, answers, basis.history, a, b)? {
+        Some(_reason) => Ok(true),
+        None => Ok(false),
+    }
 }
 
 /// The first entry that keeps the edge, where both are nodes other than node 0 and the log does not show the edge.

@@ -11,6 +11,7 @@ mod ground;
 mod item;
 mod lines;
 mod marks;
+mod near;
 mod orders;
 mod shorter;
 mod steps;

@@ -67,7 +67,7 @@ pub fn choice_orders(alloc: Global, chains: &Chains<'_>) -> Result<Vec<ChainOrde
 }
 
 /// The same two chains the other way round.
-fn turned(order: ChainOrder) -> ChainOrder
+pub fn turned(order: ChainOrder) -> ChainOrder
     ensures order { result ≡ steps.turned order }
 {
     ChainOrder {

@@ -1,38 +1,24 @@
 //! Shorter walks: an edge that the log shows in place of a way around.
 
-ghost use Rattle.std.specs.Prelude.{◌≡◌, ◌+◌, ◌<◌, length, IsTrue, IfOk};
-ghost use Rattle.reasons.specs.Given.{HaveNone};
-ghost use Rattle.forced_steps.specs.Lines.{IsBetween, IsLineOfNodes, AreAnswers, IsBasis};
+ghost use Rattle.std.specs.Prelude.{◌≡◌, ℕ, ◌+◌, ◌<◌, length, reverse, IfOk};
+ghost use Rattle.log_definitions.specs.Numbers.{log_of};
+ghost use Rattle.forced_steps.specs.Steps.{IsOrder};
+ghost use Rattle.forced_steps.specs.Lines.{IsLineOfNodes, AreAnswers, IsBasis};
 ghost use Rattle.forced_steps.specs.Ledgers.{AreSteps};
-ghost use Rattle.forced_steps.specs.Shorter.{Leads, KeepsEnds, KeepsPost};
+ghost use Rattle.forced_steps.specs.Shorter.{Leads, KeepsEnds, LeadsTo, IsNearOn, IsWalkOf, KeepsPost, IsShort};
 
-use crate::ground::{Basis, answer};
+use crate::ground::{Basis, shows};
 use crate::marks::needed_entries;
+use crate::near::{Near, nearest};
+use crate::orders::turned;
+use explanations::ChainOrder;
 use prune_ledger::LedgerEntry;
 use prune_ledger::messages::Refutation;
+use reach_laws::Edge;
 use reasons::Reason;
 use serializability::NodeIx;
-use std::alloc::AllocError;
-
-/// Whether the log shows that `a` stands before `b`.
-fn shows(
-    basis: &Basis<'_>,
-    answers: &mut [Option<Option<Reason>>],
-    a: NodeIx,
-    b: NodeIx,
-) -> Result<bool, AllocError>
-    requires basis { IsBasis basis.now }
-    requires answers { AreAnswers basis.now.history.now answers.old }
-    requires first { IsBetween basis.now.history.now a }
-    requires second { IsBetween basis.now.history.now b }
-    ensures answers { AreAnswers basis.now.history.now answers.new }
-    ensures shown { IfOk result (λ shown. IsTrue shown → HaveNone basis.now.history.now a b → ⊥) }
-{
-    match answer(basis.alloc, answers, basis.history, a, b)? {
-        Some(_reason) => Ok(true),
-        None => Ok(false),
-    }
-}
+use std::alloc::{AllocError, Global};
+use write_chains::Chains;
 
 /// The first place of a line from which the log shows an edge to this one; where it shows none, the
 /// place before.
@@ -61,8 +47,35 @@ fn earliest(
     Ok(at - 1)
 }
 
-/// A line with the same ends, of some of its nodes: from the last one back, each is reached from the
-/// first that the log shows to stand before it.
+/// Goes on from this place of a line to its first: each node is reached from the first that the log
+/// shows to stand before it. The last comes first.
+fn back_to_start(
+    basis: &Basis<'_>,
+    answers: &mut [Option<Option<Reason>>],
+    line: &[NodeIx],
+    place: usize,
+    behind: Vec<NodeIx>,
+) -> Result<Vec<NodeIx>, AllocError>
+    requires basis { IsBasis basis.now }
+    requires answers { AreAnswers basis.now.history.now answers.old }
+    requires line { IsLineOfNodes basis.now.history.now line.now }
+    requires within { place < length line.now }
+    ensures answers { AreAnswers basis.now.history.now answers.new }
+    ensures short { IfOk result (λ made. (end : ℕ) →
+        IsShort basis.now.history.now line.now end place (reverse behind.items) →
+        IsShort basis.now.history.now line.now end 0 made.items) }
+{
+    let mut back = behind;
+    let mut at = place;
+    while 0 < at {
+        at = earliest(basis, answers, line, at)?;
+        back.push(line[at])?;
+    }
+    back.reverse();
+    Ok(back)
+}
+
+/// A line with the same ends, of some of its nodes.
 pub fn shorter_line(
     basis: &Basis<'_>,
     answers: &mut [Option<Option<Reason>>],
@@ -74,52 +87,74 @@ pub fn shorter_line(
     ensures answers { AreAnswers basis.now.history.now answers.new }
     ensures ends { IfOk result (λ made. KeepsEnds basis.now.history.now line.now made.items) }
 {
-    let mut back = Vec::new(basis.alloc);
-    let mut at = line.len() - 1;
-    back.push(line[at])?;
-    while 0 < at {
-        at = earliest(basis, answers, line, at)?;
-        back.push(line[at])?;
-    }
-    back.reverse();
-    Ok(back)
+    let mut behind = Vec::new(basis.alloc);
+    let last = line.len() - 1;
+    behind.push(line[last])?;
+    let made = back_to_start(basis, answers, line, last, behind)?;
+    Ok(made)
 }
 
-/// A walk with the same ends: a shorter one where it is to be told, else the same.
-fn walk_of(
+/// A line with the same first node, that leads from this place of it to another node.
+fn line_to(
     basis: &Basis<'_>,
     answers: &mut [Option<Option<Reason>>],
-    walk: &[NodeIx],
-    is_told: bool,
+    line: &[NodeIx],
+    near: Near,
 ) -> Result<Vec<NodeIx>, AllocError>
     requires basis { IsBasis basis.now }
     requires answers { AreAnswers basis.now.history.now answers.old }
-    requires walk { IsLineOfNodes basis.now.history.now walk.now }
+    requires line { IsLineOfNodes basis.now.history.now line.now }
+    requires near { IsNearOn basis.now.history.now line.now near }
     ensures answers { AreAnswers basis.now.history.now answers.new }
-    ensures ends { IfOk result (λ made. KeepsEnds basis.now.history.now walk.now made.items) }
+    ensures leads { IfOk result (λ made. LeadsTo basis.now.history.now line.now near.source made.items) }
 {
-    if is_told {
-        return shorter_line(basis, answers, walk);
-    }
-    let mut same = Vec::new(basis.alloc);
-    same.extend_from_slice(walk)?;
-    Ok(same)
+    let mut behind = Vec::new(basis.alloc);
+    behind.push(near.source)?;
+    behind.push(line[near.place])?;
+    let made = back_to_start(basis, answers, line, near.place, behind)?;
+    Ok(made)
 }
 
-/// A post with such a walk.
-fn post_of(
+/// A post with a shorter walk, to a nearer source where the log shows one.
+fn shorter_post(
     basis: &Basis<'_>,
     answers: &mut [Option<Option<Reason>>],
+    chains: &Chains<'_>,
+    order: ChainOrder,
     post: &Refutation,
-    is_told: bool,
 ) -> Result<Refutation, AllocError>
     requires basis { IsBasis basis.now }
     requires answers { AreAnswers basis.now.history.now answers.old }
-    requires walk { IsLineOfNodes basis.now.history.now post.now.walk }
+    requires chains { chains.now ≡ basis.now.history.now }
+    requires order { IsOrder (log_of basis.now.history.now) order }
+    requires walk { IsWalkOf basis.now.history.now order post.now }
     ensures answers { AreAnswers basis.now.history.now answers.new }
-    ensures keeps { IfOk result (KeepsPost basis.now.history.now post.now) }
+    ensures keeps { IfOk result (KeepsPost basis.now.history.now order post.now) }
 {
-    let walk = walk_of(basis, answers, &post.walk, is_told)?;
+    let walk = shorter_line(basis, answers, &post.walk)?;
+    let line = walk.as_slice();
+    match nearest(basis, answers, chains, order, line)? {
+        Some(near) => Ok(Refutation {
+            choice: post.choice,
+            side: post.side,
+            edge: Edge::new(near.source, post.edge.target()),
+            walk: line_to(basis, answers, line, near)?,
+        }),
+        None => Ok(Refutation {
+            choice: post.choice,
+            side: post.side,
+            edge: post.edge,
+            walk,
+        }),
+    }
+}
+
+/// The same post.
+fn same_post(alloc: Global, post: &Refutation) -> Result<Refutation, AllocError>
+    ensures same { IfOk result (λ made. made ≡ post.now) }
+{
+    let mut walk = Vec::new(alloc);
+    walk.extend_from_slice(&post.walk)?;
     Ok(Refutation {
         choice: post.choice,
         side: post.side,
@@ -128,15 +163,40 @@ fn post_of(
     })
 }
 
+/// A post that tells the same, by a shorter walk where it is to be told.
+fn post_of(
+    basis: &Basis<'_>,
+    answers: &mut [Option<Option<Reason>>],
+    chains: &Chains<'_>,
+    order: ChainOrder,
+    post: &Refutation,
+    is_told: bool,
+) -> Result<Refutation, AllocError>
+    requires basis { IsBasis basis.now }
+    requires answers { AreAnswers basis.now.history.now answers.old }
+    requires chains { chains.now ≡ basis.now.history.now }
+    requires order { IsOrder (log_of basis.now.history.now) order }
+    requires walk { IsWalkOf basis.now.history.now order post.now }
+    ensures answers { AreAnswers basis.now.history.now answers.new }
+    ensures keeps { IfOk result (KeepsPost basis.now.history.now order post.now) }
+{
+    if is_told {
+        return shorter_post(basis, answers, chains, order, post);
+    }
+    same_post(basis.alloc, post)
+}
+
 /// The entries of a ledger, of which the marked ones have shorter walks.
 fn shorter_entries(
     basis: &Basis<'_>,
     answers: &mut [Option<Option<Reason>>],
+    chains: &Chains<'_>,
     marks: &[bool],
     entries: &[LedgerEntry],
 ) -> Result<Vec<LedgerEntry>, AllocError>
     requires basis { IsBasis basis.now }
     requires answers { AreAnswers basis.now.history.now answers.old }
+    requires chains { chains.now ≡ basis.now.history.now }
     requires marks { length marks.now ≡ length basis.now.grounds.now.kept.items }
     requires steps { AreSteps basis.now.history.now basis.now.grounds.now.kept.items entries.now }
     ensures answers { AreAnswers basis.now.history.now answers.new }
@@ -145,7 +205,8 @@ fn shorter_entries(
 {
     let mut made = Vec::with_capacity(basis.alloc, entries.len())?;
     for (entry, found) in entries.iter().enumerate() {
-        let post = post_of(basis, answers, &found.post, marks[entry])?;
+        let order = turned(basis.grounds.kept[entry]);
+        let post = post_of(basis, answers, chains, order, &found.post, marks[entry])?;
         made.push(LedgerEntry {
             seat: found.seat,
             post,
@@ -158,16 +219,18 @@ fn shorter_entries(
 pub fn shortened(
     basis: &Basis<'_>,
     answers: &mut [Option<Option<Reason>>],
+    chains: &Chains<'_>,
     entries: &[LedgerEntry],
     lines: &[&[NodeIx]],
 ) -> Result<Vec<LedgerEntry>, AllocError>
     requires basis { IsBasis basis.now }
     requires answers { AreAnswers basis.now.history.now answers.old }
+    requires chains { chains.now ≡ basis.now.history.now }
     requires steps { AreSteps basis.now.history.now basis.now.grounds.now.kept.items entries.now }
     ensures answers { AreAnswers basis.now.history.now answers.new }
     ensures steps { IfOk result (λ made. AreSteps basis.now.history.now
         basis.now.grounds.now.kept.items made.items) }
 {
     let marks = needed_entries(basis, answers, entries, lines)?;
-    shorter_entries(basis, answers, &marks, entries)
+    shorter_entries(basis, answers, chains, &marks, entries)
 }
