@@ -7,9 +7,11 @@ Behind them, of an anomaly and of a cycle of known edges the text must be the on
 byte. Where pruning ends in a cycle, or every cube is refuted, the steps and the tree may be others by the schedule; then each line is held
 against the log: each edge has the reason that comes first, or is one of an earlier step and names the first such, or of an order that is
 decided above, edges follow each other, a walk leads from where it has to to where it has to, a walk and the cycle behind steps take each
-shortcut that the log shows, each cycle closes, each step is needed, and each choice that is split has both its orders, with all that is
-below them. Of each explanation of cycles, lines are then spoilt in many ways, and each has to be seen; so the test is tested too. The graph
-of one worker must be what the lines of the text tell, to the byte; where Graphviz is there, it draws those of the examples. Where SEEDS is not said, each form of line has to be met among the logs. Last line:
+shortcut that the log shows, and a walk leads to a near one of those that would stand elsewhere, each cycle closes, each step is needed,
+and each choice that is split has both its orders, with all that is below them. Of each explanation of cycles, lines are then spoilt in
+many ways, and each has to be seen; so the test is tested too. The graph of one worker must be what the lines of the text tell, to the
+byte; where Graphviz is there, it draws those of the examples. Where SEEDS is not said, each form of line has to be met among the logs.
+Last line:
 'explained: N passed, M failed'."""
 import collections, concurrent.futures, os, random, re, shutil, subprocess, sys
 
@@ -314,6 +316,9 @@ class Telling:
         walk = self.edges(where, [])
         told((walk[0][0], walk[-1][1]) == (v, u), '%s: the walk leads from %s to %s' % (where, walk[0][0], walk[-1][1]))
         self.no_way_around(where, walk)
+        for a, _, _ in walk[:-1]:
+            for w, _ in self.log.side(key, second, first):
+                told(w == u or not self.log.reason(a, w)[0], '%s: %s is nearer, behind %s' % (where, w, a))
         self.steps.append(self.log.side(key, first, second))
         self.met['a walk of 4 edges or more'] += len(walk) > 3
 
