@@ -1,9 +1,7 @@
 -- What a checked proof shows of a formula and of the sessions it belongs to, and why nothing is said.
-use Rattle.std.proofs.Common.{◌≡◌, ℕ, ◌+◌, Bool, List, ◌∷◌, [], ◌++◌, Option, Some, length, map, refl, sym, subst}
+use Rattle.std.proofs.Common.{◌≡◌, ℕ, ◌+◌, Bool, List, Option, Some, length, map, sym, subst}
 use Rattle.session_log.specs.Text.{ClientSession}
-use Rattle.serializability.specs.Formula.{Cnf, Satisfies}
-use Rattle.serializability.specs.declared.literal.Literal.{Literal}
-use Rattle.log_definitions.specs.Serial.{IsSomeOrder}
+use Rattle.serializability.specs.Formula.{Cnf}
 use Rattle.log_definitions.specs.WellFormed.{IsWellFormed}
 use Rattle.refutation.specs.Follows.{SatisfiesAll, IsRefuted}
 use Rattle.refutation.specs.Standing.{Standing}
@@ -18,7 +16,7 @@ use Rattle.cobra_answers.specs.declared.status.Status.TheVariants.{NotSerializab
 use Rattle.cobra_answers.proofs.Telling.{keeps}
 use Rattle.refuting.specs.declared.refusal.Refusal.{Refusal}
 use Rattle.refuting.specs.declared.refusal.Refusal.TheVariants.{Command, Proof}
-use Rattle.refuting.specs.Refuted.{IsUnsatisfiable, IsShownBy, IsRefutation, IsProofRefused, IsNotRefuted, IsRefuteRefused, refuted_text, given_by}
+use Rattle.refuting.specs.Refuted.{IsShownBy, IsRefutation, IsProofRefused, IsNotRefuted, IsRefuteRefused, refuted_text, given_by}
 
 pub same_given : (s : Standing) (v : ℕ) (f : Cnf) → s.clauses ≡ map Some f.clauses → v ≡ f.variables → length s.known ≡ f.variables + 1 → given_to s v ≡ given_by f
 same_given s v f e n k = λ i. record { clauses = e i; variables = n i; known = k i }

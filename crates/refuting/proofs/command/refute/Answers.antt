@@ -1,7 +1,7 @@
 use Rattle.std.proofs.Common.{Err}
 use Rattle.std.proofs.lemmas.Result.{err_from_is_err_and}
 use Rattle.cobra_answers.specs.Answers.{by_log}
-use Rattle.cobra_answers.proofs.Telling.{told_all, cut_all, keeps}
+use Rattle.cobra_answers.proofs.Telling.{cut_all, keeps}
 use Rattle.refuting.specs.Refuted.{IsRefutation, HasNoFormula}
 use Rattle.refuting.proofs.Refusing.{refused_so}
 use Rattle.refuting.proofs.command.refute.Goals as goal

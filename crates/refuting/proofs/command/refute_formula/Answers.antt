@@ -1,4 +1,4 @@
-use Rattle.std.proofs.Common.{◌∙◌, length, ◌+◌}
+use Rattle.std.proofs.Common.{◌+◌}
 use Rattle.std.proofs.lemmas.Result.{err_from_is_err_and}
 use Rattle.order_cnf.specs.Data.{cnf_of}
 use Rattle.proof_checks.proofs.Places.{opened}
