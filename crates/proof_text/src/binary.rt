@@ -183,7 +183,8 @@ fn read_literals(
     literals: &mut Vec<Literal>,
 ) -> Result<bool, AllocError>
     ensures read { IfOk result (λ read.
-        before_zero (literal_of variables) (binary_numbers words.old) ≡ if_read read literals.new.items (binary_numbers words.new)) }
+        before_zero (literal_of variables) (binary_numbers words.old) ≡
+        if_read read literals.new.items (binary_numbers words.new)) }
     ensures rest { IfOk result (λ read. OnTrue read (words.new ≡ behind_line words.old)) }
 {
     literals.clear();

@@ -74,7 +74,8 @@ pub(crate) fn read_last_literals(
     literals: &mut Vec<Literal>,
 ) -> Result<bool, AllocError>
     ensures { IfOk result (λ read.
-        whole (before_zero (literal_of variables) (numbers_of words.old)) ≡ if_true read literals.new.items) }
+        whole (before_zero (literal_of variables) (numbers_of words.old)) ≡
+        if_true read literals.new.items) }
 {
     let read = read_literals(words, variables, literals)?;
     Ok(read && words.are_over())
