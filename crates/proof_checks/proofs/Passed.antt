@@ -7,14 +7,14 @@ use Rattle.serializability.specs.declared.literal.Literal.{Literal}
 use Rattle.proof_text.specs.Steps.{DratStep}
 use Rattle.proof_text.specs.declared.fault.ProofFault.{ProofFault}
 use Rattle.proof_text.specs.declared.fault.ProofFault.TheVariants as proof
-use Rattle.proof_checks.specs.Drat.{adds, adds_empty, as_read, Passes, GoesOn, IsStop, IsDratStop, IsDratEnd}
+use Rattle.proof_checks.specs.Drat.{adds, adds_empty, as_read, Passes, IsDratStop, IsDratEnd}
 use Rattle.proof_text.specs.Faults.{fault_of_step}
 use Rattle.proof_text.specs.declared.fault.StepFault.{StepFault}
 use Rattle.proof_text.specs.declared.fault.StepFault.TheVariants as step
 use Rattle.proof_text.specs.declared.drat.DratAction.{DratAction}
 use Rattle.proof_text.specs.declared.drat.DratAction.TheVariants.{Add}
 use Rattle.proof_checks.specs.Distinct.{distinct, is_tautology}
-use Rattle.proof_checks.specs.Passed.{IsAdded, IsNotAdded, IsStepStop, Passed}
+use Rattle.proof_checks.specs.Passed.{IsAdded, IsNotAdded, IsStepStop, Passed, GoesOn, IsStop}
 use Rattle.proof_checks.proofs.Once.{tautology_distinct}
 use Rattle.proof_checks.specs.Ends.{is_nil, is_empty_clause}
 

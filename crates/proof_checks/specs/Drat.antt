@@ -23,10 +23,11 @@ pub record MayFail (s : DratStep) : Type 0 where
   pub adds : IsTrue (adds s.action)
   pub no_tautology : IsFalse (is_tautology s.literals)
 
--- the first of the steps that are left may have this fault: a line of no form; a clause that may not follow; the end
+-- what is left may begin with this fault: a line of no form; a clause that may not follow; the end
 abbrev pub StopsAt : List (ℕ × Option DratStep) → ProofFault → Type 0
 StopsAt left (BadLine line) = (rest : List (ℕ × Option DratStep)) × (left ≡ (line, None) ∷ rest)
-StopsAt left (NotImplied line) = (s : DratStep) × (rest : List (ℕ × Option DratStep)) × (left ≡ (line, Some s) ∷ rest) × MayFail s
+StopsAt left (NotImplied line) =
+    (s : DratStep) × (rest : List (ℕ × Option DratStep)) × (left ≡ (line, Some s) ∷ rest) × MayFail s
 StopsAt left NoEmptyClause = left ≡ []
 StopsAt left _ = ⊥
 
@@ -37,16 +38,6 @@ as_read s = (s.0, Some s.1)
 pub record Passes (steps : List (ℕ × Option DratStep)) (passed : List (ℕ × DratStep)) (left : List (ℕ × Option DratStep)) : Type 0 where
   pub all : steps ≡ map as_read passed ++ left
   pub none : AllByRecursion (λ s. IsFalse (adds_empty s.1)) passed
-
--- the next step of all is passed; or this is the end, or the empty clause stands
-abbrev pub GoesOn : List (ℕ × Option DratStep) → List (ℕ × Option DratStep) → List (Option (List Literal)) → Bool → Type 0
-GoesOn all left clauses true = (line : ℕ) × (s : DratStep) × (all ≡ (line, Some s) ∷ left) × IsFalse (adds_empty s)
-GoesOn all left clauses false = list_any is_empty_clause clauses ≡ false → all ≡ []
-
--- why a step is not taken; memory may run out at any
-abbrev pub IsStop : List (ℕ × Option DratStep) → ProofFault → Type 0
-IsStop left Memory = Unit {0}
-IsStop left f = StopsAt left f
 
 -- steps that add no empty clause are passed, and what is left begins with the fault
 pub record IsDratFault (steps : List (ℕ × Option DratStep)) (f : ProofFault) : Type 0 where

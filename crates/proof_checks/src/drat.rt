@@ -4,9 +4,10 @@ ghost use Rattle.std.specs.Prelude.{◌≡◌, IfOk, IfErr, OnOk};
 ghost use Rattle.refutation.specs.Follows.{Entails};
 ghost use Rattle.proof_text.specs.Binary.{drat_steps_in};
 ghost use Rattle.proof_text.specs.Faults.{fault_of_step};
-ghost use Rattle.proof_checks.specs.Drat.{GoesOn, IsDratEnd, IsDratStop, IsStop};
+ghost use Rattle.proof_checks.specs.Drat.{IsDratEnd, IsDratStop};
 ghost use Rattle.proof_checks.specs.Marks.{HasRounds, IsMarking};
-ghost use Rattle.proof_checks.specs.Passed.{IsAdded, IsNotAdded, IsStepStop, Passed};
+ghost use Rattle.proof_checks.specs.Passed.{GoesOn, IsAdded, IsNotAdded};
+ghost use Rattle.proof_checks.specs.Passed.{IsStepStop, IsStop, Passed};
 
 use crate::distinct::Marks;
 use crate::search::Search;
