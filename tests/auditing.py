@@ -161,12 +161,17 @@ def check_ranges(answer, sessions, text):
 def check_next_steps(answer, words, size, path):
     """Behind what is refuted stand the commands to go on with."""
     value = lambda name, otherwise: words[words.index(name) + 1] if name in words else otherwise
-    piece, explain = answer.middle[-2:]
+    whole, others, piece, explain = answer.middle[-4:]
+    usual = {'--size': '', '--strategy': 'forced', '--budget': '100000'}
+    stated = [' %s %s' % (name, value(name, usual[name])) for name in usual if value(name, usual[name]) != usual[name]]
+    front = 'cobra_poly audit --explain%s ' % ''.join(stated)
+    must(whole.startswith(front) and (path is None or path in whole) and others == 'or, as a log of its own:', 'the command that tells: %r' % whole)
     said = 'cobra_poly pieces%s --piece %d ' % ('' if size is None else ' --size %d' % size, answer.piece)
     must(piece.startswith(said) and piece.endswith(' > piece.log') and (path is None or path in piece), 'the command of the piece: %r' % piece)
     wanted = 'cobra_poly explain --strategy %s --budget %s piece.log' % (value('--strategy', 'forced'), value('--budget', '100000'))
     must(explain == wanted, 'the command that explains: %r' % explain)
-    must((answer.middle[2] == 'keep the log in a file, then:') == (path is None), 'whether the log is to be kept: %r' % answer.middle[2:])
+    must((answer.middle[2] == 'keep the log in a file, then:') == (path is None) and len(answer.middle) == 6 + (path is None),
+         'whether the log is to be kept: %r' % answer.middle[2:])
 
 
 def check_piece(program, answer, size, text):
@@ -282,6 +287,11 @@ def blind_log(count, sessions=1, keys=1, key='x', outcome='commit', moments=Fals
     return ''.join(line + '\n' for line in lines).encode()
 
 
+def at_once(count):
+    """As many writers of a key, all of them at once."""
+    return re.sub(b'begin [0-9]+', b'begin 0', re.sub(b'commit [0-9]+', b'commit 9', blind_log(count, moments=True)))
+
+
 def burst_log(stale=None):
     """Bursts of transactions in nine sessions, between which nothing is under way: serializable as they ran, but for the
     last transaction of burst `stale`, which reads what the one before it overwrote. The first transaction of a burst lasts as long as the
@@ -329,6 +339,8 @@ OPEN_END = b'log 3\nsession 1\nbegin 0\nw a 1000000\ncommit\n' + blind_log(1200,
 
 UNKNOWN = b'session 2\nbegin\nw y 9999\nunknown\nsession 3\nbegin\nr y 9999\nabort\nsession 4\nbegin\nr y 9999\ncommit\n'
 
+HINT = 'piece 1: more than 100000 choices; try a smaller --size\n'
+
 # Of a log: words, the first line, and what stands in a line between that and the counts.
 ANSWERED = [
     ('a header alone', b'log 3\n', [], 'unknown: 0 committed, 1 asked for', []),
@@ -353,7 +365,11 @@ ANSWERED = [
     ('200,001 operations', blind_log(1, 1, 9, ops=200001), [], 'unknown: 1 of 1 pieces not decided',
      ['piece 1: 200001 operations, at most 200000']),
     ('10,001 keys', blind_log(1, 1, 10001, ops=10001), [], 'unknown: 1 of 1 pieces not decided', ['piece 1: 10001 keys, at most 10000']),
-    ('100,128 choices', blind_log(448), [], 'unknown: 1 of 1 pieces not decided', ['piece 1: more than 100000 choices']),
+    ('100,128 choices', blind_log(448), [], 'unknown: 1 of 1 pieces not decided', ['piece 1: more than 100000 choices\n']),
+    ('100,128 choices, and moments', blind_log(448, moments=True), [], 'unknown: 1 of 1 pieces not decided', [HINT]),
+    ('the same, cut', blind_log(448, moments=True), ['--size', '2'], 'serializable', []),
+    ('all at once', at_once(448), ['--size', '2'], 'unknown: 1 of 1 pieces not decided', [HINT]),
+    ('all at once, and cut as small as can be', at_once(448), ['--size', '1'], 'unknown: 1 of 1 pieces not decided', ['piece 1: more than 100000 choices\n']),
     ('an early transaction without an end', OPEN_END, [], 'unknown: 1 of 1 pieces not decided',
      ['piece 1: 1201 transactions, at most 1000', '1.1 (line 3) has no known end']),
 ]
@@ -394,7 +410,7 @@ def answered(program, folder, name, text, words, first, within):
     answer = Answer(call(program, 'audit', *words, text=text)[:2] + ('',))
     must(answer.first == first, 'says %r, wanted %r' % (answer.first, first))
     for part in within:
-        must(any(part in line for line in answer.middle), 'says %r, and nowhere %r' % (answer.middle, part))
+        must(any(part in line + '\n' for line in answer.middle), 'says %r, and nowhere %r' % (answer.middle, part))
     plain = counted(sessions)
     must({count: answer.counts[count] for count in plain} == plain, 'counts %r, wanted %r' % (answer.counts, plain))
     if '--format' not in words:

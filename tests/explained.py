@@ -26,11 +26,14 @@ EDGE = re.compile('%s before %s: (.+)' % (NODE, NODE))
 VERSION = r'[1-9][0-9]*, which %s wrote \(line [1-9][0-9]*\)' % NODE
 VERSIONS = '%s: %s, comes before %s' % (KEY, VERSION, VERSION)
 STEP = re.compile(r'\[%s\] %s:' % (NUMBER, VERSIONS))
-OTHERWISE = re.compile(r'    (?:%s read [0-9]+ \(line [1-9][0-9]*\)(?:, which goes back to [1-9][0-9]*)?, so otherwise it|otherwise %s) would stand before %s, but'
+OTHERWISE = re.compile(r'    (?:%s read [0-9]+ \(line [1-9][0-9]*\)(?:, which goes back to [1-9][0-9]*)?, so )?otherwise %s would stand before %s, but'
                        % (NODE, NODE, NODE))
 CYCLE = re.compile('cycle from %s:' % NODE)
-ORDER, CHOSEN = re.compile('if %s:' % VERSIONS), re.compile(VERSIONS)
-LEAVES = re.compile('%s cubes are refuted by a cycle; the first 1000 of them:' % NUMBER)
+ORDER = re.compile('suppose %s:' % VERSIONS)
+LEAVES = re.compile('whichever of these versions came first, a cycle closes(?:, %s in all; the first 1000 of them)?:' % NUMBER)
+# What is said of an edge of a step or of a decided order: whose operation, its key, and what Q wrote, behind this.
+KEPT = '%s (?:reads|wrote) %s [1-9][0-9]* \\(line [1-9][0-9]*\\), which %%s before [1-9][0-9]*, which %s wrote \\(line [1-9][0-9]*\\)' % (NODE, KEY, NODE)
+BY_STEP, SUPPOSED = re.compile(KEPT % r'by \[([0-9]+)\] comes'), re.compile(KEPT % 'is supposed to come')
 GRAPHVIZ = shutil.which('dot')
 # An explanation of so many bytes is not spoilt.
 SPOILT = 10000
@@ -41,7 +44,7 @@ UPDATE = re.compile(r'not serializable: A7 lost update of %s from [0-9.]+ by %s 
 KINDS = [('session', 'session %s' % NUMBER, 'black'), ('read', '.+ reads .+, which %s wrote .+' % NODE, 'blue'),
          ('anti-dependency', '.+ reads .+, and .+ overwrites it with .+', 'red'),
          ('version order', '.+ reads .+, (?:the|which goes back to the) initial value, and .+ wrote .+', 'darkgreen'),
-         ('moments', '.+ ended at .+, .+ began at .+', 'purple'), ('forced', r'forced \[%s\]' % NUMBER, 'orange')]
+         ('moments', '.+ ended at .+, .+ began at .+', 'purple')]
 # What has to be met among the logs, so that each form of line is tried.
 WANTED = ['A1', 'A2', 'A3', 'A4', 'A5', 'A6', 'A7', 'A8', 'A9', 'serializable', 'tree', 'unknown', 'refused', 'A9 forced',
           'made by hand', 'on the page']
@@ -106,20 +109,26 @@ class Log:
 
     def said_of_read(self, it, read):
         """What the line of a read says: what it names, and who wrote that."""
-        said = '%s reads %s %d (line %d), ' % (it.name, read.key, read.wid, read.line)
+        return '%s reads %s %d (line %d), %s' % (it.name, read.key, read.wid, read.line, self.said_of_writer(it, read))
+
+    def said_of_writer(self, it, read):
+        """Who wrote what a read names."""
         if read.wid == 0:
-            return said + 'the initial value'
+            return 'the initial value'
         writer = self.writers.get((read.key, read.wid))
         if writer is None:
-            return said + 'which no transaction wrote'
+            others = [(other, op) for other in self.transactions for op in other.ops if (op.kind, op.wid) == ('w', read.wid)][:1]
+            elsewhere = [' to %s; %s wrote %s %d (line %d)' % (read.key, other.name, op.key, op.wid, op.line) for other, op in others]
+            return ''.join(['which no transaction wrote'] + elsewhere)
         (place, write), = ((place, op) for place, op in enumerate(writer.writes(read.key)) if op.wid == read.wid)
-        said += 'which %s wrote (line %d)' % (writer.name, write.line)
+        verb = 'writes itself only later' if writer is it and write.line > read.line else 'wrote'
+        said = 'which %s %s (line %d)' % (writer.name, verb, write.line)
         for later in writer.writes(read.key)[place + 1:place + 2]:
             said += ' and overwrote with %d (line %d)' % (later.wid, later.line)
         if writer.outcome == 'abort':
             said += ' and aborted (line %d)' % writer.end
         if writer.outcome == 'unknown':
-            said += ' and did not learn whether it was committed (line %d)' % writer.end
+            said += ', whose outcome is unknown (line %d)' % writer.end
         return said
 
     def said_before(self, it, read):
@@ -128,7 +137,7 @@ class Log:
         for write in [op for op in before if op.kind == 'w'][-1:]:
             return ['%s wrote %s %d before (line %d)' % (it.name, write.key, write.wid, write.line)]
         others = [op for op in before if op.wid != read.wid][:1]
-        return ['%s read %s %d before (line %d)' % (it.name, other.key, other.wid, other.line) for other in others]
+        return ['%s read %s %d before (line %d), %s' % (it.name, op.key, op.wid, op.line, self.said_of_writer(it, op)) for op in others]
 
     def said_of_anomaly(self, first):
         """The lines behind the line of A1 to A7."""
@@ -146,12 +155,17 @@ class Log:
     def said_behind(self, checked):
         """The lines behind these of `check`, of A1 to A8."""
         first, *cycle = checked.split('\n')[:-1]
-        names = cycle[0].split(' ')[1:] if cycle else ()
+        names = self.joined(cycle[0].split(' ')[1:]) if cycle else ()
         edges = ['%s before %s: %s' % (a, b, self.reason(a, b)[1]) for a, b in zip(names, names[1:])]
         return edges + ['known as: ' + self.known_as(names)] if edges else self.said_of_anomaly(first)
 
+    def joined(self, names):
+        """These, of which one edge after the other is told, without those between two edges of a session."""
+        is_between = lambda a, it, b: self.reason(a, it)[0] == self.reason(it, b)[0] == 'session'
+        return names[:1] + [three[1] for three in zip(names, names[1:], names[2:]) if not is_between(*three)] + names[-1:]
+
     def known_as(self, names):
-        """The name of a cycle, by the kinds of its edges."""
+        """What a cycle is called, by the kinds of its edges."""
         kinds = [self.reason(a, b)[0] for a, b in zip(names, names[1:])]
         missed = kinds.count('anti-dependency') + kinds.count('version order')
         by_order = lambda none, session, moments: moments if 'moments' in kinds else session if 'session' in kinds else none
@@ -162,8 +176,10 @@ class Log:
         if missed == 1 and len(kinds) == 2 and 'read' not in kinds:
             return by_order(None, 'stale read in a session (G-single-process)', 'stale read (G-single-realtime)')
         if missed == 1:
-            return by_order('read skew (G-single)', 'G-single-process', 'G-single-realtime')
-        return 'write skew (G2-item)' if len(kinds) == 2 else by_order('G2-item', 'G2-item-process', 'G2-item-realtime')
+            return 'read skew' + by_order(' (G-single)', ' by way of sessions (G-single-process)', ' by way of moments (G-single-realtime)')
+        if len(kinds) == 2:
+            return 'write skew (G2-item)'
+        return 'missed writes' + by_order(' in a circle (G2-item)', ' and sessions in a circle (G2-item-process)', ' and moments in a circle (G2-item-realtime)')
 
     # ---- an edge
 
@@ -227,15 +243,23 @@ class Log:
         left = [(name, self.named[name].writes(key)[-1]) for name in (first, second)]
         return '%s: %s, comes before %s' % (key, *('%d, which %s wrote (line %d)' % (op.wid, name, op.line) for name, op in left))
 
+    def said_of_kept(self, edge, key, which):
+        """What is said of an edge that an order of versions of this key has, where `which` says what the order rests on."""
+        a, b = (self.named[name] for name in edge)
+        op = (a.writes(key)[-1:] or [op for op in a.ops if (op.kind, op.key) == ('r', key)])[0]
+        left, verb = b.writes(key)[-1], 'wrote' if op.kind == 'w' else 'reads'
+        said = (a.name, verb, key, op.wid, op.line, which, left.wid, b.name, left.line)
+        return '%s %s %s %d (line %d), which %s before %d, which %s wrote (line %d)' % said
+
     def said_of_step(self, number, key, first, second, u, v):
         """The two lines of a step: the order that it keeps, and whom the other order would let stand before whom, by its first read of the
         key."""
         left = self.named[second].writes(key)[-1]
-        said = 'otherwise ' + u
+        said = 'otherwise'
         for read in [op for op in self.named[u].ops if (op.kind, op.key) == ('r', key)][:1]:
             back = '' if read.wid == left.wid else ', which goes back to %d' % left.wid
-            said = '%s read %d (line %d)%s, so otherwise it' % (u, read.wid, read.line, back)
-        return ['[%s] %s:' % (number, self.said_of_order(key, first, second)), '    %s would stand before %s, but' % (said, v)]
+            said = '%s read %d (line %d)%s, so otherwise' % (u, read.wid, read.line, back)
+        return ['[%s] %s:' % (number, self.said_of_order(key, first, second)), '    %s %s would stand before %s, but' % (said, u, v)]
 
     def side(self, key, first, second):
         """The edges of: the chain that begins with the first before the one that begins with the second."""
@@ -305,11 +329,11 @@ class Telling:
         told(self.used == set(range(1, count + 1)), 'steps that nothing needs')
 
     def judge_step(self, number, key, first, second, reader, other, v):
-        where, place, u = 'step %s' % number, self.at, reader or other
+        where, place, u = 'step %s' % number, self.at, other
         told(v, '%s: nothing that stands otherwise at %r' % (where, self.rest()))
         told(int(number) == len(self.steps) + 1, '%s stands at place %d' % (where, len(self.steps) + 1))
         self.two_chains(where, key, first, second)
-        told(u in self.log.named, '%s: no transaction %s' % (where, u))
+        told(u in self.log.named and reader in (None, u), '%s: no transaction %s' % (where, u))
         right = self.log.said_of_step(number, key, first, second, u, v)
         told(self.lines[place - 2:place] == right, '%s: wanted %r' % (where, right))
         told((u, v) in self.log.side(key, second, first), '%s: the other side has no such edge' % where)
@@ -319,7 +343,7 @@ class Telling:
         for a, _, _ in walk[:-1]:
             for w, _ in self.log.side(key, second, first):
                 told(w == u or not self.log.reason(a, w)[0], '%s: %s is nearer, behind %s' % (where, w, a))
-        self.steps.append(self.log.side(key, first, second))
+        self.steps.append((key, self.log.side(key, first, second)))
         self.met['a walk of 4 edges or more'] += len(walk) > 3
 
     def no_way_around(self, where, edges):
@@ -339,9 +363,11 @@ class Telling:
     def tree(self):
         said = self.next(LEAVES)
         self.below([])
-        wanted = MOST_LEAVES + self.left_out
-        told(int(said[0]) >= wanted > MOST_LEAVES if said else not self.left_out, '%r, and %d branches are left out' % (said, self.left_out))
-        self.met['tree of more than 1000 leaves'] += said is not None
+        leaves = self.leaves + self.left_out
+        told((said is not None) == (leaves > 1), '%r, and %d leaves' % (said, leaves))
+        count = said and said[0] and int(said[0])
+        told(count >= leaves > MOST_LEAVES if count else not self.left_out, '%r, and %d branches are left out' % (said, self.left_out))
+        self.met['tree of more than 1000 leaves'] += count is not None
 
     def below(self, decided):
         """What stands below these orders: a choice with both its orders, or a cycle; and nothing behind the last cycle that is told."""
@@ -366,7 +392,7 @@ class Telling:
     def order(self, depth, key, *both):
         """The decided order of the line that was just read."""
         self.two_chains('a choice of %s' % key, key, *both)
-        right = '  ' * depth + 'if %s:' % self.log.said_of_order(key, *both)
+        right = '  ' * depth + 'suppose %s:' % self.log.said_of_order(key, *both)
         told(self.lines[self.at - 1] == right, 'wanted %r' % right)
 
     # ---- edges
@@ -412,10 +438,10 @@ class Telling:
         kind, said = self.log.reason(*edge)
         if kind:
             return kind, {said: None}
-        for number, kept in enumerate(self.steps, 1):
+        for number, (key, kept) in enumerate(self.steps, 1):
             if edge in kept:
-                return 'forced', {'forced [%d]' % number: number}
-        return 'decided', {self.log.said_of_order(*order): order for order in decided if edge in self.log.side(*order)}
+                return 'forced', {self.log.said_of_kept(edge, key, 'by [%d] comes' % number): number}
+        return 'decided', {self.log.said_of_kept(edge, order[0], 'is supposed to come'): order for order in decided if edge in self.log.side(*order)}
 
 
 def judge(text, checked, explained):
@@ -448,9 +474,27 @@ def judge(text, checked, explained):
 
 def kind_of(said):
     """The kind of an edge by what is said of it, and its colour."""
-    if CHOSEN.fullmatch(said):
-        return said, 'gray'
-    return next((said if colour == 'orange' else kind, colour) for kind, form, colour in KINDS if re.fullmatch(form, said))
+    step = BY_STEP.fullmatch(said)
+    if step:
+        return 'forced [%s]' % step[3], 'orange'
+    return next((kind, colour) for kind, form, colour in KINDS if re.fullmatch(form, said))
+
+
+def edges_of(log, lines):
+    """Each edge that lines tell: its two ends, what is said of it, and its kind and colour. Of a supposition the kind is the order that has it,
+    among those above."""
+    above = []
+    for line in lines:
+        bare = line.lstrip(' ')
+        order, edge = ORDER.fullmatch(bare), EDGE.fullmatch(bare)
+        if order:
+            above[(len(line) - len(bare)) // 2:] = [order.groups()]
+        elif edge and SUPPOSED.fullmatch(edge[3]):
+            key = SUPPOSED.fullmatch(edge[3])[2]
+            order = next(it for it in above if it[0] == key and edge.group(1, 2) in log.side(*it))
+            yield (*edge.groups(), log.said_of_order(*order), 'gray')
+        elif edge:
+            yield (*edge.groups(), *kind_of(edge[3]))
 
 
 def graph_of(text, checked, explained):
@@ -460,12 +504,12 @@ def graph_of(text, checked, explained):
     if READ.fullmatch(first) or UPDATE.fullmatch(first):
         drawn = ['"anomaly" [label="%s"];' % ''.join(line + '\\n' for line in lines)]
     else:
-        edges = [found.groups() for found in (EDGE.fullmatch(line.lstrip(' ')) for line in lines) if found]
+        edges = list(edges_of(log, lines))
         parts = {name for edge in edges for name in edge[:2]}
-        named = {int(line) for *_, said in edges if not CHOSEN.fullmatch(said) for line in re.findall(r'\(line ([0-9]+)\)', said)}
+        named = {int(line) for _, _, said, _, colour in edges if colour not in ('orange', 'gray') for line in re.findall(r'\(line ([0-9]+)\)', said)}
         drawn = ['"%s" [label="%s"];' % (it.name, '\\n'.join([it.name] + ['%s %s %d (line %d)' % op for op in it.ops if op.line in named]))
                  for it in (log.transactions if log else ()) if it.name in parts]
-        drawn += ['"%s" -> "%s" [label="%s" color="%s"];' % (a, b, *kind_of(said)) for a, b, said in edges]
+        drawn += ['"%s" -> "%s" [label="%s" color="%s"];' % (a, b, kind, colour) for a, b, _, kind, colour in edges]
     comments = ['// ' + line for line in [first] + lines[:first.startswith('unknown: ')]]
     graph = [*comments, 'strict digraph explanation {', 'node [shape=box];', *drawn, '}'] if checked else []
     return ''.join(line + '\n' for line in graph)
@@ -478,7 +522,7 @@ def spoilt(r, text, checked, explained):
     log, lines = Log(text), explained[len(checked):].split('\n')[:-1]
     bare = [line.lstrip(' ') for line in lines]
     edges, steps, cycles, orders = ([n for n, line in enumerate(bare) if form.fullmatch(line)] for form in (EDGE, STEP, CYCLE, ORDER))
-    forced = [n for n in edges if ': forced [' in lines[n]]
+    forced = [n for n in edges if BY_STEP.fullmatch(EDGE.fullmatch(bare[n])[3])]
     numbered = [n for n in edges if '(line ' in lines[n]]
 
     def without(first, behind=None):
@@ -500,7 +544,8 @@ def spoilt(r, text, checked, explained):
     yield 'an edge is turned round', instead(n, '%s before %s: %s' % (b, a, said))
     yield 'an edge of one transaction', instead(n, bare[n], '%s before %s: session %s' % (b, b, b.split('.')[0]))
     yield 'an edge to nowhere', instead(n, '%s before 65535.99: %s' % (a, said))
-    yield 'another kind', instead(n, '%s before %s: %s' % (a, b, 'session ' + a.split('.')[0] if n in forced else 'forced [1]'))
+    kinds = 'session ' + a.split('.')[0], '%s ended at 1 (line 1), %s began at 2 (line 1)' % (a, b)
+    yield 'another kind', instead(n, '%s before %s: %s' % (a, b, kinds[said == kinds[0]]))
     yield 'no reason', instead(n, '%s before %s' % (a, b))
     yield 'a space more', lines[:-1] + [lines[-1] + ' ']
     yield 'a line more', lines + [lines[-1]]
@@ -516,7 +561,7 @@ def spoilt(r, text, checked, explained):
         a, b, _ = EDGE.fullmatch(bare[n]).groups()
         for _, also in log.reasons(a, b)[1:]:
             yield 'a reason that holds too, and is not the first', instead(n, '%s before %s: %s' % (a, b, also))
-        for it in log.nodes if cycles else ():
+        for it in log.nodes:
             if log.reason(a, it.name)[0] == log.reason(it.name, b)[0] == 'session':
                 yield 'a run in two lines', instead(n, *('%s before %s: session %s' % (*two, it.session) for two in ((a, it.name), (it.name, b))))
         for it in log.nodes if cycles and (n < cycles[0] or not orders) and log.reason(a, b)[0] else ():
@@ -535,9 +580,11 @@ def spoilt(r, text, checked, explained):
     for n in forced:
         a, b, said = EDGE.fullmatch(bare[n]).groups()
         behind = sum(m < n for m in steps) + (n > cycles[0])
+        named = '[%s]' % BY_STEP.fullmatch(said)[3]
         for later in (behind, behind + 1):
-            yield 'a step is named that is no earlier one', instead(n, '%s before %s: forced [%d]' % (a, b, later))
-        yield 'a step of number 0 is named', instead(n, '%s before %s: forced [0]' % (a, b))
+            yield 'a step is named that is no earlier one', instead(n, bare[n].replace(named, '[%d]' % later))
+        yield 'a step of number 0 is named', instead(n, bare[n].replace(named, '[0]'))
+        yield 'a step is called a supposition', instead(n, bare[n].replace('by %s comes' % named, 'is supposed to come'))
     if orders:
         yield from spoilt_tree(r, log, lines, bare, without, instead)
     if not steps:
@@ -546,7 +593,7 @@ def spoilt(r, text, checked, explained):
     behind = next(m for m in range(n + 2, len(lines)) if m not in edges)
     number, key, first, second = STEP.fullmatch(lines[n]).groups()
     reader, other, v = OTHERWISE.fullmatch(lines[n + 1]).groups()
-    u, both = reader or other, lines[n:n + 2]
+    u, both = other, lines[n:n + 2]
 
     def stepped(*those):
         return lines[:n] + list(those) + lines[n + 2:]
@@ -581,14 +628,15 @@ def spoilt_tree(r, log, lines, bare, without, instead):
         yield 'an order is missing, with all below it', without(at, stop)
         yield 'nothing stands below an order', without(at + 1, stop)
         yield 'an order stands twice', instead(at, bare[other])
-        yield 'an order of another key', instead(at, bare[at].replace('if %s: ' % key, 'if %s_: ' % key))
+        yield 'an order of another key', instead(at, bare[at].replace('suppose %s: ' % key, 'suppose %s_: ' % key))
         for it in [it for it in log.transactions if not log.begins_chain(it, key)][:1]:
             yield 'an order of no chain', instead(at, bare[at].replace(', which %s wrote' % first, ', which %s wrote' % it.name))
         for place in [found.start() for found in re.finditer(r'[0-9]+(?=, which|[)])', bare[at])]:
             yield 'another number in an order', instead(at, bare[at][:place] + '9' + bare[at][place:])
     for first, second, _ in pairs:
-        needed = ' before %s: %s' % (ORDER.fullmatch(bare[first])[3], bare[first][len('if '):-1])
-        if any(line.endswith(needed) for line in bare[first + 1:second]):
+        needed = ORDER.fullmatch(bare[first]).group(1, 3)
+        named = [SUPPOSED.fullmatch(found[3]) for found in map(EDGE.fullmatch, bare[first + 1:second]) if found]
+        if needed in [found.group(2, 3) for found in named if found]:
             both = instead(first, bare[second])
             both[second] = lines[first]
             yield 'two orders are exchanged', both
@@ -596,18 +644,25 @@ def spoilt_tree(r, log, lines, bare, without, instead):
             below = ['  ' + line for line in lines[first + 1:second]]
             once_more = ['  ' + lines[first], *below, '  ' + lines[second], *below]
             yield 'a choice is split twice', lines[:first + 1] + once_more + lines[second:]
-    chosen = [(n, *found.groups()) for n, found in ((n, EDGE.fullmatch(line)) for n, line in enumerate(bare)) if found and CHOSEN.fullmatch(found[3])]
+    chosen = [(n, *found.groups()) for n, found in ((n, EDGE.fullmatch(line)) for n, line in enumerate(bare)) if found and SUPPOSED.fullmatch(found[3])]
     for n, a, b, said in chosen[:3]:
-        key, p, q = CHOSEN.fullmatch(said).groups()
-        yield 'the other order is named', instead(n, '%s before %s: %s' % (a, b, log.said_of_order(key, q, p)))
-        yield 'an order of another key is named', instead(n, '%s before %s: %s' % (a, b, key + '_' + said[len(key):]))
+        found = SUPPOSED.fullmatch(said)
+        yield 'an order of another key is named', instead(n, '%s before %s: %s' % (a, b, said[:found.end(2)] + '_' + said[found.end(2):]))
+        yield 'a supposition is called a step', instead(n, '%s before %s: %s' % (a, b, said.replace('is supposed to come', 'by [1] comes')))
+        for it in log.nodes:
+            if it.name != b and it.writes(found[2]):
+                yield 'another version is named', instead(n, '%s before %s: %s' % (a, b, log.said_of_kept((a, it.name), found[2], 'is supposed to come')))
+        for op in [op for op in log.named[a].ops if op.key == found[2]][:1]:
+            there = '%s %s %s %d (line %d),' % (a, 'reads' if ' wrote ' + found[2] in said[:found.end(2)] else 'wrote', op.key, op.wid, op.line)
+            yield 'a read is called a write', instead(n, '%s before %s: %s' % (a, b, there + said.split(',', 1)[1]))
     n = r.randrange(orders[0], len(lines))
     for moved in [' ' + lines[n], '  ' + lines[n]] + [lines[n][by:] for by in (1, 2) if depth[n]]:
         yield 'a line is moved', lines[:n] + [moved] + lines[n + 1:]
     yield 'no line is indented', bare
+    yield 'no line stands before the tree', without(orders[0] - 1)
     for count in (len(pairs) + 1, MOST_LEAVES, MOST_LEAVES + 1):
-        said = '%d cubes are refuted by a cycle; the first 1000 of them:' % count
-        yield 'leaves are counted that are all told', lines[:orders[0]] + [said] + lines[orders[0]:]
+        said = 'whichever of these versions came first, a cycle closes, %d in all; the first 1000 of them:' % count
+        yield 'leaves are counted that are all told', lines[:orders[0] - 1] + [said] + lines[orders[0]:]
 
 
 # ---- logs
@@ -619,44 +674,49 @@ def by_hand(words, *said):
 
 BY_HAND = [
     by_hand('session 1, begin, r x 18446744073709551615, w y 18446744073709551615, commit', 'A1 unknown read at 1.1 op 1',
-            '1.1 reads x 18446744073709551615 (line 3), which no transaction wrote'),
+            '1.1 reads x 18446744073709551615 (line 3), which no transaction wrote to x; 1.1 wrote y 18446744073709551615 (line 4)'),
     by_hand('session 1, begin, r x 0, r x 0, r x 5, commit', 'A1 unknown read at 1.1 op 3', '1.1 reads x 5 (line 5), which no transaction wrote',
-            '1.1 read x 0 before (line 3)'),
+            '1.1 read x 0 before (line 3), the initial value'),
+    # an identity that was written to another key
+    by_hand('session 1, begin, r x 2, commit, session 2, begin, w y 1, w z 2, abort', 'A1 unknown read at 1.1 op 1',
+            '1.1 reads x 2 (line 3), which no transaction wrote to x; 2.1 wrote z 2 (line 8)'),
+    by_hand('session 1, begin, r x 3, r x 4, w y 4, w z 3, commit', 'A1 unknown read at 1.1 op 1',
+            '1.1 reads x 3 (line 3), which no transaction wrote to x; 1.1 wrote z 3 (line 6)'),
     by_hand('session 7, begin, w x 1, abort, session 2, begin, r x 1, commit', 'A2 aborted read at 2.1 op 1',
             '2.1 reads x 1 (line 7), which 7.1 wrote (line 3) and aborted (line 4)'),
     by_hand('log 3, session 1, begin 4, w x 1, w x 2, w x 3, abort, session 2, begin, r x 0, r x 1, commit', 'A2 aborted read at 2.1 op 2',
             '2.1 reads x 1 (line 11), which 1.1 wrote (line 4) and overwrote with 2 (line 5) and aborted (line 7)',
-            '2.1 read x 0 before (line 10)'),
+            '2.1 read x 0 before (line 10), the initial value'),
     by_hand('session 1, begin, w x 1, w y 2, w x 3, commit, session 2, begin, r x 1, commit', 'A3 intermediate read at 2.1 op 1',
             '2.1 reads x 1 (line 9), which 1.1 wrote (line 3) and overwrote with 3 (line 5)'),
     by_hand('log 2, session 1, begin, w x 1, w x 3, unknown, session 2, begin, r x 3, r x 1, commit', 'A3 intermediate read at 2.1 op 2',
-            '2.1 reads x 1 (line 10), which 1.1 wrote (line 4) and overwrote with 3 (line 5) and did not learn whether it was committed (line 6)',
-            '2.1 read x 3 before (line 9)'),
+            '2.1 reads x 1 (line 10), which 1.1 wrote (line 4) and overwrote with 3 (line 5), whose outcome is unknown (line 6)',
+            '2.1 read x 3 before (line 9), which 1.1 wrote (line 5), whose outcome is unknown (line 6)'),
     by_hand('session 1, begin, w x 1, w x 2, r x 1, commit', 'A4 own write missed at 1.1 op 3',
             '1.1 reads x 1 (line 5), which 1.1 wrote (line 3) and overwrote with 2 (line 4)', '1.1 wrote x 2 before (line 4)'),
     by_hand('session 1, begin, r x 0, w x 1, r x 0, commit', 'A4 own write missed at 1.1 op 3', '1.1 reads x 0 (line 5), the initial value',
             '1.1 wrote x 1 before (line 4)'),
     by_hand('session 1, begin, w x 1, r x 2, w x 2, w x 3, commit', 'A4 own write missed at 1.1 op 2',
-            '1.1 reads x 2 (line 4), which 1.1 wrote (line 5) and overwrote with 3 (line 6)', '1.1 wrote x 1 before (line 3)'),
+            '1.1 reads x 2 (line 4), which 1.1 writes itself only later (line 5) and overwrote with 3 (line 6)', '1.1 wrote x 1 before (line 3)'),
     by_hand('session 1, begin, w x 1, abort, begin, w x 2, r x 9, commit', 'A4 own write missed at 1.2 op 2',
             '1.2 reads x 9 (line 7), which no transaction wrote', '1.2 wrote x 2 before (line 6)'),
-    by_hand('session 1, begin, r x 1, w x 1, commit', 'A5 future read at 1.1 op 1', '1.1 reads x 1 (line 3), which 1.1 wrote (line 4)'),
+    by_hand('session 1, begin, r x 1, w x 1, commit', 'A5 future read at 1.1 op 1', '1.1 reads x 1 (line 3), which 1.1 writes itself only later (line 4)'),
     by_hand('log 2, session 1, begin, r x 0, r x 1, w x 1, w x 2, unknown, session 2, begin, r x 2, commit', 'A5 future read at 1.1 op 2',
-            '1.1 reads x 1 (line 5), which 1.1 wrote (line 6) and overwrote with 2 (line 7) and did not learn whether it was committed (line 8)',
-            '1.1 read x 0 before (line 4)'),
+            '1.1 reads x 1 (line 5), which 1.1 writes itself only later (line 6) and overwrote with 2 (line 7), whose outcome is unknown (line 8)',
+            '1.1 read x 0 before (line 4), the initial value'),
     by_hand('session 1, begin, w x 1, commit, session 2, begin, r x 1, r y 0, r x 0, commit', 'A6 split read at 2.1 op 3',
-            '2.1 reads x 0 (line 9), the initial value', '2.1 read x 1 before (line 7)'),
+            '2.1 reads x 0 (line 9), the initial value', '2.1 read x 1 before (line 7), which 1.1 wrote (line 3)'),
     by_hand('session 1, begin, w x 1, commit, session 2, begin, r x 0, r x 0, r x 1, commit', 'A6 split read at 2.1 op 3',
-            '2.1 reads x 1 (line 9), which 1.1 wrote (line 3)', '2.1 read x 0 before (line 7)'),
+            '2.1 reads x 1 (line 9), which 1.1 wrote (line 3)', '2.1 read x 0 before (line 7), the initial value'),
     by_hand('session 1, begin, r x 0, w x 1, w x 2, commit, begin, commit, begin, r x 0, r x 0, w x 3, w x 4, commit',
             'A7 lost update of x from 0.0 by 1.1 and 1.3', '1.1 reads x 0 (line 3), the initial value', '1.1 overwrites it with 2 (line 5)',
             '1.3 reads x 0 (line 10), the initial value', '1.3 overwrites it with 4 (line 13)'),
     by_hand('log 2, session 1, begin, w a.b 1, w a.b 5, unknown, session 2, begin, r a.b 5, w a.b 6, commit, '
             'session 3, begin, w y 7, r a.b 5, w a.b 8, commit',
             'A7 lost update of a.b from 1.1 by 2.1 and 3.1',
-            '2.1 reads a.b 5 (line 9), which 1.1 wrote (line 5) and did not learn whether it was committed (line 6)',
+            '2.1 reads a.b 5 (line 9), which 1.1 wrote (line 5), whose outcome is unknown (line 6)',
             '2.1 overwrites it with 6 (line 10)',
-            '3.1 reads a.b 5 (line 15), which 1.1 wrote (line 5) and did not learn whether it was committed (line 6)',
+            '3.1 reads a.b 5 (line 15), which 1.1 wrote (line 5), whose outcome is unknown (line 6)',
             '3.1 overwrites it with 8 (line 16)'),
     # session, over an aborted one, and read
     by_hand('session 1, begin, r x 1, commit, begin, w x 9, abort, begin, w x 1, commit', 'A8 cycle of known edges', 'cycle 1.1 1.3 1.1',

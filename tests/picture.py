@@ -187,8 +187,7 @@ def fault_of_picture(boxes, arrows, text):
         if first == second and 'read' not in looks:
             return 'an arrow to itself: %s' % name
         for line in map(int, LINE.findall(name)) if 'otherwise' not in looks else ():
-            where = boxes if explained.CHOSEN.fullmatch(name.partition(': ')[2]) else (first, second)
-            if not any(line in boxes[it]['lines'] for it in where):
+            if not any(line in boxes[it]['lines'] for it in (first, second)):
                 return 'line %d is not marked: %s' % (line, name)
     for name, box in boxes.items():
         if not box['name']:

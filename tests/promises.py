@@ -75,8 +75,9 @@ def main():
     for (crate, name), path in sorted(of_all.items()):
         if not whole(path, crate):
             wrong.append('%s of %s: an old text does not stand once in its file' % (name, crate))
-    told = re.search(r'`crates/CRATE/must-fail/`: (\d+) in (\w+) crates.*?`edits/CRATE/`: (\d+)\.', page, re.S)
-    words = 'no one two three four five six seven eight nine ten eleven twelve thirteen fourteen fifteen sixteen seventeen eighteen nineteen twenty'.split()
+    told = re.search(r'`crates/CRATE/must-fail/`: (\d+) in ([\w-]+) crates.*?`edits/CRATE/`: (\d+)\.', page, re.S)
+    words = 'no one two three four five six seven eight nine ten eleven twelve thirteen fourteen fifteen sixteen seventeen eighteen nineteen'.split()
+    words += ['twenty'] + ['twenty-' + word for word in words[1:10]]
     numbers = (str(len(gate)), words[len({crate for crate, _ in gate})], str(len(beside)))
     if told is None or told.groups() != numbers:
         wrong.append('the page tells %s edits in the gate, in %s crates, and %s beside it; there are %s, in %s, and %s' % (*(told.groups() if told else ('no',) * 3), *numbers))

@@ -18,7 +18,8 @@ COUNTS = ('sessions', 'committed', 'aborted', 'unknown', 'taken', 'keys', 'opera
 NAME, KEY, NUMBER, LINE = r'(\d+\.\d+)', r'([A-Za-z0-9_.:/-]+)', r'(\d+)', r'\(line (\d+)\)'
 WHERE = r'(?:, (before|behind) this piece)?'
 READ = re.compile('%s reads %s %s %s%s' % (NAME, KEY, NUMBER, LINE, WHERE))
-WRITER = re.compile(', which %s wrote %s(?: and overwrote with %s %s)?(?: and aborted %s)?%s' % (NAME, LINE, NUMBER, LINE, LINE, WHERE))
+WRITER = re.compile(', which %s (wrote|writes itself only later) %s(?: and overwrote with %s %s)?(?: and aborted %s)?%s' % (NAME, LINE, NUMBER, LINE, LINE, WHERE))
+ELSEWHERE = re.compile(' to %s; %s wrote %s %s %s%s' % (KEY, NAME, KEY, NUMBER, LINE, WHERE))
 BACK = re.compile(', which goes back to %s(?=,)' % NUMBER)
 BUT = re.compile(', but (?=%s reads )' % NAME)
 OVERWRITES = re.compile(', and %s overwrites it with %s %s' % (NAME, NUMBER, LINE))
@@ -26,8 +27,10 @@ WROTE = re.compile(', and %s wrote %s %s %s' % (NAME, KEY, NUMBER, LINE))
 EDGE = re.compile('%s before %s: ' % (NAME, NAME))
 VERSIONS = re.compile('%s: %s, which %s wrote %s, comes before %s, which %s wrote %s' % (KEY, NUMBER, NAME, LINE, NUMBER, NAME, LINE))
 STEP = re.compile(r'\[(\d+)\] %s:' % VERSIONS.pattern)
-ORDER = re.compile('if %s:' % VERSIONS.pattern)
-OTHERWISE = re.compile('    (?:%s read %s %s%s(?:, which goes back to %s)?, so otherwise it|otherwise %s) would stand before %s, but'
+ORDER = re.compile('suppose %s:' % VERSIONS.pattern)
+LEAVES = re.compile('whichever of these versions came first, a cycle closes(, [0-9]+ in all; the first 1000 of them)?:')
+KEPT = re.compile(r', which (?:by \[%s\] comes|is supposed to come) before %s, which %s wrote %s' % (NUMBER, NUMBER, NAME, LINE))
+OTHERWISE = re.compile('    (?:%s read %s %s%s(?:, which goes back to %s)?, so )?otherwise %s would stand before %s, but'
                        % (NAME, NUMBER, LINE, WHERE, NUMBER, NAME, NAME))
 RANGE = re.compile(r'(\d+)\.(\d+)(?: to \d+\.(\d+))? \(lines (\d+) to (\d+)\)')
 
@@ -81,7 +84,7 @@ def made(rng):
 
 def strange(rng, key, past, aborted, later, wid, at, number, place):
     """An identity that a read of the key should not have named."""
-    kind = rng.choice(('older', 'older', 'aborted', 'later', 'later', 'initial', 'nothing'))
+    kind = rng.choice(('older', 'older', 'aborted', 'later', 'later', 'initial', 'nothing', 'elsewhere'))
     if kind == 'older':
         return rng.choice(past[key])
     if kind == 'aborted':
@@ -89,6 +92,8 @@ def strange(rng, key, past, aborted, later, wid, at, number, place):
     if kind == 'later':
         later.append((number, place, at, key))
         return wid
+    if kind == 'elsewhere':
+        return rng.choice([wid for other, wids in past.items() if other != key for wid in wids[1:]] or [wid])
     return 0 if kind == 'initial' or rng.random() < 0.7 else 100000
 
 
@@ -148,7 +153,7 @@ class Log:
 
     def __init__(self, text):
         self.lines = text.split('\n')
-        self.names, self.writes, self.spans, self.texts = {}, {}, {}, {}
+        self.names, self.writes, self.spans, self.keys = {}, {}, {}, {}
         number = place = 0
         for line, said in enumerate(self.lines, 1):
             words = said.split(' ')
@@ -162,6 +167,7 @@ class Log:
                 self.spans[name][1] = line
                 if words[0] == 'w':
                     self.writes[words[1], words[2]] = line
+                    self.keys[words[2]] = words[1]
 
     def said(self, line):
         return self.lines[int(line) - 1]
@@ -234,15 +240,16 @@ class Checked:
         self.must(found, 'no read: ' + self.rest)
         name, key, wid, line, where = found
         self.operation(name, 'r %s %s' % (key, wid), line, where)
-        self.origin(key, wid)
+        self.origin(key, wid, name, line)
         return name, key, wid
 
-    def origin(self, key, wid):
-        """Who wrote what was just told."""
+    def origin(self, key, wid, name=None, line=None):
+        """Who wrote what was just told, which this transaction reads in this line."""
         if self.word(', the initial value'):
             self.must(wid == '0', 'initial value')
         elif self.word(', which no transaction wrote'):
             self.must((key, wid) not in self.log.writes and wid != '0', 'somebody wrote it')
+            self.elsewhere(key, wid)
         elif self.word(', which goes back to the initial value'):
             self.must(wid != '0', 'it is the initial value')
         elif self.rest.startswith(', which goes back to '):
@@ -252,9 +259,19 @@ class Checked:
         else:
             found = self.take(WRITER)
             if found:
+                self.must((found[1] != 'wrote') == (found[0] == name and int(found[2]) > int(line)), 'written later or not')
                 self.writer(key, wid, *found)
 
-    def writer(self, key, wid, name, line, over, over_line, aborted, where):
+    def elsewhere(self, key, wid):
+        """The write of the identity to another key, where there is one."""
+        found = self.take(ELSEWHERE)
+        self.must((found is not None) == (wid in self.log.keys), 'written to another key or not')
+        if found:
+            same, name, other, written, line, where = found
+            self.must((same, written) == (key, wid), 'another version')
+            self.operation(name, 'w %s %s' % (other, wid), line, where)
+
+    def writer(self, key, wid, name, verb, line, over, over_line, aborted, where):
         self.operation(name, 'w %s %s' % (key, wid), line, where)
         self.writers = name
         if over:
@@ -281,12 +298,10 @@ class Checked:
         elif self.rest == second + ' is behind this piece':
             self.rest = ''
             self.placed(second, 'behind')
-        elif self.word('forced ['):
-            number, self.rest = self.rest[:-1], ''
-            self.must(number.isdigit() and int(number) <= steps, 'forced by no step')
-        elif VERSIONS.fullmatch(self.rest):
-            self.versions(*VERSIONS.fullmatch(self.rest).groups())
-            self.rest = ''
+        elif re.match('%s wrote %s %s %s' % (NAME, KEY, NUMBER, LINE), self.rest):
+            name, key, wid, line = self.take(re.compile('%s wrote %s %s %s' % (NAME, KEY, NUMBER, LINE)))
+            self.operation(name, 'w %s %s' % (key, wid), line)
+            self.must(self.kept(first, second, name, key, steps), 'no order')
         elif re.match('%s ended at ' % NAME, self.rest):
             found = self.take(re.compile('%s ended at %s %s, %s began at %s %s' % (NAME, NUMBER, LINE, NAME, NUMBER, LINE)))
             one, ended, end_line, other, began, begin_line = found
@@ -295,11 +310,23 @@ class Checked:
             self.must(self.log.said(begin_line) == 'begin ' + began and self.log.names[int(begin_line)] == other, 'begin')
             self.must(int(ended) < int(began), 'not earlier')
         else:
-            self.reason(first, second)
+            self.reason(first, second, steps)
         return first, second
 
-    def reason(self, first, second):
+    def kept(self, first, second, name, key, steps):
+        """Whether it is told that what the first one has of a key comes before what the second one wrote."""
+        found = self.take(KEPT)
+        if found:
+            number, wid, other, line = found
+            self.must((name, other) == (first, second), 'another edge')
+            self.must(number is None or 1 <= int(number) <= steps, 'kept by no step')
+            self.operation(other, 'w %s %s' % (key, wid), line)
+        return found is not None
+
+    def reason(self, first, second, steps):
         name, key, wid = self.read()
+        if self.kept(first, second, name, key, steps):
+            return
         found = self.take(OVERWRITES)
         if found:
             other, new, line = found
@@ -332,7 +359,10 @@ class Checked:
             name, did, key, wid, line = self.take(re.compile('%s (wrote|read) %s %s before %s' % (NAME, KEY, NUMBER, LINE)))
             self.must(behind and behind[:2] == (name, key), 'of another')
             self.operation(name, '%s %s %s' % ('w' if did == 'wrote' else 'r', key, wid), line)
-            self.origin(key, wid)
+            if did == 'read':
+                told = self.rest
+                self.origin(key, wid, name, line)
+                self.must(self.rest != told, 'it is not told who wrote that')
         return behind
 
     def all(self, lines, code):
@@ -341,7 +371,7 @@ class Checked:
         for text in lines:
             bare = text.lstrip(' ')
             self.rest = bare
-            if text.startswith('known as: ') or text.endswith('the first 1000 of them:'):
+            if text.startswith('known as: ') or LEAVES.fullmatch(text):
                 continue
             if STEP.fullmatch(text):
                 number, key, *both = STEP.fullmatch(text).groups()
@@ -350,6 +380,7 @@ class Checked:
                 self.versions(key, *both)
             elif OTHERWISE.fullmatch(text):
                 late, wid, line, where, back, other, target = OTHERWISE.fullmatch(text).groups()
+                self.must(late in (None, other), 'another stands elsewhere')
                 if late:
                     self.operation(late, 'r %s %s' % (key, wid), line, where)
                 self.placed(target, None)

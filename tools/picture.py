@@ -33,7 +33,7 @@ MEANINGS = {
           'is no such order.',
     'A9': 'An arrow leads from a transaction to one that has to stand behind it in each serial order. These arrows run in a circle, so there '
           'is no such order. Why the forced ones have to hold, the steps below say.',
-    told.TREE: 'The log does not say which of some versions came first. Whichever order of them is assumed, a circle closes.',
+    told.TREE: 'The log does not say which of some versions came first. Whichever order of them is supposed, a circle closes.',
 }
 KINDS = {
     'session': 'both are of one session, in this order',
@@ -43,7 +43,7 @@ KINDS = {
                      'read it',
     'moments': 'the first one was committed before the second one began',
     'forced': 'a step of pruning keeps it: the other way is impossible',
-    'decided': 'it holds in this branch: an order of two versions is assumed',
+    'decided': 'it holds in this branch: an order of two versions is supposed',
     'otherwise': 'what would hold the other way, and cannot',
 }
 STEP = ('Suppose that of %s the version of %s came before that of %s. Then %s would have to stand before %s '
@@ -103,33 +103,24 @@ class Scene:
                 self.tell(name, line, support=arrow.support)
         self.arrows.append(arrow)
 
-    def add_edges(self, edges, steps, look='bold', support=False):
+    def add_edges(self, edges, look='bold', support=False):
         """The arrows of edges, and for those that rest on an order of versions what their first transaction read."""
         for ordinal, edge in enumerate(edges, 1):
-            arrow = self.arrow_of(edge, steps)
+            arrow = self.arrow_of(edge)
             arrow.look, arrow.support, arrow.ordinal = look, support, ordinal if look == 'bold' and len(edges) > 1 else None
             self.add(arrow)
             for name in (edge.first, edge.second):
                 self.tell(name, *self.history.lines_of(name, edge.lines), support=support)
         for edge in edges:
-            if edge.kind in ('forced', 'decided') and look == 'bold':
-                self.add_ground(edge.first, self.key_of(edge, steps))
-            if edge.kind == 'decided':
-                _, _, writer, line, *_ = edge.parts
-                self.tell(writer, int(line), support=True)
+            if edge.key and look == 'bold':
+                self.add_ground(edge.first, edge.key)
 
-    @staticmethod
-    def key_of(edge, steps):
-        return steps[edge.step].key if edge.kind == 'forced' else edge.parts[0]
-
-    def arrow_of(self, edge, steps):
-        """An edge as an arrow between the operations that its reason names, or that its order of versions is about."""
+    def arrow_of(self, edge):
+        """An edge as an arrow between the operations that are told of it."""
         history, said = self.history, '%s before %s: %s' % (edge.first, edge.second, edge.said)
         ends = [(history.lines_of(name, edge.lines) or [None])[-1] for name in (edge.first, edge.second)]
-        if edge.kind in ('forced', 'decided'):
-            ends = self.ends_by_key(edge.first, edge.second, self.key_of(edge, steps))
         seen, new = (history.at.get(line, (None, '', '')) for line in ends)
-        words = words_of(edge, seen[1:], new[1:], steps)
+        words = words_of(edge, seen[1:], new[1:])
         link = '#step-%d' % edge.step if edge.step else ''
         return Arrow(edge.first, edge.second, edge.kind, words, said, *ends, number=edge.line, link=link)
 
@@ -203,7 +194,7 @@ class Scene:
         return {'otherwise' if arrow.look == 'otherwise' else arrow.kind for arrow in self.arrows}
 
 
-def words_of(edge, seen, new, steps):
+def words_of(edge, seen, new):
     """What stands on an arrow, with the key and the identity at each of its ends."""
     if edge.kind == 'session':
         return edge.said
@@ -217,10 +208,9 @@ def words_of(edge, seen, new, steps):
         said = 'moments: %s < %s' % edge.parts
         return said if len(said) <= 26 else 'ended %d before' % (int(edge.parts[1]) - int(edge.parts[0]))
     if edge.kind == 'forced':
-        return 'forced [%d]: %s' % (edge.step, short(steps[edge.step].key))
+        return 'step [%d]: %s %s before %s' % (edge.step, short(edge.key, 14), seen[1], new[1])
     if edge.kind == 'decided':
-        key, earlier, _, _, later, *_ = edge.parts
-        return 'assumed: %s %s before %s' % (short(key, 14), earlier, later)
+        return 'supposed: %s %s before %s' % (short(edge.key, 14), seen[1], new[1])
     return short(edge.said, 30)
 
 
@@ -282,33 +272,33 @@ def scene_of_update(history, explanation):
     return scene
 
 
-def scenes_of_cycle(history, edges, steps, title, support=()):
+def scenes_of_cycle(history, edges, title, support=()):
     """The picture of a cycle, with the walks of these steps where it stays small, or parts of a long one."""
     if len(edges) > MOST_EDGES:
-        return [part_of_cycle(history, edges, steps, title, at) for at in range(0, len(edges), PART)]
+        return [part_of_cycle(history, edges, title, at) for at in range(0, len(edges), PART)]
     scene, with_support = Scene(history, title), Scene(history, title)
     for it in (scene, with_support):
-        it.add_edges(edges, steps)
+        it.add_edges(edges)
     drawn = {(edge.first, edge.second) for edge in edges}
     for step in support:
-        with_support.add_edges([edge for edge in step.walk if (edge.first, edge.second) not in drawn], steps, 'thin', True)
+        with_support.add_edges([edge for edge in step.walk if (edge.first, edge.second) not in drawn], 'thin', True)
         drawn |= {(edge.first, edge.second) for edge in step.walk}
     return [with_support if len(with_support.supports) <= MOST_SUPPORT else scene]
 
 
-def part_of_cycle(history, edges, steps, title, at):
+def part_of_cycle(history, edges, title, at):
     """The picture of some edges, of which the first one has this place."""
     part = edges[at:at + PART]
     scene = Scene(history, '%s, edges %d to %d of %d' % (title, at + 1, at + len(part), len(edges)))
-    scene.add_edges(part, steps)
+    scene.add_edges(part)
     for ordinal, arrow in enumerate([arrow for arrow in scene.arrows if arrow.look == 'bold'], at + 1):
         arrow.ordinal = ordinal
     return scene
 
 
-def scenes_of_step(history, step, steps):
+def scenes_of_step(history, step):
     """What a step rests on: the walk, and the edge that the other way would have."""
-    found = scenes_of_cycle(history, step.walk, steps, 'Step %d' % step.number)
+    found = scenes_of_cycle(history, step.walk, 'Step %d' % step.number)
     scene, said = found[-1], 'otherwise %s would stand before %s: %s' % (step.late, step.first, step.said)
     ends = scene.ends_by_key(step.late, step.first, step.key)
     scene.add(Arrow(step.late, step.first, 'forced', 'otherwise: %s' % short(step.key), said, *ends, look='otherwise', number=step.line))
@@ -363,7 +353,7 @@ class Page:
             kind, key, wid = self.history.at.get(int(found[1]), (None, None, None))
             return element('span', found[0], class_='at', data_line=found[1], data_key=key, data_wid=wid)
         inner = told.LINE.sub(of_log, escape(said))
-        inner = re.sub(r'(forced )\[([0-9]+)\]$', r'\1<a href="#step-\2">[\2]</a>', inner)
+        inner = re.sub(r'(, which by )\[([0-9]+)\]', r'\1<a href="#step-\2">[\2]</a>', inner)
         number_of = '<b class="ordinal">%d</b> ' % ordinal if ordinal else ''
         return element(tag, number_of + inner, class_='told-line', data_edge=number)
 
@@ -373,7 +363,7 @@ class Page:
 
     def step(self, step, draw):
         words = STEP % tuple(element('b', escape(it)) for it in (step.key, step.second, step.first, step.late, step.first, step.first, step.late))
-        drawing = self.pictures_of(scenes_of_step(self.history, step, self.steps)) if draw else ''
+        drawing = self.pictures_of(scenes_of_step(self.history, step)) if draw else ''
         inner = element('div', element('p', words) + self.with_lines(drawing, self.edges(step.walk)), id='step-%d' % step.number)
         return element('details', element('summary', escape(re.sub(', but$', '', step.said)), data_edge=step.line) + inner, class_='step')
 
@@ -406,14 +396,13 @@ class Page:
         return list(found.values())
 
     def circle(self, place, its, draw):
-        """One circle of a tree: its picture and its lines, and what is assumed."""
+        """One circle of a tree: its picture and its lines, and what is supposed."""
         cycle = its[0][1]
-        named = dict.fromkeys(edge.parts for edge in cycle.edges if edge.kind == 'decided')
-        assumed = ' and '.join('of %s the version of %s came before that of %s' % (key, first, second)
-                               for key, _, first, _, _, second, _ in named)
-        words = 'where %s' % assumed if named else 'whatever is assumed'
+        named = dict.fromkeys((edge.key, edge.parts[2], edge.parts[4], edge.second) for edge in cycle.edges if edge.kind == 'decided')
+        supposed = ', and '.join('%s %s came before %s, which %s wrote' % it for it in named)
+        words = 'where %s' % supposed if named else 'whatever is supposed'
         words += '; %d of the branches that are told end in it' % len(its) if len(its) > 1 else ''
-        drawing = self.pictures_of(scenes_of_cycle(self.history, cycle.edges, self.steps, 'Circle %d' % place)) if draw else ''
+        drawing = self.pictures_of(scenes_of_cycle(self.history, cycle.edges, 'Circle %d' % place)) if draw else ''
         return self.with_lines(drawing, self.edges(cycle.edges)), escape(words)
 
     def tree_section(self):
@@ -436,7 +425,7 @@ class Page:
         if it.code == told.TREE:
             return self.tree_section()
         if it.code in ('A8', 'A9'):
-            scenes = scenes_of_cycle(history, it.cycle.edges, self.steps, 'The circle', it.steps)
+            scenes = scenes_of_cycle(history, it.cycle.edges, 'The circle', it.steps)
             lines = self.edges(it.cycle.edges)
         else:
             scenes = [scene_of_update(history, it) if it.code == 'A7' else scene_of_read(history, it)]

@@ -14,16 +14,19 @@ EDGE = re.compile('%s before %s: (.+)' % (NODE, NODE))
 VERSION = r'([0-9]+), which %s wrote \(line %s\)' % (NODE, NUMBER)
 VERSIONS = '%s: %s, comes before %s' % (KEY, VERSION, VERSION)
 STEP = re.compile(r'\[%s\] %s:' % (NUMBER, VERSIONS))
-OTHERWISE = re.compile(r'    (?:%s read [0-9]+ \(line %s\)(?:, which goes back to [0-9]+)?, so otherwise it|otherwise %s) would stand before %s, but'
+OTHERWISE = re.compile(r'    (?:%s read [0-9]+ \(line %s\)(?:, which goes back to [0-9]+)?, so )?otherwise %s would stand before %s, but'
                        % (NODE, NUMBER, NODE, NODE))
 CYCLE = re.compile('cycle from %s:' % NODE)
-ORDER = re.compile('if %s:' % VERSIONS)
+ORDER = re.compile('suppose %s:' % VERSIONS)
 KNOWN = re.compile('known as: (.+)')
-LEAVES = re.compile('%s cubes are refuted by a cycle; the first 1000 of them:' % NUMBER)
+LEAVES = re.compile('whichever of these versions came first, a cycle closes(?:, %s in all; the first 1000 of them)?:' % NUMBER)
+# What is said of an edge by an order of versions: what its first transaction has of the key, and what the second one wrote.
+KEPT = r'%s (?:reads|wrote) %s ([0-9]+) \(line %s\), which %%s before %s' % (NODE, KEY, NUMBER, VERSION)
 # Where a line of an anomaly names a transaction.
-TELLS = re.compile('(?:^|, which )%s (?=reads |read |wrote |overwrites )' % NODE)
+TELLS = re.compile('(?:^|, which |; )%s (?=reads |read |wrote |writes |overwrites )' % NODE)
 # The kinds of what is said of an edge, by its form; the first that fits.
-KINDS = [('session', re.compile('session %s' % NUMBER)), ('forced', re.compile(r'forced \[%s\]' % NUMBER)), ('decided', re.compile(VERSIONS)),
+KINDS = [('session', re.compile('session %s' % NUMBER)), ('forced', re.compile(KEPT % r'by \[([0-9]+)\] comes')),
+         ('decided', re.compile(KEPT % 'is supposed to come')),
          ('read', re.compile('.+ reads .+, which [1-9][0-9.]+ wrote .+')),
          ('anti-dependency', re.compile('.+ reads .+, and .+ overwrites it with .+')),
          ('version order', re.compile('.+ reads %s [0-9]+ .+, (?:the|which goes back to the) initial value, and .+ wrote .+' % KEY)),
@@ -54,7 +57,12 @@ class Edge:
     @property
     def step(self):
         """The number of the step that keeps it."""
-        return int(self.parts[0]) if self.kind == 'forced' else None
+        return int(self.parts[4]) if self.kind == 'forced' else None
+
+    @property
+    def key(self):
+        """The key of which the order of two versions keeps it."""
+        return self.parts[1] if self.kind in ('forced', 'decided') else None
 
 
 @dataclass
@@ -161,7 +169,7 @@ class Reader:
                 self.at -= 1
                 return found
             line, number, key, _, first, _, _, second, _ = step
-            late = other[1] or other[3]
+            late = other[3]
             found.append(Step(line, int(number), key, first, second, late, ' '.join(part.strip() for part in self.lines[line - 1:line + 1]), self.edges()))
 
     def leaves(self):
@@ -212,8 +220,8 @@ def read(text):
         if it.code == 'A9':
             it.cycle = reader.cycle()
         else:
-            count = reader.next(LEAVES)
-            it.count, it.leaves = count and int(count[1]), reader.leaves()
+            several = reader.next(LEAVES)
+            it.count, it.leaves = several and several[1] and int(several[1]), reader.leaves()
     else:
         reader.at = len(reader.lines)
     if reader.at < len(reader.lines):

@@ -6,37 +6,37 @@ use Rattle.std.proofs.lemmas.List.{get_or-set_same, get_or-set_other, length-set
 use Rattle.serializability.specs.declared.event.Event.{Event}
 use Rattle.serializability.specs.Log.{Log}
 use Rattle.serializability.specs.Anomalies.{event_anomaly}
-use Rattle.anomalies.specs.declared.reads.Mark.{Mark}
+use Rattle.anomalies.specs.declared.reads.LastUse.{LastUse}
 use Rattle.anomalies.specs.declared.reads.Usage.{Usage}
 use Rattle.anomalies.specs.Usage.{key_of, IsUsage, used_by, used_after, AreBelow, AreMarked}
 use Rattle.anomalies.proofs.Usages.{usage_more, usage_other}
 
 -- ---- before the first operation
-none_used : (v : ℕ) (o : Option Mark) → IfSome o (λ mark. mark.node < v) → used_by v o ≡ None
+none_used : (v : ℕ) (o : Option LastUse) → IfSome o (λ mark. mark.node < v) → used_by v o ≡ None
 none_used v None h = refl
 none_used v (Some mark) h = cond-false (eqb mark.node v) (Some mark.used) None (ne_eqb mark.node v (λ e. omega (arith, h, e)))
 
-still_below : (v : ℕ) (o : Option Mark) → IfSome o (λ mark. mark.node < v) → IfSome o (λ mark. mark.node < v + 1)
+still_below : (v : ℕ) (o : Option LastUse) → IfSome o (λ mark. mark.node < v) → IfSome o (λ mark. mark.node < v + 1)
 still_below v None h = h
 still_below v (Some mark) h = omega (arith, h)
 
 nothing_done : (x : ℕ) → IsUsage x [] None
 nothing_done x = record { own = refl; reads = λ _ w. refl }
 
-pub marked_none : (v : ℕ) (marks : List (Option Mark)) → AreBelow v marks → AreMarked v [] marks
+pub marked_none : (v : ℕ) (marks : List (Option LastUse)) → AreBelow v marks → AreMarked v [] marks
 marked_none v marks h = record {
   usages = λ x lt. subst (IsUsage x []) (sym (none_used v (get_or marks x None) (h x))) (nothing_done x);
   below = λ x. still_below v (get_or marks x None) (h x);
 }
 
 -- ---- one operation further
-abbrev pub mark_of : ℕ → List (Option Mark) → Event → Mark
+abbrev pub mark_of : ℕ → List (Option LastUse) → Event → LastUse
 mark_of v marks e = record { node = v; used = used_after (used_by v (get_or marks (key_of e) None)) e }
 
 own_mark : (v : ℕ) (u : Usage) → used_by v (Some (record { node = v; used = u })) ≡ Some u
 own_mark v u = cond-true (eqb v v) (Some u) None (eq-eqb v v refl)
 
-pub marked_more : (log : Log) (v : ℕ) (before behind : List Event) (e : Event) (marks : List (Option Mark)) → AreMarked v before marks → key_of e < length marks → event_anomaly log v before e behind ≡ None → AreMarked v (before ++ e ∷ []) (set marks (key_of e) (Some (mark_of v marks e)))
+pub marked_more : (log : Log) (v : ℕ) (before behind : List Event) (e : Event) (marks : List (Option LastUse)) → AreMarked v before marks → key_of e < length marks → event_anomaly log v before e behind ≡ None → AreMarked v (before ++ e ∷ []) (set marks (key_of e) (Some (mark_of v marks e)))
 marked_more log v before behind e marks h lt none =
     let k = key_of e in
     let m = mark_of v marks e in
@@ -62,7 +62,7 @@ marked_more log v before behind e marks h lt none =
     }
 
 -- the marks of a node, which is the one with this number
-pub below_next : (u v : ℕ) (old new : List (Option Mark)) → u ≡ v → old ≡ new → AreBelow (u + 1) new → AreBelow (v + 1) old
+pub below_next : (u v : ℕ) (old new : List (Option LastUse)) → u ≡ v → old ≡ new → AreBelow (u + 1) new → AreBelow (v + 1) old
 below_next u v old new same is h =
-    let P : ℕ → List (Option Mark) → Type 0 = λ n l. AreBelow (n + 1) l in
+    let P : ℕ → List (Option LastUse) → Type 0 = λ n l. AreBelow (n + 1) l in
     subst (λ n. P n old) same (subst (P u) (sym is) h)

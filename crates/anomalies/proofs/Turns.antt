@@ -8,7 +8,7 @@ use Rattle.serializability.specs.declared.anomaly.Anomaly.TheVariants as anomaly
 use Rattle.serializability.specs.declared.anomaly.ReadAnomaly.{ReadAnomaly}
 use Rattle.serializability.specs.Log.{Log}
 use Rattle.serializability.specs.Anomalies.{event_anomaly, anomaly_at}
-use Rattle.anomalies.specs.declared.reads.Mark.{Mark}
+use Rattle.anomalies.specs.declared.reads.LastUse.{LastUse}
 use Rattle.anomalies.specs.declared.reads.Usage.{Usage}
 use Rattle.anomalies.specs.Usage.{StandsAt, key_of, IsUsage, used_by, used_after, AreMarked}
 use Rattle.anomalies.proofs.Sound.{IsSound}
@@ -39,7 +39,7 @@ stands_at log v ops i d t = record {
 }
 
 -- what is read of the marks for it, at any default
-pub record Looked (log : Log) (v : ℕ) (ops : List Event) (i : ℕ) (d : Event) (marks : List (Option Mark)) (key : ℕ) (mark : Option Mark) (used : Option Usage) : Type 0 where
+pub record Looked (log : Log) (v : ℕ) (ops : List Event) (i : ℕ) (d : Event) (marks : List (Option LastUse)) (key : ℕ) (mark : Option LastUse) (used : Option Usage) : Type 0 where
   pub turn : Turn log v ops i
   pub sound : IsSound log
   pub keys : length marks ≡ log.keys
@@ -47,16 +47,16 @@ pub record Looked (log : Log) (v : ℕ) (ops : List Event) (i : ℕ) (d : Event)
   pub key_is : key ≡ key_of (get_or ops i d)
   pub used_is : used ≡ used_by v (get_or marks key mark)
 
-in_marks : (log : Log) (v : ℕ) (ops : List Event) (i : ℕ) (d : Event) (marks : List (Option Mark)) (key : ℕ) (mark : Option Mark) (used : Option Usage) → Looked log v ops i d marks key mark used → key_of (get_or ops i d) < length marks
+in_marks : (log : Log) (v : ℕ) (ops : List Event) (i : ℕ) (d : Event) (marks : List (Option LastUse)) (key : ℕ) (mark : Option LastUse) (used : Option Usage) → Looked log v ops i d marks key mark used → key_of (get_or ops i d) < length marks
 in_marks log v ops i d marks key mark used l = omega (arith, key_within log v ops i d l.sound l.turn, l.keys)
 
-used_here : (log : Log) (v : ℕ) (ops : List Event) (i : ℕ) (d : Event) (marks : List (Option Mark)) (key : ℕ) (mark : Option Mark) (used : Option Usage) → Looked log v ops i d marks key mark used → used ≡ used_by v (get_or marks (key_of (get_or ops i d)) None)
+used_here : (log : Log) (v : ℕ) (ops : List Event) (i : ℕ) (d : Event) (marks : List (Option LastUse)) (key : ℕ) (mark : Option LastUse) (used : Option Usage) → Looked log v ops i d marks key mark used → used ≡ used_by v (get_or marks (key_of (get_or ops i d)) None)
 used_here log v ops i d marks key mark used l =
     l.used_is
     ∙ ap (λ k. used_by v (get_or marks k mark)) l.key_is
     ∙ ap (used_by v) (get_or_default marks (key_of (get_or ops i d)) mark None (in_marks log v ops i d marks key mark used l))
 
-pub scanned : (log : Log) (v : ℕ) (ops : List Event) (i : ℕ) (d : Event) (marks : List (Option Mark)) (key : ℕ) (mark : Option Mark) (used : Option Usage) (result : Option ReadAnomaly) → Looked log v ops i d marks key mark used → ((before behind : List Event) → StandsAt log v before (get_or ops i d) behind → IsUsage (key_of (get_or ops i d)) before used → result ≡ event_anomaly log v before (get_or ops i d) behind) → result ≡ event_anomaly log v (take i ops) (get_or ops i d) (drop (i + 1) ops)
+pub scanned : (log : Log) (v : ℕ) (ops : List Event) (i : ℕ) (d : Event) (marks : List (Option LastUse)) (key : ℕ) (mark : Option LastUse) (used : Option Usage) (result : Option ReadAnomaly) → Looked log v ops i d marks key mark used → ((before behind : List Event) → StandsAt log v before (get_or ops i d) behind → IsUsage (key_of (get_or ops i d)) before used → result ≡ event_anomaly log v before (get_or ops i d) behind) → result ≡ event_anomaly log v (take i ops) (get_or ops i d) (drop (i + 1) ops)
 scanned log v ops i d marks key mark used result l h =
     let usage = l.marked.usages (key_of (get_or ops i d)) (in_marks log v ops i d marks key mark used l) in
     h (take i ops) (drop (i + 1) ops) (stands_at log v ops i d l.turn)
@@ -74,12 +74,12 @@ none_here log v ops i d t e =
     first_behind-more (anomaly_at log) v ops i d t.within
     ∙ ap (λ o. option_or (option_map (λ kind. anomaly.Read kind v (length (take i ops) + 1)) o) (first_behind (anomaly_at log) v ops (i + 1))) (sym e)
 
-pub marked_next : (log : Log) (v : ℕ) (ops : List Event) (i : ℕ) (d : Event) (marks : List (Option Mark)) (key : ℕ) (mark : Option Mark) (used : Option Usage) (after : Usage) → Looked log v ops i d marks key mark used → None ≡ event_anomaly log v (take i ops) (get_or ops i d) (drop (i + 1) ops) → after ≡ used_after used (get_or ops i d) → AreMarked v (take (i + 1) ops) (set marks key (Some (record { node = v; used = after })))
+pub marked_next : (log : Log) (v : ℕ) (ops : List Event) (i : ℕ) (d : Event) (marks : List (Option LastUse)) (key : ℕ) (mark : Option LastUse) (used : Option Usage) (after : Usage) → Looked log v ops i d marks key mark used → None ≡ event_anomaly log v (take i ops) (get_or ops i d) (drop (i + 1) ops) → after ≡ used_after used (get_or ops i d) → AreMarked v (take (i + 1) ops) (set marks key (Some (record { node = v; used = after })))
 marked_next log v ops i d marks key mark used after l none is =
     let e = get_or ops i d in
     let new : after ≡ (mark_of v marks e).used = is ∙ ap (λ u. used_after u e) (used_here log v ops i d marks key mark used l) in
     let next = marked_more log v (take i ops) (drop (i + 1) ops) e marks l.marked (in_marks log v ops i d marks key mark used l) (sym none) in
     let written : set marks key (Some (record { node = v; used = after })) ≡ set marks (key_of e) (Some (mark_of v marks e)) =
     ap (λ k. set marks k (Some (record { node = v; used = after }))) l.key_is ∙ ap (λ u. set marks (key_of e) (Some (record { node = v; used = u }))) new in
-    let P : List (Option Mark) → Type 0 = λ m. AreMarked v (take (i + 1) ops) m in
+    let P : List (Option LastUse) → Type 0 = λ m. AreMarked v (take (i + 1) ops) m in
     subst P (sym written) (subst (λ l. AreMarked v l (set marks (key_of e) (Some (mark_of v marks e)))) (sym (take_more ops i d l.turn.within)) next)

@@ -1,5 +1,7 @@
 -- The nodes that write a key and read it from one node.
-use Rattle.std.specs.Prelude.{◌≡◌, ℕ, ◌<◌, ◌≤◌, ◌==◌, nat_lt, false, if◌then◌else◌, List, [], ◌∷◌, length, map, slice_index_or, Option, None, Some, IfSome, option_and_then}
+use Rattle.std.specs.Prelude.{◌≡◌, ℕ, ◌<◌, ◌≤◌, ◌==◌, nat_lt, false, if◌then◌else◌, List, [], ◌∷◌}
+use Rattle.std.specs.Prelude.{length, map, slice_index_or, Option, None, Some, IfSome}
+use Rattle.std.specs.Prelude.{option_and_then}
 use Rattle.std.specs.List.{filter, flat_map}
 use Rattle.std.specs.Option.{option_map, option_map_or}
 use Rattle.serializability.specs.declared.anomaly.Anomaly.{Anomaly}
@@ -12,7 +14,8 @@ use Rattle.anomalies.specs.declared.updates.Updater.{Updater}
 
 -- the lost updates of a key: by the node read from, and the two nodes
 abbrev pub lost_updates_of : Log → ℕ → List Anomaly
-lost_updates_of log x = flat_map (λ u. map (lost_update x u) (pairs_of (filter (updates log x u) (committed log)))) (all_nodes log)
+lost_updates_of log x = flat_map (λ u. map (lost_update x u)
+    (pairs_of (filter (updates log x u) (committed log)))) (all_nodes log)
 
 -- the lost update of two nodes that clash
 abbrev pub lost_by : ℕ → Clash → Anomaly
@@ -38,14 +41,18 @@ updater_of x (Some updater) = if updater.key == x then Some updater.node else No
 
 -- each entry is of a key below x
 abbrev pub AreOfKeysBelow : ℕ → List (Option Updater) → Type 0
-AreOfKeysBelow x updaters = (u : ℕ) → IfSome (slice_index_or updaters u None) (λ updater. updater.key < x)
+AreOfKeysBelow x updaters = (u : ℕ) → IfSome (slice_index_or updaters u None)
+    (λ updater. updater.key < x)
 
 -- the entry of each node u is the first of these nodes that reads x from u
-pub record AreFirst (log : Log) (x : ℕ) (nodes : List ℕ) (updaters : List (Option Updater)) : Type 0 where
-  pub each : (u : ℕ) → u < length updaters → updater_of x (slice_index_or updaters u None) ≡ first_of (readers_from log x u nodes)
+pub record AreFirst (log : Log) (x : ℕ) (nodes : List ℕ)
+    (updaters : List (Option Updater)) : Type 0 where
+  pub each : (u : ℕ) → u < length updaters → updater_of x
+      (slice_index_or updaters u None) ≡ first_of (readers_from log x u nodes)
 
 abbrev pub clash_from : Log → ℕ → List ℕ → ℕ → ℕ → Option Clash
-clash_from log x earlier v u = option_map (λ first. record { source = u; first = first; second = v }) (first_of (readers_from log x u earlier))
+clash_from log x earlier v u = option_map (λ first.
+    record { source = u; first = first; second = v }) (first_of (readers_from log x u earlier))
 
 -- node v, and the first of the earlier nodes that reads x from the same node
 abbrev pub clash_with : Log → ℕ → List ℕ → ℕ → Option Clash

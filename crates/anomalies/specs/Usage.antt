@@ -1,5 +1,6 @@
 -- What a transaction did to a key, by its operations so far.
-use Rattle.std.specs.Prelude.{◌≡◌, ℕ, ◌+◌, ◌<◌, ◌≤◌, ◌==◌, not, Bool, false, if◌then◌else◌, List, ◌∷◌, ◌++◌, length, slice_index_or, Option, None, Some, IfSome}
+use Rattle.std.specs.Prelude.{◌≡◌, ℕ, ◌+◌, ◌<◌, ◌≤◌, ◌==◌, not, Bool, false, if◌then◌else◌, List}
+use Rattle.std.specs.Prelude.{◌∷◌, ◌++◌, length, slice_index_or, Option, None, Some, IfSome}
 use Rattle.std.specs.List.{list_any}
 use Rattle.serializability.specs.declared.event.Event.{Event}
 use Rattle.serializability.specs.declared.event.Event.TheVariants.{Read, Write}
@@ -8,12 +9,13 @@ use Rattle.serializability.specs.declared.anomaly.ReadAnomaly.TheVariants.{Split
 use Rattle.serializability.specs.Log.{Log}
 use Rattle.serializability.specs.Reads.{last_write}
 use Rattle.serializability.specs.Anomalies.{is_other_read}
-use Rattle.anomalies.specs.declared.reads.Mark.{Mark}
+use Rattle.anomalies.specs.declared.reads.LastUse.{LastUse}
 use Rattle.anomalies.specs.declared.reads.Usage.{Usage}
 use Rattle.anomalies.specs.declared.reads.Usage.TheVariants as usage
 
 -- an operation of node v, with those before it and those behind it
-pub record StandsAt (log : Log) (v : ℕ) (before : List Event) (event : Event) (behind : List Event) : Type 0 where
+pub record StandsAt (log : Log) (v : ℕ) (before : List Event) (event : Event)
+    (behind : List Event) : Type 0 where
   pub low : 0 < v
   pub high : v ≤ log.nodes
   pub stands : log.ops v ≡ before ++ event ∷ behind
@@ -38,10 +40,12 @@ names_other None w = false
 names_other (Some (usage.Read first)) w = not (first == w)
 names_other (Some (usage.Wrote own)) w = false
 
--- these operations did this to key x, and as long as they do not write it, their reads of it name one identity
+-- these operations did this to key x, and as long as they do not write it, their reads of it name
+-- one identity
 pub record IsUsage (x : ℕ) (ops : List Event) (used : Option Usage) : Type 0 where
   pub own : last_write x ops ≡ own_write used
-  pub reads : own_write used ≡ None → (w : ℕ) → list_any (is_other_read x w) ops ≡ names_other used w
+  pub reads : own_write used ≡ None → (w : ℕ) → list_any
+      (is_other_read x w) ops ≡ names_other used w
 
 -- what an operation on the key makes of it
 abbrev pub used_after : Option Usage → Event → Usage
@@ -51,15 +55,15 @@ used_after (Some (usage.Read first)) (Read x w) = usage.Read w
 used_after (Some (usage.Wrote own)) (Read x w) = usage.Wrote own
 
 -- what a key's mark says of node v: nothing, where it is another node's
-abbrev pub used_by : ℕ → Option Mark → Option Usage
+abbrev pub used_by : ℕ → Option LastUse → Option Usage
 used_by v None = None
 used_by v (Some mark) = if mark.node == v then Some mark.used else None
 
 -- each mark is of a node below v
-abbrev pub AreBelow : ℕ → List (Option Mark) → Type 0
+abbrev pub AreBelow : ℕ → List (Option LastUse) → Type 0
 AreBelow v marks = (x : ℕ) → IfSome (slice_index_or marks x None) (λ mark. mark.node < v)
 
 -- each key's mark says what these operations of node v did to it
-pub record AreMarked (v : ℕ) (ops : List Event) (marks : List (Option Mark)) : Type 0 where
+pub record AreMarked (v : ℕ) (ops : List Event) (marks : List (Option LastUse)) : Type 0 where
   pub usages : (x : ℕ) → x < length marks → IsUsage x ops (used_by v (slice_index_or marks x None))
   pub below : AreBelow (v + 1) marks

@@ -5,9 +5,11 @@ ghost use Rattle.std.specs.Option.{option_or};
 ghost use Rattle.serializability.specs.declared.event.Event.{Event};
 ghost use Rattle.serializability.specs.declared.event.Event.TheVariants as event;
 ghost use Rattle.serializability.specs.Reads.{last_write};
-ghost use Rattle.serializability.specs.Anomalies.{external_anomaly, read_anomaly, event_anomaly, places_from, places, anomaly_at, first_some};
+ghost use Rattle.serializability.specs.Anomalies.{external_anomaly, read_anomaly, event_anomaly};
+ghost use Rattle.serializability.specs.Anomalies.{places_from, places, anomaly_at, first_some};
 ghost use Rattle.log_definitions.specs.Numbers.{log_of, IsWellFormedList};
-ghost use Rattle.anomalies.specs.Usage.{StandsAt, IsUsage, AreBelow, key_of, used_by, used_after, split_anomaly};
+ghost use Rattle.anomalies.specs.Usage.{StandsAt, IsUsage, AreBelow, key_of, used_by, used_after};
+ghost use Rattle.anomalies.specs.Usage.{split_anomaly};
 
 use session_history::{Anomaly, Event, History, NodeIx, ReadAnomaly};
 use std::alloc::{AllocError, Global};
@@ -23,7 +25,7 @@ enum Usage {
 
 /// The latest node that has used a key, and how.
 #[derive(Clone, Copy)]
-struct Mark {
+struct LastUse {
     node: NodeIx,
     used: Usage,
 }
@@ -45,7 +47,7 @@ pub(crate) fn first_anomaly(alloc: Global, history: &History) -> Result<Option<A
 }
 
 /// The first read of the node that is an anomaly.
-fn node_anomaly(history: &History, node: NodeIx, marks: &mut [Option<Mark>]) -> Option<Anomaly>
+fn node_anomaly(history: &History, node: NodeIx, marks: &mut [Option<LastUse>]) -> Option<Anomaly>
     requires well_formed { IsWellFormedList history.now }
     requires low { 0 < node }
     requires high { node ≤ (log_of history.now).nodes }
@@ -65,7 +67,7 @@ fn node_anomaly(history: &History, node: NodeIx, marks: &mut [Option<Mark>]) -> 
                 op: place + 1,
             });
         }
-        *mark = Some(Mark {
+        *mark = Some(LastUse {
             node,
             used: used_after(used, *event),
         });
@@ -83,7 +85,7 @@ fn key_of(event: Event) -> usize
 }
 
 /// What the node did to the key so far, by the key's mark.
-fn used_by(node: NodeIx, mark: Option<Mark>) -> Option<Usage>
+fn used_by(node: NodeIx, mark: Option<LastUse>) -> Option<Usage>
     ensures used { result ≡ used_by node mark }
 {
     mark.filter(|mark| mark.node == node).map(|mark| mark.used)

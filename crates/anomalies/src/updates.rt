@@ -5,7 +5,8 @@ ghost use Rattle.std.specs.Option.{option_map};
 ghost use Rattle.serializability.specs.Polygraph.{source};
 ghost use Rattle.serializability.specs.Anomalies.{lost_updates, first_some};
 ghost use Rattle.log_definitions.specs.Numbers.{log_of};
-ghost use Rattle.anomalies.specs.Updates.{AreOfKeysBelow, AreFirst, lost_updates_of, lost_by, clash_with, lesser, updater_of};
+ghost use Rattle.anomalies.specs.Updates.{AreOfKeysBelow, AreFirst, lost_updates_of, lost_by};
+ghost use Rattle.anomalies.specs.Updates.{clash_with, lesser, updater_of};
 
 use session_history::{Anomaly, History, NodeIx};
 use std::alloc::{AllocError, Global};

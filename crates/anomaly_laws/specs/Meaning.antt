@@ -9,7 +9,8 @@ use Rattle.serializability.specs.Polygraph.{source}
 use Rattle.serializability.specs.Anomalies.{read_anomaly}
 use Rattle.anomaly_laws.specs.Aborted.{WritesAborted}
 
--- the read at operation k of node v, where operations count from 1, with the operations before it and behind it
+-- the read at operation k of node v, where operations count from 1, with the operations before it
+-- and behind it
 pub record ReadAt (log : Log) (v k : ℕ) : Type 0 where
   pub key : ℕ
   pub identity : ℕ
@@ -62,11 +63,13 @@ IsFutureRead r = IsExternal r × Contains r.behind (Write r.key r.identity)
 
 -- an external read of a key that an earlier read of the transaction names another identity of
 abbrev pub IsSplitRead : {log : Log} {v k : ℕ} → ReadAt log v k → Type 0
-IsSplitRead r = IsExternal r × ((other : ℕ) × Contains r.before (Read r.key other) × (other ≢ r.identity))
+IsSplitRead r = IsExternal r × ((other : ℕ) × Contains r.before (Read r.key other)
+    × (other ≢ r.identity))
 
 -- no anomaly is found in the read
 abbrev pub IsNoAnomaly : {log : Log} {v k : ℕ} → ReadAt log v k → Type 0
-IsNoAnomaly {log} {v} r = read_anomaly log v r.before r.key r.identity r.behind (last_write r.key r.before) ≡ None
+IsNoAnomaly {log} {v} r = read_anomaly log v r.before r.key r.identity r.behind
+    (last_write r.key r.before) ≡ None
 
 -- node v reads x externally from node u, and writes it
 pub record IsUpdate (log : Log) (x u v : ℕ) : Type 0 where

@@ -4,12 +4,17 @@ ghost use Rattle.std.specs.Prelude.{◌≡◌, ◌⊎◌, ◌↔◌, ℕ, ◌<�
 ghost use Rattle.serializability.specs.declared.anomaly.Anomaly.{Anomaly};
 ghost use Rattle.serializability.specs.declared.anomaly.Anomaly.TheVariants.{Read, LostUpdate};
 ghost use Rattle.serializability.specs.declared.anomaly.ReadAnomaly.{ReadAnomaly};
-ghost use Rattle.serializability.specs.declared.anomaly.ReadAnomaly.TheVariants.{Unknown, Aborted, Intermediate, OwnWriteMissed, Future, Split};
+ghost use Rattle.serializability.specs.declared.anomaly.ReadAnomaly.TheVariants.{Unknown, Aborted};
+ghost use Rattle.serializability.specs.declared.anomaly.ReadAnomaly.TheVariants.{Intermediate};
+ghost use Rattle.serializability.specs.declared.anomaly.ReadAnomaly.TheVariants.{OwnWriteMissed};
+ghost use Rattle.serializability.specs.declared.anomaly.ReadAnomaly.TheVariants.{Future, Split};
 ghost use Rattle.serializability.specs.Log.{Log};
 ghost use Rattle.serializability.specs.Replay.{IsSerial};
 ghost use Rattle.serializability.specs.Reads.{IsNumbered, IsClean};
 ghost use Rattle.serializability.specs.Anomalies.{anomaly_of};
-ghost use Rattle.anomaly_laws.specs.Meaning.{ReadAt, IsUnknownRead, IsAbortedRead, IsIntermediateRead, IsOwnWriteMissed, IsFutureRead, IsSplitRead, IsNoAnomaly, IsUpdate};
+ghost use Rattle.anomaly_laws.specs.Meaning.{ReadAt, IsUnknownRead, IsAbortedRead};
+ghost use Rattle.anomaly_laws.specs.Meaning.{IsIntermediateRead, IsOwnWriteMissed, IsFutureRead};
+ghost use Rattle.anomaly_laws.specs.Meaning.{IsSplitRead, IsNoAnomaly, IsUpdate};
 
 /// A well-formed log has no anomaly exactly where it is clean.
 pub fn clean_exactly_where_no_anomaly()

@@ -1,5 +1,6 @@
 -- What `audit` makes of a log of any length.
-use Rattle.std.specs.Prelude.{◌≡◌, ◌⊎◌, ℕ, ◌-◌, ◌≤◌, if◌then◌else◌, List, length, count_by, slice_get, Option, None, Some}
+use Rattle.std.specs.Prelude.{◌≡◌, ◌⊎◌, ℕ, ◌-◌, ◌≤◌, if◌then◌else◌, List, length, count_by}
+use Rattle.std.specs.Prelude.{slice_get, Option, None, Some}
 use Rattle.std.specs.List.{list_any}
 use Rattle.std.specs.Io.KnownBytes.{Appends, Keeps}
 use Rattle.session_log.specs.Text.{ClientSession}
@@ -29,21 +30,25 @@ piece_count ss all = if list_any (λ s. has_txns s.txns) ss then all else 0
 
 -- so many nodes has a piece that has the most, or none has any
 abbrev pub IsOfSome : List HeldPiece → ℕ → Type 0
-IsOfSome ps n = (n ≡ 0) ⊎ ((i : ℕ) × (p : HeldPiece) × (slice_get ps i ≡ Some p) × (nodes_in p.sessions ≡ n))
+IsOfSome ps n = (n ≡ 0) ⊎ ((i : ℕ) × (p : HeldPiece) × (slice_get ps i ≡ Some p)
+    × (nodes_in p.sessions ≡ n))
 
 pub record IsLargest (ps : List HeldPiece) (n : ℕ) : Type 0 where
   pub most : (i : ℕ) (p : HeldPiece) → slice_get ps i ≡ Some p → nodes_in p.sessions ≤ n
   pub one : IsOfSome ps n
 
--- The counts of sessions and their pieces. The taken transactions are the nodes that no commit made.
+-- The counts of sessions and their pieces. The taken transactions are the nodes that no commit
+-- made.
 pub record AreTotals (ss : List ClientSession) (ps : List HeldPiece) (t : Totals) : Type 0 where
   pub counts : AreCounts ss t.counts
   pub taken : t.taken ≡ nodes_in (resolved ss) - nodes_in ss
   pub pieces : t.pieces ≡ piece_count ss (length ps)
   pub largest : IsLargest ps t.largest
 
--- The log is one, it is cut into pieces, and these are judged: what follows for the whole log is told, with the status that belongs to it.
-pub record IsAudited (o : AuditOptions) (log : List ℕ) (status : Status) (text : List ℕ) : Type 0 where
+-- The log is one, it is cut into pieces, and these are judged: what follows for the whole log is
+-- told, with the status that belongs to it.
+pub record IsAudited (o : AuditOptions) (log : List ℕ) (status : Status)
+    (text : List ℕ) : Type 0 where
   pub sessions : List ClientSession
   pub long : IsLongLog log sessions
   pub pieces : List HeldPiece
@@ -59,27 +64,32 @@ pub record IsAudited (o : AuditOptions) (log : List ℕ) (status : Status) (text
   pub told : IsReport o.form o.quiet (length pieces) verdict totals text
 
 -- a text that is so was put into the sink
-pub record IsTold (o : AuditOptions) (log : List ℕ) (old new : Option (List ℕ)) (status : Status) : Type 0 where
+pub record IsTold (o : AuditOptions) (log : List ℕ) (old new : Option (List ℕ))
+    (status : Status) : Type 0 where
   pub text : List ℕ
   pub audited : IsAudited o log status text
   pub all : Appends old new text
 
 -- the sink failed at such a text
-pub record IsToldInPart (o : AuditOptions) (log : List ℕ) (old new : Option (List ℕ)) (written : ℕ) : Type 0 where
+pub record IsToldInPart (o : AuditOptions) (log : List ℕ) (old new : Option (List ℕ))
+    (written : ℕ) : Type 0 where
   pub status : Status
   pub text : List ℕ
   pub audited : IsAudited o log status text
   pub cut : IsCutShort old new text written
 
--- The log is no long log, and its first fault is this one; what is said of that was put into the sink.
-pub record IsLogRefused (o : AuditOptions) (log : List ℕ) (old new : Option (List ℕ)) (f : LogFault) : Type 0 where
+-- The log is no long log, and its first fault is this one; what is said of that was put into the
+-- sink.
+pub record IsLogRefused (o : AuditOptions) (log : List ℕ) (old new : Option (List ℕ))
+    (f : LogFault) : Type 0 where
   pub text : List ℕ
   pub fault : IsLongLogFault log f
   pub says : IsRefusal o.form text
   pub all : Appends old new text
 
 -- the sink failed at what is said of a refused log
-pub record IsRefusedInPart (o : AuditOptions) (log : List ℕ) (old new : Option (List ℕ)) (written : ℕ) : Type 0 where
+pub record IsRefusedInPart (o : AuditOptions) (log : List ℕ) (old new : Option (List ℕ))
+    (written : ℕ) : Type 0 where
   pub f : LogFault
   pub text : List ℕ
   pub fault : IsLongLogFault log f
@@ -89,6 +99,7 @@ pub record IsRefusedInPart (o : AuditOptions) (log : List ℕ) (old new : Option
 -- why there is no answer
 abbrev pub IsRefused : AuditOptions → List ℕ → Option (List ℕ) → Option (List ℕ) → Fault → Type 0
 IsRefused o log old new (fault.Log f) = IsLogRefused o log old new f
-IsRefused o log old new (fault.Device written) = IsToldInPart o log old new written ⊎ IsRefusedInPart o log old new written
+IsRefused o log old new (fault.Device written) = IsToldInPart o log old new written
+    ⊎ IsRefusedInPart o log old new written
 IsRefused o log old new fault.Memory = Keeps old new
 IsRefused o log old new _ = ⊥

@@ -1,5 +1,6 @@
 -- The texts of `audit`, as far as they are promised.
-use Rattle.std.specs.Prelude.{◌≡◌, ℕ, ◌+◌, ◌<◌, Bool, true, false, List, [], ◌∷◌, ◌++◌, codes, decimal}
+use Rattle.std.specs.Prelude.{◌≡◌, ℕ, ◌+◌, ◌<◌, Bool, true, false, List, [], ◌∷◌, ◌++◌, codes}
+use Rattle.std.specs.Prelude.{decimal}
 use Rattle.serializability.specs.declared.anomaly.Anomaly.{Anomaly}
 use Rattle.serializability.specs.declared.anomaly.Anomaly.TheVariants as anomaly
 use Rattle.serializability.specs.declared.anomaly.ReadAnomaly.{ReadAnomaly}
@@ -32,8 +33,10 @@ verdict_word (verdict.Undecided n) = codes "unknown"
 abbrev pub first_line : ℕ → Verdict → List ℕ
 first_line all verdict.Serializable = codes "serializable\n"
 first_line all (verdict.NotSerializable r) = codes "not serializable\n"
-first_line all (verdict.TooFew committed asked) = codes "unknown: " ++ decimal committed ++ codes " committed, " ++ decimal asked ++ codes " asked for\n"
-first_line all (verdict.Undecided n) = codes "unknown: " ++ decimal n ++ codes " of " ++ decimal all ++ codes " pieces not decided\n"
+first_line all (verdict.TooFew committed asked) = codes "unknown: " ++ decimal committed
+    ++ codes " committed, " ++ decimal asked ++ codes " asked for\n"
+first_line all (verdict.Undecided n) = codes "unknown: " ++ decimal n ++ codes " of " ++ decimal all
+    ++ codes " pieces not decided\n"
 
 -- the code of a finding and its name, or its name alone
 abbrev pub anomaly_title : Anomaly → List ℕ
@@ -46,9 +49,11 @@ finding_title finding.Cycle = codes "A8 cycle of known edges"
 finding_title finding.Dead = codes "A9 pruning ends in a cycle"
 finding_title finding.Refuted = codes "every cube is refuted"
 
--- the line behind the first, where a piece is refuted: which of how many, from 1, and what was found of it
+-- the line behind the first, where a piece is refuted: which of how many, from 1, and what was
+-- found of it
 abbrev pub piece_line : ℕ → Verdict → List ℕ
-piece_line all (verdict.NotSerializable r) = codes "piece " ++ decimal (r.piece + 1) ++ codes " of " ++ decimal all ++ codes ": " ++ finding_title r.finding ++ 10 ∷ []
+piece_line all (verdict.NotSerializable r) = codes "piece " ++ decimal
+    (r.piece + 1) ++ codes " of " ++ decimal all ++ codes ": " ++ finding_title r.finding ++ 10 ∷ []
 piece_line all _ = []
 
 -- a word, a space and a number, as a line
@@ -88,23 +93,29 @@ finding_code finding.Cycle = codes "\"A8\""
 finding_code finding.Dead = codes "\"A9\""
 finding_code finding.Refuted = codes "null"
 
--- the beginning of an object: the verdict, and behind it the code and the piece, null where there is none
+-- the beginning of an object: the verdict, and behind it the code and the piece, null where there
+-- is none
 abbrev pub object_front : Verdict → List ℕ
 object_front v = codes "{\"verdict\":\"" ++ verdict_word v ++ codes "\""
 
 abbrev pub object_finding : Verdict → List ℕ
-object_finding (verdict.NotSerializable r) = codes ",\"code\":" ++ finding_code r.finding ++ codes ",\"piece\":" ++ decimal (r.piece + 1)
+object_finding (verdict.NotSerializable r) = codes ",\"code\":" ++ finding_code r.finding
+    ++ codes ",\"piece\":" ++ decimal (r.piece + 1)
 object_finding _ = codes ",\"code\":null,\"piece\":null"
 
 -- ---- the whole
 
--- In text form: the first line; and, where not that alone is asked for, the finding, then lines of which nothing is said, then the counts.
--- As an object: its verdict; and, where not that alone is asked for, code and piece, and then what nothing is said of.
+-- In text form: the first line; and, where not that alone is asked for, the finding, then lines of
+-- which nothing is said, then the counts.
+-- As an object: its verdict; and, where not that alone is asked for, code and piece, and then what
+-- nothing is said of.
 abbrev pub IsReport : Form → Bool → ℕ → Verdict → Totals → List ℕ → Type 0
 IsReport Text true all v t text = text ≡ first_line all v
-IsReport Text false all v t text = (middle : List ℕ) × (text ≡ first_line all v ++ piece_line all v ++ middle ++ counts_text t)
+IsReport Text false all v t text = (middle : List ℕ)
+    × (text ≡ first_line all v ++ piece_line all v ++ middle ++ counts_text t)
 IsReport Json true all v t text = text ≡ object_front v ++ codes "}\n"
-IsReport Json false all v t text = (rest : List ℕ) × (text ≡ object_front v ++ object_finding v ++ rest)
+IsReport Json false all v t text = (rest : List ℕ)
+    × (text ≡ object_front v ++ object_finding v ++ rest)
 
 -- what is said of a refused log: nothing, or an object
 abbrev pub IsRefusal : Form → List ℕ → Type 0

@@ -12,7 +12,7 @@ use crate::openings::status_of;
 use crate::options::AuditOptions;
 use crate::reports::{Audited, refusal, report};
 use crate::told::told_of;
-use auditing::{Progress, counted, judge, verdict_of};
+use auditing::{Progress, count_log, judge, verdict_of};
 use cobra_answers::{Fault, Reply, Status, tell};
 use dimacs::{Sink, write_all};
 use held_pieces::Pieces;
@@ -37,10 +37,11 @@ fn reply_of<R: Threads + Wait + Clock + Eprint + Sync, P: Progress>(
     progress: &mut P,
 ) -> Result<Reply, AllocError>
     requires long { IsLongLog log.now (map view sessions.items) }
-    ensures audited { IfOk result (λ reply. IsAudited options.now log.now reply.status reply.text.items) }
+    ensures audited { IfOk result (λ reply. IsAudited options.now log.now reply.status
+        reply.text.items) }
 {
     let size = size_of_pieces(alloc, log.len(), &sessions, options.size)?;
-    let counts = counted(alloc, &sessions)?;
+    let counts = count_log(alloc, &sessions)?;
     let sessions = resolve(alloc, sessions)?;
     let pieces = Pieces::of(alloc, &sessions, size)?;
     let judged = judge(rt, alloc, &pieces, &options.means, progress)?;
@@ -94,11 +95,13 @@ fn refused<W: Sink>(
     }
 }
 
-/// Says of a log of any length whether it has a serial order: its pieces are judged, several at once, each by itself.
+/// Says of a log of any length whether it has a serial order: its pieces are judged, several at
+/// once, each by itself.
 ///
 /// # Errors
-/// The log's first fault; the sink's failure, with how much of the text went out; want of memory. At want of memory nothing was written,
-/// and at a fault of the log nothing but an object that says so, where one is asked for.
+/// The log's first fault; the sink's failure, with how much of the text went out; want of memory.
+/// At want of memory nothing was written, and at a fault of the log nothing but an object that says
+/// so, where one is asked for.
 pub fn audit<R: Threads + Wait + Clock + Eprint + Sync, W: Sink, P: Progress>(
     rt: &R,
     alloc: Global,
@@ -108,7 +111,8 @@ pub fn audit<R: Threads + Wait + Clock + Eprint + Sync, W: Sink, P: Progress>(
     sink: &mut W,
 ) -> Result<Status, Fault>
     ensures told { IfOk result (IsTold options.now log.now (W.bytes sink.old) (W.bytes sink.new)) }
-    ensures refused { IfErr result (IsRefused options.now log.now (W.bytes sink.old) (W.bytes sink.new)) }
+    ensures refused { IfErr result (IsRefused options.now log.now (W.bytes sink.old)
+        (W.bytes sink.new)) }
     ensures count { W.failures sink.new ≡ failures_after (W.failures sink.old) result }
 {
     match read_long_log(rt, alloc, log, options.means.workers) {

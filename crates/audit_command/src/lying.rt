@@ -21,7 +21,8 @@ pub struct Lines<'a> {
     begins: Vec<usize>,
 }
 
-/// Where the transactions of a part lie: the places of the first and the last of them in their session, and the lines of the log.
+/// Where the transactions of a part lie: the places of the first and the last of them in their
+/// session, and the lines of the log.
 #[derive(Clone, Copy)]
 pub struct Span {
     pub session: u16,

@@ -69,12 +69,13 @@ fn open_pieces(
     alloc: Global,
     lines: &Lines,
     pieces: &Pieces,
+    size: Option<usize>,
     undecided: &[Undecided],
 ) -> Result<String, AllocError> {
     let mut out = String::new(alloc);
     let mut separator = "";
     for piece in undecided {
-        let why = why_text(alloc, lines, pieces, piece)?;
+        let why = why_text(alloc, lines, pieces, size, piece)?;
         let why = escaped(alloc, &why)?;
         let number = piece.piece.saturating_add(1);
         let object = format!(in alloc; "{separator}{{\"piece\":{number},\"why\":\"{why}\"}}")?;
@@ -104,12 +105,13 @@ pub fn object_rest(
     alloc: Global,
     lines: &Lines,
     pieces: &Pieces,
+    size: Option<usize>,
     undecided: &[Undecided],
     verdict: Verdict,
     totals: &Totals,
 ) -> Result<String, AllocError> {
     let transactions = transactions(alloc, lines, pieces, verdict)?;
-    let open = open_pieces(alloc, lines, pieces, undecided)?;
+    let open = open_pieces(alloc, lines, pieces, size, undecided)?;
     let counts = counts(alloc, totals)?;
     format!(in alloc; ",\"transactions\":[{transactions}],\"undecided\":[{open}],{counts}}}\n")
 }

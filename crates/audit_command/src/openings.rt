@@ -2,8 +2,10 @@
 
 ghost use Rattle.std.specs.Prelude.{◌≡◌, ◌++◌, ◌∷◌, [], IfOk, OnOk, codes, decimal};
 ghost use Rattle.std.specs.String.{string_bytes};
-ghost use Rattle.audit_command.specs.Report.{status_of, verdict_word, first_line, anomaly_title, finding_title, piece_line, count_line, counts_text};
-ghost use Rattle.audit_command.specs.Report.{read_code, anomaly_code, finding_code, object_front, object_finding, NamesOneOf};
+ghost use Rattle.audit_command.specs.Report.{status_of, verdict_word, first_line, anomaly_title};
+ghost use Rattle.audit_command.specs.Report.{finding_title, piece_line, count_line, counts_text};
+ghost use Rattle.audit_command.specs.Report.{read_code, anomaly_code, finding_code, object_front};
+ghost use Rattle.audit_command.specs.Report.{object_finding, NamesOneOf};
 
 use crate::totals::Totals;
 use auditing::{Finding, Verdict};
@@ -50,7 +52,8 @@ fn with_numbers(
     two: usize,
     behind: &str,
 ) -> Result<String, AllocError>
-    ensures text { IfOk result (λ text. string_bytes text ≡ front.now ++ decimal one ++ between.now ++ decimal two ++ behind.now) }
+    ensures text { IfOk result (λ text. string_bytes text ≡ front.now ++ decimal one ++ between.now
+        ++ decimal two ++ behind.now) }
 {
     let mut text = String::from_str(alloc, front)?;
     put_number(alloc, &mut text, one)?;
@@ -130,7 +133,8 @@ pub fn piece_line(alloc: Global, all: usize, verdict: Verdict) -> Result<String,
 
 /// Appends a word, a space and a number, as a line.
 fn put_count(alloc: Global, out: &mut String, word: &str, count: usize) -> Result<(), AllocError>
-    ensures line { OnOk result (string_bytes out.new ≡ string_bytes out.old ++ count_line word.now count) }
+    ensures line { OnOk result (string_bytes out.new ≡ string_bytes out.old
+        ++ count_line word.now count) }
 {
     let number = format!(in alloc; " {count}")?;
     out.push_str(word)?;

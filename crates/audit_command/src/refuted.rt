@@ -11,6 +11,9 @@ use std::alloc::{AllocError, Global};
 /// Of how many sessions it is told where the piece lies.
 const LISTED: usize = 20;
 
+/// How many cubes the search of a piece may close, where no budget is stated.
+const DEFAULT_BUDGET: usize = 100_000;
+
 fn span_text(alloc: Global, span: Span) -> Result<String, AllocError> {
     let session = span.session;
     let first = span.first;
@@ -78,30 +81,80 @@ fn shell_word(alloc: Global, name: &str) -> Result<String, AllocError> {
     Ok(word)
 }
 
-/// The two commands that tell why the piece has no order.
+/// The words of the size of pieces, where one is stated.
+fn size_words(alloc: Global, options: &AuditOptions<'_>) -> Result<String, AllocError> {
+    match options.size {
+        Some(size) => format!(in alloc; " --size {size}"),
+        None => Ok(String::new(alloc)),
+    }
+}
+
+/// The words of how pieces are judged, where that is another way than without them.
+fn means_words(alloc: Global, options: &AuditOptions<'_>) -> Result<String, AllocError> {
+    let mut words = String::new(alloc);
+    match options.means.strategy {
+        StrategyName::Forced => {}
+        other => {
+            words.push_str(" --strategy ")?;
+            words.push_str(strategy_word(other))?;
+        }
+    }
+    let budget = options.means.budget.get();
+    if budget != DEFAULT_BUDGET {
+        let stated = format!(in alloc; " --budget {budget}")?;
+        words.push_str(&stated)?;
+    }
+    Ok(words)
+}
+
+/// The log's file as a word of a shell.
+fn file_word(alloc: Global, options: &AuditOptions<'_>) -> Result<String, AllocError> {
+    match options.file {
+        Some(name) => shell_word(alloc, name),
+        None => String::from_str(alloc, "LOG"),
+    }
+}
+
+/// The command that tells why the piece has no order, in the words of the whole log.
+fn whole_command(alloc: Global, options: &AuditOptions<'_>) -> Result<String, AllocError> {
+    let size = size_words(alloc, options)?;
+    let means = means_words(alloc, options)?;
+    let file = file_word(alloc, options)?;
+    format!(in alloc; "cobra_poly audit --explain{size}{means} {file}\n")
+}
+
+/// The two commands that tell it of the piece's own log.
+fn own_commands(
+    alloc: Global,
+    options: &AuditOptions<'_>,
+    refuted: Refuted,
+) -> Result<String, AllocError> {
+    let size = size_words(alloc, options)?;
+    let number = refuted.piece.saturating_add(1);
+    let file = file_word(alloc, options)?;
+    let strategy = strategy_word(options.means.strategy);
+    let budget = options.means.budget.get();
+    let pieces = format!(in alloc;
+        "cobra_poly pieces{size} --piece {number} {file} > piece.log\n"
+    )?;
+    format!(in alloc;
+        "{pieces}cobra_poly explain --strategy {strategy} --budget {budget} piece.log\n"
+    )
+}
+
+/// The commands that tell why the piece has no order.
 pub fn commands(
     alloc: Global,
     options: &AuditOptions<'_>,
     refuted: Refuted,
 ) -> Result<String, AllocError> {
-    let number = refuted.piece.saturating_add(1);
-    let strategy = strategy_word(options.means.strategy);
-    let budget = options.means.budget.get();
-    let size = match options.size {
-        Some(size) => format!(in alloc; " --size {size}")?,
-        None => String::new(alloc),
-    };
     let front = match options.file {
         Some(_) => "",
         None => "keep the log in a file, then:\n",
     };
-    let name = match options.file {
-        Some(name) => shell_word(alloc, name)?,
-        None => String::from_str(alloc, "LOG")?,
-    };
-    format!(in alloc;
-        "{front}cobra_poly pieces{size} --piece {number} {name} > piece.log\ncobra_poly explain --strategy {strategy} --budget {budget} piece.log\n"
-    )
+    let whole = whole_command(alloc, options)?;
+    let own = own_commands(alloc, options, refuted)?;
+    format!(in alloc; "{front}{whole}or, as a log of its own:\n{own}")
 }
 
 /// The lines behind that of the finding: where the piece lies, and why it has no order.

@@ -16,7 +16,8 @@ use held_pieces::Pieces;
 use session_log::{LogFault, Session, Version};
 use std::alloc::{AllocError, Global};
 
-/// An audited log: its version, its sessions, the pieces of these, what was found of the pieces, and what follows.
+/// An audited log: its version, its sessions, the pieces of these, what was found of the pieces,
+/// and what follows.
 #[derive(Clone, Copy)]
 pub struct Audited<'s, 'a> {
     pub version: Version,
@@ -43,7 +44,8 @@ fn middle(
         }
         Verdict::TooFew { .. } | Verdict::Undecided { .. } => {
             let lines = Lines::of(alloc, audited.version, audited.sessions)?;
-            undecided_text(alloc, &lines, audited.pieces, &audited.judged.undecided)
+            let undecided = &audited.judged.undecided;
+            undecided_text(alloc, &lines, audited.pieces, options.size, undecided)
         }
     }
 }
@@ -55,7 +57,8 @@ fn text_report(
     audited: &Audited<'_, '_>,
 ) -> Result<String, AllocError>
     requires named { NamesOneOf (length audited.now.pieces.now) audited.now.verdict }
-    ensures report { IfOk result (λ text. IsReport Form.Text options.now.quiet (length audited.now.pieces.now) audited.now.verdict
+    ensures report { IfOk result (λ text. IsReport Form.Text options.now.quiet
+        (length audited.now.pieces.now) audited.now.verdict
         audited.now.totals.now (string_bytes text)) }
 {
     let all = audited.pieces.count();
@@ -79,7 +82,8 @@ fn object_report(
     audited: &Audited<'_, '_>,
 ) -> Result<String, AllocError>
     requires named { NamesOneOf (length audited.now.pieces.now) audited.now.verdict }
-    ensures report { IfOk result (λ text. IsReport Form.Json options.now.quiet (length audited.now.pieces.now) audited.now.verdict
+    ensures report { IfOk result (λ text. IsReport Form.Json options.now.quiet
+        (length audited.now.pieces.now) audited.now.verdict
         audited.now.totals.now (string_bytes text)) }
 {
     let mut text = object_front(alloc, audited.verdict)?;
@@ -93,6 +97,7 @@ fn object_report(
         alloc,
         &lines,
         audited.pieces,
+        options.size,
         &audited.judged.undecided,
         audited.verdict,
         audited.totals,
@@ -109,7 +114,8 @@ pub fn report(
     audited: &Audited<'_, '_>,
 ) -> Result<String, AllocError>
     requires named { NamesOneOf (length audited.now.pieces.now) audited.now.verdict }
-    ensures report { IfOk result (λ text. IsReport options.now.form options.now.quiet (length audited.now.pieces.now) audited.now.verdict
+    ensures report { IfOk result (λ text. IsReport options.now.form options.now.quiet
+        (length audited.now.pieces.now) audited.now.verdict
         audited.now.totals.now (string_bytes text)) }
 {
     match options.form {

@@ -7,12 +7,12 @@ use crate::options::{AuditOptions, Form};
 use crate::refuted::commands;
 use auditing::Verdict;
 use held_pieces::Pieces;
-use piece_reasons::explained;
 use session_log::{Session, Version};
 use std::alloc::{AllocError, Global};
 use std::sync::Wait;
 use std::thread::Threads;
 use std::time::Clock;
+use tell_pieces::explain_piece;
 
 /// Whether lines are told behind the first.
 fn has_lines(options: &AuditOptions<'_>) -> bool {
@@ -22,7 +22,8 @@ fn has_lines(options: &AuditOptions<'_>) -> bool {
     }
 }
 
-/// Why the refuted piece has no order, in lines, or how to learn it; nothing where there is none, or where no lines are told.
+/// Why the refuted piece has no order, in lines, or how to learn it; nothing where there is none,
+/// or where no lines are told.
 pub fn told_of<R: Threads + Wait + Clock + Sync>(
     rt: &R,
     alloc: Global,
@@ -38,7 +39,7 @@ pub fn told_of<R: Threads + Wait + Clock + Sync>(
         Verdict::NotSerializable(refuted) if refuted.piece < pieces.count() && has_lines(options) =>
             {
                 if options.explain {
-                    explained(
+                    explain_piece(
                         rt,
                         alloc,
                         version,

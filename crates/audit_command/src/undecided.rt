@@ -2,7 +2,7 @@
 
 use crate::counting::is_committed;
 use crate::lying::Lines;
-use auditing::{Undecided, Why, counted};
+use auditing::{Undecided, Why, count_log};
 use cutting::Part;
 use held_pieces::Pieces;
 use serializability::MAX_NODES;
@@ -47,7 +47,7 @@ fn excess(
         Limit::Sessions => (log.len(), "sessions", MAX_SESSIONS),
         Limit::Operations => (operation_count(log), "operations", MAX_OPERATIONS),
         Limit::Committed => (node_count(log), "transactions", MAX_NODES),
-        Limit::Keys => (counted(alloc, log)?.keys, "keys", MAX_KEYS),
+        Limit::Keys => (count_log(alloc, log)?.keys, "keys", MAX_KEYS),
     })
 }
 
@@ -118,17 +118,46 @@ fn too_large_text(
     Ok(text)
 }
 
-/// Why a piece is not decided.
+/// Whether a smaller size may cut a piece into smaller ones, where this size is stated or none.
+fn can_be_smaller(pieces: &Pieces, piece: usize, size: Option<usize>) -> bool {
+    let is_least = match size {
+        Some(size) => size <= 1,
+        None => false,
+    };
+    !is_least
+        && piece < pieces.count()
+        && pieces
+            .parts(piece)
+            .iter()
+            .any(|part| states_moment(part.txns))
+}
+
+/// That a piece has too many choices, and what may help.
+fn too_many_choices_text(
+    alloc: Global,
+    pieces: &Pieces,
+    piece: usize,
+    size: Option<usize>,
+) -> Result<String, AllocError> {
+    let mut text = String::from_str(alloc, "more than 100000 choices")?;
+    if can_be_smaller(pieces, piece, size) {
+        text.push_str("; try a smaller --size")?;
+    }
+    Ok(text)
+}
+
+/// Why a piece is not decided, where this size of pieces is stated or none.
 pub fn why_text(
     alloc: Global,
     lines: &Lines,
     pieces: &Pieces,
+    size: Option<usize>,
     undecided: &Undecided,
 ) -> Result<String, AllocError> {
     match undecided.why {
         Why::Spent { closed } => format!(in alloc; "{closed} closed"),
         Why::TooLarge { which } => too_large_text(alloc, lines, pieces, undecided.piece, which),
-        Why::TooManyChoices => String::from_str(alloc, "more than 100000 choices"),
+        Why::TooManyChoices => too_many_choices_text(alloc, pieces, undecided.piece, size),
         Why::NotBegun => String::from_str(alloc, "not begun"),
     }
 }
@@ -138,11 +167,12 @@ pub fn undecided_text(
     alloc: Global,
     lines: &Lines,
     pieces: &Pieces,
+    size: Option<usize>,
     undecided: &[Undecided],
 ) -> Result<String, AllocError> {
     let mut text = String::new(alloc);
     for piece in undecided.iter().take(LISTED) {
-        let why = why_text(alloc, lines, pieces, piece)?;
+        let why = why_text(alloc, lines, pieces, size, piece)?;
         let number = piece.piece.saturating_add(1);
         let line = format!(in alloc; "piece {number}: {why}\n")?;
         text.push_str(&line)?;

@@ -1,20 +1,21 @@
 -- How much sessions hold.
-use Rattle.std.specs.Prelude.{◌≡◌, ◌-◌, ◌^◌, ◌<◌, min, not, ℕ, List, [], length, map, count_by}
-use Rattle.std.specs.List.{flat_map, list_any}
+use Rattle.std.specs.Prelude.{◌≡◌, ◌<◌, not, ℕ, List, [], length, map, count_by}
+use Rattle.std.specs.List.{list_any}
 use Rattle.std.specs.Ordering.{nat_cmp}
 use Rattle.std.specs.Str.{bytes_eq}
 use Rattle.std.specs.Cmp.Lexicographic.{slice_cmp}
 use Rattle.std.specs.BTreeSet.{BTreeSet, contains, btree_set_len}
-use Rattle.session_log.specs.Text.{ClientSession, Transaction, least_version, log_text}
+use Rattle.session_log.specs.Text.{ClientSession, least_version, log_text}
 use Rattle.session_log.specs.declared.session.Op.{Op}
 use Rattle.session_log.specs.declared.fault.Limit.{Limit}
-use Rattle.session_log.specs.declared.fault.Limit.TheVariants.{LogBytes, Sessions, Operations, Committed, Keys}
-use Rattle.session_log.specs.declared.limits.TheConstants.{MAX_LOG_BYTES, MAX_SESSIONS, MAX_OPERATIONS, MAX_KEYS}
+use Rattle.session_log.specs.declared.fault.Limit.TheVariants.{LogBytes, Sessions, Operations}
+use Rattle.session_log.specs.declared.fault.Limit.TheVariants.{Committed, Keys}
+use Rattle.session_log.specs.declared.limits.TheConstants.{MAX_LOG_BYTES, MAX_SESSIONS}
+use Rattle.session_log.specs.declared.limits.TheConstants.{MAX_OPERATIONS, MAX_KEYS}
 use Rattle.serializability.specs.declared.node.TheConstants.{MAX_NODES}
 use Rattle.log_definitions.specs.Unknown.{txns_in, ops_in, is_committed, is_unknown}
 use Rattle.log_definitions.specs.WellFormed.{is_aborted, keys_in, key_of, first_seen}
 use Rattle.auditing.specs.declared.counts.LogCounts.{LogCounts}
-use Rattle.auditing.specs.declared.counts.Tally.{Tally}
 
 pub record AreCounts (ss : List ClientSession) (c : LogCounts) : Type 0 where
   pub sessions : c.sessions ≡ length ss
@@ -34,17 +35,8 @@ IsOver ss Keys = MAX_KEYS < length (keys_in ss)
 
 -- ---- counting
 
-abbrev pub capped : ℕ → ℕ
-capped n = min n (2 ^ 64 - 1)
-
--- how many of these transactions ended in each way, and how many operations they have
-pub record IsTally (ts : List Transaction) (t : Tally) : Type 0 where
-  pub committed : t.committed ≡ capped (count_by is_committed ts)
-  pub aborted : t.aborted ≡ capped (count_by is_aborted ts)
-  pub unknown : t.unknown ≡ capped (count_by is_unknown ts)
-  pub operations : t.operations ≡ capped (length (flat_map (λ t. t.ops) ts))
-
 -- these are the keys of the operations
 pub record HasKeys (ops : List Op) (keys : BTreeSet (List ℕ)) : Type 0 where
-  pub found : (key : List ℕ) → contains (slice_cmp nat_cmp) keys key ≡ list_any (bytes_eq key) (first_seen [] (map key_of ops))
+  pub found : (key : List ℕ) → contains (slice_cmp nat_cmp) keys key ≡ list_any (bytes_eq key)
+      (first_seen [] (map key_of ops))
   pub count : btree_set_len keys ≡ length (first_seen [] (map key_of ops))

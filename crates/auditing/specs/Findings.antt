@@ -11,7 +11,8 @@ use Rattle.auditing.specs.declared.found.Found.TheVariants.{Serial, Refuted, Und
 use Rattle.auditing.specs.declared.found.PieceFound.{PieceFound}
 use Rattle.auditing.specs.declared.judged.Undecided.{Undecided as UndecidedPiece}
 use Rattle.auditing.specs.declared.judged.Why.{Why}
-use Rattle.auditing.specs.declared.judged.Why.TheVariants.{Spent, TooLarge, TooManyChoices, NotBegun}
+use Rattle.auditing.specs.declared.judged.Why.TheVariants.{Spent, TooLarge, TooManyChoices}
+use Rattle.auditing.specs.declared.judged.Why.TheVariants.{NotBegun}
 use Rattle.auditing.specs.declared.means.AuditMeans.{AuditMeans}
 use Rattle.auditing.specs.Audits.{IsRefutedLog, IsUndecidedBy}
 
@@ -50,8 +51,11 @@ pub record IsUndecidedAt (m : AuditMeans) (ps : List HeldPiece) (u : UndecidedPi
   pub why : IsReason m (log_of_piece piece) u.why
 
 -- of the first n pieces each has an order or is one of these, which are told in order
-pub record AreJudgedTo (m : AuditMeans) (ps : List HeldPiece) (n : ℕ) (us : List UndecidedPiece) : Type 0 where
-  pub decided : (i : ℕ) (p : HeldPiece) → slice_get ps i ≡ Some p → i < n → HasOrder (log_of_piece p) ⊎ Contains (map (λ u. u.piece) us) i
+pub record AreJudgedTo (m : AuditMeans) (ps : List HeldPiece) (n : ℕ)
+    (us : List UndecidedPiece) : Type 0 where
+  pub decided : (i : ℕ) (p : HeldPiece) → slice_get ps i ≡ Some p → i < n
+      → HasOrder (log_of_piece p) ⊎ Contains (map (λ u. u.piece) us) i
   pub undecided : AllByRecursion (IsUndecidedAt m ps) us
   pub within : AllByRecursion (λ u. u.piece < n) us
-  pub ascending : (k l : ℕ) (u v : UndecidedPiece) → k < l → slice_get us k ≡ Some u → slice_get us l ≡ Some v → u.piece < v.piece
+  pub ascending : (k l : ℕ) (u v : UndecidedPiece) → k < l → slice_get us k ≡ Some u
+      → slice_get us l ≡ Some v → u.piece < v.piece

@@ -1,14 +1,16 @@
 //! How much a log of any length holds.
 
-ghost use Rattle.std.specs.Prelude.{◌≡◌, ◌+◌, ◌-◌, ◌^◌, ◌<◌, ◌++◌, ◌∷◌, [], List, length, map, min, count_by, IfOk, OnOk, IsTrue};
+ghost use Rattle.std.specs.Prelude.{◌≡◌, ◌+◌, ◌-◌, ◌^◌, ◌<◌, ◌++◌, ◌∷◌, [], List, length, map, min};
+ghost use Rattle.std.specs.Prelude.{count_by, IfOk, OnOk, IsTrue};
 ghost use Rattle.std.specs.List.{flat_map};
-ghost use Rattle.session_log.specs.Text.{Transaction, view, view_txn};
+ghost use Rattle.session_log.specs.Text.{view, view_txn};
 ghost use Rattle.session_log.specs.declared.session.Op.{Op};
 ghost use Rattle.log_definitions.specs.Unknown.{txns_in, ops_in, is_committed, is_unknown};
 ghost use Rattle.log_definitions.specs.WellFormed.{is_aborted, keys_in, key_of};
-ghost use Rattle.auditing.specs.Counts.{AreCounts, IsTally, HasKeys};
+ghost use Rattle.auditing.specs.Counts.{AreCounts, HasKeys};
 
-use session_log::{Key, Op, Outcome, Session, Txn};
+use session_history::Tally;
+use session_log::{Key, Op, Session, Txn};
 use std::alloc::{AllocError, Global};
 use std::collections::BTreeSet;
 
@@ -25,68 +27,15 @@ pub struct LogCounts {
     pub operations: usize,
 }
 
-/// How many transactions ended in each way, and how many operations they have, each up to `usize::MAX`.
-#[derive(Clone, Copy)]
-pub(crate) struct Tally {
-    committed: usize,
-    aborted: usize,
-    unknown: usize,
-    pub operations: usize,
-}
-
-impl Tally {
-    /// With a transaction more.
-    fn plus(self, txn: &Txn) -> Tally
-        ensures { (txns : List Transaction) → IsTally txns self →
-            IsTally (txns ++ view_txn txn.now ∷ []) result }
-    {
-        let mut tally = self;
-        match txn.outcome {
-            Outcome::Commit => tally.committed = tally.committed.saturating_add(1),
-            Outcome::Abort => tally.aborted = tally.aborted.saturating_add(1),
-            Outcome::Unknown => tally.unknown = tally.unknown.saturating_add(1),
-        }
-        tally.operations = tally.operations.saturating_add(txn.ops.len());
-        tally
-    }
-
-    /// With a session more.
-    fn with_session(self, session: &Session) -> Tally
-        ensures { (txns : List Transaction) → IsTally txns self →
-            IsTally (txns ++ (view session.now).txns) result }
-    {
-        let mut tally = self;
-        for txn in &session.txns {
-            tally = tally.plus(txn);
-        }
-        tally
-    }
-
-    /// Of these sessions.
-    pub fn of(sessions: &[Session]) -> Tally
-        ensures { IsTally (txns_in (map view sessions.now)) result }
-    {
-        let mut tally = Tally {
-            committed: 0,
-            aborted: 0,
-            unknown: 0,
-            operations: 0,
-        };
-        for session in sessions {
-            tally = tally.with_session(session);
-        }
-        tally
-    }
-
-    /// Whether each number is below `usize::MAX`, as it is of all that memory holds.
-    fn is_exact(self) -> bool
-        ensures { IsTrue result → ((self.committed < 2 ^ 64 - 1) × (self.aborted < 2 ^ 64 - 1) × (self.unknown < 2 ^ 64 - 1) × (self.operations < 2 ^ 64 - 1)) }
-    {
-        self.committed < usize::MAX
-            && self.aborted < usize::MAX
-            && self.unknown < usize::MAX
-            && self.operations < usize::MAX
-    }
+/// Whether each number is below `usize::MAX`, as it is of all that memory holds.
+fn is_exact(tally: Tally) -> bool
+    ensures { IsTrue result → ((tally.committed < 2 ^ 64 - 1) × (tally.aborted < 2 ^ 64 - 1)
+        × (tally.unknown < 2 ^ 64 - 1) × (tally.operations < 2 ^ 64 - 1)) }
+{
+    tally.committed < usize::MAX
+        && tally.aborted < usize::MAX
+        && tally.unknown < usize::MAX
+        && tally.operations < usize::MAX
 }
 
 /// The key of an operation.
@@ -98,9 +47,11 @@ fn key_of(op: &Op) -> &Key
     }
 }
 
-/// Adds the key of an operation, where it is new. Keys are found by comparison, so that no choice of them makes the search long.
+/// Adds the key of an operation, where it is new. Keys are found by comparison, so that no choice
+/// of them makes the search long.
 fn add_key(alloc: Global, keys: &mut BTreeSet<Key>, op: &Op) -> Result<(), AllocError>
-    ensures { (before : List Op) → HasKeys before keys.old → OnOk result (HasKeys (before ++ op.now ∷ []) keys.new) }
+    ensures { (before : List Op) → HasKeys before keys.old
+        → OnOk result (HasKeys (before ++ op.now ∷ []) keys.new) }
 {
     let key = key_of(op);
     if !keys.contains(key) {
@@ -111,7 +62,8 @@ fn add_key(alloc: Global, keys: &mut BTreeSet<Key>, op: &Op) -> Result<(), Alloc
 
 /// Adds those of a transaction.
 fn add_keys_of(alloc: Global, keys: &mut BTreeSet<Key>, txn: &Txn) -> Result<(), AllocError>
-    ensures { (before : List Op) → HasKeys before keys.old → OnOk result (HasKeys (before ++ (view_txn txn.now).ops) keys.new) }
+    ensures { (before : List Op) → HasKeys before keys.old
+        → OnOk result (HasKeys (before ++ (view_txn txn.now).ops) keys.new) }
 {
     for op in &txn.ops {
         add_key(alloc, keys, op)?;
@@ -145,11 +97,11 @@ fn key_count(alloc: Global, sessions: &[Session]) -> Result<usize, AllocError>
 ///
 /// # Errors
 /// Where memory was refused, and where a number is `usize::MAX`, of which no memory holds as many.
-pub fn counted(alloc: Global, sessions: &[Session]) -> Result<LogCounts, AllocError>
+pub fn count_log(alloc: Global, sessions: &[Session]) -> Result<LogCounts, AllocError>
     ensures counts { IfOk result (AreCounts (map view sessions.now)) }
 {
     let tally = Tally::of(sessions);
-    if !tally.is_exact() {
+    if !is_exact(tally) {
         return Err(AllocError);
     }
     Ok(LogCounts {

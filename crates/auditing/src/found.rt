@@ -55,7 +55,8 @@ pub struct PieceFound {
 
 /// What a decision says of a log.
 fn found_by(decision: &Decision) -> Found
-    ensures { (m : AuditMeans) (ss : List ClientSession) → Decides m.budget ss decision.now → IsFound m ss result }
+    ensures { (m : AuditMeans) (ss : List ClientSession) → Decides m.budget ss decision.now
+        → IsFound m ss result }
 {
     match decision {
         Decision::Serial(_) => Found::Serial,

@@ -28,8 +28,9 @@ pub trait Progress {
     fn tell<R: Eprint + Clock>(&mut self, rt: &R, so_far: SoFar);
 }
 
-/// Judges the pieces, so many at once: the first that has no serial order, whatever the schedule, and those before it, or all, that are
-/// not decided. Behind one that has no order few are begun. Where no time is set, each of these is begun.
+/// Judges the pieces, so many at once: the first that has no serial order, whatever the schedule,
+/// and those before it, or all, that are not decided. Behind one that has no order few are begun.
+/// Where no time is set, each of these is begun.
 pub fn judge<R: Threads + Wait + Clock + Eprint + Sync, P: Progress>(
     rt: &R,
     alloc: Global,

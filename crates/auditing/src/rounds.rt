@@ -1,6 +1,7 @@
 //! Pieces judged by several workers, and what they found joined in the order of the pieces.
 
-ghost use Rattle.std.specs.Prelude.{◌≡◌, ◌<◌, ◌≤◌, ◌++◌, ◌∷◌, [], ℕ, Some, IfOk, IfSome, OnOk, length, slice_get, slice_index_or};
+ghost use Rattle.std.specs.Prelude.{◌≡◌, ◌<◌, ◌≤◌, ◌++◌, ◌∷◌, [], ℕ, Some, IfOk, IfSome, OnOk};
+ghost use Rattle.std.specs.Prelude.{length, slice_get, slice_index_or};
 ghost use Rattle.std.specs.List.{AllByRecursion};
 ghost use Rattle.held_pieces.specs.Pieces.{HeldPiece, log_of};
 ghost use Rattle.auditing.specs.Audits.{ArePiecesOfLog, IsRefutedAt, judged_pieces};
@@ -19,8 +20,8 @@ use std::time::Clock;
 /// How many pieces each worker judges in a round.
 const TURNS: usize = 16;
 
-/// What a worker finds of its pieces: from this one on, each that stands so many behind the one before it, up to an end. It goes no
-/// further once one is refuted, or the time is up.
+/// What a worker finds of its pieces: from this one on, each that stands so many behind the one
+/// before it, up to an end. It goes no further once one is refuted, or the time is up.
 fn judge_share<R: Threads + Wait + Clock + Sync>(
     rt: &R,
     alloc: Global,
@@ -48,16 +49,19 @@ fn judge_share<R: Threads + Wait + Clock + Sync>(
     Ok(all)
 }
 
-/// What all workers found, where none of them was refused memory. The pieces and the means stand for the contract alone.
-fn collected(
+/// What all workers found, where none of them was refused memory. The pieces and the means stand
+/// for the contract alone.
+fn collect_parts(
     alloc: Global,
     _pieces: &Pieces,
     _means: &AuditMeans,
     parts: Vec<Result<Vec<PieceFound>, AllocError>>,
 ) -> Result<Vec<Vec<PieceFound>>, AllocError>
     requires parts { (i : ℕ) (d : _) → i < length parts.items →
-        IfOk (slice_index_or parts.items i d) (λ found. AreFound _means.now _pieces.now found.items) }
-    ensures { IfOk result (λ all. AllByRecursion (λ found. AreFound _means.now _pieces.now found.items) all.items) }
+        IfOk (slice_index_or parts.items i d) (λ found. AreFound _means.now _pieces.now
+        found.items) }
+    ensures { IfOk result (λ all. AllByRecursion
+        (λ found. AreFound _means.now _pieces.now found.items) all.items) }
 {
     let mut all = Vec::new(alloc);
     for part in parts {
@@ -66,14 +70,16 @@ fn collected(
     Ok(all)
 }
 
-/// What was found of the piece that has this place in a round, where it was begun: pieces are dealt to the workers in turn.
-fn begun(
+/// What was found of the piece that has this place in a round, where it was begun: pieces are dealt
+/// to the workers in turn.
+fn found_in_round(
     _pieces: &Pieces,
     _means: &AuditMeans,
     parts: &[Vec<PieceFound>],
     place: usize,
 ) -> Option<PieceFound>
-    requires parts { AllByRecursion (λ found. AreFound _means.now _pieces.now found.items) parts.now }
+    requires parts { AllByRecursion (λ found. AreFound _means.now _pieces.now found.items)
+        parts.now }
     ensures { IfSome result (IsFoundAt _means.now _pieces.now) }
 {
     if parts.is_empty() {
@@ -82,8 +88,9 @@ fn begun(
     parts[place % parts.len()].get(place / parts.len()).copied()
 }
 
-/// What is told of a piece that no worker began: that the time was up. Where none is set, workers leave out no piece but behind one that
-/// they refuted, where nobody asks; the contract rests not on that, and the piece would be judged here.
+/// What is told of a piece that no worker began: that the time was up. Where none is set, workers
+/// leave out no piece but behind one that they refuted, where nobody asks; the contract rests not
+/// on that, and the piece would be judged here.
 fn left_out<R: Threads + Wait + Clock + Sync>(
     rt: &R,
     alloc: Global,
@@ -119,7 +126,7 @@ fn found_at<R: Threads + Wait + Clock + Sync>(
     ensures { IfOk result (λ found. (p : HeldPiece) → slice_get pieces.now piece ≡ Some p →
         IsFound means.now (log_of p) found) }
 {
-    match begun(pieces, means, parts, piece - start) {
+    match found_in_round(pieces, means, parts, piece - start) {
         Some(own) if own.piece == piece => Ok(own.found),
         _ => left_out(rt, alloc, pieces, piece, means),
     }
@@ -134,7 +141,8 @@ fn tell(undecided: &mut Vec<Undecided>, piece: usize, why: Why) -> Result<(), Al
     Ok(())
 }
 
-/// Goes over what was found of the pieces of a round, in order, and adds those that are not decided, up to the first that is refuted.
+/// Goes over what was found of the pieces of a round, in order, and adds those that are not
+/// decided, up to the first that is refuted.
 fn add_round<R: Threads + Wait + Clock + Sync>(
     rt: &R,
     alloc: Global,
@@ -176,7 +184,8 @@ fn judge_parts<R: Threads + Wait + Clock + Sync>(
 ) -> Result<Vec<Vec<PieceFound>>, AllocError>
     requires pieces { ArePiecesOfLog pieces.now }
     requires stop { stop ≤ length pieces.now }
-    ensures { IfOk result (λ all. AllByRecursion (λ found. AreFound means.now pieces.now found.items) all.items) }
+    ensures { IfOk result (λ all. AllByRecursion
+        (λ found. AreFound means.now pieces.now found.items) all.items) }
 {
     let workers = usize::from(means.workers.get());
     let part = |worker: usize| -> Result<Vec<PieceFound>, AllocError>
@@ -194,7 +203,7 @@ fn judge_parts<R: Threads + Wait + Clock + Sync>(
         )
     };
     let parts = thread::map_indices(rt, alloc, workers, &part)?;
-    collected(alloc, pieces, means, parts)
+    collect_parts(alloc, pieces, means, parts)
 }
 
 /// A round that was judged.
@@ -206,8 +215,8 @@ pub struct Round {
     pub refuted: Option<Refuted>,
 }
 
-/// Judges the pieces of a round, which begins at `start`, and adds those that are not decided. Once the time is up, it goes over all
-/// pieces and judges none.
+/// Judges the pieces of a round, which begins at `start`, and adds those that are not decided. Once
+/// the time is up, it goes over all pieces and judges none.
 pub fn judge_round<R: Threads + Wait + Clock + Sync>(
     rt: &R,
     alloc: Global,

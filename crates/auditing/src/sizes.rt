@@ -1,23 +1,26 @@
 //! Whether a log is within the limits that are no part of its sessions' rules.
 
-ghost use Rattle.std.specs.Prelude.{◌≡◌, ◌+◌, ◌-◌, ◌^◌, ◌<◌, ◌≤◌, ℕ, length, map, min, IfOk, MatchOption, IsTrue, not};
+ghost use Rattle.std.specs.Prelude.{◌≡◌, ◌+◌, ◌-◌, ◌^◌, ◌<◌, ◌≤◌, ℕ, length, map, min, IfOk};
+ghost use Rattle.std.specs.Prelude.{MatchOption, IsTrue, not};
 ghost use Rattle.session_log.specs.Text.{view, session_lines};
 ghost use Rattle.log_definitions.specs.WellFormed.{log_lines};
-ghost use Rattle.auditing.specs.Counts.{capped, IsOver};
+ghost use Rattle.session_history.specs.Counted.{capped};
+ghost use Rattle.auditing.specs.Counts.{IsOver};
 ghost use Rattle.session_log.specs.declared.fault.Limit.TheVariants.{LogBytes};
 ghost use Rattle.session_log.specs.declared.limits.TheConstants.{MAX_LOG_BYTES};
 
-use crate::counts::Tally;
+use session_history::Tally;
 use session_log::{Limit, MAX_LOG_BYTES, MAX_OPERATIONS, MAX_SESSIONS, Session, print_log};
 use std::alloc::{AllocError, Global};
 
-/// So many lines are no more than `MAX_LOG_BYTES` bytes, since a line has 88 bytes at most: `w `, a key of 64 bytes, a space, an
-/// identity of 20 digits, and the line feed.
+/// So many lines are no more than `MAX_LOG_BYTES` bytes, since a line has 88 bytes at most: `w `, a
+/// key of 64 bytes, a space, an identity of 20 digits, and the line feed.
 const FEW_LINES: usize = 150_000;
 
 /// So many lines, and those of a session more, up to `usize::MAX`.
 fn with_lines(lines: usize, session: &Session) -> usize
-    ensures { (before : ℕ) → lines ≡ capped before → result ≡ capped (before + length (session_lines (view session.now))) }
+    ensures { (before : ℕ) → lines ≡ capped before
+        → result ≡ capped (before + length (session_lines (view session.now))) }
 {
     let mut count = lines.saturating_add(1);
     for txn in &session.txns {
@@ -37,12 +40,13 @@ pub fn line_count(sessions: &[Session]) -> usize
     lines
 }
 
-/// Whether the log of sessions that have so many lines has too many bytes. It is printed only where it may have, and where it has not
-/// too many operations.
+/// Whether the log of sessions that have so many lines has too many bytes. It is printed only where
+/// it may have, and where it has not too many operations.
 fn has_many_bytes(alloc: Global, sessions: &[Session], lines: usize) -> Result<bool, AllocError>
     requires lines { lines ≡ capped (length (log_lines (map view sessions.now))) }
     ensures many { IfOk result (λ many. IsTrue many → IsOver (map view sessions.now) LogBytes) }
-    ensures few { IfOk result (λ many. IsTrue (not many) → length (log_lines (map view sessions.now)) ≤ MAX_LOG_BYTES) }
+    ensures few { IfOk result (λ many. IsTrue (not many)
+        → length (log_lines (map view sessions.now)) ≤ MAX_LOG_BYTES) }
 {
     if lines > MAX_LOG_BYTES {
         return Ok(true);

@@ -34,8 +34,9 @@ fn are_too_few(committed: usize, at_least: usize) -> bool
     at_least > committed
 }
 
-/// What the pieces of a log say of it: that it has no serial order where one of them has none; else nothing, where it has too few
-/// committed transactions or some piece is not decided; else that it has one. The pieces and the budget stand for the contract alone.
+/// What the pieces of a log say of it: that it has no serial order where one of them has none; else
+/// nothing, where it has too few committed transactions or some piece is not decided; else that it
+/// has one. The pieces and the budget stand for the contract alone.
 pub fn verdict_of(
     counts: &LogCounts,
     _pieces: &Pieces,
@@ -45,7 +46,8 @@ pub fn verdict_of(
 ) -> Verdict
     requires judged { AreJudged _budget _pieces.now judged.now }
     ensures verdict { (ss : List ClientSession) → AllByRecursion IsLegal ss → IsSoundLog ss →
-        ArePieces (resolved ss) _pieces.now → AreCounts ss counts.now → IsVerdict ss _pieces.now judged.now at_least result }
+        ArePieces (resolved ss) _pieces.now → AreCounts ss counts.now
+        → IsVerdict ss _pieces.now judged.now at_least result }
 {
     match judged.refuted {
         Some(refuted) => Verdict::NotSerializable(refuted),

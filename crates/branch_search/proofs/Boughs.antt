@@ -7,8 +7,8 @@ use Rattle.pruning_laws.specs.declared.side.Side.TheVariants.{One, Two}
 use Rattle.desk.proofs.Tied.{get_set}
 use Rattle.cube_laws.specs.Cubes.{Cube, is_decided, edges_under}
 use Rattle.cube_laws.specs.Steps.{is_cycle}
-use Rattle.cube_laws.specs.declared.messages.Mark.{Mark}
-use Rattle.cube_laws.specs.declared.messages.Mark.TheVariants.{Open, Held, Split as Divided, Refuted, Solved as Ended}
+use Rattle.cube_laws.specs.declared.messages.CubeState.{CubeState}
+use Rattle.cube_laws.specs.declared.messages.CubeState.TheVariants.{Open, Held, Split as Divided, Refuted, Solved as Ended}
 use Rattle.branch_search.specs.declared.tree.Decision.{Decision}
 use Rattle.branch_search.specs.declared.tree.Growth.{Growth}
 use Rattle.branch_search.specs.declared.tree.Growth.TheVariants.{Leaf, Inner}
@@ -16,7 +16,7 @@ use Rattle.branch_search.specs.Growing.{bud}
 use Rattle.branch_search.proofs.Lists.{some_is, within, set_here, set_apart, set_length, append_left, append_cases, append_at, length_append, or_left}
 
 -- a mark of a node that is neither split nor refuted
-pub record IsLive (m : Mark) : Type 0 where
+pub record IsLive (m : CubeState) : Type 0 where
   pub not_refuted : m ≡ Refuted → ⊥
   pub not_divided : (c : ℕ) → m ≡ Divided c → ⊥
 
@@ -29,7 +29,7 @@ live_held seat = record { not_refuted = λ e. cc; not_divided = λ c e. cc }
 pub live_ended : IsLive Ended
 live_ended = record { not_refuted = λ e. cc; not_divided = λ c e. cc }
 
-pub record IsUnder (ms : List Mark) (i q : ℕ) : Type 0 where
+pub record IsUnder (ms : List CubeState) (i q : ℕ) : Type 0 where
   pub before : q < i
   pub choice : ℕ
   pub split : slice_get ms q ≡ Some (Divided choice)
@@ -54,7 +54,7 @@ pub record HasChildren (p : Polygraph) (cs : List Cube) (ps : List ℕ) (ds : Li
   pub two : IsChildAt ps ds i c Two second
   pub only : (j : ℕ) → 0 < j → slice_get ps j ≡ Some i → (j ≡ first) ⊎ (j ≡ second)
 
-pub record IsGrown (p : Polygraph) (cs : List Cube) (ms : List Mark) (ps : List ℕ) (ds : List (Option Decision)) (gs : List Growth) : Type 0 where
+pub record IsGrown (p : Polygraph) (cs : List Cube) (ms : List CubeState) (ps : List ℕ) (ds : List (Option Decision)) (gs : List Growth) : Type 0 where
   pub cubes : length cs ≡ length ms
   pub parents : length ps ≡ length ms
   pub decisions : length ds ≡ length ms
@@ -83,20 +83,20 @@ grown_first p = record {
     past zero q lt e = omega (arith, lt)
     past (suc i) q lt e = cc
 
-    open_is : (i : ℕ) (m : Mark) → slice_get (Open ∷ []) i ≡ Some m → (Open ≡ m → ⊥) → ⊥
+    open_is : (i : ℕ) (m : CubeState) → slice_get (Open ∷ []) i ≡ Some m → (Open ≡ m → ⊥) → ⊥
     open_is zero m e never = never (some_is Open m e)
     open_is (suc i) m e never = cc
 
-module _ (p : Polygraph) (cs : List Cube) (ms : List Mark) (ps : List ℕ) (ds : List (Option Decision)) (gs : List Growth) (id : ℕ) (old : Mark) (here : slice_get ms id ≡ Some old) (live : IsLive old) (g : IsGrown p cs ms ps ds gs) where
+module _ (p : Polygraph) (cs : List Cube) (ms : List CubeState) (ps : List ℕ) (ds : List (Option Decision)) (gs : List Growth) (id : ℕ) (old : CubeState) (here : slice_get ms id ≡ Some old) (live : IsLive old) (g : IsGrown p cs ms ps ds gs) where
   -- a split node is not the one that is live
   apart : (i c : ℕ) → slice_get ms i ≡ Some (Divided c) → i ≡ id → ⊥
   apart i c e is = live.not_divided c (some_is old (Divided c) (sym here ∙ ap (λ k. slice_get ms k) (sym is) ∙ e))
 
-  under : (new : Mark) (i q : ℕ) → IsUnder ms i q → IsUnder (slice_set ms id new) i q
+  under : (new : CubeState) (i q : ℕ) → IsUnder ms i q → IsUnder (slice_set ms id new) i q
   under new i q u = record { before = u.before; choice = u.choice; split = set_apart ms id q new (Divided u.choice) (apart q u.choice u.split) u.split }
 
   -- ---- another mark
-  pub grown_marked : (new : Mark) → IsLive new → IsGrown p cs (slice_set ms id new) ps ds gs
+  pub grown_marked : (new : CubeState) → IsLive new → IsGrown p cs (slice_set ms id new) ps ds gs
   grown_marked new fresh = record {
     cubes = g.cubes ∙ sym (set_length ms id new);
     parents = g.parents ∙ sym (set_length ms id new);
@@ -144,7 +144,7 @@ module _ (p : Polygraph) (cs : List Cube) (ms : List Mark) (ps : List ℕ) (ds :
     abbrev new_cs : List Cube
     new_cs = cs ++ one ∷ two ∷ []
 
-    abbrev new_ms : List Mark
+    abbrev new_ms : List CubeState
     new_ms = slice_set ms id (Divided c) ++ Open ∷ Open ∷ []
 
     abbrev new_ps : List ℕ
@@ -173,7 +173,7 @@ module _ (p : Polygraph) (cs : List Cube) (ms : List Mark) (ps : List ℕ) (ds :
     is_id (suc zero) q e = sym (some_is id q e)
     is_id (suc (suc k)) q e = absurd (cc)
 
-    is_open : (k : ℕ) (m : Mark) → slice_get (Open ∷ Open ∷ []) k ≡ Some m → (Open ≡ m → ⊥) → ⊥
+    is_open : (k : ℕ) (m : CubeState) → slice_get (Open ∷ Open ∷ []) k ≡ Some m → (Open ≡ m → ⊥) → ⊥
     is_open zero m e never = never (some_is Open m e)
     is_open (suc zero) m e never = never (some_is Open m e)
     is_open (suc (suc k)) m e never = cc

@@ -7,8 +7,8 @@ use Rattle.desk.specs.History.{IsLegal, IsReached, replay}
 use Rattle.cube_laws.specs.State.{State, opening_state}
 use Rattle.cube_laws.specs.Steps.{has_solved, has_live, is_exhausted, next_of, reply_of}
 use Rattle.cube_laws.specs.Runs.{solves}
-use Rattle.cube_laws.specs.declared.messages.Event.{Event}
-use Rattle.cube_laws.specs.declared.messages.Reply.{Reply}
+use Rattle.cube_laws.specs.declared.messages.CubeEvent.{CubeEvent}
+use Rattle.cube_laws.specs.declared.messages.CubeReply.{CubeReply}
 use Rattle.cube_laws.proofs.Grown.{grown_opening, grown_after}
 use Rattle.cube_laws.proofs.Counted.{solved_before}
 use Rattle.branch_search.specs.Answers.{IsSpent, IsReadFrom, EndsRun}
@@ -21,7 +21,7 @@ still_live false true e f = refl
 still_live false false e f = absurd (cc)
 
 -- a state that steps reach is spent where none of them solved a node, and a cube is left
-pub spent_at : (p : Polygraph) (budget : ℕ) (steps : List (Entry Event Reply)) (s : State) (closed : ℕ) → IsReached next_of reply_of (Some (opening_state p budget)) steps s → list_any (λ x. solves x.event x.reply) steps ≡ false → is_exhausted s ≡ false → closed ≡ s.closed → closed ≡ budget → IsSpent s closed
+pub spent_at : (p : Polygraph) (budget : ℕ) (steps : List (Entry CubeEvent CubeReply)) (s : State) (closed : ℕ) → IsReached next_of reply_of (Some (opening_state p budget)) steps s → list_any (λ x. solves x.event x.reply) steps ≡ false → is_exhausted s ≡ false → closed ≡ s.closed → closed ≡ budget → IsSpent s closed
 spent_at p budget steps s closed r none left count spent =
     let first : opening_state p budget ≡ r.0 = some_is (opening_state p budget) r.0 r.1 in
     let legal = subst (λ (t : State). IsLegal next_of reply_of t steps) (sym first) r.2 in
@@ -37,7 +37,7 @@ spent_at p budget steps s closed r none left count spent =
     }
 
 -- an answer that is read from a state which steps reach
-pub ends_run : (p : Polygraph) (budget : ℕ) (steps : List (Entry Event Reply)) (s first : State) (a : Answer) → first ≡ opening_state p budget → IsReached next_of reply_of (Some first) steps s → IsReadFrom s a → EndsRun p budget a
+pub ends_run : (p : Polygraph) (budget : ℕ) (steps : List (Entry CubeEvent CubeReply)) (s first : State) (a : Answer) → first ≡ opening_state p budget → IsReached next_of reply_of (Some first) steps s → IsReadFrom s a → EndsRun p budget a
 ends_run p budget steps s first a opening r read =
     let same : opening_state p budget ≡ r.0 = sym opening ∙ some_is first r.0 r.1 in
     record {

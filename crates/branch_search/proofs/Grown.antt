@@ -1,17 +1,17 @@
 -- Steps of a growing tree.
 use Rattle.std.proofs.Common.{◌≡◌, ℕ, List, Bool, true, false, Option, Some, None, refl, ap, ◌∙◌}
-use Rattle.cube_laws.specs.declared.messages.Event.{Event}
-use Rattle.cube_laws.specs.declared.messages.Reply.{Reply}
+use Rattle.cube_laws.specs.declared.messages.CubeEvent.{CubeEvent}
+use Rattle.cube_laws.specs.declared.messages.CubeReply.{CubeReply}
 use Rattle.cube_laws.specs.Runs.{is_closing}
 use Rattle.branch_search.specs.declared.tree.TreeNode.{TreeNode}
 use Rattle.branch_search.specs.Growing.{closed_with, closed_where, grown}
 use Rattle.std.specs.Prelude.{if◌then◌else◌}
 
-pub grown_open : (nodes : List TreeNode) (held : Option ℕ) (e : Event) (r : Reply) → is_closing r ≡ false → grown nodes held e r ≡ nodes
+pub grown_open : (nodes : List TreeNode) (held : Option ℕ) (e : CubeEvent) (r : CubeReply) → is_closing r ≡ false → grown nodes held e r ≡ nodes
 unfolding grown
 grown_open nodes held e r is = ap (λ b. if b then closed_where nodes e held else nodes) is
 
-pub grown_none : (nodes : List TreeNode) (held : Option ℕ) (e : Event) (r : Reply) → held ≡ None → grown nodes held e r ≡ nodes
+pub grown_none : (nodes : List TreeNode) (held : Option ℕ) (e : CubeEvent) (r : CubeReply) → held ≡ None → grown nodes held e r ≡ nodes
 unfolding grown
 grown_none nodes held e r is = ap (λ h. grown nodes h e r) is ∙ by (is_closing r)
   where
@@ -19,6 +19,6 @@ grown_none nodes held e r is = ap (λ h. grown nodes h e r) is ∙ by (is_closin
     by true = refl
     by false = refl
 
-pub grown_closed : (nodes : List TreeNode) (held : Option ℕ) (id : ℕ) (e : Event) (r : Reply) → is_closing r ≡ true → held ≡ Some id → grown nodes held e r ≡ closed_with nodes id e
+pub grown_closed : (nodes : List TreeNode) (held : Option ℕ) (id : ℕ) (e : CubeEvent) (r : CubeReply) → is_closing r ≡ true → held ≡ Some id → grown nodes held e r ≡ closed_with nodes id e
 unfolding grown
 grown_closed nodes held id e r is h = ap (λ b. if b then closed_where nodes e held else nodes) is ∙ ap (λ o. closed_where nodes e o) h

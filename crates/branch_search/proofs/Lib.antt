@@ -7,7 +7,6 @@ pub mod Seated
 pub mod Cubed
 pub mod Planted
 pub mod Upward
-pub mod Checked
 pub mod Ends
 pub mod Retraced
 pub mod Asked

@@ -11,12 +11,12 @@ use Rattle.cube_laws.specs.Cubes.{Cube, is_decided, edges_under}
 use Rattle.cube_laws.specs.State.{Node, State, opening_state}
 use Rattle.cube_laws.specs.Steps.{is_open, is_held, is_solved, is_cycle, is_solution, is_finished, is_exhausted, is_open_at, is_choice, can_split, node_held, last_open, has_solved, has_live, cube_at, with_mark, claim_reply, any_reply, split_reply, refute_reply, solve_reply, reply_of, next_of, claimed, taken, held_where, split_where, refuted_where, solved_where, opened_at, held_at, closed_by, split_at}
 use Rattle.cube_laws.specs.Runs.{is_closing}
-use Rattle.cube_laws.specs.declared.messages.Mark.{Mark}
-use Rattle.cube_laws.specs.declared.messages.Mark.TheVariants.{Open, Held, Split as Divided, Refuted, Solved as Ended}
-use Rattle.cube_laws.specs.declared.messages.Event.{Event}
-use Rattle.cube_laws.specs.declared.messages.Event.TheVariants.{Claim, TakeAny, Split, Refute, Solve, Release}
-use Rattle.cube_laws.specs.declared.messages.Reply.{Reply}
-use Rattle.cube_laws.specs.declared.messages.Reply.TheVariants.{Finished, HasCube, NotOpen, NoneNow, Cube as Given, NoCube, BadChoice, Children, BadCycle, Closed, BadOrder, Solved, Released}
+use Rattle.cube_laws.specs.declared.messages.CubeState.{CubeState}
+use Rattle.cube_laws.specs.declared.messages.CubeState.TheVariants.{Open, Held, Split as Divided, Refuted, Solved as Ended}
+use Rattle.cube_laws.specs.declared.messages.CubeEvent.{CubeEvent}
+use Rattle.cube_laws.specs.declared.messages.CubeEvent.TheVariants.{Claim, TakeAny, Split, Refute, Solve, Release}
+use Rattle.cube_laws.specs.declared.messages.CubeReply.{CubeReply}
+use Rattle.cube_laws.specs.declared.messages.CubeReply.TheVariants.{Finished, HasCube, NotOpen, NoneNow, Cube as Given, NoCube, BadChoice, Children, BadCycle, Closed, BadOrder, Solved, Released}
 use Rattle.branch_search.specs.declared.tree.Decision.{Decision}
 use Rattle.branch_search.specs.declared.tree.Growth.{Growth}
 use Rattle.branch_search.specs.declared.tree.Growth.TheVariants.{Leaf, Inner}
@@ -42,22 +42,22 @@ module _ (p : Polygraph) (s : State) (nodes : List TreeNode) (h now : ℕ → Op
   mark_of id held = (t.tied seat id low).to held
 
   -- the node of the state, and of the tree, with this mark
-  state_node : (id : ℕ) (m : Mark) → slice_get (marks_of s.nodes) id ≡ Some m → (n : Node) × (slice_get s.nodes id ≡ Some n)
+  state_node : (id : ℕ) (m : CubeState) → slice_get (marks_of s.nodes) id ≡ Some m → (n : Node) × (slice_get s.nodes id ≡ Some n)
   state_node id m e = let r = some_map (λ (x : Node). x.mark) s.nodes id m e in (r.0, r.1)
 
-  tree_node : (id : ℕ) (m : Mark) → slice_get (marks_of s.nodes) id ≡ Some m → (n : TreeNode) × (slice_get nodes id ≡ Some n)
+  tree_node : (id : ℕ) (m : CubeState) → slice_get (marks_of s.nodes) id ≡ Some m → (n : TreeNode) × (slice_get nodes id ≡ Some n)
   tree_node id m e =
       let lt = within (marks_of s.nodes) id m e in let same = t.boughs.growths in
       let g = there (growths_of nodes) id (omega (arith, lt, same)) in
       let r = some_map (λ (x : TreeNode). x.growth) nodes id g.0 g.1 in (r.0, r.1)
 
-  quiet : (e : Event) (r q : Reply) → r ≡ q → is_closing q ≡ false → held_after (h seat) q ≡ h seat → now seat ≡ held_after (h seat) r → IsTree p s (grown nodes (h seat) e r) now
+  quiet : (e : CubeEvent) (r q : CubeReply) → r ≡ q → is_closing q ≡ false → held_after (h seat) q ≡ h seat → now seat ≡ held_after (h seat) r → IsTree p s (grown nodes (h seat) e r) now
   quiet e r q is c same here =
       subst (λ ns. IsTree p s ns now) (sym (grown_open nodes (h seat) e r (ap is_closing is ∙ c)))
       (record { poly = t.poly; cubes = t.cubes; boughs = t.boughs; tied = tied_same (marks_of s.nodes) h now seat t.tied others (here ∙ ap (held_after (h seat)) is ∙ same) })
 
   -- a node has another mark, and is neither split nor refuted
-  marked : (id closed : ℕ) (old m : Mark) → slice_get (marks_of s.nodes) id ≡ Some old → IsLive old → IsLive m → Tied (slice_set (marks_of s.nodes) id m) now
+  marked : (id closed : ℕ) (old m : CubeState) → slice_get (marks_of s.nodes) id ≡ Some old → IsLive old → IsLive m → Tied (slice_set (marks_of s.nodes) id m) now
       → IsTree p (record { polygraph = s.polygraph; nodes = with_mark s.nodes id m; closed = closed; budget = s.budget }) nodes now
   marked id closed old m at live fresh tied =
       let n = state_node id old at in
@@ -66,17 +66,17 @@ module _ (p : Polygraph) (s : State) (nodes : List TreeNode) (h now : ℕ → Op
       record {
         poly = t.poly;
         cubes = cs ∙ t.cubes;
-        boughs = subst (λ (z : List Cube × List Mark). IsGrown p z.0 z.1 (parents_of nodes) (decisions_of nodes) (growths_of nodes)) (λ i. (sym cs i, sym ms i))
+        boughs = subst (λ (z : List Cube × List CubeState). IsGrown p z.0 z.1 (parents_of nodes) (decisions_of nodes) (growths_of nodes)) (λ i. (sym cs i, sym ms i))
             (grown_marked p (cubes_in s.nodes) (marks_of s.nodes) (parents_of nodes) (decisions_of nodes) (growths_of nodes) id old at live t.boughs m fresh);
         tied = subst (λ l. Tied l now) (sym ms) tied;
       }
 
-  give : (id : ℕ) (e : Event) (r : Reply) → h seat ≡ None → slice_get (marks_of s.nodes) id ≡ Some Open → r ≡ Given id → now seat ≡ held_after (h seat) r → IsTree p (held_at s seat id) (grown nodes (h seat) e r) now
+  give : (id : ℕ) (e : CubeEvent) (r : CubeReply) → h seat ≡ None → slice_get (marks_of s.nodes) id ≡ Some Open → r ≡ Given id → now seat ≡ held_after (h seat) r → IsTree p (held_at s seat id) (grown nodes (h seat) e r) now
   give id e r none at is here =
       subst (λ ns. IsTree p (held_at s seat id) ns now) (sym (grown_open nodes (h seat) e r (ap is_closing is)))
       (marked id s.closed Open (Held seat) at live_open (live_held seat) (tied_given (marks_of s.nodes) h now seat id low t.tied others at none (here ∙ ap (held_after (h seat)) is)))
 
-  not_held : (m : Mark) → m ≡ Open ⊎ (m ≡ Ended ⊎ (m ≡ Refuted ⊎ ((c : ℕ) × (m ≡ Divided c)))) → (k : ℕ) → m ≡ Held k → ⊥
+  not_held : (m : CubeState) → m ≡ Open ⊎ (m ≡ Ended ⊎ (m ≡ Refuted ⊎ ((c : ℕ) × (m ≡ Divided c)))) → (k : ℕ) → m ≡ Held k → ⊥
   not_held m f k e = elim f [
     | inl a ↦ (let x : Open ≡ Held k = sym a ∙ e in cc)
     | inr b ↦ elim b [
@@ -88,36 +88,36 @@ module _ (p : Polygraph) (s : State) (nodes : List TreeNode) (h now : ℕ → Op
     ]
   ]
 
-  release : (o : Option ℕ) (r : Reply) → o ≡ h seat → r ≡ Released → now seat ≡ held_after (h seat) r → IsTree p (opened_at s o) (grown nodes (h seat) Release r) now
+  release : (o : Option ℕ) (r : CubeReply) → o ≡ h seat → r ≡ Released → now seat ≡ held_after (h seat) r → IsTree p (opened_at s o) (grown nodes (h seat) Release r) now
   release None r is e here = quiet Release r Released e refl is here
   release (Some id) r is e here =
       subst (λ ns. IsTree p (opened_at s (Some id)) ns now) (sym (grown_open nodes (h seat) Release r (ap is_closing e)))
       (marked id s.closed (Held seat) Open (mark_of id (sym is)) (live_held seat) live_open
       (tied_left (marks_of s.nodes) h now seat id Open low t.tied others (sym is) (not_held Open (inl refl)) (here ∙ ap (held_after (h seat)) e)))
 
-  claim_where : (id : ℕ) (r : Reply) (b : Bool) → is_open_at s id ≡ b → h seat ≡ None → r ≡ (if b then Given id else NotOpen) → now seat ≡ held_after (h seat) r → IsTree p (held_where s seat (if b then Some id else None)) (grown nodes (h seat) (Claim id) r) now
+  claim_where : (id : ℕ) (r : CubeReply) (b : Bool) → is_open_at s id ≡ b → h seat ≡ None → r ≡ (if b then Given id else NotOpen) → now seat ≡ held_after (h seat) r → IsTree p (held_where s seat (if b then Some id else None)) (grown nodes (h seat) (Claim id) r) now
   claim_where id r true at none e here = give id (Claim id) r none (claimed_is_open s id at) e here
   claim_where id r false at none e here = quiet (Claim id) r NotOpen e refl refl here
 
-  claim : (id : ℕ) (r : Reply) (b : Bool) (o : Option ℕ) → o ≡ h seat → r ≡ (if b then Finished else claim_reply s id o) → now seat ≡ held_after (h seat) r → IsTree p (if b then s else held_where s seat (claimed s id o)) (grown nodes (h seat) (Claim id) r) now
+  claim : (id : ℕ) (r : CubeReply) (b : Bool) (o : Option ℕ) → o ≡ h seat → r ≡ (if b then Finished else claim_reply s id o) → now seat ≡ held_after (h seat) r → IsTree p (if b then s else held_where s seat (claimed s id o)) (grown nodes (h seat) (Claim id) r) now
   claim id r true o is e here = quiet (Claim id) r Finished e refl refl here
   claim id r false (Some x) is e here = quiet (Claim id) r HasCube e refl refl here
   claim id r false None is e here = claim_where id r (is_open_at s id) refl (sym is) e here
 
-  take_any : (r : Reply) (b : Bool) (o q : Option ℕ) → o ≡ h seat → last_open s ≡ q → r ≡ (if b then Finished else any_reply o q) → now seat ≡ held_after (h seat) r → IsTree p (if b then s else held_where s seat (taken o q)) (grown nodes (h seat) TakeAny r) now
+  take_any : (r : CubeReply) (b : Bool) (o q : Option ℕ) → o ≡ h seat → last_open s ≡ q → r ≡ (if b then Finished else any_reply o q) → now seat ≡ held_after (h seat) r → IsTree p (if b then s else held_where s seat (taken o q)) (grown nodes (h seat) TakeAny r) now
   take_any r true o q is at e here = quiet TakeAny r Finished e refl refl here
   take_any r false (Some x) q is at e here = quiet TakeAny r HasCube e refl refl here
   take_any r false None None is at e here = quiet TakeAny r NoneNow e refl refl here
   take_any r false None (Some id) is at e here = give id TakeAny r (sym is) (last_is_open s.nodes id at) e here
 
-  solve_where : (order : List ℕ) (id : ℕ) (r : Reply) (b : Bool) → h seat ≡ Some id → r ≡ (if b then Solved else BadOrder) → now seat ≡ held_after (h seat) r → IsTree p (if b then closed_by s id Ended else s) (grown nodes (h seat) (Solve order) r) now
+  solve_where : (order : List ℕ) (id : ℕ) (r : CubeReply) (b : Bool) → h seat ≡ Some id → r ≡ (if b then Solved else BadOrder) → now seat ≡ held_after (h seat) r → IsTree p (if b then closed_by s id Ended else s) (grown nodes (h seat) (Solve order) r) now
   solve_where order id r true held e here =
       subst (λ ns. IsTree p (closed_by s id Ended) ns now) (sym (grown_closed nodes (h seat) id (Solve order) r (ap is_closing e) held))
       (marked id (s.closed + 1) (Held seat) Ended (mark_of id held) (live_held seat) live_ended
       (tied_left (marks_of s.nodes) h now seat id Ended low t.tied others held (not_held Ended (inr (inl refl))) (here ∙ ap (held_after (h seat)) e)))
   solve_where order id r false held e here = quiet (Solve order) r BadOrder e refl refl here
 
-  solve : (order : List ℕ) (r : Reply) (b : Bool) (o : Option ℕ) → o ≡ h seat → r ≡ (if b then Finished else solve_reply s order o) → now seat ≡ held_after (h seat) r → IsTree p (if b then s else solved_where s order o) (grown nodes (h seat) (Solve order) r) now
+  solve : (order : List ℕ) (r : CubeReply) (b : Bool) (o : Option ℕ) → o ≡ h seat → r ≡ (if b then Finished else solve_reply s order o) → now seat ≡ held_after (h seat) r → IsTree p (if b then s else solved_where s order o) (grown nodes (h seat) (Solve order) r) now
   solve order r true o is e here = quiet (Solve order) r Finished e refl refl here
   solve order r false None is e here = quiet (Solve order) r NoCube e refl refl here
   solve order r false (Some id) is e here = solve_where order id r (is_solution s.polygraph (cube_at s id) order) (sym is) e here
@@ -142,18 +142,18 @@ module _ (p : Polygraph) (s : State) (nodes : List TreeNode) (h now : ℕ → Op
       record {
         poly = t.poly;
         cubes = cs ∙ t.cubes ∙ cubes_same [] nodes (with_growth nodes id (Leaf line)) (sym ps) (sym ds);
-        boughs = subst (λ (z : List Cube × List Mark × List ℕ × List (Option Decision) × List Growth). IsGrown p z.0 z.1 z.2 z.3 z.4) (λ i. (sym cs i, sym ms i, sym ps i, sym ds i, sym gs i))
+        boughs = subst (λ (z : List Cube × List CubeState × List ℕ × List (Option Decision) × List Growth). IsGrown p z.0 z.1 z.2 z.3 z.4) (λ i. (sym cs i, sym ms i, sym ps i, sym ds i, sym gs i))
             (grown_refuted p (cubes_in s.nodes) (marks_of s.nodes) (parents_of nodes) (decisions_of nodes) (growths_of nodes) id (Held seat) at (live_held seat) t.boughs line here);
         tied = subst (λ l. Tied l now) (sym ms) (tied_left (marks_of s.nodes) h now seat id Refuted low t.tied others held (not_held Refuted (inr (inr (inl refl)))) none);
       }
 
-  refute_where : (line : List ℕ) (id : ℕ) (r : Reply) (b : Bool) → is_cycle (edges_under s.polygraph (cube_at s id)) line ≡ b → h seat ≡ Some id → r ≡ (if b then Closed else BadCycle) → now seat ≡ held_after (h seat) r → IsTree p (if b then closed_by s id Refuted else s) (grown nodes (h seat) (Refute line) r) now
+  refute_where : (line : List ℕ) (id : ℕ) (r : CubeReply) (b : Bool) → is_cycle (edges_under s.polygraph (cube_at s id)) line ≡ b → h seat ≡ Some id → r ≡ (if b then Closed else BadCycle) → now seat ≡ held_after (h seat) r → IsTree p (if b then closed_by s id Refuted else s) (grown nodes (h seat) (Refute line) r) now
   refute_where line id r true cycle held e here =
       subst (λ ns. IsTree p (closed_by s id Refuted) ns now) (sym (grown_closed nodes (h seat) id (Refute line) r (ap is_closing e) held))
       (refute_tree line id held (here ∙ ap (held_after (h seat)) e) cycle)
   refute_where line id r false cycle held e here = quiet (Refute line) r BadCycle e refl refl here
 
-  refute : (line : List ℕ) (r : Reply) (b : Bool) (o : Option ℕ) → o ≡ h seat → r ≡ (if b then Finished else refute_reply s line o) → now seat ≡ held_after (h seat) r → IsTree p (if b then s else refuted_where s line o) (grown nodes (h seat) (Refute line) r) now
+  refute : (line : List ℕ) (r : CubeReply) (b : Bool) (o : Option ℕ) → o ≡ h seat → r ≡ (if b then Finished else refute_reply s line o) → now seat ≡ held_after (h seat) r → IsTree p (if b then s else refuted_where s line o) (grown nodes (h seat) (Refute line) r) now
   refute line r true o is e here = quiet (Refute line) r Finished e refl refl here
   refute line r false None is e here = quiet (Refute line) r NoCube e refl refl here
   refute line r false (Some id) is e here = refute_where line id r (is_cycle (edges_under s.polygraph (cube_at s id)) line) refl (sym is) e here
@@ -184,24 +184,24 @@ module _ (p : Polygraph) (s : State) (nodes : List TreeNode) (h now : ℕ → Op
       record {
         poly = t.poly;
         cubes = cs ∙ sym (cubes_append [] old sprouts ∙ ap (λ (l : List Cube). cubes_after l sprouts) after ∙ cubes_split (cubes_in s.nodes) id c (cube_at s id) (omega (arith, lt, many)) (sym (cube_is id)));
-        boughs = subst (λ (z : List Cube × List Mark × List ℕ × List (Option Decision) × List Growth). IsGrown p z.0 z.1 z.2 z.3 z.4) (λ i. (sym cs i, sym ms i, sym ps i, sym ds i, sym gs i))
+        boughs = subst (λ (z : List Cube × List CubeState × List ℕ × List (Option Decision) × List Growth). IsGrown p z.0 z.1 z.2 z.3 z.4) (λ i. (sym cs i, sym ms i, sym ps i, sym ds i, sym gs i))
             (grown_split p (cubes_in s.nodes) (marks_of s.nodes) (parents_of nodes) (decisions_of nodes) (growths_of nodes) id (Held seat) at (live_held seat) t.boughs c choice undecided one two (length nodes) (sym (map_length (λ (y : TreeNode). y.growth) nodes) ∙ t.boughs.growths));
         tied = subst (λ l. Tied l now) (sym ms)
             (tied_more (slice_set (marks_of s.nodes) id (Divided c)) now (tied_left (marks_of s.nodes) h now seat id (Divided c) low t.tied others held (not_held (Divided c) (inr (inr (inr (c, refl))))) none));
       }
 
-  split_in : (c id : ℕ) (r : Reply) (b : Bool) → can_split s (cube_at s id) c ≡ b → h seat ≡ Some id → r ≡ (if b then Children (length s.nodes) (length s.nodes + 1) else BadChoice) → now seat ≡ held_after (h seat) r → IsTree p (if b then split_at s id c else s) (grown nodes (h seat) (Split c) r) now
+  split_in : (c id : ℕ) (r : CubeReply) (b : Bool) → can_split s (cube_at s id) c ≡ b → h seat ≡ Some id → r ≡ (if b then Children (length s.nodes) (length s.nodes + 1) else BadChoice) → now seat ≡ held_after (h seat) r → IsTree p (if b then split_at s id c else s) (grown nodes (h seat) (Split c) r) now
   split_in c id r true can held e here =
       subst (λ ns. IsTree p (split_at s id c) ns now) (sym (grown_closed nodes (h seat) id (Split c) r (ap is_closing e) held))
       (split_tree c id held (here ∙ ap (held_after (h seat)) e) can)
   split_in c id r false can held e here = quiet (Split c) r BadChoice e refl refl here
 
-  split : (c : ℕ) (r : Reply) (b : Bool) (o : Option ℕ) → o ≡ h seat → r ≡ (if b then Finished else split_reply s c o) → now seat ≡ held_after (h seat) r → IsTree p (if b then s else split_where s c o) (grown nodes (h seat) (Split c) r) now
+  split : (c : ℕ) (r : CubeReply) (b : Bool) (o : Option ℕ) → o ≡ h seat → r ≡ (if b then Finished else split_reply s c o) → now seat ≡ held_after (h seat) r → IsTree p (if b then s else split_where s c o) (grown nodes (h seat) (Split c) r) now
   split c r true o is e here = quiet (Split c) r Finished e refl refl here
   split c r false None is e here = quiet (Split c) r NoCube e refl refl here
   split c r false (Some id) is e here = split_in c id r (can_split s (cube_at s id) c) refl (sym is) e here
 
-  pub stepped : (e : Event) (r : Reply) → r ≡ reply_of s seat e → now seat ≡ held_after (h seat) r → IsTree p (next_of s seat e) (grown nodes (h seat) e r) now
+  pub stepped : (e : CubeEvent) (r : CubeReply) → r ≡ reply_of s seat e → now seat ≡ held_after (h seat) r → IsTree p (next_of s seat e) (grown nodes (h seat) e r) now
   unfolding next_of reply_of
   stepped (Claim id) r is here = claim id r (is_finished s) (node_held s seat) (held_is s.nodes h seat low t.tied) is here
   stepped TakeAny r is here = take_any r (is_finished s) (node_held s seat) (last_open s) (held_is s.nodes h seat low t.tied) refl is here
@@ -214,13 +214,13 @@ module _ (p : Polygraph) (s : State) (nodes : List TreeNode) (h now : ℕ → Op
 abbrev pub table : List (Option ℕ) → ℕ → Option ℕ
 table held k = slice_index_or held k None
 
-pub record Standing (p : Polygraph) (last : State) (nodes : List TreeNode) (held : List (Option ℕ)) (rest : List (Entry Event Reply)) : Type 0 where
+pub record Standing (p : Polygraph) (last : State) (nodes : List TreeNode) (held : List (Option ℕ)) (rest : List (Entry CubeEvent CubeReply)) : Type 0 where
   pub now : State
   pub tree : IsTree p now nodes (table held)
   pub legal : IsLegal next_of reply_of now rest
   pub ends : replay next_of now rest ≡ last
 
-pub standing_first : (p : Polygraph) (budget : ℕ) (history : List (Entry Event Reply)) (held : List (Option ℕ)) → held ≡ replicate 17 None → IsLegal next_of reply_of (opening_state p budget) history
+pub standing_first : (p : Polygraph) (budget : ℕ) (history : List (Entry CubeEvent CubeReply)) (held : List (Option ℕ)) → held ≡ replicate 17 None → IsLegal next_of reply_of (opening_state p budget) history
     → Standing p (replay next_of (opening_state p budget) history) (record { parent = 0; decision = None; growth = bud } ∷ []) held history
 standing_first p budget history held is legal = record {
   now = opening_state p budget;
@@ -236,7 +236,7 @@ standing_first p budget history held is legal = record {
     fresh zero k e = let f : Open ≡ Held k = some_is Open (Held k) e in cc
     fresh (suc i) k e = cc
 
-pub standing_step : (p : Polygraph) (last : State) (nodes after : List TreeNode) (held moved : List (Option ℕ)) (x : Entry Event Reply) (rest : List (Entry Event Reply)) → length held ≡ 17 → x.seat < 17
+pub standing_step : (p : Polygraph) (last : State) (nodes after : List TreeNode) (held moved : List (Option ℕ)) (x : Entry CubeEvent CubeReply) (rest : List (Entry CubeEvent CubeReply)) → length held ≡ 17 → x.seat < 17
     → after ≡ grown nodes (table held x.seat) x.event x.reply → moved ≡ slice_set held x.seat (held_after (table held x.seat) x.reply)
     → Standing p last nodes held (x ∷ rest) → Standing p last after moved rest
 standing_step p last nodes after held moved x rest size low made put st = record {
@@ -251,17 +251,17 @@ standing_step p last nodes after held moved x rest size low made put st = record
 }
 
 -- ---- where no node is left
-abbrev IsDone : Mark → Type 0
+abbrev IsDone : CubeState → Type 0
 IsDone m = (m ≡ Refuted) ⊎ ((c : ℕ) × (m ≡ Divided c))
 
-done_by : (m : Mark) → is_solved m ≡ false → (is_open m || is_held m) ≡ false → IsDone m
+done_by : (m : CubeState) → is_solved m ≡ false → (is_open m || is_held m) ≡ false → IsDone m
 done_by Open a b = absurd (cc)
 done_by (Held seat) a b = absurd (cc)
 done_by (Divided c) a b = inr (c, refl)
 done_by Refuted a b = inl refl
 done_by Ended a b = absurd (cc)
 
-all_done : (s : State) → is_exhausted s ≡ true → (i : ℕ) (m : Mark) → slice_get (marks_of s.nodes) i ≡ Some m → IsDone m
+all_done : (s : State) → is_exhausted s ≡ true → (i : ℕ) (m : CubeState) → slice_get (marks_of s.nodes) i ≡ Some m → IsDone m
 all_done s ex i m at =
     let parts = and_parts (not (has_solved s.nodes)) (not (has_live s.nodes)) ex in
     let n = some_map (λ (x : Node). x.mark) s.nodes i m at in
@@ -271,7 +271,7 @@ all_done s ex i m at =
     (any_false (λ (x : Node). is_open x.mark || is_held x.mark) s.nodes i n.0 (not-true (has_live s.nodes) parts.1) n.1))
 
 module _ (p : Polygraph) (s : State) (nodes : List TreeNode) (h : ℕ → Option ℕ) (t : IsTree p s nodes h) (ex : is_exhausted s ≡ true) where
-  mark_at : (i : ℕ) (x : TreeNode) → slice_get nodes i ≡ Some x → (m : Mark) × (slice_get (marks_of s.nodes) i ≡ Some m)
+  mark_at : (i : ℕ) (x : TreeNode) → slice_get nodes i ≡ Some x → (m : CubeState) × (slice_get (marks_of s.nodes) i ≡ Some m)
   mark_at i x e =
       let lt = within (growths_of nodes) i x.growth (map_some (λ (y : TreeNode). y.growth) nodes i x e) in let same = t.boughs.growths in
       there (marks_of s.nodes) i (omega (arith, lt, same))
@@ -335,6 +335,6 @@ module _ (p : Polygraph) (s : State) (nodes : List TreeNode) (h : ℕ → Option
   pub refutation : IsRefutationTree p nodes
   refutation = record { root = root_at; below = below_at; leaves = leaf_at; inner = inner_at }
 
-pub standing_last : (p : Polygraph) (last : State) (nodes : List TreeNode) (held : List (Option ℕ)) (rest : List (Entry Event Reply)) → length rest ≡ 0 → is_exhausted last ≡ true → Standing p last nodes held rest → IsRefutationTree p nodes
+pub standing_last : (p : Polygraph) (last : State) (nodes : List TreeNode) (held : List (Option ℕ)) (rest : List (Entry CubeEvent CubeReply)) → length rest ≡ 0 → is_exhausted last ≡ true → Standing p last nodes held rest → IsRefutationTree p nodes
 standing_last p last nodes held [] none ex st = refutation p st.now nodes (table held) st.tree (ap is_exhausted st.ends ∙ ex)
 standing_last p last nodes held (x ∷ xs) none ex st = absurd (omega (arith, none))

@@ -7,24 +7,24 @@ use Rattle.desk.proofs.Tied.{get_set}
 use Rattle.cube_laws.specs.Cubes.{Cube}
 use Rattle.cube_laws.specs.State.{Node, State}
 use Rattle.cube_laws.specs.Steps.{is_open, is_held_by, held_from, last_open_from, or_else, with_mark, is_open_at}
-use Rattle.cube_laws.specs.declared.messages.Mark.{Mark}
-use Rattle.cube_laws.specs.declared.messages.Mark.TheVariants.{Open, Held, Split as Divided, Refuted, Solved as Ended}
+use Rattle.cube_laws.specs.declared.messages.CubeState.{CubeState}
+use Rattle.cube_laws.specs.declared.messages.CubeState.TheVariants.{Open, Held, Split as Divided, Refuted, Solved as Ended}
 use Rattle.branch_search.proofs.Lists.{some_is, within, set_here, set_apart, set_self, append_left, append_cases, map_some, map_set}
 
-abbrev pub marks_of : List Node → List Mark
+abbrev pub marks_of : List Node → List CubeState
 marks_of nodes = map (λ n. n.mark) nodes
 
 abbrev pub cubes_in : List Node → List Cube
 cubes_in nodes = map (λ n. n.cube) nodes
 
 -- ---- a node is marked
-with_mark_is : (nodes : List Node) (id : ℕ) (m : Mark) (n : Node) → slice_get nodes id ≡ Some n → with_mark nodes id m ≡ slice_set nodes id (record n { mark = m })
+with_mark_is : (nodes : List Node) (id : ℕ) (m : CubeState) (n : Node) → slice_get nodes id ≡ Some n → with_mark nodes id m ≡ slice_set nodes id (record n { mark = m })
 with_mark_is nodes id m n e = ap (λ o. option_map_or (λ (x : Node). slice_set nodes id (record x { mark = m })) o nodes) e
 
-pub marks_with : (nodes : List Node) (id : ℕ) (m : Mark) (n : Node) → slice_get nodes id ≡ Some n → marks_of (with_mark nodes id m) ≡ slice_set (marks_of nodes) id m
+pub marks_with : (nodes : List Node) (id : ℕ) (m : CubeState) (n : Node) → slice_get nodes id ≡ Some n → marks_of (with_mark nodes id m) ≡ slice_set (marks_of nodes) id m
 marks_with nodes id m n e = ap marks_of (with_mark_is nodes id m n e) ∙ map_set (λ (x : Node). x.mark) nodes id (record n { mark = m })
 
-pub cubes_with : (nodes : List Node) (id : ℕ) (m : Mark) (n : Node) → slice_get nodes id ≡ Some n → cubes_in (with_mark nodes id m) ≡ cubes_in nodes
+pub cubes_with : (nodes : List Node) (id : ℕ) (m : CubeState) (n : Node) → slice_get nodes id ≡ Some n → cubes_in (with_mark nodes id m) ≡ cubes_in nodes
 cubes_with nodes id m n e =
     ap cubes_in (with_mark_is nodes id m n e)
     ∙ map_set (λ (x : Node). x.cube) nodes id (record n { mark = m })
@@ -35,7 +35,7 @@ pub by_test : {A : Type 0} (b : Bool) (x y : A) (o : Option A) → (if b then So
 by_test true x y o e = inl (refl, some_is x y e)
 by_test false x y o e = inr e
 
-held_mark : (seat : ℕ) (m : Mark) → is_held_by seat m ≡ true → m ≡ Held seat
+held_mark : (seat : ℕ) (m : CubeState) → is_held_by seat m ≡ true → m ≡ Held seat
 held_mark seat Open e = absurd (cc)
 held_mark seat (Held other) e = ap (λ k. Held k) (eqb-true other seat e)
 held_mark seat (Divided c) e = absurd (cc)
@@ -64,11 +64,11 @@ none_held seat k (x ∷ xs) zero e h =
 none_held seat k (x ∷ xs) (suc j) e h = none_held seat (k + 1) xs j (untested (is_held_by seat x.mark) k (held_from seat (k + 1) xs) e) h
 
 -- a table of the nodes that seats hold agrees with the marks
-pub record Ties (ms : List Mark) (h : ℕ → Option ℕ) (k i : ℕ) : Type 0 where
+pub record Ties (ms : List CubeState) (h : ℕ → Option ℕ) (k i : ℕ) : Type 0 where
   pub to : h k ≡ Some i → slice_get ms i ≡ Some (Held k)
   pub from : slice_get ms i ≡ Some (Held k) → h k ≡ Some i
 
-abbrev pub Tied : List Mark → (ℕ → Option ℕ) → Type 0
+abbrev pub Tied : List CubeState → (ℕ → Option ℕ) → Type 0
 Tied ms h = (k i : ℕ) → k < 17 → Ties ms h k i
 
 pub held_is : (nodes : List Node) (h : ℕ → Option ℕ) (seat : ℕ) → seat < 17 → Tied (marks_of nodes) h → held_from seat 0 nodes ≡ h seat
@@ -82,7 +82,7 @@ held_is nodes h seat lt t = go (held_from seat 0 nodes) (h seat) refl refl
         sym ((t seat i lt).from (ap (λ k. slice_get (marks_of nodes) k) (sym same) ∙ r.2)) ∙ f
 
 -- ---- the last open node
-pub open_mark : (m : Mark) → is_open m ≡ true → m ≡ Open
+pub open_mark : (m : CubeState) → is_open m ≡ true → m ≡ Open
 open_mark Open e = refl
 open_mark (Held seat) e = absurd (cc)
 open_mark (Divided c) e = absurd (cc)
@@ -120,7 +120,7 @@ claimed_is_open s id e = go (slice_get s.nodes id) refl e
 abbrev pub Others : (ℕ → Option ℕ) → (ℕ → Option ℕ) → ℕ → Type 0
 Others h now seat = (k : ℕ) → (k ≡ seat → ⊥) → now k ≡ h k
 
-pub tied_same : (ms : List Mark) (h now : ℕ → Option ℕ) (seat : ℕ) → Tied ms h → Others h now seat → now seat ≡ h seat → Tied ms now
+pub tied_same : (ms : List CubeState) (h now : ℕ → Option ℕ) (seat : ℕ) → Tied ms h → Others h now seat → now seat ≡ h seat → Tied ms now
 tied_same ms h now seat t others same k i lt = record { to = λ e. (t k i lt).to (sym (each k) ∙ e); from = λ e. each k ∙ (t k i lt).from e }
   where
     each : (k : ℕ) → now k ≡ h k
@@ -129,7 +129,7 @@ tied_same ms h now seat t others same k i lt = record { to = λ e. (t k i lt).to
 held_apart : (a b : ℕ) → Held a ≡ Held b → a ≡ b
 held_apart a b e = cc
 
-pub tied_given : (ms : List Mark) (h now : ℕ → Option ℕ) (seat id : ℕ) → seat < 17 → Tied ms h → Others h now seat → slice_get ms id ≡ Some Open → h seat ≡ None → now seat ≡ Some id → Tied (slice_set ms id (Held seat)) now
+pub tied_given : (ms : List CubeState) (h now : ℕ → Option ℕ) (seat id : ℕ) → seat < 17 → Tied ms h → Others h now seat → slice_get ms id ≡ Some Open → h seat ≡ None → now seat ≡ Some id → Tied (slice_set ms id (Held seat)) now
 tied_given ms h now seat id low t others at none here k i lt = elim (cases_eq k seat) [
   | inl a ↦ record {
     to = λ e. mine a e;
@@ -158,7 +158,7 @@ tied_given ms h now seat id low t others at none here k i lt = elim (cases_eq k 
     theirs : (k ≡ seat → ⊥) → now k ≡ Some i → slice_get (slice_set ms id (Held seat)) i ≡ Some (Held k)
     theirs b e = let old = (t k i lt).to (sym (others k b) ∙ e) in set_apart ms id i (Held seat) (Held k) (λ same. not_open same old) old
 
-pub tied_left : (ms : List Mark) (h now : ℕ → Option ℕ) (seat id : ℕ) (m : Mark) → seat < 17 → Tied ms h → Others h now seat → h seat ≡ Some id → ((k : ℕ) → m ≡ Held k → ⊥) → now seat ≡ None → Tied (slice_set ms id m) now
+pub tied_left : (ms : List CubeState) (h now : ℕ → Option ℕ) (seat id : ℕ) (m : CubeState) → seat < 17 → Tied ms h → Others h now seat → h seat ≡ Some id → ((k : ℕ) → m ≡ Held k → ⊥) → now seat ≡ None → Tied (slice_set ms id m) now
 tied_left ms h now seat id m low t others held free here k i lt = elim (cases_eq k seat) [
   | inl a ↦ record {
     to = λ e. absurd (never_some i (sym here ∙ ap now (sym a) ∙ e));
@@ -181,7 +181,7 @@ tied_left ms h now seat id m low t others held free here k i lt = elim (cases_eq
         let old = (t k i lt).to (sym (others k b) ∙ e) in
         set_apart ms id i m (Held k) (λ same. b (held_apart k seat (some_is (Held k) (Held seat) (sym old ∙ ap (λ j. slice_get ms j) same ∙ (t seat id low).to held)))) old
 
-pub tied_more : (ms : List Mark) (h : ℕ → Option ℕ) → Tied ms h → Tied (ms ++ Open ∷ Open ∷ []) h
+pub tied_more : (ms : List CubeState) (h : ℕ → Option ℕ) → Tied ms h → Tied (ms ++ Open ∷ Open ∷ []) h
 tied_more ms h t k i lt = record { to = λ e. append_left ms (Open ∷ Open ∷ []) i (Held k) ((t k i lt).to e); from = λ e. elim (append_cases ms (Open ∷ Open ∷ []) i (Held k) e) [ inl a ↦ (t k i lt).from a | inr b ↦ absurd (opens b.0 b.2) ] }
   where
     opens : (j : ℕ) → slice_get (Open ∷ Open ∷ []) j ≡ Some (Held k) → ⊥

@@ -1,15 +1,9 @@
 -- The cube of a node: what it decides itself, and its parent's cube.
-use Rattle.std.proofs.Common.{◌≡◌, ◌⊎◌, ℕ, zero, suc, ◌+◌, ◌<◌, ◌≤◌, Bool, true, false, ◌||◌, List, [], ◌∷◌, ◌++◌, length, Option, Some, None, refl, sym, ap, ◌∙◌, inl, inr, arith}
+use Rattle.std.proofs.Common.{◌≡◌, ℕ, zero, suc, ◌+◌, ◌<◌, ◌≤◌, List, [], ◌∷◌, ◌++◌, length, Some, None, refl, sym, ap, ◌∙◌, arith}
 use Rattle.std.specs.Prelude.{slice_get, slice_index_or}
-use Rattle.serializability.specs.Polygraph.{Edge, Polygraph}
-use Rattle.known_graph.specs.Tests.{has_edge}
-use Rattle.cube_laws.specs.Cubes.{Cube, is_decided, edges_under}
-use Rattle.cube_machine.specs.Sides.{side_in, cube_edges}
-use Rattle.cube_machine.proofs.Edges.{edge_append, under_is}
-use Rattle.branch_search.specs.declared.tree.Decision.{Decision}
+use Rattle.cube_laws.specs.Cubes.{Cube}
 use Rattle.branch_search.specs.declared.tree.TreeNode.{TreeNode}
 use Rattle.branch_search.specs.Trees.{cube_below, cubes_after, cube_of}
-use Rattle.branch_search.specs.Checks.{decides, adds}
 use Rattle.branch_search.proofs.Lists.{some_is, or_left, length_append}
 
 -- ---- elements past the end
@@ -87,70 +81,7 @@ cube_under nodes i x e lt = under_from [] nodes i i x (omega arith) e lt
 pub cube_top : (nodes : List TreeNode) (i : ℕ) (x : TreeNode) → slice_get nodes i ≡ Some x → i ≤ x.parent → cube_of nodes i ≡ cube_below [] x.decision
 cube_top nodes i x e le = top_from [] nodes i i x (omega arith) e le
 
-cube_past : (nodes : List TreeNode) (i : ℕ) → slice_get nodes i ≡ None → cube_of nodes i ≡ []
+pub cube_past : (nodes : List TreeNode) (i : ℕ) → slice_get nodes i ≡ None → cube_of nodes i ≡ []
 cube_past nodes i e =
     let le = none_past nodes i e in let l = cubes_length [] nodes in
     or_past (cubes_after [] nodes) i [] (omega (arith, le, l))
-
--- ---- what a cube decides, on the way up
-decided_below : (cube : Cube) (d : Option Decision) (c : ℕ) → is_decided (cube_below cube d) c ≡ (decides d c || is_decided cube c)
-decided_below cube None c = refl
-decided_below cube (Some d) c = refl
-
-or_first : (a b : Bool) → a ≡ true → (a || b) ≡ true
-or_first a b e = ap (λ t. t || b) e
-
-or_second : (a b : Bool) → a ≡ false → (a || b) ≡ b
-or_second a b e = ap (λ t. t || b) e
-
-joined : (nodes : List TreeNode) (i : ℕ) (x : TreeNode) (c : ℕ) (above : Cube) → cube_of nodes i ≡ cube_below above x.decision → is_decided (cube_of nodes i) c ≡ (decides x.decision c || is_decided above c)
-joined nodes i x c above e = ap (λ (k : Cube). is_decided k c) e ∙ decided_below above x.decision c
-
-pub decided_here : (nodes : List TreeNode) (i : ℕ) (x : TreeNode) (c : ℕ) → slice_get nodes i ≡ Some x → decides x.decision c ≡ true → (x.parent < i) ⊎ (i ≤ x.parent) → is_decided (cube_of nodes i) c ≡ true
-decided_here nodes i x c e t (inl lt) = joined nodes i x c (cube_of nodes x.parent) (cube_under nodes i x e lt) ∙ or_first (decides x.decision c) (is_decided (cube_of nodes x.parent) c) t
-decided_here nodes i x c e t (inr le) = joined nodes i x c [] (cube_top nodes i x e le) ∙ or_first (decides x.decision c) (is_decided [] c) t
-
-pub decided_up : (nodes : List TreeNode) (i : ℕ) (x : TreeNode) (c : ℕ) → slice_get nodes i ≡ Some x → decides x.decision c ≡ false → x.parent < i → is_decided (cube_of nodes i) c ≡ is_decided (cube_of nodes x.parent) c
-decided_up nodes i x c e f lt = joined nodes i x c (cube_of nodes x.parent) (cube_under nodes i x e lt) ∙ or_second (decides x.decision c) (is_decided (cube_of nodes x.parent) c) f
-
-pub decided_top : (nodes : List TreeNode) (i : ℕ) (x : TreeNode) (c : ℕ) → slice_get nodes i ≡ Some x → decides x.decision c ≡ false → i ≤ x.parent → is_decided (cube_of nodes i) c ≡ false
-decided_top nodes i x c e f le = joined nodes i x c [] (cube_top nodes i x e le) ∙ or_second (decides x.decision c) (is_decided [] c) f
-
-pub decided_past : (nodes : List TreeNode) (i c : ℕ) → slice_get nodes i ≡ None → is_decided (cube_of nodes i) c ≡ false
-decided_past nodes i c e = ap (λ (k : Cube). is_decided k c) (cube_past nodes i e)
-
--- ---- the edges of its sides, on the way up
-edge_below : (p : Polygraph) (cube : Cube) (d : Option Decision) (e : Edge) → has_edge (cube_edges p (cube_below cube d)) e ≡ (adds p d e || has_edge (cube_edges p cube) e)
-unfolding cube_edges
-edge_below p cube None e = refl
-edge_below p cube (Some d) e = edge_append (side_in p d.choice d.side) (cube_edges p cube) e
-
-no_edge : (p : Polygraph) (e : Edge) → has_edge (cube_edges p []) e ≡ false
-unfolding cube_edges
-no_edge p e = refl
-
-edge_joined : (p : Polygraph) (nodes : List TreeNode) (i : ℕ) (x : TreeNode) (e : Edge) (above : Cube) → cube_of nodes i ≡ cube_below above x.decision → has_edge (cube_edges p (cube_of nodes i)) e ≡ (adds p x.decision e || has_edge (cube_edges p above) e)
-edge_joined p nodes i x e above is = ap (λ (k : Cube). has_edge (cube_edges p k) e) is ∙ edge_below p above x.decision e
-
-pub edge_here : (p : Polygraph) (nodes : List TreeNode) (i : ℕ) (x : TreeNode) (e : Edge) → slice_get nodes i ≡ Some x → adds p x.decision e ≡ true → (x.parent < i) ⊎ (i ≤ x.parent) → has_edge (cube_edges p (cube_of nodes i)) e ≡ true
-edge_here p nodes i x e at t (inl lt) = edge_joined p nodes i x e (cube_of nodes x.parent) (cube_under nodes i x at lt) ∙ or_first (adds p x.decision e) (has_edge (cube_edges p (cube_of nodes x.parent)) e) t
-edge_here p nodes i x e at t (inr le) = edge_joined p nodes i x e [] (cube_top nodes i x at le) ∙ or_first (adds p x.decision e) (has_edge (cube_edges p []) e) t
-
-pub edge_up : (p : Polygraph) (nodes : List TreeNode) (i : ℕ) (x : TreeNode) (e : Edge) → slice_get nodes i ≡ Some x → adds p x.decision e ≡ false → x.parent < i → has_edge (cube_edges p (cube_of nodes i)) e ≡ has_edge (cube_edges p (cube_of nodes x.parent)) e
-edge_up p nodes i x e at f lt = edge_joined p nodes i x e (cube_of nodes x.parent) (cube_under nodes i x at lt) ∙ or_second (adds p x.decision e) (has_edge (cube_edges p (cube_of nodes x.parent)) e) f
-
-pub edge_top : (p : Polygraph) (nodes : List TreeNode) (i : ℕ) (x : TreeNode) (e : Edge) → slice_get nodes i ≡ Some x → adds p x.decision e ≡ false → i ≤ x.parent → has_edge (cube_edges p (cube_of nodes i)) e ≡ false
-edge_top p nodes i x e at f le = edge_joined p nodes i x e [] (cube_top nodes i x at le) ∙ or_second (adds p x.decision e) (has_edge (cube_edges p []) e) f ∙ no_edge p e
-
-pub edge_past : (p : Polygraph) (nodes : List TreeNode) (i : ℕ) (e : Edge) → slice_get nodes i ≡ None → has_edge (cube_edges p (cube_of nodes i)) e ≡ false
-edge_past p nodes i e none = ap (λ (k : Cube). has_edge (cube_edges p k) e) (cube_past nodes i none) ∙ no_edge p e
-
--- ---- the edges of a cube
-under_either : (p : Polygraph) (cube : Cube) (e : Edge) → has_edge (edges_under p cube) e ≡ (has_edge p.known e || has_edge (cube_edges p cube) e)
-under_either p cube e = sym (under_is p cube e) ∙ edge_append p.known (cube_edges p cube) e
-
-pub step_known : (p : Polygraph) (cube : Cube) (e : Edge) → has_edge p.known e ≡ true → has_edge (edges_under p cube) e ≡ true
-step_known p cube e t = under_either p cube e ∙ or_first (has_edge p.known e) (has_edge (cube_edges p cube) e) t
-
-pub step_added : (p : Polygraph) (cube : Cube) (e : Edge) → has_edge p.known e ≡ false → has_edge (edges_under p cube) e ≡ has_edge (cube_edges p cube) e
-step_added p cube e f = under_either p cube e ∙ or_second (has_edge p.known e) (has_edge (cube_edges p cube) e) f

@@ -7,8 +7,8 @@ use Rattle.log_definitions.specs.Serial.{IsSerialOrder}
 use Rattle.serializability.specs.Polygraph.{Polygraph}
 use Rattle.cube_laws.specs.State.{State, opening_state}
 use Rattle.cube_laws.specs.Steps.{has_solved, has_live, is_exhausted, next_of, reply_of}
-use Rattle.cube_laws.specs.declared.messages.Event.{Event}
-use Rattle.cube_laws.specs.declared.messages.Reply.{Reply}
+use Rattle.cube_laws.specs.declared.messages.CubeEvent.{CubeEvent}
+use Rattle.cube_laws.specs.declared.messages.CubeReply.{CubeReply}
 use Rattle.branch_search.specs.Trees.{IsRefutationTree}
 use Rattle.branch_search.specs.declared.answer.Answer.{Answer}
 use Rattle.branch_search.specs.declared.answer.Answer.TheVariants.{Yes, No, Unknown}
@@ -50,7 +50,8 @@ pub record IsSpent (s : State) (closed : ℕ) : Type 0 where
   pub unsolved : has_solved s.nodes ≡ false
   pub live : has_live s.nodes ≡ true
 
--- the answer says how this state stands: yes where a node is solved; no where none is solved, open or held; else unknown, where the
+-- the answer says how this state stands: yes where a node is solved; no where none is solved, open
+-- or held; else unknown, where the
 -- budget is spent
 abbrev pub IsReadFrom : State → Answer → Type 0
 IsReadFrom s (Yes order) = has_solved s.nodes ≡ true
@@ -59,6 +60,6 @@ IsReadFrom s (Unknown closed) = IsSpent s closed
 
 -- steps from node 0 alone lead to a state of which the answer says how it stands
 pub record EndsRun (p : Polygraph) (budget : ℕ) (answer : Answer) : Type 0 where
-  pub steps : List (Entry Event Reply)
+  pub steps : List (Entry CubeEvent CubeReply)
   pub legal : IsLegal next_of reply_of (opening_state p budget) steps
   pub read : IsReadFrom (replay next_of (opening_state p budget) steps) answer

@@ -1,5 +1,6 @@
 -- Refutation trees.
-use Rattle.std.specs.Prelude.{◌≡◌, ◌⊎◌, ℕ, ◌<◌, List, [], ◌∷◌, ◌++◌, Option, Some, None, true, false, length, slice_get, slice_index_or}
+use Rattle.std.specs.Prelude.{◌≡◌, ◌⊎◌, ℕ, ◌<◌, List, [], ◌∷◌, ◌++◌, Option, Some, None, true}
+use Rattle.std.specs.Prelude.{false, length, slice_get, slice_index_or}
 use Rattle.serializability.specs.Polygraph.{Polygraph}
 use Rattle.pruning_laws.specs.declared.side.Side.{Side}
 use Rattle.pruning_laws.specs.declared.side.Side.TheVariants.{One, Two}
@@ -17,7 +18,8 @@ cube_below cube (Some d) = (d.choice, d.side) ∷ cube
 -- the cubes of these nodes, after those of the nodes that stand before them
 abbrev pub cubes_after : List Cube → List TreeNode → List Cube
 cubes_after before [] = before
-cubes_after before (x ∷ xs) = cubes_after (before ++ cube_below (slice_index_or before x.parent []) x.decision ∷ []) xs
+cubes_after before (x ∷ xs) = cubes_after (before ++ cube_below
+    (slice_index_or before x.parent []) x.decision ∷ []) xs
 
 abbrev pub cube_of : List TreeNode → ℕ → Cube
 cube_of nodes i = slice_index_or (cubes_after [] nodes) i []
@@ -30,13 +32,15 @@ pub record IsChild (nodes : List TreeNode) (i c : ℕ) (side : Side) (j : ℕ) :
   pub parent : node.parent ≡ i
   pub decision : node.decision ≡ Some (record { choice = c; side = side })
 
--- the choice is one that the cube of node i leaves open, and the node has these two children, for the two sides of the choice
+-- the choice is one that the cube of node i leaves open, and the node has these two children, for
+-- the two sides of the choice
 pub record IsSplit (p : Polygraph) (nodes : List TreeNode) (i c first second : ℕ) : Type 0 where
   pub choice : c < length p.choices
   pub undecided : is_decided (cube_of nodes i) c ≡ false
   pub one : IsChild nodes i c One first
   pub two : IsChild nodes i c Two second
-  pub only : (j : ℕ) (x : TreeNode) → 0 < j → slice_get nodes j ≡ Some x → x.parent ≡ i → (j ≡ first) ⊎ (j ≡ second)
+  pub only : (j : ℕ) (x : TreeNode) → 0 < j → slice_get nodes j ≡ Some x → x.parent ≡ i
+      → (j ≡ first) ⊎ (j ≡ second)
 
 -- a node whose parent stands before it and is split
 pub record IsBelow (nodes : List TreeNode) (i : ℕ) (x : TreeNode) : Type 0 where
@@ -55,11 +59,15 @@ pub record IsRoot (nodes : List TreeNode) : Type 0 where
   pub parent : node.parent ≡ 0
   pub decision : node.decision ≡ None
 
--- There is at least one node, and the first is the root; each other node's parent stands before it. Each leaf holds a closed walk of
--- at least one edge in the known edges and those of its cube's sides. Each inner node has two children, for the two sides of one
+-- There is at least one node, and the first is the root; each other node's parent stands before it.
+-- Each leaf holds a closed walk of
+-- at least one edge in the known edges and those of its cube's sides. Each inner node has two
+-- children, for the two sides of one
 -- choice that its cube leaves open.
 pub record IsRefutationTree (p : Polygraph) (nodes : List TreeNode) : Type 0 where
   pub root : IsRoot nodes
   pub below : (i : ℕ) (x : TreeNode) → 0 < i → slice_get nodes i ≡ Some x → IsBelow nodes i x
-  pub leaves : (i : ℕ) (x : TreeNode) (line : List ℕ) → slice_get nodes i ≡ Some x → x.growth ≡ Leaf line → is_cycle (edges_under p (cube_of nodes i)) line ≡ true
-  pub inner : (i : ℕ) (x : TreeNode) (c first second : ℕ) → slice_get nodes i ≡ Some x → x.growth ≡ Inner c first second → IsSplit p nodes i c first second
+  pub leaves : (i : ℕ) (x : TreeNode) (line : List ℕ) → slice_get nodes i ≡ Some x
+      → x.growth ≡ Leaf line → is_cycle (edges_under p (cube_of nodes i)) line ≡ true
+  pub inner : (i : ℕ) (x : TreeNode) (c first second : ℕ) → slice_get nodes i ≡ Some x
+      → x.growth ≡ Inner c first second → IsSplit p nodes i c first second

@@ -14,7 +14,8 @@ place_in kept node = position (λ k. k.node == node) kept
 -- the view of node 0, which decides nothing, or of the first kept cube of this node
 abbrev pub kept_view : List KeptCube → Polygraph → ℕ → Option View
 kept_view kept p node =
-    if node == 0 then Some (opened p) else option_map (λ k. k.view) (find (λ k. k.node == node) kept)
+    if node == 0 then Some (opened p) else option_map (λ k. k.view)
+    (find (λ k. k.node == node) kept)
 
 -- a view after these steps, of which the last one is taken first
 abbrev pub view_after : List Step → View → View
@@ -26,7 +27,8 @@ abbrev pub end_of : ℕ → List Step → ℕ
 end_of start [] = start
 end_of start (s ∷ steps) = s.node
 
--- steps from node 0, or from a node whose cube is kept, lead to this node, and make this view of that one's
+-- steps from node 0, or from a node whose cube is kept, lead to this node, and make this view of
+-- that one's
 pub record IsRetraced (kept : List KeptCube) (p : Polygraph) (node : ℕ) (v : View) : Type 0 where
   pub start : ℕ
   pub from : View

@@ -1,13 +1,13 @@
 //! What a search answers.
 
 use crate::tree::Tree;
-use session_history::Order;
+use session_history::NodeLine;
 
 /// What a search answers.
 #[derive(Drop)]
 pub enum Answer {
     /// This order is serial.
-    Yes(Order),
+    Yes(NodeLine),
     /// There is no serial order: every cube of this tree is refuted.
     No(Tree),
     /// The budget was spent before the search came to an end.

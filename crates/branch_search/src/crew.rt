@@ -27,10 +27,10 @@ pub fn run<'a, S: Strategy, J: Naming + Send + Sync, G: Gate, R: Threads + Wait 
     task: &Task<'_, S>,
     gate: &G,
 ) -> Result<Closed<CubeMachine<'a>>, AllocError>
-    requires names { J.names ≡ opened.1 }
-    requires desk { J.desk ≡ opened.2 }
+    requires names { J.names ≡ opened.names }
+    requires desk { J.desk ≡ opened.desk }
     ensures { IfOk result (λ c.
-        IsReached next_of reply_of (Some opened.entry.0) c.history.items c.machine) }
+        IsReached next_of reply_of (Some opened.entry.machine) c.history.items c.machine) }
 {
     let (desk, seats) = Desk::<CubeMachine<'a>, J>::open(alloc, opened)?;
     let jobs = jobs_of(alloc, &desk, seats, task, gate)?;
@@ -39,7 +39,7 @@ pub fn run<'a, S: Strategy, J: Naming + Send + Sync, G: Gate, R: Threads + Wait 
     Ok(closed)
 }
 
-// Each worker in a thread of its own, until it has left.
+/// Each worker in a thread of its own, until it has left.
 fn work_all<
     'b,
     'a,
@@ -50,7 +50,8 @@ fn work_all<
 >(rt: &R, jobs: Vec<Job<'b, 'a, S, J, G>>) -> Result<Vec<Left<CubeMachine<'a>, J>>, AllocError>
     ensures count { IfOk result (λ lefts. length lefts.items ≡ length jobs.entry.items) }
     ensures seats { IfOk result (λ lefts. (k : ℕ) (left : _) (job : _) → k < length jobs.entry.items
-        → (slice_index_or lefts.items k left).0 ≡ (slice_index_or jobs.entry.items k job).seat.0) }
+        → (slice_index_or lefts.items k left).number
+        ≡ (slice_index_or jobs.entry.items k job).seat.number) }
 {
     thread::map_vec(rt, jobs, &|job| work(rt, job))
 }
@@ -65,7 +66,7 @@ pub fn jobs_of<'b, 'a, S: Strategy, J: Naming, G: Gate>(
 ) -> Result<Vec<Job<'b, 'a, S, J, G>>, AllocError>
     requires seats { AreFresh seats.items }
     ensures count { IfOk result (λ jobs. length jobs.items ≡ length seats.entry.items) }
-    ensures numbers { IfOk result (λ jobs. AreNumbered (λ job. job.seat.0) jobs.items) }
+    ensures numbers { IfOk result (λ jobs. AreNumbered (λ job. job.seat.number) jobs.items) }
 {
     let mut jobs = Vec::with_capacity(alloc, seats.len())?;
     for seat in seats {

@@ -1,32 +1,36 @@
 //! The tree of a search, grown again by the steps of its history.
 
-ghost use Rattle.std.specs.Prelude.{◌≡◌, ℕ, ◌<◌, IfOk, List, length, slice_set, slice_index_or, None, Some, true, ◌∷◌, []};
+ghost use Rattle.std.specs.Prelude.{◌≡◌, ℕ, ◌<◌, IfOk, List, length, slice_set, slice_index_or};
+ghost use Rattle.std.specs.Prelude.{None, Some, true, ◌∷◌, []};
 ghost use Rattle.desk.specs.History.{IsLegal, replay};
 ghost use Rattle.serializability.specs.Polygraph.{Polygraph};
 ghost use Rattle.cube_laws.specs.State.{opening_state};
 ghost use Rattle.cube_laws.specs.Steps.{next_of, reply_of, is_exhausted};
 ghost use Rattle.cube_laws.specs.Runs.{is_closing as closes};
-ghost use Rattle.branch_search.specs.Growing.{held_after, bud, sprout, with_growth, closed_with, grown};
+ghost use Rattle.branch_search.specs.Growing.{held_after, bud, sprout, with_growth, closed_with};
+ghost use Rattle.branch_search.specs.Growing.{grown};
 ghost use Rattle.branch_search.specs.Trees.{IsRefutationTree};
 
 use crate::tree::{Decision, Growth, Tree, TreeNode};
-use cube_laws::{Event, NodeLine, Reply};
+use cube_laws::{CubeEvent, CubeReply};
 use desk::history::Entry;
 use polygraph::ChoiceIx;
 use pruning_laws::Side;
+use session_history::NodeLine;
 use std::alloc::{AllocError, Global};
 
-// One place for each number of a seat, which counts from 1, and one for 0.
+/// One place for each number of a seat, which counts from 1, and one for 0.
 const PLACES: usize = 17;
 
-/// The tree that the steps of a search made, of so many nodes. Where they left every cube refuted, it shows
-/// it.
+/// The tree that the steps of a search made, of so many nodes. Where they left every cube refuted,
+/// it shows it.
 pub fn tree_of(
     alloc: Global,
-    steps: Vec<Entry<Event, Reply>>,
+    steps: Vec<Entry<CubeEvent, CubeReply>>,
     count: usize,
 ) -> Result<Tree, AllocError>
-    ensures tree { (p : Polygraph) (budget : ℕ) → IsLegal next_of reply_of (opening_state p budget) steps.items →
+    ensures tree { (p : Polygraph) (budget : ℕ)
+        → IsLegal next_of reply_of (opening_state p budget) steps.items →
         is_exhausted (replay next_of (opening_state p budget) steps.items) ≡ true →
         IfOk result (IsRefutationTree p) }
 {
@@ -43,23 +47,24 @@ pub fn tree_of(
     Ok(Tree::from_nodes(nodes))
 }
 
-// A leaf that holds no cycle yet.
+/// A leaf that holds no cycle yet.
 fn bud_of(alloc: Global) -> Growth
     ensures { result ≡ bud }
 {
     Growth::Leaf(NodeLine::from_nodes(Vec::new(alloc)))
 }
 
-// Takes one step of a seat.
+/// Takes one step of a seat.
 fn grow(
     alloc: Global,
     nodes: &mut Vec<TreeNode>,
     held: &mut [Option<usize>],
-    step: Entry<Event, Reply>,
+    step: Entry<CubeEvent, CubeReply>,
 ) -> Result<(), AllocError>
     requires { length held.old ≡ 17 }
     ensures seat { step.seat < 17 }
-    ensures held { held.new ≡ slice_set held.old step.seat (held_after (slice_index_or held.old step.seat None) step.reply) }
+    ensures held { held.new ≡ slice_set held.old step.seat
+        (held_after (slice_index_or held.old step.seat None) step.reply) }
     ensures nodes { IfOk result (λ _. nodes.new.items
         ≡ grown nodes.old.items (slice_index_or held.old step.seat None) step.event step.reply) }
 {
@@ -76,43 +81,43 @@ fn grow(
     close(alloc, nodes, number, event)
 }
 
-// The node that a seat holds after a reply.
-fn held_next(node: Option<usize>, reply: Reply) -> Option<usize>
+/// The node that a seat holds after a reply.
+fn held_next(node: Option<usize>, reply: CubeReply) -> Option<usize>
     ensures { result ≡ held_after node reply }
 {
     match reply {
-        Reply::Cube(given) => Some(given),
-        Reply::Children(_, _) => None,
-        Reply::Closed => None,
-        Reply::Solved => None,
-        Reply::Released => None,
+        CubeReply::Cube(given) => Some(given),
+        CubeReply::Children(_, _) => None,
+        CubeReply::Closed => None,
+        CubeReply::Solved => None,
+        CubeReply::Released => None,
         _ => node,
     }
 }
 
-// Whether a reply says that a node was closed.
-fn is_closing(reply: Reply) -> bool
+/// Whether a reply says that a node was closed.
+fn is_closing(reply: CubeReply) -> bool
     ensures { result ≡ closes reply }
 {
     match reply {
-        Reply::Children(_, _) => true,
-        Reply::Closed => true,
-        Reply::Solved => true,
+        CubeReply::Children(_, _) => true,
+        CubeReply::Closed => true,
+        CubeReply::Solved => true,
         _ => false,
     }
 }
 
-// Closes a node by an event.
+/// Closes a node by an event.
 fn close(
     alloc: Global,
     nodes: &mut Vec<TreeNode>,
     number: usize,
-    event: Event,
+    event: CubeEvent,
 ) -> Result<(), AllocError>
     ensures { IfOk result (λ _. nodes.new.items ≡ closed_with nodes.old.items number event) }
 {
     match event {
-        Event::Split(choice) => {
+        CubeEvent::Split(choice) => {
             let first = nodes.len();
             let second = first + 1;
             set_growth(
@@ -128,7 +133,7 @@ fn close(
             nodes.push(child(alloc, number, choice, Side::Two))?;
             Ok(())
         }
-        Event::Refute(line) => {
+        CubeEvent::Refute(line) => {
             set_growth(nodes, number, Growth::Leaf(line));
             Ok(())
         }
@@ -136,7 +141,7 @@ fn close(
     }
 }
 
-// A node by a side of a choice.
+/// A node by a side of a choice.
 fn child(alloc: Global, parent: usize, choice: ChoiceIx, side: Side) -> TreeNode
     ensures { result ≡ sprout parent choice side }
 {
@@ -147,7 +152,7 @@ fn child(alloc: Global, parent: usize, choice: ChoiceIx, side: Side) -> TreeNode
     }
 }
 
-// Notes what became of a node.
+/// Notes what became of a node.
 fn set_growth(nodes: &mut Vec<TreeNode>, number: usize, growth: Growth)
     ensures { nodes.new.items ≡ with_growth nodes.old.items number growth }
 {

@@ -1,12 +1,14 @@
 //! A search for a serial order: workers split, refute and solve the cubes of a polygraph.
 //!
-//! The workers sit at a desk whose machine keeps the tree of cubes. A worker takes a cube, refutes it where
-//! its edges have a cycle, solves it where no choice is left, and else splits it by the strategy. When all
-//! have left, the answer is read from the machine and its history.
+//! Called by `deciding`; `tree_checks` and the crates that tell read its trees. It knows no key, no
+//! text and no command.
+//!
+//! The workers sit at a desk whose machine keeps the tree of cubes. A worker takes a cube, refutes
+//! it where its edges have a cycle, solves it where no choice is left, and else splits it by the
+//! strategy. When all have left, the answer is read from the machine and its history.
 #![tactic(auto)]
 
 mod answer;
-mod checking;
 mod crew;
 mod growing;
 pub mod laws;
@@ -20,8 +22,8 @@ pub use answer::Answer;
 pub use branching::{
     Alternate, ByWords, CubeView, FirstOpen, Forced, LeastEdges, MostEdges, Strategy,
 };
-pub use checking::check_tree;
-pub use cube_laws::{Event, NodeLine, Reply};
+pub use cube_laws::{CubeEvent, CubeReply};
 pub use cube_machine::{Budget, CubeMachine};
 pub use searching::search;
+pub use session_history::NodeLine;
 pub use tree::{Decision, Growth, Tree, TreeNode};

@@ -1,6 +1,7 @@
 //! The answer of a search, read from the machine and its history.
 
-ghost use Rattle.std.specs.Prelude.{◌≡◌, ◌↔◌, ℕ, ◌+◌, ◌-◌, ◌^◌, ◌≤◌, List, length, Some, IfOk, IfSome, is_some};
+ghost use Rattle.std.specs.Prelude.{◌≡◌, ◌↔◌, ℕ, ◌+◌, ◌-◌, ◌^◌, ◌≤◌, List, length, Some, IfOk};
+ghost use Rattle.std.specs.Prelude.{IfSome, is_some};
 ghost use Rattle.std.specs.List.{list_any};
 ghost use Rattle.serializability.specs.Polygraph.{Polygraph, Fits};
 ghost use Rattle.log_definitions.specs.Serial.{IsSerialOrder};
@@ -8,9 +9,10 @@ ghost use Rattle.desk.specs.History.{IsReached};
 ghost use Rattle.cube_laws.specs.State.{opening_state};
 ghost use Rattle.cube_laws.specs.Steps.{next_of, reply_of};
 ghost use Rattle.cube_laws.specs.Runs.{EachSolvesRightly, solves};
-ghost use Rattle.cube_laws.specs.declared.messages.Event.TheVariants as event;
-ghost use Rattle.cube_laws.specs.declared.messages.Reply.TheVariants as reply;
-ghost use Rattle.branch_search.specs.Answers.{SaysYes, SaysNo, ShowsNo, SaysUnknown, IsSettled, IsReadFrom};
+ghost use Rattle.cube_laws.specs.declared.messages.CubeEvent.TheVariants as event;
+ghost use Rattle.cube_laws.specs.declared.messages.CubeReply.TheVariants as reply;
+ghost use Rattle.branch_search.specs.Answers.{SaysYes, SaysNo, ShowsNo, SaysUnknown, IsSettled};
+ghost use Rattle.branch_search.specs.Answers.{IsReadFrom};
 
 use crate::answer::Answer;
 use crate::growing::tree_of;
@@ -18,16 +20,17 @@ use cube_laws::laws::{
     large_budgets_are_not_spent, no_order_fits_where_every_cube_is_refuted,
     solved_nodes_were_solved, solving_orders_fit,
 };
-use cube_laws::{Event, NodeLine, Reply};
+use cube_laws::{CubeEvent, CubeReply};
 use cube_machine::{Budget, CubeMachine};
 use desk::desk::Closed;
 use desk::history::Entry;
 use prune_ledger::Reduced;
-use session_history::{History, Order};
+use session_history::{History, NodeLine};
 use std::alloc::{AllocError, Global};
 
-/// What a closed desk has to say: the order that solved a node; that every cube is refuted, with the tree; or
-/// that the budget is spent while a cube is open or held. At `Err` the search did not come to an end, or there is no memory for the tree.
+/// What a closed desk has to say: the order that solved a node; that every cube is refuted, with
+/// the tree; or that the budget is spent while a cube is open or held. At `Err` the search did not
+/// come to an end, or there is no memory for the tree.
 pub fn read_answer(
     alloc: Global,
     history: &History,
@@ -59,7 +62,7 @@ pub fn read_answer(
         return Ok(Answer::No(tree_of(alloc, steps, closed)?));
     }
     if let Some(line) = solving_line(steps) {
-        return Ok(Answer::Yes(Order::from_nodes(line.into_nodes())));
+        return Ok(Answer::Yes(line));
     }
     if closed == budget.get() {
         return Ok(Answer::Unknown { closed });
@@ -67,8 +70,8 @@ pub fn read_answer(
     Err(AllocError)
 }
 
-// The order that solved a node.
-fn solving_line(steps: Vec<Entry<Event, Reply>>) -> Option<NodeLine>
+/// The order that solved a node.
+fn solving_line(steps: Vec<Entry<CubeEvent, CubeReply>>) -> Option<NodeLine>
     ensures fits { (p : Polygraph) → EachSolvesRightly p steps.items → IfSome result (Fits p) }
     ensures found { is_some result ≡ list_any (λ x. solves x.event x.reply) steps.items }
 {
@@ -80,9 +83,10 @@ fn solving_line(steps: Vec<Entry<Event, Reply>>) -> Option<NodeLine>
     None
 }
 
-// The order by which a step solved a node.
-fn solved_in(step: Entry<Event, Reply>) -> Option<NodeLine>
-    ensures line { IfSome result (λ line. (step.event ≡ event.Solve line) × (step.reply ≡ reply.Solved)) }
+/// The order by which a step solved a node.
+fn solved_in(step: Entry<CubeEvent, CubeReply>) -> Option<NodeLine>
+    ensures line { IfSome result (λ line. (step.event ≡ event.Solve line)
+        × (step.reply ≡ reply.Solved)) }
     ensures found { is_some result ≡ solves step.event step.reply }
 {
     let Entry {
@@ -91,8 +95,8 @@ fn solved_in(step: Entry<Event, Reply>) -> Option<NodeLine>
         reply,
     } = step;
     match event {
-        Event::Solve(line) => match reply {
-            Reply::Solved => Some(line),
+        CubeEvent::Solve(line) => match reply {
+            CubeReply::Solved => Some(line),
             _ => None,
         },
         _ => None,

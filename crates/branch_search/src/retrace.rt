@@ -4,19 +4,20 @@ ghost use Rattle.std.specs.Prelude.{◌≡◌, ℕ, ◌<◌, None, Some, [], IfO
 ghost use Rattle.std.specs.List.{All};
 ghost use Rattle.serializability.specs.Polygraph.{Polygraph};
 ghost use Rattle.branching.specs.View.{View, decided};
-ghost use Rattle.branch_search.specs.Views.{place_in, kept_view, view_after, IsRetraced, AreViews, AreLed};
+ghost use Rattle.branch_search.specs.Views.{place_in, kept_view, view_after, IsRetraced, AreViews};
+ghost use Rattle.branch_search.specs.Views.{AreLed};
 
 use branching::{CubeView, SavedView};
-use cube_machine::Row;
+use cube_machine::OriginRow;
 use polygraph::ChoiceIx;
 use pruning_laws::Side;
 use std::alloc::{AllocError, Global};
 
-// How many cubes a worker keeps at the most.
+/// How many cubes a worker keeps at the most.
 const KEPT: usize = 16;
 
-// How many edges the decisions between two cubes that it keeps have at the least: adding so many takes about as
-// long as keeping a cube.
+/// How many edges the decisions between two cubes that it keeps have at the least: adding so many
+/// takes about as long as keeping a cube.
 const APART: usize = 16;
 
 /// What the cube of a node decides beyond its parent's.
@@ -34,8 +35,8 @@ pub struct KeptCube<'a> {
     pub view: SavedView<'a>,
 }
 
-/// What a worker keeps of its way, so that a step back costs about what it undoes: some of the cubes that it has
-/// seen, the newest over the oldest. Nothing is kept before the first step back.
+/// What a worker keeps of its way, so that a step back costs about what it undoes: some of the
+/// cubes that it has seen, the newest over the oldest. Nothing is kept before the first step back.
 #[derive(Drop)]
 pub struct Trail<'a> {
     pub kept: Vec<KeptCube<'a>>,
@@ -72,9 +73,11 @@ pub fn go_down<'a>(
     step: Step,
 ) -> Result<bool, AllocError>
     requires kept { All (λ k. k.view.polygraph ≡ view.old.polygraph) trail.old.kept.items }
-    ensures kept { IfOk result (λ _. All (λ k. k.view.polygraph ≡ view.new.polygraph) trail.new.kept.items) }
+    ensures kept { IfOk result (λ _. All (λ k. k.view.polygraph ≡ view.new.polygraph)
+        trail.new.kept.items) }
     ensures polygraph { view.new.polygraph ≡ view.old.polygraph }
-    ensures decided { IfOk result (λ seen. IsTrue seen → view.new ≡ decided view.old step.choice step.side) }
+    ensures decided { IfOk result (λ seen. IsTrue seen
+        → view.new ≡ decided view.old step.choice step.side) }
     ensures views { (view_of : ℕ → View) → AreViews view_of trail.old.kept.items →
         decided view.old step.choice step.side ≡ view_of step.node →
         IfOk result (λ _. AreViews view_of trail.new.kept.items) }
@@ -91,19 +94,20 @@ pub fn go_down<'a>(
     Ok(true)
 }
 
-/// Makes the view that of a node's cube, by the way from the node up to a cube that was kept, or to node 0, that
-/// is noted in the row; `false` where what is noted makes no sense.
+/// Makes the view that of a node's cube, by the way from the node up to a cube that was kept, or to
+/// node 0, that is noted in the row; `false` where what is noted makes no sense.
 ///
 /// Each node on the way decides one choice, so the way is no longer than the choices are many.
 pub fn retrace<'a>(
     alloc: Global,
     trail: &mut Trail<'a>,
     view: &mut CubeView<'a>,
-    row: &Row,
+    row: &OriginRow,
     node: usize,
 ) -> Result<bool, AllocError>
     requires kept { All (λ k. k.view.polygraph ≡ view.old.polygraph) trail.old.kept.items }
-    ensures kept { IfOk result (λ _. All (λ k. k.view.polygraph ≡ view.new.polygraph) trail.new.kept.items) }
+    ensures kept { IfOk result (λ _. All (λ k. k.view.polygraph ≡ view.new.polygraph)
+        trail.new.kept.items) }
     ensures polygraph { view.new.polygraph ≡ view.old.polygraph }
     ensures retraced { IfOk result (λ seen. IsTrue seen →
         IsRetraced trail.old.kept.items view.old.polygraph node view.new) }
@@ -127,7 +131,7 @@ pub fn retrace<'a>(
     Ok(false)
 }
 
-// Makes the view that of a node's cube, where this was kept or is node 0's.
+/// Makes the view that of a node's cube, where this was kept or is node 0's.
 fn go_back<'a>(trail: &mut Trail<'a>, view: &mut CubeView<'a>, node: usize) -> bool
     requires kept { All (λ k. k.view.polygraph ≡ view.old.polygraph) trail.old.kept.items }
     ensures same { trail.new.kept ≡ trail.old.kept }
@@ -152,7 +156,7 @@ fn go_back<'a>(trail: &mut Trail<'a>, view: &mut CubeView<'a>, node: usize) -> b
     true
 }
 
-// The place of the cube of a node, where it was kept.
+/// The place of the cube of a node, where it was kept.
 fn place_of(kept: &[KeptCube<'_>], node: usize) -> Option<usize>
     ensures place { result ≡ place_in kept.now node }
     ensures within { IfSome result (λ place. place < length kept.now) }
@@ -160,14 +164,15 @@ fn place_of(kept: &[KeptCube<'_>], node: usize) -> Option<usize>
     kept.iter().position(|cube| cube.node == node)
 }
 
-// Makes the decisions that are ahead; `false` where one is made already.
+/// Makes the decisions that are ahead; `false` where one is made already.
 fn replay<'a>(
     alloc: Global,
     trail: &mut Trail<'a>,
     view: &mut CubeView<'a>,
 ) -> Result<bool, AllocError>
     requires kept { All (λ k. k.view.polygraph ≡ view.old.polygraph) trail.old.kept.items }
-    ensures kept { IfOk result (λ _. All (λ k. k.view.polygraph ≡ view.new.polygraph) trail.new.kept.items) }
+    ensures kept { IfOk result (λ _. All (λ k. k.view.polygraph ≡ view.new.polygraph)
+        trail.new.kept.items) }
     ensures polygraph { view.new.polygraph ≡ view.old.polygraph }
     ensures made { IfOk result (λ seen. IsTrue seen →
         view.new ≡ view_after trail.old.ahead.items view.old) }
@@ -188,7 +193,7 @@ fn replay<'a>(
     Ok(true)
 }
 
-// Keeps the cube that the view sees, a node's.
+/// Keeps the cube that the view sees, a node's.
 fn keep<'a>(
     alloc: Global,
     trail: &mut Trail<'a>,
@@ -196,7 +201,8 @@ fn keep<'a>(
     node: usize,
 ) -> Result<(), AllocError>
     requires kept { All (λ k. k.view.polygraph ≡ view.now.polygraph) trail.old.kept.items }
-    ensures kept { IfOk result (λ _. All (λ k. k.view.polygraph ≡ view.now.polygraph) trail.new.kept.items) }
+    ensures kept { IfOk result (λ _. All (λ k. k.view.polygraph ≡ view.now.polygraph)
+        trail.new.kept.items) }
     ensures views { (view_of : ℕ → View) → AreViews view_of trail.old.kept.items →
         view.now ≡ view_of node → IfOk result (λ _. AreViews view_of trail.new.kept.items) }
     ensures ahead { trail.new.ahead ≡ trail.old.ahead }
@@ -212,12 +218,14 @@ fn keep<'a>(
     Ok(())
 }
 
-// Puts a cube in the place of another, or behind all where none has that place.
+/// Puts a cube in the place of another, or behind all where none has that place.
 fn put<'a>(kept: &mut Vec<KeptCube<'a>>, place: usize, cube: KeptCube<'a>) -> Result<(), AllocError>
     ensures kept { (p : Polygraph) → All (λ k. k.view.polygraph ≡ p) kept.old.items →
-        cube.entry.view.polygraph ≡ p → IfOk result (λ _. All (λ k. k.view.polygraph ≡ p) kept.new.items) }
+        cube.entry.view.polygraph ≡ p → IfOk result
+        (λ _. All (λ k. k.view.polygraph ≡ p) kept.new.items) }
     ensures views { (view_of : ℕ → View) → AreViews view_of kept.old.items →
-        cube.entry.view ≡ view_of cube.entry.node → IfOk result (λ _. AreViews view_of kept.new.items) }
+        cube.entry.view ≡ view_of cube.entry.node
+        → IfOk result (λ _. AreViews view_of kept.new.items) }
 {
     if place < kept.len() {
         kept[place] = cube;
@@ -227,7 +235,7 @@ fn put<'a>(kept: &mut Vec<KeptCube<'a>>, place: usize, cube: KeptCube<'a>) -> Re
     Ok(())
 }
 
-// Decides one choice more, where it is open, and says how many edges its side has.
+/// Decides one choice more, where it is open, and says how many edges its side has.
 fn extend(view: &mut CubeView<'_>, choice: ChoiceIx, side: Side) -> Option<usize>
     ensures polygraph { view.new.polygraph ≡ view.old.polygraph }
     ensures decided { IfSome result (λ _. view.new ≡ decided view.old choice side) }

@@ -3,14 +3,15 @@
 ghost use Rattle.std.specs.Prelude.{◌≡◌, ◌↔◌, ℕ, ◌+◌, ◌-◌, ◌^◌, ◌≤◌, List, length, IfOk};
 ghost use Rattle.serializability.specs.Polygraph.{Fits};
 ghost use Rattle.log_definitions.specs.Serial.{IsSerialOrder};
-ghost use Rattle.branch_search.specs.Answers.{SaysYes, SaysNo, ShowsNo, SaysUnknown, IsSettled, EndsRun};
+ghost use Rattle.branch_search.specs.Answers.{SaysYes, SaysNo, ShowsNo, SaysUnknown, IsSettled};
+ghost use Rattle.branch_search.specs.Answers.{EndsRun};
 
 use crate::answer::Answer;
 use crate::crew::run;
 use crate::reading::read_answer;
 use crate::worker::Task;
 use branching::Strategy;
-use cube_machine::{Budget, CubeMachine, Row};
+use cube_machine::{Budget, CubeMachine, OriginRow};
 use desk::gate::Gate;
 use desk::opened::Opened;
 use desk::seat_no::Workers;
@@ -22,10 +23,11 @@ use std::sync::Wait;
 use std::thread::Threads;
 use std::time::Clock;
 
-/// Searches a serial order of a history, whose polygraph was pruned to this one, with so many workers, each
-/// of which passes the gate before its turns, which count from 0.
+/// Searches a serial order of a history, whose polygraph was pruned to this one, with so many
+/// workers, each of which passes the gate before its turns, which count from 0.
 ///
-/// At `Err` memory was refused to the calling thread, or to each worker before the search was finished.
+/// At `Err` memory was refused to the calling thread, or to each worker before the search was
+/// finished.
 pub fn search<S: Strategy, G: Gate, R: Threads + Wait + Clock + Sync>(
     rt: &R,
     alloc: Global,
@@ -49,7 +51,7 @@ pub fn search<S: Strategy, G: Gate, R: Threads + Wait + Clock + Sync>(
     // The answer says how the last state of a run of the machine stands.
     ensures ran { IfOk result (EndsRun reduced.now.poly budget) }
 {
-    let row = Row::new(alloc, budget)?;
+    let row = OriginRow::new(alloc, budget)?;
     let machine = CubeMachine::opening(alloc, reduced.poly(), budget, &row)?;
     let opened = Opened::new(alloc, machine, workers)?;
     let task = Task {

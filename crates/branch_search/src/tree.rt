@@ -2,9 +2,9 @@
 
 ghost use Rattle.std.specs.Prelude.{◌≡◌, List};
 
-use cube_laws::NodeLine;
 use polygraph::ChoiceIx;
 use pruning_laws::Side;
+use session_history::NodeLine;
 use std::marker::Model;
 
 /// A choice and the side of it that a cube decides.
@@ -39,8 +39,8 @@ pub struct TreeNode {
     pub growth: Growth,
 }
 
-/// A tree that shows that every cube is refuted: its nodes by their numbers, of which 0 is the root. Contracts
-/// see the nodes.
+/// A tree that shows that every cube is refuted: its nodes by their numbers, of which 0 is the
+/// root. Contracts see the nodes.
 #[derive(Drop)]
 pub struct Tree {
     nodes: Vec<TreeNode>,

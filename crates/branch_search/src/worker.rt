@@ -1,16 +1,18 @@
 //! What one thread does.
 
-ghost use Rattle.std.specs.Prelude.{◌≡◌, ℕ, ◌<◌, [], ◌∷◌, ◌++◌, Option, IfOk, IfSome, IsTrue, length};
+ghost use Rattle.std.specs.Prelude.{◌≡◌, ℕ, ◌<◌, [], ◌∷◌, ◌++◌, Option, IfOk, IfSome, IsTrue};
+ghost use Rattle.std.specs.Prelude.{length};
 ghost use Rattle.std.specs.List.{All};
 ghost use Rattle.pruning_laws.specs.declared.side.Side as side;
 ghost use Rattle.branching.specs.View.{opened};
-ghost use Rattle.branch_search.specs.Requests.{event_for, split_in, first_child, IsByStrategy, IsAskedAfter, IsViewFor};
+ghost use Rattle.branch_search.specs.Requests.{event_for, split_in, first_child, IsByStrategy};
+ghost use Rattle.branch_search.specs.Requests.{IsAskedAfter, IsViewFor};
 
 use crate::retrace::{Step, Trail, go_down, retrace};
 use branching::laws::turn;
 use branching::{CubeView, Strategy};
-use cube_laws::{Event, Reply};
-use cube_machine::{CubeMachine, Row};
+use cube_laws::{CubeEvent, CubeReply};
+use cube_machine::{CubeMachine, OriginRow};
 use desk::desk::Desk;
 use desk::gate::Gate;
 use desk::naming::Naming;
@@ -22,11 +24,12 @@ use std::alloc::{AllocError, Global};
 use std::sync::Wait;
 use std::time::Clock;
 
-/// What is searched, which each worker is lent: what pruning left, how each node of the tree was led to, and the strategy.
+/// What is searched, which each worker is lent: what pruning left, how each node of the tree was
+/// led to, and the strategy.
 #[derive(Drop)]
 pub struct Task<'b, S: Strategy> {
     pub reduced: &'b Reduced,
-    pub row: &'b Row,
+    pub row: &'b OriginRow,
     pub strategy: &'b S,
 }
 
@@ -40,28 +43,28 @@ pub struct Job<'b, 'a, S: Strategy, J: Naming, G: Gate> {
     pub gate: &'b G,
 }
 
-// Where a worker is: the cube that it sees, and its way there.
+/// Where a worker is: the cube that it sees, and its way there.
 #[derive(Drop)]
-struct Place<'v> {
+struct Standing<'v> {
     view: CubeView<'v>,
     trail: Trail<'v>,
 }
 
-// The cube that a worker asks for: any, or that of a node which decides one choice more than the cube that the
-// worker has just split.
+/// The cube that a worker asks for: any, or that of a node which decides one choice more than the
+/// cube that the worker has just split.
 #[derive(Clone, Copy)]
 enum Request {
     Any,
     Own(Step),
 }
 
-/// Takes cubes and refutes, solves or splits them, until the search is finished or memory is wanting, and
-/// leaves.
+/// Takes cubes and refutes, solves or splits them, until the search is finished or memory is
+/// wanting, and leaves.
 pub fn work<'b, 'a, S: Strategy, J: Naming, G: Gate, R: Wait + Clock>(
     rt: &R,
     job: Job<'b, 'a, S, J, G>,
 ) -> Left<CubeMachine<'a>, J>
-    ensures { result.0 ≡ job.entry.seat.0 }
+    ensures { result.number ≡ job.entry.seat.number }
 {
     let Job {
         alloc,
@@ -71,11 +74,11 @@ pub fn work<'b, 'a, S: Strategy, J: Naming, G: Gate, R: Wait + Clock>(
         gate,
     } = job;
     let _ = take_turns(rt, alloc, desk, &mut seat, task, gate);
-    let (_, left) = desk.leave(rt, seat, Event::Release);
+    let (_, left) = desk.leave(rt, seat, CubeEvent::Release);
     left
 }
 
-// Turns until the search is finished.
+/// Turns until the search is finished.
 fn take_turns<'a, S: Strategy, J: Naming, G: Gate, R: Wait + Clock>(
     rt: &R,
     alloc: Global,
@@ -84,11 +87,11 @@ fn take_turns<'a, S: Strategy, J: Naming, G: Gate, R: Wait + Clock>(
     task: &Task<'_, S>,
     gate: &G,
 ) -> Result<(), AllocError>
-    ensures number { seat.new.0 ≡ seat.old.0 }
+    ensures number { seat.new.number ≡ seat.old.number }
 {
     let view = view_for::<S>(alloc, task.reduced)?;
     let trail = Trail::new(alloc);
-    let mut place = Place { view, trail };
+    let mut place = Standing { view, trail };
     let mut request = Request::Any;
     let mut number: u64 = 0;
     for _ in rt.forever() {
@@ -103,7 +106,7 @@ fn take_turns<'a, S: Strategy, J: Naming, G: Gate, R: Wait + Clock>(
     unreachable!()
 }
 
-// The view of the cube in which no choice is decided, with marks where the strategy uses these.
+/// The view of the cube in which no choice is decided, with marks where the strategy uses these.
 fn view_for<'v, S: Strategy>(
     alloc: Global,
     reduced: &'v Reduced,
@@ -117,33 +120,35 @@ fn view_for<'v, S: Strategy>(
     }
 }
 
-// Asks for a cube, and refutes, solves or splits it. It answers what to ask for next, and nothing where the
-// search is finished.
+/// Asks for a cube, and refutes, solves or splits it. It answers what to ask for next, and nothing
+/// where the search is finished.
 fn take_turn<'a, 'v, S: Strategy, J: Naming, R: Wait>(
     rt: &R,
     alloc: Global,
     desk: &Desk<CubeMachine<'a>, J>,
     seat: &mut Seat<CubeMachine<'a>, J>,
     task: &Task<'_, S>,
-    place: &mut Place<'v>,
+    place: &mut Standing<'v>,
     request: Request,
 ) -> Result<Option<Request>, AllocError>
     requires polygraph { place.old.view.polygraph ≡ task.now.reduced.now.poly }
-    requires kept { All (λ k. k.view.polygraph ≡ place.old.view.polygraph) place.old.trail.kept.items }
-    ensures number { seat.new.0 ≡ seat.old.0 }
+    requires kept { All (λ k. k.view.polygraph ≡ place.old.view.polygraph)
+        place.old.trail.kept.items }
+    ensures number { seat.new.number ≡ seat.old.number }
     ensures polygraph { place.new.view.polygraph ≡ place.old.view.polygraph }
-    ensures kept { IfOk result (λ _. All (λ k. k.view.polygraph ≡ place.new.view.polygraph) place.new.trail.kept.items) }
+    ensures kept { IfOk result (λ _. All (λ k. k.view.polygraph ≡ place.new.view.polygraph)
+        place.new.trail.kept.items) }
     ensures next { IfOk result (λ next. IfSome next (IsByStrategy
         (S.picks task.now.strategy.now place.new.view) (S.first_of task.now.strategy.now place.new.view))) }
     ensures asked { IfOk result (λ next. IfSome next
-        (IsAskedAfter (S.first_of task.now.strategy.now place.new.view) seat.new.1)) }
+        (IsAskedAfter (S.first_of task.now.strategy.now place.new.view) seat.new.calls)) }
 {
     let reply = send(rt, desk, seat, event_of(&request))?;
     match reply {
-        Reply::Finished => Ok(None),
-        Reply::NotOpen | Reply::NoneNow => Ok(Some(Request::Any)),
-        Reply::Cube(node) => {
-            let Place { view, trail } = place;
+        CubeReply::Finished => Ok(None),
+        CubeReply::NotOpen | CubeReply::NoneNow => Ok(Some(Request::Any)),
+        CubeReply::Cube(node) => {
+            let Standing { view, trail } = place;
             if see(alloc, trail, view, task.row, &request, node)? {
                 settle(rt, alloc, desk, seat, task, view)
             } else {
@@ -154,26 +159,27 @@ fn take_turn<'a, 'v, S: Strategy, J: Naming, R: Wait>(
     }
 }
 
-fn event_of(request: &Request) -> Event
+fn event_of(request: &Request) -> CubeEvent
     ensures event { result ≡ event_for request.now }
 {
     match request {
-        Request::Any => Event::TakeAny,
-        Request::Own(child) => Event::Claim(child.node),
+        Request::Any => CubeEvent::TakeAny,
+        Request::Own(child) => CubeEvent::Claim(child.node),
     }
 }
 
-// Makes the view that of the cube that was given; `false` where it cannot.
+/// Makes the view that of the cube that was given; `false` where it cannot.
 fn see<'v>(
     alloc: Global,
     trail: &mut Trail<'v>,
     view: &mut CubeView<'v>,
-    row: &Row,
+    row: &OriginRow,
     request: &Request,
     node: usize,
 ) -> Result<bool, AllocError>
     requires kept { All (λ k. k.view.polygraph ≡ view.old.polygraph) trail.old.kept.items }
-    ensures kept { IfOk result (λ _. All (λ k. k.view.polygraph ≡ view.new.polygraph) trail.new.kept.items) }
+    ensures kept { IfOk result (λ _. All (λ k. k.view.polygraph ≡ view.new.polygraph)
+        trail.new.kept.items) }
     ensures polygraph { view.new.polygraph ≡ view.old.polygraph }
     ensures view { IfOk result (λ seen. IsTrue seen →
         IsViewFor request.now trail.old.kept.items view.old node view.new) }
@@ -184,7 +190,7 @@ fn see<'v>(
     }
 }
 
-// Refutes, solves or splits the cube that the seat holds.
+/// Refutes, solves or splits the cube that the seat holds.
 fn settle<'a, S: Strategy, J: Naming, R: Wait>(
     rt: &R,
     alloc: Global,
@@ -194,34 +200,40 @@ fn settle<'a, S: Strategy, J: Naming, R: Wait>(
     view: &CubeView<'_>,
 ) -> Result<Option<Request>, AllocError>
     requires polygraph { view.now.polygraph ≡ task.now.reduced.now.poly }
-    ensures number { seat.new.0 ≡ seat.old.0 }
+    ensures number { seat.new.number ≡ seat.old.number }
     ensures next { IfOk result (λ next. IfSome next (IsByStrategy
         (S.picks task.now.strategy.now view.now) (S.first_of task.now.strategy.now view.now))) }
     ensures asked { IfOk result (λ next. IfSome next
-        (IsAskedAfter (S.first_of task.now.strategy.now view.now) seat.new.1)) }
+        (IsAskedAfter (S.first_of task.now.strategy.now view.now) seat.new.calls)) }
 {
     let event = turn(alloc, task.reduced, view, task.strategy)?;
     let choice = split_by(&event);
     let reply = send(rt, desk, seat, event)?;
     match reply {
-        Reply::Finished => Ok(None),
-        Reply::Closed | Reply::Solved => Ok(Some(Request::Any)),
-        Reply::Children(one, two) => Ok(Some(first_child(task.strategy, view, choice, one, two))),
+        CubeReply::Finished => Ok(None),
+        CubeReply::Closed | CubeReply::Solved => Ok(Some(Request::Any)),
+        CubeReply::Children(one, two) => Ok(Some(first_child(
+            task.strategy,
+            view,
+            choice,
+            one,
+            two,
+        ))),
         _ => give_back(rt, desk, seat),
     }
 }
 
-// The choice by which an event splits a cube.
-fn split_by(event: &Event) -> Option<ChoiceIx>
+/// The choice by which an event splits a cube.
+fn split_by(event: &CubeEvent) -> Option<ChoiceIx>
     ensures choice { result ≡ split_in event.now }
 {
     match event {
-        Event::Split(choice) => Some(*choice),
+        CubeEvent::Split(choice) => Some(*choice),
         _ => None,
     }
 }
 
-// The child that is to be seen first, of the two that a split made.
+/// The child that is to be seen first, of the two that a split made.
 fn first_child<S: Strategy>(
     strategy: &S,
     view: &CubeView<'_>,
@@ -243,31 +255,31 @@ fn first_child<S: Strategy>(
     Request::Own(Step { node, choice, side })
 }
 
-// Gives back the cube that the seat holds, if any, and asks for another.
+/// Gives back the cube that the seat holds, if any, and asks for another.
 fn give_back<'a, J: Naming, R: Wait>(
     rt: &R,
     desk: &Desk<CubeMachine<'a>, J>,
     seat: &mut Seat<CubeMachine<'a>, J>,
 ) -> Result<Option<Request>, AllocError>
-    ensures number { seat.new.0 ≡ seat.old.0 }
+    ensures number { seat.new.number ≡ seat.old.number }
     ensures next { (pick : Option ℕ) (first : ℕ → side.Side) →
         IfOk result (λ next. IfSome next (IsByStrategy pick first)) }
     ensures asked { (first : ℕ → side.Side) →
-        IfOk result (λ next. IfSome next (IsAskedAfter first seat.new.1)) }
+        IfOk result (λ next. IfSome next (IsAskedAfter first seat.new.calls)) }
 {
-    send(rt, desk, seat, Event::Release)?;
+    send(rt, desk, seat, CubeEvent::Release)?;
     Ok(Some(Request::Any))
 }
 
-// A call, of which at a refusal the event is let go.
+/// A call, of which at a refusal the event is let go.
 fn send<'a, J: Naming, R: Wait>(
     rt: &R,
     desk: &Desk<CubeMachine<'a>, J>,
     seat: &mut Seat<CubeMachine<'a>, J>,
-    event: Event,
-) -> Result<Reply, AllocError>
-    ensures number { seat.new.0 ≡ seat.old.0 }
-    ensures called { IfOk result (λ reply. seat.new.1 ≡ seat.old.1 ++ (event, reply) ∷ []) }
+    event: CubeEvent,
+) -> Result<CubeReply, AllocError>
+    ensures number { seat.new.number ≡ seat.old.number }
+    ensures called { IfOk result (λ reply. seat.new.calls ≡ seat.old.calls ++ (event, reply) ∷ []) }
 {
     match desk.call(rt, seat, event) {
         Ok(reply) => Ok(reply),

@@ -22,8 +22,8 @@ use Rattle.cube_laws.specs.Cubes.{Cube, is_decided, edges_under}
 use Rattle.cube_laws.specs.State.{State}
 use Rattle.cube_laws.specs.Steps.{node_held, cube_at, reply_of, is_cycle, is_choice, can_split, decides_all, lists_once, keeps_edges, is_solution, split_reply, refute_reply, solve_reply}
 use Rattle.cube_laws.specs.Runs.{is_closing}
-use Rattle.cube_laws.specs.declared.messages.Event.TheVariants.{Split, Refute, Solve}
-use Rattle.cube_laws.specs.declared.messages.Reply.TheVariants.{Finished, BadChoice, Children, BadCycle, Closed, BadOrder, Solved}
+use Rattle.cube_laws.specs.declared.messages.CubeEvent.TheVariants.{Split, Refute, Solve}
+use Rattle.cube_laws.specs.declared.messages.CubeReply.TheVariants.{Finished, BadChoice, Children, BadCycle, Closed, BadOrder, Solved}
 use Rattle.branching.specs.View.{View, is_open_in, depth_of, chosen, edges_in, graph_in}
 use Rattle.branching.specs.Picks.{open_choices}
 use Rattle.branching.specs.Picked.{none_listed}

@@ -28,4 +28,5 @@ pub record IsHeld (k : Inside) : Type 0 where
   pub counted : k.counts ≡ map size_of k.reduced.now.poly.choices
   pub graph : AreEdgesOf (view_of k) k.graph
   pub rows : AreRowsOf k.rows k.graph
-  pub marks : AreMarks k.reduced.now.poly.nodes k.reduced.now.poly.choices k.sides k.graph.edges k.marks
+  pub marks : AreMarks k.reduced.now.poly.nodes k.reduced.now.poly.choices k.sides k.graph.edges
+      k.marks

@@ -1,5 +1,6 @@
 -- Marks that a view keeps, or does not.
-use Rattle.std.specs.Prelude.{◌≡◌, ◌↔◌, ◌⊎◌, ℕ, ◌<◌, ◌≤◌, nat_lt, false, List, Option, Some, None, length, slice_set, Vec}
+use Rattle.std.specs.Prelude.{◌≡◌, ◌↔◌, ◌⊎◌, ℕ, ◌<◌, ◌≤◌, nat_lt, false, List, Option, Some, None}
+use Rattle.std.specs.Prelude.{length, slice_set, Vec}
 use Rattle.std.specs.List.{Contains}
 use Rattle.std.specs.declared.alloc.Global.{Global}
 use Rattle.serializability.specs.Polygraph.{Edge, Choice}
@@ -12,8 +13,10 @@ use Rattle.branching.specs.declared.kept_marks.KeptMarks.{KeptMarks}
 use Rattle.branching.specs.declared.kept_marks.Marks.{Marks}
 use Rattle.branching.specs.declared.kept_marks.Marks.TheVariants.{Unkept, Kept}
 
--- the edges of all sides are listed, and the open choices are marked of which these edges refute a side
-pub record AreKept (n : ℕ) (choices : List Choice) (sides : List (Option Side)) (edges : List Edge) (k : KeptMarks) : Type 0 where
+-- the edges of all sides are listed, and the open choices are marked of which these edges refute a
+-- side
+pub record AreKept (n : ℕ) (choices : List Choice) (sides : List (Option Side)) (edges : List Edge)
+    (k : KeptMarks) : Type 0 where
   pub incoming : AreIncoming n choices k.incoming.items
   pub marked : AreMarked choices sides edges k.bits.items
 
@@ -60,22 +63,30 @@ pub record IsUnmarked (bits : List ℕ) (from to : ℕ) : Type 0 where
   pub each : (c : ℕ) → from ≤ c → c < to → bit_of bits c ≡ false
 
 pub record ClearsMarks (old new : Marks) : Type 0 where
-  pub each : (n : ℕ) (choices : List Choice) (sides : List (Option Side)) (edges : List Edge) → AreMarks n choices sides edges old → AreBlank n choices new
+  pub each : (n : ℕ) (choices : List Choice) (sides : List (Option Side)) (edges : List Edge)
+      → AreMarks n choices sides edges old → AreBlank n choices new
 
 pub record SavesMarks (marks : Marks) (saved : Option (Vec ℕ Global)) : Type 0 where
-  pub each : (n : ℕ) (choices : List Choice) (sides : List (Option Side)) (edges : List Edge) → AreMarks n choices sides edges marks → AreSaved choices sides edges saved
+  pub each : (n : ℕ) (choices : List Choice) (sides : List (Option Side)) (edges : List Edge)
+      → AreMarks n choices sides edges marks → AreSaved choices sides edges saved
 
 -- what was right of the saved marks is right of these
 pub record TakesSaved (count : ℕ) (saved : Option (Vec ℕ Global)) (old new : Marks) : Type 0 where
-  pub each : (n : ℕ) (choices : List Choice) (sides next : List (Option Side)) (edges others : List Edge) → length choices ≡ count → length next ≡ count
-      → AreMarks n choices sides edges old → AreSaved choices next others saved → AreMarks n choices next others new
+  pub each : (n : ℕ) (choices : List Choice) (sides next : List (Option Side))
+      (edges others : List Edge) → length choices ≡ count → length next ≡ count
+      → AreMarks n choices sides edges old → AreSaved choices next others saved
+      → AreMarks n choices next others new
 
 -- the marks are right of one edge more
 pub record AddsMarks (rows : Graph) (e : Edge) (old new : Marks) : Type 0 where
-  pub each : (n : ℕ) (choices : List Choice) (sides : List (Option Side)) (before after : Graph) → length sides ≡ length choices → AreRowsOf rows before
-      → ((x : Edge) → (Contains after.edges x ↔ (Contains before.edges x ⊎ (x ≡ e)))) → AreMarks n choices sides before.edges old → AreMarks n choices sides after.edges new
+  pub each : (n : ℕ) (choices : List Choice) (sides : List (Option Side)) (before after : Graph)
+      → length sides ≡ length choices → AreRowsOf rows before
+      → ((x : Edge) → (Contains after.edges x ↔ (Contains before.edges x ⊎ (x ≡ e))))
+      → AreMarks n choices sides before.edges old → AreMarks n choices sides after.edges new
 
 -- the marks are right of one decided choice more
 pub record RemovesMark (c : ℕ) (old new : Marks) : Type 0 where
-  pub each : (n : ℕ) (choices : List Choice) (sides : List (Option Side)) (edges : List Edge) (side : Side) → c < length sides
-      → AreMarks n choices sides edges old → AreMarks n choices (slice_set sides c (Some side)) edges new
+  pub each : (n : ℕ) (choices : List Choice) (sides : List (Option Side)) (edges : List Edge)
+      (side : Side) → c < length sides
+      → AreMarks n choices sides edges old → AreMarks n choices
+      (slice_set sides c (Some side)) edges new

@@ -7,10 +7,12 @@ use Rattle.known_graph.specs.Tests.{has_edge}
 
 -- how many of nodes 0 to n a node does not reach, by the rows of a graph
 abbrev pub unreached : Graph → ℕ → ℕ
-unreached rows u = count_by (λ v. not (has_edge rows.edges (u, v))) (range_with_len 0 (rows.nodes + 1))
+unreached rows u = count_by (λ v. not (has_edge rows.edges (u, v)))
+    (range_with_len 0 (rows.nodes + 1))
 
 -- the order has each of nodes 1 to n, and a node that reaches more before each that reaches fewer
 pub record IsOrderByReach (rows : Graph) (order : List ℕ) : Type 0 where
   pub places : length order ≡ rows.nodes
   pub each : (v : ℕ) → 0 < v → v ≤ rows.nodes → Contains order v
-  pub sorted : (u v : ℕ) → Contains order u → Contains order v → unreached rows u < unreached rows v → place_of order u < place_of order v
+  pub sorted : (u v : ℕ) → Contains order u → Contains order v → unreached rows u < unreached rows v
+      → place_of order u < place_of order v

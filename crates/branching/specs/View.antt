@@ -1,5 +1,6 @@
 -- What a strategy sees of a cube.
-use Rattle.std.specs.Prelude.{ℕ, List, Bool, false, Option, Some, None, is_some, is_none, length, replicate, slice_get, slice_set}
+use Rattle.std.specs.Prelude.{ℕ, List, Bool, false, Option, Some, None, is_some, is_none, length}
+use Rattle.std.specs.Prelude.{replicate, slice_get, slice_set}
 use Rattle.std.specs.Option.{option_map_or}
 use Rattle.std.specs.List.{filter}
 use Rattle.serializability.specs.Polygraph.{Edge, Polygraph}
@@ -22,7 +23,8 @@ depth_of v = length (filter is_some v.sides)
 
 -- the sides that are decided
 abbrev pub chosen : View → Sides
-chosen v c side = option_map_or (λ o. option_map_or (λ s. same_side s side) o false) (slice_get v.sides c) false
+chosen v c side = option_map_or (λ o. option_map_or (λ s. same_side s side) o false)
+    (slice_get v.sides c) false
 
 -- the known edges and those of the decided sides
 abbrev pub edges_in : View → List Edge

@@ -40,7 +40,8 @@ impl<A: Strategy, B: Strategy> Strategy for Alternate<A, B> {
 
     ghost picks = { λ s v. if is_even_depth v then A.picks s.0 v else B.picks s.1 v };
 
-    ghost first_of = { λ s v c. if is_even_depth v then A.first_of s.0 v c else B.first_of s.1 v c };
+    ghost first_of = { λ s v c. if is_even_depth v then A.first_of s.0 v c else B.first_of s.1 v
+        c };
 
     fn pick(&self, view: &CubeView<'_>) -> Option<ChoiceIx> {
         if view.depth() % 2 == 0 {
@@ -58,7 +59,9 @@ impl<A: Strategy, B: Strategy> Strategy for Alternate<A, B> {
         }
     }
 
-    ghost picks_open = { λ s v c e. either_open (A.picks s.0) (B.picks s.1) (A.picks_open s.0) (B.picks_open s.1) v c e };
+    ghost picks_open = { λ s v c e. either_open (A.picks s.0) (B.picks s.1) (A.picks_open s.0)
+        (B.picks_open s.1) v c e };
 
-    ghost picks_some = { λ s v e c. either_where_open (A.picks s.0) (B.picks s.1) (A.picks_some s.0) (B.picks_some s.1) v e c };
+    ghost picks_some = { λ s v e c. either_where_open (A.picks s.0) (B.picks s.1) (A.picks_some s.0)
+        (B.picks_some s.1) v e c };
 }

@@ -8,13 +8,13 @@ use crate::view::CubeView;
 use polygraph::ChoiceIx;
 use pruning_laws::Side;
 
-/// Picks the open choice with the most edges on both sides together, of several the one of least number,
-/// and searches side one first.
+/// Picks the open choice with the most edges on both sides together, of several the one of least
+/// number, and searches side one first.
 #[derive(Clone, Copy)]
 pub struct MostEdges;
 
-/// Picks the open choice with the fewest edges on both sides together, of several the one of least number,
-/// and searches side one first.
+/// Picks the open choice with the fewest edges on both sides together, of several the one of least
+/// number, and searches side one first.
 #[derive(Clone, Copy)]
 pub struct LeastEdges;
 

@@ -9,9 +9,9 @@ use polygraph::ChoiceIx;
 use pruning_laws::Side;
 use std::marker::Model;
 
-/// Picks by the word at the depth, modulo the number of words: the open choice whose rank is the word modulo
-/// the number of open ones. Side one is searched first where the word is even. Without words the open
-/// choice of least number is picked, and side one is searched first.
+/// Picks by the word at the depth, modulo the number of words: the open choice whose rank is the
+/// word modulo the number of open ones. Side one is searched first where the word is even. Without
+/// words the open choice of least number is picked, and side one is searched first.
 #[derive(Drop)]
 pub struct ByWords {
     words: Vec<u64>,
@@ -33,7 +33,7 @@ impl ByWords {
         ByWords { words }
     }
 
-    // The word at the depth of a view, where there are words.
+    /// The word at the depth of a view, where there are words.
     fn word_at(&self, view: &CubeView<'_>) -> Option<u64>
         ensures word { MatchOption result (self.now ≡ [])
             (λ word. (0 < length self.now) × (word ≡ word_at self.now view.now)) }
@@ -45,7 +45,7 @@ impl ByWords {
     }
 }
 
-// The open choice of this rank, counted from 0.
+/// The open choice of this rank, counted from 0.
 fn open_at(view: &CubeView<'_>, rank: usize) -> Option<ChoiceIx>
     ensures choice { result ≡ slice_get (open_choices view.now) rank }
 {

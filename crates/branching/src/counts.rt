@@ -75,7 +75,7 @@ fn counts_of(alloc: Global, choices: &[Choice]) -> Result<Vec<usize>, AllocError
         .collect(alloc)
 }
 
-// The least and the greatest of these numbers.
+/// The least and the greatest of these numbers.
 fn bounds_of(counts: &[usize]) -> (usize, usize)
     ensures bounds { AreBounds counts.now result.0 result.1 }
 {

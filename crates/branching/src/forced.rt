@@ -9,9 +9,10 @@ use crate::view::CubeView;
 use polygraph::ChoiceIx;
 use pruning_laws::Side;
 
-/// Picks the open choice of least number of which a side is refuted, that is, has an edge whose target
-/// reaches its source by the known edges and those of the decided sides; where there is none, the choice
-/// that `MostEdges` picks. It searches side two first where side one is refuted, else side one.
+/// Picks the open choice of least number of which a side is refuted, that is, has an edge whose
+/// target reaches its source by the known edges and those of the decided sides; where there is
+/// none, the choice that `MostEdges` picks. It searches side two first where side one is refuted,
+/// else side one.
 #[derive(Clone, Copy)]
 pub struct Forced;
 

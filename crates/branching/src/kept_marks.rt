@@ -1,12 +1,15 @@
 //! Marks of choices, where a view keeps them.
 
-ghost use Rattle.std.specs.Prelude.{◌≡◌, ℕ, ◌+◌, ◌^◌, ◌/◌, ◌<◌, ◌≤◌, ◌==◌, ◌&&◌, not, length, IfOk, IfSome, IfNone};
+ghost use Rattle.std.specs.Prelude.{◌≡◌, ℕ, ◌+◌, ◌^◌, ◌/◌, ◌<◌, ◌≤◌, ◌==◌, ◌&&◌, not, length, IfOk};
+ghost use Rattle.std.specs.Prelude.{IfSome, IfNone};
 ghost use Rattle.std.specs.List.{AllByRecursion};
 ghost use Rattle.known_graph.specs.Bits.{bit_of, row_len};
 ghost use Rattle.polygraph.specs.Polygraphs.{JoinsBoth};
 ghost use Rattle.polygraph.specs.declared.index.TheConstants.{MAX_CHOICES};
 ghost use Rattle.serializability.specs.declared.node.TheConstants.{MAX_NODES};
-ghost use Rattle.branching.specs.Markings.{AreBlank, HaveLists, HaveRoom, HasRoom, HasBits, ClearsMarks, SavesMarks, TakesSaved, AddsMarks, RemovesMark, IsUnmarked};
+ghost use Rattle.branching.specs.Markings.{AreBlank, HaveLists, HaveRoom, HasRoom, HasBits};
+ghost use Rattle.branching.specs.Markings.{ClearsMarks, SavesMarks, TakesSaved, AddsMarks};
+ghost use Rattle.branching.specs.Markings.{RemovesMark, IsUnmarked};
 
 use crate::bits::{clear_bit, next_set, set_below};
 use crate::marks::{Incoming, incoming_of, mark_refuted};
@@ -116,7 +119,7 @@ impl KeptMarks {
     }
 }
 
-// Writes these bits over others, or sets those of so many choices where there are none.
+/// Writes these bits over others, or sets those of so many choices where there are none.
 fn copy_bits(marks: &mut [u64], bits: &Option<Vec<u64>>, count: usize)
     requires len { length marks.old ≡ row_len count }
     requires bits { HasRoom count bits.now }
@@ -128,7 +131,7 @@ fn copy_bits(marks: &mut [u64], bits: &Option<Vec<u64>>, count: usize)
     }
 }
 
-// Clears the bit of this number; past the last word there is none.
+/// Clears the bit of this number; past the last word there is none.
 fn clear_within(words: &mut [u64], number: usize)
     ensures bits { (k : ℕ) → bit_of words.new k ≡ (not (k == number) && bit_of words.old k) }
     ensures len { length words.new ≡ length words.old }

@@ -14,71 +14,72 @@ ghost use Rattle.branching.specs.Turns.{IsAnswered, IsDecision};
 use crate::order::order_by_reach;
 use crate::strategy::Strategy;
 use crate::view::CubeView;
-use cube_laws::{Event, NodeLine};
+use cube_laws::CubeEvent;
 use prune_ledger::Reduced;
+use session_history::NodeLine;
 use std::alloc::{AllocError, Global};
 
-/// What a worker does with the cube that it holds: it refutes it where its edges have a cycle, else solves it
-/// where no choice is open, else splits it by the strategy.
+/// What a worker does with the cube that it holds: it refutes it where its edges have a cycle, else
+/// solves it where no choice is open, else splits it by the strategy.
 pub fn turn<S: Strategy>(
     alloc: Global,
     reduced: &Reduced,
     view: &CubeView<'_>,
     strategy: &S,
-) -> Result<Event, AllocError>
+) -> Result<CubeEvent, AllocError>
     requires polygraph { view.now.polygraph ≡ reduced.now.poly }
     ensures answered { IfOk result (IsAnswered view.now) }
     ensures decision { IfOk result (IsDecision view.now (S.picks strategy.now view.now)) }
 {
-    if view.rows().cyclic() {
+    if view.rows().has_cycle() {
         return refutation(alloc, view);
     }
     if view.depth() == reduced.poly().choices().len() {
         return solution(alloc, view);
     }
     match strategy.pick(view) {
-        Some(choice) => Ok(Event::Split(choice)),
+        Some(choice) => Ok(CubeEvent::Split(choice)),
         None => unreachable!(),
     }
 }
 
-// Refutes a cube whose edges have a cycle.
-fn refutation(alloc: Global, view: &CubeView<'_>) -> Result<Event, AllocError>
+/// Refutes a cube whose edges have a cycle.
+fn refutation(alloc: Global, view: &CubeView<'_>) -> Result<CubeEvent, AllocError>
     requires cyclic { IsCyclic (edges_in view.now) }
     ensures answered { IfOk result (IsAnswered view.now) }
     ensures decision { (pick : Option ℕ) → IfOk result (IsDecision view.now pick) }
 {
     match view.graph().find_cycle(alloc)? {
-        Some(line) => Ok(Event::Refute(NodeLine::from_nodes(line))),
+        Some(line) => Ok(CubeEvent::Refute(NodeLine::from_nodes(line))),
         None => unreachable!(),
     }
 }
 
-// Solves a cube that leaves no choice open, and whose edges have no cycle.
-fn solution(alloc: Global, view: &CubeView<'_>) -> Result<Event, AllocError>
+/// Solves a cube that leaves no choice open, and whose edges have no cycle.
+fn solution(alloc: Global, view: &CubeView<'_>) -> Result<CubeEvent, AllocError>
     requires acyclic { ¬ IsCyclic (edges_in view.now) }
     requires decided { (c : ℕ) → is_open_in view.now c ≡ false }
     ensures answered { IfOk result (IsAnswered view.now) }
     ensures decision { (pick : Option ℕ) → IfOk result (IsDecision view.now pick) }
 {
     let order = order_by_reach(alloc, view.rows())?;
-    Ok(Event::Solve(NodeLine::from_nodes(order)))
+    Ok(CubeEvent::Solve(NodeLine::from_nodes(order)))
 }
 
-/// `MostEdges` picks an open choice such that no open one has more edges, and each open one of lesser
-/// number has fewer.
+/// `MostEdges` picks an open choice such that no open one has more edges, and each open one of
+/// lesser number has fewer.
 pub fn most_edges_are_most()
     ensures { (v : View) (c : ℕ) → most_edges v ≡ Some c → HasMost v c }
 {}
 
-/// `LeastEdges` picks an open choice such that no open one has fewer edges, and each open one of lesser
-/// number has more.
+/// `LeastEdges` picks an open choice such that no open one has fewer edges, and each open one of
+/// lesser number has more.
 pub fn least_edges_are_fewest()
     ensures { (v : View) (c : ℕ) → least_edges v ≡ Some c → HasFewest v c }
 {}
 
-/// `Forced` picks an open choice of which a side is refuted, such that no open one of lesser number has such a
-/// side; where no open choice has one, it picks as `MostEdges` does.
+/// `Forced` picks an open choice of which a side is refuted, such that no open one of lesser number
+/// has such a side; where no open choice has one, it picks as `MostEdges` does.
 pub fn forced_choices_come_first()
     ensures { (v : View) (c : ℕ) → IsView v → forced_or_most v ≡ Some c → HasForcedOrMost v c }
 {}

@@ -1,5 +1,7 @@
-//! Branching on the open choices of a polygraph: what a strategy sees of a cube, the strategies, and what
-//! a worker does with the cube that it holds.
+//! Branching on the open choices of a polygraph: what a strategy sees of a cube, the strategies,
+//! and what a worker does with the cube that it holds.
+//!
+//! Called by the workers of `branch_search`. It knows no desk's history, no log and no budget.
 #![tactic(auto)]
 
 mod alternate;

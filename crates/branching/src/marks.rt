@@ -6,7 +6,8 @@ ghost use Rattle.reach_laws.specs.Reach.{Graph};
 ghost use Rattle.reach_rows.specs.ReachRows.{AreRowsOf};
 ghost use Rattle.polygraph.specs.Polygraphs.{Joins, JoinsBoth};
 ghost use Rattle.known_graph.specs.Bits.{bit_of};
-ghost use Rattle.branching.specs.Marked.{list_of, AreIncoming, AddsSide, AddsEntry, Keeps, IsOrReaches, MarksBehind, MarksTarget, MarksAll};
+ghost use Rattle.branching.specs.Marked.{list_of, AreIncoming, AddsSide, AddsEntry, Keeps};
+ghost use Rattle.branching.specs.Marked.{IsOrReaches, MarksBehind, MarksTarget, MarksAll};
 ghost use Rattle.polygraph.specs.declared.index.TheConstants.{MAX_CHOICES};
 ghost use Rattle.serializability.specs.declared.node.TheConstants.{MAX_NODES};
 
@@ -46,7 +47,7 @@ pub fn incoming_of(
     Ok(lists)
 }
 
-// The choice with this number.
+/// The choice with this number.
 fn choice_of(number: usize) -> ChoiceIx
     requires few { number < MAX_CHOICES }
     ensures number { result ≡ number }
@@ -54,7 +55,7 @@ fn choice_of(number: usize) -> ChoiceIx
     ChoiceIx::new(number).unwrap()
 }
 
-// So many lists, which are empty.
+/// So many lists, which are empty.
 fn empty_lists(alloc: Global, count: usize) -> Result<Vec<Vec<Incoming>>, AllocError>
     ensures count { IfOk result (λ lists. length lists.items ≡ count) }
 {
@@ -65,7 +66,7 @@ fn empty_lists(alloc: Global, count: usize) -> Result<Vec<Vec<Incoming>>, AllocE
     Ok(lists)
 }
 
-// Adds the edges of a side of a choice.
+/// Adds the edges of a side of a choice.
 fn add_side(lists: &mut [Vec<Incoming>], choice: ChoiceIx, side: &[Edge]) -> Result<(), AllocError>
     requires within { AllByRecursion (λ e. e.1 < length lists.old) side.now }
     ensures len { length lists.new ≡ length lists.old }
@@ -78,7 +79,7 @@ fn add_side(lists: &mut [Vec<Incoming>], choice: ChoiceIx, side: &[Edge]) -> Res
     Ok(())
 }
 
-// Adds an edge to the list of its target.
+/// Adds an edge to the list of its target.
 fn push_to(lists: &mut [Vec<Incoming>], target: NodeIx, entry: Incoming) -> Result<(), AllocError>
     requires within { target < length lists.old }
     ensures len { length lists.new ≡ length lists.old }
@@ -89,8 +90,9 @@ fn push_to(lists: &mut [Vec<Incoming>], target: NodeIx, entry: Incoming) -> Resu
     Ok(())
 }
 
-/// Marks each choice of which an edge more, from u to v, refutes a side that the edges of these rows do not:
-/// a side that has an edge whose target does not reach its source by those edges, and does by one more.
+/// Marks each choice of which an edge more, from u to v, refutes a side that the edges of these
+/// rows do not: a side that has an edge whose target does not reach its source by those edges, and
+/// does by one more.
 pub fn mark_refuted(
     incoming: &[Vec<Incoming>],
     rows: &Rows,
@@ -111,8 +113,8 @@ pub fn mark_refuted(
     }
 }
 
-// Where the target comes to reach v by an edge from u to v, marks the choices of these edges into it, from
-// v or from what v reaches.
+/// Where the target comes to reach v by an edge from u to v, marks the choices of these edges into
+/// it, from v or from what v reaches.
 fn mark_target(
     list: &[Incoming],
     rows: &Rows,
@@ -129,7 +131,7 @@ fn mark_target(
     }
 }
 
-// Marks the choices of these edges, of which the sources are v or reached by v.
+/// Marks the choices of these edges, of which the sources are v or reached by v.
 fn mark_behind(list: &[Incoming], rows: &Rows, marks: &mut [u64], v: NodeIx)
     ensures keeps { Keeps marks.old marks.new }
     ensures marked { MarksBehind rows.now.edges v list.now marks.new }
@@ -139,10 +141,11 @@ fn mark_behind(list: &[Incoming], rows: &Rows, marks: &mut [u64], v: NodeIx)
     }
 }
 
-// Marks the choice of this edge, where its source is v or reached by v.
+/// Marks the choice of this edge, where its source is v or reached by v.
 fn mark_source(entry: Incoming, rows: &Rows, marks: &mut [u64], v: NodeIx)
     ensures keeps { Keeps marks.old marks.new }
-    ensures marked { entry.choice / 64 < length marks.old → IsOrReaches rows.now.edges v entry.source →
+    ensures marked { entry.choice / 64 < length marks.old
+        → IsOrReaches rows.now.edges v entry.source →
         bit_of marks.new entry.choice ≡ true }
 {
     if is_or_reaches(rows, v, entry.source) {
@@ -150,14 +153,14 @@ fn mark_source(entry: Incoming, rows: &Rows, marks: &mut [u64], v: NodeIx)
     }
 }
 
-// Whether a node is another one, or reaches it.
+/// Whether a node is another one, or reaches it.
 fn is_or_reaches(rows: &Rows, from: NodeIx, to: NodeIx) -> bool
     ensures leads { IsOrReaches rows.now.edges from to → result ≡ true }
 {
     from.get() == to.get() || rows.reaches(from, to)
 }
 
-// Sets the bit of this number; past the last word there is none.
+/// Sets the bit of this number; past the last word there is none.
 fn set_within(words: &mut [u64], number: usize)
     ensures keeps { Keeps words.old words.new }
     ensures set { number / 64 < length words.old → bit_of words.new number ≡ true }

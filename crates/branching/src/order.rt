@@ -9,15 +9,15 @@ use serializability::NodeIx;
 use serializability::numbers::node as node_of;
 use std::alloc::{AllocError, Global};
 
-// A node, and how many nodes it does not reach.
+/// A node, and how many nodes it does not reach.
 #[derive(Clone, Copy)]
 struct Ranked {
     unreached: usize,
     node: NodeIx,
 }
 
-/// Nodes 1 to n by how many nodes they reach: most first, and of several that reach as many the one of
-/// least number (shown by tests).
+/// Nodes 1 to n by how many nodes they reach: most first, and of several that reach as many the one
+/// of least number (shown by tests).
 pub fn order_by_reach(alloc: Global, rows: &Rows) -> Result<Vec<NodeIx>, AllocError>
     ensures order { IfOk result (λ order. IsOrderByReach rows.now order.items) }
 {
@@ -32,10 +32,12 @@ fn nodes_of(alloc: Global, all: &[Ranked]) -> Result<Vec<NodeIx>, AllocError>
     all.iter().map(|entry| entry.node).collect(alloc)
 }
 
-// Nodes 1 to n, each with how many nodes it does not reach.
+/// Nodes 1 to n, each with how many nodes it does not reach.
 fn all_ranked(alloc: Global, rows: &Rows) -> Result<Vec<Ranked>, AllocError>
-    ensures nodes { IfOk result (λ all. map (λ x. x.node) all.items ≡ range_with_len 1 rows.now.nodes) }
-    ensures counts { IfOk result (λ all. All (λ x. x.unreached ≡ unreached rows.now x.node) all.items) }
+    ensures nodes { IfOk result (λ all. map (λ x. x.node) all.items
+        ≡ range_with_len 1 rows.now.nodes) }
+    ensures counts { IfOk result (λ all. All (λ x. x.unreached ≡ unreached rows.now x.node)
+        all.items) }
 {
     let nodes = rows.nodes();
     let mut all = Vec::with_capacity(alloc, nodes)?;
@@ -47,7 +49,7 @@ fn all_ranked(alloc: Global, rows: &Rows) -> Result<Vec<Ranked>, AllocError>
     Ok(all)
 }
 
-// How many of nodes 0 to n a node does not reach.
+/// How many of nodes 0 to n a node does not reach.
 fn unreached(rows: &Rows, node: NodeIx) -> usize
     ensures count { result ≡ unreached rows.now node }
 {

@@ -1,6 +1,8 @@
 //! The sides that are decided.
 
-ghost use Rattle.std.specs.Prelude.{◌≡◌, ℕ, ◌+◌, ◌<◌, ◌≤◌, [], ◌∷◌, true, Some, None, Option, MatchOption, IfSome, IfOk, is_some, length, replicate, slice_get, slice_set};
+ghost use Rattle.std.specs.Prelude.{◌≡◌, ℕ, ◌+◌, ◌<◌, ◌≤◌, [], ◌∷◌, true, Some, None, Option};
+ghost use Rattle.std.specs.Prelude.{MatchOption, IfSome, IfOk, is_some, length, replicate};
+ghost use Rattle.std.specs.Prelude.{slice_get, slice_set};
 ghost use Rattle.std.specs.List.{filter};
 ghost use Rattle.branching.specs.Opens.{is_open_at, open_past};
 ghost use Rattle.polygraph.specs.declared.index.TheConstants.{MAX_CHOICES};
@@ -12,7 +14,8 @@ use pruning_laws::Side;
 use std::alloc::{AllocError, Global};
 use std::marker::Model;
 
-/// Of each choice the side that is decided, or none where it is open. Contracts see the list of these.
+/// Of each choice the side that is decided, or none where it is open. Contracts see the list of
+/// these.
 #[derive(Drop)]
 pub struct Sides {
     sides: Vec<Option<Side>>,
@@ -123,7 +126,8 @@ impl Sides {
     pub fn next_open(&self, from: usize) -> Option<ChoiceIx>
         ensures next { MatchOption result (open_past self.now from ≡ [])
             (λ c. open_past self.now from ≡ c ∷ open_past self.now (c + 1)) }
-        ensures within { IfSome result (λ c. (from ≤ c) × (c < length self.now) × (is_open_at self.now c ≡ true)) }
+        ensures within { IfSome result (λ c. (from ≤ c) × (c < length self.now)
+            × (is_open_at self.now c ≡ true)) }
     {
         ChoiceIx::new(next_set(&self.open, from)?)
     }

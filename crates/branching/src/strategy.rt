@@ -15,8 +15,8 @@ pub trait Strategy: Sync {
     /// The strategy's word.
     const NAME: &'static str;
 
-    /// Whether the strategy looks for choices of which a side is refuted, so that a view is to keep marks of
-    /// these. Its answers are the same without them, and take longer.
+    /// Whether the strategy looks for choices of which a side is refuted, so that a view is to keep
+    /// marks of these. Its answers are the same without them, and take longer.
     const USES_MARKS: bool;
 
     /// The choice that is picked, by its number, where one is.
@@ -25,7 +25,8 @@ pub trait Strategy: Sync {
     /// The side that is searched first.
     ghost first_of: { Self → View → ℕ → side.Side };
 
-    /// The choice by which the cube is split: an open one, or none where none is open. It takes no memory.
+    /// The choice by which the cube is split: an open one, or none where none is open. It takes no
+    /// memory.
     fn pick(&self, view: &CubeView<'_>) -> Option<ChoiceIx>
         ensures pick { result ≡ picks self.now view.now };
 
@@ -35,8 +36,10 @@ pub trait Strategy: Sync {
         ensures side { result ≡ first_of self.now view.now choice };
 
     /// A choice that is picked is open.
-    ghost picks_open: { (s : Self) (v : View) (c : ℕ) → picks s v ≡ Some c → is_open_in v c ≡ true };
+    ghost picks_open: { (s : Self) (v : View) (c : ℕ) → picks s v ≡ Some c
+        → is_open_in v c ≡ true };
 
     /// None is picked only where none is open.
-    ghost picks_some: { (s : Self) (v : View) → picks s v ≡ None → (c : ℕ) → is_open_in v c ≡ false };
+    ghost picks_some: { (s : Self) (v : View) → picks s v ≡ None → (c : ℕ)
+        → is_open_in v c ≡ false };
 }

@@ -1,6 +1,7 @@
 //! What a strategy sees of a cube.
 
-ghost use Rattle.std.specs.Prelude.{◌≡◌, ℕ, ◌+◌, ◌<◌, ◌≤◌, [], ◌∷◌, true, Some, MatchOption, IfSome, IfOk, IfNone, is_some, length, slice_get, List, Option};
+ghost use Rattle.std.specs.Prelude.{◌≡◌, ℕ, ◌+◌, ◌<◌, ◌≤◌, [], ◌∷◌, true, Some, MatchOption};
+ghost use Rattle.std.specs.Prelude.{IfSome, IfOk, IfNone, is_some, length, slice_get, List, Option};
 ghost use Rattle.std.specs.List.{AllByRecursion};
 ghost use Rattle.serializability.specs.Polygraph as spec;
 ghost use Rattle.pruning_laws.specs.declared.side.Side as side;
@@ -28,11 +29,11 @@ use reach_rows::Rows;
 use std::alloc::{AllocError, Global};
 use std::marker::Model;
 
-/// What a strategy sees of a cube: the choices of a polygraph, and of each the side that is decided, or
-/// none where it is open.
+/// What a strategy sees of a cube: the choices of a polygraph, and of each the side that is
+/// decided, or none where it is open.
 ///
-/// It keeps up the known edges with those of the decided sides, which node reaches which by them, and, for a
-/// strategy that uses marks, a mark for each open choice of which they refute a side.
+/// It keeps up the known edges with those of the decided sides, which node reaches which by them,
+/// and, for a strategy that uses marks, a mark for each open choice of which they refute a side.
 #[derive(Drop)]
 pub struct CubeView<'a> {
     reduced: &'a Reduced,
@@ -85,7 +86,8 @@ impl<'a> CubeView<'a> {
         open_view(alloc, reduced, marks)
     }
 
-    /// The view of that cube for strategies that do not use marks: it spares the time and the memory for them.
+    /// The view of that cube for strategies that do not use marks: it spares the time and the
+    /// memory for them.
     pub fn without_marks(alloc: Global, reduced: &'a Reduced) -> Result<CubeView<'a>, AllocError>
         ensures opened { IfOk result (λ view. view ≡ opened reduced.now.poly) }
     {
@@ -219,7 +221,7 @@ impl<'a> CubeView<'a> {
         verdict.one.is_some() || verdict.two.is_some()
     }
 
-    // What refutes the sides of a choice.
+    /// What refutes the sides of a choice.
     fn verdict(&self, choice: ChoiceIx) -> Verdict
         requires choice { choice < length self.now.sides }
         ensures one { is_some result.one ≡ is_refuted_in self.now choice One }
@@ -242,8 +244,8 @@ impl<'a> CubeView<'a> {
         None
     }
 
-    // The choice of least number from a number on that is marked, or open where no marks are kept; those below
-    // it are not open and forced.
+    /// The choice of least number from a number on that is marked, or open where no marks are kept;
+    /// those below it are not open and forced.
     fn next_marked(&self, from: usize) -> Option<ChoiceIx>
         ensures next { IfSome result (λ c. from ≤ c) }
         ensures below { IfSome result (λ c. AreUnforced self.now from c) }
@@ -287,7 +289,7 @@ impl<'a> CubeView<'a> {
     }
 }
 
-// The view of the cube in which no choice is decided, with marks of which none is set.
+/// The view of the cube in which no choice is decided, with marks of which none is set.
 fn open_view<'a>(
     alloc: Global,
     reduced: &'a Reduced,
@@ -297,7 +299,7 @@ fn open_view<'a>(
     ensures opened { IfOk result (λ view. view ≡ opened reduced.now.poly) }
 {
     let poly = reduced.poly();
-    let _nodes = poly.nodes();
+    let _invariant = poly.nodes();
     Ok(CubeView {
         reduced,
         counts: EdgeCounts::new(alloc, poly.choices())?,
@@ -308,15 +310,17 @@ fn open_view<'a>(
     })
 }
 
-// Adds these edges to a graph and to its rows, and marks the choices of which they refute a side.
+/// Adds these edges to a graph and to its rows, and marks the choices of which they refute a side.
 fn add_edges(graph: &mut Known, rows: &mut Rows, marks: &mut Marks, edges: &[Edge])
     requires joined { AllByRecursion (Joins graph.old.nodes) edges.now }
     requires rows { AreRowsOf rows.old graph.old }
     requires lists { HaveLists (graph.old.nodes + 1) marks.old }
     ensures edges { AddsEdges graph.old graph.new edges.now }
     ensures rows { AreRowsOf rows.new graph.new }
-    ensures marks { (n : ℕ) (choices : List spec.Choice) (sides : List (Option side.Side)) → length sides ≡ length choices →
-        AreMarks n choices sides graph.old.edges marks.old → AreMarks n choices sides graph.new.edges marks.new }
+    ensures marks { (n : ℕ) (choices : List spec.Choice) (sides : List (Option side.Side))
+        → length sides ≡ length choices →
+        AreMarks n choices sides graph.old.edges marks.old
+        → AreMarks n choices sides graph.new.edges marks.new }
 {
     for &edge in edges {
         marks.add_edge(rows, edge);

@@ -1,11 +1,13 @@
 -- The chains of a key, and the polygraph of a history's chains.
-use Rattle.std.specs.Prelude.{◌≡◌, ◌⊎◌, ◌<◌, ◌≤◌, ℕ, zero, suc, ◌==◌, ◌&&◌, not, List, [], ◌∷◌, ◌++◌, length, Option, None, Some, Bool, true, false, is_some, map}
+use Rattle.std.specs.Prelude.{◌≡◌, ◌⊎◌, ◌<◌, ◌≤◌, ℕ, zero, suc, ◌==◌, ◌&&◌, not, List, [], ◌∷◌}
+use Rattle.std.specs.Prelude.{◌++◌, length, Option, None, Some, Bool, true, false, is_some, map}
 use Rattle.std.specs.List.{find, filter, flat_map}
 use Rattle.std.specs.Option.{option_map_or}
 use Rattle.serializability.specs.Log.{Log}
 use Rattle.serializability.specs.Reads.{last_write}
 use Rattle.serializability.specs.Pairs.{pairs_of}
-use Rattle.serializability.specs.Polygraph.{Edge, Choice, Polygraph, all_nodes, committed, all_keys, source, arcs}
+use Rattle.serializability.specs.Polygraph.{Edge, Choice, Polygraph, all_nodes, committed, all_keys}
+use Rattle.serializability.specs.Polygraph.{source, arcs}
 
 -- whether node v writes the key
 abbrev pub writes : Log → ℕ → ℕ → Bool
@@ -45,7 +47,8 @@ inner_at log x w (Some v) = map (λ r. (r, v)) (filter (λ r. not (r == v)) (rea
 
 -- each reader of a chain's writer stands before the writer behind it
 abbrev pub inner_edges : Log → List Edge
-inner_edges log = flat_map (λ x. flat_map (λ w. inner_at log x w (next log x w)) (all_nodes log)) (all_keys log)
+inner_edges log = flat_map (λ x. flat_map (λ w. inner_at log x w (next log x w)) (all_nodes log))
+    (all_keys log)
 
 -- from each of these to b, and where there is none, from t to b
 abbrev pub edges_to : ℕ → ℕ → List ℕ → List Edge
@@ -82,21 +85,25 @@ IsWriter log x v = (v ≡ 0) ⊎ ((0 < v) × (v ≤ log.nodes) × (writes log x 
 -- behind w each of these writes the key, and reads it from the one before
 abbrev pub IsLinked : Log → ℕ → ℕ → List ℕ → Type 0
 IsLinked log x w [] = Unit {0}
-IsLinked log x w (v ∷ rest) = (0 < v) × (v ≤ log.nodes) × (writes log x v ≡ true) × (source log v x ≡ Some w) × IsLinked log x v rest
+IsLinked log x w (v ∷ rest) = (0 < v) × (v ≤ log.nodes) × (writes log x v ≡ true)
+    × (source log v x ≡ Some w) × IsLinked log x v rest
 
 abbrev pub last : ℕ → List ℕ → ℕ
 last w [] = w
 last w (v ∷ rest) = last v rest
 
--- w and the rest are a list of writers in which each next one reads the key from the one before, and none stands before or behind it
+-- w and the rest are a list of writers in which each next one reads the key from the one before,
+-- and none stands before or behind it
 pub record IsChain (log : Log) (x w : ℕ) (rest : List ℕ) : Type 0 where
   pub writer : IsWriter log x w
   pub linked : IsLinked log x w rest
   pub begins : (w ≡ 0) ⊎ (source log w x ≡ None)
-  pub ends : (v : ℕ) → 0 < v → v ≤ log.nodes → writes log x v ≡ true → source log v x ≡ Some (last w rest) → ⊥
+  pub ends : (v : ℕ) → 0 < v → v ≤ log.nodes → writes log x v ≡ true
+      → source log v x ≡ Some (last w rest) → ⊥
 
 -- ---- chains that close on themselves
--- at least two nodes, of which the first is the last again: each next one writes the key, and reads it from the one before
+-- at least two nodes, of which the first is the last again: each next one writes the key, and reads
+-- it from the one before
 pub record IsClosedChain (log : Log) (x : ℕ) (line : List ℕ) : Type 0 where
   pub start : ℕ
   pub rest : List ℕ

@@ -14,7 +14,7 @@ use serializability::NodeIx;
 use std::alloc::{AllocError, Global};
 use write_chains::{Chain, Chains};
 
-// An edge from each of these nodes.
+/// An edge from each of these nodes.
 fn edges_from_each(alloc: Global, sources: &[NodeIx], target: NodeIx) -> Result<Edges, AllocError>
     ensures edges { IfOk result (λ e. e ≡ map (λ u. (u, target)) sources.now) }
 {
@@ -28,8 +28,8 @@ fn edges_from_each(alloc: Global, sources: &[NodeIx], target: NodeIx) -> Result<
     Ok(Edges::many(edges))
 }
 
-// The edges by which a chain stands before this head: from each reader of its last writer, and from that
-// writer itself where it has no reader.
+/// The edges by which a chain stands before this head: from each reader of its last writer, and
+/// from that writer itself where it has no reader.
 fn edges_before(alloc: Global, first: &Chain, head: NodeIx) -> Result<Edges, AllocError>
     ensures edges { IfOk result (λ e. e ≡ edges_to first.now.tail head first.now.readers.items) }
 {
@@ -40,7 +40,7 @@ fn edges_before(alloc: Global, first: &Chain, head: NodeIx) -> Result<Edges, All
     }
 }
 
-// The one chain first, or the other.
+/// The one chain first, or the other.
 fn choice_between(alloc: Global, one: &Chain, two: &Chain) -> Result<Choice, AllocError>
     ensures choice { IfOk result (λ c. c ≡ between (chain_view one.now) (chain_view two.now)) }
 {
@@ -49,7 +49,7 @@ fn choice_between(alloc: Global, one: &Chain, two: &Chain) -> Result<Choice, All
     Ok(Choice::new(one_first, two_first))
 }
 
-// Adds the choices between a chain and each of the others.
+/// Adds the choices between a chain and each of the others.
 fn add_choices_with(
     alloc: Global,
     choices: &mut Vec<Choice>,
@@ -65,7 +65,7 @@ fn add_choices_with(
     Ok(())
 }
 
-// Adds the choices between these chains.
+/// Adds the choices between these chains.
 fn add_choices_among(
     alloc: Global,
     choices: &mut Vec<Choice>,
@@ -80,7 +80,8 @@ fn add_choices_among(
     Ok(())
 }
 
-// The number of choices between the chains of so many keys: each chain has one with each before it.
+/// The number of choices between the chains of so many keys: each chain has one with each before
+/// it.
 fn choice_count(chains: &Chains, keys: usize) -> Result<usize, PolyFault>
     requires keys { keys ≡ (log_of chains.now).keys }
     ensures count { IfOk result (λ k. k ≡ length (chain_choices (log_of chains.now))) }

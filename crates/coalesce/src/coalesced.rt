@@ -19,13 +19,13 @@ use session_history::History;
 use std::alloc::Global;
 use write_chains::Chains;
 
-/// The polygraph of the chains of a clean history, to which its chains and its arcs are given. Known are the
-/// arcs, the inner edges of the chains, and that the initial chain of a key stands before its other chains;
-/// for each pair of the others there is a choice which of them stands first, by key, lesser head and greater
-/// head. The same orders fit it as the bipaths.
+/// The polygraph of the chains of a clean history, to which its chains and its arcs are given.
+/// Known are the arcs, the inner edges of the chains, and that the initial chain of a key stands
+/// before its other chains; for each pair of the others there is a choice which of them stands
+/// first, by key, lesser head and greater head. The same orders fit it as the bipaths.
 ///
-/// It is refused with `TooManyChoices` where there are more than 100,000 choices, which are then counted no
-/// further, and with `Memory` where memory was refused.
+/// It is refused with `TooManyChoices` where there are more than 100,000 choices, which are then
+/// counted no further, and with `Memory` where memory was refused.
 pub fn coalesce(
     alloc: Global,
     history: &History,

@@ -14,7 +14,7 @@ use reach_laws::Edge;
 use serializability::NodeIx;
 use write_chains::{Chain, Chains};
 
-// Adds these edges.
+/// Adds these edges.
 fn add_edges(known: &mut Known, edges: &[Edge])
     requires joined { AllByRecursion (Joins known.old.nodes) edges.now }
     ensures edges { IsWith known.old.edges edges.now known.new.edges }
@@ -25,7 +25,7 @@ fn add_edges(known: &mut Known, edges: &[Edge])
     }
 }
 
-// Adds an edge from each of these nodes.
+/// Adds an edge from each of these nodes.
 fn add_edges_to(known: &mut Known, sources: &[NodeIx], target: NodeIx)
     requires joined { AllByRecursion (Joins known.old.nodes) (map (λ u. (u, target)) sources.now) }
     ensures edges { IsWith known.old.edges (map (λ u. (u, target)) sources.now) known.new.edges }
@@ -36,7 +36,7 @@ fn add_edges_to(known: &mut Known, sources: &[NodeIx], target: NodeIx)
     }
 }
 
-// Adds the edges by which a chain stands before this head.
+/// Adds the edges by which a chain stands before this head.
 #[tactic(auto, using(crate::proofs::Sets::with_tail))]
 fn add_edges_before(known: &mut Known, first: &Chain, head: NodeIx)
     requires joined { AllByRecursion (Joins known.old.nodes)
@@ -52,7 +52,7 @@ fn add_edges_before(known: &mut Known, first: &Chain, head: NodeIx)
     }
 }
 
-// Adds the edges by which a chain stands before each of the others.
+/// Adds the edges by which a chain stands before each of the others.
 fn add_first(known: &mut Known, first: &Chain, others: &[Chain])
     requires joined { AllByRecursion (λ v. AllByRecursion (Joins known.old.nodes)
         (before (chain_view first.now) v)) (map chain_view others.now) }
@@ -65,8 +65,8 @@ fn add_first(known: &mut Known, first: &Chain, others: &[Chain])
     }
 }
 
-/// Adds the inner edges of all chains, and those by which the initial chain of each key stands before its
-/// other chains.
+/// Adds the inner edges of all chains, and those by which the initial chain of each key stands
+/// before its other chains.
 pub fn add_known_edges(known: &mut Known, chains: &Chains, keys: usize)
     requires nodes { known.old.nodes ≡ (log_of chains.now).nodes }
     requires keys { keys ≡ (log_of chains.now).keys }

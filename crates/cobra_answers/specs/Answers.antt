@@ -11,7 +11,8 @@ use Rattle.cobra_answers.specs.declared.fault.Fault.TheVariants as fault
 -- `Says ss status text`: of these sessions a command may end so, with this text
 
 -- the log is well-formed, and a text that the command says of its sessions was put into the sink
-pub record IsTold (Says : List ClientSession → Status → List ℕ → Type 0) (log : List ℕ) (old new : Option (List ℕ)) (status : Status) : Type 0 where
+pub record IsTold (Says : List ClientSession → Status → List ℕ → Type 0) (log : List ℕ)
+    (old new : Option (List ℕ)) (status : Status) : Type 0 where
   pub sessions : List ClientSession
   pub well_formed : IsWellFormed log sessions
   pub text : List ℕ
@@ -29,7 +30,8 @@ IsCutAt old new text (fault.Device written) = IsCutShort old new text written
 IsCutAt old new text _ = ⊥
 
 -- the sink failed at such a text
-pub record IsToldInPart (Says : List ClientSession → Status → List ℕ → Type 0) (log : List ℕ) (old new : Option (List ℕ)) (written : ℕ) : Type 0 where
+pub record IsToldInPart (Says : List ClientSession → Status → List ℕ → Type 0) (log : List ℕ)
+    (old new : Option (List ℕ)) (written : ℕ) : Type 0 where
   pub sessions : List ClientSession
   pub well_formed : IsWellFormed log sessions
   pub status : Status
@@ -37,9 +39,15 @@ pub record IsToldInPart (Says : List ClientSession → Status → List ℕ → T
   pub says : Says sessions status text
   pub cut : IsCutShort old new text written
 
--- Why a command is refused: for the log's fault; for one that the command has of the sessions of a well-formed log; and in both
+-- Why a command is refused: for the log's fault; for one that the command has of the sessions of a
+-- well-formed log; and in both
 -- cases nothing was written; or because the sink failed at what the command says.
-pub data IsRefused (Says : List ClientSession → Status → List ℕ → Type 0) (Refuses : Fault → List ClientSession → Type 0) (log : List ℕ) (old new : Option (List ℕ)) : Fault → Type 0 where
-  by_log : (f : LogFault) → IsLogFault log f → Keeps old new → IsRefused Says Refuses log old new (fault.Log f)
-  by_command : (f : Fault) (ss : List ClientSession) → IsWellFormed log ss → Refuses f ss → Keeps old new → IsRefused Says Refuses log old new f
-  by_device : (written : ℕ) → IsToldInPart Says log old new written → IsRefused Says Refuses log old new (fault.Device written)
+pub data IsRefused (Says : List ClientSession → Status → List ℕ → Type 0)
+    (Refuses : Fault → List ClientSession → Type 0) (log : List ℕ)
+    (old new : Option (List ℕ)) : Fault → Type 0 where
+  by_log : (f : LogFault) → IsLogFault log f → Keeps old new
+      → IsRefused Says Refuses log old new (fault.Log f)
+  by_command : (f : Fault) (ss : List ClientSession) → IsWellFormed log ss → Refuses f ss
+      → Keeps old new → IsRefused Says Refuses log old new f
+  by_device : (written : ℕ) → IsToldInPart Says log old new written
+      → IsRefused Says Refuses log old new (fault.Device written)

@@ -85,7 +85,8 @@ refusal (fault.Order f) = order_refusal f
 refusal fault.NotAPermutation = codes "refused: P1"
 refusal (fault.SessionOrder session place) = at_transaction (codes "refused: P2 ") session place
 refusal (fault.MomentOrder session place) = at_transaction (codes "refused: P5 ") session place
-refusal (fault.ReadMismatch session place op) = at_transaction (codes "refused: P3 ") session place ++ codes " op " ++ decimal op
+refusal (fault.ReadMismatch session place op) = at_transaction
+    (codes "refused: P3 ") session place ++ codes " op " ++ decimal op
 refusal (fault.Device written) = output_line
 refusal fault.Memory = memory_line
 

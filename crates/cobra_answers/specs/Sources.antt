@@ -10,7 +10,8 @@ pub record Takes (old new : Option (List ℕ)) (bytes : List ℕ) : Type 0 where
 pub record IsSpent (rest : Option (List ℕ)) : Type 0 where
   pub empty : IsAtEnd rest
 
--- one call, with a buffer of this size, took bytes and put them behind the text: none only at the end
+-- one call, with a buffer of this size, took bytes and put them behind the text: none only at the
+-- end
 pub record TakesPiece (old new : Option (List ℕ)) (size : ℕ) (before after : List ℕ) : Type 0 where
   pub bytes : List ℕ
   pub taken : Takes old new bytes
@@ -18,7 +19,8 @@ pub record TakesPiece (old new : Option (List ℕ)) (size : ℕ) (before after :
   pub most : length bytes ≤ size
   pub last : length bytes ≡ 0 → 0 < size → IsSpent new
 
--- the text was taken from the source's front, and is all of it, or is longer than the limit by one byte
+-- the text was taken from the source's front, and is all of it, or is longer than the limit by one
+-- byte
 pub record IsReadWhole (old new : Option (List ℕ)) (limit : ℕ) (text : List ℕ) : Type 0 where
   pub taken : Takes old new text
   pub most : length text ≤ limit + 1

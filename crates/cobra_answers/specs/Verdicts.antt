@@ -28,11 +28,13 @@ unfoldable pub key_bytes : List ClientSession → ℕ → List ℕ
 key_bytes ss x = unwrap_or (slice_get (keys_in ss) x) []
 
 abbrev pub read_text : List ClientSession → ReadAnomaly → ℕ → ℕ → List ℕ
-read_text ss kind v op = codes "not serializable: " ++ read_title kind ++ named (codes " at ") ss v ++ codes " op " ++ decimal op ++ 10 ∷ []
+read_text ss kind v op = codes "not serializable: " ++ read_title kind ++ named
+    (codes " at ") ss v ++ codes " op " ++ decimal op ++ 10 ∷ []
 
 abbrev pub lost_text : List ClientSession → ℕ → ℕ → ℕ → ℕ → List ℕ
 lost_text ss x u a b =
-    codes "not serializable: A7 lost update of " ++ key_bytes ss x ++ named (codes " from ") ss u ++ named (codes " by ") ss a ++ named (codes " and ") ss b ++ 10 ∷ []
+    codes "not serializable: A7 lost update of " ++ key_bytes ss x ++ named
+    (codes " from ") ss u ++ named (codes " by ") ss a ++ named (codes " and ") ss b ++ 10 ∷ []
 
 abbrev pub anomaly_text : List ClientSession → Anomaly → List ℕ
 anomaly_text ss (anomaly.Read kind v op) = read_text ss kind v op
@@ -43,7 +45,8 @@ unfoldable pub nodes_text : List ClientSession → List ℕ → List ℕ
 nodes_text ss line = flat_map (named (32 ∷ []) ss) line
 
 abbrev pub cycle_text : List ClientSession → List ℕ → List ℕ
-cycle_text ss line = codes "not serializable: A8 cycle of known edges\ncycle" ++ nodes_text ss line ++ 10 ∷ []
+cycle_text ss line = codes "not serializable: A8 cycle of known edges\ncycle" ++ nodes_text ss line
+    ++ 10 ∷ []
 
 abbrev pub dead_text : List ℕ
 dead_text = codes "not serializable: A9 pruning ends in a cycle\n"

@@ -33,8 +33,10 @@ impl Reply {
 /// Puts the text into a sink.
 pub fn tell<W: Sink>(sink: &mut W, reply: &Reply) -> Result<Status, Fault>
     ensures status { IfOk result (λ status. status ≡ reply.now.status) }
-    ensures told { OnOk result (Appends (W.bytes sink.old) (W.bytes sink.new) reply.now.text.items) }
-    ensures cut { IfErr result (IsCutAt (W.bytes sink.old) (W.bytes sink.new) reply.now.text.items) }
+    ensures told { OnOk result (Appends (W.bytes sink.old)
+        (W.bytes sink.new) reply.now.text.items) }
+    ensures cut { IfErr result (IsCutAt (W.bytes sink.old)
+        (W.bytes sink.new) reply.now.text.items) }
     ensures count { W.failures sink.new ≡ failures_after (W.failures sink.old) result }
 {
     write_all(sink, &reply.text)?;

@@ -1,6 +1,8 @@
 //! Where bytes come from.
 
-ghost use Rattle.std.specs.Prelude.{◌≡◌, ℕ, ◌+◌, ◌^◌, ◌<◌, ◌≤◌, if◌then◌else◌, List, Option, length, vec_len, is_err, true, IfOk, IfErr, OnOk, OnErr, IsErrOf};
+ghost use Rattle.std.specs.Prelude.{◌≡◌, ℕ, ◌+◌, ◌^◌, ◌<◌, ◌≤◌, if◌then◌else◌, List, Option};
+ghost use Rattle.std.specs.Prelude.{length, vec_len, is_err, true, IfOk, IfErr, OnOk, OnErr};
+ghost use Rattle.std.specs.Prelude.{IsErrOf};
 ghost use Rattle.std.specs.Io.KnownBytes.{ReadConsumes};
 ghost use Rattle.dimacs.specs.Sinks.{most_failures, one_more};
 ghost use Rattle.cobra_answers.specs.Sources.{TakesPiece, IsReadWhole, IsReadInPart};
@@ -21,7 +23,8 @@ pub trait Source {
     /// How many calls failed. Once this is at its greatest value, 2^64 - 1, every call fails.
     ghost failures: { Self → ℕ };
 
-    /// Gets some bytes into the front of a buffer. None for a buffer that has room is the end of input.
+    /// Gets some bytes into the front of a buffer. None for a buffer that has room is the end of
+    /// input.
     fn get(&mut self, buffer: &mut [u8]) -> Result<usize, SourceFailed>
         ensures bound { IfOk result (λ n. n ≤ length buffer.new) }
         ensures bytes { ReadConsumes (rest self.old) (rest self.new) result buffer.new }
@@ -30,7 +33,8 @@ pub trait Source {
         ensures spent { failures self.old ≡ most_failures → is_err result ≡ true };
 }
 
-/// Any reader as a source, with a count of its failures. Once the count is at its greatest value, each call fails.
+/// Any reader as a source, with a count of its failures. Once the count is at its greatest value,
+/// each call fails.
 #[derive(Drop)]
 pub struct CountedRead<R> {
     pub reader: R,
@@ -91,9 +95,11 @@ fn take_piece<S: Source>(
     text: &mut Vec<u8>,
 ) -> Result<usize, ReadFault>
     ensures taken { IfOk result (λ n. (n ≤ length buffer.old)
-        × TakesPiece (S.rest source.old) (S.rest source.new) (length buffer.old) text.old.items text.new.items
+        × TakesPiece (S.rest source.old) (S.rest source.new)
+        (length buffer.old) text.old.items text.new.items
         × (vec_len text.new ≡ vec_len text.old + n)) }
-    ensures part { OnErr result (IsReadInPart (S.rest source.old) (S.rest source.new) (length buffer.old)) }
+    ensures part { OnErr result (IsReadInPart (S.rest source.old) (S.rest source.new)
+        (length buffer.old)) }
     ensures device { IsErrOf result ReadFault.Device
         → S.failures source.new ≡ one_more (S.failures source.old) }
     ensures count { OnOk result (S.failures source.new ≡ S.failures source.old) }
@@ -105,8 +111,8 @@ fn take_piece<S: Source>(
     Ok(given)
 }
 
-/// All bytes of a source, where they are at most `limit`; else its first `limit + 1` bytes, by which a caller knows
-/// that it is too long. What was read stays read where the call is refused.
+/// All bytes of a source, where they are at most `limit`; else its first `limit + 1` bytes, by
+/// which a caller knows that it is too long. What was read stays read where the call is refused.
 pub fn read_all<S: Source>(
     alloc: Global,
     source: &mut S,

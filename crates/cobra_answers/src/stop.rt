@@ -1,8 +1,12 @@
-//! Why a call of the program ends without an answer: the line that it prints of that, and its exit status.
+//! Why a call of the program ends without an answer: the line that it prints of that, and its exit
+//! status.
 
 ghost use Rattle.std.specs.Prelude.{◌≡◌};
 ghost use Rattle.std.specs.Fmt.{WritesOnOk};
-ghost use Rattle.cobra_answers.specs.Refusals.{limit_name, log_refusal, formula_refusal, answer_refusal, order_refusal, refusal, log_status, formula_status, answer_status, order_status, refusal_status, stop_status};
+ghost use Rattle.cobra_answers.specs.Refusals.{limit_name, log_refusal, formula_refusal};
+ghost use Rattle.cobra_answers.specs.Refusals.{answer_refusal, order_refusal, refusal, log_status};
+ghost use Rattle.cobra_answers.specs.Refusals.{formula_status, answer_status, order_status};
+ghost use Rattle.cobra_answers.specs.Refusals.{refusal_status, stop_status};
 
 use crate::fault::Fault;
 use crate::source::ReadFault;
@@ -13,8 +17,8 @@ use session_log::{Limit, LogFault};
 use std::alloc::AllocError;
 use std::fmt;
 
-/// Why a call of the program ends without an answer. It is displayed as the line that the program prints of it, without its
-/// line feed, which takes no memory.
+/// Why a call of the program ends without an answer. It is displayed as the line that the program
+/// prints of it, without its line feed, which takes no memory.
 #[derive(Clone, Copy, Debug, PartialEq, Eq)]
 pub enum Stop {
     /// The command is refused.
@@ -35,7 +39,8 @@ const OUT_OF_MEMORY: u8 = 4;
 const DEVICE_FAILED: u8 = 5;
 
 impl Stop {
-    /// The exit status of the program: 2 for refused words and input, 4 for want of memory, 5 for a failed device.
+    /// The exit status of the program: 2 for refused words and input, 4 for want of memory, 5 for a
+    /// failed device.
     pub fn code(self) -> u8
         ensures code { result ≡ stop_status self }
     {

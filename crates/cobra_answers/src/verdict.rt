@@ -1,15 +1,18 @@
 //! The texts that `check` writes.
 
-ghost use Rattle.std.specs.Prelude.{◌≡◌, ℕ, ◌<◌, ◌≤◌, ◌++◌, ◌∷◌, [], Some, codes, decimal, IfOk, OnOk};
+ghost use Rattle.std.specs.Prelude.{◌≡◌, ℕ, ◌<◌, ◌≤◌, ◌++◌, ◌∷◌, [], Some, codes, decimal, IfOk};
+ghost use Rattle.std.specs.Prelude.{OnOk};
 ghost use Rattle.std.specs.List.{All};
 ghost use Rattle.serializability.specs.Anomalies.{anomaly_of};
 ghost use Rattle.log_definitions.specs.Numbers.{log_of};
 ghost use Rattle.order_text.specs.Text.{AreNodes};
-ghost use Rattle.cobra_answers.specs.Verdicts.{named, read_title, key_bytes, read_text, lost_text, anomaly_text, nodes_text, cycle_text, serial_text, spent_text};
+ghost use Rattle.cobra_answers.specs.Verdicts.{named, read_title, key_bytes, read_text, lost_text};
+ghost use Rattle.cobra_answers.specs.Verdicts.{anomaly_text, nodes_text, cycle_text, serial_text};
+ghost use Rattle.cobra_answers.specs.Verdicts.{spent_text};
 
 use itoa::Buffer;
 use order_text::{print_order, put_name};
-use session_history::{Anomaly, History, NodeIx, Order, ReadAnomaly};
+use session_history::{Anomaly, History, NodeIx, NodeLine, ReadAnomaly};
 use std::alloc::{AllocError, Global};
 
 /// Appends a word and the name of a node.
@@ -93,7 +96,8 @@ fn lost_text(
     requires source { source ≤ (log_of history.now).nodes }
     requires first { first ≤ (log_of history.now).nodes }
     requires second { second ≤ (log_of history.now).nodes }
-    ensures text { IfOk result (λ text. text.items ≡ lost_text history.now key source first second) }
+    ensures text { IfOk result (λ text. text.items
+        ≡ lost_text history.now key source first second) }
 {
     let mut out = Vec::new(alloc);
     out.extend_from_slice(b"not serializable: A7 lost update of ")?;
@@ -150,7 +154,11 @@ pub fn cycle_text(alloc: Global, history: &History, line: &[NodeIx]) -> Result<V
 }
 
 /// The text of a serial order.
-pub fn serial_text(alloc: Global, history: &History, order: &Order) -> Result<Vec<u8>, AllocError>
+pub fn serial_text(
+    alloc: Global,
+    history: &History,
+    order: &NodeLine,
+) -> Result<Vec<u8>, AllocError>
     requires nodes { AreNodes history.now order.now }
     ensures text { IfOk result (λ text. text.items ≡ serial_text history.now order.now) }
 {

@@ -1,4 +1,3 @@
-pub mod Logs
 pub mod Named
 pub mod Answering
 pub mod Counting

@@ -17,7 +17,8 @@ use Rattle.dimacs.specs.Answer as answer
 use Rattle.order_text.specs.Text.{order_text, AreNodes}
 use Rattle.order_text.specs.Faults as listing
 use Rattle.order_text.specs.declared.fault.OrderFault.TheVariants as listing_fault
-use Rattle.decode_order.specs.declared.fault.ReplayFault.TheVariants.{NotAPermutation, SessionOrder, MomentOrder, ReadMismatch}
+use Rattle.decode_order.specs.declared.fault.ReplayFault.TheVariants.{NotAPermutation, SessionOrder}
+use Rattle.decode_order.specs.declared.fault.ReplayFault.TheVariants.{MomentOrder, ReadMismatch}
 use Rattle.decode_order.specs.Replaying.{replay_fault}
 use Rattle.cobra_formulas.specs.declared.basis.Basis.{Basis}
 use Rattle.cobra_formulas.specs.Formulas.{IsFormulaFrom, IsFormulaOf, IsFormulaFault, IsHeadline}
@@ -36,7 +37,8 @@ HasNoFormula plain _ ss = ⊥
 -- ---- encode
 
 -- the text of the formula that belongs to the sessions
-pub record IsEncoding (plain : Bool) (ss : List ClientSession) (status : Status) (text : List ℕ) : Type 0 where
+pub record IsEncoding (plain : Bool) (ss : List ClientSession) (status : Status)
+    (text : List ℕ) : Type 0 where
   pub formula : Cnf
   pub belongs : IsFormulaOf plain ss formula
   pub headline : IsHeadline ss formula
@@ -50,8 +52,10 @@ unchecked_text = codes "unsatisfiable claimed, not checked\n"
 abbrev pub unknown_text : List ℕ
 unknown_text = codes "unknown\n"
 
--- the formula belongs to the sessions; as an answer for it the given one has no fault, and it claims this
-pub record IsAnswerTo (plain : Bool) (given : List ℕ) (ss : List ClientSession) (claimed : dimacs.Status) (f : Cnf) : Type 0 where
+-- the formula belongs to the sessions; as an answer for it the given one has no fault, and it
+-- claims this
+pub record IsAnswerTo (plain : Bool) (given : List ℕ) (ss : List ClientSession)
+    (claimed : dimacs.Status) (f : Cnf) : Type 0 where
   pub belongs : IsFormulaOf plain ss f
   pub accepted : answer.answer_fault f.variables given ≡ None
   pub claims : answer.status_of given ≡ Some claimed
@@ -60,8 +64,10 @@ pub record IsAnswerTo (plain : Bool) (given : List ℕ) (ss : List ClientSession
 abbrev pub named_by : List ℕ → Cnf → List Bool
 named_by given f = answer.assignment_of f.variables given
 
--- the text of the order that the answer's assignment stands for, which satisfies the formula; the order is serial
-pub record IsOrderText (given : List ℕ) (ss : List ClientSession) (f : Cnf) (text : List ℕ) : Type 0 where
+-- the text of the order that the answer's assignment stands for, which satisfies the formula; the
+-- order is serial
+pub record IsOrderText (given : List ℕ) (ss : List ClientSession) (f : Cnf)
+    (text : List ℕ) : Type 0 where
   pub satisfies : Satisfies (named_by given f) f
   pub order : List ℕ
   pub decoded : IsDecoded f.nodes (before f (named_by given f)) order
@@ -75,19 +81,26 @@ IsAssignmentRefused values clauses fault.Memory = Unit {0}
 IsAssignmentRefused values clauses _ = ⊥
 
 -- by what the answer claims
-pub data IsDecoding (plain : Bool) (given : List ℕ) (ss : List ClientSession) : Status → List ℕ → Type 0 where
-  model : (f : Cnf) → IsAnswerTo plain given ss claim.Satisfiable f → (text : List ℕ) → IsOrderText given ss f text → IsDecoding plain given ss Done text
-  unsatisfiable : (f : Cnf) → IsAnswerTo plain given ss claim.Unsatisfiable f → IsDecoding plain given ss Unknown unchecked_text
-  unknown : (f : Cnf) → IsAnswerTo plain given ss claim.Unknown f → IsDecoding plain given ss Unknown unknown_text
+pub data IsDecoding (plain : Bool) (given : List ℕ) (ss : List ClientSession) : Status → List ℕ
+    → Type 0 where
+  model : (f : Cnf) → IsAnswerTo plain given ss claim.Satisfiable f → (text : List ℕ)
+      → IsOrderText given ss f text → IsDecoding plain given ss Done text
+  unsatisfiable : (f : Cnf) → IsAnswerTo plain given ss claim.Unsatisfiable f
+      → IsDecoding plain given ss Unknown unchecked_text
+  unknown : (f : Cnf) → IsAnswerTo plain given ss claim.Unknown f
+      → IsDecoding plain given ss Unknown unknown_text
 
 -- the sessions have a formula, and as an answer for it the given one has this fault
-pub record IsAnswerRefused (plain : Bool) (given : List ℕ) (ss : List ClientSession) (e : AnswerFault) : Type 0 where
+pub record IsAnswerRefused (plain : Bool) (given : List ℕ) (ss : List ClientSession)
+    (e : AnswerFault) : Type 0 where
   pub formula : Cnf
   pub belongs : IsFormulaOf plain ss formula
   pub refused : answer.IsFault e (answer.answer_fault formula.variables given)
 
--- the answer has no fault and names an assignment, and clause k of the formula is the first that this makes false
-pub record IsModelRefused (plain : Bool) (given : List ℕ) (ss : List ClientSession) (k : ℕ) : Type 0 where
+-- the answer has no fault and names an assignment, and clause k of the formula is the first that
+-- this makes false
+pub record IsModelRefused (plain : Bool) (given : List ℕ) (ss : List ClientSession)
+    (k : ℕ) : Type 0 where
   pub formula : Cnf
   pub names : IsAnswerTo plain given ss claim.Satisfiable formula
   pub first_false : IsFirstFalse (named_by given formula) formula.clauses k
@@ -110,7 +123,8 @@ pub record IsListed (given : List ℕ) (ss : List ClientSession) (order : List �
   pub listed : given ≡ order_text ss order
 
 -- the order text lists a serial order
-pub record IsVerified (given : List ℕ) (ss : List ClientSession) (status : Status) (text : List ℕ) : Type 0 where
+pub record IsVerified (given : List ℕ) (ss : List ClientSession) (status : Status)
+    (text : List ℕ) : Type 0 where
   pub order : List ℕ
   pub listed : IsListed given ss order
   pub serial : IsSerialOrder ss order
@@ -121,11 +135,14 @@ pub record IsVerified (given : List ℕ) (ss : List ClientSession) (status : Sta
 abbrev pub IsRefusal : List ClientSession → List ℕ → Fault → Type 0
 IsRefusal ss order fault.NotAPermutation = replay_fault (log_of ss) order ≡ Some NotAPermutation
 IsRefusal ss order (fault.SessionOrder session place) =
-    (v : ℕ) × ((replay_fault (log_of ss) order ≡ Some (SessionOrder v)) × (name_in ss v ≡ (session, place)))
+    (v : ℕ) × ((replay_fault (log_of ss) order ≡ Some (SessionOrder v))
+    × (name_in ss v ≡ (session, place)))
 IsRefusal ss order (fault.MomentOrder session place) =
-    (v : ℕ) × ((replay_fault (log_of ss) order ≡ Some (MomentOrder v)) × (name_in ss v ≡ (session, place)))
+    (v : ℕ) × ((replay_fault (log_of ss) order ≡ Some (MomentOrder v))
+    × (name_in ss v ≡ (session, place)))
 IsRefusal ss order (fault.ReadMismatch session place op) =
-    (v : ℕ) × ((replay_fault (log_of ss) order ≡ Some (ReadMismatch v op)) × (name_in ss v ≡ (session, place)))
+    (v : ℕ) × ((replay_fault (log_of ss) order ≡ Some (ReadMismatch v op))
+    × (name_in ss v ≡ (session, place)))
 IsRefusal ss order fault.Memory = Unit {0}
 IsRefusal ss order _ = ⊥
 
@@ -147,8 +164,10 @@ is_memory _ = false
 
 -- ---- stats
 
--- the counts of the sessions of a log of this version, of what their formula is made from, and of the formula that belongs to them
-pub record IsCounting (plain : Bool) (v : Version) (ss : List ClientSession) (status : Status) (text : List ℕ) : Type 0 where
+-- the counts of the sessions of a log of this version, of what their formula is made from, and of
+-- the formula that belongs to them
+pub record IsCounting (plain : Bool) (v : Version) (ss : List ClientSession) (status : Status)
+    (text : List ℕ) : Type 0 where
   pub basis : Basis
   pub formula : Cnf
   pub made : IsFormulaFrom plain ss basis formula

@@ -5,10 +5,11 @@ use Rattle.session_log.specs.Version.{first_line}
 use Rattle.session_log.specs.declared.version.Version.{Version}
 use Rattle.deciding.specs.Decides.{Decides}
 use Rattle.deciding.specs.declared.decision.Decision.{Decision}
-use Rattle.deciding.specs.declared.decision.Decision.TheVariants.{Serial, Anomalous, Cyclic, Dead, Refuted, Spent}
-use Rattle.explaining.specs.Explained.{IsExplained}
-use Rattle.explaining.specs.declared.format.Format.{Format}
-use Rattle.explaining.specs.declared.format.Format.TheVariants.{Text, Dot}
+use Rattle.deciding.specs.declared.decision.Decision.TheVariants.{Serial, Anomalous, Cyclic, Dead}
+use Rattle.deciding.specs.declared.decision.Decision.TheVariants.{Refuted, Spent}
+use Rattle.tell_decision.specs.Explained.{IsExplained}
+use Rattle.tell_decision.specs.declared.format.Format.{Format}
+use Rattle.tell_decision.specs.declared.format.Format.TheVariants.{Text, Dot}
 use Rattle.cobra_answers.specs.declared.status.Status.{Status}
 use Rattle.cobra_cli.specs.Checked.{status_of, verdict_text}
 
@@ -38,14 +39,18 @@ advice_text format (Dead ledger) = []
 advice_text format (Refuted left tree) = []
 advice_text format (Spent closed) = head format advice advice
 
--- what `check` says of the decision, what to try where the budget was spent, and why there is no order, in the log's own lines
-pub record IsDecisionText (v : Version) (format : Format) (ss : List ClientSession) (d : Decision) (text : List ℕ) : Type 0 where
+-- what `check` says of the decision, what to try where the budget was spent, and why there is no
+-- order, in the log's own lines
+pub record IsDecisionText (v : Version) (format : Format) (ss : List ClientSession) (d : Decision)
+    (text : List ℕ) : Type 0 where
   pub why : List ℕ
   pub explained : IsExplained format (first_line v) ss d why
-  pub told : text ≡ head format (verdict_text ss d) (first_text d (verdict_text ss d)) ++ advice_text format d ++ why
+  pub told : text ≡ head format (verdict_text ss d)
+      (first_text d (verdict_text ss d)) ++ advice_text format d ++ why
 
 -- what is decided of the sessions within the budget, and why
-pub record IsExplanation (budget : ℕ) (v : Version) (format : Format) (ss : List ClientSession) (status : Status) (text : List ℕ) : Type 0 where
+pub record IsExplanation (budget : ℕ) (v : Version) (format : Format) (ss : List ClientSession)
+    (status : Status) (text : List ℕ) : Type 0 where
   pub decision : Decision
   pub decides : Decides budget ss decision
   pub ends : status ≡ status_of decision

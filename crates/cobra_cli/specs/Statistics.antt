@@ -1,5 +1,6 @@
 -- The text of a log's counts, and of those of its formula.
-use Rattle.std.specs.Prelude.{ℕ, ◌-◌, ◌≤◌, if◌then◌else◌, List, [], ◌∷◌, ◌++◌, length, count_by, codes, decimal}
+use Rattle.std.specs.Prelude.{ℕ, ◌-◌, ◌≤◌, if◌then◌else◌, List, [], ◌∷◌, ◌++◌, length, count_by}
+use Rattle.std.specs.Prelude.{codes, decimal}
 use Rattle.session_log.specs.Text.{ClientSession}
 use Rattle.session_log.specs.Version.{has_unknown_line}
 use Rattle.session_log.specs.declared.version.Version.{Version}
@@ -14,10 +15,12 @@ use Rattle.cobra_formulas.specs.declared.basis.Basis.TheVariants.{Anomalous, Bip
 abbrev pub count_line : List ℕ → ℕ → List ℕ
 count_line word n = word ++ 32 ∷ decimal n ++ 10 ∷ []
 
--- the counts of outcomes that the client never learnt, and of those of them that are taken, where a log of this version may have any
+-- the counts of outcomes that the client never learnt, and of those of them that are taken, where a
+-- log of this version may have any
 abbrev pub unlearnt_text : Version → ℕ → ℕ → List ℕ
 unlearnt_text v unknown taken =
-    if has_unknown_line v then count_line (codes "unknown") unknown ++ count_line (codes "taken") taken else []
+    if has_unknown_line v then count_line (codes "unknown") unknown ++ count_line
+    (codes "taken") taken else []
 
 -- the taken ones are the nodes that no commit made
 abbrev pub taken_count : List ClientSession → ℕ
@@ -32,13 +35,15 @@ counts_text v ss =
     ++ count_line (codes "keys") (length (keys_in ss))
     ++ count_line (codes "operations") (length (ops_in ss))
 
--- the anomaly; or the number of bipaths; or the number of choices between chains, of those of them that are not open, and of those
+-- the anomaly; or the number of bipaths; or the number of choices between chains, of those of them
+-- that are not open, and of those
 -- that are
 abbrev pub basis_text : Basis → List ℕ
 basis_text (Anomalous number) = codes "anomaly A" ++ decimal number ++ 10 ∷ []
 basis_text (Bipaths count) = count_line (codes "choices") count
 basis_text (Chains all left) =
-    count_line (codes "choices") all ++ count_line (codes "forced") (all - left) ++ count_line (codes "open") left
+    count_line (codes "choices") all ++ count_line (codes "forced") (all - left) ++ count_line
+    (codes "open") left
 
 -- no more choices are open than there are
 abbrev pub OpensNoMore : Basis → Type 0

@@ -7,10 +7,10 @@ ghost use Rattle.cobra_answers.specs.Failures.{failures_after};
 ghost use Rattle.cobra_cli.specs.Checked.{status_of, verdict_text, IsVerdict, IsUndecided};
 
 use crate::options::Options;
-use crate::reading::read_log;
 use cobra_answers::{
     Fault, Reply, Status, anomaly_text, cycle_text, serial_text, spent_text, tell,
 };
+use cobra_formulas::read_log;
 use deciding::{Decision, decide};
 use desk::gate::Gate;
 use dimacs::Sink;
@@ -68,13 +68,14 @@ fn verdict(alloc: Global, history: &History, decision: &Decision) -> Result<Repl
     })
 }
 
-/// Writes whether some serial order explains a log: `serializable` and such an order; or `not serializable` and why, by an
-/// anomaly, a cycle of known edges, that pruning ends in one, or that the search of what is left refuted every cube, by a
-/// tree that was checked; or `unknown`, and how many cubes it closed, where its budget was spent before.
+/// Writes whether some serial order explains a log: `serializable` and such an order; or `not
+/// serializable` and why, by an anomaly, a cycle of known edges, that pruning ends in one, or that
+/// the search of what is left refuted every cube, by a tree that was checked; or `unknown`, and how
+/// many cubes it closed, where its budget was spent before.
 ///
 /// # Errors
-/// The log's first fault; G1 above 100,000 choices between chains; the sink's failure, with how much of the text went
-/// out; want of memory. At each but the sink's nothing was written.
+/// The log's first fault; G1 above 100,000 choices between chains; the sink's failure, with how
+/// much of the text went out; want of memory. At each but the sink's nothing was written.
 pub fn check<R: Threads + Wait + Clock + Sync, G: Gate, W: Sink>(
     rt: &R,
     alloc: Global,

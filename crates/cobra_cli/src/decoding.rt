@@ -7,29 +7,30 @@ ghost use Rattle.dimacs.specs.declared.status.Status.TheVariants.{Satisfiable};
 ghost use Rattle.order_cnf.specs.Data.{cnf_of};
 ghost use Rattle.cobra_answers.specs.Answers.{IsTold, IsRefused};
 ghost use Rattle.cobra_formulas.specs.Formulas.{IsFaithful};
-ghost use Rattle.cobra_cli.specs.Commands.{named_by, IsAnswerTo, IsAssignmentRefused, IsDecoding, IsNotDecoded, IsOrderText};
+ghost use Rattle.cobra_cli.specs.Commands.{named_by, IsAnswerTo, IsAssignmentRefused, IsDecoding};
+ghost use Rattle.cobra_cli.specs.Commands.{IsNotDecoded, IsOrderText};
 ghost use Rattle.cobra_answers.specs.Failures.{failures_after};
 
-use crate::formula::formula_of;
 use crate::options::Options;
-use crate::reading::read_log;
 use cobra_answers::{Fault, Reply, Status, tell};
+use cobra_formulas::{formula_of, read_log};
 use decode_order::{DecodeFault, positions};
 use desk::gate::Gate;
 use dimacs::{Sink, SolverAnswer, read_answer};
 use order_cnf::Formula;
 use order_text::print_order;
-use session_history::{History, Order};
+use session_history::{History, NodeLine};
 use std::alloc::Global;
 use std::sync::Wait;
 use std::thread::Threads;
 use std::time::Clock;
 
 /// The order that an assignment of a formula stands for.
-fn order_of(alloc: Global, formula: &Formula, values: &[bool]) -> Result<Order, Fault>
+fn order_of(alloc: Global, formula: &Formula, values: &[bool]) -> Result<NodeLine, Fault>
     requires each_variable { length values.now ≡ formula.now.variables }
     ensures satisfied { OnOk result (Satisfies values.now (cnf_of formula.now)) }
-    ensures order { IfOk result (IsDecoded formula.now.nodes (before (cnf_of formula.now) values.now)) }
+    ensures order { IfOk result (IsDecoded formula.now.nodes
+        (before (cnf_of formula.now) values.now)) }
     ensures refused { IfErr result (IsAssignmentRefused values.now formula.now.clauses) }
 {
     match positions(alloc, formula, values) {
@@ -49,7 +50,8 @@ fn order_reply(
     options: &Options,
     values: &[bool],
 ) -> Result<Reply, Fault>
-    requires names { IsAnswerTo options.now.plain answer.now history.now Satisfiable (cnf_of formula.now) }
+    requires names { IsAnswerTo options.now.plain answer.now history.now Satisfiable
+        (cnf_of formula.now) }
     requires named { values.now ≡ named_by answer.now (cnf_of formula.now) }
     requires faithful { IsFaithful history.now (cnf_of formula.now) }
     ensures decoded { IfOk result (λ r.
@@ -64,7 +66,7 @@ fn order_reply(
 }
 
 /// What an answer says of a history.
-fn decoded<R: Threads + Wait + Clock + Sync, G: Gate>(
+fn decode_answer<R: Threads + Wait + Clock + Sync, G: Gate>(
     rt: &R,
     alloc: Global,
     history: &History,
@@ -76,7 +78,7 @@ fn decoded<R: Threads + Wait + Clock + Sync, G: Gate>(
         IsDecoding options.now.plain answer.now history.now r.status r.text.items) }
     ensures refused { IfErr result (λ f. IsNotDecoded options.now.plain answer.now f history.now) }
 {
-    let belonging = formula_of(rt, alloc, history, options, gate)?;
+    let belonging = formula_of(rt, alloc, history, options.plain, options.workers, gate)?;
     let formula = &belonging.formula;
     match read_answer(alloc, answer, formula.vars())? {
         SolverAnswer::Model(values) => {
@@ -91,12 +93,12 @@ fn decoded<R: Threads + Wait + Clock + Sync, G: Gate>(
     }
 }
 
-/// Writes the serial order that a solver's answer stands for, a line for each transaction: its session's number and its place
-/// there. Where the answer claims no assignment, it writes that.
+/// Writes the serial order that a solver's answer stands for, a line for each transaction: its
+/// session's number and its place there. Where the answer claims no assignment, it writes that.
 ///
 /// # Errors
-/// Those of the log and of its formula, as at `encode`; then those of the answer, M1 to M8; then E1 with the first clause that
-/// the assignment makes false; the sink's failure; want of memory.
+/// Those of the log and of its formula, as at `encode`; then those of the answer, M1 to M8; then E1
+/// with the first clause that the assignment makes false; the sink's failure; want of memory.
 pub fn decode<R: Threads + Wait + Clock + Sync, G: Gate, W: Sink>(
     rt: &R,
     alloc: Global,
@@ -113,6 +115,6 @@ pub fn decode<R: Threads + Wait + Clock + Sync, G: Gate, W: Sink>(
     ensures count { W.failures sink.new ≡ failures_after (W.failures sink.old) result }
 {
     let history = read_log(rt, alloc, log, options.workers, gate)?;
-    let reply = decoded(rt, alloc, &history, answer, options, gate)?;
+    let reply = decode_answer(rt, alloc, &history, answer, options, gate)?;
     tell(sink, &reply)
 }

@@ -8,10 +8,9 @@ ghost use Rattle.cobra_answers.specs.Answers.{IsTold, IsRefused, IsCutAt};
 ghost use Rattle.cobra_cli.specs.Commands.{IsEncoding, HasNoFormula};
 ghost use Rattle.cobra_answers.specs.Failures.{failures_after};
 
-use crate::formula::formula_of;
 use crate::options::Options;
-use crate::reading::read_log;
 use cobra_answers::{Fault, Status};
+use cobra_formulas::{formula_of, read_log};
 use desk::gate::Gate;
 use dimacs::{Sink, write_formula};
 use order_cnf::Formula;
@@ -33,14 +32,16 @@ fn tell_formula<W: Sink>(sink: &mut W, formula: &Formula) -> Result<Status, Faul
     Ok(Status::Done)
 }
 
-/// Writes the formula of a log as DIMACS text: the reduced formula, or with `--plain` the plain one, and the contradiction where an
-/// anomaly stands. An assignment satisfies it exactly where some serial order of the committed transactions explains every read.
-/// The text is the same for each number of workers.
+/// Writes the formula of a log as DIMACS text: the reduced formula, or with `--plain` the plain
+/// one, and the contradiction where an anomaly stands. An assignment satisfies it exactly where
+/// some serial order of the committed transactions explains every read. The text is the same for
+/// each number of workers.
 ///
 /// # Errors
-/// The log's first fault; G1 above 100,000 choices between chains, where neither an anomaly nor a cycle of the arcs was found; G3
-/// above 20,000,000 clauses; the sink's failure, with how much of the text went out; want of memory. With `--plain` G2 above 100
-/// committed transactions, before anything else of the formula, and then, where no anomaly stands, G1 above 100,000 bipaths. At
+/// The log's first fault; G1 above 100,000 choices between chains, where neither an anomaly nor a
+/// cycle of the arcs was found; G3 above 20,000,000 clauses; the sink's failure, with how much of
+/// the text went out; want of memory. With `--plain` G2 above 100 committed transactions, before
+/// anything else of the formula, and then, where no anomaly stands, G1 above 100,000 bipaths. At
 /// each but the sink's nothing was written.
 pub fn encode<R: Threads + Wait + Clock + Sync, G: Gate, W: Sink>(
     rt: &R,
@@ -52,11 +53,12 @@ pub fn encode<R: Threads + Wait + Clock + Sync, G: Gate, W: Sink>(
 ) -> Result<Status, Fault>
     ensures told { IfOk result (IsTold (IsEncoding options.now.plain)
         log.now (W.bytes sink.old) (W.bytes sink.new)) }
-    ensures refused { IfErr result (IsRefused (IsEncoding options.now.plain) (HasNoFormula options.now.plain)
+    ensures refused { IfErr result (IsRefused (IsEncoding options.now.plain)
+        (HasNoFormula options.now.plain)
         log.now (W.bytes sink.old) (W.bytes sink.new)) }
     ensures count { W.failures sink.new ≡ failures_after (W.failures sink.old) result }
 {
     let history = read_log(rt, alloc, log, options.workers, gate)?;
-    let belonging = formula_of(rt, alloc, &history, options, gate)?;
+    let belonging = formula_of(rt, alloc, &history, options.plain, options.workers, gate)?;
     tell_formula(sink, &belonging.formula)
 }

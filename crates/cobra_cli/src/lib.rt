@@ -1,13 +1,13 @@
 //! The commands of the program, over bytes and sinks.
+//!
+//! Called by `cobra_poly`. It opens no file, reads no word of the command line, and knows no piece.
 #![tactic(auto)]
 
 mod checking;
 mod decoding;
 mod encoding;
-mod formula;
 pub mod laws;
 mod options;
-mod reading;
 mod statistics;
 mod telling;
 mod verifying;
@@ -16,13 +16,12 @@ pub use checking::check;
 pub use cobra_answers::{
     CountedRead, Fault, ReadFault, Source, SourceFailed, Status, Stop, read_all,
 };
-pub use cobra_formulas::Basis;
+pub use cobra_formulas::{Basis, read_log};
 pub use deciding::StrategyName;
 pub use decoding::decode;
 pub use encoding::encode;
-pub use explaining::Format;
 pub use options::Options;
-pub use reading::read_log;
 pub use statistics::stats;
+pub use tell_decision::Format;
 pub use telling::explain;
 pub use verifying::verify;

@@ -1,17 +1,17 @@
 //! How large a log and its formula are.
 
-ghost use Rattle.std.specs.Prelude.{◌≡◌, ◌-◌, ◌≤◌, ◌++◌, ◌∷◌, [], codes, decimal, IfOk, IfErr, OnOk};
+ghost use Rattle.std.specs.Prelude.{◌≡◌, ◌-◌, ◌≤◌, ◌++◌, ◌∷◌, [], codes, decimal, IfOk, IfErr};
+ghost use Rattle.std.specs.Prelude.{OnOk};
 ghost use Rattle.cobra_answers.specs.Answers.{IsTold, IsRefused};
 ghost use Rattle.cobra_cli.specs.Commands.{HasNoFormula, IsCounting};
 ghost use Rattle.cobra_answers.specs.Failures.{failures_after};
-ghost use Rattle.cobra_cli.specs.Statistics.{count_line, basis_text, counts_text, unlearnt_text, OpensNoMore};
+ghost use Rattle.cobra_cli.specs.Statistics.{count_line, basis_text, counts_text, unlearnt_text};
+ghost use Rattle.cobra_cli.specs.Statistics.{OpensNoMore};
 ghost use Rattle.session_log.specs.Version.{version_of};
 
-use crate::formula::formula_of;
 use crate::options::Options;
-use crate::reading::read_log;
 use cobra_answers::{Fault, Reply, Status, tell};
-use cobra_formulas::Basis;
+use cobra_formulas::{Basis, formula_of, read_log};
 use desk::gate::Gate;
 use dimacs::Sink;
 use itoa::Buffer;
@@ -46,7 +46,8 @@ fn put_anomaly(out: &mut Vec<u8>, number: u8) -> Result<(), AllocError>
     Ok(())
 }
 
-/// Appends the counts of outcomes that the client never learnt, where a log of this version may have any.
+/// Appends the counts of outcomes that the client never learnt, where a log of this version may
+/// have any.
 fn put_unlearnt(out: &mut Vec<u8>, version: Version, counts: Counts) -> Result<(), AllocError>
     ensures text { OnOk result (out.new.items
         ≡ out.old.items ++ unlearnt_text version counts.unknown counts.taken) }
@@ -97,7 +98,7 @@ fn put_basis(out: &mut Vec<u8>, basis: Basis) -> Result<(), AllocError>
 
 /// What is to be said of the counts of a history, whose log is of this version, and of its formula.
 #[tactic(auto, unfolding(crate::specs::Statistics::stats_text))]
-fn counted<R: Threads + Wait + Clock + Sync, G: Gate>(
+fn count_history<R: Threads + Wait + Clock + Sync, G: Gate>(
     rt: &R,
     alloc: Global,
     version: Version,
@@ -109,7 +110,7 @@ fn counted<R: Threads + Wait + Clock + Sync, G: Gate>(
         IsCounting options.now.plain version history.now r.status r.text.items) }
     ensures refused { IfErr result (λ f. HasNoFormula options.now.plain f history.now) }
 {
-    let belonging = formula_of(rt, alloc, history, options, gate)?;
+    let belonging = formula_of(rt, alloc, history, options.plain, options.workers, gate)?;
     let mut text = Vec::new(alloc);
     put_counts(&mut text, version, history)?;
     put_basis(&mut text, belonging.basis)?;
@@ -121,10 +122,11 @@ fn counted<R: Threads + Wait + Clock + Sync, G: Gate>(
     })
 }
 
-/// Writes how many sessions, committed and aborted transactions, in versions 2 and 3 how many transactions of unknown outcome and of
-/// these taken ones, and how many keys and operations a log has; then its anomaly, or the number of
-/// choices between chains, of those of them that pruning settled, and of those that are open, or with `--plain` the number of
-/// bipaths; and the variables and clauses of its formula: a line each, of a word, a space and a number.
+/// Writes how many sessions, committed and aborted transactions, in versions 2 and 3 how many
+/// transactions of unknown outcome and of these taken ones, and how many keys and operations a log
+/// has; then its anomaly, or the number of choices between chains, of those of them that pruning
+/// settled, and of those that are open, or with `--plain` the number of bipaths; and the variables
+/// and clauses of its formula: a line each, of a word, a space and a number.
 ///
 /// # Errors
 /// Those of `encode`.
@@ -138,11 +140,12 @@ pub fn stats<R: Threads + Wait + Clock + Sync, G: Gate, W: Sink>(
 ) -> Result<Status, Fault>
     ensures told { IfOk result (IsTold (IsCounting options.now.plain (version_of log.now))
         log.now (W.bytes sink.old) (W.bytes sink.new)) }
-    ensures refused { IfErr result (IsRefused (IsCounting options.now.plain (version_of log.now)) (HasNoFormula options.now.plain)
+    ensures refused { IfErr result (IsRefused (IsCounting options.now.plain (version_of log.now))
+        (HasNoFormula options.now.plain)
         log.now (W.bytes sink.old) (W.bytes sink.new)) }
     ensures count { W.failures sink.new ≡ failures_after (W.failures sink.old) result }
 {
     let history = read_log(rt, alloc, log, options.workers, gate)?;
-    let reply = counted(rt, alloc, Version::of(log), &history, options, gate)?;
+    let reply = count_history(rt, alloc, Version::of(log), &history, options, gate)?;
     tell(sink, &reply)
 }

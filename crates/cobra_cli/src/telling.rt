@@ -7,22 +7,23 @@ ghost use Rattle.deciding.specs.Decides.{IsDecided};
 ghost use Rattle.cobra_answers.specs.Answers.{IsTold, IsRefused};
 ghost use Rattle.cobra_answers.specs.Failures.{failures_after};
 ghost use Rattle.cobra_cli.specs.Checked.{status_of, IsUndecided};
-ghost use Rattle.cobra_cli.specs.Explained.{head, first_text, advice_text, IsDecisionText, IsExplanation};
+ghost use Rattle.cobra_cli.specs.Explained.{head, first_text, advice_text, IsDecisionText};
+ghost use Rattle.cobra_cli.specs.Explained.{IsExplanation};
 
 use crate::checking::{status_of, verdict_text};
 use crate::options::Options;
-use crate::reading::read_log;
 use cobra_answers::{Fault, Reply, Status, tell};
+use cobra_formulas::read_log;
 use deciding::{Decision, decide};
 use desk::gate::Gate;
 use dimacs::Sink;
-use explaining::Format;
 use session_history::History;
 use session_log::Version;
 use std::alloc::{AllocError, Global};
 use std::sync::Wait;
 use std::thread::Threads;
 use std::time::Clock;
+use tell_decision::Format;
 
 /// The first line of what `check` says of a serial order.
 const SERIAL: &[u8] = b"serializable\n";
@@ -52,7 +53,8 @@ fn put_head(
     whole: &[u8],
     first: &[u8],
 ) -> Result<(), AllocError>
-    ensures text { OnOk result (text.new.items ≡ text.old.items ++ head format whole.now first.now) }
+    ensures text { OnOk result (text.new.items ≡ text.old.items
+        ++ head format whole.now first.now) }
 {
     match format {
         Format::Text => text.extend_from_slice(whole),
@@ -65,7 +67,8 @@ fn put_head(
 
 /// Appends what to try where the budget was spent.
 fn put_advice(text: &mut Vec<u8>, format: Format, decision: &Decision) -> Result<(), AllocError>
-    ensures text { OnOk result (text.new.items ≡ text.old.items ++ advice_text format decision.now) }
+    ensures text { OnOk result (text.new.items ≡ text.old.items
+        ++ advice_text format decision.now) }
 {
     match decision {
         Decision::Spent { .. } => put_head(text, format, ADVICE, ADVICE),
@@ -74,7 +77,7 @@ fn put_advice(text: &mut Vec<u8>, format: Format, decision: &Decision) -> Result
 }
 
 /// What is written of a decision, of which `check` says this, and which stands for this reason.
-fn told(
+fn write_explanation(
     alloc: Global,
     format: Format,
     decision: &Decision,
@@ -82,7 +85,8 @@ fn told(
     why: &[u8],
 ) -> Result<Vec<u8>, AllocError>
     ensures text { IfOk result (λ text. text.items
-        ≡ head format whole.now (first_text decision.now whole.now) ++ advice_text format decision.now ++ why.now) }
+        ≡ head format whole.now (first_text decision.now whole.now)
+        ++ advice_text format decision.now ++ why.now) }
 {
     let mut text = Vec::new(alloc);
     put_head(&mut text, format, whole, first_text(decision, whole))?;
@@ -102,19 +106,21 @@ fn explanation(
     requires room { length (log_lines history.now) + 2 < 2 ^ 63 }
     requires decided { IsDecided history.now decision.now }
     ensures status { IfOk result (λ r. r.status ≡ status_of decision.now) }
-    ensures text { IfOk result (λ r. IsDecisionText version format history.now decision.now r.text.items) }
+    ensures text { IfOk result (λ r. IsDecisionText version format history.now decision.now
+        r.text.items) }
 {
     let whole = verdict_text(alloc, history, decision)?;
-    let why = explaining::explain(alloc, version, history, format, decision)?;
+    let why = tell_decision::explain(alloc, version, history, format, decision)?;
     Ok(Reply {
         status: status_of(decision),
-        text: told(alloc, format, decision, &whole, &why)?,
+        text: write_explanation(alloc, format, decision, &whole, &why)?,
     })
 }
 
-/// Writes what `check` writes, and behind `not serializable` why, in the log's own lines: the reads and writes that an anomaly names;
-/// for each edge of a cycle the reason that the log shows; the forced steps that pruning's cycle needs; the tree of a search. Or a
-/// graph of that for Graphviz, with the first line of what `check` writes as a comment.
+/// Writes what `check` writes, and behind `not serializable` why, in the log's own lines: the reads
+/// and writes that an anomaly names; for each edge of a cycle the reason that the log shows; the
+/// forced steps that pruning's cycle needs; the tree of a search. Or a graph of that for Graphviz,
+/// with the first line of what `check` writes as a comment.
 ///
 /// # Errors
 /// Those of `check`.
@@ -127,9 +133,11 @@ pub fn explain<R: Threads + Wait + Clock + Sync, G: Gate, W: Sink>(
     gate: &G,
     sink: &mut W,
 ) -> Result<Status, Fault>
-    ensures told { IfOk result (IsTold (IsExplanation options.now.budget (version_of log.now) format)
+    ensures told { IfOk result (IsTold (IsExplanation options.now.budget
+        (version_of log.now) format)
         log.now (W.bytes sink.old) (W.bytes sink.new)) }
-    ensures refused { IfErr result (IsRefused (IsExplanation options.now.budget (version_of log.now) format) IsUndecided
+    ensures refused { IfErr result (IsRefused (IsExplanation options.now.budget
+        (version_of log.now) format) IsUndecided
         log.now (W.bytes sink.old) (W.bytes sink.new)) }
     ensures count { W.failures sink.new ≡ failures_after (W.failures sink.old) result }
 {

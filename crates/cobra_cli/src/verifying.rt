@@ -10,20 +10,20 @@ ghost use Rattle.cobra_cli.specs.Commands.{IsRefusal, IsVerified, IsNotVerified}
 ghost use Rattle.cobra_answers.specs.Failures.{failures_after};
 
 use crate::options::Options;
-use crate::reading::read_log;
 use cobra_answers::{Fault, Reply, Status, tell};
+use cobra_formulas::read_log;
 use decode_order::{ReplayFault, replay};
 use desk::gate::Gate;
 use dimacs::Sink;
 use order_text::read_order;
-use session_history::{History, Order};
+use session_history::{History, NodeLine};
 use std::alloc::Global;
 use std::sync::Wait;
 use std::thread::Threads;
 use std::time::Clock;
 
 /// A refusal of a replay, with the names of the transactions.
-fn replay_refusal(history: &History, order: &Order, fault: ReplayFault) -> Fault
+fn replay_refusal(history: &History, order: &NodeLine, fault: ReplayFault) -> Fault
     requires reason { IsReplayFault fault (replay_fault (log_of history.now) order.now) }
     requires nodes { All (λ v. (0 < v) × (v ≤ (log_of history.now).nodes)) order.now }
     ensures refusal { IsRefusal history.now order.now result }
@@ -57,7 +57,7 @@ fn replay_refusal(history: &History, order: &Order, fault: ReplayFault) -> Fault
 }
 
 /// Replays an order of a history.
-fn replayed(alloc: Global, history: &History, order: &Order) -> Result<(), Fault>
+fn replay_order(alloc: Global, history: &History, order: &NodeLine) -> Result<(), Fault>
     requires nodes { All (λ v. (0 < v) × (v ≤ (log_of history.now).nodes)) order.now }
     ensures serial { OnOk result (IsSerial (log_of history.now) order.now) }
     ensures refusal { IfErr result (IsRefusal history.now order.now) }
@@ -69,20 +69,20 @@ fn replayed(alloc: Global, history: &History, order: &Order) -> Result<(), Fault
 }
 
 /// What is to be said of an order file.
-fn verified(alloc: Global, history: &History, order: &[u8]) -> Result<Reply, Fault>
+fn verify_order(alloc: Global, history: &History, order: &[u8]) -> Result<Reply, Fault>
     ensures verified { IfOk result (λ r. IsVerified order.now history.now r.status r.text.items) }
     ensures refused { IfErr result (λ f. IsNotVerified order.now f history.now) }
 {
     let listed = read_order(alloc, order, history)?;
-    replayed(alloc, history, &listed)?;
+    replay_order(alloc, history, &listed)?;
     Ok(Reply::fixed(alloc, Status::Done, b"accepted\n")?)
 }
 
 /// Writes `accepted` exactly where an order file lists a serial order of the log.
 ///
 /// # Errors
-/// The log's first fault; the order file's, O1 to O3; then P1, P2, P5 or P3 of the order's replay; the sink's failure; want of
-/// memory.
+/// The log's first fault; the order file's, O1 to O3; then P1, P2, P5 or P3 of the order's replay;
+/// the sink's failure; want of memory.
 pub fn verify<R: Threads + Wait + Clock + Sync, G: Gate, W: Sink>(
     rt: &R,
     alloc: Global,
@@ -99,6 +99,6 @@ pub fn verify<R: Threads + Wait + Clock + Sync, G: Gate, W: Sink>(
     ensures count { W.failures sink.new ≡ failures_after (W.failures sink.old) result }
 {
     let history = read_log(rt, alloc, log, options.workers, gate)?;
-    let reply = verified(alloc, &history, order)?;
+    let reply = verify_order(alloc, &history, order)?;
     tell(sink, &reply)
 }

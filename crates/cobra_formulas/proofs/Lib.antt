@@ -1,3 +1,4 @@
 pub mod SameEdges
 pub mod Reduced
 pub mod Plain
+pub mod Logs

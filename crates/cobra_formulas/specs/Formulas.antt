@@ -1,5 +1,6 @@
 -- Which formula belongs to sessions, and why there is none.
-use Rattle.std.specs.Prelude.{◌≡◌, ℕ, nat_lt, if◌then◌else◌, List, length, Option, None, Some, Bool, true, false}
+use Rattle.std.specs.Prelude.{◌≡◌, ℕ, nat_lt, if◌then◌else◌, List, length, Option, None, Some, Bool}
+use Rattle.std.specs.Prelude.{true, false}
 use Rattle.session_log.specs.Text.{ClientSession}
 use Rattle.serializability.specs.declared.anomaly.Anomaly.{Anomaly}
 use Rattle.serializability.specs.declared.anomaly.Anomaly.TheVariants as anomaly
@@ -28,7 +29,8 @@ use Rattle.cobra_formulas.specs.declared.basis.Basis.{Basis}
 use Rattle.cobra_formulas.specs.declared.basis.Basis.TheVariants.{Anomalous, Bipaths, Chains}
 use Rattle.order_cnf.specs.declared.plain.TheConstants.{MAX_PLAIN_NODES}
 
--- the number that an anomaly is printed with; 8 is a cycle of what is known, and 9 that pruning ends in a cycle
+-- the number that an anomaly is printed with; 8 is a cycle of what is known, and 9 that pruning
+-- ends in a cycle
 abbrev pub read_number : ReadAnomaly → ℕ
 read_number read.Unknown = 1
 read_number read.Aborted = 2
@@ -48,16 +50,19 @@ abbrev pub fault_where : Option Anomaly → Log → Option CnfFault
 fault_where None log = plain_fault log
 fault_where (Some _) log = None
 
--- the limit that stands in the way of a formula: more than 100 committed transactions, else one that the plain formula exceeds
+-- the limit that stands in the way of a formula: more than 100 committed transactions, else one
+-- that the plain formula exceeds
 unfoldable pub formula_fault : List ClientSession → Option CnfFault
-formula_fault ss = if nat_lt MAX_PLAIN_NODES (log_of ss).nodes then Some cnf.TooManyForPlain else fault_where (anomaly_of (log_of ss)) (log_of ss)
+formula_fault ss = if nat_lt MAX_PLAIN_NODES (log_of ss).nodes then Some cnf.TooManyForPlain else
+    fault_where (anomaly_of (log_of ss)) (log_of ss)
 
 -- what the formula is made from: the bipaths, or the contradiction from an anomaly
 abbrev pub plain_basis : Option Anomaly → Log → Basis
 plain_basis None log = Bipaths (length (bipaths log))
 plain_basis (Some a) log = Anomalous (anomaly_number a)
 
--- The plain formula, or the contradiction where an anomaly stands. There is one only where no limit stands in the way.
+-- The plain formula, or the contradiction where an anomaly stands. There is one only where no limit
+-- stands in the way.
 pub record IsPlainFormula (ss : List ClientSession) (b : Basis) (f : Cnf) : Type 0 where
   pub within : formula_fault ss ≡ None
   pub formula : f ≡ plain_answer ss
@@ -65,18 +70,25 @@ pub record IsPlainFormula (ss : List ClientSession) (b : Basis) (f : Cnf) : Type
 
 -- ---- without it
 
--- The contradiction where an anomaly stands; where none does, but the arcs have a cycle or, where these have none, all known edges
--- of the chains; and where pruning their polygraph ends in a cycle. Else the reduced formula of what pruning leaves: the known edges
+-- The contradiction where an anomaly stands; where none does, but the arcs have a cycle or, where
+-- these have none, all known edges
+-- of the chains; and where pruning their polygraph ends in a cycle. Else the reduced formula of
+-- what pruning leaves: the known edges
 -- with those of the forced set, and the choices that are open.
 pub data IsReducedFormula (ss : List ClientSession) : Basis → Cnf → Type 0 where
-  by_anomaly : (a : Anomaly) → anomaly_of (log_of ss) ≡ Some a → IsReducedFormula ss (Anomalous (anomaly_number a)) contradiction
-  by_cycle : anomaly_of (log_of ss) ≡ None → (line : List ℕ) → IsKnownCycle (log_of ss) line → IsReducedFormula ss (Anomalous 8) contradiction
-  by_pruning : IsCoalesced (log_of ss) → (IsCyclic (chain_polygraph (log_of ss)).known → ⊥) → IsDead (chain_polygraph (log_of ss)) →
+  by_anomaly : (a : Anomaly) → anomaly_of (log_of ss) ≡ Some a
+      → IsReducedFormula ss (Anomalous (anomaly_number a)) contradiction
+  by_cycle : anomaly_of (log_of ss) ≡ None → (line : List ℕ) → IsKnownCycle (log_of ss) line
+      → IsReducedFormula ss (Anomalous 8) contradiction
+  by_pruning : IsCoalesced (log_of ss) → (IsCyclic (chain_polygraph (log_of ss)).known → ⊥)
+      → IsDead (chain_polygraph (log_of ss)) →
       IsReducedFormula ss (Anomalous 9) contradiction
-  by_choices : IsCoalesced (log_of ss) → (forced : Sides) → IsForced (chain_polygraph (log_of ss)) forced →
+  by_choices : IsCoalesced (log_of ss) → (forced : Sides)
+      → IsForced (chain_polygraph (log_of ss)) forced →
       (IsCyclic (edges_with (chain_polygraph (log_of ss)) forced) → ⊥) →
       (known : Known) → IsReach (edges_with (chain_polygraph (log_of ss)) forced) known →
-      IsReducedFormula ss (Chains (length (chain_choices (log_of ss))) (length (open_from forced 0 (chain_choices (log_of ss)))))
+      IsReducedFormula ss (Chains (length (chain_choices (log_of ss)))
+      (length (open_from forced 0 (chain_choices (log_of ss)))))
       (reduced known (pruned (chain_polygraph (log_of ss)) forced))
 
 -- there is one only of at most 20,000,000 clauses
@@ -117,13 +129,17 @@ IsFormulaFault false ss e = IsReducedFault ss e
 
 -- ---- what it says of the sessions
 
--- An assignment satisfies the formula exactly where a serial order explains the sessions: any order of the committed and of some unknown
+-- An assignment satisfies the formula exactly where a serial order explains the sessions: any order
+-- of the committed and of some unknown
 -- transactions is enough, and there is one of just the taken ones then.
 pub record IsHeadline (ss : List ClientSession) (f : Cnf) : Type 0 where
-  pub satisfied_where_some : (order : List ℕ) → IsSomeOrder ss order → (values : List Bool) × Satisfies values f
-  pub serial_where_satisfied : (values : List Bool) → Satisfies values f → (order : List ℕ) × IsSerialOrder ss order
+  pub satisfied_where_some : (order : List ℕ) → IsSomeOrder ss order
+      → (values : List Bool) × Satisfies values f
+  pub serial_where_satisfied : (values : List Bool) → Satisfies values f
+      → (order : List ℕ) × IsSerialOrder ss order
 
 -- That holds of the formula, and the order that a satisfying assignment stands for is serial.
 pub record IsFaithful (ss : List ClientSession) (f : Cnf) : Type 0 where
   pub headline : IsHeadline ss f
-  pub orders : (values : List Bool) → Satisfies values f → (order : List ℕ) → IsDecoded f.nodes (before f values) order → IsSerialOrder ss order
+  pub orders : (values : List Bool) → Satisfies values f → (order : List ℕ)
+      → IsDecoded f.nodes (before f values) order → IsSerialOrder ss order

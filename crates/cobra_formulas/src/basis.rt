@@ -12,7 +12,8 @@ pub enum Basis {
     Anomalous(u8),
     /// So many bipaths. The formula is the plain one.
     Bipaths(usize),
-    /// So many choices between chains, and so many of them that pruning left. The formula is the reduced one.
+    /// So many choices between chains, and so many of them that pruning left. The formula is the
+    /// reduced one.
     Chains { all: usize, left: usize },
 }
 

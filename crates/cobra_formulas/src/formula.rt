@@ -8,7 +8,9 @@ ghost use Rattle.reduction.specs.Chained.{HasNoSerialOrder};
 ghost use Rattle.reduction.specs.Outcome.{IsCountedHistory};
 ghost use Rattle.order_cnf.specs.Data.{cnf_of};
 ghost use Rattle.order_cnf.specs.Limits.{IsFault};
-ghost use Rattle.cobra_formulas.specs.Formulas.{formula_fault, IsPlainFormula, IsReducedWithin, IsReducedFault, IsFaithful};
+ghost use Rattle.cobra_formulas.specs.Formulas.{formula_fault, IsPlainFormula, IsReducedWithin};
+ghost use Rattle.cobra_formulas.specs.Formulas.{IsReducedFault, IsFaithful};
+ghost use Rattle.cobra_formulas.specs.Formulas.{IsFormulaFrom, IsFormulaFault};
 ghost use Rattle.order_cnf.specs.declared.plain.TheConstants.{MAX_PLAIN_NODES};
 
 use crate::basis::{Basis, KNOWN_CYCLE, PRUNED_CYCLE, anomaly_number};
@@ -47,7 +49,7 @@ fn contradicted(alloc: Global, number: u8) -> Result<Belonging, CnfFault>
 
 /// The plain formula, or the contradiction where an anomaly stands.
 #[tactic(auto, unfolding(crate::specs::Formulas::formula_fault, log_definitions::specs::Numbers::plain_answer))]
-pub fn plain_of(alloc: Global, history: &History) -> Result<Belonging, CnfFault>
+fn plain_of(alloc: Global, history: &History) -> Result<Belonging, CnfFault>
     ensures made { IfOk result (λ b. IsPlainFormula history.now b.basis (cnf_of b.formula)) }
     ensures faithful { IfOk result (λ b. IsFaithful history.now (cnf_of b.formula)) }
     ensures fault { IfErr result (λ e. IsFault e (formula_fault history.now)) }
@@ -66,7 +68,8 @@ pub fn plain_of(alloc: Global, history: &History) -> Result<Belonging, CnfFault>
     }
 }
 
-/// The reduced formula of what pruning left of the polygraph of the chains, which had so many choices.
+/// The reduced formula of what pruning left of the polygraph of the chains, which had so many
+/// choices.
 fn of_left(
     alloc: Global,
     _history: &History,
@@ -79,7 +82,7 @@ fn of_left(
     ensures faithful { IfOk result (λ b. IsFaithful _history.now (cnf_of b.formula)) }
     ensures fault { IfErr result (IsReducedFault _history.now) }
 {
-    let _nodes = reduced.poly().nodes();
+    let _invariant = reduced.poly().nodes();
     let left = reduced.poly().choices().len();
     let pruned = Pruned::Open(reduced);
     Ok(Belonging {
@@ -88,8 +91,9 @@ fn of_left(
     })
 }
 
-/// The reduced formula, or the contradiction where an anomaly stands, a cycle of what is known, or pruning ends in one.
-pub fn reduced_of<R: Threads + Wait + Clock + Sync, G: Gate>(
+/// The reduced formula, or the contradiction where an anomaly stands, a cycle of what is known, or
+/// pruning ends in one.
+fn reduced_of<R: Threads + Wait + Clock + Sync, G: Gate>(
     rt: &R,
     alloc: Global,
     history: &History,
@@ -105,5 +109,27 @@ pub fn reduced_of<R: Threads + Wait + Clock + Sync, G: Gate>(
         Reduction::Cyclic(_) => contradicted(alloc, KNOWN_CYCLE),
         Reduction::Dead(_) => contradicted(alloc, PRUNED_CYCLE),
         Reduction::Open { choices, reduced } => of_left(alloc, history, choices, reduced),
+    }
+}
+
+/// The formula that belongs to a history: with `plain` the plain one, without it the reduced one,
+/// and the contradiction where an anomaly stands. So many workers prune, each of which passes the
+/// gate before each of its turns.
+pub fn formula_of<R: Threads + Wait + Clock + Sync, G: Gate>(
+    rt: &R,
+    alloc: Global,
+    history: &History,
+    plain: bool,
+    workers: Workers,
+    gate: &G,
+) -> Result<Belonging, CnfFault>
+    ensures made { IfOk result (λ b. IsFormulaFrom plain history.now b.basis (cnf_of b.formula)) }
+    ensures faithful { IfOk result (λ b. IsFaithful history.now (cnf_of b.formula)) }
+    ensures fault { IfErr result (IsFormulaFault plain history.now) }
+{
+    if plain {
+        plain_of(alloc, history)
+    } else {
+        reduced_of(rt, alloc, history, workers, gate)
     }
 }

@@ -2,7 +2,6 @@
 
 use crate::ending::Ending;
 use crate::input::log_name;
-use crate::names::strategy_of;
 use audit_command::{AuditOptions, Form, audit};
 use auditing::{AuditMeans, Deadline, Progress, SoFar};
 use cobra_cli::{Fault, Status};
@@ -78,7 +77,7 @@ fn options_of<'a>(
     AuditOptions {
         means: AuditMeans {
             workers: request.workers,
-            strategy: strategy_of(request.strategy),
+            strategy: request.strategy,
             budget: request.budget,
             deadline,
         },

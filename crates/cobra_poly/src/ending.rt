@@ -3,7 +3,7 @@
 use cobra_cli::{Fault, Stop};
 use fault_words::refusal as refusal_line;
 use proof_text::ProofFault;
-use refuting::Refusal;
+use refute_command::Refusal;
 use session_log::LogFault;
 use std::alloc::{AllocError, Global};
 use std::io;

@@ -2,7 +2,6 @@
 
 use crate::ending::Ending;
 use crate::input::log_name;
-use crate::names::format_of;
 use cobra_cli::{Fault, Format, Options, Status, Stop, explain};
 use cobra_words::{FormatWord, Request};
 use desk::gate::OpenGate;
@@ -14,6 +13,14 @@ use std::io::Write;
 use std::rt::Runtime;
 use std::sync::Wait;
 use std::thread::Threads;
+
+/// The form of a word.
+fn format_of(word: FormatWord) -> Format {
+    match word {
+        FormatWord::Text => Format::Text,
+        FormatWord::Dot => Format::Dot,
+    }
+}
 
 /// Writes in words why a log is refused.
 fn put_refusal<W: Write>(

@@ -5,14 +5,12 @@ mod audit_call;
 mod ending;
 mod explain_call;
 mod input;
-mod names;
 mod pieces_call;
 
 use crate::audit_call::audit_log;
 use crate::ending::{Ending, USAGE, report};
 use crate::explain_call::explain_log;
 use crate::input::{read_file, read_log};
-use crate::names::strategy_of;
 use crate::pieces_call::cut_log;
 use cobra_cli::{Fault, Options, Status, Stop, check, decode, encode, stats, verify};
 use cobra_words::{Command, Request, Words, words_of};
@@ -20,7 +18,7 @@ use desk::gate::OpenGate;
 use dimacs::{Counted, MAX_ANSWER_BYTES};
 use order_text::MAX_ORDER_BYTES;
 use proof_text::MAX_PROOF_BYTES;
-use refuting::refute;
+use refute_command::refute;
 use std::alloc::Global;
 use std::env;
 use std::io::{ErrorKind, Read, Write};
@@ -42,7 +40,7 @@ fn run_on<R: Runtime + Threads + Wait + Sync, W: Write>(
     let options = Options {
         plain: request.plain,
         workers: request.workers,
-        strategy: strategy_of(request.strategy),
+        strategy: request.strategy,
         budget: request.budget,
     };
     let status = match &request.command {

@@ -5,13 +5,13 @@ use crate::answers::{
     ANSWERS_OF_PIECES, ANSWERS_OF_REFUTE, ANSWERS_OF_STATS, ANSWERS_OF_VERIFY,
 };
 use crate::options::{
-    SearchDefaults, at_least, budget, explained, format, into, log_file, piece, plain, progress,
-    quiet, report_format, required_file, seconds, size, strategy, workers,
+    SearchDefaults, at_least, budget, explain_option, format, into, log_file, piece, plain,
+    progress, quiet, report_format, required_file, seconds, size, strategy, workers,
 };
 use std::alloc::{AllocError, Global};
 
-/// The version that `--version` prints. Where a built program is kept, its commit and whether it was proved are
-/// written over what stands in brackets here, in as many bytes (`tools/stamp.py`).
+/// The version that `--version` prints. Where a built program is kept, its commit and whether it
+/// was proved are written over what stands in brackets here, in as many bytes (`tools/stamp.py`).
 const VERSION: &str = "1.0.0 (commit unknown, not stamped)";
 
 /// How `check` and `explain` search where the words do not say.
@@ -114,7 +114,7 @@ fn audit<'a>(alloc: Global) -> Result<clap::Command<'a>, AllocError> {
         .arg(size(alloc))?
         .arg(at_least(alloc))?
         .arg(seconds(alloc))?
-        .arg(explained(alloc))?
+        .arg(explain_option(alloc))?
         .arg(report_format(alloc))?
         .arg(quiet(alloc))?
         .arg(progress(alloc))?;

@@ -1,4 +1,6 @@
 //! The words of the command line, read by `clap`.
+//!
+//! Called by `cobra_poly`. It knows no log, no file and no status.
 #![tactic(auto)]
 
 mod answers;
@@ -7,7 +9,6 @@ mod options;
 mod reading;
 mod request;
 
+pub use cube_machine::StrategyName;
 pub use reading::words_of;
-pub use request::{
-    AuditWords, Command, FormatWord, PiecesWord, ReportWord, Request, StrategyWord, Words,
-};
+pub use request::{AuditWords, Command, FormatWord, PiecesWord, ReportWord, Request, Words};

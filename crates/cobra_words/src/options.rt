@@ -127,7 +127,7 @@ pub fn seconds<'a>(alloc: Global) -> Arg<'a> {
         .value_parser(clap::value_parser!(u32).range(1..=1_000_000))
 }
 
-pub fn explained<'a>(alloc: Global) -> Arg<'a> {
+pub fn explain_option<'a>(alloc: Global) -> Arg<'a> {
     flag(alloc, "explain", "Say why no serial order explains the log")
 }
 

@@ -1,12 +1,10 @@
 //! From words to what they ask for.
 
 use crate::commands::program;
-use crate::request::{
-    AuditWords, Command, FormatWord, PiecesWord, ReportWord, Request, StrategyWord, Words,
-};
+use crate::request::{AuditWords, Command, FormatWord, PiecesWord, ReportWord, Request, Words};
 use clap::ArgMatches;
 use clap::error::ErrorKind;
-use cube_machine::Budget;
+use cube_machine::{Budget, StrategyName};
 use desk::seat_no::Workers;
 use std::alloc::{AllocError, Global};
 
@@ -22,12 +20,12 @@ fn log_of<'a>(matches: &ArgMatches<'a>) -> Option<&'a str> {
 }
 
 /// The strategy of a word; any word but the other three stands for the default.
-fn strategy_of(word: &str) -> StrategyWord {
+fn strategy_of(word: &str) -> StrategyName {
     match word {
-        "most" => StrategyWord::Most,
-        "least" => StrategyWord::Least,
-        "forced" => StrategyWord::Forced,
-        _ => StrategyWord::First,
+        "most" => StrategyName::Most,
+        "least" => StrategyName::Least,
+        "forced" => StrategyName::Forced,
+        _ => StrategyName::First,
     }
 }
 
@@ -115,8 +113,8 @@ fn request_of<'a>(name: &str, matches: &ArgMatches<'a>) -> Option<Request<'a>> {
     })
 }
 
-/// What these words ask for, the first of which is the program's name. `None` is never given for words that
-/// the command line lets through.
+/// What these words ask for, the first of which is the program's name. `None` is never given for
+/// words that the command line lets through.
 pub fn words_of<'a>(alloc: Global, words: &'a [String]) -> Result<Option<Words<'a>>, AllocError> {
     let program = program(alloc)?;
     match program.try_get_matches_from(words) {

@@ -1,7 +1,7 @@
 //! What the words of a call ask for.
 
 use clap::Error;
-use cube_machine::Budget;
+use cube_machine::{Budget, StrategyName};
 use desk::seat_no::Workers;
 
 /// What is to be done with a log.
@@ -81,15 +81,6 @@ pub enum FormatWord {
     Dot,
 }
 
-/// How a search is to pick the choice that it decides next.
-#[derive(Clone, Copy, Debug, PartialEq, Eq)]
-pub enum StrategyWord {
-    First,
-    Most,
-    Least,
-    Forced,
-}
-
 /// A call of the program.
 #[derive(Drop)]
 pub struct Request<'a> {
@@ -97,7 +88,7 @@ pub struct Request<'a> {
     /// The plain formula was asked for.
     pub plain: bool,
     pub workers: Workers,
-    pub strategy: StrategyWord,
+    pub strategy: StrategyName,
     /// How many cubes a search may close.
     pub budget: Budget,
     /// The file of the log, or standard input.

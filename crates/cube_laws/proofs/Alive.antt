@@ -11,12 +11,12 @@ use Rattle.desk.specs.History.{IsLegal, replay}
 use Rattle.cube_laws.specs.Cubes.{Cube, edges_under}
 use Rattle.cube_laws.specs.State.{Node, State, root}
 use Rattle.cube_laws.specs.Steps.{is_open, is_solved, is_held, has_solved, has_live, is_finished, is_exhausted, node_held, is_cycle, is_solution, cube_at, child, solve_reply, next_of, reply_of}
-use Rattle.cube_laws.specs.declared.messages.Mark.{Mark}
-use Rattle.cube_laws.specs.declared.messages.Mark.TheVariants.{Open, Held, Split as Divided, Refuted, Solved as Ended}
-use Rattle.cube_laws.specs.declared.messages.Event.{Event}
-use Rattle.cube_laws.specs.declared.messages.Event.TheVariants.{Claim, TakeAny, Split, Refute, Solve, Release}
-use Rattle.cube_laws.specs.declared.messages.Reply.{Reply}
-use Rattle.cube_laws.specs.declared.messages.Reply.TheVariants.{Finished, NoCube, BadOrder, Solved}
+use Rattle.cube_laws.specs.declared.messages.CubeState.{CubeState}
+use Rattle.cube_laws.specs.declared.messages.CubeState.TheVariants.{Open, Held, Split as Divided, Refuted, Solved as Ended}
+use Rattle.cube_laws.specs.declared.messages.CubeEvent.{CubeEvent}
+use Rattle.cube_laws.specs.declared.messages.CubeEvent.TheVariants.{Claim, TakeAny, Split, Refute, Solve, Release}
+use Rattle.cube_laws.specs.declared.messages.CubeReply.{CubeReply}
+use Rattle.cube_laws.specs.declared.messages.CubeReply.TheVariants.{Finished, NoCube, BadOrder, Solved}
 use Rattle.cube_laws.specs.Runs.{SolvesRightly, EachSolvesRightly}
 use Rattle.cube_laws.proofs.Nodes.{one_value, get_same, get_other, get_front, get_first, get_second, get_below, each_at, any_at}
 use Rattle.cube_laws.proofs.Ways.{marked, ways}
@@ -25,7 +25,7 @@ use Rattle.cube_laws.proofs.Fits.{KeepsCube, cube_kept, cube_opening, cube_split
 
 -- ---- marks
 -- neither split nor refuted
-abbrev pub is_going : Mark → Bool
+abbrev pub is_going : CubeState → Bool
 is_going Open = true
 is_going (Held seat) = true
 is_going (Divided c) = false
@@ -44,7 +44,7 @@ pub alive_opening : (p : Polygraph) (order : List ℕ) → Alive p order (root �
 alive_opening p order = record { id = 0; node = root; at = refl; going = refl; keeps = cube_opening p order }
 
 -- where another node is written, or this one with a mark that goes on
-alive_set : (p : Polygraph) (order : List ℕ) (nodes : List Node) → Alive p order nodes → (id : ℕ) (x : Node) (mark : Mark) → slice_get nodes id ≡ Some x → (is_going mark ≡ true) ⊎ (KeepsCube p order x.cube → ⊥) → Alive p order (slice_set nodes id (marked x mark))
+alive_set : (p : Polygraph) (order : List ℕ) (nodes : List Node) → Alive p order nodes → (id : ℕ) (x : Node) (mark : CubeState) → slice_get nodes id ≡ Some x → (is_going mark ≡ true) ⊎ (KeepsCube p order x.cube → ⊥) → Alive p order (slice_set nodes id (marked x mark))
 alive_set p order nodes a id x mark e why = elim (cases_eq a.id id) [
   | inl same ↦ (
       let here : a.node ≡ x = one_value (slice_get nodes id) a.node x (subst (λ k. slice_get nodes k ≡ Some a.node) same a.at) e in
@@ -93,7 +93,7 @@ alive_split p order f nodes a id c x e lt =
       | inr apart ↦ record { id = a.id; node = a.node; at = get_front ys two a.id a.node (get_other nodes id a.id a.node (marked x (Divided c)) apart a.at); going = a.going; keeps = a.keeps }
     ]
 
-alive_next : (p : Polygraph) (budget : ℕ) (order : List ℕ) → Fits p order → (s : State) (seat : ℕ) (event : Event) → Grown p budget s → Alive p order s.nodes → Alive p order (next_of s seat event).nodes
+alive_next : (p : Polygraph) (budget : ℕ) (order : List ℕ) → Fits p order → (s : State) (seat : ℕ) (event : CubeEvent) → Grown p budget s → Alive p order s.nodes → Alive p order (next_of s seat event).nodes
 alive_next p budget order f s seat event g a = ways (λ t r. Alive p order t.nodes) s seat event (record {
   stays = λ r _. a;
   holds = λ id x e o _. alive_set p order s.nodes a id x (Held seat) e (inl refl);
@@ -103,13 +103,13 @@ alive_next p budget order f s seat event g a = ways (λ t r. Alive p order t.nod
   solves = λ id order2 x e h _ going _. alive_set p order s.nodes a id x Ended e (inl refl);
 })
 
-pub alive_after : (p : Polygraph) (budget : ℕ) (order : List ℕ) → Fits p order → (s : State) → Grown p budget s → Alive p order s.nodes → (history : List (Entry Event Reply)) → Alive p order (replay next_of s history).nodes
+pub alive_after : (p : Polygraph) (budget : ℕ) (order : List ℕ) → Fits p order → (s : State) → Grown p budget s → Alive p order s.nodes → (history : List (Entry CubeEvent CubeReply)) → Alive p order (replay next_of s history).nodes
 alive_after p budget order f s g a [] = a
 alive_after p budget order f s g a (x ∷ xs) =
     alive_after p budget order f (next_of s x.seat x.event) (grown_next p budget s x.seat x.event g) (alive_next p budget order f s x.seat x.event g a) xs
 
 -- ---- where every cube is refuted there is none
-going_cases : (m : Mark) → is_going m ≡ true → (is_solved m ≡ true) ⊎ ((is_open m || is_held m) ≡ true)
+going_cases : (m : CubeState) → is_going m ≡ true → (is_solved m ≡ true) ⊎ ((is_open m || is_held m) ≡ true)
 going_cases Open t = inr refl
 going_cases (Held seat) t = inr refl
 going_cases (Divided c) t = absurd (false≢true t)
@@ -125,14 +125,14 @@ none_alive p order s t a =
     ]
 
 -- ---- solving orders
-is_ended : Reply → Bool
+is_ended : CubeReply → Bool
 is_ended Finished = false
 is_ended NoCube = false
 is_ended BadOrder = false
 is_ended Solved = true
 is_ended r = false
 
-not_solved : (r : Reply) → is_ended r ≡ false → r ≡ Solved → ⊥
+not_solved : (r : CubeReply) → is_ended r ≡ false → r ≡ Solved → ⊥
 unfolding is_ended
 not_solved r f e = false≢true (sym f ∙ ap is_ended e)
 
@@ -151,7 +151,7 @@ unfolding is_ended
 solved_going s seat order true e = absurd (not_solved Finished refl e)
 solved_going s seat order false e = solved_held s order (node_held s seat) e
 
-solves_rightly : (p : Polygraph) (s : State) → s.polygraph ≡ p → (seat : ℕ) (event : Event) → SolvesRightly p event (reply_of s seat event)
+solves_rightly : (p : Polygraph) (s : State) → s.polygraph ≡ p → (seat : ℕ) (event : CubeEvent) → SolvesRightly p event (reply_of s seat event)
 unfolding reply_of
 solves_rightly p s same seat (Claim id) = tt
 solves_rightly p s same seat TakeAny = tt
@@ -160,7 +160,7 @@ solves_rightly p s same seat (Refute line) = tt
 solves_rightly p s same seat (Solve order) = λ e. subst (λ (q : Polygraph). Fits q order) same (solved_going s seat order (is_finished s) e)
 solves_rightly p s same seat Release = tt
 
-pub each_solves_rightly : (p : Polygraph) (budget : ℕ) (s : State) → Grown p budget s → (history : List (Entry Event Reply)) → IsLegal next_of reply_of s history → EachSolvesRightly p history
+pub each_solves_rightly : (p : Polygraph) (budget : ℕ) (s : State) → Grown p budget s → (history : List (Entry CubeEvent CubeReply)) → IsLegal next_of reply_of s history → EachSolvesRightly p history
 each_solves_rightly p budget s g [] legal = tt
 each_solves_rightly p budget s g (x ∷ xs) legal = (
   subst (SolvesRightly p x.event) (sym legal.0) (solves_rightly p s g.same x.seat x.event),

@@ -10,32 +10,32 @@ use Rattle.desk.specs.declared.history.Entry.{Entry}
 use Rattle.desk.specs.History.{IsLegal, replay}
 use Rattle.cube_laws.specs.State.{Node, State}
 use Rattle.cube_laws.specs.Steps.{is_open, is_held_by, node_held, child, next_of, reply_of}
-use Rattle.cube_laws.specs.declared.messages.Mark.{Mark}
-use Rattle.cube_laws.specs.declared.messages.Mark.TheVariants.{Open, Held, Split as Divided, Refuted, Solved as Ended}
-use Rattle.cube_laws.specs.declared.messages.Event.{Event}
-use Rattle.cube_laws.specs.declared.messages.Reply.{Reply}
-use Rattle.cube_laws.specs.declared.messages.Reply.TheVariants.{Cube as Given, Children, Closed, Solved, Released}
+use Rattle.cube_laws.specs.declared.messages.CubeState.{CubeState}
+use Rattle.cube_laws.specs.declared.messages.CubeState.TheVariants.{Open, Held, Split as Divided, Refuted, Solved as Ended}
+use Rattle.cube_laws.specs.declared.messages.CubeEvent.{CubeEvent}
+use Rattle.cube_laws.specs.declared.messages.CubeReply.{CubeReply}
+use Rattle.cube_laws.specs.declared.messages.CubeReply.TheVariants.{Cube as Given, Children, Closed, Solved, Released}
 use Rattle.cube_laws.specs.Runs.{is_closing, as_list, closings}
 use Rattle.cube_laws.proofs.Nodes.{Marked, one_value, get_same, get_other, get_front}
 use Rattle.cube_laws.proofs.Ways.{marked, noted, counted, divided, ways, held_node}
 
 -- ---- marks
 -- split, refuted or solved
-abbrev pub is_shut : Mark → Bool
+abbrev pub is_shut : CubeState → Bool
 is_shut Open = false
 is_shut (Held seat) = false
 is_shut (Divided c) = true
 is_shut Refuted = true
 is_shut Ended = true
 
-pub open_not_shut : (m : Mark) → is_open m ≡ true → is_shut m ≡ false
+pub open_not_shut : (m : CubeState) → is_open m ≡ true → is_shut m ≡ false
 open_not_shut Open t = refl
 open_not_shut (Held seat) t = refl
 open_not_shut (Divided c) t = absurd (false≢true t)
 open_not_shut Refuted t = absurd (false≢true t)
 open_not_shut Ended t = absurd (false≢true t)
 
-pub held_not_shut : (seat : ℕ) (m : Mark) → is_held_by seat m ≡ true → is_shut m ≡ false
+pub held_not_shut : (seat : ℕ) (m : CubeState) → is_held_by seat m ≡ true → is_shut m ≡ false
 held_not_shut seat Open t = refl
 held_not_shut seat (Held other) t = refl
 held_not_shut seat (Divided c) t = absurd (false≢true t)
@@ -43,7 +43,7 @@ held_not_shut seat Refuted t = absurd (false≢true t)
 held_not_shut seat Ended t = absurd (false≢true t)
 
 -- ---- a closed node stays so
-shut_set : (nodes : List Node) (k id : ℕ) (x : Node) (mark : Mark) → Marked is_shut nodes k → slice_get nodes id ≡ Some x → is_shut x.mark ≡ false → Marked is_shut (slice_set nodes id (marked x mark)) k
+shut_set : (nodes : List Node) (k id : ℕ) (x : Node) (mark : CubeState) → Marked is_shut nodes k → slice_get nodes id ≡ Some x → is_shut x.mark ≡ false → Marked is_shut (slice_set nodes id (marked x mark)) k
 shut_set nodes k id x mark m e f = elim (cases_eq k id) [
   | inl same ↦ (let here : m.node ≡ x = one_value (slice_get nodes id) m.node x (subst (λ j. slice_get nodes j ≡ Some m.node) same m.at) e in
       absurd (false≢true (sym f ∙ ap (λ (y : Node). is_shut y.mark) (sym here) ∙ m.passes)))
@@ -53,10 +53,10 @@ shut_set nodes k id x mark m e f = elim (cases_eq k id) [
 shut_front : (nodes more : List Node) (k : ℕ) → Marked is_shut nodes k → Marked is_shut (nodes ++ more) k
 shut_front nodes more k m = record { node = m.node; at = get_front nodes more k m.node m.at; passes = m.passes }
 
-shut_here : (nodes : List Node) (id : ℕ) (x : Node) (mark : Mark) → slice_get nodes id ≡ Some x → is_shut mark ≡ true → Marked is_shut (slice_set nodes id (marked x mark)) id
+shut_here : (nodes : List Node) (id : ℕ) (x : Node) (mark : CubeState) → slice_get nodes id ≡ Some x → is_shut mark ≡ true → Marked is_shut (slice_set nodes id (marked x mark)) id
 shut_here nodes id x mark e t = record { node = marked x mark; at = get_same nodes id x (marked x mark) e; passes = t }
 
-shut_next : (k : ℕ) (s : State) (seat : ℕ) (event : Event) → Marked is_shut s.nodes k → Marked is_shut (next_of s seat event).nodes k
+shut_next : (k : ℕ) (s : State) (seat : ℕ) (event : CubeEvent) → Marked is_shut s.nodes k → Marked is_shut (next_of s seat event).nodes k
 shut_next k s seat event m = ways (λ t r. Marked is_shut t.nodes k) s seat event (record {
   stays = λ r _. m;
   holds = λ id x e o _. shut_set s.nodes k id x (Held seat) m e (open_not_shut x.mark o);
@@ -67,14 +67,14 @@ shut_next k s seat event m = ways (λ t r. Marked is_shut t.nodes k) s seat even
 })
 
 -- ---- what one step closes
-abbrev closed_now : State → ℕ → Reply → List ℕ
+abbrev closed_now : State → ℕ → CubeReply → List ℕ
 closed_now s seat r = cond (is_closing r) (as_list (node_held s seat)) []
 
-record Counts (s : State) (seat : ℕ) (t : State) (r : Reply) : Type 0 where
+record Counts (s : State) (seat : ℕ) (t : State) (r : CubeReply) : Type 0 where
   pub count : t.closed ≡ s.closed + length (closed_now s seat r)
   pub shut : (k : ℕ) → Has k (closed_now s seat r) → Marked is_shut t.nodes k
 
-counts_none : (s : State) (seat : ℕ) (t : State) (r : Reply) → t.closed ≡ s.closed → is_closing r ≡ false → Counts s seat t r
+counts_none : (s : State) (seat : ℕ) (t : State) (r : CubeReply) → t.closed ≡ s.closed → is_closing r ≡ false → Counts s seat t r
 counts_none s seat t r e f =
     let none : closed_now s seat r ≡ [] = ap (λ b. cond b (as_list (node_held s seat)) []) f in
     record {
@@ -86,7 +86,7 @@ shut_one : (nodes : List Node) (id : ℕ) → Marked is_shut nodes id → (k : �
 shut_one nodes id m k (inl e) = subst (Marked is_shut nodes) e m
 shut_one nodes id m k (inr h) = absurd h
 
-counts_one : (s : State) (seat : ℕ) (t : State) (r : Reply) (id : ℕ) → node_held s seat ≡ Some id → is_closing r ≡ true → t.closed ≡ s.closed + 1 → Marked is_shut t.nodes id → Counts s seat t r
+counts_one : (s : State) (seat : ℕ) (t : State) (r : CubeReply) (id : ℕ) → node_held s seat ≡ Some id → is_closing r ≡ true → t.closed ≡ s.closed + 1 → Marked is_shut t.nodes id → Counts s seat t r
 counts_one s seat t r id held closing e m =
     let one : closed_now s seat r ≡ id ∷ [] = λ i. cond (closing i) (as_list (held i)) [] in
     record {
@@ -94,7 +94,7 @@ counts_one s seat t r id held closing e m =
       shut = λ k h. shut_one t.nodes id m k (subst (Has k) one h);
     }
 
-counts_next : (s : State) (seat : ℕ) (event : Event) → Counts s seat (next_of s seat event) (reply_of s seat event)
+counts_next : (s : State) (seat : ℕ) (event : CubeEvent) → Counts s seat (next_of s seat event) (reply_of s seat event)
 counts_next s seat event = ways (λ t r. Counts s seat t r) s seat event (record {
   stays = λ r f. counts_none s seat s r refl f;
   holds = λ id x e o _. counts_none s seat (noted s id x (Held seat)) (Given id) refl refl;
@@ -118,7 +118,7 @@ apart_now true (Some id) = (λ h. h, tt)
 apart_now false o = tt
 
 -- what is closed already is not closed later
-pub not_closed_again : (s : State) (history : List (Entry Event Reply)) (k : ℕ) → Marked is_shut s.nodes k → Has k (closings s history) → ⊥
+pub not_closed_again : (s : State) (history : List (Entry CubeEvent CubeReply)) (k : ℕ) → Marked is_shut s.nodes k → Has k (closings s history) → ⊥
 not_closed_again s [] k m h = h
 not_closed_again s (x ∷ xs) k m h = elim (Has-append_cases k (closed_now s x.seat x.reply) (closings (next_of s x.seat x.event) xs) h) [
   | inl now ↦ (let held = held_node s x.seat k (has_now (is_closing x.reply) (node_held s x.seat) k now) in
@@ -134,7 +134,7 @@ apart_joined (x ∷ xs) ys a b none = (
   apart_joined xs ys a.1 b (λ k u v. none k (inr u) v),
 )
 
-pub apart_closings : (s : State) (history : List (Entry Event Reply)) → IsLegal next_of reply_of s history → Apart (closings s history)
+pub apart_closings : (s : State) (history : List (Entry CubeEvent CubeReply)) → IsLegal next_of reply_of s history → Apart (closings s history)
 apart_closings s [] legal = tt
 apart_closings s (x ∷ xs) legal =
     let next = next_of s x.seat x.event in
@@ -142,10 +142,10 @@ apart_closings s (x ∷ xs) legal =
     apart_joined (closed_now s x.seat x.reply) (closings next xs) (apart_now (is_closing x.reply) (node_held s x.seat)) (apart_closings next xs legal.1)
     (λ k now later. not_closed_again next xs k (step.shut k now) later)
 
-pub closed_once : (s : State) (history : List (Entry Event Reply)) → IsLegal next_of reply_of s history → IsDistinct nat_eq (closings s history)
+pub closed_once : (s : State) (history : List (Entry CubeEvent CubeReply)) → IsLegal next_of reply_of s history → IsDistinct nat_eq (closings s history)
 closed_once s history legal = IsDistinct-from_Apart (closings s history) (apart_closings s history legal)
 
-pub closed_count : (s : State) (history : List (Entry Event Reply)) → IsLegal next_of reply_of s history → (replay next_of s history).closed ≡ s.closed + length (closings s history)
+pub closed_count : (s : State) (history : List (Entry CubeEvent CubeReply)) → IsLegal next_of reply_of s history → (replay next_of s history).closed ≡ s.closed + length (closings s history)
 closed_count s [] legal = omega arith
 closed_count s (x ∷ xs) legal =
     let next = next_of s x.seat x.event in

@@ -10,12 +10,12 @@ use Rattle.desk.specs.declared.history.Entry.{Entry}
 use Rattle.desk.specs.History.{IsLegal, replay}
 use Rattle.cube_laws.specs.State.{Node, State, opening_state}
 use Rattle.cube_laws.specs.Steps.{is_open, is_solved, is_held, has_solved, has_live, node_held, last_open, is_open_at, is_finished, cube_at, can_split, is_cycle, child, claim_reply, any_reply, split_reply, refute_reply, next_of, reply_of}
-use Rattle.cube_laws.specs.declared.messages.Mark.{Mark}
-use Rattle.cube_laws.specs.declared.messages.Mark.TheVariants.{Open, Held, Split as Divided, Refuted, Solved as Ended}
-use Rattle.cube_laws.specs.declared.messages.Event.{Event}
-use Rattle.cube_laws.specs.declared.messages.Event.TheVariants.{Claim, TakeAny, Split, Refute, Solve, Release}
-use Rattle.cube_laws.specs.declared.messages.Reply.{Reply}
-use Rattle.cube_laws.specs.declared.messages.Reply.TheVariants.{Finished, HasCube, NotOpen, NoneNow, Cube as Given, NoCube, BadChoice, Children, BadCycle, Closed, BadOrder, Solved, Released}
+use Rattle.cube_laws.specs.declared.messages.CubeState.{CubeState}
+use Rattle.cube_laws.specs.declared.messages.CubeState.TheVariants.{Open, Held, Split as Divided, Refuted, Solved as Ended}
+use Rattle.cube_laws.specs.declared.messages.CubeEvent.{CubeEvent}
+use Rattle.cube_laws.specs.declared.messages.CubeEvent.TheVariants.{Claim, TakeAny, Split, Refute, Solve, Release}
+use Rattle.cube_laws.specs.declared.messages.CubeReply.{CubeReply}
+use Rattle.cube_laws.specs.declared.messages.CubeReply.TheVariants.{Finished, HasCube, NotOpen, NoneNow, Cube as Given, NoCube, BadChoice, Children, BadCycle, Closed, BadOrder, Solved, Released}
 use Rattle.cube_laws.specs.Cubes.{edges_under}
 use Rattle.cube_laws.specs.Runs.{is_closing, is_solving, solves}
 use Rattle.cube_laws.proofs.Nodes.{none-some, some-inj}
@@ -44,12 +44,12 @@ count_two [] a b f g = (λ i. one_if (f i) + (one_if (g i) + 0))
 count_two (z ∷ zs) a b f g = ap (λ n. one_if (is_shut z.mark) + n) (count_two zs a b f g)
 
 -- another mark that is closed as little, and a closed one where it was not closed
-count_same : (xs : List Node) (id : ℕ) (x : Node) (mark : Mark) → slice_get xs id ≡ Some x → is_shut x.mark ≡ false → is_shut mark ≡ false → shut_count (slice_set xs id (marked x mark)) ≡ shut_count xs
+count_same : (xs : List Node) (id : ℕ) (x : Node) (mark : CubeState) → slice_get xs id ≡ Some x → is_shut x.mark ≡ false → is_shut mark ≡ false → shut_count (slice_set xs id (marked x mark)) ≡ shut_count xs
 count_same xs id x mark e f g =
     let r = count_set xs id x (marked x mark) e in
     let a = ap one_if f in let b = ap one_if g in omega (arith, r, a, b)
 
-count_more : (xs : List Node) (id : ℕ) (x : Node) (mark : Mark) → slice_get xs id ≡ Some x → is_shut x.mark ≡ false → is_shut mark ≡ true → shut_count (slice_set xs id (marked x mark)) ≡ shut_count xs + 1
+count_more : (xs : List Node) (id : ℕ) (x : Node) (mark : CubeState) → slice_get xs id ≡ Some x → is_shut x.mark ≡ false → is_shut mark ≡ true → shut_count (slice_set xs id (marked x mark)) ≡ shut_count xs + 1
 unfolding one_if
 count_more xs id x mark e f g =
     let r = count_set xs id x (marked x mark) e in
@@ -58,7 +58,7 @@ count_more xs id x mark e f g =
 abbrev IsCounted : State → Type 0
 IsCounted s = s.closed ≡ shut_count s.nodes
 
-counted_next : (s : State) (seat : ℕ) (event : Event) → IsCounted s → IsCounted (next_of s seat event)
+counted_next : (s : State) (seat : ℕ) (event : CubeEvent) → IsCounted s → IsCounted (next_of s seat event)
 counted_next s seat event k = ways (λ t r. IsCounted t) s seat event (record {
   stays = λ r _. k;
   holds = λ id x e o _. k ∙ sym (count_same s.nodes id x (Held seat) e (open_not_shut x.mark o) refl);
@@ -68,7 +68,7 @@ counted_next s seat event k = ways (λ t r. IsCounted t) s seat event (record {
   solves = λ id order x e h _ going _. ap (λ n. n + 1) k ∙ sym (count_more s.nodes id x Ended e (held_not_shut seat x.mark h) refl);
 })
 
-counted_after : (s : State) → IsCounted s → (history : List (Entry Event Reply)) → IsCounted (replay next_of s history)
+counted_after : (s : State) → IsCounted s → (history : List (Entry CubeEvent CubeReply)) → IsCounted (replay next_of s history)
 counted_after s k [] = k
 counted_after s k (x ∷ xs) = counted_after (next_of s x.seat x.event) (counted_next s x.seat x.event k) xs
 
@@ -76,7 +76,7 @@ counted_opening : (p : Polygraph) (budget : ℕ) → IsCounted (opening_state p 
 unfolding shut_count one_if
 counted_opening p budget = refl
 
-live_not_shut : (m : Mark) → (is_open m || is_held m) ≡ true → is_shut m ≡ false
+live_not_shut : (m : CubeState) → (is_open m || is_held m) ≡ true → is_shut m ≡ false
 live_not_shut Open t = refl
 live_not_shut (Held seat) t = refl
 live_not_shut (Divided c) t = absurd (false≢true t)
@@ -101,7 +101,7 @@ count_live (x ∷ xs) t = elim (or_cases (is_open x.mark || is_held x.mark) (has
   | inr there ↦ (let a = one_at_most (is_shut x.mark) in let b = count_live xs there in omega (arith, a, b))
 ]
 
-pub budget_lasts : (p : Polygraph) (budget : ℕ) (history : List (Entry Event Reply)) → 2 ^ (length p.choices + 1) - 1 ≤ budget → has_live (replay next_of (opening_state p budget) history).nodes ≡ true → (replay next_of (opening_state p budget) history).closed < budget
+pub budget_lasts : (p : Polygraph) (budget : ℕ) (history : List (Entry CubeEvent CubeReply)) → 2 ^ (length p.choices + 1) - 1 ≤ budget → has_live (replay next_of (opening_state p budget) history).nodes ≡ true → (replay next_of (opening_state p budget) history).closed < budget
 budget_lasts p budget history large live =
     let s = replay next_of (opening_state p budget) history in
     let g = grown_after p budget (opening_state p budget) (grown_opening p budget) history in
@@ -131,7 +131,7 @@ any_put test [] id x y e f = absurd (none-some x e)
 any_put test (z ∷ zs) zero x y e f = ap (λ b. b || list_any test zs) f
 any_put test (z ∷ zs) (suc id) x y e f = ap (λ b. test z || b) (any_put test zs id x y e f) ∙ or_true (test z)
 
-quiet : (r : Reply) → is_closing r ≡ false → is_solving r ≡ false
+quiet : (r : CubeReply) → is_closing r ≡ false → is_solving r ≡ false
 quiet Finished f = refl
 quiet HasCube f = refl
 quiet NotOpen f = refl
@@ -146,20 +146,20 @@ quiet BadOrder f = refl
 quiet Solved f = absurd (false≢true (sym f))
 quiet Released f = refl
 
-open_unsolved : (m : Mark) → is_open m ≡ true → is_solved m ≡ false
+open_unsolved : (m : CubeState) → is_open m ≡ true → is_solved m ≡ false
 open_unsolved Open t = refl
 open_unsolved (Held seat) t = refl
 open_unsolved (Divided c) t = refl
 open_unsolved Refuted t = refl
 open_unsolved Ended t = absurd (false≢true t)
 
-abbrev Solves : State → State → Reply → Type 0
+abbrev Solves : State → State → CubeReply → Type 0
 Solves s t r = has_solved t.nodes ≡ (has_solved s.nodes || is_solving r)
 
-solved_marked : (s : State) (id : ℕ) (x : Node) (mark : Mark) → slice_get s.nodes id ≡ Some x → is_solved x.mark ≡ false → is_solved mark ≡ false → has_solved (slice_set s.nodes id (marked x mark)) ≡ (has_solved s.nodes || false)
+solved_marked : (s : State) (id : ℕ) (x : Node) (mark : CubeState) → slice_get s.nodes id ≡ Some x → is_solved x.mark ≡ false → is_solved mark ≡ false → has_solved (slice_set s.nodes id (marked x mark)) ≡ (has_solved s.nodes || false)
 solved_marked s id x mark e f g = any_marked (λ (y : Node). is_solved y.mark) s.nodes id x (marked x mark) e (g ∙ sym f) ∙ sym (or_false (has_solved s.nodes))
 
-solved_next : (s : State) (seat : ℕ) (event : Event) → Solves s (next_of s seat event) (reply_of s seat event)
+solved_next : (s : State) (seat : ℕ) (event : CubeEvent) → Solves s (next_of s seat event) (reply_of s seat event)
 solved_next s seat event = ways (λ t r. Solves s t r) s seat event (record {
   stays = λ r f. sym (ap (λ b. has_solved s.nodes || b) (quiet r f) ∙ or_false (has_solved s.nodes));
   holds = λ id x e o _. solved_marked s id x (Held seat) e (open_unsolved x.mark o) refl;
@@ -172,10 +172,10 @@ solved_next s seat event = ways (λ t r. Solves s t r) s seat event (record {
 })
 
 -- a reply that says so answers what asked for it
-abbrev IsQuiet : Reply → Type 0
+abbrev IsQuiet : CubeReply → Type 0
 IsQuiet r = is_solving r ≡ false
 
-unless : (b : Bool) (x y : Reply) → IsQuiet x → IsQuiet y → IsQuiet (cond b x y)
+unless : (b : Bool) (x y : CubeReply) → IsQuiet x → IsQuiet y → IsQuiet (cond b x y)
 unless true x y p q = p
 unless false x y p q = q
 
@@ -196,7 +196,7 @@ quiet_refute : (s : State) (line : List ℕ) (h : Option ℕ) → IsQuiet (refut
 quiet_refute s line None = refl
 quiet_refute s line (Some id) = unless (is_cycle (edges_under s.polygraph (cube_at s id)) line) Closed BadCycle refl refl
 
-solved_by : (s : State) (seat : ℕ) (event : Event) → is_solving (reply_of s seat event) ≡ solves event (reply_of s seat event)
+solved_by : (s : State) (seat : ℕ) (event : CubeEvent) → is_solving (reply_of s seat event) ≡ solves event (reply_of s seat event)
 unfolding reply_of
 solved_by s seat (Claim id) = unless (is_finished s) Finished (claim_reply s id (node_held s seat)) refl (quiet_claim s id (node_held s seat))
 solved_by s seat TakeAny = unless (is_finished s) Finished (any_reply (node_held s seat) (last_open s)) refl (quiet_any (node_held s seat) (last_open s))
@@ -209,13 +209,13 @@ or_assoc : (a b c : Bool) → ((a || b) || c) ≡ (a || (b || c))
 or_assoc true b c = refl
 or_assoc false b c = refl
 
-solved_from : (s : State) (history : List (Entry Event Reply)) → IsLegal next_of reply_of s history → has_solved (replay next_of s history).nodes ≡ (has_solved s.nodes || list_any (λ x. solves x.event x.reply) history)
+solved_from : (s : State) (history : List (Entry CubeEvent CubeReply)) → IsLegal next_of reply_of s history → has_solved (replay next_of s history).nodes ≡ (has_solved s.nodes || list_any (λ x. solves x.event x.reply) history)
 solved_from s [] legal = sym (or_false (has_solved s.nodes))
 solved_from s (x ∷ xs) legal =
     let next = next_of s x.seat x.event in
-    let rest = list_any (λ (y : Entry Event Reply). solves y.event y.reply) xs in
+    let rest = list_any (λ (y : Entry CubeEvent CubeReply). solves y.event y.reply) xs in
     let step = solved_next s x.seat x.event ∙ ap (λ b. has_solved s.nodes || b) (solved_by s x.seat x.event ∙ ap (solves x.event) (sym legal.0)) in
     solved_from next xs legal.1 ∙ ap (λ b. b || rest) step ∙ or_assoc (has_solved s.nodes) (solves x.event x.reply) rest
 
-pub solved_before : (p : Polygraph) (budget : ℕ) (history : List (Entry Event Reply)) → IsLegal next_of reply_of (opening_state p budget) history → has_solved (replay next_of (opening_state p budget) history).nodes ≡ list_any (λ x. solves x.event x.reply) history
+pub solved_before : (p : Polygraph) (budget : ℕ) (history : List (Entry CubeEvent CubeReply)) → IsLegal next_of reply_of (opening_state p budget) history → has_solved (replay next_of (opening_state p budget) history).nodes ≡ list_any (λ x. solves x.event x.reply) history
 solved_before p budget history legal = solved_from (opening_state p budget) history legal

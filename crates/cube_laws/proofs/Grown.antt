@@ -15,22 +15,22 @@ use Rattle.desk.specs.History.{replay}
 use Rattle.cube_laws.specs.Cubes.{Cube, is_decided}
 use Rattle.cube_laws.specs.State.{Node, State, opening_state}
 use Rattle.cube_laws.specs.Steps.{is_open, is_solved, is_held_by, is_held, has_solved, has_live, is_finished, is_choice, can_split, child, next_of}
-use Rattle.cube_laws.specs.declared.messages.Mark.{Mark}
-use Rattle.cube_laws.specs.declared.messages.Mark.TheVariants.{Open, Held, Split as Divided, Refuted, Solved as Ended}
-use Rattle.cube_laws.specs.declared.messages.Event.{Event}
-use Rattle.cube_laws.specs.declared.messages.Reply.{Reply}
+use Rattle.cube_laws.specs.declared.messages.CubeState.{CubeState}
+use Rattle.cube_laws.specs.declared.messages.CubeState.TheVariants.{Open, Held, Split as Divided, Refuted, Solved as Ended}
+use Rattle.cube_laws.specs.declared.messages.CubeEvent.{CubeEvent}
+use Rattle.cube_laws.specs.declared.messages.CubeReply.{CubeReply}
 use Rattle.cube_laws.proofs.Nodes.{none-some, some-inj, length_set, length_two, each_at, each_set, any_at, any_kept}
 use Rattle.cube_laws.proofs.Ways.{marked, noted, counted, divided, ways}
 
 -- ---- marks
-pub is_split : Mark → Bool
+pub is_split : CubeState → Bool
 is_split Open = false
 is_split (Held seat) = false
 is_split (Divided c) = true
 is_split Refuted = false
 is_split Ended = false
 
-pub open_unsplit : (m : Mark) → is_open m ≡ true → is_split m ≡ false
+pub open_unsplit : (m : CubeState) → is_open m ≡ true → is_split m ≡ false
 unfolding is_split
 open_unsplit Open e = refl
 open_unsplit (Held seat) e = refl
@@ -38,7 +38,7 @@ open_unsplit (Divided c) e = absurd (false≢true e)
 open_unsplit Refuted e = refl
 open_unsplit Ended e = refl
 
-pub held_unsplit : (seat : ℕ) (m : Mark) → is_held_by seat m ≡ true → is_split m ≡ false
+pub held_unsplit : (seat : ℕ) (m : CubeState) → is_held_by seat m ≡ true → is_split m ≡ false
 unfolding is_split
 held_unsplit seat Open e = refl
 held_unsplit seat (Held other) e = refl
@@ -46,14 +46,14 @@ held_unsplit seat (Divided c) e = absurd (false≢true e)
 held_unsplit seat Refuted e = refl
 held_unsplit seat Ended e = refl
 
-pub held_unsolved : (seat : ℕ) (m : Mark) → is_held_by seat m ≡ true → is_solved m ≡ false
+pub held_unsolved : (seat : ℕ) (m : CubeState) → is_held_by seat m ≡ true → is_solved m ≡ false
 held_unsolved seat Open e = refl
 held_unsolved seat (Held other) e = refl
 held_unsolved seat (Divided c) e = refl
 held_unsolved seat Refuted e = refl
 held_unsolved seat Ended e = absurd (false≢true e)
 
-pub held_live : (seat : ℕ) (m : Mark) → is_held_by seat m ≡ true → (is_open m || is_held m) ≡ true
+pub held_live : (seat : ℕ) (m : CubeState) → is_held_by seat m ≡ true → (is_open m || is_held m) ≡ true
 held_live seat Open e = refl
 held_live seat (Held other) e = refl
 held_live seat (Divided c) e = absurd (false≢true e)
@@ -161,7 +161,7 @@ weights_two m [] a b = omega arith
 weights_two m (z ∷ zs) a b = let r = weights_two m zs a b in omega (arith, r)
 
 -- marks that are no splits leave the weights as they are
-pub weights_noted : (m : ℕ) (xs : List Node) (id : ℕ) (x : Node) (mark : Mark) → slice_get xs id ≡ Some x → is_split x.mark ≡ false → is_split mark ≡ false → weights m (slice_set xs id (marked x mark)) ≡ weights m xs
+pub weights_noted : (m : ℕ) (xs : List Node) (id : ℕ) (x : Node) (mark : CubeState) → slice_get xs id ≡ Some x → is_split x.mark ≡ false → is_split mark ≡ false → weights m (slice_set xs id (marked x mark)) ≡ weights m xs
 weights_noted m xs id x mark e f g =
     let r = weights_set m xs id x (marked x mark) e in
     let a = weight_unsplit m x f in
@@ -212,7 +212,7 @@ budget_left p budget s g going =
     let ne : s.closed ≡ budget → ⊥ = λ e. eqb-false s.closed s.budget b.0 (e ∙ sym g.limit) in
     omega (arith, g.within, ne)
 
-grown_noted : (p : Polygraph) (budget : ℕ) (s : State) → Grown p budget s → (id : ℕ) (x : Node) (mark : Mark) → slice_get s.nodes id ≡ Some x → is_split x.mark ≡ false → is_split mark ≡ false → Grown p budget (noted s id x mark)
+grown_noted : (p : Polygraph) (budget : ℕ) (s : State) → Grown p budget s → (id : ℕ) (x : Node) (mark : CubeState) → slice_get s.nodes id ≡ Some x → is_split x.mark ≡ false → is_split mark ≡ false → Grown p budget (noted s id x mark)
 grown_noted p budget s g id x mark e f h = record {
   same = g.same;
   limit = g.limit;
@@ -222,7 +222,7 @@ grown_noted p budget s g id x mark e f h = record {
   weighs = weights_noted (length p.choices) s.nodes id x mark e f h ∙ g.weighs;
 }
 
-grown_counted : (p : Polygraph) (budget : ℕ) (s : State) → Grown p budget s → is_finished s ≡ false → (id : ℕ) (x : Node) (mark : Mark) → slice_get s.nodes id ≡ Some x → is_split x.mark ≡ false → is_split mark ≡ false → Grown p budget (counted s id x mark)
+grown_counted : (p : Polygraph) (budget : ℕ) (s : State) → Grown p budget s → is_finished s ≡ false → (id : ℕ) (x : Node) (mark : CubeState) → slice_get s.nodes id ≡ Some x → is_split x.mark ≡ false → is_split mark ≡ false → Grown p budget (counted s id x mark)
 grown_counted p budget s g going id x mark e f h =
     let n = grown_noted p budget s g id x mark e f h in
     record {
@@ -253,7 +253,7 @@ grown_divided p budget s g going id c x e f can =
       weighs = weights_divided m s.nodes id c x e f (let short = cube_short m ((c, One) ∷ x.cube) one in omega (arith, short)) ∙ g.weighs;
     }
 
-pub grown_next : (p : Polygraph) (budget : ℕ) (s : State) (seat : ℕ) (event : Event) → Grown p budget s → Grown p budget (next_of s seat event)
+pub grown_next : (p : Polygraph) (budget : ℕ) (s : State) (seat : ℕ) (event : CubeEvent) → Grown p budget s → Grown p budget (next_of s seat event)
 unfolding is_split
 grown_next p budget s seat event g = ways (λ t r. Grown p budget t) s seat event (record {
   stays = λ r _. g;
@@ -264,7 +264,7 @@ grown_next p budget s seat event g = ways (λ t r. Grown p budget t) s seat even
   solves = λ id order x e h _ going _. grown_counted p budget s g going id x Ended e (held_unsplit seat x.mark h) refl;
 })
 
-pub grown_after : (p : Polygraph) (budget : ℕ) (s : State) → Grown p budget s → (history : List (Entry Event Reply)) → Grown p budget (replay next_of s history)
+pub grown_after : (p : Polygraph) (budget : ℕ) (s : State) → Grown p budget s → (history : List (Entry CubeEvent CubeReply)) → Grown p budget (replay next_of s history)
 grown_after p budget s g [] = g
 grown_after p budget s g (x ∷ xs) = grown_after p budget (next_of s x.seat x.event) (grown_next p budget s x.seat x.event g) xs
 
@@ -282,7 +282,7 @@ finished_opened s seat id x e h t = elim (or_cases (has_solved s.nodes) (eqb s.c
   ])
 ]
 
-finished_next : (s : State) (seat : ℕ) (event : Event) → is_finished s ≡ true → is_finished (next_of s seat event) ≡ true
+finished_next : (s : State) (seat : ℕ) (event : CubeEvent) → is_finished s ≡ true → is_finished (next_of s seat event) ≡ true
 finished_next s seat event t =
     let no : is_finished s ≡ false → ⊥ = λ f. false≢true (sym f ∙ t) in
     ways (λ u r. is_finished u ≡ true) s seat event (record {
@@ -294,6 +294,6 @@ finished_next s seat event t =
       solves = λ id order x e h _ going _. absurd (no going);
     })
 
-pub finished_after : (s : State) (history : List (Entry Event Reply)) → is_finished s ≡ true → is_finished (replay next_of s history) ≡ true
+pub finished_after : (s : State) (history : List (Entry CubeEvent CubeReply)) → is_finished s ≡ true → is_finished (replay next_of s history) ≡ true
 finished_after s [] t = t
 finished_after s (x ∷ xs) t = finished_after (next_of s x.seat x.event) xs (finished_next s x.seat x.event t)

@@ -6,7 +6,7 @@ use Rattle.std.specs.List.{AllByRecursion, list_any}
 use Rattle.std.proofs.lemmas.Bool.{cases_Bool, false≢true, or_cases, or_left, or_right, cond-true, cond-false}
 use Rattle.cube_laws.specs.State.{Node}
 use Rattle.cube_laws.specs.Steps.{is_open, is_held_by, held_from, last_open_from, or_else}
-use Rattle.cube_laws.specs.declared.messages.Mark.{Mark}
+use Rattle.cube_laws.specs.declared.messages.CubeState.{CubeState}
 
 -- ---- options
 pub some-inj : {A : Type 0} (x y : A) → Some x ≡ Some y → x ≡ y
@@ -94,12 +94,12 @@ any_kept t (z ∷ zs) (suc k) x y e f h = elim (or_cases (t z) (list_any t zs) h
 
 -- ---- the node that a seat holds, and an open one
 -- a node by its number, of which the mark passes the test
-pub record Marked (test : Mark → Bool) (nodes : List Node) (id : ℕ) : Type 0 where
+pub record Marked (test : CubeState → Bool) (nodes : List Node) (id : ℕ) : Type 0 where
   pub node : Node
   pub at : slice_get nodes id ≡ Some node
   pub passes : test node.mark ≡ true
 
-pub further : (test : Mark → Bool) (x : Node) (nodes : List Node) (id : ℕ) → Marked test nodes id → Marked test (x ∷ nodes) (suc id)
+pub further : (test : CubeState → Bool) (x : Node) (nodes : List Node) (id : ℕ) → Marked test nodes id → Marked test (x ∷ nodes) (suc id)
 further test x nodes id m = record { node = m.node; at = m.at; passes = m.passes }
 
 pub found_held : (seat k id : ℕ) (nodes : List Node) → held_from seat k nodes ≡ Some id → (j : ℕ) × ((k + j ≡ id) × Marked (is_held_by seat) nodes j)
@@ -129,7 +129,7 @@ found_open k id (x ∷ xs) e = elim (else_cases (last_open_from (k + 1) xs) (con
 ]
 
 -- the numbers begin at 0
-pub found_first : (test : Mark → Bool) (nodes : List Node) (id : ℕ) → ((j : ℕ) × ((0 + j ≡ id) × Marked test nodes j)) → Marked test nodes id
+pub found_first : (test : CubeState → Bool) (nodes : List Node) (id : ℕ) → ((j : ℕ) × ((0 + j ≡ id) × Marked test nodes j)) → Marked test nodes id
 found_first test nodes id r =
     let z : r.0 ≡ id = (let n = r.1.0 in omega (arith, n)) in
     subst (Marked test nodes) z r.1.1

@@ -1,17 +1,23 @@
 -- What holds of every list of steps of the machine.
-use Rattle.std.specs.Prelude.{◌≡◌, ℕ, List, [], ◌∷◌, ◌++◌, Option, None, Some, Bool, true, false, if◌then◌else◌}
+use Rattle.std.specs.Prelude.{◌≡◌, ℕ, List, [], ◌∷◌, ◌++◌, Option, None, Some, Bool, true, false}
+use Rattle.std.specs.Prelude.{if◌then◌else◌}
 use Rattle.std.specs.List.{AllByRecursion}
 use Rattle.serializability.specs.Polygraph.{Polygraph, Fits}
 use Rattle.desk.specs.declared.history.Entry.{Entry}
 use Rattle.cube_laws.specs.State.{State}
 use Rattle.cube_laws.specs.Steps.{next_of, node_held}
-use Rattle.cube_laws.specs.declared.messages.Event.{Event}
-use Rattle.cube_laws.specs.declared.messages.Event.TheVariants.{Claim, TakeAny, Split, Refute, Solve, Release}
-use Rattle.cube_laws.specs.declared.messages.Reply.{Reply}
-use Rattle.cube_laws.specs.declared.messages.Reply.TheVariants.{Finished, HasCube, NotOpen, NoneNow, Cube as Given, NoCube, BadChoice, Children, BadCycle, Closed, BadOrder, Solved, Released}
+use Rattle.cube_laws.specs.declared.messages.CubeEvent.{CubeEvent}
+use Rattle.cube_laws.specs.declared.messages.CubeEvent.TheVariants.{Claim, TakeAny, Split, Refute}
+use Rattle.cube_laws.specs.declared.messages.CubeEvent.TheVariants.{Solve, Release}
+use Rattle.cube_laws.specs.declared.messages.CubeReply.{CubeReply}
+use Rattle.cube_laws.specs.declared.messages.CubeReply.TheVariants.{Finished, HasCube, NotOpen}
+use Rattle.cube_laws.specs.declared.messages.CubeReply.TheVariants.{NoneNow, Cube as Given, NoCube}
+use Rattle.cube_laws.specs.declared.messages.CubeReply.TheVariants.{BadChoice, Children, BadCycle}
+use Rattle.cube_laws.specs.declared.messages.CubeReply.TheVariants.{Closed, BadOrder, Solved}
+use Rattle.cube_laws.specs.declared.messages.CubeReply.TheVariants.{Released}
 
 -- an order that solved a node fits the polygraph
-abbrev pub SolvesRightly : Polygraph → Event → Reply → Type 0
+abbrev pub SolvesRightly : Polygraph → CubeEvent → CubeReply → Type 0
 SolvesRightly p (Claim id) r = Unit {0}
 SolvesRightly p TakeAny r = Unit {0}
 SolvesRightly p (Split c) r = Unit {0}
@@ -19,11 +25,11 @@ SolvesRightly p (Refute line) r = Unit {0}
 SolvesRightly p (Solve order) r = r ≡ Solved → Fits p order
 SolvesRightly p Release r = Unit {0}
 
-abbrev pub EachSolvesRightly : Polygraph → List (Entry Event Reply) → Type 0
+abbrev pub EachSolvesRightly : Polygraph → List (Entry CubeEvent CubeReply) → Type 0
 EachSolvesRightly p history = AllByRecursion (λ x. SolvesRightly p x.event x.reply) history
 
 -- whether a reply says that a node was closed: split, refuted or solved
-abbrev pub is_closing : Reply → Bool
+abbrev pub is_closing : CubeReply → Bool
 is_closing Finished = false
 is_closing HasCube = false
 is_closing NotOpen = false
@@ -39,7 +45,7 @@ is_closing Solved = true
 is_closing Released = false
 
 -- whether a reply says that a node was solved
-abbrev pub is_solving : Reply → Bool
+abbrev pub is_solving : CubeReply → Bool
 is_solving Finished = false
 is_solving HasCube = false
 is_solving NotOpen = false
@@ -55,7 +61,7 @@ is_solving Solved = true
 is_solving Released = false
 
 -- whether a step solved a node
-abbrev pub solves : Event → Reply → Bool
+abbrev pub solves : CubeEvent → CubeReply → Bool
 solves (Claim id) r = false
 solves TakeAny r = false
 solves (Split c) r = false
@@ -68,11 +74,13 @@ abbrev pub as_list : Option ℕ → List ℕ
 as_list None = []
 as_list (Some id) = id ∷ []
 
--- the nodes that the steps of a history closed, in order: at each closing step the one that its seat held
-abbrev pub closings : State → List (Entry Event Reply) → List ℕ
+-- the nodes that the steps of a history closed, in order: at each closing step the one that its
+-- seat held
+abbrev pub closings : State → List (Entry CubeEvent CubeReply) → List ℕ
 closings s [] = []
-closings s (x ∷ xs) = (if is_closing x.reply then as_list (node_held s x.seat) else []) ++ closings (next_of s x.seat x.event) xs
+closings s (x ∷ xs) = (if is_closing x.reply then as_list (node_held s x.seat) else []) ++ closings
+    (next_of s x.seat x.event) xs
 
 -- a reply that takes the search on: the node is split, refuted or solved
-abbrev pub TakesOn : Reply → Type 0
+abbrev pub TakesOn : CubeReply → Type 0
 TakesOn r = is_closing r ≡ true

@@ -2,16 +2,18 @@
 use Rattle.std.specs.Prelude.{ℕ, List, [], ◌∷◌}
 use Rattle.serializability.specs.Polygraph.{Polygraph}
 use Rattle.cube_laws.specs.Cubes.{Cube}
-use Rattle.cube_laws.specs.declared.messages.Mark.{Mark}
-use Rattle.cube_laws.specs.declared.messages.Mark.TheVariants.{Open}
+use Rattle.cube_laws.specs.declared.messages.CubeState.{CubeState}
+use Rattle.cube_laws.specs.declared.messages.CubeState.TheVariants.{Open}
 
--- a node of the tree: the number of its parent, which of node 0 is 0, its cube, and what is noted of it
+-- a node of the tree: the number of its parent, which of node 0 is 0, its cube, and what is noted
+-- of it
 pub record Node : Type 0 where
   pub parent : ℕ
   pub cube : Cube
-  pub mark : Mark
+  pub mark : CubeState
 
--- the polygraph that is searched, the nodes of the tree by their numbers, how many of them are closed, and how many may be
+-- the polygraph that is searched, the nodes of the tree by their numbers, how many of them are
+-- closed, and how many may be
 pub record State : Type 0 where
   pub polygraph : Polygraph
   pub nodes : List Node

@@ -1,12 +1,12 @@
 //! What workers send to the machine, what it answers, and what it notes of a node of the tree.
 
-use crate::line::NodeLine;
 use desk::seat_no::SeatNo;
 use polygraph::ChoiceIx;
+use session_history::NodeLine;
 
 /// What is noted of a node of the tree.
 #[derive(Clone, Copy, Debug, PartialEq, Eq)]
-pub enum Mark {
+pub enum CubeState {
     /// Its cube waits for a worker.
     Open,
     /// A seat works on its cube.
@@ -21,7 +21,7 @@ pub enum Mark {
 
 /// What a worker sends.
 #[derive(Drop)]
-pub enum Event {
+pub enum CubeEvent {
     /// Asks for the cube of this node.
     Claim(usize),
     /// Asks for the open cube of greatest number.
@@ -38,7 +38,7 @@ pub enum Event {
 
 /// What the machine answers. Nodes of the tree go by their numbers.
 #[derive(Clone, Copy, Debug, PartialEq, Eq)]
-pub enum Reply {
+pub enum CubeReply {
     /// A node is solved, the budget is spent, or no node is open or held.
     Finished,
     /// The seat holds a node already.

@@ -8,8 +8,8 @@ use Rattle.pruning_laws.specs.declared.side.Side.{Side}
 use Rattle.cube_laws.specs.Cubes.{Cube}
 use Rattle.cube_laws.specs.State.{Node}
 use Rattle.cube_laws.specs.Steps.{with_mark, child}
-use Rattle.cube_laws.specs.declared.messages.Mark.{Mark}
-use Rattle.cube_laws.specs.declared.messages.Mark.TheVariants.{Open}
+use Rattle.cube_laws.specs.declared.messages.CubeState.{CubeState}
+use Rattle.cube_laws.specs.declared.messages.CubeState.TheVariants.{Open}
 use Rattle.cube_laws.proofs.Nodes.{some-inj, none-some}
 use Rattle.cube_machine.specs.Ways.{cube_of, cubes_after, parent_of, nodes_with, nodes_of, cube_in, IsWay}
 use Rattle.cube_machine.specs.declared.origin.Origin.{Origin}
@@ -63,23 +63,23 @@ pub cube_is : (xs : List TreeNode) (k : ℕ) (x : TreeNode) → slice_get xs k �
 cube_is xs k x at = ap (λ (o : Option Node). option_map_or (λ (y : Node). y.cube) o []) (node_at xs k x at)
 
 -- a test of a node's mark
-pub mark_tested : (t : Mark → Bool) (d : Bool) (xs : List TreeNode) (k : ℕ) (x : TreeNode) → slice_get xs k ≡ Some x → option_map_or (λ (y : Node). t y.mark) (slice_get (nodes_of xs) k) d ≡ t x.mark
+pub mark_tested : (t : CubeState → Bool) (d : Bool) (xs : List TreeNode) (k : ℕ) (x : TreeNode) → slice_get xs k ≡ Some x → option_map_or (λ (y : Node). t y.mark) (slice_get (nodes_of xs) k) d ≡ t x.mark
 mark_tested t d xs k x at = ap (λ (o : Option Node). option_map_or (λ (y : Node). t y.mark) o d) (node_at xs k x at)
 
-pub mark_absent : (t : Mark → Bool) (d : Bool) (xs : List TreeNode) (k : ℕ) → length xs ≤ k → option_map_or (λ (y : Node). t y.mark) (slice_get (nodes_of xs) k) d ≡ d
+pub mark_absent : (t : CubeState → Bool) (d : Bool) (xs : List TreeNode) (k : ℕ) → length xs ≤ k → option_map_or (λ (y : Node). t y.mark) (slice_get (nodes_of xs) k) d ≡ d
 mark_absent t d xs k le = ap (λ (o : Option Node). option_map_or (λ (y : Node). t y.mark) o d) (none_at xs k le)
 
 pub mark_read : (xs : List TreeNode) (k : ℕ) (x : TreeNode) → slice_get xs k ≡ Some x → option_map (λ (y : Node). y.mark) (slice_get (nodes_of xs) k) ≡ Some x.mark
 mark_read xs k x at = ap (λ (o : Option Node). option_map (λ (y : Node). y.mark) o) (node_at xs k x at)
 
 -- a test of all marks
-any_with : (t : Mark → Bool) (cs : List Cube) (xs : List TreeNode) → length cs ≡ length xs → list_any (λ (y : Node). t y.mark) (nodes_with cs xs) ≡ list_any (λ (y : TreeNode). t y.mark) xs
+any_with : (t : CubeState → Bool) (cs : List Cube) (xs : List TreeNode) → length cs ≡ length xs → list_any (λ (y : Node). t y.mark) (nodes_with cs xs) ≡ list_any (λ (y : TreeNode). t y.mark) xs
 unfolding nodes_with
 any_with t cs [] e = refl
 any_with t [] (x ∷ xs) e = absurd (omega (arith, e))
 any_with t (c ∷ cs) (x ∷ xs) e = ap (λ b. t x.mark || b) (any_with t cs xs (omega (arith, e)))
 
-pub any_mark : (t : Mark → Bool) (xs : List TreeNode) → list_any (λ (y : Node). t y.mark) (nodes_of xs) ≡ list_any (λ (y : TreeNode). t y.mark) xs
+pub any_mark : (t : CubeState → Bool) (xs : List TreeNode) → list_any (λ (y : Node). t y.mark) (nodes_of xs) ≡ list_any (λ (y : TreeNode). t y.mark) xs
 unfolding nodes_of
 any_mark t xs = any_with t (cubes_after [] xs) xs (as_many xs)
 
@@ -147,10 +147,10 @@ root_way xs d lt ordered =
     rooted (nodes_of xs) (get_or xs 0 d).origin (is_way xs 0 (get_or xs 0 d) at (λ p f. ordered (get_or xs 0 d) p at f))
 
 -- ---- a written mark
-abbrev pub remark : TreeNode → Mark → TreeNode
+abbrev pub remark : TreeNode → CubeState → TreeNode
 remark x m = record { origin = x.origin; mark = m }
 
-cubes_written : (before : List Cube) (xs : List TreeNode) (k : ℕ) (x : TreeNode) (m : Mark) → slice_get xs k ≡ Some x → cubes_after before (slice_set xs k (remark x m)) ≡ cubes_after before xs
+cubes_written : (before : List Cube) (xs : List TreeNode) (k : ℕ) (x : TreeNode) (m : CubeState) → slice_get xs k ≡ Some x → cubes_after before (slice_set xs k (remark x m)) ≡ cubes_after before xs
 unfolding cubes_after
 cubes_written before [] k x m at = refl
 cubes_written before (z ∷ zs) zero x m at = ap (λ (y : TreeNode). cubes_after (before ++ cube_of before y.origin ∷ []) zs) (sym (some-inj z x at))
@@ -163,7 +163,7 @@ with_written [] (z ∷ zs) k y e = absurd (omega (arith, e))
 with_written (c ∷ cs) (z ∷ zs) zero y e = refl
 with_written (c ∷ cs) (z ∷ zs) (suc k) y e = ap (λ l. record { parent = parent_of z.origin; cube = c; mark = z.mark } ∷ l) (with_written cs zs k y (omega (arith, e)))
 
-pub mark_written : (xs : List TreeNode) (k : ℕ) (x : TreeNode) (m : Mark) → slice_get xs k ≡ Some x → nodes_of (slice_set xs k (remark x m)) ≡ with_mark (nodes_of xs) k m
+pub mark_written : (xs : List TreeNode) (k : ℕ) (x : TreeNode) (m : CubeState) → slice_get xs k ≡ Some x → nodes_of (slice_set xs k (remark x m)) ≡ with_mark (nodes_of xs) k m
 unfolding nodes_of
 mark_written xs k x m at =
     let cs = cubes_after [] xs in

@@ -7,7 +7,7 @@ use Rattle.serializability.specs.Polygraph.{Polygraph}
 use Rattle.reach_laws.specs.Reach.{Graph}
 use Rattle.cube_laws.specs.State.{Node, State, root}
 use Rattle.cube_laws.specs.Steps.{with_mark, has_solved, has_live, is_finished}
-use Rattle.cube_laws.specs.declared.messages.Mark.{Mark}
+use Rattle.cube_laws.specs.declared.messages.CubeState.{CubeState}
 use Rattle.cube_machine.specs.Growth.{Growth}
 use Rattle.cube_machine.specs.Ways.{cube_in}
 use Rattle.cube_machine.specs.Noted.{IsOnce, AreOnce, IsNoted, AreNoted}
@@ -26,7 +26,7 @@ short s going le =
     let ne : s.closed ≡ s.budget → ⊥ = eqb-false s.closed s.budget b.0 in
     omega (arith, le, ne)
 
-pub kept_closed : (p : Polygraph) (tree now : Growth) (closed budget : ℕ) (graph : Graph) (lists : List (Vec SideEdge Global)) (table : List Decided) (id : ℕ) (m : Mark) → IsMachine p tree closed budget graph lists table
+pub kept_closed : (p : Polygraph) (tree now : Growth) (closed budget : ℕ) (graph : Graph) (lists : List (Vec SideEdge Global)) (table : List Decided) (id : ℕ) (m : CubeState) → IsMachine p tree closed budget graph lists table
     → is_finished (record { polygraph = p; nodes = tree.nodes; closed = closed; budget = budget }) ≡ false
     → now.nodes ≡ with_mark tree.nodes id m → now.room ≡ tree.room → IsMachine p now (closed + 1) budget graph lists table
 kept_closed p tree now closed budget graph lists table id m k going e room =
@@ -44,7 +44,7 @@ kept_closed p tree now closed budget graph lists table id m k going e room =
       noted = subst (λ nodes. AreNoted nodes (length p.choices) table) (sym e) (noted_marked tree.nodes (length p.choices) table id m k.noted);
     }
 
-pub kept_split : (p : Polygraph) (tree now : Growth) (closed budget : ℕ) (graph : Graph) (lists : List (Vec SideEdge Global)) (table : List Decided) (id : ℕ) (m : Mark) (a b : Node) → IsMachine p tree closed budget graph lists table
+pub kept_split : (p : Polygraph) (tree now : Growth) (closed budget : ℕ) (graph : Graph) (lists : List (Vec SideEdge Global)) (table : List Decided) (id : ℕ) (m : CubeState) (a b : Node) → IsMachine p tree closed budget graph lists table
     → is_finished (record { polygraph = p; nodes = tree.nodes; closed = closed; budget = budget }) ≡ false
     → ((k : ℕ) → IsOnce (cube_in (a ∷ b ∷ []) k)) → now.nodes ≡ with_mark tree.nodes id m ++ a ∷ b ∷ [] → now.room ≡ tree.room → IsMachine p now (closed + 1) budget graph lists table
 kept_split p tree now closed budget graph lists table id m a b k going once e room =
@@ -64,7 +64,7 @@ kept_split p tree now closed budget graph lists table id m a b k going once e ro
     }
 
 -- a node is marked that is not closed
-pub kept_marked : (p : Polygraph) (tree now : Growth) (closed budget : ℕ) (graph : Graph) (lists : List (Vec SideEdge Global)) (table : List Decided) (id : ℕ) (m : Mark) → IsMachine p tree closed budget graph lists table
+pub kept_marked : (p : Polygraph) (tree now : Growth) (closed budget : ℕ) (graph : Graph) (lists : List (Vec SideEdge Global)) (table : List Decided) (id : ℕ) (m : CubeState) → IsMachine p tree closed budget graph lists table
     → now.nodes ≡ with_mark tree.nodes id m → now.room ≡ tree.room → IsMachine p now closed budget graph lists table
 kept_marked p tree now closed budget graph lists table id m k e room =
     let n = ap length e in let l = length_marked tree.nodes id m in let small = k.small in let roomy = k.roomy in

@@ -8,7 +8,7 @@ use Rattle.pruning_laws.specs.declared.side.Side.{Side}
 use Rattle.pruning_laws.specs.declared.side.Side.TheVariants.{One, Two}
 use Rattle.cube_laws.specs.Steps.{with_mark, child}
 use Rattle.cube_laws.specs.Cubes.{Cube, is_decided}
-use Rattle.cube_laws.specs.declared.messages.Mark.{Mark}
+use Rattle.cube_laws.specs.declared.messages.CubeState.{CubeState}
 use Rattle.cube_laws.proofs.Nodes.{some-inj}
 use Rattle.cube_machine.specs.Ways.{cube_in}
 use Rattle.cube_machine.specs.Flags.{flag_at, is_odd}
@@ -26,14 +26,14 @@ cube_written (z ∷ zs) zero (suc k) x y at e = refl
 cube_written (z ∷ zs) (suc id) zero x y at e = refl
 cube_written (z ∷ zs) (suc id) (suc k) x y at e = cube_written zs id k x y at e
 
-cube_under : (nodes : List Node) (id k : ℕ) (m : Mark) (o : Option Node) → slice_get nodes id ≡ o → cube_in (option_map_or (λ (x : Node). slice_set nodes id (record x { mark = m })) o nodes) k ≡ cube_in nodes k
+cube_under : (nodes : List Node) (id k : ℕ) (m : CubeState) (o : Option Node) → slice_get nodes id ≡ o → cube_in (option_map_or (λ (x : Node). slice_set nodes id (record x { mark = m })) o nodes) k ≡ cube_in nodes k
 cube_under nodes id k m None e = refl
 cube_under nodes id k m (Some x) e = cube_written nodes id k x (record x { mark = m }) e refl
 
-pub cube_stays : (nodes : List Node) (id k : ℕ) (m : Mark) → cube_in (with_mark nodes id m) k ≡ cube_in nodes k
+pub cube_stays : (nodes : List Node) (id k : ℕ) (m : CubeState) → cube_in (with_mark nodes id m) k ≡ cube_in nodes k
 cube_stays nodes id k m = cube_under nodes id k m (slice_get nodes id) refl
 
-pub noted_marked : (nodes : List Node) (count : ℕ) (table : List Decided) (id : ℕ) (m : Mark) → AreNoted nodes count table → AreNoted (with_mark nodes id m) count table
+pub noted_marked : (nodes : List Node) (count : ℕ) (table : List Decided) (id : ℕ) (m : CubeState) → AreNoted nodes count table → AreNoted (with_mark nodes id m) count table
 noted_marked nodes count table id m t = record {
   noted = λ k d e. (let n = t.noted k d e in let w = n.within in let l = length_marked nodes id m in record {
     within = omega (arith, w, l);
@@ -42,7 +42,7 @@ noted_marked nodes count table id m t = record {
   wide = t.wide;
 }
 
-pub once_marked : (nodes : List Node) (id : ℕ) (m : Mark) → AreOnce nodes → AreOnce (with_mark nodes id m)
+pub once_marked : (nodes : List Node) (id : ℕ) (m : CubeState) → AreOnce nodes → AreOnce (with_mark nodes id m)
 once_marked nodes id m t = record { each = λ k. subst IsOnce (sym (cube_stays nodes id k m)) (t.each k) }
 
 -- ---- nodes are added

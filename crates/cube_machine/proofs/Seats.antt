@@ -7,8 +7,8 @@ use Rattle.known_graph.proofs.Tested.{same_bool}
 use Rattle.cube_laws.specs.Cubes.{Cube}
 use Rattle.cube_laws.specs.State.{Node}
 use Rattle.cube_laws.specs.Steps.{is_open, is_held, is_held_by, held_from, has_live}
-use Rattle.cube_laws.specs.declared.messages.Mark.{Mark}
-use Rattle.cube_laws.specs.declared.messages.Mark.TheVariants.{Open, Held, Split as Divided, Refuted, Solved as Ended}
+use Rattle.cube_laws.specs.declared.messages.CubeState.{CubeState}
+use Rattle.cube_laws.specs.declared.messages.CubeState.TheVariants.{Open, Held, Split as Divided, Refuted, Solved as Ended}
 use Rattle.cube_laws.proofs.Nodes.{some-inj, none-some, any_at}
 use Rattle.cube_machine.specs.Ways.{nodes_with, nodes_of, cubes_after}
 use Rattle.cube_machine.specs.Kept.{HasMark, IsTree}
@@ -18,27 +18,27 @@ use Rattle.cube_machine.proofs.Cubes.{as_many, any_mark}
 use Rattle.cube_machine.proofs.Places.{some_open}
 
 -- ---- marks
-pub held_mark : (seat : ℕ) (m : Mark) → is_held_by seat m ≡ true → m ≡ Held seat
+pub held_mark : (seat : ℕ) (m : CubeState) → is_held_by seat m ≡ true → m ≡ Held seat
 held_mark seat Open t = absurd (false≢true t)
 held_mark seat (Held s) t = ap (λ n. Held n) (eqb-true s seat t)
 held_mark seat (Divided c) t = absurd (false≢true t)
 held_mark seat Refuted t = absurd (false≢true t)
 held_mark seat Ended t = absurd (false≢true t)
 
-pub mark_held : (seat : ℕ) (m : Mark) → m ≡ Held seat → is_held_by seat m ≡ true
+pub mark_held : (seat : ℕ) (m : CubeState) → m ≡ Held seat → is_held_by seat m ≡ true
 mark_held seat m e = ap (is_held_by seat) e ∙ eq-eqb seat seat refl
 
-some_seat : (m : Mark) → is_held m ≡ true → (seat : ℕ) × (m ≡ Held seat)
+some_seat : (m : CubeState) → is_held m ≡ true → (seat : ℕ) × (m ≡ Held seat)
 some_seat Open t = absurd (false≢true t)
 some_seat (Held s) t = (s, refl)
 some_seat (Divided c) t = absurd (false≢true t)
 some_seat Refuted t = absurd (false≢true t)
 some_seat Ended t = absurd (false≢true t)
 
-pub head_mark : (x : TreeNode) (xs : List TreeNode) (m : Mark) → x.mark ≡ m → HasMark (x ∷ xs) 0 m
+pub head_mark : (x : TreeNode) (xs : List TreeNode) (m : CubeState) → x.mark ≡ m → HasMark (x ∷ xs) 0 m
 head_mark x xs m e = record { node = x; at = refl; marked = e }
 
-pub tail_mark : (x : TreeNode) (xs : List TreeNode) (k : ℕ) (m : Mark) → HasMark xs k m → HasMark (x ∷ xs) (suc k) m
+pub tail_mark : (x : TreeNode) (xs : List TreeNode) (k : ℕ) (m : CubeState) → HasMark xs k m → HasMark (x ∷ xs) (suc k) m
 tail_mark x xs k m h = record { node = h.node; at = h.at; marked = h.marked }
 
 -- ---- the node that a seat holds

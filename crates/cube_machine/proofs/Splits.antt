@@ -6,7 +6,7 @@ use Rattle.std.proofs.lemmas.List.{length-set}
 use Rattle.pruning_laws.specs.declared.side.Side.TheVariants.{One, Two}
 use Rattle.cube_laws.specs.State.{Node}
 use Rattle.cube_laws.specs.Steps.{is_open, is_held_by, held_from, last_open_from, with_mark, child}
-use Rattle.cube_laws.specs.declared.messages.Mark.{Mark}
+use Rattle.cube_laws.specs.declared.messages.CubeState.{CubeState}
 use Rattle.cube_laws.proofs.Nodes.{none-some, get_same, get_front, found_held, found_open, found_first}
 use Rattle.cube_machine.specs.Ways.{cube_in}
 use Rattle.cube_machine.proofs.Lists.{get_within, get_some}
@@ -21,18 +21,18 @@ last_ready nodes id e =
     ap (λ (o : Option Node). option_map_or (λ (x : Node). is_open x.mark) o false) m.at ∙ m.passes
 
 -- ---- a mark
-length_under : (nodes : List Node) (id : ℕ) (m : Mark) (o : Option Node) → length (option_map_or (λ (x : Node). slice_set nodes id (record x { mark = m })) o nodes) ≡ length nodes
+length_under : (nodes : List Node) (id : ℕ) (m : CubeState) (o : Option Node) → length (option_map_or (λ (x : Node). slice_set nodes id (record x { mark = m })) o nodes) ≡ length nodes
 length_under nodes id m None = refl
 length_under nodes id m (Some x) = length-set nodes id (record x { mark = m })
 
-pub length_marked : (nodes : List Node) (id : ℕ) (m : Mark) → length (with_mark nodes id m) ≡ length nodes
+pub length_marked : (nodes : List Node) (id : ℕ) (m : CubeState) → length (with_mark nodes id m) ≡ length nodes
 length_marked nodes id m = length_under nodes id m (slice_get nodes id)
 
-cube_under : (nodes : List Node) (id : ℕ) (m : Mark) (o : Option Node) → slice_get nodes id ≡ o → cube_in (option_map_or (λ (x : Node). slice_set nodes id (record x { mark = m })) o nodes) id ≡ option_map_or (λ (x : Node). x.cube) o []
+cube_under : (nodes : List Node) (id : ℕ) (m : CubeState) (o : Option Node) → slice_get nodes id ≡ o → cube_in (option_map_or (λ (x : Node). slice_set nodes id (record x { mark = m })) o nodes) id ≡ option_map_or (λ (x : Node). x.cube) o []
 cube_under nodes id m None e = ap (λ (o : Option Node). option_map_or (λ (x : Node). x.cube) o []) e
 cube_under nodes id m (Some x) e = ap (λ (o : Option Node). option_map_or (λ (y : Node). y.cube) o []) (get_same nodes id x (record x { mark = m }) e)
 
-pub cube_marked : (nodes : List Node) (id : ℕ) (m : Mark) → cube_in (with_mark nodes id m) id ≡ cube_in nodes id
+pub cube_marked : (nodes : List Node) (id : ℕ) (m : CubeState) → cube_in (with_mark nodes id m) id ≡ cube_in nodes id
 cube_marked nodes id m = cube_under nodes id m (slice_get nodes id) refl
 
 pub cube_front : (nodes more : List Node) (id : ℕ) → id < length nodes → cube_in (nodes ++ more) id ≡ cube_in nodes id

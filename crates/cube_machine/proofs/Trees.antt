@@ -8,8 +8,8 @@ use Rattle.std.proofs.lemmas.List.{length-set}
 use Rattle.pruning_laws.specs.declared.side.Side.{Side}
 use Rattle.cube_laws.specs.State.{Node}
 use Rattle.cube_laws.specs.Steps.{is_open, is_solved, held_from}
-use Rattle.cube_laws.specs.declared.messages.Mark.{Mark}
-use Rattle.cube_laws.specs.declared.messages.Mark.TheVariants.{Open, Held, Split as Divided, Refuted, Solved as Ended}
+use Rattle.cube_laws.specs.declared.messages.CubeState.{CubeState}
+use Rattle.cube_laws.specs.declared.messages.CubeState.TheVariants.{Open, Held, Split as Divided, Refuted, Solved as Ended}
 use Rattle.cube_laws.proofs.Nodes.{some-inj, none-some, get_same, get_other, get_front}
 use Rattle.cube_machine.specs.Ways.{nodes_of}
 use Rattle.cube_machine.specs.Kept.{HasMark, IsAscending, IsTree, open_from, is_closed}
@@ -21,16 +21,16 @@ use Rattle.cube_machine.proofs.Places.{IsPlace, place_is, opens, open_removed, o
 use Rattle.cube_machine.proofs.Seats.{slot_at}
 
 -- ---- marks
-open_free : (m : Mark) (seat : ℕ) → is_open m ≡ true → m ≡ Held seat → ⊥
+open_free : (m : CubeState) (seat : ℕ) → is_open m ≡ true → m ≡ Held seat → ⊥
 open_free m seat t e = false≢true (sym (ap is_open e) ∙ t)
 
-pub held_shut : (m : Mark) (seat : ℕ) → m ≡ Held seat → is_open m ≡ false
+pub held_shut : (m : CubeState) (seat : ℕ) → m ≡ Held seat → is_open m ≡ false
 held_shut m seat e = ap is_open e
 
-held_going : (m : Mark) (seat : ℕ) → m ≡ Held seat → is_solved m ≡ false
+held_going : (m : CubeState) (seat : ℕ) → m ≡ Held seat → is_solved m ≡ false
 held_going m seat e = ap is_solved e
 
-open_going : (m : Mark) → is_open m ≡ true → is_solved m ≡ false
+open_going : (m : CubeState) → is_open m ≡ true → is_solved m ≡ false
 open_going Open t = refl
 open_going (Held s) t = refl
 open_going (Divided c) t = refl
@@ -40,10 +40,10 @@ open_going Ended t = absurd (false≢true t)
 same_seat : (a b : ℕ) → Held a ≡ Held b → a ≡ b
 same_seat a b e = cc
 
-closed_free : (m : Mark) (seat : ℕ) → is_closed m ≡ true → m ≡ Held seat → ⊥
+closed_free : (m : CubeState) (seat : ℕ) → is_closed m ≡ true → m ≡ Held seat → ⊥
 closed_free m seat t e = false≢true (sym (ap is_closed e) ∙ t)
 
-pub closed_shut : (m : Mark) → is_closed m ≡ true → is_open m ≡ false
+pub closed_shut : (m : CubeState) → is_closed m ≡ true → is_open m ≡ false
 closed_shut Open t = absurd (false≢true t)
 closed_shut (Held s) t = refl
 closed_shut (Divided c) t = refl
@@ -51,7 +51,7 @@ closed_shut Refuted t = refl
 closed_shut Ended t = refl
 
 -- ---- a written mark
-ordered_written : (xs : List TreeNode) → ((k : ℕ) (x : TreeNode) (o : Origin) → slice_get xs k ≡ Some x → x.origin ≡ Some o → o.parent < k) → (id : ℕ) (x : TreeNode) (m : Mark) → slice_get xs id ≡ Some x
+ordered_written : (xs : List TreeNode) → ((k : ℕ) (x : TreeNode) (o : Origin) → slice_get xs k ≡ Some x → x.origin ≡ Some o → o.parent < k) → (id : ℕ) (x : TreeNode) (m : CubeState) → slice_get xs id ≡ Some x
     → (k : ℕ) (y : TreeNode) (o : Origin) → slice_get (slice_set xs id (remark x m)) k ≡ Some y → y.origin ≡ Some o → o.parent < k
 ordered_written xs h id x m at k y o e f = elim (get_written xs id k (remark x m) y e) [
   | inl p ↦ h k x o (ap (slice_get xs) p.0 ∙ at) (sym (ap (λ (n : TreeNode). n.origin) p.1) ∙ f)
@@ -96,7 +96,7 @@ record Freed (xs : List TreeNode) (held : List (Option ℕ)) : Type 0 where
   pub holds : (seat k : ℕ) → slice_get held seat ≡ Some (Some k) → HasMark xs k (Held seat)
   pub slotted : (seat k : ℕ) → HasMark xs k (Held seat) → slice_get held seat ≡ Some (Some k)
 
-freed : (xs : List TreeNode) (numbers : List ℕ) (held : List (Option ℕ)) (solved : Bool) → IsTree xs numbers held solved → (seat id : ℕ) (x : TreeNode) (m : Mark) → slice_get xs id ≡ Some x → slice_get held seat ≡ Some (Some id) → ((s : ℕ) → m ≡ Held s → ⊥)
+freed : (xs : List TreeNode) (numbers : List ℕ) (held : List (Option ℕ)) (solved : Bool) → IsTree xs numbers held solved → (seat id : ℕ) (x : TreeNode) (m : CubeState) → slice_get xs id ≡ Some x → slice_get held seat ≡ Some (Some id) → ((s : ℕ) → m ≡ Held s → ⊥)
     → Freed (slice_set xs id (remark x m)) (slice_set held seat None)
 freed xs numbers held solved t seat id x m at mine none =
     let y = remark x m in
@@ -137,7 +137,7 @@ tree_reopen xs numbers held solved t seat id p x at mine w =
       found = t.found ∙ sym (any_unchanged (λ (n : TreeNode). is_solved n.mark) xs id x y at (held_going x.mark seat own) refl);
     }
 
-pub tree_close : (xs : List TreeNode) (numbers : List ℕ) (held : List (Option ℕ)) (solved : Bool) → IsTree xs numbers held solved → (seat id : ℕ) (x : TreeNode) (m : Mark) → slice_get xs id ≡ Some x → slice_get held seat ≡ Some (Some id) → is_closed m ≡ true → (now : Bool) → now ≡ (solved || is_solved m)
+pub tree_close : (xs : List TreeNode) (numbers : List ℕ) (held : List (Option ℕ)) (solved : Bool) → IsTree xs numbers held solved → (seat id : ℕ) (x : TreeNode) (m : CubeState) → slice_get xs id ≡ Some x → slice_get held seat ≡ Some (Some id) → is_closed m ≡ true → (now : Bool) → now ≡ (solved || is_solved m)
     → IsTree (slice_set xs id (remark x m)) numbers (slice_set held seat None) now
 tree_close xs numbers held solved t seat id x m at mine shut now e =
     let y = remark x m in

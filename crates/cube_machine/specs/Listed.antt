@@ -1,5 +1,6 @@
 -- The edges of all sides by their targets, and tests of edges by them.
-use Rattle.std.specs.Prelude.{◌≡◌, ℕ, ◌==◌, ◌&&◌, ◌||◌, nat_lt, Bool, List, [], ◌∷◌, length, drop, slice_get, slice_index, Vec}
+use Rattle.std.specs.Prelude.{◌≡◌, ℕ, ◌==◌, ◌&&◌, ◌||◌, nat_lt, Bool, List, [], ◌∷◌, length, drop}
+use Rattle.std.specs.Prelude.{slice_get, slice_index, Vec}
 use Rattle.std.specs.Option.{option_map_or}
 use Rattle.std.specs.List.{list_any}
 use Rattle.std.specs.declared.alloc.Global.{Global}
@@ -17,22 +18,27 @@ list_of lists t = option_map_or (λ l. l.items) (slice_get lists t) []
 
 -- whether an edge is listed of one of these sides
 abbrev pub is_listed : Sides → List (Vec SideEdge Global) → Edge → Bool
-is_listed sides lists e = list_any (λ x. (x.source == e.0) && sides x.choice x.side) (list_of lists e.1)
+is_listed sides lists e = list_any (λ x. (x.source == e.0) && sides x.choice x.side)
+    (list_of lists e.1)
 
 pub record AreEmpty (lists : List (Vec SideEdge Global)) : Type 0 where
   pub each : (t : ℕ) → list_of lists t ≡ []
 
 -- the list of a node has an entry more
 pub record AddsEntry (t : ℕ) (x : SideEdge) (old new : List (Vec SideEdge Global)) : Type 0 where
-  pub each : (sides : Sides) (e : Edge) → is_listed sides new e ≡ (is_listed sides old e || ((t == e.1) && ((x.source == e.0) && sides x.choice x.side)))
+  pub each : (sides : Sides) (e : Edge) → is_listed sides new e
+      ≡ (is_listed sides old e || ((t == e.1) && ((x.source == e.0) && sides x.choice x.side)))
 
 -- these edges of a side of a choice are listed
-pub record AddsSide (c : ℕ) (side : Side) (edges : List Edge) (old new : List (Vec SideEdge Global)) : Type 0 where
-  pub each : (sides : Sides) (e : Edge) → is_listed sides new e ≡ (is_listed sides old e || (sides c side && has_edge edges e))
+pub record AddsSide (c : ℕ) (side : Side) (edges : List Edge)
+    (old new : List (Vec SideEdge Global)) : Type 0 where
+  pub each : (sides : Sides) (e : Edge) → is_listed sides new e
+      ≡ (is_listed sides old e || (sides c side && has_edge edges e))
 
 -- the edges of all sides are listed, and no others
 pub record HasSides (choices : List Choice) (lists : List (Vec SideEdge Global)) : Type 0 where
-  pub each : (sides : Sides) (e : Edge) → is_listed sides lists e ≡ has_edge (kept_from sides 0 choices) e
+  pub each : (sides : Sides) (e : Edge) → is_listed sides lists e ≡ has_edge
+      (kept_from sides 0 choices) e
 
 -- whether an edge is known, or listed of a flagged side
 abbrev pub is_among : List Edge → List (Vec SideEdge Global) → List SideFlags → Edge → Bool
@@ -43,6 +49,8 @@ abbrev pub leads_by : (Edge → Bool) → ℕ → List ℕ → ℕ → Bool
 leads_by t u [] v = u == v
 leads_by t u (w ∷ ws) v = t (u, w) && leads_by t w ws v
 
--- whether these are the nodes of a walk of at least one step that ends where it begins, each step of which passes
+-- whether these are the nodes of a walk of at least one step that ends where it begins, each step
+-- of which passes
 abbrev pub is_cycle_by : (Edge → Bool) → List ℕ → Bool
-is_cycle_by t line = nat_lt 1 (length line) && leads_by t (slice_index line 0) (drop 1 line) (slice_index line 0)
+is_cycle_by t line = nat_lt 1 (length line) && leads_by t (slice_index line 0) (drop 1 line)
+    (slice_index line 0)

@@ -19,7 +19,8 @@ pub record AreOnce (nodes : List Node) : Type 0 where
 -- of each choice that has a place, for which sides the cube of the node decides it
 pub record IsNoted (nodes : List Node) (d : Decided) : Type 0 where
   pub within : d.node < length nodes
-  pub each : (c : ℕ) (side : Side) → c < length d.flags.items → flag_at d.flags.items c side ≡ is_odd (cube_in nodes d.node) c side
+  pub each : (c : ℕ) (side : Side) → c < length d.flags.items
+      → flag_at d.flags.items c side ≡ is_odd (cube_in nodes d.node) c side
 
 -- each of them, and each has a place for so many choices
 pub record AreNoted (nodes : List Node) (count : ℕ) (table : List Decided) : Type 0 where

@@ -1,5 +1,6 @@
 -- Cubes as the ways up a tree.
-use Rattle.std.specs.Prelude.{◌≡◌, ℕ, ◌<◌, List, [], ◌∷◌, ◌++◌, Option, None, Some, slice_get, slice_index_or}
+use Rattle.std.specs.Prelude.{◌≡◌, ℕ, ◌<◌, List, [], ◌∷◌, ◌++◌, Option, None, Some, slice_get}
+use Rattle.std.specs.Prelude.{slice_index_or}
 use Rattle.std.specs.Option.{option_map_or}
 use Rattle.cube_laws.specs.Cubes.{Cube}
 use Rattle.cube_laws.specs.State.{Node}
@@ -24,7 +25,8 @@ parent_of (Some o) = o.parent
 unfoldable pub nodes_with : List Cube → List TreeNode → List Node
 nodes_with cubes [] = []
 nodes_with [] (x ∷ xs) = []
-nodes_with (c ∷ cs) (x ∷ xs) = record { parent = parent_of x.origin; cube = c; mark = x.mark } ∷ nodes_with cs xs
+nodes_with (c ∷ cs) (x ∷ xs) = record { parent = parent_of x.origin; cube = c; mark = x.mark }
+    ∷ nodes_with cs xs
 
 -- the nodes that are kept so
 unfoldable pub nodes_of : List TreeNode → List Node

@@ -1,6 +1,7 @@
 //! What cubes decide.
 
-ghost use Rattle.std.specs.Prelude.{◌≡◌, ℕ, ◌<◌, ◌==◌, ◌||◌, ◌&&◌, false, IfOk, length, replicate, slice_get};
+ghost use Rattle.std.specs.Prelude.{◌≡◌, ℕ, ◌<◌, ◌==◌, ◌||◌, ◌&&◌, false, IfOk, length, replicate};
+ghost use Rattle.std.specs.Prelude.{slice_get};
 ghost use Rattle.std.specs.List.{list_all};
 ghost use Rattle.pruning_laws.specs.declared.side.Side.{Side};
 ghost use Rattle.pruning_laws.specs.Ledger.{same_side};
@@ -21,7 +22,7 @@ pub struct SideFlags {
 }
 
 impl SideFlags {
-    // Neither side.
+    /// Neither side.
     const NONE: SideFlags = SideFlags {
         one: false,
         two: false,
@@ -37,16 +38,17 @@ impl SideFlags {
         }
     }
 
-    // Whether the choice is decided.
+    /// Whether the choice is decided.
     fn any(self) -> bool
         ensures any { result ≡ (self.one || self.two) }
     {
         self.one || self.two
     }
 
-    // The same with the flag of a side turned over.
+    /// The same with the flag of a side turned over.
     fn turned(self, side: Side) -> SideFlags
-        ensures turned { (s : Side) → flag_of result s ≡ either (same_side side s) (flag_of self s) }
+        ensures turned { (s : Side) → flag_of result s ≡ either (same_side side s)
+            (flag_of self s) }
     {
         match side {
             Side::One => SideFlags {
@@ -61,8 +63,8 @@ impl SideFlags {
     }
 }
 
-/// Of each choice for which sides the cube of one node decides it. The node is the one of which a seat asked
-/// last: as a rule the next one is near to it in the tree, and so are the two cubes.
+/// Of each choice for which sides the cube of one node decides it. The node is the one of which a
+/// seat asked last: as a rule the next one is near to it in the tree, and so are the two cubes.
 #[derive(Drop)]
 pub struct Decided {
     pub node: usize,
@@ -73,7 +75,8 @@ impl Decided {
     /// Node 0, whose cube decides none of so many choices.
     pub fn none(alloc: Global, count: usize) -> Result<Decided, AllocError>
         ensures node { IfOk result (λ decided. decided.node ≡ 0) }
-        ensures flags { IfOk result (λ decided. (c : ℕ) (side : Side) → flag_at decided.flags.items c side ≡ false) }
+        ensures flags { IfOk result (λ decided. (c : ℕ) (side : Side)
+            → flag_at decided.flags.items c side ≡ false) }
         ensures count { IfOk result (λ decided. length decided.flags.items ≡ count) }
     {
         Ok(Decided {
@@ -82,8 +85,8 @@ impl Decided {
         })
     }
 
-    /// Notes what the cube of a node decides: what one of the two cubes decides and the other does not is met
-    /// on the ways up from both nodes, to where these meet. It takes no memory.
+    /// Notes what the cube of a node decides: what one of the two cubes decides and the other does
+    /// not is met on the ways up from both nodes, to where these meet. It takes no memory.
     pub fn go_to(&mut self, tree: &Tree, id: usize)
         requires noted { IsNoted tree.now.nodes self.old }
         requires within { id < length tree.now.nodes }
@@ -111,7 +114,7 @@ impl Decided {
     }
 }
 
-// Turns over the flags of what one of the cubes of two nodes decides and the other does not.
+/// Turns over the flags of what one of the cubes of two nodes decides and the other does not.
 fn turn_between(flags: &mut [SideFlags], tree: &Tree, first: usize, second: usize)
     requires first { first < length tree.now.nodes }
     requires second { second < length tree.now.nodes }
@@ -131,8 +134,8 @@ fn turn_between(flags: &mut [SideFlags], tree: &Tree, first: usize, second: usiz
     }
 }
 
-// Turns over the flag of the decision by which a node was led to, and answers its parent; node 0 where it has
-// none.
+/// Turns over the flag of the decision by which a node was led to, and answers its parent; node 0
+/// where it has none.
 fn go_up(flags: &mut [SideFlags], tree: &Tree, at: usize) -> usize
     requires within { at < length tree.now.nodes }
     ensures up { 0 < at → result < at }
@@ -151,7 +154,7 @@ fn go_up(flags: &mut [SideFlags], tree: &Tree, at: usize) -> usize
     }
 }
 
-// Turns over the flag of a side of a choice, where there is such a choice.
+/// Turns over the flag of a side of a choice, where there is such a choice.
 fn turn(flags: &mut [SideFlags], choice: ChoiceIx, side: Side)
     ensures count { length flags.new ≡ length flags.old }
     ensures each { (c : ℕ) (s : Side) → c < length flags.old →

@@ -1,12 +1,18 @@
 //! The machine of the search.
 
-ghost use Rattle.std.specs.Prelude.{◌≡◌, ℕ, ◌+◌, ◌<◌, ◌≤◌, ◌^◌, true, false, ◌∷◌, [], length, slice_get, Some, IfOk};
+ghost use Rattle.std.specs.Prelude.{◌≡◌, ℕ, ◌+◌, ◌<◌, ◌≤◌, ◌^◌, true, false, ◌∷◌, [], length};
+ghost use Rattle.std.specs.Prelude.{slice_get, Some, IfOk};
 ghost use Rattle.std.specs.Option.{option_map};
 ghost use Rattle.cube_laws.specs.State.{opening_state, root};
-ghost use Rattle.cube_laws.specs.Steps.{has_solved, is_finished, is_exhausted, node_held, last_open, claim_reply, any_reply, split_reply, refute_reply, solve_reply, claimed, taken, held_where, split_where, refuted_where, solved_where, opened_at, can_split, cube_at, is_cycle, decides_all, is_solution, waits_of};
+ghost use Rattle.cube_laws.specs.Steps.{has_solved, is_finished, is_exhausted, node_held};
+ghost use Rattle.cube_laws.specs.Steps.{last_open, claim_reply, any_reply, split_reply};
+ghost use Rattle.cube_laws.specs.Steps.{refute_reply, solve_reply, claimed, taken, held_where};
+ghost use Rattle.cube_laws.specs.Steps.{split_where, refuted_where, solved_where, opened_at};
+ghost use Rattle.cube_laws.specs.Steps.{can_split, cube_at, is_cycle, decides_all, is_solution};
+ghost use Rattle.cube_laws.specs.Steps.{waits_of};
 ghost use Rattle.cube_laws.specs.Cubes.{edges_under};
-ghost use Rattle.cube_laws.specs.declared.messages.Event.TheVariants.{TakeAny};
-ghost use Rattle.cube_laws.specs.declared.messages.Reply.TheVariants.{Released};
+ghost use Rattle.cube_laws.specs.declared.messages.CubeEvent.TheVariants.{TakeAny};
+ghost use Rattle.cube_laws.specs.declared.messages.CubeReply.TheVariants.{Released};
 ghost use Rattle.cube_machine.specs.Growth.{most_nodes};
 ghost use Rattle.cube_machine.specs.Ways.{IsWay};
 ghost use Rattle.cube_machine.specs.Noted.{AreNoted};
@@ -15,11 +21,11 @@ use crate::budget::Budget;
 use crate::decided::Decided;
 use crate::order::fits_graph;
 use crate::origin::Origin;
-use crate::row::Row;
+use crate::row::OriginRow;
 use crate::side_edges::{SideEdge, is_cycle, side_edges};
 use crate::sides::fill;
 use crate::tree::{SEAT_SLOTS, Tree};
-use cube_laws::{Mark, Reply};
+use cube_laws::{CubeReply, CubeState};
 use desk::seat_no::SeatNo;
 use known_graph::Known;
 use polygraph::{ChoiceIx, Polygraph};
@@ -28,12 +34,12 @@ use serializability::NodeIx;
 use std::alloc::{AllocError, Global};
 use std::marker::Model;
 
-/// The machine of the search. Contracts see the polygraph, the nodes of the tree with their cubes, how
-/// many of them are closed, and the budget.
+/// The machine of the search. Contracts see the polygraph, the nodes of the tree with their cubes,
+/// how many of them are closed, and the budget.
 #[derive(Drop)]
 pub struct CubeMachine<'a> {
     polygraph: &'a Polygraph,
-    row: &'a Row,
+    row: &'a OriginRow,
     tree: Tree,
     closed: usize,
     budget: Budget,
@@ -51,9 +57,16 @@ impl<'a> Model for CubeMachine<'a> {
 
     ghost Value = { State };
 
-    ghost view = { λ m. record { polygraph = m.polygraph.now; nodes = m.tree.nodes; closed = m.closed; budget = m.budget } };
+    ghost view = { λ m. record {
+      polygraph = m.polygraph.now;
+      nodes = m.tree.nodes;
+      closed
+          = m.closed;
+      budget = m.budget;
+    } };
 
-    ghost invariant = { λ m. IsMachine m.polygraph.now m.tree m.closed m.budget m.graph m.sides.items m.decided.items };
+    ghost invariant = { λ m. IsMachine m.polygraph.now m.tree m.closed m.budget m.graph
+        m.sides.items m.decided.items };
 }
 
 impl<'a> CubeMachine<'a> {
@@ -64,7 +77,7 @@ impl<'a> CubeMachine<'a> {
         alloc: Global,
         polygraph: &'a Polygraph,
         budget: Budget,
-        row: &'a Row,
+        row: &'a OriginRow,
     ) -> Result<CubeMachine<'a>, AllocError>
         requires row { most_nodes budget ≤ row.now }
         ensures opening { IfOk result (λ m. m ≡ opening_state polygraph.now budget) }
@@ -122,70 +135,73 @@ impl<'a> CubeMachine<'a> {
     }
 
     /// What is noted of a node.
-    pub fn mark(&self, id: usize) -> Mark
+    pub fn mark(&self, id: usize) -> CubeState
         requires within { id < length self.now.nodes }
         ensures mark { option_map (λ x. x.mark) (slice_get self.now.nodes id) ≡ Some result }
     {
         self.tree.mark(id)
     }
 
-    /// Whether the search is finished: a node is solved, the budget is spent, or no node is open or held.
+    /// Whether the search is finished: a node is solved, the budget is spent, or no node is open or
+    /// held.
     pub fn is_finished(&self) -> bool
         ensures finished { result ≡ is_finished self.now }
     {
         self.tree.has_solved() || self.closed == self.budget.get() || !self.tree.has_live()
     }
 
-    // The cube of this node, from now on held.
-    pub(crate) fn claim(&mut self, seat: SeatNo, id: usize) -> Reply
+    /// The cube of this node, from now on held.
+    pub(crate) fn claim(&mut self, seat: SeatNo, id: usize) -> CubeReply
         ensures reply { result ≡ claim_reply self.old id (node_held self.old seat) }
-        ensures state { self.new ≡ held_where self.old seat (claimed self.old id (node_held self.old seat)) }
+        ensures state { self.new ≡ held_where self.old seat
+            (claimed self.old id (node_held self.old seat)) }
     {
         if self.tree.held(seat).is_some() {
-            return Reply::HasCube;
+            return CubeReply::HasCube;
         }
         if !self.tree.is_open(id) {
-            return Reply::NotOpen;
+            return CubeReply::NotOpen;
         }
         self.tree.hold(seat, id);
-        Reply::Cube(id)
+        CubeReply::Cube(id)
     }
 
-    // The open cube of greatest number, from now on held.
-    pub(crate) fn take_any(&mut self, seat: SeatNo) -> Reply
+    /// The open cube of greatest number, from now on held.
+    pub(crate) fn take_any(&mut self, seat: SeatNo) -> CubeReply
         ensures reply { result ≡ any_reply (node_held self.old seat) (last_open self.old) }
-        ensures state { self.new ≡ held_where self.old seat (taken (node_held self.old seat) (last_open self.old)) }
+        ensures state { self.new ≡ held_where self.old seat
+            (taken (node_held self.old seat) (last_open self.old)) }
     {
         if self.tree.held(seat).is_some() {
-            return Reply::HasCube;
+            return CubeReply::HasCube;
         }
         let Some(id) = self.tree.last_open() else {
-            return Reply::NoneNow;
+            return CubeReply::NoneNow;
         };
         self.tree.hold(seat, id);
-        Reply::Cube(id)
+        CubeReply::Cube(id)
     }
 
-    // Splits the cube that the seat holds.
-    pub(crate) fn split(&mut self, seat: SeatNo, choice: ChoiceIx) -> Reply
+    /// Splits the cube that the seat holds.
+    pub(crate) fn split(&mut self, seat: SeatNo, choice: ChoiceIx) -> CubeReply
         requires going { is_finished self.old ≡ false }
         ensures reply { result ≡ split_reply self.old choice (node_held self.old seat) }
         ensures state { self.new ≡ split_where self.old choice (node_held self.old seat) }
     {
         let Some(id) = self.tree.held(seat) else {
-            return Reply::NoCube;
+            return CubeReply::NoCube;
         };
         if !self.can_split(seat, id, choice) {
-            return Reply::BadChoice;
+            return CubeReply::BadChoice;
         }
         let first = self.tree.len();
         self.tree.split(seat, id, choice);
         self.closed += 1;
         note_children(self.row, id, choice, first);
-        Reply::Children(first, first + 1)
+        CubeReply::Children(first, first + 1)
     }
 
-    // Whether there is such a choice, and the cube of a node that the seat holds leaves it open.
+    /// Whether there is such a choice, and the cube of a node that the seat holds leaves it open.
     fn can_split(&mut self, seat: SeatNo, id: usize, choice: ChoiceIx) -> bool
         requires within { id < length self.old.nodes }
         ensures split { result ≡ can_split self.old (cube_at self.old id) choice }
@@ -200,27 +216,29 @@ impl<'a> CubeMachine<'a> {
         !decided.decides(number)
     }
 
-    // Refutes the cube that the seat holds.
-    pub(crate) fn refute(&mut self, seat: SeatNo, line: &[NodeIx]) -> Reply
+    /// Refutes the cube that the seat holds.
+    pub(crate) fn refute(&mut self, seat: SeatNo, line: &[NodeIx]) -> CubeReply
         requires going { is_finished self.old ≡ false }
         ensures reply { result ≡ refute_reply self.old line.now (node_held self.old seat) }
         ensures state { self.new ≡ refuted_where self.old line.now (node_held self.old seat) }
     {
         let Some(id) = self.tree.held(seat) else {
-            return Reply::NoCube;
+            return CubeReply::NoCube;
         };
         if !self.is_cycle_at(seat, id, line) {
-            return Reply::BadCycle;
+            return CubeReply::BadCycle;
         }
-        self.tree.close(seat, id, Mark::Refuted);
+        self.tree.close(seat, id, CubeState::Refuted);
         self.closed += 1;
-        Reply::Closed
+        CubeReply::Closed
     }
 
-    // Whether these are the nodes of a cycle in the edges of the cube of a node that the seat holds.
+    /// Whether these are the nodes of a cycle in the edges of the cube of a node that the seat
+    /// holds.
     fn is_cycle_at(&mut self, seat: SeatNo, id: usize, line: &[NodeIx]) -> bool
         requires within { id < length self.old.nodes }
-        ensures cycle { result ≡ is_cycle (edges_under self.old.polygraph (cube_at self.old id)) line.now }
+        ensures cycle { result ≡ is_cycle (edges_under self.old.polygraph (cube_at self.old id))
+            line.now }
         ensures same { self.new ≡ self.old }
     {
         let decided = &mut self.decided[usize::from(seat.get())];
@@ -228,25 +246,25 @@ impl<'a> CubeMachine<'a> {
         is_cycle(self.polygraph.known(), &self.sides, &decided.flags, line)
     }
 
-    // Solves the cube that the seat holds.
-    pub(crate) fn solve(&mut self, seat: SeatNo, order: &[NodeIx]) -> Reply
+    /// Solves the cube that the seat holds.
+    pub(crate) fn solve(&mut self, seat: SeatNo, order: &[NodeIx]) -> CubeReply
         requires going { is_finished self.old ≡ false }
         ensures reply { result ≡ solve_reply self.old order.now (node_held self.old seat) }
         ensures state { self.new ≡ solved_where self.old order.now (node_held self.old seat) }
     {
         let Some(id) = self.tree.held(seat) else {
-            return Reply::NoCube;
+            return CubeReply::NoCube;
         };
         if !self.is_solution_at(seat, id, order) {
-            return Reply::BadOrder;
+            return CubeReply::BadOrder;
         }
-        self.tree.close(seat, id, Mark::Solved);
+        self.tree.close(seat, id, CubeState::Solved);
         self.closed += 1;
-        Reply::Solved
+        CubeReply::Solved
     }
 
-    // Whether the cube of a node that the seat holds leaves no choice open, and the order lists the nodes once
-    // and keeps its edges.
+    /// Whether the cube of a node that the seat holds leaves no choice open, and the order lists
+    /// the nodes once and keeps its edges.
     fn is_solution_at(&mut self, seat: SeatNo, id: usize, order: &[NodeIx]) -> bool
         requires within { id < length self.old.nodes }
         ensures solution { result ≡ is_solution self.old.polygraph (cube_at self.old id) order.now }
@@ -259,7 +277,7 @@ impl<'a> CubeMachine<'a> {
         fits_graph(&self.graph, order)
     }
 
-    // Whether the cube of a node that the seat holds leaves no choice open.
+    /// Whether the cube of a node that the seat holds leaves no choice open.
     fn decides_all(&mut self, seat: SeatNo, id: usize) -> bool
         requires within { id < length self.old.nodes }
         ensures all { result ≡ decides_all self.old.polygraph (cube_at self.old id) }
@@ -270,18 +288,18 @@ impl<'a> CubeMachine<'a> {
         decided.all()
     }
 
-    // Opens the node that the seat holds, if any.
-    pub(crate) fn release(&mut self, seat: SeatNo) -> Reply
+    /// Opens the node that the seat holds, if any.
+    pub(crate) fn release(&mut self, seat: SeatNo) -> CubeReply
         ensures reply { result ≡ Released }
         ensures state { self.new ≡ opened_at self.old (node_held self.old seat) }
     {
         if let Some(id) = self.tree.held(seat) {
             self.tree.reopen(seat, id);
         }
-        Reply::Released
+        CubeReply::Released
     }
 
-    // Whether a request for any cube waits.
+    /// Whether a request for any cube waits.
     #[tactic(auto, unfolding(cube_laws::specs::Steps::waits_of))]
     pub(crate) fn waits_for_any(&self, seat: SeatNo) -> bool
         ensures { result ≡ waits_of self.now seat TakeAny }
@@ -299,7 +317,7 @@ impl<'a> CubeMachine<'a> {
     }
 }
 
-// Of each number of a seat that node 0 decides none of so many choices.
+/// Of each number of a seat that node 0 decides none of so many choices.
 fn decided_of_seats(alloc: Global, count: usize) -> Result<Vec<Decided>, AllocError>
     ensures seats { IfOk result (λ table. length table.items ≡ 17) }
     ensures noted { IfOk result (λ table. AreNoted (root ∷ []) count table.items) }
@@ -311,8 +329,8 @@ fn decided_of_seats(alloc: Global, count: usize) -> Result<Vec<Decided>, AllocEr
     Ok(table)
 }
 
-// Notes how both children of a node were led to.
-fn note_children(row: &Row, parent: usize, choice: ChoiceIx, first: usize)
+/// Notes how both children of a node were led to.
+fn note_children(row: &OriginRow, parent: usize, choice: ChoiceIx, first: usize)
     requires few { first + 1 < 2 ^ 64 }
 {
     row.note(

@@ -1,7 +1,7 @@
 //! The machine's rules.
 
 use crate::machine::CubeMachine;
-use cube_laws::{Event, Reply};
+use cube_laws::{CubeEvent, CubeReply};
 use desk::machine::Machine;
 use desk::seat_no::SeatNo;
 
@@ -9,9 +9,9 @@ impl<'a> Machine for CubeMachine<'a> {
     ghost use Rattle.std.specs.Prelude.{ℕ, ⊤};
     ghost use Rattle.cube_laws.specs.Steps.{next_of, reply_of, waits_of};
 
-    type Event = Event;
+    type Event = CubeEvent;
 
-    type Reply = Reply;
+    type Reply = CubeReply;
 
     ghost next = { next_of };
 
@@ -24,56 +24,56 @@ impl<'a> Machine for CubeMachine<'a> {
     ghost keeps = { λ s seat e v. tt };
 
     #[tactic(auto, unfolding(cube_laws::specs::Steps::next_of, cube_laws::specs::Steps::reply_of))]
-    fn step(&mut self, seat: SeatNo, event: &Event) -> Reply {
+    fn step(&mut self, seat: SeatNo, event: &CubeEvent) -> CubeReply {
         match event {
-            Event::Claim(id) => {
+            CubeEvent::Claim(id) => {
                 if self.is_finished() {
-                    Reply::Finished
+                    CubeReply::Finished
                 } else {
                     self.claim(seat, *id)
                 }
             }
-            Event::TakeAny => {
+            CubeEvent::TakeAny => {
                 if self.is_finished() {
-                    Reply::Finished
+                    CubeReply::Finished
                 } else {
                     self.take_any(seat)
                 }
             }
-            Event::Split(choice) => {
+            CubeEvent::Split(choice) => {
                 if self.is_finished() {
-                    Reply::Finished
+                    CubeReply::Finished
                 } else {
                     self.split(seat, *choice)
                 }
             }
-            Event::Refute(line) => {
+            CubeEvent::Refute(line) => {
                 if self.is_finished() {
-                    Reply::Finished
+                    CubeReply::Finished
                 } else {
                     self.refute(seat, line.nodes())
                 }
             }
-            Event::Solve(order) => {
+            CubeEvent::Solve(order) => {
                 if self.is_finished() {
-                    Reply::Finished
+                    CubeReply::Finished
                 } else {
                     self.solve(seat, order.nodes())
                 }
             }
-            Event::Release => self.release(seat),
+            CubeEvent::Release => self.release(seat),
         }
     }
 
     #[tactic(auto, unfolding(cube_laws::specs::Steps::waits_of))]
-    fn waits(&self, seat: SeatNo, event: &Event) -> bool {
+    fn waits(&self, seat: SeatNo, event: &CubeEvent) -> bool {
         match event {
-            Event::TakeAny => self.waits_for_any(seat),
-            Event::Claim(_)
-            | Event::Split(_)
-            | Event::Refute(_)
-            | Event::Solve(_)
-            | Event::Release => false,
+            CubeEvent::TakeAny => self.waits_for_any(seat),
+            CubeEvent::Claim(_)
+            | CubeEvent::Split(_)
+            | CubeEvent::Refute(_)
+            | CubeEvent::Solve(_)
+            | CubeEvent::Release => false,
         }
     }
 }

@@ -3,7 +3,8 @@
 ghost use Rattle.std.specs.Prelude.{◌≡◌, ℕ, ◌+◌, ◌<◌, ◌==◌, ◌&&◌, length, IfOk, OnOk};
 ghost use Rattle.std.specs.List.{AllByRecursion, list_any};
 ghost use Rattle.cube_machine.specs.Flags.{flag_at};
-ghost use Rattle.cube_machine.specs.Listed.{HasSides, AddsSide, AddsEntry, AreEmpty, is_among, leads_by, is_cycle_by};
+ghost use Rattle.cube_machine.specs.Listed.{HasSides, AddsSide, AddsEntry, AreEmpty, is_among};
+ghost use Rattle.cube_machine.specs.Listed.{leads_by, is_cycle_by};
 ghost use Rattle.polygraph.specs.declared.index.TheConstants.{MAX_CHOICES};
 
 use crate::decided::{SideFlags, is_flagged_for};
@@ -37,7 +38,7 @@ pub fn side_edges(alloc: Global, polygraph: &Polygraph) -> Result<Vec<Vec<SideEd
     Ok(lists)
 }
 
-// The choice with this number.
+/// The choice with this number.
 fn choice_of(number: usize) -> ChoiceIx
     requires few { number < MAX_CHOICES }
     ensures number { result ≡ number }
@@ -45,7 +46,7 @@ fn choice_of(number: usize) -> ChoiceIx
     ChoiceIx::new(number).unwrap()
 }
 
-// So many lists, which are empty.
+/// So many lists, which are empty.
 fn empty_lists(alloc: Global, count: usize) -> Result<Vec<Vec<SideEdge>>, AllocError>
     ensures count { IfOk result (λ lists. length lists.items ≡ count) }
     ensures empty { IfOk result (λ lists. AreEmpty lists.items) }
@@ -57,7 +58,7 @@ fn empty_lists(alloc: Global, count: usize) -> Result<Vec<Vec<SideEdge>>, AllocE
     Ok(lists)
 }
 
-// Adds the edges of a side of a choice.
+/// Adds the edges of a side of a choice.
 fn add_side(
     lists: &mut [Vec<SideEdge>],
     choice: ChoiceIx,
@@ -80,7 +81,7 @@ fn add_side(
     Ok(())
 }
 
-// Adds an edge to the list of its target.
+/// Adds an edge to the list of its target.
 fn push_to(lists: &mut [Vec<SideEdge>], target: NodeIx, entry: SideEdge) -> Result<(), AllocError>
     requires within { target < length lists.old }
     ensures len { length lists.new ≡ length lists.old }
@@ -91,8 +92,8 @@ fn push_to(lists: &mut [Vec<SideEdge>], target: NodeIx, entry: SideEdge) -> Resu
     Ok(())
 }
 
-/// Whether these are the nodes of a cycle, its first node repeated last, by the known edges and by those of
-/// the flagged sides.
+/// Whether these are the nodes of a cycle, its first node repeated last, by the known edges and by
+/// those of the flagged sides.
 pub fn is_cycle(
     known: &Known,
     lists: &[Vec<SideEdge>],
@@ -104,7 +105,7 @@ pub fn is_cycle(
     1 < line.len() && leads(known, lists, flags, line[0], &line[1..], line[0])
 }
 
-// Whether each step from a node on along these is one of the edges, and the last one is the end.
+/// Whether each step from a node on along these is one of the edges, and the last one is the end.
 fn leads(
     known: &Known,
     lists: &[Vec<SideEdge>],
@@ -113,7 +114,8 @@ fn leads(
     steps: &[NodeIx],
     to: NodeIx,
 ) -> bool
-    ensures leads { result ≡ leads_by (is_among known.now.edges lists.now flags.now) from steps.now to }
+    ensures leads { result ≡ leads_by (is_among known.now.edges lists.now flags.now) from steps.now
+        to }
 {
     let mut at = from;
     for &node in steps {
@@ -125,7 +127,7 @@ fn leads(
     at.get() == to.get()
 }
 
-// Whether an edge is known, or one of a flagged side.
+/// Whether an edge is known, or one of a flagged side.
 fn is_among(
     known: &Known,
     lists: &[Vec<SideEdge>],
@@ -144,7 +146,7 @@ fn is_among(
     }
 }
 
-// Whether one of these edges has this source and a flagged side.
+/// Whether one of these edges has this source and a flagged side.
 fn leads_from(list: &[SideEdge], flags: &[SideFlags], source: NodeIx) -> bool
     ensures leads { result
         ≡ list_any (λ x. (x.source == source) && flag_at flags.now x.choice x.side) list.now }

@@ -1,18 +1,22 @@
 //! The tree of cubes.
 
-ghost use Rattle.std.specs.Prelude.{◌≡◌, ℕ, ◌+◌, ◌<◌, ◌≤◌, ◌&&◌, ◌||◌, Bool, true, false, not, List, [], ◌∷◌, ◌++◌, length, slice_get, slice_index, Option, Some, None, IfOk, MatchOption, is_some};
+ghost use Rattle.std.specs.Prelude.{◌≡◌, ℕ, ◌+◌, ◌<◌, ◌≤◌, ◌&&◌, ◌||◌, Bool, true, false, not};
+ghost use Rattle.std.specs.Prelude.{List, [], ◌∷◌, ◌++◌, length, slice_get, slice_index, Option};
+ghost use Rattle.std.specs.Prelude.{Some, None, IfOk, MatchOption, is_some};
 ghost use Rattle.std.specs.Option.{option_map, option_map_or};
 ghost use Rattle.std.specs.List.{list_any};
 ghost use Rattle.cube_laws.specs.State.{root};
-ghost use Rattle.cube_laws.specs.Steps.{is_open, is_solved, is_held, held_from, last_open_from, has_solved, has_live, with_mark, child};
-ghost use Rattle.cube_laws.specs.declared.messages.Mark.TheVariants.{Open, Held, Split as Divided};
+ghost use Rattle.cube_laws.specs.Steps.{is_open, is_solved, is_held, held_from, last_open_from};
+ghost use Rattle.cube_laws.specs.Steps.{has_solved, has_live, with_mark, child};
+ghost use Rattle.cube_laws.specs.declared.messages.CubeState.TheVariants.{Open, Held};
+ghost use Rattle.cube_laws.specs.declared.messages.CubeState.TheVariants.{Split as Divided};
 ghost use Rattle.pruning_laws.specs.declared.side.Side.TheVariants.{One, Two};
 ghost use Rattle.cube_machine.specs.Ways.{cube_in, IsWay};
 ghost use Rattle.cube_machine.specs.Kept.{IsAscending, is_closed};
 
 use crate::node::TreeNode;
 use crate::origin::Origin;
-use cube_laws::Mark;
+use cube_laws::CubeState;
 use desk::seat_no::SeatNo;
 use polygraph::ChoiceIx;
 use pruning_laws::Side;
@@ -22,8 +26,8 @@ use std::marker::Model;
 /// One slot for each number of a seat, 1 to 16; the first one, number 0, stays empty.
 pub const SEAT_SLOTS: usize = 17;
 
-/// The nodes of the tree, by their numbers. Contracts see the nodes with their cubes, and for how many
-/// there is room.
+/// The nodes of the tree, by their numbers. Contracts see the nodes with their cubes, and for how
+/// many there is room.
 #[derive(Drop)]
 pub struct Tree {
     nodes: Vec<TreeNode>,
@@ -49,12 +53,13 @@ impl Model for Tree {
         × (vec_capacity t.nodes ≤ vec_capacity t.open_nodes) };
 }
 
-// The place in an ascending list that a number has, or would have.
+/// The place in an ascending list that a number has, or would have.
 fn place_of(numbers: &[usize], number: usize) -> usize
     requires ascending { IsAscending numbers.now }
     ensures within { result ≤ length numbers.now }
     ensures below { (k : ℕ) → k < result → slice_index numbers.now k < number }
-    ensures above { (k : ℕ) → result ≤ k → k < length numbers.now → number ≤ slice_index numbers.now k }
+    ensures above { (k : ℕ) → result ≤ k → k < length numbers.now
+        → number ≤ slice_index numbers.now k }
 {
     let mut place = numbers.len();
     while place > 0 && numbers[place - 1] >= number {
@@ -74,7 +79,7 @@ impl Tree {
         let mut open_nodes = Vec::with_capacity(alloc, room)?;
         nodes.push_reserved(TreeNode {
             origin: None,
-            mark: Mark::Open,
+            mark: CubeState::Open,
         });
         open_nodes.push_reserved(0);
         Ok(Tree {
@@ -102,7 +107,7 @@ impl Tree {
     }
 
     /// What is noted of a node.
-    pub fn mark(&self, id: usize) -> Mark
+    pub fn mark(&self, id: usize) -> CubeState
         requires within { id < length self.now.nodes }
         ensures mark { option_map (λ x. x.mark) (slice_get self.now.nodes id) ≡ Some result }
     {
@@ -111,7 +116,8 @@ impl Tree {
 
     /// Whether there is such an open node.
     pub fn is_open(&self, id: usize) -> bool
-        ensures test { result ≡ option_map_or (λ x. is_open x.mark) (slice_get self.now.nodes id) false }
+        ensures test { result ≡ option_map_or (λ x. is_open x.mark)
+            (slice_get self.now.nodes id) false }
     {
         match self.nodes.get(id) {
             Some(node) => is_open(node.mark),
@@ -156,13 +162,14 @@ impl Tree {
 
     /// Gives an open node to a seat that holds none.
     pub fn hold(&mut self, seat: SeatNo, id: usize)
-        requires ready { option_map_or (λ x. is_open x.mark) (slice_get self.old.nodes id) false ≡ true }
+        requires ready { option_map_or (λ x. is_open x.mark)
+            (slice_get self.old.nodes id) false ≡ true }
         requires free { held_from seat 0 self.old.nodes ≡ None }
         ensures nodes { self.new.nodes ≡ with_mark self.old.nodes id (Held seat) }
         ensures room { self.new.room ≡ self.old.room }
     {
         let slot = usize::from(seat.get());
-        self.nodes[id].mark = Mark::Held(seat);
+        self.nodes[id].mark = CubeState::Held(seat);
         let place = place_of(&self.open_nodes, id);
         self.open_nodes.remove(place);
         self.held[slot] = Some(id);
@@ -175,14 +182,14 @@ impl Tree {
         ensures room { self.new.room ≡ self.old.room }
     {
         let slot = usize::from(seat.get());
-        self.nodes[id].mark = Mark::Open;
+        self.nodes[id].mark = CubeState::Open;
         let place = place_of(&self.open_nodes, id);
         self.open_nodes.insert(place, id).unwrap();
         self.held[slot] = None;
     }
 
     /// Closes the node that a seat holds.
-    pub fn close(&mut self, seat: SeatNo, id: usize, mark: Mark)
+    pub fn close(&mut self, seat: SeatNo, id: usize, mark: CubeState)
         requires held { held_from seat 0 self.old.nodes ≡ Some id }
         requires closed { is_closed mark ≡ true }
         ensures nodes { self.new.nodes ≡ with_mark self.old.nodes id mark }
@@ -204,16 +211,17 @@ impl Tree {
             ∷ child id (cube_in self.old.nodes id) choice Two ∷ [] }
         ensures room { self.new.room ≡ self.old.room }
     {
-        self.close(seat, id, Mark::Split(choice));
+        self.close(seat, id, CubeState::Split(choice));
         self.grow(id, choice, Side::One);
         self.grow(id, choice, Side::Two);
     }
 
-    // Adds an open child of a node.
+    /// Adds an open child of a node.
     fn grow(&mut self, parent: usize, choice: ChoiceIx, side: Side)
         requires within { parent < length self.old.nodes }
         requires room { length self.old.nodes < self.old.room }
-        ensures nodes { self.new.nodes ≡ self.old.nodes ++ child parent (cube_in self.old.nodes parent) choice side ∷ [] }
+        ensures nodes { self.new.nodes ≡ self.old.nodes ++ child parent
+            (cube_in self.old.nodes parent) choice side ∷ [] }
         ensures room { self.new.room ≡ self.old.room }
     {
         let number = self.nodes.len();
@@ -223,31 +231,31 @@ impl Tree {
                 choice,
                 side,
             }),
-            mark: Mark::Open,
+            mark: CubeState::Open,
         });
         self.open_nodes.push_reserved(number);
     }
 }
 
-fn is_open(mark: Mark) -> bool
+fn is_open(mark: CubeState) -> bool
     ensures { result ≡ is_open mark }
 {
     match mark {
-        Mark::Open => true,
-        Mark::Held(_) | Mark::Split(_) | Mark::Refuted | Mark::Solved => false,
+        CubeState::Open => true,
+        CubeState::Held(_) | CubeState::Split(_) | CubeState::Refuted | CubeState::Solved => false,
     }
 }
 
-fn is_solved(mark: &Mark) -> bool
+fn is_solved(mark: &CubeState) -> bool
     ensures { result ≡ is_solved mark.now }
 {
     match mark {
-        Mark::Solved => true,
-        Mark::Open | Mark::Held(_) | Mark::Split(_) | Mark::Refuted => false,
+        CubeState::Solved => true,
+        CubeState::Open | CubeState::Held(_) | CubeState::Split(_) | CubeState::Refuted => false,
     }
 }
 
-// Whether a seat holds a node.
+/// Whether a seat holds a node.
 fn has_some(held: &[Option<usize>]) -> bool
     ensures { result ≡ list_any is_some held.now }
 {

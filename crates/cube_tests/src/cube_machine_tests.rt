@@ -2,8 +2,8 @@ ghost use Rattle.std.specs.Prelude.{◌≡◌};
 ghost use Rattle.std.specs.List.{AllByRecursion};
 ghost use Rattle.polygraph.specs.Polygraphs.{Joins, JoinsBoth};
 
-use cube_laws::{Event, Mark, NodeLine, Reply};
-use cube_machine::{Budget, CubeMachine, Origin, Row};
+use cube_laws::{CubeEvent, CubeReply, CubeState};
+use cube_machine::{Budget, CubeMachine, Origin, OriginRow};
 use desk::machine::Machine;
 use desk::seat_no::SeatNo;
 use known_graph::Known;
@@ -11,6 +11,7 @@ use polygraph::{Choice, ChoiceIx, Edges, Polygraph};
 use pruning_laws::Side;
 use reach_laws::Edge;
 use serializability::NodeIx;
+use session_history::NodeLine;
 use std::alloc::Global;
 use std::process::Abort;
 use std::test::*;
@@ -44,7 +45,7 @@ fn edge(rt: &impl Abort, ends: (usize, usize)) -> Edge
     Edge::new(node(rt, ends.0), node(rt, ends.1))
 }
 
-// A side of two edges into one node, or out of it.
+/// A side of two edges into one node, or out of it.
 fn side(rt: &impl Abort, alloc: Global, first: (usize, usize), second: (usize, usize)) -> Edges
     ensures { AllByRecursion (Joins 8) result }
 {
@@ -60,8 +61,8 @@ fn join(rt: &impl Abort, known: &mut Known, ends: (usize, usize)) {
     known.add_edge(u, v);
 }
 
-// Eight transactions: 1 and 2 write x, 3 and 4 write y, and 5 to 8 read one of each. Each reader that
-// reads 1 stands before 2, or else each that reads 2 stands before 1; and so for 3 and 4.
+/// Eight transactions: 1 and 2 write x, 3 and 4 write y, and 5 to 8 read one of each. Each reader
+/// that reads 1 stands before 2, or else each that reads 2 stands before 1; and so for 3 and 4.
 fn four_readers(rt: &impl Abort, alloc: Global) -> Polygraph {
     let mut known = Known::new(alloc, 8).expect(rt, "memory");
     for ends in [
@@ -91,17 +92,17 @@ fn four_readers(rt: &impl Abort, alloc: Global) -> Polygraph {
     Polygraph::new(known, choices)
 }
 
-fn see(rt: &impl Abort, machine: &mut CubeMachine, seat: u8, event: Event, want: Reply) {
+fn see(rt: &impl Abort, machine: &mut CubeMachine, seat: u8, event: CubeEvent, want: CubeReply) {
     let seat = SeatNo::new(seat).expect(rt, "a seat");
     let reply = machine.step(seat, &event);
     assert_eq!(rt; reply, want);
 }
 
-fn splits(rt: &impl Abort, machine: &mut CubeMachine, seat: u8, choice: usize, want: Reply) {
-    see(rt, machine, seat, Event::Split(index(rt, choice)), want);
+fn splits(rt: &impl Abort, machine: &mut CubeMachine, seat: u8, choice: usize, want: CubeReply) {
+    see(rt, machine, seat, CubeEvent::Split(index(rt, choice)), want);
 }
 
-fn waits(rt: &impl Abort, machine: &CubeMachine, seat: u8, event: Event) -> bool {
+fn waits(rt: &impl Abort, machine: &CubeMachine, seat: u8, event: CubeEvent) -> bool {
     let seat = SeatNo::new(seat).expect(rt, "a seat");
     machine.waits(seat, &event)
 }
@@ -112,25 +113,25 @@ fn steps_until_a_side_is_refuted(rt: HostRuntime) {
     let alloc = rt.alloc();
     let polygraph = four_readers(rt, alloc);
     let few = budget(rt, 7);
-    let row = Row::new(alloc, few).expect(rt, "memory");
+    let row = OriginRow::new(alloc, few).expect(rt, "memory");
     let machine = &mut CubeMachine::opening(alloc, &polygraph, few, &row).expect(rt, "memory");
-    see(rt, machine, 1, Event::TakeAny, Reply::Cube(0));
-    see(rt, machine, 1, Event::Claim(0), Reply::HasCube);
-    see(rt, machine, 2, Event::Claim(0), Reply::NotOpen);
-    splits(rt, machine, 2, 0, Reply::NoCube);
-    splits(rt, machine, 1, 2, Reply::BadChoice);
-    splits(rt, machine, 1, 0, Reply::Children(1, 2));
-    see(rt, machine, 1, Event::Claim(1), Reply::Cube(1));
-    splits(rt, machine, 1, 0, Reply::BadChoice);
-    splits(rt, machine, 1, 1, Reply::Children(3, 4));
-    see(rt, machine, 2, Event::TakeAny, Reply::Cube(4));
-    let not_here = Event::Refute(line(rt, alloc, &[2, 7, 4, 6, 2]));
-    see(rt, machine, 2, not_here, Reply::BadCycle);
-    let cycle = Event::Refute(line(rt, alloc, &[2, 8, 3, 5, 2]));
-    see(rt, machine, 2, cycle, Reply::Closed);
-    see(rt, machine, 1, Event::Claim(3), Reply::Cube(3));
-    let cycle = Event::Refute(line(rt, alloc, &[2, 7, 4, 6, 2]));
-    see(rt, machine, 1, cycle, Reply::Closed);
+    see(rt, machine, 1, CubeEvent::TakeAny, CubeReply::Cube(0));
+    see(rt, machine, 1, CubeEvent::Claim(0), CubeReply::HasCube);
+    see(rt, machine, 2, CubeEvent::Claim(0), CubeReply::NotOpen);
+    splits(rt, machine, 2, 0, CubeReply::NoCube);
+    splits(rt, machine, 1, 2, CubeReply::BadChoice);
+    splits(rt, machine, 1, 0, CubeReply::Children(1, 2));
+    see(rt, machine, 1, CubeEvent::Claim(1), CubeReply::Cube(1));
+    splits(rt, machine, 1, 0, CubeReply::BadChoice);
+    splits(rt, machine, 1, 1, CubeReply::Children(3, 4));
+    see(rt, machine, 2, CubeEvent::TakeAny, CubeReply::Cube(4));
+    let not_here = CubeEvent::Refute(line(rt, alloc, &[2, 7, 4, 6, 2]));
+    see(rt, machine, 2, not_here, CubeReply::BadCycle);
+    let cycle = CubeEvent::Refute(line(rt, alloc, &[2, 8, 3, 5, 2]));
+    see(rt, machine, 2, cycle, CubeReply::Closed);
+    see(rt, machine, 1, CubeEvent::Claim(3), CubeReply::Cube(3));
+    let cycle = CubeEvent::Refute(line(rt, alloc, &[2, 7, 4, 6, 2]));
+    see(rt, machine, 1, cycle, CubeReply::Closed);
     assert_eq!(rt; machine.closed(), 4);
     assert_eq!(rt; machine.node_count(), 5);
     assert_eq!(rt;
@@ -149,21 +150,21 @@ fn steps_with_a_release(rt: HostRuntime) {
     let alloc = rt.alloc();
     let polygraph = four_readers(rt, alloc);
     let few = budget(rt, 7);
-    let row = Row::new(alloc, few).expect(rt, "memory");
+    let row = OriginRow::new(alloc, few).expect(rt, "memory");
     let machine = &mut CubeMachine::opening(alloc, &polygraph, few, &row).expect(rt, "memory");
-    see(rt, machine, 1, Event::Claim(0), Reply::Cube(0));
-    see(rt, machine, 1, Event::Release, Reply::Released);
-    see(rt, machine, 2, Event::Claim(0), Reply::Cube(0));
-    see(rt, machine, 1, Event::Claim(0), Reply::NotOpen);
-    splits(rt, machine, 2, 1, Reply::Children(1, 2));
-    splits(rt, machine, 2, 0, Reply::NoCube);
-    see(rt, machine, 1, Event::Claim(9), Reply::NotOpen);
-    see(rt, machine, 1, Event::TakeAny, Reply::Cube(2));
-    let order = Event::Solve(line(rt, alloc, &[1, 2, 3, 4, 5, 6, 7, 8]));
-    see(rt, machine, 1, order, Reply::BadOrder);
+    see(rt, machine, 1, CubeEvent::Claim(0), CubeReply::Cube(0));
+    see(rt, machine, 1, CubeEvent::Release, CubeReply::Released);
+    see(rt, machine, 2, CubeEvent::Claim(0), CubeReply::Cube(0));
+    see(rt, machine, 1, CubeEvent::Claim(0), CubeReply::NotOpen);
+    splits(rt, machine, 2, 1, CubeReply::Children(1, 2));
+    splits(rt, machine, 2, 0, CubeReply::NoCube);
+    see(rt, machine, 1, CubeEvent::Claim(9), CubeReply::NotOpen);
+    see(rt, machine, 1, CubeEvent::TakeAny, CubeReply::Cube(2));
+    let order = CubeEvent::Solve(line(rt, alloc, &[1, 2, 3, 4, 5, 6, 7, 8]));
+    see(rt, machine, 1, order, CubeReply::BadOrder);
 }
 
-// Two transactions with no edge between them, and a choice of either order.
+/// Two transactions with no edge between them, and a choice of either order.
 fn either_order(rt: &impl Abort, alloc: Global) -> Polygraph {
     let known = Known::new(alloc, 2).expect(rt, "memory");
     let (one, two) = (node(rt, 1), node(rt, 2));
@@ -190,30 +191,30 @@ fn steps_until_a_cube_is_solved(rt: HostRuntime) {
     let alloc = rt.alloc();
     let polygraph = either_order(rt, alloc);
     let few = budget(rt, 3);
-    let row = Row::new(alloc, few).expect(rt, "memory");
+    let row = OriginRow::new(alloc, few).expect(rt, "memory");
     let machine = &mut CubeMachine::opening(alloc, &polygraph, few, &row).expect(rt, "memory");
-    assert!(rt; !waits(rt, machine, 2, Event::TakeAny));
-    see(rt, machine, 1, Event::TakeAny, Reply::Cube(0));
-    assert!(rt; waits(rt, machine, 2, Event::TakeAny));
-    assert!(rt; !waits(rt, machine, 2, Event::Claim(0)));
-    splits(rt, machine, 1, 0, Reply::Children(1, 2));
-    see(rt, machine, 1, Event::TakeAny, Reply::Cube(2));
-    let order = Event::Solve(line(rt, alloc, &[2, 1]));
-    see(rt, machine, 1, order, Reply::Solved);
+    assert!(rt; !waits(rt, machine, 2, CubeEvent::TakeAny));
+    see(rt, machine, 1, CubeEvent::TakeAny, CubeReply::Cube(0));
+    assert!(rt; waits(rt, machine, 2, CubeEvent::TakeAny));
+    assert!(rt; !waits(rt, machine, 2, CubeEvent::Claim(0)));
+    splits(rt, machine, 1, 0, CubeReply::Children(1, 2));
+    see(rt, machine, 1, CubeEvent::TakeAny, CubeReply::Cube(2));
+    let order = CubeEvent::Solve(line(rt, alloc, &[2, 1]));
+    see(rt, machine, 1, order, CubeReply::Solved);
     assert!(rt; machine.is_solved() && machine.is_finished() && !machine.is_exhausted());
     assert_eq!(rt; machine.closed(), 2);
-    see(rt, machine, 2, Event::TakeAny, Reply::Finished);
-    assert!(rt; !waits(rt, machine, 2, Event::TakeAny));
+    see(rt, machine, 2, CubeEvent::TakeAny, CubeReply::Finished);
+    assert!(rt; !waits(rt, machine, 2, CubeEvent::TakeAny));
     assert_eq!(rt; machine.node_count(), 3);
     if machine.node_count() == 3 {
-        assert_eq!(rt; machine.mark(2), Mark::Solved);
+        assert_eq!(rt; machine.mark(2), CubeState::Solved);
         assert_eq!(rt; machine.origin(0), None);
     }
 }
 
 #[test]
 fn a_row_gives_back_what_was_noted(rt: HostRuntime) {
-    let row = Row::new(rt.alloc(), budget(&rt, 1_000_000)).expect(&rt, "memory");
+    let row = OriginRow::new(rt.alloc(), budget(&rt, 1_000_000)).expect(&rt, "memory");
     for (node, parent, choice, side) in [
         (1, 0, 0, Side::One),
         (3, 2, 99_999, Side::Two),

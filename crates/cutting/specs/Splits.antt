@@ -1,5 +1,6 @@
 -- A log that is split into pieces, and when it is cut so.
-use Rattle.std.specs.Prelude.{◌≡◌, ℕ, ◌≤◌, ◌==◌, if◌then◌else◌, List, [], ◌∷◌, length, map, take, drop}
+use Rattle.std.specs.Prelude.{◌≡◌, ℕ, ◌≤◌, ◌==◌, if◌then◌else◌, List, [], ◌∷◌, length, map, take}
+use Rattle.std.specs.Prelude.{drop}
 use Rattle.std.specs.List.{flat_map, AllByRecursion}
 use Rattle.session_log.specs.Text.{ClientSession}
 use Rattle.log_definitions.specs.Serial.{Committed, committed_of}
@@ -21,7 +22,8 @@ abbrev pub counts_of : List ClientSession → Cut
 counts_of [] n = 0
 counts_of (s ∷ ss) n = if s.number == n then length s.txns else counts_of ss n
 
--- these are the first transactions of the sessions, each with those that it has here, and the others are left
+-- these are the first transactions of the sessions, each with those that it has here, and the
+-- others are left
 pub record TakesFirst (ss first rest : List ClientSession) : Type 0 where
   pub within : AllByRecursion (λ s. counts_of first s.number ≤ length s.txns) ss
   pub firsts : first ≡ present (first_part (counts_of first) ss)
@@ -30,7 +32,8 @@ pub record TakesFirst (ss first rest : List ClientSession) : Type 0 where
 -- the pieces before the cuts, and what is left behind the last
 abbrev pub IsSplit : List CutOff → List ClientSession → List ClientSession → Type 0
 IsSplit [] last ss = last ≡ present ss
-IsSplit (p ∷ ps) last ss = TakesFirst ss p.sessions (rest_of (counts_of p.sessions) ss) × IsSplit ps last (rest_of (counts_of p.sessions) ss)
+IsSplit (p ∷ ps) last ss = TakesFirst ss p.sessions (rest_of (counts_of p.sessions) ss)
+    × IsSplit ps last (rest_of (counts_of p.sessions) ss)
 
 -- ---- cut
 
@@ -55,7 +58,8 @@ abbrev pub IsNoLater : ℕ → List CutOff → Type 0
 IsNoLater t [] = Unit {0}
 IsNoLater t (p ∷ ps) = t ≤ p.moment
 
--- all before each cut is over before its moment, and what lies behind it and before the next one comes since
+-- all before each cut is over before its moment, and what lies behind it and before the next one
+-- comes since
 pub record IsApart (p : CutOff) (ps : List CutOff) (last : List ClientSession) : Type 0 where
   pub over : AllOver p.moment p.sessions
   pub since : AllSince p.moment (behind ps last)

@@ -40,7 +40,8 @@ fn all_since(parts: &[Part], moment: u64) -> bool
 
 /// The parts behind a piece: those of the next one, or of the last.
 fn behind<'s, 'a>(split: &'s Cuts<'a>, piece: usize) -> &'s [Part<'a>]
-    ensures { parts_view result.now ≡ behind (drop piece (map piece_view split.now.pieces.items)) (parts_view split.now.last.items) }
+    ensures { parts_view result.now ≡ behind (drop piece (map piece_view split.now.pieces.items))
+        (parts_view split.now.last.items) }
 {
     match split.pieces.get(piece) {
         Some(next) => &next.parts,
@@ -60,7 +61,8 @@ fn is_no_later(pieces: &[Piece], piece: usize, moment: u64) -> bool
 
 /// Whether all before each cut is over before its moment, and what lies behind it comes since.
 pub fn are_cut(alloc: Global, split: &Cuts) -> Result<bool, AllocError>
-    ensures { IfOk result (λ is. IsTrue is → AreApart (map piece_view split.now.pieces.items) (parts_view split.now.last.items)) }
+    ensures { IfOk result (λ is. IsTrue is → AreApart (map piece_view split.now.pieces.items)
+        (parts_view split.now.last.items)) }
 {
     for (i, piece) in split.pieces.iter().enumerate() {
         if !is_no_later(&split.pieces, i + 1, piece.moment)

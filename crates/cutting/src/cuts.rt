@@ -13,12 +13,14 @@ use crate::split::{pieces_of, uncut};
 use session_log::Session;
 use std::alloc::{AllocError, Global};
 
-/// The pieces of sessions whose outcomes are known. A piece ends at the first cut before which it has at least `size` committed
-/// transactions, or sooner where it would have too many for a log.
+/// The pieces of sessions whose outcomes are known. A piece ends at the first cut before which it
+/// has at least `size` committed transactions, or sooner where it would have too many for a log.
 pub fn cut<'a>(alloc: Global, sessions: &'a [Session], size: usize) -> Result<Cuts<'a>, AllocError>
-    ensures split { IfOk result (λ cuts. IsDistinct nat_eq (map (λ s. s.number) (map view sessions.now)) →
+    ensures split { IfOk result (λ cuts. IsDistinct nat_eq
+        (map (λ s. s.number) (map view sessions.now)) →
         IsSplit (map piece_view cuts.pieces.items) (parts_view cuts.last.items) (map view sessions.now)) }
-    ensures apart { IfOk result (λ cuts. AreApart (map piece_view cuts.pieces.items) (parts_view cuts.last.items)) }
+    ensures apart { IfOk result (λ cuts. AreApart (map piece_view cuts.pieces.items)
+        (parts_view cuts.last.items)) }
 {
     let proposed = proposals(alloc, sessions, size)?;
     let found = pieces_of(alloc, sessions, &proposed)?;

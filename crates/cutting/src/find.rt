@@ -8,9 +8,9 @@ use session_log::{Key, MAX_KEYS, MAX_LOG_BYTES, MAX_OPERATIONS, MAX_SESSIONS, Op
 use std::alloc::{AllocError, Global};
 use std::collections::{BTreeMap, BTreeSet};
 
-/// A transaction of the log: its session, its place there, whether it is a node, the latest moment at which it or a node before it in its
-/// session is said to have begun (0 where none is), and the least one at which it ended, or a node that is known to come behind it, where
-/// one is said.
+/// A transaction of the log: its session, its place there, whether it is a node, the latest moment
+/// at which it or a node before it in its session is said to have begun (0 where none is), and the
+/// least one at which it ended, or a node that is known to come behind it, where one is said.
 #[derive(Clone, Copy)]
 struct Spot {
     session: usize,
@@ -41,8 +41,8 @@ fn txn_at<'a>(sessions: &'a [Session], spot: Spot) -> Option<&'a Txn> {
     }
 }
 
-/// Transactions of a session that are no nodes come since they began, as far as those behind them do. So one that stands first in its
-/// session does not lie in the first piece for that.
+/// Transactions of a session that are no nodes come since they began, as far as those behind them
+/// do. So one that stands first in its session does not lie in the first piece for that.
 fn raise_others(txns: &[Txn], spots: &mut [Spot]) {
     let mut behind = u64::MAX;
     for back in 0..txns.len() {
@@ -195,7 +195,8 @@ fn mark_all(
     Ok(())
 }
 
-/// The transactions, each with the least moment before which it is known to be over, by sessions, readers and ends.
+/// The transactions, each with the least moment before which it is known to be over, by sessions,
+/// readers and ends.
 fn marked(alloc: Global, sessions: &[Session]) -> Result<Vec<Spot>, AllocError> {
     let mut spots = spots_of(alloc, sessions)?;
     let writes = writes_of(alloc, sessions, &spots)?;
@@ -225,8 +226,8 @@ fn is_before(over: Option<u64>, moment: u64) -> bool {
     }
 }
 
-/// By the moments since which transactions come, whether all nodes before each one are over before its moment, and this is later than
-/// that of the one before it.
+/// By the moments since which transactions come, whether all nodes before each one are over before
+/// its moment, and this is later than that of the one before it.
 fn cuttable(
     alloc: Global,
     sessions: &[Session],
@@ -353,7 +354,8 @@ impl<'a> Size<'a> {
         Ok(())
     }
 
-    /// Counts the keys, where there may be too many: those of these transactions, which are all of the piece.
+    /// Counts the keys, where there may be too many: those of these transactions, which are all of
+    /// the piece.
     fn count_keys(&mut self, sessions: &'a [Session], spots: &[Spot]) -> Result<(), AllocError> {
         if self.counts_keys || self.ops <= MAX_KEYS {
             return Ok(());
@@ -457,8 +459,8 @@ fn add_count(
     Ok(())
 }
 
-/// The cuts of a log whose outcomes are known: a piece ends at the first one before which it has at least so many nodes, or at the last
-/// one before it would be too large.
+/// The cuts of a log whose outcomes are known: a piece ends at the first one before which it has at
+/// least so many nodes, or at the last one before it would be too large.
 pub fn proposals(
     alloc: Global,
     sessions: &[Session],
@@ -522,8 +524,8 @@ fn counts_of(alloc: Global, pending: &BTreeMap<usize, usize>) -> Result<Vec<Coun
     Ok(counts)
 }
 
-/// The same cuts without those before which not all is over. Behind one that is left out ever more are, so that each transaction is
-/// looked at a few times.
+/// The same cuts without those before which not all is over. Behind one that is left out ever more
+/// are, so that each transaction is looked at a few times.
 pub fn joined(
     alloc: Global,
     sessions: &[Session],

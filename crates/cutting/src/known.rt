@@ -1,6 +1,7 @@
 //! Which transactions of a piece are known to be over before a moment.
 
-ghost use Rattle.std.specs.Prelude.{◌≡◌, ◌≤◌, ◌<◌, ◌+◌, ◌-◌, ℕ, true, false, List, length, map, slice_get, slice_index, Some, IsTrue, IfOk, OnOk, IfSome};
+ghost use Rattle.std.specs.Prelude.{◌≡◌, ◌≤◌, ◌<◌, ◌+◌, ◌-◌, ℕ, true, false, List, length, map};
+ghost use Rattle.std.specs.Prelude.{slice_get, slice_index, Some, IsTrue, IfOk, OnOk, IfSome};
 ghost use Rattle.std.specs.List.{Contains};
 ghost use Rattle.session_log.specs.Text.{ClientSession, Transaction, view_txn};
 ghost use Rattle.session_log.specs.declared.session.Op.{Op};
@@ -15,7 +16,8 @@ use crate::part::Part;
 use session_log::{Op, Outcome, Txn};
 use std::alloc::{AllocError, Global};
 
-/// Where a write of a piece stands: the place of its part, of its transaction there, and of the operation; and its identity.
+/// Where a write of a piece stands: the place of its part, of its transaction there, and of the
+/// operation; and its identity.
 #[derive(Clone, Copy)]
 struct WriteAt {
     wid: u64,
@@ -111,7 +113,8 @@ fn reads_write(read: &Op, write: &Op) -> bool
 /// Whether a node writes, at this place of it, what the operation reads.
 fn is_source(read: &Op, txn: &Txn, op: usize) -> bool
     ensures node { IsTrue result → is_committed (view_txn txn.now) ≡ true }
-    ensures writes { IsTrue result → (write : Op) × (slice_get txn.now.ops.items op ≡ Some write) × (reads_write read.now write ≡ true) }
+    ensures writes { IsTrue result → (write : Op) × (slice_get txn.now.ops.items op ≡ Some write)
+        × (reads_write read.now write ≡ true) }
 {
     match txn.ops.get(op) {
         Some(write) => is_committed(txn) && reads_write(read, write),
@@ -130,10 +133,14 @@ fn raise(over: &mut [usize], part: usize, count: usize) -> bool
     false
 }
 
-/// The node that writes what an operation of an over node reads is over, and so are those before it in its session.
+/// The node that writes what an operation of an over node reads is over, and so are those before it
+/// in its session.
 fn follow_read(parts: &[Part], over: &mut [usize], read: &Op, found: WriteAt) -> bool
-    ensures { (t : ℕ) (node : Committed) → Contains (nodes_of (parts_view parts.now)) node → Contains node.ops read.now →
-        IsOver (nodes_of (parts_view parts.now)) t node → IsKnownOver (parts_view parts.now) t over.old → IsKnownOver (parts_view parts.now) t over.new }
+    ensures { (t : ℕ) (node : Committed) → Contains (nodes_of (parts_view parts.now)) node
+        → Contains node.ops read.now →
+        IsOver (nodes_of (parts_view parts.now)) t node
+        → IsKnownOver (parts_view parts.now) t over.old
+        → IsKnownOver (parts_view parts.now) t over.new }
 {
     let Some(part) = parts.get(found.part) else {
         return false;
@@ -157,8 +164,11 @@ fn follow_reads(
     todo: &mut Vec<usize>,
     ops: &[Op],
 ) -> Result<(), AllocError>
-    ensures { OnOk result ((t : ℕ) (node : Committed) → Contains (nodes_of (parts_view parts.now)) node → node.ops ≡ ops.now →
-        IsOver (nodes_of (parts_view parts.now)) t node → IsKnownOver (parts_view parts.now) t over.old → IsKnownOver (parts_view parts.now) t over.new) }
+    ensures { OnOk result ((t : ℕ) (node : Committed)
+        → Contains (nodes_of (parts_view parts.now)) node → node.ops ≡ ops.now →
+        IsOver (nodes_of (parts_view parts.now)) t node
+        → IsKnownOver (parts_view parts.now) t over.old
+        → IsKnownOver (parts_view parts.now) t over.new) }
 {
     for op in ops {
         if let Op::Read { wid, .. } = op {
@@ -174,8 +184,10 @@ fn follow_reads(
 
 /// The node at this place, where it is one and known to be over.
 fn over_node<'a>(parts: &[Part<'a>], over: &[usize], part: usize, txn: usize) -> Option<&'a Txn>
-    ensures { IfSome result (λ it. (t : ℕ) → IsKnownOver (parts_view parts.now) t over.now → (node : Committed)
-        × Contains (nodes_of (parts_view parts.now)) node × (node.ops ≡ it.now.ops.items) × IsOver (nodes_of (parts_view parts.now)) t node) }
+    ensures { IfSome result (λ it. (t : ℕ) → IsKnownOver (parts_view parts.now) t over.now
+        → (node : Committed)
+        × Contains (nodes_of (parts_view parts.now)) node × (node.ops ≡ it.now.ops.items)
+        × IsOver (nodes_of (parts_view parts.now)) t node) }
 {
     if part >= over.len() || txn >= over[part] {
         return None;
@@ -193,7 +205,8 @@ fn follow_txn(
     part: usize,
     txn: usize,
 ) -> Result<(), AllocError>
-    ensures { OnOk result ((t : ℕ) → IsKnownOver (parts_view parts.now) t over.old → IsKnownOver (parts_view parts.now) t over.new) }
+    ensures { OnOk result ((t : ℕ) → IsKnownOver (parts_view parts.now) t over.old
+        → IsKnownOver (parts_view parts.now) t over.new) }
 {
     if let Some(it) = over_node(parts, over, part, txn) {
         follow_reads(parts, writes, over, todo, &it.ops)?;
@@ -210,7 +223,8 @@ fn follow_part(
     todo: &mut Vec<usize>,
     part: usize,
 ) -> Result<(), AllocError>
-    ensures { OnOk result ((t : ℕ) → IsKnownOver (parts_view parts.now) t over.old → IsKnownOver (parts_view parts.now) t over.new) }
+    ensures { OnOk result ((t : ℕ) → IsKnownOver (parts_view parts.now) t over.old
+        → IsKnownOver (parts_view parts.now) t over.new) }
 {
     if part >= over.len() || part >= done.len() {
         return Ok(());
@@ -231,7 +245,8 @@ fn follow(
     writes: &[WriteAt],
     over: &mut [usize],
 ) -> Result<(), AllocError>
-    ensures { OnOk result ((t : ℕ) → IsKnownOver (parts_view parts.now) t over.old → IsKnownOver (parts_view parts.now) t over.new) }
+    ensures { OnOk result ((t : ℕ) → IsKnownOver (parts_view parts.now) t over.old
+        → IsKnownOver (parts_view parts.now) t over.new) }
 {
     let mut done = vec![in alloc; 0; parts.len()]?;
     let done = done.as_mut_slice();
@@ -262,7 +277,8 @@ fn ends(alloc: Global, parts: &[Part], moment: u64) -> Result<Vec<usize>, AllocE
 
 /// Whether no node stands here from this place on.
 fn is_covered(txns: &[Txn], over: usize) -> bool
-    ensures { IsTrue result → (k : ℕ) (txn : Transaction) → slice_get (map view_txn txns.now) k ≡ Some txn → over ≤ k →
+    ensures { IsTrue result → (k : ℕ) (txn : Transaction)
+        → slice_get (map view_txn txns.now) k ≡ Some txn → over ≤ k →
         is_committed txn ≡ false }
 {
     for (i, txn) in txns.iter().enumerate() {
@@ -274,7 +290,8 @@ fn is_covered(txns: &[Txn], over: usize) -> bool
 }
 
 fn covers(parts: &[Part], over: &[usize]) -> bool
-    ensures { IsTrue result → (i : ℕ) (s : ClientSession) (node : Committed) → slice_get (parts_view parts.now) i ≡ Some s →
+    ensures { IsTrue result → (i : ℕ) (s : ClientSession) (node : Committed)
+        → slice_get (parts_view parts.now) i ≡ Some s →
         Contains (committed_of s) node → node.place ≤ slice_index over.now i }
 {
     for (i, part) in parts.iter().enumerate() {

@@ -1,6 +1,10 @@
 //! A log is cut where nothing is under way: its pieces, each a part of every session.
 //!
-//! What finds the cuts is not trusted: a check of each piece, in one pass, shows that they are cuts.
+//! Called by `held_pieces`, `audit_command` and `pieces_command`. It knows no value of a key, no
+//! history and no verdict.
+//!
+//! What finds the cuts is not trusted: a check of each piece, in one pass, shows that they are
+//! cuts.
 #![tactic(auto)]
 
 mod check;

@@ -12,8 +12,8 @@ pub struct Part<'a> {
     pub before: usize,
 }
 
-/// What lies before a cut and behind the one before it, of each session that has transactions there; and the moment before which all of
-/// it is over.
+/// What lies before a cut and behind the one before it, of each session that has transactions
+/// there; and the moment before which all of it is over.
 #[derive(Drop)]
 pub struct Piece<'a> {
     pub parts: Vec<Part<'a>>,

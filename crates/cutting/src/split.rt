@@ -18,7 +18,8 @@ pub struct Count {
     pub txns: usize,
 }
 
-/// A cut that is proposed: its moment, and what lies before it and behind the cut before it, by ascending sessions.
+/// A cut that is proposed: its moment, and what lies before it and behind the cut before it, by
+/// ascending sessions.
 #[derive(Drop)]
 pub struct Proposal {
     pub moment: u64,
@@ -43,14 +44,17 @@ fn take_from<'a>(part: &mut Part<'a>, count: usize) -> Part<'a>
     first
 }
 
-/// Takes the first transactions of sessions, as many as these are. A count out of order, or of more than there are, is left out.
+/// Takes the first transactions of sessions, as many as these are. A count out of order, or of more
+/// than there are, is left out.
 pub fn take_first<'a>(
     alloc: Global,
     rest: &mut [Part<'a>],
     counts: &[Count],
 ) -> Result<Vec<Part<'a>>, AllocError>
-    ensures numbers { OnOk result (map (λ s. s.number) (parts_view rest.new) ≡ map (λ s. s.number) (parts_view rest.old)) }
-    ensures firsts { IfOk result (λ first. IsDistinct nat_eq (map (λ s. s.number) (parts_view rest.old)) →
+    ensures numbers { OnOk result (map (λ s. s.number) (parts_view rest.new) ≡ map (λ s. s.number)
+        (parts_view rest.old)) }
+    ensures firsts { IfOk result (λ first. IsDistinct nat_eq
+        (map (λ s. s.number) (parts_view rest.old)) →
         TakesFirst (parts_view rest.old) (parts_view first.items) (parts_view rest.new)) }
 {
     let mut first = Vec::with_capacity(alloc, counts.len())?;
@@ -119,8 +123,10 @@ pub fn pieces_of<'a>(
 
 /// The whole log as one piece.
 pub fn uncut<'a>(alloc: Global, sessions: &'a [Session]) -> Result<Cuts<'a>, AllocError>
-    ensures split { IfOk result (λ cuts. IsSplit (map piece_view cuts.pieces.items) (parts_view cuts.last.items) (map view sessions.now)) }
-    ensures apart { IfOk result (λ cuts. AreApart (map piece_view cuts.pieces.items) (parts_view cuts.last.items)) }
+    ensures split { IfOk result (λ cuts. IsSplit (map piece_view cuts.pieces.items)
+        (parts_view cuts.last.items) (map view sessions.now)) }
+    ensures apart { IfOk result (λ cuts. AreApart (map piece_view cuts.pieces.items)
+        (parts_view cuts.last.items)) }
 {
     let parts = whole(alloc, sessions)?;
     let last = present(alloc, &parts)?;

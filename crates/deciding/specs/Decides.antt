@@ -12,32 +12,41 @@ use Rattle.branch_search.specs.declared.answer.Answer.{Answer}
 use Rattle.branch_search.specs.declared.answer.Answer.TheVariants.{Yes, No, Unknown}
 use Rattle.branch_search.specs.declared.tree.TreeNode.{TreeNode}
 use Rattle.deciding.specs.declared.decision.Decision.{Decision}
-use Rattle.deciding.specs.declared.decision.Decision.TheVariants.{Serial, Anomalous, Cyclic, Dead, Refuted, Spent}
+use Rattle.deciding.specs.declared.decision.Decision.TheVariants.{Serial, Anomalous, Cyclic, Dead}
+use Rattle.deciding.specs.declared.decision.Decision.TheVariants.{Refuted, Spent}
 
--- no list of the committed transactions and of some of the unknown ones is an order that explains the sessions
+-- no list of the committed transactions and of some of the unknown ones is an order that explains
+-- the sessions
 pub record HasNoOrder (ss : List ClientSession) : Type 0 where
   pub none : (order : List ℕ) → IsSomeOrder ss order → ⊥
 
--- The steps before a search let the sessions through (no anomaly, no cycle of known edges, at most 100,000 choices between chains, and
--- a polygraph of the chains that is not dead), and a search of what they leave ends with this answer within the budget.
+-- The steps before a search let the sessions through (no anomaly, no cycle of known edges, at most
+-- 100,000 choices between chains, and
+-- a polygraph of the chains that is not dead), and a search of what they leave ends with this
+-- answer within the budget.
 pub record IsSearched (budget : ℕ) (ss : List ClientSession) (answer : Answer) : Type 0 where
   pub left : Remainder
   pub history : IsOpenHistory ss left
   pub ran : EndsRun left.poly budget answer
 
--- no anomaly stands, and the line is a cycle of the arcs or, where these have none, of all known edges of the chains
+-- no anomaly stands, and the line is a cycle of the arcs or, where these have none, of all known
+-- edges of the chains
 pub record IsCycleOf (ss : List ClientSession) (line : List ℕ) : Type 0 where
   pub none : anomaly_of (log_of ss) ≡ None
   pub cyclic : IsCyclicHistory ss line
 
--- this is what the steps before a search leave, and the tree, with which a search of it ends, refutes every cube of it
-pub record IsRefutedBy (budget : ℕ) (ss : List ClientSession) (left : Remainder) (tree : List TreeNode) : Type 0 where
+-- this is what the steps before a search leave, and the tree, with which a search of it ends,
+-- refutes every cube of it
+pub record IsRefutedBy (budget : ℕ) (ss : List ClientSession) (left : Remainder)
+    (tree : List TreeNode) : Type 0 where
   pub history : IsOpenHistory ss left
   pub ran : EndsRun left.poly budget (No tree)
   pub refutes : IsRefutationTree left.poly tree
 
--- A serial order, which a search found; or that there is none, and why: the anomaly that is reported, a cycle of what is known, a
--- ledger of the polygraph of the chains, which is dead, or a tree that refutes every cube; or that a search spent its budget, and
+-- A serial order, which a search found; or that there is none, and why: the anomaly that is
+-- reported, a cycle of what is known, a
+-- ledger of the polygraph of the chains, which is dead, or a tree that refutes every cube; or that
+-- a search spent its budget, and
 -- found neither.
 abbrev pub Decides : ℕ → List ClientSession → Decision → Type 0
 Decides budget ss (Serial order) = IsSerialOrder ss order × IsSearched budget ss (Yes order)

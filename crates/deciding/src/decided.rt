@@ -9,8 +9,9 @@ ghost use Rattle.branch_search.specs.Trees.{IsRefutationTree};
 ghost use Rattle.deciding.specs.Decides.{Decides};
 
 use crate::decision::Decision;
-use crate::means::{Means, StrategyName};
-use branch_search::{Answer, FirstOpen, Forced, LeastEdges, MostEdges, Tree, check_tree, search};
+use crate::means::Means;
+use branch_search::{Answer, FirstOpen, Forced, LeastEdges, MostEdges, Tree, search};
+use cube_machine::StrategyName;
 use desk::gate::Gate;
 use polygraph::PolyFault;
 use prune_ledger::Reduced;
@@ -20,9 +21,10 @@ use std::alloc::{AllocError, Global};
 use std::sync::Wait;
 use std::thread::Threads;
 use std::time::Clock;
+use tree_checks::check_tree;
 
 /// Searches what pruning left, by the strategy of this name.
-fn searched<G: Gate, R: Threads + Wait + Clock + Sync>(
+fn run_search<G: Gate, R: Threads + Wait + Clock + Sync>(
     rt: &R,
     alloc: Global,
     history: &History,
@@ -61,7 +63,7 @@ fn searched<G: Gate, R: Threads + Wait + Clock + Sync>(
 }
 
 /// That every cube is refuted, by a tree that is checked by itself before that is said.
-fn refuted(reduced: Reduced, tree: Tree) -> Decision
+fn decide_by_tree(reduced: Reduced, tree: Tree) -> Decision
     requires refutes { IsRefutationTree reduced.poly tree }
     ensures decision { result ≡ Decision.Refuted reduced tree }
 {
@@ -84,21 +86,22 @@ fn decide_open<G: Gate, R: Threads + Wait + Clock + Sync>(
     requires left { IsOpenHistory history.now reduced }
     ensures decides { IfOk result (Decides means.now.budget history.now) }
 {
-    match searched(rt, alloc, history, &reduced, means, gate)? {
+    match run_search(rt, alloc, history, &reduced, means, gate)? {
         Answer::Yes(order) => Ok(Decision::Serial(order)),
-        Answer::No(tree) => Ok(refuted(reduced, tree)),
+        Answer::No(tree) => Ok(decide_by_tree(reduced, tree)),
         Answer::Unknown { closed } => Ok(Decision::Spent { closed }),
     }
 }
 
-/// Decides whether some serial order explains a history: by such an order; or that there is none, by the anomaly that is
-/// reported, a cycle of known edges, a ledger of pruning that ends in one, or a tree of refuted cubes that was checked by
-/// itself; or, where the budget was spent before, neither. So many workers prune and search, each of which passes the gate
-/// before each of its turns.
+/// Decides whether some serial order explains a history: by such an order; or that there is none,
+/// by the anomaly that is reported, a cycle of known edges, a ledger of pruning that ends in one,
+/// or a tree of refuted cubes that was checked by itself; or, where the budget was spent before,
+/// neither. So many workers prune and search, each of which passes the gate before each of its
+/// turns.
 ///
 /// # Errors
-/// `TooManyChoices` where there are more than 100,000 choices between chains, and neither an anomaly nor a cycle of the arcs
-/// was found; `Memory` where memory was refused.
+/// `TooManyChoices` where there are more than 100,000 choices between chains, and neither an
+/// anomaly nor a cycle of the arcs was found; `Memory` where memory was refused.
 pub fn decide<R: Threads + Wait + Clock + Sync, G: Gate>(
     rt: &R,
     alloc: Global,

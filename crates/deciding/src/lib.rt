@@ -1,10 +1,14 @@
-//! What is decided of a history: a serial order, or why there is none, or that the budget was spent.
+//! What is decided of a history: a serial order, or why there is none, or that the budget was
+//! spent.
+//!
+//! Called by `cobra_cli`, `auditing` and `tell_pieces`. It knows no text and no piece.
 #![tactic(auto)]
 
 mod decided;
 mod decision;
 mod means;
 
+pub use cube_machine::StrategyName;
 pub use decided::decide;
 pub use decision::Decision;
-pub use means::{Means, StrategyName};
+pub use means::Means;

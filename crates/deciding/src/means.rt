@@ -1,20 +1,7 @@
 //! What a decision may use.
 
-use cube_machine::Budget;
+use cube_machine::{Budget, StrategyName};
 use desk::seat_no::Workers;
-
-/// How a search picks the choice that it decides next.
-#[derive(Clone, Copy, Debug, PartialEq, Eq)]
-pub enum StrategyName {
-    /// The first that is open.
-    First,
-    /// The first open one of those with the most edges.
-    Most,
-    /// The first open one of those with the least edges.
-    Least,
-    /// The first open one of which a side is refuted; where there is none, as `Most`.
-    Forced,
-}
 
 /// What a decision may use.
 #[derive(Clone, Copy)]

@@ -1,5 +1,6 @@
 -- What is wrong with an order of a log's nodes.
-use Rattle.std.specs.Prelude.{◌≡◌, ℕ, ◌==◌, ◌&&◌, nat_eq, nat_lt, nat_le, if◌then◌else◌, Bool, true, List, [], ◌∷◌, map, slice_index, Option, None, Some}
+use Rattle.std.specs.Prelude.{◌≡◌, ℕ, ◌==◌, ◌&&◌, nat_eq, nat_lt, nat_le, if◌then◌else◌, Bool, true}
+use Rattle.std.specs.Prelude.{List, [], ◌∷◌, map, slice_index, Option, None, Some}
 use Rattle.std.specs.List.{flat_map, list_any, list_all, count_by, enumerate_from, range_with_len}
 use Rattle.std.specs.Option.{option_map, option_or}
 use Rattle.serializability.specs.declared.event.Event.{Event}
@@ -7,18 +8,22 @@ use Rattle.serializability.specs.declared.event.Event.TheVariants.{Read, Write}
 use Rattle.serializability.specs.Log.{Log}
 use Rattle.serializability.specs.Replay.{Store, empty, after}
 use Rattle.decode_order.specs.declared.fault.ReplayFault.{ReplayFault}
-use Rattle.decode_order.specs.declared.fault.ReplayFault.TheVariants.{NotAPermutation, SessionOrder, MomentOrder, ReadMismatch, Memory}
+use Rattle.decode_order.specs.declared.fault.ReplayFault.TheVariants.{NotAPermutation, SessionOrder}
+use Rattle.decode_order.specs.declared.fault.ReplayFault.TheVariants.{MomentOrder, ReadMismatch}
+use Rattle.decode_order.specs.declared.fault.ReplayFault.TheVariants.{Memory}
 
 -- each of nodes 1 to n is listed once, and nothing else is
 abbrev pub lists_once : ℕ → List ℕ → Bool
 lists_once n order =
-    list_all (λ v. count_by (nat_eq v) order == 1) (range_with_len 1 n) && list_all (λ v. nat_lt 0 v && nat_le v n) order
+    list_all (λ v. count_by (nat_eq v) order == 1) (range_with_len 1 n) && list_all
+    (λ v. nat_lt 0 v && nat_le v n) order
 
 -- the first listed node that stands before an earlier one of its session
 abbrev pub first_early : (ℕ → ℕ) → List ℕ → Option ℕ
 first_early session [] = None
 first_early session (v ∷ behind) =
-    if list_any (λ u. nat_lt u v && (session u == session v)) behind then Some v else first_early session behind
+    if list_any (λ u. nat_lt u v && (session u == session v)) behind then Some v else first_early
+    session behind
 
 -- the first listed node that stands before one that ended before it began
 abbrev pub first_before_ended : (ℕ → ℕ → Bool) → List ℕ → Option ℕ
@@ -39,7 +44,8 @@ pub record PlacedOp : Type 0 where
 
 -- the operations of node v, where the first has this number
 abbrev pub placed_from : ℕ → ℕ → List Event → List PlacedOp
-placed_from v number ops = map (λ e. record { node = v; number = e.0; op = e.1 }) (enumerate_from number ops)
+placed_from v number ops = map (λ e. record { node = v; number = e.0; op = e.1 })
+    (enumerate_from number ops)
 
 -- the operations of these nodes, in the order of their replay
 abbrev pub in_replay : (ℕ → List Event) → List ℕ → List PlacedOp
@@ -58,7 +64,8 @@ meets store (Write x w) = true
 abbrev pub first_mismatch : Store → List PlacedOp → Option (ℕ × ℕ)
 first_mismatch store [] = None
 first_mismatch store (p ∷ ps) =
-    if meets store p.op then first_mismatch (after store (p.op ∷ [])) ps else Some (p.node, p.number)
+    if meets store p.op then first_mismatch (after store (p.op ∷ [])) ps else Some
+    (p.node, p.number)
 
 -- the fault of a node that stands too early, where there is one
 abbrev pub session_fault : Option ℕ → Option ReplayFault
@@ -72,14 +79,17 @@ moment_fault found = option_map (λ v. MomentOrder v) found
 abbrev pub read_fault : Option (ℕ × ℕ) → Option ReplayFault
 read_fault found = option_map (λ p. ReadMismatch p.0 p.1) found
 
--- What is wrong: that the nodes are not listed once each, else the first one that stands before an earlier one of its session,
--- else the first one that stands before one that ended before it began, else the first read in replay that does not name what the
+-- What is wrong: that the nodes are not listed once each, else the first one that stands before an
+-- earlier one of its session,
+-- else the first one that stands before one that ended before it began, else the first read in
+-- replay that does not name what the
 -- map holds.
 unfoldable pub replay_fault : Log → List ℕ → Option ReplayFault
 replay_fault log order =
     if lists_once log.nodes order
     then option_or (session_fault (first_early log.session order))
-    (option_or (moment_fault (first_before_ended log.earlier order)) (read_fault (first_mismatch empty (in_replay log.ops order))))
+    (option_or (moment_fault (first_before_ended log.earlier order))
+    (read_fault (first_mismatch empty (in_replay log.ops order))))
     else Some NotAPermutation
 
 -- memory may come in place of any answer

@@ -11,12 +11,12 @@ use crate::fault::DecodeFault;
 use order_cnf::Formula;
 use serializability::NodeIx;
 use serializability::numbers::node as node_of;
-use session_history::Order;
+use session_history::NodeLine;
 use std::alloc::{AllocError, Global};
 
-/// The order of nodes 1 to n that a satisfying assignment stands for: the node at place p has p nodes
-/// before it, node 0 counted.
-pub fn positions(alloc: Global, formula: &Formula, values: &[bool]) -> Result<Order, DecodeFault>
+/// The order of nodes 1 to n that a satisfying assignment stands for: the node at place p has p
+/// nodes before it, node 0 counted.
+pub fn positions(alloc: Global, formula: &Formula, values: &[bool]) -> Result<NodeLine, DecodeFault>
     ensures satisfied { OnOk result (Satisfies values.now (cnf_of formula.now)) }
     ensures order { IfOk result
         (λ order. IsDecoded formula.now.nodes (before (cnf_of formula.now) values.now) order) }
@@ -28,11 +28,11 @@ pub fn positions(alloc: Global, formula: &Formula, values: &[bool]) -> Result<Or
     if let Err(clause) = formula.satisfied_by(values) {
         return Err(DecodeFault::NotAModel { clause });
     }
-    Ok(decoded(alloc, formula, values)?)
+    Ok(order_of(alloc, formula, values)?)
 }
 
-// The order that a satisfying assignment stands for.
-fn decoded(alloc: Global, formula: &Formula, values: &[bool]) -> Result<Order, AllocError>
+/// The order that a satisfying assignment stands for.
+fn order_of(alloc: Global, formula: &Formula, values: &[bool]) -> Result<NodeLine, AllocError>
     requires satisfied { Satisfies values.now (cnf_of formula.now) }
     ensures order { IfOk result
         (λ order. IsDecoded formula.now.nodes (before (cnf_of formula.now) values.now) order) }
@@ -44,10 +44,10 @@ fn decoded(alloc: Global, formula: &Formula, values: &[bool]) -> Result<Order, A
         let place = nodes_before(formula, values, node);
         order[place - 1] = node;
     }
-    Ok(Order::from_nodes(order))
+    Ok(NodeLine::from_nodes(order))
 }
 
-// How many of nodes 0 to n the assignment puts before this one, which is not node 0.
+/// How many of nodes 0 to n the assignment puts before this one, which is not node 0.
 fn nodes_before(formula: &Formula, values: &[bool], node: NodeIx) -> usize
     requires satisfied { Satisfies values.now (cnf_of formula.now) }
     requires within { (0 < node) × (node ≤ formula.now.nodes) }

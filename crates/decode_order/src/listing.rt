@@ -8,7 +8,7 @@ use serializability::NodeIx;
 use session_history::History;
 use std::alloc::{AllocError, Global};
 
-// Whether the order lists nodes 1 to n once each.
+/// Whether the order lists nodes 1 to n once each.
 pub fn lists_once(alloc: Global, history: &History, order: &[NodeIx]) -> Result<bool, AllocError>
     ensures answer { IfOk result
         (λ answer. IsTrue answer ↔ ListsOnce (log_of history.now).nodes order.now) }

@@ -9,8 +9,8 @@ use serializability::NodeIx;
 use session_history::History;
 use session_log::is_earlier;
 
-// The first listed node that stands before one that ended before it began. Such a node began after
-// the least end of those behind it, and so the order is gone through once, from its last node on.
+/// The first listed node that stands before one that ended before it began. Such a node began after
+/// the least end of those behind it, and so the order is gone through once, from its last node on.
 pub fn first_before_ended(history: &History, order: &[NodeIx]) -> Option<NodeIx>
     ensures first { result ≡ spec.first_before_ended (log_of history.now).earlier order.now }
 {
@@ -25,7 +25,7 @@ pub fn first_before_ended(history: &History, order: &[NodeIx]) -> Option<NodeIx>
     found
 }
 
-// The lesser of two moments, or the one that is stated.
+/// The lesser of two moments, or the one that is stated.
 fn lesser(one: Option<u64>, other: Option<u64>) -> Option<u64>
     ensures lesser { (later : Option ℕ) →
         is_earlier result later ≡ (is_earlier one later || is_earlier other later) }

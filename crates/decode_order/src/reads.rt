@@ -1,6 +1,7 @@
 //! Reads that are to name what the map holds when they come.
 
-ghost use Rattle.std.specs.Prelude.{◌≡◌, ◌<◌, ℕ, [], ◌∷◌, None, Some, IfOk, IfNone, MatchOption, length};
+ghost use Rattle.std.specs.Prelude.{◌≡◌, ◌<◌, ℕ, [], ◌∷◌, None, Some, IfOk, IfNone, MatchOption};
+ghost use Rattle.std.specs.Prelude.{length};
 ghost use Rattle.std.specs.List.{AllByRecursion};
 ghost use Rattle.serializability.specs.Replay.{empty, after};
 ghost use Rattle.log_definitions.specs.Numbers.{log_of};
@@ -11,8 +12,8 @@ use serializability::NodeIx;
 use session_history::{Event, History};
 use std::alloc::{AllocError, Global};
 
-// The first read in replay that does not name what the map holds, by its node and its number among
-// that node's operations, from 1.
+/// The first read in replay that does not name what the map holds, by its node and its number among
+/// that node's operations, from 1.
 pub fn first_mismatch(
     alloc: Global,
     history: &History,
@@ -31,8 +32,8 @@ pub fn first_mismatch(
     Ok(None)
 }
 
-// Replays the operations of a node, up to the first read that does not name what the map holds. The
-// answer is its number, from 1.
+/// Replays the operations of a node, up to the first read that does not name what the map holds.
+/// The answer is its number, from 1.
 fn replay_node(store: &mut [u64], events: &[Event]) -> Option<usize>
     requires keys { AllByRecursion (λ event. key_of event < length store.old) events.now }
     ensures first { MatchOption result
@@ -49,7 +50,7 @@ fn replay_node(store: &mut [u64], events: &[Event]) -> Option<usize>
     None
 }
 
-// Replays an operation. The answer is false for a read that does not name what the map holds.
+/// Replays an operation. The answer is false for a read that does not name what the map holds.
 fn replay_op(store: &mut [u64], event: Event) -> bool
     requires key { key_of event < length store.old }
     ensures met { result ≡ meets (held store.old) event }

@@ -11,15 +11,15 @@ use crate::moments::first_before_ended;
 use crate::reads::first_mismatch;
 use crate::sessions::first_early;
 use serializability::NodeIx;
-use session_history::{History, Order};
+use session_history::{History, NodeLine};
 use std::alloc::{AllocError, Global};
 
-/// Whether an order of a history's nodes is serial: it lists nodes 1 to n once each, keeps the order
-/// of each session and that of the stated moments, and its replay on a plain map gives every read the
-/// identity that it names.
+/// Whether an order of a history's nodes is serial: it lists nodes 1 to n once each, keeps the
+/// order of each session and that of the stated moments, and its replay on a plain map gives every
+/// read the identity that it names.
 ///
 /// The time is linear in the number of nodes, keys and operations.
-pub fn replay(alloc: Global, history: &History, order: &Order) -> Result<(), ReplayFault>
+pub fn replay(alloc: Global, history: &History, order: &NodeLine) -> Result<(), ReplayFault>
     ensures serial { OnOk result (IsSerial (log_of history.now) order.now) }
     ensures accepted { OnOk result (replay_fault (log_of history.now) order.now ≡ None) }
     ensures fault { IfErr result
@@ -31,7 +31,7 @@ pub fn replay(alloc: Global, history: &History, order: &Order) -> Result<(), Rep
     }
 }
 
-// What is wrong with an order.
+/// What is wrong with an order.
 fn first_fault(
     alloc: Global,
     history: &History,

@@ -1,6 +1,7 @@
 //! Orders that are to keep the order of each session.
 
-ghost use Rattle.std.specs.Prelude.{◌≡◌, ◌↔◌, ◌-◌, ◌<◌, ◌≤◌, false, IsTrue, IfOk, length, slice_index_or};
+ghost use Rattle.std.specs.Prelude.{◌≡◌, ◌↔◌, ◌-◌, ◌<◌, ◌≤◌, false, IsTrue, IfOk, length};
+ghost use Rattle.std.specs.Prelude.{slice_index_or};
 ghost use Rattle.serializability.specs.Replay.{ListsOnce};
 ghost use Rattle.log_definitions.specs.Numbers.{log_of};
 ghost use Rattle.decode_order.specs.Replaying as spec;
@@ -10,8 +11,8 @@ use serializability::numbers::node as node_of;
 use session_history::History;
 use std::alloc::{AllocError, Global};
 
-// The first listed node that stands before an earlier one of its session. The nodes of a session lie
-// together, so that it stands before the node before it, and no node listed before it does so.
+/// The first listed node that stands before an earlier one of its session. The nodes of a session
+/// lie together, so that it stands before the node before it, and no node listed before it does so.
 pub fn first_early(
     alloc: Global,
     history: &History,
@@ -31,7 +32,7 @@ pub fn first_early(
     Ok(None)
 }
 
-// Whether the node before this one is of its session and not listed yet.
+/// Whether the node before this one is of its session and not listed yet.
 fn precedes_previous(history: &History, listed: &[bool], node: NodeIx) -> bool
     requires within { node < length listed.now }
     ensures answer { IsTrue result ↔ ((1 < node)

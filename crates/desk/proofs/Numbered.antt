@@ -5,6 +5,7 @@ use Rattle.std.specs.Result.{IsOk}
 use Rattle.std.proofs.lemmas.Bool.{eq-eqb}
 use Rattle.std.proofs.lemmas.Option.{slice_get_within, get_or_from_slice_get}
 use Rattle.desk.specs.Seats.{has_seat, AreFresh, AreNumbered, HasSeatsTo, IsLeastMissing, IsSeat}
+use Rattle.desk.specs.Views.{SeatView}
 use Rattle.desk.proofs.Seating.{snoc_get}
 
 module _ {X : Type 0} (number : X → ℕ) where
@@ -33,29 +34,29 @@ either : (a b : Bool) → b ≡ true → (a || b) ≡ true
 either true b e = refl
 either false b e = e
 
-module _ {C : Type 0} where
-  pub fresh_number : (seats : List (ℕ × List C)) (k : ℕ) (x : ℕ × List C) → AreFresh seats → slice_get seats k ≡ Some x → x.0 ≡ k + 1
-  fresh_number seats k x h e = ap (λ (p : ℕ × List C). p.0) (h k x e)
+module _ {E R : Type 0} where
+  pub fresh_number : (seats : List (SeatView E R)) (k : ℕ) (x : SeatView E R) → AreFresh seats → slice_get seats k ≡ Some x → x.number ≡ k + 1
+  fresh_number seats k x h e = (h k x e).0
 
-  some_is : (y x : ℕ × C) → Some y ≡ Some x → y ≡ x
+  some_is : (y x : SeatView E R) → Some y ≡ Some x → y ≡ x
   some_is y x e = cc
 
-  any_at : (seats : List (ℕ × C)) (k n : ℕ) (x : ℕ × C) → slice_get seats k ≡ Some x → x.0 ≡ n → has_seat n seats ≡ true
+  any_at : (seats : List (SeatView E R)) (k n : ℕ) (x : SeatView E R) → slice_get seats k ≡ Some x → x.number ≡ n → has_seat n seats ≡ true
   any_at [] k n x e t = absurd (cc)
   any_at (y ∷ ys) zero n x e t =
-      let same : (y.0 == n) ≡ true = eq-eqb y.0 n (ap (λ (p : ℕ × C). p.0) (some_is y x e) ∙ t) in
+      let same : (y.number == n) ≡ true = eq-eqb y.number n (ap (λ (p : SeatView E R). p.number) (some_is y x e) ∙ t) in
       ap (λ b. b || has_seat n ys) same
-  any_at (y ∷ ys) (suc k) n x e t = either (y.0 == n) (has_seat n ys) (any_at ys k n x e t)
+  any_at (y ∷ ys) (suc k) n x e t = either (y.number == n) (has_seat n ys) (any_at ys k n x e t)
 
-  seat_at : (seats : List (ℕ × C)) (n : ℕ) → AreNumbered (λ x. x.0) seats → (o : Option (ℕ × C)) → slice_get seats (n - 1) ≡ o → 0 < n → n ≤ length seats → has_seat n seats ≡ true
+  seat_at : (seats : List (SeatView E R)) (n : ℕ) → AreNumbered (λ x. x.number) seats → (o : Option (SeatView E R)) → slice_get seats (n - 1) ≡ o → 0 < n → n ≤ length seats → has_seat n seats ≡ true
   seat_at seats n h None e low high = absurd (get_none seats (n - 1) e (omega arith))
   seat_at seats n h (Some x) e low high = any_at seats (n - 1) n x e (let is = h (n - 1) x e in omega arith)
 
-  pub has_all : (seats : List (ℕ × C)) (n : ℕ) → AreNumbered (λ x. x.0) seats → n ≤ length seats → HasSeatsTo n seats
+  pub has_all : (seats : List (SeatView E R)) (n : ℕ) → AreNumbered (λ x. x.number) seats → n ≤ length seats → HasSeatsTo n seats
   has_all seats n h all = λ k low high. seat_at seats k h (slice_get seats (k - 1)) refl low (omega arith)
 
 -- a desk whose seats have all left is closed
-pub closes : {X Y C : Type 0} (names : List ℕ) (seats : List (ℕ × C)) (missing : Y → ℕ) (r : Result X Y) → AreNumbered (λ x. x.0) seats → length names ≤ length seats → IfErr r (λ e. IsSeat names (missing e)) → IfErr r (λ e. IsLeastMissing seats (missing e)) → IsOk r
+pub closes : {X Y E R : Type 0} (names : List ℕ) (seats : List (SeatView E R)) (missing : Y → ℕ) (r : Result X Y) → AreNumbered (λ x. x.number) seats → length names ≤ length seats → IfErr r (λ e. IsSeat names (missing e)) → IfErr r (λ e. IsLeastMissing seats (missing e)) → IsOk r
 closes names seats missing (Ok x) h all a b = refl
 closes names seats missing (Err e) h all a b = absurd (two (has_seat (missing e) seats) b.0 (has_all seats (length names) h all (missing e) a.0 a.1))
   where

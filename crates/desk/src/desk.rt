@@ -1,4 +1,6 @@
-ghost use Rattle.std.specs.Prelude.{◌≡◌, ℕ, ◌+◌, ◌-◌, ◌<◌, ◌≤◌, List, [], ◌∷◌, ◌++◌, ⊤, All, IfOk, IfErr, IfSome, IfNone, OnOk, length, slice_get, true, false, Some, Option};
+ghost use Rattle.std.specs.Prelude.{◌≡◌, ℕ, ◌+◌, ◌-◌, ◌<◌, ◌≤◌, List, [], ◌∷◌, ◌++◌, ⊤, All, IfOk};
+ghost use Rattle.std.specs.Prelude.{IfErr, IfSome, IfNone, OnOk, length, slice_get, true, false};
+ghost use Rattle.std.specs.Prelude.{Some, Option};
 ghost use Rattle.std.specs.Sync.Mutex.{mutex_guard_value};
 ghost use Rattle.desk.specs.History.{part_of, IsEntered, IsReached};
 ghost use Rattle.desk.specs.Rows.{AreNamed};
@@ -54,10 +56,10 @@ pub struct NotAll<M: Machine, J: Naming> {
     pub lefts: Vec<Left<M, J>>,
 }
 
-// How often a thread looks whether the lock is free before it sleeps.
+/// How often a thread looks whether the lock is free before it sleeps.
 const LOOKS: u32 = 16;
 
-// A rest of 2^looks turns, and of no more than 1,024.
+/// A rest of 2^looks turns, and of no more than 1,024.
 fn rest(looks: u32) {
     for _ in 0..1u32 << looks.min(10) {
         spin_loop();
@@ -72,11 +74,11 @@ impl<M: Machine, J: Naming> Desk<M, J> {
         alloc: Global,
         opened: Opened<M>,
     ) -> Result<(Desk<M, J>, Vec<Seat<M, J>>), AllocError>
-        requires names { J.names ≡ opened.1 }
-        requires desk { J.desk ≡ opened.2 }
-        ensures desk { IfOk result (λ r. r.0 ≡ Some opened.0) }
+        requires names { J.names ≡ opened.names }
+        requires desk { J.desk ≡ opened.desk }
+        ensures desk { IfOk result (λ r. r.0 ≡ Some opened.machine) }
         ensures seats { IfOk result (λ r. AreFresh r.1.items) }
-        ensures count { IfOk result (λ r. length r.1.items ≡ length opened.1) }
+        ensures count { IfOk result (λ r. length r.1.items ≡ length opened.names) }
     {
         let Opened {
             machine,
@@ -107,12 +109,13 @@ impl<M: Machine, J: Naming> Desk<M, J> {
         seat: &mut Seat<M, J>,
         event: M::Event,
     ) -> Result<M::Reply, (M::Event, AllocError)>
-        ensures ok { IfOk result (λ r. seat.new ≡ (seat.old.0, seat.old.1 ++ (event, r) ∷ [])) }
+        ensures number { seat.new.number ≡ seat.old.number }
+        ensures ok { IfOk result (λ r. seat.new.calls ≡ seat.old.calls ++ (event, r) ∷ []) }
         ensures err { IfErr result (λ e. (e.0 ≡ event) × (seat.new ≡ seat.old)) }
         // The step was made in a state in which the call does not wait.
         ensures entered { IfOk result (λ r.
-            IsEntered M.next M.reply_at (λ s. M.waits_at s seat.old.0 event ≡ false)
-            seat.old.0 event r seat.new.1) }
+            IsEntered M.next M.reply_at (λ s. M.waits_at s seat.old.number event ≡ false)
+            seat.old.number event r seat.new.calls) }
     {
         let number = seat.number;
         let mut guarded = self.lock_for(rt, number, &event);
@@ -121,21 +124,22 @@ impl<M: Machine, J: Naming> Desk<M, J> {
         result
     }
 
-    // The lock, in a state in which a call with this event does not wait.
+    /// The lock, in a state in which a call with this event does not wait.
     fn lock_for<R: Wait>(
         &self,
         rt: &R,
         seat: SeatNo,
         event: &M::Event,
     ) -> MutexGuard<'_, Guarded<M, J>>
-        ensures { M.waits_at (mutex_guard_value result).0 seat event.now ≡ false }
+        ensures { M.waits_at (mutex_guard_value result).machine seat event.now ≡ false }
     {
         self.changed
             .wait_while(rt, self.locked(rt), |guarded| guarded.waits(seat, event))
     }
 
-    // The lock. A thread that finds it held looks again after rests, each twice as long as the one before, and
-    // sleeps only after the last: a step takes less time than putting a thread to sleep and waking it.
+    /// The lock. A thread that finds it held looks again after rests, each twice as long as the one
+    /// before, and sleeps only after the last: a step takes less time than putting a thread to
+    /// sleep and waking it.
     fn locked<R: Wait>(&self, rt: &R) -> MutexGuard<'_, Guarded<M, J>> {
         for looks in 0..LOOKS {
             if let Some(guard) = self.guarded.try_lock() {
@@ -153,8 +157,10 @@ impl<M: Machine, J: Naming> Desk<M, J> {
         seat: Seat<M, J>,
         event: M::Event,
     ) -> (M::Reply, Left<M, J>)
-        ensures left { result.1 ≡ (seat.0, seat.1 ++ (event, result.0) ∷ []) }
-        ensures entered { IsEntered M.next M.reply_at (λ s. ⊤) seat.0 event result.0 result.1.1 }
+        ensures number { result.1.number ≡ seat.number }
+        ensures calls { result.1.calls ≡ seat.calls ++ (event, result.0) ∷ [] }
+        ensures entered { IsEntered M.next M.reply_at (λ s. ⊤) seat.number event result.0
+            result.1.calls }
     {
         let Seat {
             number,
@@ -167,7 +173,7 @@ impl<M: Machine, J: Naming> Desk<M, J> {
         (
             reply,
             Left {
-                seat: number,
+                number,
                 receipt,
                 desk: PhantomData,
             },
@@ -182,7 +188,7 @@ impl<M: Machine, J: Naming> Desk<M, J> {
         ensures legal { IfOk result (λ c.
             IsReached M.next M.reply_at self c.history.items c.machine) }
         ensures parts { IfOk result (λ c.
-            All (λ l. part_of l.0 c.history.items ≡ l.1) lefts.items) }
+            All (λ l. part_of l.number c.history.items ≡ l.calls) lefts.items) }
         ensures seats { IfOk result (λ c. All (λ x. IsSeat J.names x.seat) c.history.items) }
         ensures valid { IfOk result (λ c. M.valid c.machine) }
 
@@ -209,7 +215,7 @@ impl<M: Machine, J: Naming> Desk<M, J> {
     }
 }
 
-// The least number of a seat that has not left.
+/// The least number of a seat that has not left.
 fn missing_seat<M: Machine, J: Naming>(workers: Workers, lefts: &[Left<M, J>]) -> Option<SeatNo>
     ensures none { IfNone result (HasSeatsTo workers lefts.now) }
     ensures some { IfSome result (λ m. (0 < m) × (m ≤ workers)) }
@@ -230,13 +236,13 @@ fn has_left<M: Machine, J: Naming>(lefts: &[Left<M, J>], number: SeatNo) -> bool
     lefts.iter().any(|left| left.number().get() == number.get())
 }
 
-// Shows that each seat's list is its part of the history.
+/// Shows that each seat's list is its part of the history.
 fn compare_all<M: Machine, J: Naming>(
     mut guarded: Guarded<M, J>,
     lefts: Vec<Left<M, J>>,
 ) -> Guarded<M, J>
     ensures same { result ≡ guarded }
-    ensures parts { All (λ l. part_of l.0 guarded.1 ≡ l.1) lefts.items }
+    ensures parts { All (λ l. part_of l.number guarded.history ≡ l.calls) lefts.items }
 {
     for left in lefts {
         guarded = compare_one(guarded, left);
@@ -246,14 +252,14 @@ fn compare_all<M: Machine, J: Naming>(
 
 fn compare_one<M: Machine, J: Naming>(mut guarded: Guarded<M, J>, left: Left<M, J>) -> Guarded<M, J>
     ensures same { result ≡ guarded }
-    ensures part { part_of left.0 guarded.1 ≡ left.1 }
+    ensures part { part_of left.number guarded.history ≡ left.calls }
 {
     let Left {
-        seat,
+        number,
         mut receipt,
         desk: _,
     } = left;
-    guarded.compare(seat, &mut receipt);
+    guarded.compare(number, &mut receipt);
     guarded
 }
 
@@ -274,7 +280,8 @@ fn named_seats<M: Machine, J: Naming>(
 fn named_seat<M: Machine, J: Naming>(unnamed: UnnamedSeat<M::Event, M::Reply>) -> Seat<M, J>
     requires name { slice_get J.names (unnamed.number - 1) ≡ Some unnamed.receipt.name }
     requires here { unnamed.receipt.left ≡ false }
-    ensures { result ≡ (unnamed.number, unnamed.receipt.calls) }
+    ensures number { result.number ≡ unnamed.number }
+    ensures calls { result.calls ≡ unnamed.receipt.calls }
 {
     let UnnamedSeat { number, receipt } = unnamed;
     Seat {

@@ -1,8 +1,9 @@
 // What lies under a desk's lock.
-ghost use Rattle.std.specs.Prelude.{◌≡◌, ℕ, ◌+◌, ◌-◌, ◌<◌, ◌≤◌, List, [], ◌∷◌, ◌++◌, false, true, Some, IfOk, IfErr, vec_len, vec_capacity, slice_get, All};
+ghost use Rattle.std.specs.Prelude.{◌≡◌, ℕ, ◌+◌, ◌-◌, ◌<◌, ◌≤◌, List, [], ◌∷◌, ◌++◌, false, true};
+ghost use Rattle.std.specs.Prelude.{Some, IfOk, IfErr, vec_len, vec_capacity, slice_get, All};
 ghost use Rattle.std.specs.Bool.{OnFalse};
 ghost use Rattle.desk.specs.declared.history.Entry.{Entry};
-ghost use Rattle.desk.specs.declared.row.Row.{Row};
+ghost use Rattle.desk.specs.declared.row.SeatRow.{SeatRow};
 ghost use Rattle.desk.specs.History.{entry, part_of, IsEntered, IsReached, opening_of};
 ghost use Rattle.desk.specs.Rows.{AreTied, staying, names_of};
 ghost use Rattle.desk.specs.Seats.{IsSeat};
@@ -11,7 +12,7 @@ use crate::account::{Account, Receipt, compare};
 use crate::history::Entry;
 use crate::machine::Machine;
 use crate::naming::Naming;
-use crate::row::Row;
+use crate::row::SeatRow;
 use crate::seat_no::SeatNo;
 use std::alloc::AllocError;
 use std::marker::{Model, PhantomData};
@@ -22,20 +23,24 @@ use std::marker::{Model, PhantomData};
 pub struct Guarded<M: Machine, J: Naming> {
     machine: M,
     history: Vec<Entry<M::Event, M::Reply>>,
-    rows: Vec<Row<M::Event, M::Reply>>,
+    rows: Vec<SeatRow<M::Event, M::Reply>>,
     opening: Account<M, ()>,
     desk: PhantomData<J>,
 }
 
 impl<M: Machine, J: Naming> Model for Guarded<M, J> {
-    ghost use Rattle.std.specs.Prelude.{◌≡◌, ◌+◌, ◌≤◌, ℕ, List, Option, vec_len, vec_capacity};
-    ghost use Rattle.desk.specs.declared.history.Entry.{Entry};
+    ghost use Rattle.std.specs.Prelude.{◌≡◌, ◌+◌, ◌≤◌, vec_len, vec_capacity};
     ghost use Rattle.desk.specs.History.{IsReached, opening_of};
     ghost use Rattle.desk.specs.Rows.{AreTied, staying};
+    ghost use Rattle.desk.specs.Views.{GuardedView};
 
-    ghost Value = { M × List (Entry M.Event M.Reply) × Option M };
+    ghost Value = { GuardedView M M.Event M.Reply };
 
-    ghost view = { λ g. (g.machine, g.history.items, opening_of g.opening.calls) };
+    ghost view = { λ g. record {
+      machine = g.machine;
+      history = g.history.items;
+      opening = opening_of g.opening.calls;
+    } };
 
     ghost invariant = { λ g.
         IsReached M.next M.reply_at (opening_of g.opening.calls) g.history.items g.machine
@@ -50,7 +55,7 @@ impl<M: Machine, J: Naming> Guarded<M, J> {
     pub(crate) fn new(
         machine: M,
         history: Vec<Entry<M::Event, M::Reply>>,
-        rows: Vec<Row<M::Event, M::Reply>>,
+        rows: Vec<SeatRow<M::Event, M::Reply>>,
         opening: Account<M, ()>,
     ) -> Guarded<M, J>
         requires valid { M.valid machine }
@@ -58,9 +63,11 @@ impl<M: Machine, J: Naming> Guarded<M, J> {
         requires empty { history.items ≡ [] }
         requires room { vec_len history + vec_len rows ≤ vec_capacity history }
         requires names { J.names ≡ names_of rows.items }
-        requires calls { (k : ℕ) (x : Row M.Event M.Reply) → slice_get rows.items k ≡ Some x
+        requires calls { (k : ℕ) (x : SeatRow M.Event M.Reply) → slice_get rows.items k ≡ Some x
             → x.account.calls ≡ [] }
-        ensures { result ≡ (machine, [], Some machine) }
+        ensures machine { result.machine ≡ machine }
+        ensures history { result.history ≡ [] }
+        ensures opening { result.opening ≡ Some machine }
     {
         Guarded {
             machine,
@@ -73,7 +80,7 @@ impl<M: Machine, J: Naming> Guarded<M, J> {
 
     /// Whether a call waits.
     pub(crate) fn waits(&self, seat: SeatNo, event: &M::Event) -> bool
-        ensures { result ≡ M.waits_at self.now.0 seat event.now }
+        ensures { result ≡ M.waits_at self.now.machine seat event.now }
     {
         self.machine.waits(seat, event)
     }
@@ -93,7 +100,8 @@ impl<M: Machine, J: Naming> Guarded<M, J> {
             × (self.new ≡ self.old)) }
         ensures receipt { (receipt.new.name ≡ receipt.old.name) × (receipt.new.left ≡ false) }
         ensures entered { IfOk result (λ r.
-            IsEntered M.next M.reply_at (λ s. s ≡ self.old.0) seat event r receipt.new.calls) }
+            IsEntered M.next M.reply_at (λ s. s ≡ self.old.machine)
+            seat event r receipt.new.calls) }
     {
         let Guarded {
             machine,
@@ -121,7 +129,7 @@ impl<M: Machine, J: Naming> Guarded<M, J> {
         requires here { receipt.old.left ≡ false }
         ensures calls { receipt.new.calls ≡ receipt.old.calls ++ (event, result) ∷ [] }
         ensures receipt { (receipt.new.name ≡ receipt.old.name) × (receipt.new.left ≡ true) }
-        ensures entered { IsEntered M.next M.reply_at (λ s. s ≡ self.old.0)
+        ensures entered { IsEntered M.next M.reply_at (λ s. s ≡ self.old.machine)
             seat event result receipt.new.calls }
     {
         let Guarded {
@@ -139,7 +147,7 @@ impl<M: Machine, J: Naming> Guarded<M, J> {
     /// Shows that the seat's list is its part of the history.
     pub(crate) fn compare(&mut self, seat: SeatNo, receipt: &mut Receipt<M::Event, M::Reply>)
         requires named { slice_get J.names (seat - 1) ≡ Some receipt.old.name }
-        ensures part { part_of seat self.old.1 ≡ receipt.old.calls }
+        ensures part { part_of seat self.old.history ≡ receipt.old.calls }
         ensures same { self.new ≡ self.old }
         ensures receipt { receipt.new ≡ receipt.old }
     {
@@ -153,7 +161,7 @@ impl<M: Machine, J: Naming> Guarded<M, J> {
         mut opening: Receipt<M, ()>,
     ) -> (M, Vec<Entry<M::Event, M::Reply>>)
         requires { opening.name ≡ J.desk }
-        ensures same { (result.0 ≡ self.0) × (result.1.items ≡ self.1) }
+        ensures same { (result.0 ≡ self.machine) × (result.1.items ≡ self.history) }
         ensures legal { IsReached M.next M.reply_at (opening_of opening.calls)
             result.1.items result.0 }
         ensures seats { All (λ x. IsSeat J.names x.seat) result.1.items }
@@ -171,10 +179,10 @@ impl<M: Machine, J: Naming> Guarded<M, J> {
     }
 }
 
-// Enters one step into the history, and into both halves of the seat's list.
+/// Enters one step into the history, and into both halves of the seat's list.
 fn enter<E, R: Copy, J: Naming>(
     history: &mut Vec<Entry<E, R>>,
-    rows: &mut Vec<Row<E, R>>,
+    rows: &mut Vec<SeatRow<E, R>>,
     seat: SeatNo,
     receipt: &mut Receipt<E, R>,
     event: E,

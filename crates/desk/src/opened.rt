@@ -1,10 +1,12 @@
-ghost use Rattle.std.specs.Prelude.{◌≡◌, ℕ, ◌+◌, ◌≤◌, List, [], ◌∷◌, length, vec_len, vec_capacity, IfOk, OnOk};
+ghost use Rattle.std.specs.Prelude.{◌≡◌, ℕ, ◌+◌, ◌≤◌, List, [], ◌∷◌, length, vec_len, vec_capacity};
+ghost use Rattle.std.specs.Prelude.{IfOk, OnOk};
 ghost use Rattle.desk.specs.Rows.{AreSeated, names_of};
+ghost use Rattle.desk.specs.Views.{OpenedView};
 
 use crate::account::{Account, Receipt, add, pair};
 use crate::history::Entry;
 use crate::machine::Machine;
-use crate::row::{Row, UnnamedSeat};
+use crate::row::{SeatRow, UnnamedSeat};
 use crate::seat_no::{SeatNo, Workers};
 use std::alloc::{AllocError, Global};
 use std::marker::Model;
@@ -17,7 +19,7 @@ use std::marker::Model;
 pub struct Opened<M: Machine> {
     pub(crate) machine: M,
     pub(crate) history: Vec<Entry<M::Event, M::Reply>>,
-    pub(crate) rows: Vec<Row<M::Event, M::Reply>>,
+    pub(crate) rows: Vec<SeatRow<M::Event, M::Reply>>,
     pub(crate) seats: Vec<UnnamedSeat<M::Event, M::Reply>>,
     pub(crate) workers: Workers,
     pub(crate) opening_account: Account<M, ()>,
@@ -25,9 +27,13 @@ pub struct Opened<M: Machine> {
 }
 
 impl<M: Machine> Model for Opened<M> {
-    ghost Value = { M × List ℕ × ℕ };
+    ghost Value = { OpenedView M };
 
-    ghost view = { λ o. (o.machine, names_of o.rows.items, o.opening_account.name) };
+    ghost view = { λ o. record {
+      machine = o.machine;
+      names = names_of o.rows.items;
+      desk = o.opening_account.name;
+    } };
 
     ghost invariant = { λ o. M.valid o.machine
         × (o.history.items ≡ [])
@@ -45,8 +51,8 @@ impl<M: Machine> Opened<M> {
     /// This is the first half of opening a desk; `Desk::open` is the second.
     pub fn new(alloc: Global, machine: M, workers: Workers) -> Result<Opened<M>, AllocError>
         requires { M.valid machine }
-        ensures machine { IfOk result (λ o. o.0 ≡ machine) }
-        ensures seats { IfOk result (λ o. length o.1 ≡ workers) }
+        ensures machine { IfOk result (λ o. o.machine ≡ machine) }
+        ensures seats { IfOk result (λ o. length o.names ≡ workers) }
     {
         let history = Vec::with_capacity(alloc, usize::from(workers.get()))?;
         let (rows, seats) = halves(alloc, workers)?;
@@ -70,11 +76,11 @@ impl<M: Machine> Opened<M> {
     }
 }
 
-// The two halves of each seat's list.
+/// The two halves of each seat's list.
 fn halves<E, R>(
     alloc: Global,
     workers: Workers,
-) -> Result<(Vec<Row<E, R>>, Vec<UnnamedSeat<E, R>>), AllocError>
+) -> Result<(Vec<SeatRow<E, R>>, Vec<UnnamedSeat<E, R>>), AllocError>
     ensures { IfOk result (λ r. AreSeated r.0.items r.1.items × (vec_len r.0 ≡ workers)) }
 {
     let count = usize::from(workers.get());
@@ -87,7 +93,7 @@ fn halves<E, R>(
 }
 
 fn add_seat<E, R>(
-    rows: &mut Vec<Row<E, R>>,
+    rows: &mut Vec<SeatRow<E, R>>,
     seats: &mut Vec<UnnamedSeat<E, R>>,
     number: SeatNo,
 ) -> Result<(), AllocError>
@@ -97,7 +103,7 @@ fn add_seat<E, R>(
     ensures count { OnOk result (vec_len rows.new ≡ vec_len rows.old + 1) }
 {
     let (account, receipt) = pair();
-    rows.push(Row {
+    rows.push(SeatRow {
         left: false,
         account,
     })?;

@@ -6,7 +6,7 @@ use crate::seat_no::SeatNo;
 
 /// A seat's half under the lock, and whether the seat has left.
 #[derive(Drop)]
-pub struct Row<E, R> {
+pub struct SeatRow<E, R> {
     pub left: bool,
     pub account: Account<E, R>,
     pub ghost agrees: { account.left ≡ left },
@@ -19,7 +19,7 @@ pub struct UnnamedSeat<E, R> {
     pub receipt: Receipt<E, R>,
 }
 
-impl<E, R> Row<E, R> {
+impl<E, R> SeatRow<E, R> {
     /// Adds a call to both halves, which shows that they had the same list.
     pub(crate) fn add(&mut self, receipt: &mut Receipt<E, R>, event: &E, reply: &R, last: bool)
         requires { self.old.account.name ≡ receipt.old.name }
@@ -30,7 +30,7 @@ impl<E, R> Row<E, R> {
         ensures receipt { (receipt.new.name ≡ receipt.old.name) × (receipt.new.left ≡ last)
             × (receipt.new.calls ≡ receipt.old.calls ++ (event.now, reply.now) ∷ []) }
     {
-        let Row { left, account } = self;
+        let SeatRow { left, account } = self;
         *left = last;
         add(account, receipt, event, reply, last);
     }
@@ -43,7 +43,7 @@ impl<E, R> Row<E, R> {
         ensures row { self.new ≡ self.old }
         ensures receipt { receipt.new ≡ receipt.old }
     {
-        let Row { left: _, account } = self;
+        let SeatRow { left: _, account } = self;
         compare(account, receipt);
     }
 }

@@ -1,5 +1,6 @@
 // What a thread holds of a desk.
-ghost use Rattle.std.specs.Prelude.{◌≡◌, ℕ, ◌-◌, List, false, true, Some, slice_get};
+ghost use Rattle.std.specs.Prelude.{◌≡◌, ◌-◌, false, true, Some, slice_get};
+ghost use Rattle.desk.specs.Views.{SeatView};
 
 use crate::account::Receipt;
 use crate::machine::Machine;
@@ -16,9 +17,9 @@ pub struct Seat<M: Machine, J: Naming> {
 }
 
 impl<M: Machine, J: Naming> Model for Seat<M, J> {
-    ghost Value = { ℕ × List (M.Event × M.Reply) };
+    ghost Value = { SeatView M.Event M.Reply };
 
-    ghost view = { λ s. (s.number, s.receipt.calls) };
+    ghost view = { λ s. record { number = s.number; calls = s.receipt.calls } };
 
     ghost invariant = { λ s. (slice_get J.names (s.number - 1) ≡ Some s.receipt.name)
         × (s.receipt.left ≡ false) };
@@ -27,24 +28,24 @@ impl<M: Machine, J: Naming> Model for Seat<M, J> {
 /// A seat whose last call was made. Contracts see its number and the list of its calls.
 #[derive(Drop)]
 pub struct Left<M: Machine, J: Naming> {
-    pub(crate) seat: SeatNo,
+    pub(crate) number: SeatNo,
     pub(crate) receipt: Receipt<M::Event, M::Reply>,
     pub(crate) desk: PhantomData<(M, J)>,
 }
 
 impl<M: Machine, J: Naming> Model for Left<M, J> {
-    ghost Value = { ℕ × List (M.Event × M.Reply) };
+    ghost Value = { SeatView M.Event M.Reply };
 
-    ghost view = { λ l. (l.seat, l.receipt.calls) };
+    ghost view = { λ l. record { number = l.number; calls = l.receipt.calls } };
 
-    ghost invariant = { λ l. (slice_get J.names (l.seat - 1) ≡ Some l.receipt.name)
+    ghost invariant = { λ l. (slice_get J.names (l.number - 1) ≡ Some l.receipt.name)
         × (l.receipt.left ≡ true) };
 }
 
 impl<M: Machine, J: Naming> Seat<M, J> {
     /// The seat's number.
     pub fn number(&self) -> SeatNo
-        ensures { result ≡ self.now.0 }
+        ensures { result ≡ self.now.number }
     {
         self.number
     }
@@ -53,8 +54,8 @@ impl<M: Machine, J: Naming> Seat<M, J> {
 impl<M: Machine, J: Naming> Left<M, J> {
     /// The seat's number.
     pub fn number(&self) -> SeatNo
-        ensures { result ≡ self.now.0 }
+        ensures { result ≡ self.now.number }
     {
-        self.seat
+        self.number
     }
 }

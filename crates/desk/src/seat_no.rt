@@ -6,7 +6,7 @@ use std::marker::Model;
 
 const MOST_SEATS: u8 = 16;
 
-// Whether it is one of the numbers 1 to 16.
+/// Whether it is one of the numbers 1 to 16.
 fn is_in_range(number: u8) -> bool
     ensures inside { OnTrue result ((0 < number) × (number ≤ 16)) }
     ensures outside { OnFalse result ((number ≡ 0) ⊎ (16 < number)) }

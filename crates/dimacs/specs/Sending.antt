@@ -3,8 +3,10 @@ use Rattle.std.specs.Prelude.{◌≡◌, ℕ, ◌<◌, ◌≤◌, List, ◌++◌
 use Rattle.std.specs.Io.KnownBytes.{Appends}
 use Rattle.dimacs.specs.declared.fault.WriteFault.{WriteFault}
 
--- of the whole text the first `written` bytes went out, then come those of the piece, and the rest is still to be made
-pub record IsUnderWay (old new : Option (List ℕ)) (written : ℕ) (piece rest whole : List ℕ) : Type 0 where
+-- of the whole text the first `written` bytes went out, then come those of the piece, and the rest
+-- is still to be made
+pub record IsUnderWay (old new : Option (List ℕ)) (written : ℕ)
+    (piece rest whole : List ℕ) : Type 0 where
   pub within : written ≤ length whole
   pub out : Appends old new (take written whole)
   pub waits : drop written whole ≡ piece ++ rest

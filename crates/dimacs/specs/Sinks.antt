@@ -1,5 +1,7 @@
 -- What a sink does with a piece, and what a call that writes a piece of a text does.
-use Rattle.std.specs.Prelude.{◌≡◌, ℕ, zero, suc, ◌+◌, ◌-◌, ◌^◌, ◌<◌, ◌≤◌, nat_lt, if◌then◌else◌, List, [], ◌∷◌, length, take, Option, Result, Ok, Err, IfOk, IfErr, Bool, true, false}
+use Rattle.std.specs.Prelude.{◌≡◌, ℕ, zero, suc, ◌+◌, ◌-◌, ◌^◌, ◌<◌, ◌≤◌, nat_lt, if◌then◌else◌}
+use Rattle.std.specs.Prelude.{List, [], ◌∷◌, length, take, Option, Result, Ok, Err, IfOk, IfErr}
+use Rattle.std.specs.Prelude.{Bool, true, false}
 use Rattle.std.specs.Io.KnownBytes.{Appends}
 use Rattle.dimacs.specs.declared.fault.SinkFailed.{SinkFailed}
 use Rattle.dimacs.specs.declared.fault.WriteFault.{WriteFault}
@@ -19,8 +21,11 @@ is_refused (Ok zero) (b ∷ piece) = true
 is_refused (Ok (suc n)) piece = false
 is_refused (Err e) piece = true
 
--- what came of writing a piece of a text, of which so many bytes had gone out before: at `Ok` all of the piece
+-- what came of writing a piece of a text, of which so many bytes had gone out before: at `Ok` all
+-- of the piece
 -- went out, and at `Err` its front, up to the count that the fault names, but not all of it
-pub record WritesFrom (old new : Option (List ℕ)) (before : ℕ) (piece : List ℕ) (result : Result ℕ WriteFault) : Type 0 where
+pub record WritesFrom (old new : Option (List ℕ)) (before : ℕ) (piece : List ℕ)
+    (result : Result ℕ WriteFault) : Type 0 where
   pub ok : IfOk result (λ n. (n ≡ before + length piece) × Appends old new piece)
-  pub err : IfErr result (λ e. (before ≤ e.written) × (e.written < before + length piece) × Appends old new (take (e.written - before) piece))
+  pub err : IfErr result (λ e. (before ≤ e.written) × (e.written < before + length piece)
+      × Appends old new (take (e.written - before) piece))

@@ -14,7 +14,8 @@ clause_text c = flat_map (λ l. literal_text l ++ codes " ") c ++ codes "0\n"
 
 -- `p cnf V C`, by the numbers of variables and clauses
 abbrev pub header : ℕ → ℕ → List ℕ
-header variables clauses = codes "p cnf " ++ decimal variables ++ codes " " ++ decimal clauses ++ codes "\n"
+header variables clauses = codes "p cnf " ++ decimal variables ++ codes " " ++ decimal clauses
+    ++ codes "\n"
 
 -- the first line, and a line for each clause
 unfoldable pub text_of : Cnf → List ℕ

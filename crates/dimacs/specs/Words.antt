@@ -1,5 +1,7 @@
 -- The words of a line of a solver's answer, and what each says.
-use Rattle.std.specs.Prelude.{ℕ, Bool, true, false, ◌&&◌, ◌||◌, if◌then◌else◌, ◌==◌, nat_lt, List, [], ◌∷◌, length, drop, map, codes, filter, slice_index, Option, Some, None}
+use Rattle.std.specs.Prelude.{ℕ, Bool, true, false, ◌&&◌, ◌||◌, if◌then◌else◌, ◌==◌, nat_lt, List}
+use Rattle.std.specs.Prelude.{[], ◌∷◌, length, drop, map, codes, filter, slice_index, Option, Some}
+use Rattle.std.specs.Prelude.{None}
 use Rattle.std.specs.List.{list_all, slice_split}
 use Rattle.std.specs.Str.{bytes_eq}
 use Rattle.std.specs.Str.Lines.{lines}
@@ -21,7 +23,8 @@ is_blank b = b == 32 || b == 9
 unfoldable pub words : List ℕ → List (List ℕ)
 words line = filter (λ word. nat_lt 0 (length word)) (slice_split is_blank line)
 
--- one thing that an answer says: a status, a literal, a zero between literals or behind them, or nothing that the format has
+-- one thing that an answer says: a status, a literal, a zero between literals or behind them, or
+-- nothing that the format has
 pub data Item : Type 0 where
   Claim : Status → Item
   Given : Literal → Item
@@ -35,19 +38,22 @@ is_number word = nat_lt 0 (length word) && list_all is_ascii_digit word
 -- a number by its sign and what should be its digits
 abbrev pub signed_item : Bool → List ℕ → Item
 signed_item positive digits =
-    if is_number digits then (if digits_value 10 digits == 0 then Zero else Given (record { variable = digits_value 10 digits; positive = positive }))
+    if is_number digits then (if digits_value 10 digits == 0 then Zero else Given
+    (record { variable = digits_value 10 digits; positive = positive }))
     else Broken
 
 -- a word of a `v` line: digits, with a minus before them where the variable is negated
 unfoldable pub number_item : List ℕ → Item
-number_item word = if slice_index word 0 == 45 then signed_item false (drop 1 word) else signed_item true word
+number_item word = if slice_index word 0 == 45 then signed_item false
+    (drop 1 word) else signed_item true word
 
 -- the status that a word names
 unfoldable pub status_named : List ℕ → Option Status
 status_named word =
     if bytes_eq word (codes "SATISFIABLE") then Some Satisfiable else
     (if bytes_eq word (codes "UNSATISFIABLE") then Some Unsatisfiable else
-    (if bytes_eq word (codes "UNKNOWN") || bytes_eq word (codes "INDETERMINATE") then Some Unknown else None))
+    (if bytes_eq word (codes "UNKNOWN") || bytes_eq word
+    (codes "INDETERMINATE") then Some Unknown else None))
 
 -- the claim of a status, where the word names one
 abbrev pub claim : Option Status → Item
@@ -69,4 +75,5 @@ word_items false (first ∷ rest) =
 
 -- what a line says; one that begins with `c` is a comment
 unfoldable pub line_items : List ℕ → List Item
-line_items line = if slice_index line 0 == 99 then [] else word_items (is_blank (slice_index line 0)) (words line)
+line_items line = if slice_index line 0 == 99 then [] else word_items
+    (is_blank (slice_index line 0)) (words line)

@@ -1,4 +1,6 @@
 //! Formulas as DIMACS text, the sinks that take it, and the answers of solvers.
+//!
+//! Called by the commands. It knows no history and no order.
 #![tactic(auto)]
 
 mod answer;

@@ -4,7 +4,8 @@ ghost use Rattle.std.specs.Prelude.{◌≡◌, ℕ, ◌+◌, ◌++◌, ◌≤◌
 
 use itoa::Buffer;
 
-/// The bytes of a numeral: digits, a space, bytes that do not count, and last how many do. So all are copied in one move.
+/// The bytes of a numeral: digits, a space, bytes that do not count, and last how many do. So all
+/// are copied in one move.
 pub(crate) const NUMERAL_BYTES: usize = 8;
 
 /// No greater variable is kept: its digits would not fit.
@@ -61,15 +62,16 @@ impl Numeral {
     }
 }
 
-/// Numerals that were made before, each at the place that its variable has in a table that repeats. With 12 bytes for each it
-/// takes 48 KiB of the stack.
+/// Numerals that were made before, each at the place that its variable has in a table that repeats.
+/// With 12 bytes for each it takes 48 KiB of the stack.
 #[derive(Drop)]
 pub(crate) struct Numerals {
     numerals: [Numeral; KEPT],
 }
 
 impl Numerals {
-    /// No numeral. All bytes are 0, which lets the compiler make the table where it is to stand, and not copy it there.
+    /// No numeral. All bytes are 0, which lets the compiler make the table where it is to stand,
+    /// and not copy it there.
     #[inline(always)]
     pub(crate) fn new() -> Numerals {
         let nothing = Numeral {
@@ -81,7 +83,8 @@ impl Numerals {
         }
     }
 
-    /// The numeral of a variable, which is made where it is not kept. A variable above 999,999 has none.
+    /// The numeral of a variable, which is made where it is not kept. A variable above 999,999 has
+    /// none.
     #[inline(always)]
     pub(crate) fn numeral(&mut self, variable: u32) -> Option<&Numeral>
         ensures { IfSome result (λ n. n.now.next ≡ variable + 1) }

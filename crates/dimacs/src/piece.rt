@@ -1,6 +1,7 @@
 //! Bytes on their way to a sink, gathered so that a few large pieces go out.
 
-ghost use Rattle.std.specs.Prelude.{◌≡◌, ◌+◌, ◌≤◌, ◌↔◌, [], ◌++◌, length, get_or, take, codes, IsTrue, if◌then◌else◌, decimal};
+ghost use Rattle.std.specs.Prelude.{◌≡◌, ◌+◌, ◌≤◌, ◌↔◌, [], ◌++◌, length, get_or, take, codes};
+ghost use Rattle.std.specs.Prelude.{IsTrue, if◌then◌else◌, decimal};
 ghost use Rattle.order_cnf.specs.Clauses.{literals};
 ghost use Rattle.dimacs.specs.Text.{literal_text, clause_text, header};
 

@@ -1,7 +1,10 @@
 //! An answer that is being read, word by word.
 
-ghost use Rattle.std.specs.Prelude.{◌≡◌, ℕ, ◌<◌, List, [], ◌∷◌, map, slice_index, slice_index_or, slice_set, not, true, false, vec_len, IfOk, MatchResult, Some, None};
-ghost use Rattle.dimacs.specs.Words.{Item, Given, line_items, number_item, signed_item, status_item, claim, words};
+ghost use Rattle.std.specs.Prelude.{◌≡◌, ℕ, ◌<◌, List, [], ◌∷◌, map, slice_index, slice_index_or};
+ghost use Rattle.std.specs.Prelude.{slice_set, not, true, false, vec_len, IfOk, MatchResult, Some};
+ghost use Rattle.std.specs.Prelude.{None};
+ghost use Rattle.dimacs.specs.Words.{Item, Given, line_items, number_item, signed_item};
+ghost use Rattle.dimacs.specs.Words.{status_item, claim, words};
 
 use crate::answer::{AnswerFault, SolverAnswer};
 use crate::number::is_number;

@@ -1,6 +1,7 @@
 //! Where bytes go.
 
-ghost use Rattle.std.specs.Prelude.{◌≡◌, ℕ, ◌+◌, ◌^◌, ◌<◌, ◌≤◌, if◌then◌else◌, List, Option, length, take, is_ok, true, IfOk, IfErr, OnOk};
+ghost use Rattle.std.specs.Prelude.{◌≡◌, ℕ, ◌+◌, ◌^◌, ◌<◌, ◌≤◌, if◌then◌else◌, List, Option};
+ghost use Rattle.std.specs.Prelude.{length, take, is_ok, true, IfOk, IfErr, OnOk};
 ghost use Rattle.std.specs.Io.KnownBytes.{Appends, WriteAppends};
 ghost use Rattle.dimacs.specs.Sinks.{most_failures, one_more, is_refused, WritesFrom};
 
@@ -95,7 +96,8 @@ pub(crate) fn put_all<W: Sink>(sink: &mut W, written: u64, piece: &[u8]) -> Resu
     Ok(out)
 }
 
-/// Writes a whole text. Where the sink fails, exactly the first `written` bytes went out, and not all.
+/// Writes a whole text. Where the sink fails, exactly the first `written` bytes went out, and not
+/// all.
 pub fn write_all<W: Sink>(sink: &mut W, text: &[u8]) -> Result<(), WriteFault>
     ensures ok { OnOk result (Appends (W.bytes sink.old) (W.bytes sink.new) text.now) }
     ensures err { IfErr result (λ e. (e.written < length text.now) ×

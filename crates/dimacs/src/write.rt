@@ -1,6 +1,7 @@
 //! The text of a formula goes out.
 
-ghost use Rattle.std.specs.Prelude.{◌≡◌, ℕ, ◌+◌, ◌^◌, ◌<◌, ◌≤◌, if◌then◌else◌, List, Option, [], length, take, is_ok, IfOk, IfErr, OnOk, MatchResult};
+ghost use Rattle.std.specs.Prelude.{◌≡◌, ℕ, ◌+◌, ◌^◌, ◌<◌, ◌≤◌, if◌then◌else◌, List, Option, []};
+ghost use Rattle.std.specs.Prelude.{length, take, is_ok, IfOk, IfErr, OnOk, MatchResult};
 ghost use Rattle.std.specs.Io.KnownBytes.{Appends};
 ghost use Rattle.order_cnf.specs.Data.{cnf_of};
 ghost use Rattle.dimacs.specs.Sending.{IsUnderWay, IsCutOff};

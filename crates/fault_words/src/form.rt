@@ -70,7 +70,7 @@ fn is_key_byte(byte: u8) -> bool {
     byte.is_ascii_alphanumeric() || matches!(byte, b'_' | b'.' | b':' | b'/' | b'-')
 }
 
-// What the whole line looks like, whatever its words.
+/// What the whole line looks like, whatever its words.
 fn wrong_as_a_whole(line: LogLine<'_>, number: usize) -> Option<Wrong> {
     let bytes = line.bytes;
     if number == 1 && bytes.starts_with(b"\xef\xbb\xbf") {
@@ -154,7 +154,7 @@ fn wrong_operation(rest: &[u8]) -> Option<Wrong> {
     wrong_number(Number::Identity, identity)
 }
 
-// A word that stands alone, and may state a moment in version 3.
+/// A word that stands alone, and may state a moment in version 3.
 fn wrong_moment(version: Version, word: &'static str, behind: Option<&[u8]>) -> Option<Wrong> {
     let moment = behind?;
     if !version.has_moments() {
@@ -166,7 +166,7 @@ fn wrong_moment(version: Version, word: &'static str, behind: Option<&[u8]>) -> 
     wrong_number(Number::Moment, moment)
 }
 
-// A word that stands alone.
+/// A word that stands alone.
 fn wrong_alone(word: &'static str, behind: Option<&[u8]>) -> Option<Wrong> {
     behind?;
     Some(Wrong::Alone(word))
@@ -199,7 +199,7 @@ fn wrong_word(word: &[u8]) -> Wrong {
     }
 }
 
-// What is wrong by the words of the line.
+/// What is wrong by the words of the line.
 fn wrong_in_words(version: Version, bytes: &[u8], number: usize) -> Option<Wrong> {
     let (word, behind) = first_word(bytes);
     match word {
@@ -214,7 +214,8 @@ fn wrong_in_words(version: Version, bytes: &[u8], number: usize) -> Option<Wrong
     }
 }
 
-/// What is wrong with a line of a log of this version, of this number from 1, where that can be seen.
+/// What is wrong with a line of a log of this version, of this number from 1, where that can be
+/// seen.
 pub fn wrong_form(version: Version, line: LogLine<'_>, number: usize) -> Option<Wrong> {
     match wrong_as_a_whole(line, number) {
         Some(wrong) => Some(wrong),

@@ -1,7 +1,11 @@
-//! Why a log is refused, in words for people: as `FILE:LINE: WORDS (CODE)`, and each part by itself.
+//! Why a log is refused, in words for people: as `FILE:LINE: WORDS (CODE)`, and each part by
+//! itself.
 //!
-//! The fault and its line come from those who read the log. The words are made from that line, and from the lines before it, as
-//! far as it can be seen there what is wrong. No contract says what they are; each call is proved to be safe and to return.
+//! Called by `audit_command` and `cobra_poly`. It knows no history, and not which command ran.
+//!
+//! The fault and its line come from those who read the log. The words are made from that line, and
+//! from the lines before it, as far as it can be seen there what is wrong. No contract says what
+//! they are; each call is proved to be safe and to return.
 #![tactic(auto)]
 
 mod form;

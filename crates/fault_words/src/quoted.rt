@@ -5,8 +5,8 @@ use std::alloc::{AllocError, Global};
 /// How many bytes are shown.
 const SHOWN: usize = 40;
 
-/// Bytes between backquotes, and no more than some dozens of them. Those that are no visible ASCII, and those that end a text or
-/// escape in one, stand by their number.
+/// Bytes between backquotes, and no more than some dozens of them. Those that are no visible ASCII,
+/// and those that end a text or escape in one, stand by their number.
 pub fn quoted(alloc: Global, bytes: &[u8]) -> Result<String, AllocError> {
     let mut text = String::from_str(alloc, "`")?;
     for byte in bytes.iter().take(SHOWN) {

@@ -135,7 +135,7 @@ fn identity_of(line: &[u8]) -> Option<&[u8]> {
     Some(&words[blank + 1..])
 }
 
-// What was said before, and where, as far as that is found.
+/// What was said before, and where, as far as that is found.
 fn twice_words(
     alloc: Global,
     what: &str,
@@ -230,8 +230,8 @@ pub fn words_of(alloc: Global, log: &[u8], fault: LogFault) -> Result<String, Al
     String::from_str(alloc, words)
 }
 
-/// The line that a compiler would print of a log of this name that has this fault: `FILE:LINE: WORDS (CODE)`, without a line feed,
-/// and without the line where the fault has none.
+/// The line that a compiler would print of a log of this name that has this fault: `FILE:LINE:
+/// WORDS (CODE)`, without a line feed, and without the line where the fault has none.
 pub fn refusal(
     alloc: Global,
     name: &str,

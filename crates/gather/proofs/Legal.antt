@@ -14,13 +14,13 @@ use Rattle.desk.proofs.Tied.{get_set}
 use Rattle.gather.specs.Pieces.{Piece, IsPiece, same_version, is_piece_of, is_piece}
 use Rattle.gather.specs.Steps.{State, is_kept, is_held_by, put_reply, next_of, reply_of}
 use Rattle.gather.specs.Kept.{WasKept, AreKept}
-use Rattle.gather.specs.declared.messages.Mark.{Mark}
-use Rattle.gather.specs.declared.messages.Event.{Event}
-use Rattle.gather.specs.declared.messages.Event.TheVariants.{Take, Put, Release}
-use Rattle.gather.specs.declared.messages.Reply.{Reply}
-use Rattle.gather.specs.declared.messages.Reply.TheVariants.{Double, Kept, Stranger}
+use Rattle.gather.specs.declared.messages.BlockState.{BlockState}
+use Rattle.gather.specs.declared.messages.GatherEvent.{GatherEvent}
+use Rattle.gather.specs.declared.messages.GatherEvent.TheVariants.{Take, Put, Release}
+use Rattle.gather.specs.declared.messages.GatherReply.{GatherReply}
+use Rattle.gather.specs.declared.messages.GatherReply.TheVariants.{Double, Kept, Stranger}
 
-log_same : (s : State) (seat : ℕ) (e : Event) → (next_of s seat e).log ≡ s.log
+log_same : (s : State) (seat : ℕ) (e : GatherEvent) → (next_of s seat e).log ≡ s.log
 log_same s seat Take = refl
 log_same s seat (Put k p) = refl
 log_same s seat Release = refl
@@ -32,7 +32,7 @@ by_tests false true true e = refl
 by_tests false true false e = absurd (cc)
 
 -- only a piece of the block is kept
-kept_fits : (seat : ℕ) (fits : Bool) (m : Option Mark) → put_reply seat fits m ≡ Kept → fits ≡ true
+kept_fits : (seat : ℕ) (fits : Bool) (m : Option BlockState) → put_reply seat fits m ≡ Kept → fits ≡ true
 kept_fits seat fits None e = absurd (cc)
 kept_fits seat fits (Some m) e = by_tests (is_kept m) (is_held_by seat m) fits e
 
@@ -69,21 +69,21 @@ piece_of log k p (Some b) here e =
 pub piece_where : (log : List ℕ) (k : ℕ) (p : Piece) → is_piece log k p ≡ true → IsPiece log k p
 piece_where log k p e = piece_of log k p (slice_get (blocks_of log) k) refl e
 
-kept_at : (s : State) (history : List (Entry Event Reply)) (n seat k : ℕ) (p : Piece) → IsLegal next_of reply_of s history → slice_get history n ≡ Some (entry seat (Put k p) Kept) → is_piece s.log k p ≡ true
+kept_at : (s : State) (history : List (Entry GatherEvent GatherReply)) (n seat k : ℕ) (p : Piece) → IsLegal next_of reply_of s history → slice_get history n ≡ Some (entry seat (Put k p) Kept) → is_piece s.log k p ≡ true
 kept_at s [] n seat k p legal e = absurd (cc)
 kept_at s (x ∷ xs) zero seat k p legal e =
     let some : Some x ≡ Some (entry seat (Put k p) Kept) = e in
     let is : x ≡ entry seat (Put k p) Kept = cc in
-    let answered : (entry seat (Put k p) Kept).reply ≡ reply_of s seat (Put k p) = subst (λ (y : Entry Event Reply). y.reply ≡ reply_of s y.seat y.event) is legal.0 in
+    let answered : (entry seat (Put k p) Kept).reply ≡ reply_of s seat (Put k p) = subst (λ (y : Entry GatherEvent GatherReply). y.reply ≡ reply_of s y.seat y.event) is legal.0 in
     kept_fits seat (is_piece s.log k p) (slice_get s.marks k) (sym answered)
 kept_at s (x ∷ xs) (suc n) seat k p legal e =
     ap (λ log. is_piece log k p) (sym (log_same s x.seat x.event)) ∙ kept_at (next_of s x.seat x.event) xs n seat k p legal.1 e
 
-pub kept_pieces : (s : State) (history : List (Entry Event Reply)) → IsLegal next_of reply_of s history → (k : ℕ) (p : Piece) → WasKept history k p → IsPiece s.log k p
+pub kept_pieces : (s : State) (history : List (Entry GatherEvent GatherReply)) → IsLegal next_of reply_of s history → (k : ℕ) (p : Piece) → WasKept history k p → IsPiece s.log k p
 kept_pieces s history legal k p kept = piece_where s.log k p (kept_at s history kept.place kept.seat k p legal kept.here)
 
 -- one step more of a history was looked at, and it kept a piece
-pub kept_more : (history : List (Entry Event Reply)) (place : ℕ) (x : Entry Event Reply) (found now : List (Option Piece)) (k : ℕ) (p : Piece)
+pub kept_more : (history : List (Entry GatherEvent GatherReply)) (place : ℕ) (x : Entry GatherEvent GatherReply) (found now : List (Option Piece)) (k : ℕ) (p : Piece)
     → AreKept history found → slice_get history place ≡ Some x → x.event ≡ Put k p → x.reply ≡ Kept → now ≡ slice_set found k (Some p) → AreKept history now
 kept_more history place x found now k p kept at event reply is = λ j q e. ⊎_elim
     (λ (h : (j ≡ k) × (Some q ≡ Some p)).

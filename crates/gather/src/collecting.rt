@@ -1,21 +1,22 @@
 //! The sessions of a log, put together from what workers read.
 
-ghost use Rattle.std.specs.Prelude.{◌≡◌, ℕ, None, Some, IfOk, IfErr, IfSome, OnSome, map, length, slice_set, slice_index_or, ◌<◌};
+ghost use Rattle.std.specs.Prelude.{◌≡◌, ℕ, None, Some, IfOk, IfErr, IfSome, OnSome, map, length};
+ghost use Rattle.std.specs.Prelude.{slice_set, slice_index_or, ◌<◌};
 ghost use Rattle.std.specs.List.{AllByRecursion};
 ghost use Rattle.session_log.specs.Text.{view, IsLegal, IsHeldBy, log_text};
 ghost use Rattle.session_log.specs.Version.{version_of};
 ghost use Rattle.session_log.specs.Faults.{grammar_fault, IsFault};
 ghost use Rattle.session_log.specs.Blocks.{blocks_of, size_fault};
 ghost use Rattle.desk.specs.History.{IsLegal as IsLegalHistory};
-ghost use Rattle.gather.specs.declared.messages.Event.TheVariants as event;
-ghost use Rattle.gather.specs.declared.messages.Reply.TheVariants as reply;
+ghost use Rattle.gather.specs.declared.messages.GatherEvent.TheVariants as event;
+ghost use Rattle.gather.specs.declared.messages.GatherReply.TheVariants as reply;
 ghost use Rattle.gather.specs.Pieces.{reading_fault};
 ghost use Rattle.gather.specs.Steps.{opening_state, next_of, reply_of};
 ghost use Rattle.desk.specs.Seats.{AreFresh, AreNumbered};
 ghost use Rattle.gather.specs.Kept.{AreKept, ArePieces, nothing_found};
 
 use crate::machine::GatherMachine;
-use crate::messages::{Event, Reply};
+use crate::messages::{GatherEvent, GatherReply};
 use crate::parsed::Parsed;
 use crate::worker::{Job, work};
 use desk::desk::Desk;
@@ -58,7 +59,7 @@ pub fn collect<R: Threads + Wait + Clock + Sync, G: Gate>(
     Ok((version, sessions_of(alloc, log, found)?))
 }
 
-// What workers read of each block.
+/// What workers read of each block.
 fn read_pieces<'a, R: Threads + Wait + Clock + Sync, G: Gate>(
     rt: &R,
     alloc: Global,
@@ -77,7 +78,7 @@ fn read_pieces<'a, R: Threads + Wait + Clock + Sync, G: Gate>(
     by_block(alloc, &blocks, history)
 }
 
-// The history of a desk on which each seat's worker has read what it could.
+/// The history of a desk on which each seat's worker has read what it could.
 fn run<'a, J: Naming + Send + Sync, R: Threads + Wait + Clock + Sync, G: Gate>(
     rt: &R,
     alloc: Global,
@@ -85,11 +86,11 @@ fn run<'a, J: Naming + Send + Sync, R: Threads + Wait + Clock + Sync, G: Gate>(
     blocks: &[Block],
     gate: &G,
     opened: Opened<GatherMachine<'a>>,
-) -> Result<Vec<Entry<Event<'a>, Reply>>, AllocError>
-    requires names { J.names ≡ opened.1 }
-    requires desk { J.desk ≡ opened.2 }
+) -> Result<Vec<Entry<GatherEvent<'a>, GatherReply>>, AllocError>
+    requires names { J.names ≡ opened.names }
+    requires desk { J.desk ≡ opened.desk }
     requires blocks { blocks.now ≡ blocks_of log.now }
-    requires opening { opened.0 ≡ opening_state log.now }
+    requires opening { opened.machine ≡ opening_state log.now }
     ensures { IfOk result (λ h.
         IsLegalHistory next_of reply_of (opening_state log.now) h.items) }
 {
@@ -100,14 +101,15 @@ fn run<'a, J: Naming + Send + Sync, R: Threads + Wait + Clock + Sync, G: Gate>(
     Ok(closed.history)
 }
 
-// Each worker in a thread of its own, until it has left.
+/// Each worker in a thread of its own, until it has left.
 fn work_all<'b, 'a, J: Naming + Send + Sync, G: Gate, R: Threads + Wait + Clock + Sync>(
     rt: &R,
     jobs: Vec<Job<'b, 'a, J, G>>,
 ) -> Result<Vec<Left<GatherMachine<'a>, J>>, AllocError>
     ensures count { IfOk result (λ lefts. length lefts.items ≡ length jobs.entry.items) }
     ensures seats { IfOk result (λ lefts. (k : ℕ) (left : _) (job : _) → k < length jobs.entry.items
-        → (slice_index_or lefts.items k left).0 ≡ (slice_index_or jobs.entry.items k job).seat.0) }
+        → (slice_index_or lefts.items k left).number
+        ≡ (slice_index_or jobs.entry.items k job).seat.number) }
 {
     thread::map_vec(rt, jobs, &|job| work(rt, job))
 }
@@ -123,7 +125,7 @@ fn jobs_of<'b, 'a, J: Naming, G: Gate>(
     requires blocks { blocks.now ≡ blocks_of log.now }
     requires seats { AreFresh seats.items }
     ensures count { IfOk result (λ jobs. length jobs.items ≡ length seats.entry.items) }
-    ensures numbers { IfOk result (λ jobs. AreNumbered (λ job. job.seat.0) jobs.items) }
+    ensures numbers { IfOk result (λ jobs. AreNumbered (λ job. job.seat.number) jobs.items) }
 {
     let mut jobs = Vec::with_capacity(alloc, seats.len())?;
     for seat in seats {
@@ -139,18 +141,18 @@ fn jobs_of<'b, 'a, J: Naming, G: Gate>(
     Ok(jobs)
 }
 
-// A piece that was kept for a block.
+/// A piece that was kept for a block.
 #[derive(Drop)]
 struct Keeping<'a> {
     block: usize,
     parsed: Parsed<'a>,
 }
 
-// What a history kept for each block.
+/// What a history kept for each block.
 fn by_block<'a>(
     alloc: Global,
     blocks: &[Block],
-    history: Vec<Entry<Event<'a>, Reply>>,
+    history: Vec<Entry<GatherEvent<'a>, GatherReply>>,
 ) -> Result<Vec<Option<Parsed<'a>>>, AllocError>
     ensures count { IfOk result (λ found. length found.items ≡ length blocks.now) }
     ensures kept { IfOk result (λ found. AreKept history.entry.items found.items) }
@@ -174,9 +176,10 @@ fn none_yet<'a>(alloc: Global, blocks: &[Block]) -> Result<Vec<Option<Parsed<'a>
     Ok(found)
 }
 
-fn kept_in<'a>(step: Entry<Event<'a>, Reply>) -> Option<Keeping<'a>>
+fn kept_in<'a>(step: Entry<GatherEvent<'a>, GatherReply>) -> Option<Keeping<'a>>
     ensures { IfSome result (λ keeping.
-        (step.entry.event ≡ event.Put keeping.block keeping.parsed) × (step.entry.reply ≡ reply.Kept)) }
+        (step.entry.event ≡ event.Put keeping.block keeping.parsed)
+        × (step.entry.reply ≡ reply.Kept)) }
 {
     let Entry {
         seat: _,
@@ -184,8 +187,8 @@ fn kept_in<'a>(step: Entry<Event<'a>, Reply>) -> Option<Keeping<'a>>
         reply,
     } = step;
     match event {
-        Event::Put { block, parsed } => match reply {
-            Reply::Kept => Some(Keeping { block, parsed }),
+        GatherEvent::Put { block, parsed } => match reply {
+            GatherReply::Kept => Some(Keeping { block, parsed }),
             _ => None,
         },
         _ => None,
@@ -202,8 +205,8 @@ fn place<'a>(found: &mut Vec<Option<Parsed<'a>>>, keeping: Keeping<'a>)
     }
 }
 
-// The sessions of all blocks, or the fault of the first block that has one. The log stands for the
-// contract alone.
+/// The sessions of all blocks, or the fault of the first block that has one. The log stands for the
+/// contract alone.
 fn sessions_of<'a>(
     alloc: Global,
     _log: &[u8],
@@ -214,7 +217,8 @@ fn sessions_of<'a>(
     ensures legal { IfOk result (λ ss. AllByRecursion IsLegal (map view ss.items)) }
     ensures held { IfOk result (λ ss.
         AllByRecursion (IsHeldBy (version_of _log.now)) (map view ss.items)) }
-    ensures text { IfOk result (λ ss. _log.now ≡ log_text (version_of _log.now) (map view ss.items)) }
+    ensures text { IfOk result (λ ss. _log.now ≡ log_text (version_of _log.now)
+        (map view ss.items)) }
     ensures fault { IfErr result (λ f. IsFault f (grammar_fault _log.now)) }
 {
     let mut sessions = Vec::with_capacity(alloc, found.len())?;

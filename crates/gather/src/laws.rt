@@ -3,8 +3,8 @@
 ghost use Rattle.std.specs.Prelude.{ℕ, List};
 ghost use Rattle.desk.specs.declared.history.Entry.{Entry};
 ghost use Rattle.desk.specs.History.{IsLegal};
-ghost use Rattle.gather.specs.declared.messages.Event.{Event as Sent};
-ghost use Rattle.gather.specs.declared.messages.Reply.{Reply as Answer};
+ghost use Rattle.gather.specs.declared.messages.GatherEvent.{GatherEvent as Sent};
+ghost use Rattle.gather.specs.declared.messages.GatherReply.{GatherReply as Answer};
 ghost use Rattle.gather.specs.Pieces.{Piece, IsPiece};
 ghost use Rattle.gather.specs.Steps.{State, next_of, reply_of};
 ghost use Rattle.gather.specs.Kept.{WasKept};

@@ -1,5 +1,8 @@
 //! The sessions of a log, read by several threads at once.
 //!
+//! Called by `cobra_formulas`, where a log is read into its history. It knows no history, and no
+//! node.
+//!
 //! A log is cut into blocks, one for each session. A `GatherMachine` behind a desk hands them out;
 //! each worker takes a block, reads it outside the lock, and puts what it read. The desk's history
 //! keeps what was put, and `collect` puts it together in log order.
@@ -13,8 +16,8 @@
 //! For every schedule and every number of workers, `collect` answers what one thread that reads
 //! block after block does: the log's version and the one list of sessions whose text in it the log
 //! is, or the log's first fault of size or grammar. A faulty block stops no other one; the first in
-//! log order decides. Memory may be wanting in place of any answer, as where a worker left before it
-//! had put its block.
+//! log order decides. Memory may be wanting in place of any answer, as where a worker left before
+//! it had put its block.
 //!
 //! # Why it holds
 //!
@@ -34,5 +37,5 @@ mod worker;
 
 pub use collecting::collect;
 pub use machine::GatherMachine;
-pub use messages::{Event, Mark, Reply};
+pub use messages::{BlockState, GatherEvent, GatherReply};
 pub use parsed::{Parsed, parse_piece};

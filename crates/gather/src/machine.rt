@@ -3,11 +3,12 @@
 ghost use Rattle.std.specs.Prelude.{◌≡◌, Some, IfOk, Contains, map, position, slice_get};
 ghost use Rattle.session_log.specs.Blocks.{blocks_of};
 ghost use Rattle.gather.specs.Pieces.{is_piece, is_piece_of};
-ghost use Rattle.gather.specs.declared.messages.Mark.TheVariants as mark;
+ghost use Rattle.gather.specs.declared.messages.BlockState.TheVariants as mark;
 ghost use Rattle.gather.specs.Steps.{opening_state, with_marks, is_open, is_kept, is_held_by};
-ghost use Rattle.gather.specs.Steps.{handed, hand_out, take_reply, put_reply, marked_kept, released};
+ghost use Rattle.gather.specs.Steps.{handed, hand_out, take_reply, put_reply, marked_kept};
+ghost use Rattle.gather.specs.Steps.{released};
 
-use crate::messages::{Mark, Reply};
+use crate::messages::{BlockState, GatherReply};
 use crate::parsed::Parsed;
 use desk::seat_no::SeatNo;
 use session_log::Block;
@@ -20,7 +21,7 @@ use std::marker::Model;
 pub struct GatherMachine<'a> {
     log: &'a [u8],
     blocks: Vec<Block>,
-    marks: Vec<Mark>,
+    marks: Vec<BlockState>,
 }
 
 impl<'a> Model for GatherMachine<'a> {
@@ -50,38 +51,39 @@ impl<'a> GatherMachine<'a> {
     }
 
     /// Hands out the block that the seat holds, else the least open one.
-    pub(crate) fn take(&mut self, seat: SeatNo) -> Reply
+    pub(crate) fn take(&mut self, seat: SeatNo) -> GatherReply
         ensures reply { result ≡ take_reply (handed self.old.marks seat) }
         ensures state { self.new ≡ with_marks self.old
             (hand_out self.old.marks seat (handed self.old.marks seat)) }
     {
         match handed(&self.marks, seat) {
             Some(block) => {
-                self.marks[block] = Mark::Held(seat);
-                Reply::Block(block)
+                self.marks[block] = BlockState::Held(seat);
+                GatherReply::Block(block)
             }
-            None => Reply::NoneLeft,
+            None => GatherReply::NoneLeft,
         }
     }
 
     /// Keeps a block that the seat holds, where it is what was read.
-    pub(crate) fn put(&mut self, seat: SeatNo, block: usize, parsed: &Parsed<'a>) -> Reply
+    pub(crate) fn put(&mut self, seat: SeatNo, block: usize, parsed: &Parsed<'a>) -> GatherReply
         ensures reply { result
-            ≡ put_reply seat (is_piece self.old.log block parsed.now) (slice_get self.old.marks block) }
+            ≡ put_reply seat (is_piece self.old.log block parsed.now)
+            (slice_get self.old.marks block) }
         ensures state { self.new
             ≡ with_marks self.old (marked_kept self.old.marks block result) }
     {
         let Some(mark) = self.marks.get(block) else {
-            return Reply::Stranger;
+            return GatherReply::Stranger;
         };
         if is_kept(*mark) {
-            return Reply::Double;
+            return GatherReply::Double;
         }
         if !is_held_by(*mark, seat) || !self.is_piece(block, parsed) {
-            return Reply::Stranger;
+            return GatherReply::Stranger;
         }
-        self.marks[block] = Mark::Kept;
-        Reply::Kept
+        self.marks[block] = BlockState::Kept;
+        GatherReply::Kept
     }
 
     /// Opens what the seat holds.
@@ -91,7 +93,7 @@ impl<'a> GatherMachine<'a> {
         release_all(&mut self.marks, seat);
     }
 
-    // Whether this is what was read of the block.
+    /// Whether this is what was read of the block.
     fn is_piece(&self, block: usize, parsed: &Parsed<'a>) -> bool
         ensures { result ≡ is_piece self.now.log block parsed.now }
     {
@@ -102,7 +104,7 @@ impl<'a> GatherMachine<'a> {
     }
 }
 
-// Whether this is what was read of the block, which is one of the log.
+/// Whether this is what was read of the block, which is one of the log.
 fn is_piece_of<'a>(log: &[u8], block: &Block, parsed: &Parsed<'a>) -> bool
     requires { Contains (blocks_of log.now) block.now }
     ensures { result ≡ is_piece_of log.now parsed.now (Some block.now) }
@@ -112,53 +114,53 @@ fn is_piece_of<'a>(log: &[u8], block: &Block, parsed: &Parsed<'a>) -> bool
         && parsed.version() == block.version
 }
 
-fn is_open(mark: Mark) -> bool
+fn is_open(mark: BlockState) -> bool
     ensures { result ≡ is_open mark }
 {
     match mark {
-        Mark::Open => true,
-        Mark::Held(_) | Mark::Kept => false,
+        BlockState::Open => true,
+        BlockState::Held(_) | BlockState::Kept => false,
     }
 }
 
-fn is_kept(mark: Mark) -> bool
+fn is_kept(mark: BlockState) -> bool
     ensures { result ≡ is_kept mark }
 {
     match mark {
-        Mark::Open | Mark::Held(_) => false,
-        Mark::Kept => true,
+        BlockState::Open | BlockState::Held(_) => false,
+        BlockState::Kept => true,
     }
 }
 
-fn is_held_by(mark: Mark, seat: SeatNo) -> bool
+fn is_held_by(mark: BlockState, seat: SeatNo) -> bool
     ensures { result ≡ is_held_by seat mark }
 {
     match mark {
-        Mark::Open | Mark::Kept => false,
-        Mark::Held(holder) => holder.get() == seat.get(),
+        BlockState::Open | BlockState::Kept => false,
+        BlockState::Held(holder) => holder.get() == seat.get(),
     }
 }
 
-fn all_open(alloc: Global, blocks: &[Block]) -> Result<Vec<Mark>, AllocError>
+fn all_open(alloc: Global, blocks: &[Block]) -> Result<Vec<BlockState>, AllocError>
     ensures { IfOk result (λ v. v.items ≡ map (λ block. mark.Open) blocks.now) }
 {
-    blocks.iter().map(|_| Mark::Open).collect(alloc)
+    blocks.iter().map(|_| BlockState::Open).collect(alloc)
 }
 
-fn held_block(marks: &[Mark], seat: SeatNo) -> Option<usize>
+fn held_block(marks: &[BlockState], seat: SeatNo) -> Option<usize>
     ensures { result ≡ position (is_held_by seat) marks.now }
 {
     marks.iter().position(|mark| is_held_by(*mark, seat))
 }
 
-fn open_block(marks: &[Mark]) -> Option<usize>
+fn open_block(marks: &[BlockState]) -> Option<usize>
     ensures { result ≡ position is_open marks.now }
 {
     marks.iter().position(|mark| is_open(*mark))
 }
 
-// The block that the seat holds, else the least open one.
-fn handed(marks: &[Mark], seat: SeatNo) -> Option<usize>
+/// The block that the seat holds, else the least open one.
+fn handed(marks: &[BlockState], seat: SeatNo) -> Option<usize>
     ensures { result ≡ handed marks.now seat }
 {
     match held_block(marks, seat) {
@@ -167,17 +169,17 @@ fn handed(marks: &[Mark], seat: SeatNo) -> Option<usize>
     }
 }
 
-fn released(mark: &Mark, seat: SeatNo) -> Mark
+fn released(mark: &BlockState, seat: SeatNo) -> BlockState
     ensures { result ≡ released seat mark.now }
 {
     if is_held_by(*mark, seat) {
-        Mark::Open
+        BlockState::Open
     } else {
         *mark
     }
 }
 
-fn release_all(marks: &mut [Mark], seat: SeatNo)
+fn release_all(marks: &mut [BlockState], seat: SeatNo)
     ensures { marks.new ≡ map (released seat) marks.old }
 {
     for mark in marks.iter_mut() {

@@ -5,7 +5,7 @@ use desk::seat_no::SeatNo;
 
 /// What a worker sends. Blocks are numbered from 0 in log order.
 #[derive(Drop)]
-pub enum Event<'a> {
+pub enum GatherEvent<'a> {
     /// Asks for a block.
     Take,
     /// Hands in what was read of a block.
@@ -16,7 +16,7 @@ pub enum Event<'a> {
 
 /// What a worker is answered.
 #[derive(Clone, Copy, Debug, PartialEq, Eq)]
-pub enum Reply {
+pub enum GatherReply {
     /// To `Take`: the block that the seat holds from now on.
     Block(usize),
     /// To `Take`: the seat holds no block, and none is open.
@@ -33,7 +33,7 @@ pub enum Reply {
 
 /// Where a block is.
 #[derive(Clone, Copy, Debug, PartialEq, Eq)]
-pub enum Mark {
+pub enum BlockState {
     /// To be handed out.
     Open,
     /// With a seat.

@@ -1,7 +1,7 @@
 //! The machine's step, by its table.
 
 use crate::machine::GatherMachine;
-use crate::messages::{Event, Reply};
+use crate::messages::{GatherEvent, GatherReply};
 use desk::machine::Machine;
 use desk::seat_no::SeatNo;
 
@@ -10,9 +10,9 @@ impl<'a> Machine for GatherMachine<'a> {
     ghost use Rattle.std.specs.Prelude.{⊤};
     ghost use Rattle.gather.specs.Steps.{next_of, reply_of};
 
-    type Event = Event<'a>;
+    type Event = GatherEvent<'a>;
 
-    type Reply = Reply;
+    type Reply = GatherReply;
 
     ghost next = { next_of };
 
@@ -20,18 +20,18 @@ impl<'a> Machine for GatherMachine<'a> {
 
     ghost valid = { λ s. ⊤ };
 
-    fn step(&mut self, seat: SeatNo, event: &Event<'a>) -> Reply {
+    fn step(&mut self, seat: SeatNo, event: &GatherEvent<'a>) -> GatherReply {
         match event {
-            Event::Take => self.take(seat),
-            Event::Put { block, parsed } => self.put(seat, *block, parsed),
-            Event::Release => {
+            GatherEvent::Take => self.take(seat),
+            GatherEvent::Put { block, parsed } => self.put(seat, *block, parsed),
+            GatherEvent::Release => {
                 self.release(seat);
-                Reply::Released
+                GatherReply::Released
             }
         }
     }
 
-    fn waits(&self, _seat: SeatNo, _event: &Event<'a>) -> bool {
+    fn waits(&self, _seat: SeatNo, _event: &GatherEvent<'a>) -> bool {
         false
     }
 

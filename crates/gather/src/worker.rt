@@ -4,7 +4,7 @@ ghost use Rattle.std.specs.Prelude.{◌≡◌};
 ghost use Rattle.session_log.specs.Blocks.{blocks_of};
 
 use crate::machine::GatherMachine;
-use crate::messages::{Event, Reply};
+use crate::messages::{GatherEvent, GatherReply};
 use crate::parsed::parse_piece;
 use desk::desk::Desk;
 use desk::gate::Gate;
@@ -32,7 +32,7 @@ pub fn work<'b, 'a, J: Naming, G: Gate, R: Wait + Clock>(
     rt: &R,
     job: Job<'b, 'a, J, G>,
 ) -> Left<GatherMachine<'a>, J>
-    ensures { result.0 ≡ job.entry.seat.0 }
+    ensures { result.number ≡ job.entry.seat.number }
 {
     let Job {
         alloc,
@@ -50,11 +50,11 @@ pub fn work<'b, 'a, J: Naming, G: Gate, R: Wait + Clock>(
         }
         turn = turn.saturating_add(1);
     }
-    let (_, left) = desk.leave(rt, seat, Event::Release);
+    let (_, left) = desk.leave(rt, seat, GatherEvent::Release);
     left
 }
 
-// Takes a block, reads it, and hands in what was read.
+/// Takes a block, reads it, and hands in what was read.
 fn take_turn<'b, 'a, J: Naming, R: Wait>(
     rt: &R,
     alloc: Global,
@@ -64,14 +64,14 @@ fn take_turn<'b, 'a, J: Naming, R: Wait>(
     blocks: &'b [Block],
 ) -> Option<()>
     requires { blocks.now ≡ blocks_of log.now }
-    ensures { seat.new.0 ≡ seat.old.0 }
+    ensures { seat.new.number ≡ seat.old.number }
 {
-    let Ok(Reply::Block(number)) = desk.call(rt, seat, Event::Take) else {
+    let Ok(GatherReply::Block(number)) = desk.call(rt, seat, GatherEvent::Take) else {
         return None;
     };
     let block = blocks.get(number)?;
     let parsed = parse_piece(alloc, log, block).ok()?;
-    let put = Event::Put {
+    let put = GatherEvent::Put {
         block: number,
         parsed,
     };

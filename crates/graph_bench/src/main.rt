@@ -1,5 +1,6 @@
-//! Times the crates of graphs, for `bench/graphs.sh`: `graph_bench made` takes graphs of 1,000 nodes, dense and
-//! sparse ones, `graph_bench log FILE` the history of a log, and `graph_bench prune FILE` lists what pruning keeps.
+//! Times the crates of graphs, for `bench/graphs.sh`: `graph_bench made` takes graphs of 1,000
+//! nodes, dense and sparse ones, `graph_bench log FILE` the history of a log, and `graph_bench
+//! prune FILE` lists what pruning keeps.
 #![tactic(auto)]
 
 ghost use Rattle.std.specs.Prelude.{◌≡◌};
@@ -13,8 +14,9 @@ use cobra_cli::{CountedRead, read_all, read_log};
 use desk::gate::OpenGate;
 use desk::seat_no::Workers;
 use known_graph::Known;
+use ledger_checks::check_ledger;
 use polygraph::{Polygraph, bipaths};
-use prune_ledger::{Ledger, Pruned, check_ledger, prune};
+use prune_ledger::{Ledger, Pruned, prune};
 use pruning_laws::Side;
 use reach_rows::Rows;
 use serializability::{MAX_NODES, NodeIx};
@@ -146,7 +148,7 @@ fn time_computed<R: Runtime + Threads + Wait + Sync>(
 fn time_copy<R: Print + Clock>(rt: &R, alloc: Global, rows: &Rows) -> io::Result<()> {
     let start = Instant::now(rt)?;
     let copy = rows.copy(alloc)?;
-    let _ = copy.cyclic();
+    let _ = copy.has_cycle();
     told(rt, "rows, copied", start)
 }
 

@@ -20,14 +20,14 @@ const TWO_WRITERS: &str = "session 1\nbegin\nw x 1\ncommit\nsession 2\nbegin\nw 
 const READER_OF_ONE: &str =
     "session 1\nbegin\nw x 1\ncommit\nsession 2\nbegin\nw x 2\ncommit\nsession 3\nbegin\nr x 1\ncommit\n";
 
-// The polygraph of a history's bipaths.
+/// The polygraph of a history's bipaths.
 fn plain(rt: &impl Abort, alloc: Global, history: &History) -> Polygraph
     requires { IsClean (log_of history.now) }
 {
     bipaths(alloc, history).ok().expect(rt, "a polygraph")
 }
 
-// The polygraph of a history's chains.
+/// The polygraph of a history's chains.
 fn coalesced(rt: &impl Abort, alloc: Global, history: &History) -> Polygraph
     requires { IsClean (log_of history.now) }
 {
@@ -39,14 +39,14 @@ fn coalesced(rt: &impl Abort, alloc: Global, history: &History) -> Polygraph
         .expect(rt, "a polygraph")
 }
 
-// The side has one edge.
+/// The side has one edge.
 fn see_side(rt: &impl Abort, side: &Edges, want: (usize, usize)) {
     assert_eq!(rt; side.as_slice().len(), 1);
     let edge = side.as_slice().first().expect(rt, "an edge");
     assert_eq!(rt; (edge.source().get(), edge.target().get()), want);
 }
 
-// There is one choice, with one edge a side.
+/// There is one choice, with one edge a side.
 fn see_choice(rt: &impl Abort, polygraph: Polygraph, one: (usize, usize), two: (usize, usize)) {
     let (_known, mut choices) = polygraph.into_parts();
     let (first, second) = choices.pop().expect(rt, "a choice").into_sides();
@@ -63,13 +63,13 @@ fn see_order(rt: &impl Abort, alloc: Global, polygraph: &Polygraph, order: &[usi
     assert_eq!(rt; order_fits(polygraph, &nodes), fits);
 }
 
-// The order of the two chains, and one that parts them.
+/// The order of the two chains, and one that parts them.
 fn see_orders(rt: &impl Abort, alloc: Global, polygraph: &Polygraph) {
     see_order(rt, alloc, polygraph, &[1, 2, 5, 3, 4, 6], true);
     see_order(rt, alloc, polygraph, &[1, 3, 2, 5, 4, 6], false);
 }
 
-// The polygraph of the bipaths, of which there are ten.
+/// The polygraph of the bipaths, of which there are ten.
 fn see_bipaths(rt: &impl Abort, alloc: Global, polygraph: &Polygraph) {
     assert_eq!(rt; polygraph.choices().len(), 10);
     see_orders(rt, alloc, polygraph);
@@ -84,7 +84,7 @@ fn chains_for_their_writers(rt: HostRuntime) {
     see_orders(rt, alloc, &coalesced(rt, alloc, &history));
 }
 
-// The log's bipaths have a polygraph, and its chains leave one choice.
+/// The log's bipaths have a polygraph, and its chains leave one choice.
 fn see_chains(rt: &impl Abort, alloc: Global, log: &str, one: (usize, usize), two: (usize, usize)) {
     let history = clean(rt, alloc, log);
     plain(rt, alloc, &history);

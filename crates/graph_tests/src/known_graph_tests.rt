@@ -5,20 +5,20 @@ use serializability::NodeIx;
 use std::alloc::Global;
 use std::process::Abort;
 
-// A session whose first transaction reads what its second one writes.
+/// A session whose first transaction reads what its second one writes.
 const READ_BEFORE_WRITTEN: &str = "session 1\nbegin\nr x 1\ncommit\nbegin\nw x 1\ncommit\n";
 
-// Each of three transactions begins when the one before it has ended.
+/// Each of three transactions begins when the one before it has ended.
 const IN_TURN: &str =
     "log 3\nsession 1\nbegin 1\nw x 1\ncommit 2\nsession 2\nbegin 3\nw x 2\ncommit 4\n\
     session 3\nbegin 5\nr x 1\ncommit 6\n";
 
-// The same, where the third begins at the moment at which the second ends.
+/// The same, where the third begins at the moment at which the second ends.
 const AT_ONCE: &str =
     "log 3\nsession 1\nbegin 1\nw x 1\ncommit 2\nsession 2\nbegin 3\nw x 2\ncommit 4\n\
     session 3\nbegin 4\nr x 1\ncommit 6\n";
 
-// The arcs of a log without an anomaly.
+/// The arcs of a log without an anomaly.
 fn arcs(rt: &impl Abort, alloc: Global, log: &str) -> Known {
     Known::of(alloc, &clean(rt, alloc, log)).expect(rt, "memory")
 }
@@ -67,7 +67,7 @@ fn moments_of_nodes(rt: HostRuntime) {
     see_moment(rt, history.begun_of(node(rt, 0)), None);
 }
 
-// The cycle that is found, or nothing.
+/// The cycle that is found, or nothing.
 fn cycle(rt: &impl Abort, alloc: Global, known: &Known) -> Vec<NodeIx> {
     match known.find_cycle(alloc).expect(rt, "memory") {
         Some(line) => line,
@@ -75,7 +75,7 @@ fn cycle(rt: &impl Abort, alloc: Global, known: &Known) -> Vec<NodeIx> {
     }
 }
 
-// The walk that is found, or nothing.
+/// The walk that is found, or nothing.
 fn walk(rt: &impl Abort, alloc: Global, known: &Known, u: NodeIx, v: NodeIx) -> Vec<NodeIx> {
     assert!(rt; u.get() <= known.nodes() && v.get() <= known.nodes());
     match known.walk(alloc, u, v).expect(rt, "memory") {
@@ -90,8 +90,8 @@ fn longer(rt: &impl Abort, line: &Vec<NodeIx>, next: NodeIx) -> Vec<NodeIx> {
     whole
 }
 
-// The walk that the rule names: with the fewest edges, the lexicographically least, found among all walks through
-// nodes 0 to 3; nothing where there is none.
+/// The walk that the rule names: with the fewest edges, the lexicographically least, found among
+/// all walks through nodes 0 to 3; nothing where there is none.
 fn least_walk(rt: &impl Abort, alloc: Global, known: &Known, u: NodeIx, v: NodeIx) -> Vec<NodeIx> {
     let first = vec![in alloc; u].expect(rt, "memory");
     let mut lines = vec![in alloc; first].expect(rt, "memory");
@@ -114,7 +114,7 @@ fn least_walk(rt: &impl Abort, alloc: Global, known: &Known, u: NodeIx, v: NodeI
     Vec::new(alloc)
 }
 
-// The cycle that the rule names: of the least node that lies on one, the least walk.
+/// The cycle that the rule names: of the least node that lies on one, the least walk.
 fn least_cycle(rt: &impl Abort, alloc: Global, known: &Known) -> Vec<NodeIx> {
     for start in 0..4 {
         let line = least_walk(rt, alloc, known, node(rt, start), node(rt, start));
@@ -125,7 +125,7 @@ fn least_cycle(rt: &impl Abort, alloc: Global, known: &Known) -> Vec<NodeIx> {
     Vec::new(alloc)
 }
 
-// A graph of nodes 0 to 3, of which each bit of the code is an edge.
+/// A graph of nodes 0 to 3, of which each bit of the code is an edge.
 fn coded(rt: &impl Abort, alloc: Global, code: u32) -> Known {
     let mut known = Known::new(alloc, 3).expect(rt, "memory");
     let mut rest = code;
@@ -146,7 +146,7 @@ fn see_cycle(rt: &impl Abort, alloc: Global, known: &Known, code: u32) {
     assert_eq!(rt; found.as_slice(), least.as_slice(), "{code}");
 }
 
-// The walk from node 1 to this one.
+/// The walk from node 1 to this one.
 fn see_walk(rt: &impl Abort, alloc: Global, known: &Known, v: usize, code: u32) {
     let (first, last) = (node(rt, 1), node(rt, v));
     let least = least_walk(rt, alloc, known, first, last);
@@ -167,7 +167,7 @@ fn cycle_and_walks_by_the_rule(rt: HostRuntime) {
     }
 }
 
-// A graph of 70 nodes with 60 edges more, from a fixed sequence of numbers.
+/// A graph of 70 nodes with 60 edges more, from a fixed sequence of numbers.
 fn scattered(rt: &impl Abort, alloc: Global, number: &mut u32) -> Known {
     let mut known = Known::new(alloc, 70).expect(rt, "memory");
     for _ in 0..60 {
@@ -178,7 +178,7 @@ fn scattered(rt: &impl Abort, alloc: Global, number: &mut u32) -> Known {
     known
 }
 
-// The walk from the first node that reaches itself.
+/// The walk from the first node that reaches itself.
 fn first_cycle(rt: &impl Abort, alloc: Global, known: &Known) -> Vec<NodeIx> {
     for v in 0..71 {
         let line = walk(rt, alloc, known, node(rt, v), node(rt, v));
@@ -189,7 +189,7 @@ fn first_cycle(rt: &impl Abort, alloc: Global, known: &Known) -> Vec<NodeIx> {
     Vec::new(alloc)
 }
 
-// The least node that lies on a cycle is the first from which a walk leads back.
+/// The least node that lies on a cycle is the first from which a walk leads back.
 #[test]
 fn cycles_of_larger_graphs(rt: HostRuntime) {
     let rt = &rt;

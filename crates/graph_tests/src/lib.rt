@@ -1,4 +1,5 @@
-//! Tests of the crates of graphs, each by its public calls: known edges, choices, chains that stand for their writers, and what reaches what.
+//! Tests of the crates of graphs, each by its public calls: known edges, choices, chains that stand
+//! for their writers, and what reaches what.
 #![tactic(auto)]
 
 #[cfg(test)]

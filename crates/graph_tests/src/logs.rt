@@ -43,7 +43,7 @@ pub fn clean(rt: &impl Abort, alloc: Global, log: &str) -> History
     ensures { IsClean (log_of result) }
 {
     let history = history_of(rt, alloc, log);
-    let _nodes = history.committed();
+    let _invariant = history.committed();
     match classify(alloc, &history).expect(rt, "memory") {
         Some(_) => panic!(rt; "an anomaly"),
         None => history,

@@ -21,8 +21,8 @@ fn join_rows(rt: &impl Abort, rows: &mut Rows, u: usize, v: usize) {
     rows.add_edge(u, v);
 }
 
-// The arcs of six transactions: the first is read by the second, which writes before the fifth reads; the
-// third is read by the fourth, which the sixth reads. Node 0 stands before each.
+/// The arcs of six transactions: the first is read by the second, which writes before the fifth
+/// reads; the third is read by the fourth, which the sixth reads. Node 0 stands before each.
 fn arcs(rt: &impl Abort, alloc: Global) -> Known {
     let mut known = Known::new(alloc, 6).expect(rt, "memory");
     for (u, v) in [(1, 2), (3, 4), (2, 5), (4, 6)] {
@@ -31,7 +31,8 @@ fn arcs(rt: &impl Abort, alloc: Global) -> Known {
     known
 }
 
-// The pairs of nodes of which the first reaches the second, as numbers of two digits; two nodes more are asked.
+/// The pairs of nodes of which the first reaches the second, as numbers of two digits; two nodes
+/// more are asked.
 fn pairs(rt: &impl Abort, alloc: Global, rows: &Rows) -> Vec<usize> {
     let mut found = Vec::new(alloc);
     for u in 0..9 {
@@ -46,24 +47,25 @@ fn pairs(rt: &impl Abort, alloc: Global, rows: &Rows) -> Vec<usize> {
 
 const OF_ARCS: [usize; 12] = [1, 2, 3, 4, 5, 6, 12, 15, 25, 34, 36, 46];
 
-// With an edge more, from 5 to 3.
+/// With an edge more, from 5 to 3.
 const OF_ONE_MORE: [usize; 21] = [
     1, 2, 3, 4, 5, 6, 12, 13, 14, 15, 16, 23, 24, 25, 26, 34, 36, 46, 53, 54, 56,
 ];
 
-// These are the pairs, and none of a node with itself.
+/// These are the pairs, and none of a node with itself.
 fn see_pairs(rt: &impl Abort, alloc: Global, rows: &Rows, want: &[usize]) {
     assert_eq!(rt; pairs(rt, alloc, rows).as_slice(), want);
-    assert!(rt; !rows.cyclic());
+    assert!(rt; !rows.has_cycle());
 }
 
-// A cycle through all but node 0.
+/// A cycle through all but node 0.
 fn see_cyclic(rt: &impl Abort, alloc: Global, rows: &Rows) {
     assert_eq!(rt; pairs(rt, alloc, rows).len(), 42);
-    assert!(rt; rows.cyclic());
+    assert!(rt; rows.has_cycle());
 }
 
-// The rows of the arcs, and what two edges more make of them: the second closes a cycle through all but node 0.
+/// The rows of the arcs, and what two edges more make of them: the second closes a cycle through
+/// all but node 0.
 fn see_rows(rt: &impl Abort, alloc: Global, mut rows: Rows) {
     assert_eq!(rt; rows.nodes(), 6);
     see_pairs(rt, alloc, &rows, &OF_ARCS);
@@ -75,7 +77,7 @@ fn see_rows(rt: &impl Abort, alloc: Global, mut rows: Rows) {
     see_pairs(rt, alloc, &before, &OF_ARCS);
 }
 
-// The rows of a graph, by so many workers.
+/// The rows of a graph, by so many workers.
 fn rows_by<R: Threads + Wait + Clock + Abort + Sync>(
     rt: &R,
     alloc: Global,
@@ -97,7 +99,7 @@ fn one_thread_or_several_see_the_same(rt: HostRuntime) {
     }
 }
 
-// Seats 1 and 2 wait for each other before their first source.
+/// Seats 1 and 2 wait for each other before their first source.
 #[derive(Drop)]
 struct Meeting {
     first: AtomicBool,
@@ -106,7 +108,7 @@ struct Meeting {
 }
 
 impl Meeting {
-    // Looks at most 10,000 times, a millisecond apart.
+    /// Looks at most 10,000 times, a millisecond apart.
     fn wait_for<R: Clock>(&self, rt: &R, other: &AtomicBool) {
         for _ in 0..10_000 {
             if other.load(Ordering::SeqCst) {
@@ -154,7 +156,7 @@ fn two_workers_meet(rt: HostRuntime) {
     }
 }
 
-// How often each of two seats passes.
+/// How often each of two seats passes.
 #[derive(Drop)]
 struct Counted {
     first: AtomicUsize,
@@ -176,7 +178,8 @@ fn see_passes(rt: &impl Abort, passes: &AtomicUsize, want: usize) {
     assert_eq!(rt; passes.load(Ordering::SeqCst), want);
 }
 
-// Node 0 has an edge to each other node, and these have none: so it is as much work as all of them.
+/// Node 0 has an edge to each other node, and these have none: so it is as much work as all of
+/// them.
 #[test]
 fn two_workers_have_half_the_work_each(rt: HostRuntime) {
     let alloc = rt.alloc();
@@ -188,5 +191,5 @@ fn two_workers_have_half_the_work_each(rt: HostRuntime) {
     let rows = rows_by(&rt, alloc, &known, 2, &gate);
     see_passes(&rt, &gate.first, 1);
     see_passes(&rt, &gate.second, 400);
-    assert!(rt; !rows.cyclic());
+    assert!(rt; !rows.has_cycle());
 }

@@ -8,7 +8,8 @@ use Rattle.piece_laws.specs.Cut.{first_part, rest_of}
 use Rattle.piece_laws.specs.Logs.{opened, closed, present}
 use Rattle.piece_laws.specs.Pieces.{CutAt, AreCuts, pieces, none_held}
 
--- what lies between two cuts, of each session that has transactions there, and what the keys of these are said to hold there: each key
+-- what lies between two cuts, of each session that has transactions there, and what the keys of
+-- these are said to hold there: each key
 -- that holds something, with its identity
 pub record HeldPiece : Type 0 where
   pub sessions : List ClientSession
@@ -28,7 +29,8 @@ abbrev pub between : List CutAt → List ClientSession → List (List ClientSess
 between [] ss = present ss ∷ []
 between (c ∷ cuts) ss = present (first_part c.cut ss) ∷ between cuts (rest_of c.cut ss)
 
--- These are the pieces between cuts of the sessions, at each of which something is held, and their logs are those of the pieces.
+-- These are the pieces between cuts of the sessions, at each of which something is held, and their
+-- logs are those of the pieces.
 pub record ArePieces (ss : List ClientSession) (ps : List HeldPiece) : Type 0 where
   pub cuts : List CutAt
   pub are : AreCuts [] none_held cuts ss

@@ -1,5 +1,7 @@
--- What keys hold as pieces pass: of what was written so far, what is read last, for as long as it is read.
-use Rattle.std.specs.Prelude.{◌≡◌, ℕ, ◌+◌, Bool, ◌&&◌, if◌then◌else◌, nat_lt, List, [], ◌∷◌, ◌++◌, map, Option, Some, None, unwrap_or, Vec}
+-- What keys hold as pieces pass: of what was written so far, what is read last, for as long as it
+-- is read.
+use Rattle.std.specs.Prelude.{◌≡◌, ℕ, ◌+◌, Bool, ◌&&◌, if◌then◌else◌, nat_lt, List, [], ◌∷◌, ◌++◌}
+use Rattle.std.specs.Prelude.{map, Option, Some, None, unwrap_or, Vec}
 use Rattle.std.specs.List.{list_any}
 use Rattle.std.specs.Str.{bytes_eq}
 use Rattle.std.specs.Ordering.{nat_cmp, ordering_then}
@@ -35,10 +37,12 @@ last_in t key wid = unwrap_or (get_by (read_cmp key wid) t) 0
 abbrev pub reads_in : List ℕ → ℕ → List (List ClientSession) → Bool
 reads_in key wid pieces = list_any (λ ss. reads key wid (committed_ops ss)) pieces
 
--- of each piece, of which the first has so many before it: what is read behind it is read by a later piece
+-- of each piece, of which the first has so many before it: what is read behind it is read by a
+-- later piece
 abbrev pub AreLasts : Lasts → ℕ → List (List ClientSession) → Type 0
 AreLasts f n [] = Unit {0}
-AreLasts f n (ss ∷ pieces) = ((key : List ℕ) (wid : ℕ) → reads_in key wid pieces ≡ nat_lt (n + 1) (f key wid)) × AreLasts f (n + 1) pieces
+AreLasts f n (ss ∷ pieces) = ((key : List ℕ) (wid : ℕ)
+    → reads_in key wid pieces ≡ nat_lt (n + 1) (f key wid)) × AreLasts f (n + 1) pieces
 
 -- the initial value
 abbrev pub first_reign : Lasts → List ℕ → Reign
@@ -48,7 +52,9 @@ first_reign f key = record { wid = 0; until = f key 0 }
 abbrev pub reign_from : Lasts → List ℕ → Reign → List Op → Reign
 reign_from f key r [] = r
 reign_from f key r (Read k w ∷ ops) = reign_from f key r ops
-reign_from f key r (Write k w ∷ ops) = reign_from f key (if bytes_eq key k && nat_lt r.until (f key w) then record { wid = w; until = f key w } else r) ops
+reign_from f key r (Write k w ∷ ops) = reign_from f key
+    (if bytes_eq key k && nat_lt r.until (f key w) then record { wid = w; until = f key w } else r)
+    ops
 
 abbrev pub reign_in : Lasts → BTreeMap (List ℕ) Reign → List ℕ → Reign
 reign_in f t key = unwrap_or (get (slice_cmp nat_cmp) t key) (first_reign f key)

@@ -20,7 +20,8 @@ pub struct Kept<'a> {
     pub behind: BTreeMap<Key, u64>,
 }
 
-ghost use Rattle.held_pieces.specs.Reigns.{last_in, reign_in, reign_from, held_by, AreLasts, sessions_in, pieces_in};
+ghost use Rattle.held_pieces.specs.Reigns.{last_in, reign_in, reign_from, held_by, AreLasts};
+ghost use Rattle.held_pieces.specs.Reigns.{sessions_in, pieces_in};
 ghost use Rattle.held_pieces.specs.Kept.{kept_view, IsKept, AreKept};
 
 fn copied<'a>(alloc: Global, parts: &[Part<'a>]) -> Result<Vec<Part<'a>>, AllocError>
@@ -35,7 +36,8 @@ fn copied<'a>(alloc: Global, parts: &[Part<'a>]) -> Result<Vec<Part<'a>>, AllocE
 
 /// The parts of each piece.
 fn pieces_of<'a>(alloc: Global, cuts: &Cuts<'a>) -> Result<Vec<Vec<Part<'a>>>, AllocError>
-    ensures { IfOk result (λ pieces. sessions_in pieces.items ≡ pieces_in (map piece_view cuts.now.pieces.items) (parts_view cuts.now.last.items)) }
+    ensures { IfOk result (λ pieces. sessions_in pieces.items ≡ pieces_in
+        (map piece_view cuts.now.pieces.items) (parts_view cuts.now.last.items)) }
 {
     let mut pieces = Vec::new(alloc);
     for piece in &cuts.pieces {
@@ -55,9 +57,12 @@ fn keep_piece<'a>(
 ) -> Result<Kept<'a>, AllocError>
     requires { count + 1 < 2 ^ 64 }
     ensures reigns { OnOk result ((key : List ℕ) → reign_in (last_in lasts.now) reigns.new key
-        ≡ reign_from (last_in lasts.now) key (reign_in (last_in lasts.now) reigns.old key) (ops_in (parts_view parts.now))) }
-    ensures kept { IfOk result (λ kept. IsKept (λ key. held_by count (reign_in (last_in lasts.now) reigns.old key))
-        (λ key. held_by (count + 1) (reign_in (last_in lasts.now) reigns.new key)) (parts_view parts.now) (kept_view kept)) }
+        ≡ reign_from (last_in lasts.now) key (reign_in (last_in lasts.now) reigns.old key)
+        (ops_in (parts_view parts.now))) }
+    ensures kept { IfOk result (λ kept. IsKept
+        (λ key. held_by count (reign_in (last_in lasts.now) reigns.old key))
+        (λ key. held_by (count + 1) (reign_in (last_in lasts.now) reigns.new key))
+        (parts_view parts.now) (kept_view kept)) }
 {
     let ops = ops_of(alloc, parts, Whose::All)?;
     let before = held_keys(alloc, lasts, reigns, &ops, count)?;
@@ -77,7 +82,8 @@ fn keep_all<'a>(
     lasts: &BTreeMap<(u64, &'a Key), usize>,
     pieces: &[Vec<Part<'a>>],
 ) -> Result<Vec<Kept<'a>>, AllocError>
-    ensures { IfOk result (λ kept. AreKept (last_in lasts.now) 0 [] (sessions_in pieces.now) (map kept_view kept.items)) }
+    ensures { IfOk result (λ kept. AreKept (last_in lasts.now) 0 [] (sessions_in pieces.now)
+        (map kept_view kept.items)) }
 {
     let mut kept = Vec::with_capacity(alloc, pieces.len())?;
     let mut reigns = BTreeMap::new(alloc);
@@ -90,7 +96,8 @@ fn keep_all<'a>(
 /// The pieces of a log that is cut, each with what is held.
 pub fn keep<'a>(alloc: Global, cuts: &Cuts<'a>) -> Result<Vec<Kept<'a>>, AllocError>
     ensures { IfOk result (λ kept. (f : List ℕ → ℕ → ℕ) ×
-        AreLasts f 0 (pieces_in (map piece_view cuts.now.pieces.items) (parts_view cuts.now.last.items)) ×
+        AreLasts f 0 (pieces_in (map piece_view cuts.now.pieces.items)
+        (parts_view cuts.now.last.items)) ×
         AreKept f 0 [] (pieces_in (map piece_view cuts.now.pieces.items) (parts_view cuts.now.last.items)) (map kept_view kept.items)) }
 {
     let pieces = pieces_of(alloc, cuts)?;

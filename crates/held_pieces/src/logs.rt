@@ -83,7 +83,8 @@ fn opened_txns(
     txns: &[Txn],
     before: &BTreeMap<Key, u64>,
 ) -> Result<Vec<Txn>, AllocError>
-    ensures { IfOk result (λ new. map view_txn new.items ≡ map (open_txn (held_of before.now)) (map view_txn txns.now)) }
+    ensures { IfOk result (λ new. map view_txn new.items ≡ map (open_txn (held_of before.now))
+        (map view_txn txns.now)) }
 {
     let mut new = Vec::with_capacity(alloc, txns.len())?;
     for txn in txns {
@@ -100,7 +101,8 @@ fn add_read(
     before: &BTreeMap<Key, u64>,
     behind: &BTreeMap<Key, u64>,
 ) -> Result<(), AllocError>
-    ensures { OnOk result (reads.new.items ≡ reads.old.items ++ open_ops (held_of before.now) (read_held key.now (held_of behind.now key.now))) }
+    ensures { OnOk result (reads.new.items ≡ reads.old.items ++ open_ops (held_of before.now)
+        (read_held key.now (held_of behind.now key.now))) }
 {
     if let Some(wid) = held_in(behind, key) {
         let wid = exchanged(held_in(before, key), wid);
@@ -117,7 +119,8 @@ fn last_reads<'a>(
     before: &BTreeMap<Key, u64>,
     behind: &BTreeMap<Key, u64>,
 ) -> Result<Vec<Op>, AllocError>
-    ensures { IfOk result (λ reads. reads.items ≡ open_ops (held_of before.now) (closing (held_of behind.now) (seen ops.now))) }
+    ensures { IfOk result (λ reads. reads.items ≡ open_ops (held_of before.now)
+        (closing (held_of behind.now) (seen ops.now))) }
 {
     let mut reads = Vec::new(alloc);
     let mut done = BTreeSet::new(alloc);
@@ -136,7 +139,8 @@ fn last_reads<'a>(
 
 /// Adds a last transaction of these reads, where there are any.
 fn add_last(txns: &mut Vec<Txn>, reads: Vec<Op>) -> Result<(), AllocError>
-    ensures { OnOk result (map view_txn txns.new.items ≡ map view_txn txns.old.items ++ committed_reads reads.items) }
+    ensures { OnOk result (map view_txn txns.new.items ≡ map view_txn txns.old.items
+        ++ committed_reads reads.items) }
 {
     if !reads.is_empty() {
         txns.push(Txn {
@@ -156,7 +160,8 @@ pub fn session_of(
     before: &BTreeMap<Key, u64>,
     behind: &BTreeMap<Key, u64>,
 ) -> Result<Session, AllocError>
-    ensures { IfOk result (λ session. view session ≡ session_of (held_of before.now) (held_of behind.now) (part_view part.now)) }
+    ensures { IfOk result (λ session. view session ≡ session_of (held_of before.now)
+        (held_of behind.now) (part_view part.now)) }
 {
     let ops = ops_of_txns(alloc, part.txns)?;
     let reads = last_reads(alloc, &ops, before, behind)?;

@@ -40,7 +40,8 @@ fn add_ops<'a>(all: &mut Vec<&'a Op>, ops: &'a [Op]) -> Result<(), AllocError>
 }
 
 fn add_txns<'a>(all: &mut Vec<&'a Op>, txns: &'a [Txn], whose: Whose) -> Result<(), AllocError>
-    ensures { OnOk result (seen all.new.items ≡ seen all.old.items ++ meant_in whose (map view_txn txns.now)) }
+    ensures { OnOk result (seen all.new.items ≡ seen all.old.items ++ meant_in whose
+        (map view_txn txns.now)) }
 {
     for txn in txns {
         if is_meant(whose, txn) {

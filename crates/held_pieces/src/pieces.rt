@@ -35,14 +35,16 @@ impl<'a> Model for Pieces<'a> {
 }
 
 impl<'a> Pieces<'a> {
-    /// The pieces of sessions whose outcomes are known. Each ends at the first cut before which it has at least so many nodes, or sooner
-    /// where it would have too many for a log; where nothing is stated, the log is one piece.
+    /// The pieces of sessions whose outcomes are known. Each ends at the first cut before which it
+    /// has at least so many nodes, or sooner where it would have too many for a log; where nothing
+    /// is stated, the log is one piece.
     pub fn of(
         alloc: Global,
         sessions: &'a [Session],
         least: Option<usize>,
     ) -> Result<Pieces<'a>, AllocError>
-        ensures pieces { IfOk result (λ pieces. IsSoundLog (map view sessions.now) → IsLearntLog (map view sessions.now) →
+        ensures pieces { IfOk result (λ pieces. IsSoundLog (map view sessions.now)
+            → IsLearntLog (map view sessions.now) →
             ArePieces (map view sessions.now) pieces) }
     {
         let cuts = cuts_of(alloc, sessions, least)?;
@@ -60,7 +62,8 @@ impl<'a> Pieces<'a> {
     /// The log of a piece: its beginning is its initial value, and its end is read.
     pub fn log(&self, alloc: Global, piece: usize) -> Result<Vec<Session>, AllocError>
         requires { piece < length self.now }
-        ensures log { IfOk result (λ log. (p : _) → slice_get self.now piece ≡ Some p → map view log.items ≡ log_of p) }
+        ensures log { IfOk result (λ log. (p : _) → slice_get self.now piece ≡ Some p
+            → map view log.items ≡ log_of p) }
     {
         log_of(alloc, &self.kept[piece])
     }
@@ -68,7 +71,8 @@ impl<'a> Pieces<'a> {
     /// Where a piece lies: of each session that has transactions in it, these.
     pub fn parts(&self, piece: usize) -> &[Part<'a>]
         requires { piece < length self.now }
-        ensures parts { (p : _) → slice_get self.now piece ≡ Some p → parts_view result.now ≡ p.sessions }
+        ensures parts { (p : _) → slice_get self.now piece ≡ Some p
+            → parts_view result.now ≡ p.sessions }
     {
         &self.kept[piece].parts
     }
@@ -76,7 +80,8 @@ impl<'a> Pieces<'a> {
     /// What a key of the piece holds before it, where this is known.
     pub fn held_before(&self, piece: usize, key: &Key) -> Option<u64>
         requires { piece < length self.now }
-        ensures held { (p : _) → slice_get self.now piece ≡ Some p → result ≡ held_in p.before key.now }
+        ensures held { (p : _) → slice_get self.now piece ≡ Some p
+            → result ≡ held_in p.before key.now }
     {
         held_in(&self.kept[piece].before, key)
     }
@@ -88,9 +93,11 @@ fn cuts_of<'a>(
     sessions: &'a [Session],
     least: Option<usize>,
 ) -> Result<Cuts<'a>, AllocError>
-    ensures split { IfOk result (λ cuts. IsDistinct nat_eq (map (λ s. s.number) (map view sessions.now)) →
+    ensures split { IfOk result (λ cuts. IsDistinct nat_eq
+        (map (λ s. s.number) (map view sessions.now)) →
         IsSplit (map piece_view cuts.pieces.items) (parts_view cuts.last.items) (map view sessions.now)) }
-    ensures apart { IfOk result (λ cuts. AreApart (map piece_view cuts.pieces.items) (parts_view cuts.last.items)) }
+    ensures apart { IfOk result (λ cuts. AreApart (map piece_view cuts.pieces.items)
+        (parts_view cuts.last.items)) }
 {
     match least {
         Some(least) => cut(alloc, sessions, least),

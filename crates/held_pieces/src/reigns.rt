@@ -10,7 +10,8 @@ use session_log::{Key, Op};
 use std::alloc::{AllocError, Global};
 use std::collections::BTreeMap;
 
-/// An identity, and how many pieces there are up to the last that reads it: of what a key was written with so far, what is read last.
+/// An identity, and how many pieces there are up to the last that reads it: of what a key was
+/// written with so far, what is read last.
 #[derive(Clone, Copy)]
 pub struct Reign {
     pub wid: u64,
@@ -45,7 +46,8 @@ fn reign_of<'a>(
     }
 }
 
-/// What is held where so many pieces lie before: at first nothing, and nothing that no later piece reads.
+/// What is held where so many pieces lie before: at first nothing, and nothing that no later piece
+/// reads.
 fn held(reign: Reign, count: usize) -> Option<u64>
     ensures { result ≡ held_by count reign }
 {
@@ -64,7 +66,8 @@ pub fn advance<'a>(
     ops: &[&'a Op],
 ) -> Result<(), AllocError>
     ensures { OnOk result ((key : List ℕ) → reign_in (last_in lasts.now) reigns.new key
-        ≡ reign_from (last_in lasts.now) key (reign_in (last_in lasts.now) reigns.old key) (seen ops.now)) }
+        ≡ reign_from (last_in lasts.now) key (reign_in (last_in lasts.now) reigns.old key)
+        (seen ops.now)) }
 {
     for op in ops {
         let op: &'a Op = *op;
@@ -88,7 +91,8 @@ pub fn held_keys<'a>(
     count: usize,
 ) -> Result<BTreeMap<Key, u64>, AllocError>
     ensures { IfOk result (λ table. (key : List ℕ) → get (slice_cmp nat_cmp) table key
-        ≡ held_among (λ key. held_by count (reign_in (last_in lasts.now) reigns.now key)) (seen ops.now) key) }
+        ≡ held_among (λ key. held_by count (reign_in (last_in lasts.now) reigns.now key))
+        (seen ops.now) key) }
 {
     let mut table = BTreeMap::new(alloc);
     for op in ops {

@@ -9,14 +9,16 @@ use Rattle.known_graph.specs.Graphs.{IsKnownGraph}
 
 -- the edges of the group's nodes lead to its ends, and these are nodes of the graph
 pub record IsGroup (g : Graph) (group : Group) : Type 0 where
-  pub edges : (v w : ℕ) → bit_of group.nodes v ≡ true → Contains g.edges (v, w) → bit_of group.ends w ≡ true
+  pub edges : (v w : ℕ) → bit_of group.nodes v ≡ true → Contains g.edges (v, w)
+      → bit_of group.ends w ≡ true
   pub ends : (w : ℕ) → bit_of group.ends w ≡ true → w ≤ g.nodes
 
 -- From closed nodes edges lead to closed nodes alone, and those on a cycle are in `round`.
 pub record IsSearch (g : Graph) (s : Search) : Type 0 where
   pub graph : IsKnownGraph g
   pub groups : All (IsGroup g) s.path.items
-  pub closed : (v w : ℕ) → bit_of s.closed v ≡ true → Contains g.edges (v, w) → bit_of s.closed w ≡ true
+  pub closed : (v w : ℕ) → bit_of s.closed v ≡ true → Contains g.edges (v, w)
+      → bit_of s.closed w ≡ true
   pub round : (v : ℕ) → bit_of s.closed v ≡ true → Reaches g.edges v v → bit_of s.round v ≡ true
 
 -- how many numbers below n are not in a set

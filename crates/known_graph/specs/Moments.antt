@@ -9,5 +9,6 @@ use Rattle.known_graph.specs.declared.moments.Ended.{Ended}
 
 -- each of them with its moment, in the order of these
 pub record AreEnded (ss : List ClientSession) (ended : List Ended) : Type 0 where
-  pub each : (e : Ended) → (Contains ended e ↔ ((0 < e.node) × (e.node ≤ (log_of ss).nodes) × (ended_of ss e.node ≡ Some e.moment)))
+  pub each : (e : Ended) → (Contains ended e ↔
+      ((0 < e.node) × (e.node ≤ (log_of ss).nodes) × (ended_of ss e.node ≡ Some e.moment)))
   pub sorted : IsNonDecreasingBy (λ e. e.moment) ended

@@ -11,6 +11,8 @@ abbrev pub leads : List Edge → ℕ → List ℕ → ℕ → Bool
 leads edges u [] v = u == v
 leads edges u (w ∷ ws) v = has_edge edges (u, w) && leads edges w ws v
 
--- whether these are the nodes of a walk from u to v, both included: at least two, and each step is an edge
+-- whether these are the nodes of a walk from u to v, both included: at least two, and each step is
+-- an edge
 abbrev pub is_line : List Edge → ℕ → List ℕ → ℕ → Bool
-is_line edges u line v = nat_lt 1 (length line) && ((slice_index line 0 == u) && leads edges u (drop 1 line) v)
+is_line edges u line v = nat_lt 1 (length line) &&
+    ((slice_index line 0 == u) && leads edges u (drop 1 line) v)

@@ -14,12 +14,13 @@ use serializability::numbers::node;
 use session_history::History;
 use std::alloc::{AllocError, Global};
 
-// Adds the arc to a node from the one before it, where they are of one session.
+/// Adds the arc to a node from the one before it, where they are of one session.
 fn add_session_arc(known: &mut Known, history: &History, v: NodeIx)
     requires node { (0 < v) × (v ≤ known.old.nodes) }
     requires graph { IsKnownGraph known.old }
     ensures edges { (e : Edge) → (Contains known.new.edges e ↔ (Contains known.old.edges e
-        ⊎ ((e.1 ≡ v) × (e.0 + 1 ≡ v) × ((log_of history.now).session e.0 ≡ (log_of history.now).session v)))) }
+        ⊎ ((e.1 ≡ v) × (e.0 + 1 ≡ v) × ((log_of history.now).session e.0
+        ≡ (log_of history.now).session v)))) }
     ensures nodes { known.new.nodes ≡ known.old.nodes }
     ensures graph { IsKnownGraph known.new }
 {
@@ -29,7 +30,7 @@ fn add_session_arc(known: &mut Known, history: &History, v: NodeIx)
     }
 }
 
-// Adds the arcs to a node from those that it reads from.
+/// Adds the arcs to a node from those that it reads from.
 fn add_read_arcs(known: &mut Known, history: &History, v: NodeIx)
     requires clean { IsClean (log_of history.now) }
     requires nodes { known.old.nodes ≡ (log_of history.now).nodes }

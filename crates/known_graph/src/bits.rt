@@ -1,6 +1,7 @@
 //! Sets of numbers as bits, in words of 64.
 
-ghost use Rattle.std.specs.Prelude.{◌≡◌, ◌↔◌, ℕ, ◌+◌, ◌/◌, ◌^◌, ◌<◌, ◌≤◌, ◌==◌, ◌&&◌, ◌||◌, true, false, not, nat_lt, nat_le, length, IsTrue, IfSome, IfNone};
+ghost use Rattle.std.specs.Prelude.{◌≡◌, ◌↔◌, ℕ, ◌+◌, ◌/◌, ◌^◌, ◌<◌, ◌≤◌, ◌==◌, ◌&&◌, ◌||◌, true};
+ghost use Rattle.std.specs.Prelude.{false, not, nat_lt, nat_le, length, IsTrue, IfSome, IfNone};
 ghost use Rattle.known_graph.specs.Bits.{bit_of, row_len};
 
 use serializability::MAX_NODES;
@@ -62,7 +63,8 @@ pub fn join_words(words: &mut [u64], more: &[u64])
     }
 }
 
-/// A number whose bit is set in the first words and not in others, at least as many, where there is one.
+/// A number whose bit is set in the first words and not in others, at least as many, where there is
+/// one.
 pub fn first_open(words: &[u64], done: &[u64]) -> Option<usize>
     requires len { length words.now ≤ length done.now }
     requires few { length words.now < 2 ^ 32 }
@@ -83,7 +85,8 @@ pub fn is_within(words: &[u64], all: &[u64]) -> bool
     requires len { length words.now ≤ length all.now }
     requires few { length words.now < 2 ^ 32 }
     ensures within { IsTrue result → (k : ℕ) → bit_of words.now k ≡ true → bit_of all.now k ≡ true }
-    ensures outside { IsTrue (not result) → (k : ℕ) × (bit_of words.now k ≡ true) × (bit_of all.now k ≡ false) }
+    ensures outside { IsTrue (not result) → (k : ℕ) × (bit_of words.now k ≡ true)
+        × (bit_of all.now k ≡ false) }
 {
     first_open(words, all).is_none()
 }

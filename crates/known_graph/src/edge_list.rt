@@ -9,7 +9,7 @@ use serializability::NodeIx;
 use serializability::numbers::node;
 use std::alloc::{AllocError, Global};
 
-// Adds the edge from u to v, where the graph has it.
+/// Adds the edge from u to v, where the graph has it.
 fn add_known(edges: &mut Vec<Edge>, known: &Known, u: NodeIx, v: NodeIx) -> Result<(), AllocError>
     ensures added { OnOk result (Contains known.now.edges (u, v) →
         edges.new.items ≡ edges.old.items ++ (u, v) ∷ []) }

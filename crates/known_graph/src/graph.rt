@@ -1,6 +1,7 @@
 //! Graphs of known edges.
 
-ghost use Rattle.std.specs.Prelude.{◌≡◌, ℕ, ◌⊎◌, ◌+◌, ◌*◌, ◌/◌, ◌<◌, ◌≤◌, ◌↔◌, IsTrue, IfOk, length};
+ghost use Rattle.std.specs.Prelude.{◌≡◌, ℕ, ◌⊎◌, ◌+◌, ◌*◌, ◌/◌, ◌<◌, ◌≤◌, ◌↔◌, IsTrue, IfOk};
+ghost use Rattle.std.specs.Prelude.{length};
 ghost use Rattle.std.specs.List.{Contains};
 ghost use Rattle.serializability.specs.Polygraph.{Edge};
 ghost use Rattle.known_graph.specs.Bits.{bit_of, row_len};
@@ -14,8 +15,8 @@ use serializability::NodeIx;
 use std::alloc::{AllocError, Global};
 use std::marker::Model;
 
-/// Known edges between nodes 0 to n of a history, where n is at most 1,000. An edge leads from node 0 to
-/// each other node.
+/// Known edges between nodes 0 to n of a history, where n is at most 1,000. An edge leads from node
+/// 0 to each other node.
 #[derive(Drop)]
 pub struct Known {
     nodes: usize,
@@ -45,8 +46,8 @@ fn bit_place(nodes: usize, u: NodeIx, v: NodeIx) -> usize
 }
 
 impl Known {
-    /// The graph of nodes 0 to n in which an edge leads from node 0 to each other node, and no other
-    /// edge is known.
+    /// The graph of nodes 0 to n in which an edge leads from node 0 to each other node, and no
+    /// other edge is known.
     pub fn new(alloc: Global, nodes: usize) -> Result<Known, AllocError>
         requires few { nodes ≤ MAX_NODES }
         ensures nodes { IfOk result (λ known. known.nodes ≡ nodes) }
@@ -76,7 +77,8 @@ impl Known {
         u.get() <= self.nodes && has_bit(self.row_words(u), v.get())
     }
 
-    /// The nodes to which edges lead from u, as bits: bit v of them is set where an edge leads to v.
+    /// The nodes to which edges lead from u, as bits: bit v of them is set where an edge leads to
+    /// v.
     pub fn row_words(&self, u: NodeIx) -> &[u64]
         requires node { u ≤ self.now.nodes }
         ensures edges { (v : ℕ) → (IsTrue (bit_of result.now v) ↔ Contains self.now.edges (u, v)) }

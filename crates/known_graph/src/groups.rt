@@ -1,4 +1,5 @@
-//! Which nodes of a graph may lie on a cycle, by a search for groups of nodes of which each reaches each other.
+//! Which nodes of a graph may lie on a cycle, by a search for groups of nodes of which each reaches
+//! each other.
 
 ghost use Rattle.std.specs.Prelude.{◌≡◌, ◌<◌, ◌≤◌, false, IsTrue, IfOk, OnOk};
 ghost use Rattle.reach_laws.specs.Reach.{Graph, Reaches};
@@ -20,7 +21,7 @@ pub struct Group {
 }
 
 impl Group {
-    // The group of a node alone.
+    /// The group of a node alone.
     fn of(known: &Known, v: NodeIx) -> Group
         requires graph { IsKnownGraph known.now }
         requires node { v ≤ known.now.nodes }
@@ -33,7 +34,7 @@ impl Group {
         Group { nodes, ends }
     }
 
-    // The nodes of both groups.
+    /// The nodes of both groups.
     fn joined(mut self, other: Group) -> Group
         ensures group { (g : Graph) → IsGroup g self → IsGroup g other → IsGroup g result }
     {
@@ -45,10 +46,10 @@ impl Group {
 
 /// A search from node 0 along all edges, depth first.
 ///
-/// The nodes on its way stand in groups, each with an edge to the next one. Where an edge leads from the last
-/// group to one before it, the last two are joined, since their nodes reach each other. Where all edges of the
-/// last group lead to it and to closed nodes, it is closed. So each step enters a node, joins two groups or
-/// closes one, and reads a few words.
+/// The nodes on its way stand in groups, each with an edge to the next one. Where an edge leads
+/// from the last group to one before it, the last two are joined, since their nodes reach each
+/// other. Where all edges of the last group lead to it and to closed nodes, it is closed. So each
+/// step enters a node, joins two groups or closes one, and reads a few words.
 #[derive(Drop)]
 pub struct Search {
     // the groups on the way
@@ -86,7 +87,7 @@ impl Search {
         has_bit(&self.round, v.get()) || !has_bit(&self.closed, v.get())
     }
 
-    // Enters a node, as a group of its own.
+    /// Enters a node, as a group of its own.
     fn enter(&mut self, known: &Known, v: NodeIx) -> Result<(), AllocError>
         requires search { IsSearch known.now self.old }
         requires node { v ≤ known.now.nodes }
@@ -99,7 +100,7 @@ impl Search {
         Ok(())
     }
 
-    // Goes on from a group that was the last one and is no longer on the path.
+    /// Goes on from a group that was the last one and is no longer on the path.
     fn step(&mut self, known: &Known, group: Group) -> Result<(), AllocError>
         requires search { IsSearch known.now self.old }
         requires group { IsGroup known.now group }
@@ -117,9 +118,10 @@ impl Search {
         self.close_or_join(group)
     }
 
-    // Closes a group in which an edge leads, or joins it to the one before it.
+    /// Closes a group in which an edge leads, or joins it to the one before it.
     fn close_or_join(&mut self, group: Group) -> Result<(), AllocError>
-        ensures search { OnOk result ((g : Graph) → IsSearch g self.old → IsGroup g group → IsSearch g self.new) }
+        ensures search { OnOk result ((g : Graph) → IsSearch g self.old → IsGroup g group
+            → IsSearch g self.new) }
         ensures less { OnOk result (work_left self.new ≤ work_left self.old) }
     {
         let mut closed = self.closed;

@@ -1,5 +1,7 @@
 //! Graphs of known edges between the nodes of a history: the arcs of a clean history, walks and
 //! cycles.
+//!
+//! Called by every crate with a graph. It knows no choice, no chain and no thread.
 #![tactic(auto)]
 
 mod arcs;

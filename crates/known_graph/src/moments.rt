@@ -21,8 +21,8 @@ pub struct Ended {
     pub node: NodeIx,
 }
 
-/// The nodes of which it is stated when they ended, in the order of these moments: so those that ended before another moment are the
-/// first of them, and not each pair of nodes is looked at.
+/// The nodes of which it is stated when they ended, in the order of these moments: so those that
+/// ended before another moment are the first of them, and not each pair of nodes is looked at.
 pub fn ended_nodes(alloc: Global, history: &History) -> Result<Vec<Ended>, AllocError>
     ensures { IfOk result (λ ended. AreEnded history.now ended.items) }
 {
@@ -45,7 +45,8 @@ pub fn add_moment_arcs(known: &mut Known, history: &History, ended: &[Ended], v:
     requires node { (0 < v) × (v ≤ known.old.nodes) }
     requires graph { IsKnownGraph known.old }
     ensures edges { (e : Edge) → (Contains known.new.edges e ↔ (Contains known.old.edges e
-        ⊎ ((e.1 ≡ v) × (0 < e.0) × (e.0 ≤ (log_of history.now).nodes) × (precedes (log_of history.now) e.0 v ≡ true)))) }
+        ⊎ ((e.1 ≡ v) × (0 < e.0) × (e.0 ≤ (log_of history.now).nodes)
+        × (precedes (log_of history.now) e.0 v ≡ true)))) }
     ensures nodes { known.new.nodes ≡ known.old.nodes }
     ensures graph { IsKnownGraph known.new }
 {

@@ -1,27 +1,29 @@
 //! Nodes that a search of a graph finds.
 
-ghost use Rattle.std.specs.Prelude.{◌≡◌, ℕ, ◌+◌, ◌^◌, ◌<◌, ◌≤◌, ◌++◌, ◌||◌, true, List, length, IfOk, OnOk};
+ghost use Rattle.std.specs.Prelude.{◌≡◌, ℕ, ◌+◌, ◌^◌, ◌<◌, ◌≤◌, ◌++◌, ◌||◌, true, List, length};
+ghost use Rattle.std.specs.Prelude.{IfOk, OnOk};
 ghost use Rattle.std.specs.List.{Contains};
 ghost use Rattle.std.specs.Int.{bit_at};
 ghost use Rattle.serializability.specs.Polygraph.{Edge};
 ghost use Rattle.reach_laws.specs.Reach.{IsWalk};
 ghost use Rattle.known_graph.specs.Bits.{bit_of};
-ghost use Rattle.known_graph.specs.Tree.{reached_from, word_numbers, fresh_numbers, node_at, from_at, IsTree};
+ghost use Rattle.known_graph.specs.Tree.{reached_from, word_numbers, fresh_numbers, node_at};
+ghost use Rattle.known_graph.specs.Tree.{from_at, IsTree};
 ghost use Rattle.serializability.specs.declared.node.TheConstants.{MAX_NODES};
 
 use serializability::NodeIx;
 use serializability::numbers::node;
 use std::alloc::{AllocError, Global};
 
-/// A node that was found, and the place in the list of found nodes from which it was; of the first it
-/// has no meaning.
+/// A node that was found, and the place in the list of found nodes from which it was; of the first
+/// it has no meaning.
 #[derive(Clone, Copy)]
 pub struct Reached {
     pub node: NodeIx,
     pub from: usize,
 }
 
-// Adds the nodes of a word's bits, ascending.
+/// Adds the nodes of a word's bits, ascending.
 fn add_word(
     found: &mut Vec<Reached>,
     word: u64,

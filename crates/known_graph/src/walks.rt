@@ -13,7 +13,8 @@ use serializability::NodeIx;
 use serializability::numbers::node;
 use std::alloc::{AllocError, Global};
 
-// Whether each step from a node on along these is an edge of the graph, and the last one is the end.
+/// Whether each step from a node on along these is an edge of the graph, and the last one is the
+/// end.
 fn leads(graph: &Known, from: NodeIx, steps: &[NodeIx], to: NodeIx) -> bool
     ensures { result ≡ leads graph.now.edges from steps.now to }
 {
@@ -47,8 +48,8 @@ impl Known {
         line.len() >= 2
     }
 
-    /// A walk from u to v, or none where u does not reach v. It has the fewest edges, and of such walks
-    /// it is the lexicographically least (shown by tests).
+    /// A walk from u to v, or none where u does not reach v. It has the fewest edges, and of such
+    /// walks it is the lexicographically least (shown by tests).
     pub fn walk(
         &self,
         alloc: Global,
@@ -78,8 +79,8 @@ impl Known {
         Ok(None)
     }
 
-    // The walk from a node to itself, where there is one. It is looked for unless the search has shown that
-    // there is none.
+    /// The walk from a node to itself, where there is one. It is looked for unless the search has
+    /// shown that there is none.
     fn cycle_through(
         &self,
         alloc: Global,
@@ -98,9 +99,9 @@ impl Known {
         }
     }
 
-    /// A cycle, its first node repeated last, or none where no node reaches itself. It begins at the
-    /// least node that lies on a cycle, has the fewest edges of the cycles through it, and is the
-    /// lexicographically least of these (shown by tests).
+    /// A cycle, its first node repeated last, or none where no node reaches itself. It begins at
+    /// the least node that lies on a cycle, has the fewest edges of the cycles through it, and is
+    /// the lexicographically least of these (shown by tests).
     pub fn find_cycle(&self, alloc: Global) -> Result<Option<Vec<NodeIx>>, AllocError>
         ensures cycle { IfOk result (λ found. MatchOption found (¬ IsCyclic self.now.edges)
             (λ line. IsCycle self.now.edges line.items)) }

@@ -46,9 +46,11 @@ fn settle_each(sessions: &mut [Session], taken: &BTreeSet<usize>)
     }
 }
 
-/// The unknown outcomes become those of transactions that are taken, where their session's number is one of these, or are not.
+/// The unknown outcomes become those of transactions that are taken, where their session's number
+/// is one of these, or are not.
 pub fn settle_all(sessions: &mut Vec<Session>, taken: &BTreeSet<usize>)
-    ensures { map view sessions.new.items ≡ settled (contains nat_cmp taken.now) (map view sessions.old.items) }
+    ensures { map view sessions.new.items ≡ settled (contains nat_cmp taken.now)
+        (map view sessions.old.items) }
 {
     settle_each(sessions.as_mut_slice(), taken);
 }

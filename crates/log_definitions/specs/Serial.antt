@@ -1,5 +1,6 @@
 -- The nodes of a log, replay on a plain map from keys to identities, and serial orders.
-use Rattle.std.specs.Prelude.{◌≡◌, ◌≢◌, true, ℕ, zero, suc, ◌<◌, ◌≤◌, if◌then◌else◌, List, [], ◌∷◌, length, slice_get, Bool, Option, None, option_and_then}
+use Rattle.std.specs.Prelude.{◌≡◌, ◌≢◌, true, ℕ, zero, suc, ◌<◌, ◌≤◌, if◌then◌else◌, List, [], ◌∷◌}
+use Rattle.std.specs.Prelude.{length, slice_get, Bool, Option, None, option_and_then}
 use Rattle.std.specs.List.{flat_map, filter, enumerate_from}
 use Rattle.std.specs.Option.{option_map_or}
 use Rattle.std.specs.Prelude.{map}
@@ -13,7 +14,8 @@ use Rattle.log_definitions.specs.Unknown.{is_committed, resolved, settled}
 
 -- ---- the nodes: the committed transactions, and those of unknown outcome that were taken
 
--- a node: the number of its session, its place in the session from 1, every transaction counted, its operations, and the moments
+-- a node: the number of its session, its place in the session from 1, every transaction counted,
+-- its operations, and the moments
 -- at which it began and ended, where they are stated
 pub record Committed : Type 0 where
   pub session : ℕ
@@ -24,7 +26,14 @@ pub record Committed : Type 0 where
 
 abbrev pub committed_of : ClientSession → List Committed
 committed_of s =
-    map (λ t. record { session = s.number; place = t.0; ops = t.1.ops; begun = t.1.begun; ended = t.1.ended })
+    map (λ t. record {
+      session = s.number;
+      place = t.0;
+      ops = t.1.ops;
+      begun = t.1.begun;
+      ended
+          = t.1.ended;
+    })
     (filter (λ t. is_committed t.1) (enumerate_from 1 s.txns))
 
 -- by session in log order, then by place in the session
@@ -71,15 +80,22 @@ Replays map (Write key wid ∷ ops) = Replays (set map key wid) ops
 
 -- ---- serial orders
 
--- The order lists nodes 1 to n once each, keeps each session's order and the order of the stated moments (a node that ended before
--- another began stands before it), and its replay, transaction by transaction with nothing in between, meets every read. So of the transactions of unknown outcome it lists exactly the taken ones.
+-- The order lists nodes 1 to n once each, keeps each session's order and the order of the stated
+-- moments (a node that ended before
+-- another began stands before it), and its replay, transaction by transaction with nothing in
+-- between, meets every read. So of the transactions of unknown outcome it lists exactly the taken
+-- ones.
 pub record IsSerialOrder (ss : List ClientSession) (order : List ℕ) : Type 0 where
   pub once : ListsOnce (length (committed_in ss)) order
-  pub sessions : (a b : ℕ) → 0 < a → a < b → b ≤ length (committed_in ss) → session_of ss a ≡ session_of ss b → Before order a b
-  pub moments : (a b : ℕ) → 0 < a → a ≤ length (committed_in ss) → 0 < b → b ≤ length (committed_in ss) → a ≢ b → is_earlier (ended_of ss a) (begun_of ss b) ≡ true → Before order a b
+  pub sessions : (a b : ℕ) → 0 < a → a < b → b ≤ length (committed_in ss)
+      → session_of ss a ≡ session_of ss b → Before order a b
+  pub moments : (a b : ℕ) → 0 < a → a ≤ length (committed_in ss) → 0 < b
+      → b ≤ length (committed_in ss) → a ≢ b → is_earlier (ended_of ss a) (begun_of ss b) ≡ true
+      → Before order a b
   pub reads : Replays initial (flat_map (ops_of ss) order)
 
--- An order of the committed and some unknown transactions: these count as committed, and the other unknown ones as aborted.
+-- An order of the committed and some unknown transactions: these count as committed, and the other
+-- unknown ones as aborted.
 pub record IsSomeOrder (ss : List ClientSession) (order : List ℕ) : Type 0 where
   pub chosen : ℕ → Bool
   pub serial : IsSerialOrder (settled chosen ss) order

@@ -1,6 +1,8 @@
--- Transactions whose outcome the client never learnt, and which of them must have been committed. A legal session has one
+-- Transactions whose outcome the client never learnt, and which of them must have been committed. A
+-- legal session has one
 -- such transaction at most, its last, so that sets of them are sets of session numbers.
-use Rattle.std.specs.Prelude.{◌≡◌, ℕ, zero, suc, ◌==◌, ◌&&◌, ◌||◌, Bool, true, false, IsTrue, if◌then◌else◌, List, length, map}
+use Rattle.std.specs.Prelude.{◌≡◌, ℕ, zero, suc, ◌==◌, ◌&&◌, ◌||◌, Bool, true, false, IsTrue}
+use Rattle.std.specs.Prelude.{if◌then◌else◌, List, length, map}
 use Rattle.std.specs.List.{filter, flat_map, list_any, Contains}
 use Rattle.std.specs.Str.{bytes_eq}
 use Rattle.session_log.specs.Text.{ClientSession, Transaction, is_unknown as is_unknown_outcome}
@@ -27,7 +29,8 @@ txns_in ss = flat_map (λ s. s.txns) ss
 abbrev pub ops_in : List ClientSession → List Op
 ops_in ss = flat_map (λ t. t.ops) (txns_in ss)
 
--- ---- the unknown transactions of the chosen sessions count as committed, and the others as aborted
+-- ---- the unknown transactions of the chosen sessions count as committed, and the others as
+-- aborted
 
 abbrev pub settled_as : Bool → Outcome → Outcome
 settled_as is_chosen Commit = Commit
@@ -35,12 +38,23 @@ settled_as is_chosen Abort = Abort
 settled_as is_chosen Unknown = if is_chosen then Commit else Abort
 
 abbrev pub settle : Bool → Transaction → Transaction
-settle is_chosen t = record { ops = t.ops; outcome = settled_as is_chosen t.outcome; begun = t.begun; ended = t.ended }
+settle is_chosen t = record {
+  ops = t.ops;
+  outcome = settled_as is_chosen t.outcome;
+  begun
+      = t.begun;
+  ended = t.ended;
+}
 
 unfoldable pub settled : (ℕ → Bool) → List ClientSession → List ClientSession
-settled chosen ss = map (λ s. record { number = s.number; txns = map (settle (chosen s.number)) s.txns }) ss
+settled chosen ss = map (λ s. record {
+  number = s.number;
+  txns = map
+      (settle (chosen s.number)) s.txns;
+}) ss
 
--- ---- the taken ones: the least set of unknown transactions that holds each of which a committed or a taken one reads a write
+-- ---- the taken ones: the least set of unknown transactions that holds each of which a committed
+-- or a taken one reads a write
 
 -- the one reads what the other writes: the same key, under the same identity
 abbrev pub reads_write : Op → Op → Bool
@@ -61,25 +75,29 @@ is_needed ops s = list_any (λ t. is_unknown t && reads_of ops t.ops) s.txns
 
 -- the chosen sessions, and those that are needed where these are chosen
 abbrev pub taking : List ClientSession → (ℕ → Bool) → ℕ → Bool
-taking ss chosen n = chosen n || list_any (λ s. (s.number == n) && is_needed (committed_ops (settled chosen ss)) s) ss
+taking ss chosen n = chosen n || list_any (λ s. (s.number == n) && is_needed
+    (committed_ops (settled chosen ss)) s) ss
 
 -- so many times, each time with what was taken before
 abbrev pub taking_times : ℕ → List ClientSession → (ℕ → Bool) → ℕ → Bool
 taking_times zero ss chosen = chosen
 taking_times (suc k) ss chosen = taking_times k ss (taking ss chosen)
 
--- whether the unknown transaction of the session with this number is taken: each time takes one session more, or none is left
+-- whether the unknown transaction of the session with this number is taken: each time takes one
+-- session more, or none is left
 unfoldable pub taken : List ClientSession → ℕ → Bool
 taken ss = taking_times (length ss) ss (λ n. false)
 
--- The sessions with the taken transactions as committed ones, and with each other unknown one, which no node reads from, as an
+-- The sessions with the taken transactions as committed ones, and with each other unknown one,
+-- which no node reads from, as an
 -- aborted one.
 unfoldable pub resolved : List ClientSession → List ClientSession
 resolved ss = settled (taken ss) ss
 
 -- ---- the same in words
 
--- the session with this number has an unknown transaction that writes what a committed one reads, where the chosen ones count as
+-- the session with this number has an unknown transaction that writes what a committed one reads,
+-- where the chosen ones count as
 -- committed: the same key, under the same identity
 pub record IsNeeded (ss : List ClientSession) (chosen : ℕ → Bool) (n : ℕ) : Type 0 where
   pub session : ClientSession

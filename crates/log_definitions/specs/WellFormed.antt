@@ -1,9 +1,12 @@
--- What makes the text of legal sessions a well-formed log, and which fault is meant where several stand.
-use Rattle.std.specs.Prelude.{◌≡◌, ℕ, ◌+◌, ◌≤◌, Bool, ◌&&◌, not, if◌then◌else◌, nat_lt, nat_eq, List, [], ◌∷◌, ◌++◌, length, map, count_by, Option, Some, None}
+-- What makes the text of legal sessions a well-formed log, and which fault is meant where several
+-- stand.
+use Rattle.std.specs.Prelude.{◌≡◌, ℕ, ◌+◌, ◌≤◌, Bool, ◌&&◌, not, if◌then◌else◌, nat_lt, nat_eq}
+use Rattle.std.specs.Prelude.{List, [], ◌∷◌, ◌++◌, length, map, count_by, Option, Some, None}
 use Rattle.std.specs.List.{flat_map, list_any, AllByRecursion, IsDistinct}
 use Rattle.std.specs.Option.{option_or}
 use Rattle.std.specs.Str.{bytes_eq}
-use Rattle.session_log.specs.Text.{ClientSession, Transaction, IsLegal, IsHeldBy, session_lines, log_text}
+use Rattle.session_log.specs.Text.{ClientSession, Transaction, IsLegal, IsHeldBy, session_lines}
+use Rattle.session_log.specs.Text.{log_text}
 use Rattle.session_log.specs.Version.{first_line, version_of}
 use Rattle.session_log.specs.Blocks.{size_fault}
 use Rattle.session_log.specs.Faults.{grammar_fault}
@@ -13,7 +16,8 @@ use Rattle.session_log.specs.declared.line.Line.{Line}
 use Rattle.session_log.specs.declared.line.Line.TheVariants as line
 use Rattle.session_log.specs.declared.fault.Limit.TheVariants as limit
 use Rattle.session_log.specs.declared.fault.LogFault.{LogFault}
-use Rattle.session_log.specs.declared.fault.LogFault.TheVariants.{SessionTwice, WriteTwice, OverLimit, Memory}
+use Rattle.session_log.specs.declared.fault.LogFault.TheVariants.{SessionTwice, WriteTwice}
+use Rattle.session_log.specs.declared.fault.LogFault.TheVariants.{OverLimit, Memory}
 use Rattle.serializability.specs.declared.node.TheConstants.{MAX_NODES}
 use Rattle.session_log.specs.declared.limits.TheConstants.{MAX_KEYS, MAX_OPERATIONS}
 use Rattle.log_definitions.specs.Unknown.{txns_in, ops_in, is_committed, is_unknown}
@@ -37,7 +41,8 @@ writes_from n (_ ∷ ls) = writes_from (n + 1) ls
 -- the first line whose number stood before
 abbrev pub repeated : List ℕ → List (ℕ × ℕ) → Option ℕ
 repeated seen [] = None
-repeated seen (x ∷ xs) = if list_any (nat_eq x.1) seen then Some x.0 else repeated (seen ++ x.1 ∷ []) xs
+repeated seen (x ∷ xs) = if list_any (nat_eq x.1) seen then Some x.0 else repeated
+    (seen ++ x.1 ∷ []) xs
 
 abbrev pub session_twice : ℕ → List Line → Option ℕ
 session_twice n ls = repeated [] (sessions_from n ls)
@@ -52,7 +57,8 @@ key_of (Write key wid) = key
 -- these keys, and behind them each other one at its first appearance
 abbrev pub first_seen : List (List ℕ) → List (List ℕ) → List (List ℕ)
 first_seen seen [] = seen
-first_seen seen (key ∷ keys) = first_seen (if list_any (bytes_eq key) seen then seen else seen ++ key ∷ []) keys
+first_seen seen (key ∷ keys) = first_seen (if list_any
+    (bytes_eq key) seen then seen else seen ++ key ∷ []) keys
 
 -- the keys, in the order of their first appearance in any operation of any transaction
 unfoldable pub keys_in : List ClientSession → List (List ℕ)
@@ -65,7 +71,8 @@ is_aborted t = not (is_committed t) && not (is_unknown t)
 abbrev pub limit_fault : List ClientSession → Option LogFault
 limit_fault ss =
     if nat_lt MAX_OPERATIONS (length (ops_in ss)) then Some (OverLimit limit.Operations) else
-    (if nat_lt MAX_NODES (count_by (λ t. not (is_aborted t)) (txns_in ss)) then Some (OverLimit limit.Committed) else
+    (if nat_lt MAX_NODES (count_by (λ t. not (is_aborted t)) (txns_in ss)) then Some
+    (OverLimit limit.Committed) else
     (if nat_lt MAX_KEYS (length (keys_in ss)) then Some (OverLimit limit.Keys) else None))
 
 abbrev pub session_fault : Option ℕ → Option LogFault
@@ -76,11 +83,13 @@ abbrev pub write_fault : Option ℕ → Option LogFault
 write_fault None = None
 write_fault (Some n) = Some (WriteTwice n)
 
--- the first fault of legal sessions, whose text begins at line n: a session number that stood before, then a limit, then an
+-- the first fault of legal sessions, whose text begins at line n: a session number that stood
+-- before, then a limit, then an
 -- identity that was written before
 unfoldable pub list_fault : ℕ → List ClientSession → Option LogFault
 list_fault n ss =
-    option_or (session_fault (session_twice n (log_lines ss))) (option_or (limit_fault ss) (write_fault (write_twice n (log_lines ss))))
+    option_or (session_fault (session_twice n (log_lines ss)))
+    (option_or (limit_fault ss) (write_fault (write_twice n (log_lines ss))))
 
 -- a well-formed log, which tells its version, and the sessions that it holds
 pub record IsWellFormed (text : List ℕ) (ss : List ClientSession) : Type 0 where
@@ -90,12 +99,17 @@ pub record IsWellFormed (text : List ℕ) (ss : List ClientSession) : Type 0 whe
   pub size : size_fault text ≡ None
   pub sessions : list_fault (first_line (version_of text)) ss ≡ None
 
--- which fault a log is refused with: memory, or the first of those of the size, of the grammar and of the sessions
+-- which fault a log is refused with: memory, or the first of those of the size, of the grammar and
+-- of the sessions
 pub data IsLogFault (text : List ℕ) : LogFault → Type 0 where
   memory : IsLogFault text Memory
   size : (f : LogFault) → size_fault text ≡ Some f → IsLogFault text f
-  grammar : (f : LogFault) → size_fault text ≡ None → grammar_fault text ≡ Some f → IsLogFault text f
-  list : (f : LogFault) (ss : List ClientSession) → size_fault text ≡ None → AllByRecursion IsLegal ss → AllByRecursion (IsHeldBy (version_of text)) ss → text ≡ log_text (version_of text) ss → list_fault (first_line (version_of text)) ss ≡ Some f → IsLogFault text f
+  grammar : (f : LogFault) → size_fault text ≡ None → grammar_fault text ≡ Some f
+      → IsLogFault text f
+  list : (f : LogFault) (ss : List ClientSession) → size_fault text ≡ None
+      → AllByRecursion IsLegal ss → AllByRecursion (IsHeldBy (version_of text)) ss
+      → text ≡ log_text (version_of text) ss → list_fault (first_line (version_of text)) ss ≡ Some f
+      → IsLogFault text f
 
 -- the identities that operations write
 abbrev pub written : List Op → List ℕ
@@ -103,7 +117,8 @@ written [] = []
 written (Read key wid ∷ ops) = written ops
 written (Write key wid ∷ ops) = wid ∷ written ops
 
--- no two sessions have one number, no two writes one identity (those of every outcome), and the limits are kept
+-- no two sessions have one number, no two writes one identity (those of every outcome), and the
+-- limits are kept
 pub record KeepsRules (ss : List ClientSession) : Type 0 where
   pub sessions : IsDistinct nat_eq (map (λ s. s.number) ss)
   pub writes : IsDistinct nat_eq (written (ops_in ss))

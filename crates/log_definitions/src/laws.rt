@@ -9,8 +9,10 @@ ghost use Rattle.session_log.specs.declared.fault.LogFault.TheVariants.{Memory};
 ghost use Rattle.serializability.specs.declared.node.TheConstants.{MAX_NODES};
 ghost use Rattle.serializability.specs.Replay.{IsSerial};
 ghost use Rattle.serializability.specs.Reads.{IsNumbered};
-ghost use Rattle.log_definitions.specs.Unknown.{IsClosed, IsNeeded, IsWithin, settled, taken, resolved, txns_in, ops_in};
-ghost use Rattle.log_definitions.specs.WellFormed.{IsWellFormed, IsLogFault, KeepsRules, list_fault, written};
+ghost use Rattle.log_definitions.specs.Unknown.{IsClosed, IsNeeded, IsWithin, settled, taken};
+ghost use Rattle.log_definitions.specs.Unknown.{resolved, txns_in, ops_in};
+ghost use Rattle.log_definitions.specs.WellFormed.{IsWellFormed, IsLogFault, KeepsRules};
+ghost use Rattle.log_definitions.specs.WellFormed.{list_fault, written};
 ghost use Rattle.log_definitions.specs.Serial.{IsSerialOrder, IsSomeOrder};
 ghost use Rattle.log_definitions.specs.Numbers.{IsWellFormedList, log_of};
 
@@ -55,20 +57,25 @@ pub fn nodes_within_limit()
 
 /// Sessions have a fault from one line on exactly where they have one from another.
 pub fn fault_from_any_line()
-    ensures { (n m : ℕ) (ss : List ClientSession) → (list_fault n ss ≡ None ↔ list_fault m ss ≡ None) }
+    ensures { (n m : ℕ) (ss : List ClientSession)
+        → (list_fault n ss ≡ None ↔ list_fault m ss ≡ None) }
 {}
 
 /// Sessions whose outcomes were all learnt stay as they are, and so do settled ones.
 pub fn learnt_outcomes_stay()
-    ensures learnt { (ss : List ClientSession) → AllByRecursion (λ t. t.outcome ≢ Unknown) (txns_in ss) → resolved ss ≡ ss }
-    ensures settled { (chosen : ℕ → Bool) (ss : List ClientSession) → resolved (settled chosen ss) ≡ settled chosen ss }
+    ensures learnt { (ss : List ClientSession)
+        → AllByRecursion (λ t. t.outcome ≢ Unknown) (txns_in ss) → resolved ss ≡ ss }
+    ensures settled { (chosen : ℕ → Bool) (ss : List ClientSession)
+        → resolved (settled chosen ss) ≡ settled chosen ss }
 {}
 
-/// The taken transactions count as committed. They hold each one that is needed, and every set that does so holds them.
+/// The taken transactions count as committed. They hold each one that is needed, and every set that
+/// does so holds them.
 pub fn taken_are_least()
     ensures resolved { (ss : List ClientSession) → resolved ss ≡ settled (taken ss) ss }
     ensures closed { (ss : List ClientSession) → IsClosed ss (taken ss) }
-    ensures least { (ss : List ClientSession) (chosen : ℕ → Bool) → IsClosed ss chosen → IsWithin (taken ss) chosen }
+    ensures least { (ss : List ClientSession) (chosen : ℕ → Bool) → IsClosed ss chosen
+        → IsWithin (taken ss) chosen }
 {}
 
 /// What is needed beside taken transactions is taken too.
@@ -83,9 +90,11 @@ pub fn closed_are_all_taken()
         IsWithin chosen (taken ss) → IsClosed ss chosen → settled chosen ss ≡ resolved ss }
 {}
 
-/// Where no identity is written twice, some order of the committed transactions and of some whose outcome was not learnt is serial
-/// exactly where some order of the committed and the taken ones is.
+/// Where no identity is written twice, some order of the committed transactions and of some whose
+/// outcome was not learnt is serial exactly where some order of the committed and the taken ones
+/// is.
 pub fn only_the_taken()
-    ensures { (ss : List ClientSession) → AllByRecursion IsLegal ss → IsDistinct nat_eq (written (ops_in ss)) →
+    ensures { (ss : List ClientSession) → AllByRecursion IsLegal ss
+        → IsDistinct nat_eq (written (ops_in ss)) →
         (((order : List ℕ) × IsSomeOrder ss order) ↔ ((order : List ℕ) × IsSerialOrder ss order)) }
 {}

@@ -1,5 +1,7 @@
--- Where the operations of a log stand. Lines count from 1, and the first session of the log begins at line n, behind the header.
-use Rattle.std.specs.Prelude.{◌≡◌, ℕ, ◌+◌, ◌-◌, ◌<◌, ◌≤◌, Bool, true, not, ◌==◌, List, [], ◌∷◌, ◌++◌, length, slice_index}
+-- Where the operations of a log stand. Lines count from 1, and the first session of the log begins
+-- at line n, behind the header.
+use Rattle.std.specs.Prelude.{◌≡◌, ℕ, ◌+◌, ◌-◌, ◌<◌, ◌≤◌, Bool, true, not, ◌==◌, List, [], ◌∷◌}
+use Rattle.std.specs.Prelude.{◌++◌, length, slice_index}
 use Rattle.std.specs.List.{flat_map, list_all, AllByRecursion}
 use Rattle.session_log.specs.Text.{ClientSession, Transaction, line_text, txn_lines}
 use Rattle.session_log.specs.declared.line.Line.{Line}
@@ -8,7 +10,8 @@ use Rattle.log_definitions.specs.Serial.{committed_in, ops_of, begun_of, ended_o
 use Rattle.session_history.specs.Tables.{name_in}
 
 -- the transaction t, at this place, from 1, of the session of this number, begins at this line
-pub record BeginsAt (n : ℕ) (ss : List ClientSession) (session place : ℕ) (t : Transaction) (line : ℕ) : Type 0 where
+pub record BeginsAt (n : ℕ) (ss : List ClientSession) (session place : ℕ) (t : Transaction)
+    (line : ℕ) : Type 0 where
   pub before : List ClientSession
   pub of : ClientSession
   pub after : List ClientSession
@@ -37,7 +40,8 @@ pub record IsLineOf (text : List ℕ) (k : ℕ) (l : Line) : Type 0 where
   pub count : k ≡ length front + 1
   pub whole : text ≡ flat_map with_lf front ++ (line_text l ++ 10 ∷ rest)
 
--- node v, a transaction of these operations and moments, begins at this line, in the place of its name
+-- node v, a transaction of these operations and moments, begins at this line, in the place of its
+-- name
 pub record NodeBeginsAt (n : ℕ) (ss : List ClientSession) (v line : ℕ) : Type 0 where
   pub t : Transaction
   pub ops : t.ops ≡ ops_of ss v
@@ -48,4 +52,5 @@ pub record NodeBeginsAt (n : ℕ) (ss : List ClientSession) (v line : ℕ) : Typ
 -- the lines at which the nodes begin, in the order of the nodes from node 1 on
 pub record AreBeginLines (n : ℕ) (ss : List ClientSession) (lines : List ℕ) : Type 0 where
   pub count : length lines ≡ length (committed_in ss)
-  pub each : (v : ℕ) → 0 < v → v ≤ length (committed_in ss) → NodeBeginsAt n ss v (slice_index lines (v - 1))
+  pub each : (v : ℕ) → 0 < v → v ≤ length (committed_in ss)
+      → NodeBeginsAt n ss v (slice_index lines (v - 1))

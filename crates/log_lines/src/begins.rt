@@ -4,26 +4,14 @@ ghost use Rattle.std.specs.Prelude.{◌≡◌, ◌+◌, ◌<◌, ◌^◌, ◌++�
 ghost use Rattle.std.specs.List.{flat_map};
 ghost use Rattle.session_log.specs.Text.{view, view_txn, txn_lines};
 ghost use Rattle.session_log.specs.Version.{first_line};
-ghost use Rattle.log_definitions.specs.Unknown.{is_committed, settle};
 ghost use Rattle.log_definitions.specs.WellFormed.{log_lines};
 ghost use Rattle.log_lines.specs.Places.{AreBeginLines};
 ghost use Rattle.log_lines.specs.Computed.{begin_of, begins_from};
 
 use crate::counts::{session_line_count, txn_line_count};
-use session_history::History;
-use session_log::{Outcome, Session, Txn, Version};
+use session_history::{History, is_node};
+use session_log::{Session, Txn, Version};
 use std::alloc::{AllocError, Global};
-
-/// Whether a transaction is a node, where those of unknown outcome are taken, or not.
-fn is_node(txn: &Txn, is_taken: bool) -> bool
-    ensures { result ≡ is_committed (settle is_taken (view_txn txn.now)) }
-{
-    match txn.outcome {
-        Outcome::Commit => true,
-        Outcome::Abort => false,
-        Outcome::Unknown => is_taken,
-    }
-}
 
 /// Appends the line at which a transaction begins, where it is a node.
 fn add_begin_line(
@@ -41,7 +29,8 @@ fn add_begin_line(
     Ok(())
 }
 
-/// Appends the lines at which the nodes of a session begin, whose first transaction begins at line `first`.
+/// Appends the lines at which the nodes of a session begin, whose first transaction begins at line
+/// `first`.
 fn add_begin_lines(
     lines: &mut Vec<usize>,
     session: &Session,
@@ -60,8 +49,8 @@ fn add_begin_lines(
     Ok(())
 }
 
-/// The line of the log, from 1, at which each node begins, in the order of the nodes: that of node v is at v - 1. The history is
-/// that of a log of this version.
+/// The line of the log, from 1, at which each node begins, in the order of the nodes: that of node
+/// v is at v - 1. The history is that of a log of this version.
 pub fn begin_lines(
     alloc: Global,
     version: Version,

@@ -1,4 +1,6 @@
 //! At which lines of a log its transactions and their operations stand.
+//!
+//! Called by the crates that tell. It knows no anomaly, no edge and no text but its lines' numbers.
 #![tactic(auto)]
 
 mod begins;

@@ -17,13 +17,13 @@ use std::thread;
 use std::thread::{Threads, join};
 use std::time::{Clock, Duration};
 
-// A sum that wraps. An event is answered with the sum before it.
+/// A sum that wraps. An event is answered with the sum before it.
 #[derive(Drop)]
 struct Adder {
     sum: u64,
 }
 
-// Adds an amount, once the sum is large enough.
+/// Adds an amount, once the sum is large enough.
 #[derive(Clone, Copy)]
 struct Amount {
     amount: u64,
@@ -67,14 +67,14 @@ fn two_threads_make_one_history(rt: HostRuntime) -> Result<(), Fail> {
     Ok(())
 }
 
-// Seat 2 calls at once and has to wait for a sum of 8, which seat 1 makes a little later.
+/// Seat 2 calls at once and has to wait for a sum of 8, which seat 1 makes a little later.
 fn add_together<J: Naming + Send + Sync, R: Threads + Wait + Clock + Abort + Sync>(
     rt: &R,
     alloc: Global,
     opened: Opened<Adder>,
 )
-    requires names { J.names ≡ opened.1 }
-    requires desk { J.desk ≡ opened.2 }
+    requires names { J.names ≡ opened.names }
+    requires desk { J.desk ≡ opened.desk }
 {
     let (desk, mut seats) = Desk::<Adder, J>::open(alloc, opened).expect(rt, "memory");
     let second = seats.pop().expect(rt, "seat 2");
@@ -94,7 +94,7 @@ fn add_together<J: Naming + Send + Sync, R: Threads + Wait + Clock + Abort + Syn
     assert_eq!(rt; sum_after(rt, 5, &closed.history), closed.machine.sum);
 }
 
-// A hundred calls, and a last one, which does not wait.
+/// A hundred calls, and a last one, which does not wait.
 fn add_often<J: Naming, R: Wait + Abort>(
     rt: &R,
     desk: &Desk<Adder, J>,
@@ -108,7 +108,8 @@ fn add_often<J: Naming, R: Wait + Abort>(
     leave(rt, desk, seat, amount)
 }
 
-// The sum after a history, each of whose replies is the sum before it, for which the call did not have to wait.
+/// The sum after a history, each of whose replies is the sum before it, for which the call did not
+/// have to wait.
 fn sum_after(rt: &impl Abort, opening: u64, history: &[Entry<Amount, u64>]) -> u64 {
     let mut sum = opening;
     for entry in history {
@@ -128,8 +129,8 @@ fn close_names_the_missing_seat(rt: HostRuntime) -> Result<(), Fail> {
 }
 
 fn close_too_early<J: Naming, R: Wait + Abort>(rt: &R, alloc: Global, opened: Opened<Adder>)
-    requires names { J.names ≡ opened.1 }
-    requires desk { J.desk ≡ opened.2 }
+    requires names { J.names ≡ opened.names }
+    requires desk { J.desk ≡ opened.desk }
 {
     let (desk, mut seats) = Desk::<Adder, J>::open(alloc, opened).expect(rt, "memory");
     let third = seats.pop().expect(rt, "seat 3");
@@ -153,7 +154,7 @@ fn close_too_early<J: Naming, R: Wait + Abort>(rt: &R, alloc: Global, opened: Op
     assert!(rt; seats.eq([1, 3, 2]));
 }
 
-// An event that was refused for memory comes back, and is sent again.
+/// An event that was refused for memory comes back, and is sent again.
 fn add<J: Naming, R: Wait + Abort>(
     rt: &R,
     desk: &Desk<Adder, J>,
@@ -167,7 +168,7 @@ fn add<J: Naming, R: Wait + Abort>(
     }
 }
 
-// The last call does not wait for the sum.
+/// The last call does not wait for the sum.
 fn leave<J: Naming, R: Wait>(
     rt: &R,
     desk: &Desk<Adder, J>,

@@ -8,7 +8,7 @@ use desk::machine::Machine;
 use desk::naming::Naming;
 use desk::opened::Opened;
 use desk::seat_no::{SeatNo, Workers};
-use gather::{Event, GatherMachine, Reply, collect, parse_piece};
+use gather::{GatherEvent, GatherMachine, GatherReply, collect, parse_piece};
 use session_log::{Block, LogFault, Session, cut, print_log};
 use std::alloc::Global;
 use std::marker::Brand;
@@ -20,7 +20,7 @@ use std::thread;
 use std::thread::Threads;
 use std::time::{Clock, Duration};
 
-// A session whose client was not told how its transaction ended, and one that reads what it wrote.
+/// A session whose client was not told how its transaction ended, and one that reads what it wrote.
 const UNKNOWN: &str = "log 2\nsession 1\nbegin\nw x 1\nunknown\nsession 2\nbegin\nr x 1\ncommit\n";
 
 const MOMENTS: &str = "log 3\nsession 1\nbegin 1\ncommit 1\nsession 2\nbegin 0\nabort\n";
@@ -29,8 +29,8 @@ fn see<'a>(
     rt: &impl Abort,
     machine: &mut GatherMachine<'a>,
     seat: u8,
-    event: &Event<'a>,
-    want: Reply,
+    event: &GatherEvent<'a>,
+    want: GatherReply,
 ) {
     let seat = SeatNo::new(seat).expect(rt, "a seat");
     let reply = machine.step(seat, event);
@@ -43,26 +43,32 @@ fn each_event_has_its_reply(rt: HostRuntime) -> Result<(), Fail> {
     let log = THREE.as_bytes();
     let (_, blocks) = cut(alloc, log).ok().ok_or("three blocks")?;
     let first = blocks.first().ok_or("a block")?;
-    let put = Event::Put {
+    let put = GatherEvent::Put {
         block: 0,
         parsed: parse_piece(alloc, log, first)?,
     };
-    let elsewhere = Event::Put {
+    let elsewhere = GatherEvent::Put {
         block: 7,
         parsed: parse_piece(alloc, log, first)?,
     };
     let mut machine = GatherMachine::opening(alloc, log, Vec::from_slice(alloc, &blocks)?)?;
     let machine = &mut machine;
-    see(&rt, machine, 1, &Event::Take, Reply::Block(0));
-    see(&rt, machine, 2, &Event::Take, Reply::Block(1));
-    see(&rt, machine, 1, &Event::Take, Reply::Block(0));
-    see(&rt, machine, 2, &put, Reply::Stranger);
-    see(&rt, machine, 1, &put, Reply::Kept);
-    see(&rt, machine, 1, &put, Reply::Double);
-    see(&rt, machine, 2, &Event::Release, Reply::Released);
-    see(&rt, machine, 1, &Event::Take, Reply::Block(1));
-    see(&rt, machine, 2, &Event::Take, Reply::Block(2));
-    see(&rt, machine, 2, &elsewhere, Reply::Stranger);
+    see(&rt, machine, 1, &GatherEvent::Take, GatherReply::Block(0));
+    see(&rt, machine, 2, &GatherEvent::Take, GatherReply::Block(1));
+    see(&rt, machine, 1, &GatherEvent::Take, GatherReply::Block(0));
+    see(&rt, machine, 2, &put, GatherReply::Stranger);
+    see(&rt, machine, 1, &put, GatherReply::Kept);
+    see(&rt, machine, 1, &put, GatherReply::Double);
+    see(
+        &rt,
+        machine,
+        2,
+        &GatherEvent::Release,
+        GatherReply::Released,
+    );
+    see(&rt, machine, 1, &GatherEvent::Take, GatherReply::Block(1));
+    see(&rt, machine, 2, &GatherEvent::Take, GatherReply::Block(2));
+    see(&rt, machine, 2, &elsewhere, GatherReply::Stranger);
     Ok(())
 }
 
@@ -85,31 +91,31 @@ fn put_twice<'a, J: Naming, R: Wait + Abort>(
     blocks: &[Block],
     opened: Opened<GatherMachine<'a>>,
 )
-    requires names { J.names ≡ opened.1 }
-    requires desk { J.desk ≡ opened.2 }
+    requires names { J.names ≡ opened.names }
+    requires desk { J.desk ≡ opened.desk }
     requires blocks { blocks.now ≡ blocks_of log.now }
 {
     let (desk, mut seats) = Desk::<GatherMachine<'a>, J>::open(alloc, opened).expect(rt, "memory");
     let mut seat = seats.pop().expect(rt, "a seat");
     let block = blocks.first().expect(rt, "a block");
-    for want in [Reply::Kept, Reply::Double] {
-        let taken = desk.call(rt, &mut seat, Event::Take);
+    for want in [GatherReply::Kept, GatherReply::Double] {
+        let taken = desk.call(rt, &mut seat, GatherEvent::Take);
         assert!(rt; taken.is_ok());
-        let put = Event::Put {
+        let put = GatherEvent::Put {
             block: 0,
             parsed: parse_piece(alloc, log, block).expect(rt, "memory"),
         };
         let reply = desk.call(rt, &mut seat, put).ok().expect(rt, "memory");
         assert_eq!(rt; reply, want);
     }
-    let (reply, left) = desk.leave(rt, seat, Event::Release);
-    assert_eq!(rt; reply, Reply::Released);
+    let (reply, left) = desk.leave(rt, seat, GatherEvent::Release);
+    assert_eq!(rt; reply, GatherReply::Released);
     let lefts = Vec::from_array(alloc, [left]).expect(rt, "memory");
     let closed = desk.close(lefts).ok().expect(rt, "all have left");
     assert_eq!(rt; closed.history.len(), 5);
 }
 
-// What was read is this fault, or the sessions of this text.
+/// What was read is this fault, or the sessions of this text.
 fn see_read(
     rt: &impl Abort,
     alloc: Global,
@@ -127,7 +133,8 @@ fn see_read(
     }
 }
 
-// Reads a log alone and with 1, 3 and 16 workers, and sees the same each time: this fault, or the log's own text.
+/// Reads a log alone and with 1, 3 and 16 workers, and sees the same each time: this fault, or the
+/// log's own text.
 fn reads_as<R: Threads + Wait + Clock + Abort + Sync>(
     rt: &R,
     alloc: Global,
@@ -194,7 +201,7 @@ fn logs_are_read_as_by_one_thread(rt: HostRuntime) {
     }
 }
 
-// Holds one seat at its first turn until the other one has come to its second.
+/// Holds one seat at its first turn until the other one has come to its second.
 #[derive(Drop)]
 struct Holding {
     held: u8,

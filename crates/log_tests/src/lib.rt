@@ -1,4 +1,5 @@
-//! Tests of the crates that read a log, each by its public calls: the text and its grammar, the workers that read it, and the desk that they share.
+//! Tests of the crates that read a log, each by its public calls: the text and its grammar, the
+//! workers that read it, and the desk that they share.
 #![tactic(auto)]
 
 #[cfg(test)]

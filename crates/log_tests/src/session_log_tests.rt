@@ -6,7 +6,7 @@ use std::test::*;
 pub const THREE: &str =
     "session 1\nbegin\nw x 1\ncommit\nsession 2\nbegin\nw x 2\ncommit\nsession 3\nbegin\nr x 1\ncommit\n";
 
-// With the longest key, of each byte that a key may have.
+/// With the longest key, of each byte that a key may have.
 const EVERY_FORM: &str =
     "session 65535\nbegin\nr -./0123456789:ABCDEFGHIJKLMNOPQRSTUVWXYZ_abcdefghijklmnopqrstuvw 0\n\
     w -./0123456789:ABCDEFGHIJKLMNOPQRSTUVWXYZ_abcdefghijklmnopqrstuvw 1\nabort\nbegin\ncommit\n\
@@ -70,7 +70,7 @@ fn refused_logs(rt: HostRuntime) {
     refuses(rt, alloc, "log 3\nsession 1\nbegin 5\ncommit 4\n", ended);
 }
 
-// What the log of three sessions gives when it is cut after some bytes.
+/// What the log of three sessions gives when it is cut after some bytes.
 fn fault_of_cut(length: usize) -> Option<LogFault> {
     match length {
         0 | 10 | 29 | 39 | 58 | 68 | 87 => None,
@@ -102,7 +102,7 @@ fn logs_are_cut(rt: HostRuntime) {
     }
 }
 
-// The sessions of a log are printed as this text.
+/// The sessions of a log are printed as this text.
 fn prints(rt: &impl Abort, alloc: Global, log: &str, want: &str) {
     let sessions = read(alloc, log.as_bytes()).expect(rt, "a log");
     let text = print_log(alloc, &sessions).expect(rt, "memory");

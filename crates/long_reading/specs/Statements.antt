@@ -17,5 +17,6 @@ AscendFrom n (x ∷ xs) = (n ≤ x.0) × AscendFrom (x.0 + 1) xs
 -- new is old with what these lines state
 pub record Takes (old new : Statements) (lines : List Line) : Type 0 where
   pub line : new.line ≡ old.line + length lines
-  pub sessions : by_line new.sessions.items ≡ by_line old.sessions.items ++ sessions_from old.line lines
+  pub sessions : by_line new.sessions.items ≡ by_line old.sessions.items
+      ++ sessions_from old.line lines
   pub writes : by_line new.writes.items ≡ by_line old.writes.items ++ writes_from old.line lines

@@ -18,11 +18,12 @@ fn starts_session(line: &[u8]) -> bool
     line.starts_with(b"session")
 }
 
-/// Cuts a long log into the blocks of its sessions, and tells its version: the header and the blocks, joined, are the log, and
-/// each block but the first begins at a line that begins with the bytes `session`.
+/// Cuts a long log into the blocks of its sessions, and tells its version: the header and the
+/// blocks, joined, are the log, and each block but the first begins at a line that begins with the
+/// bytes `session`.
 ///
-/// A log with nothing behind its header has no blocks. Refused with `OverLimit` where the log has more than `MAX_LONG_LOG_BYTES`
-/// bytes, and with `Memory`.
+/// A log with nothing behind its header has no blocks. Refused with `OverLimit` where the log has
+/// more than `MAX_LONG_LOG_BYTES` bytes, and with `Memory`.
 #[tactic(auto, unfolding(long_log_definitions::specs::LongLog::size_fault))]
 pub fn cut_long(alloc: Global, log: &[u8]) -> Result<(Version, Vec<Block>), LogFault>
     ensures accepted { IfOk result (λ _. size_fault log.now ≡ None) }

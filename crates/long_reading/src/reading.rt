@@ -1,6 +1,7 @@
 //! The sessions of a long log, put together from what workers read.
 
-ghost use Rattle.std.specs.Prelude.{◌≡◌, ◌<◌, ◌^◌, ℕ, None, Some, IfOk, IfErr, MatchResult, Contains, length, map, slice_get, slice_index_or};
+ghost use Rattle.std.specs.Prelude.{◌≡◌, ◌<◌, ◌^◌, ℕ, None, Some, IfOk, IfErr, MatchResult};
+ghost use Rattle.std.specs.Prelude.{Contains, length, map, slice_get, slice_index_or};
 ghost use Rattle.std.specs.List.{flat_map, AllByRecursion};
 ghost use Rattle.session_log.specs.Text.{view};
 ghost use Rattle.session_log.specs.Version.{version_of, first_line};
@@ -20,7 +21,8 @@ use std::alloc::Global;
 use std::thread;
 use std::thread::Threads;
 
-/// The version of a long log and its sessions in log order, or its first fault, whatever the number of workers and the schedule.
+/// The version of a long log and its sessions in log order, or its first fault, whatever the number
+/// of workers and the schedule.
 pub fn read_long_log<R: Threads + Sync>(
     rt: &R,
     alloc: Global,
@@ -52,8 +54,10 @@ fn read_blocks<R: Threads + Sync>(
     let parts = shares(alloc, blocks, log.len(), workers)?;
     let parts = parts.as_slice();
     let part = |worker: usize| -> Result<Vec<Session>, LogFault>
-        requires { (worker < length parts.now) × (flat_map (λ part. part.now) parts.now ≡ blocks_of log.now) }
-        ensures { (blocks : _) → slice_get (map (λ part. part.now) parts.entry.now) worker ≡ Some blocks → MatchResult result
+        requires { (worker < length parts.now)
+            × (flat_map (λ part. part.now) parts.now ≡ blocks_of log.now) }
+        ensures { (blocks : _) → slice_get (map (λ part. part.now) parts.entry.now) worker
+            ≡ Some blocks → MatchResult result
             (λ ss. AreRead log.entry.now blocks (map view ss.items))
             (λ f. IsFault f (fault_of_blocks log.entry.now blocks)) }
     { read_share(alloc, log, parts[worker]) };
@@ -74,7 +78,8 @@ fn read_share(alloc: Global, log: &[u8], blocks: &[Block]) -> Result<Vec<Session
     Ok(sessions)
 }
 
-/// The sessions of all parts, or the fault of the first part that has one. The log stands for the contract alone.
+/// The sessions of all parts, or the fault of the first part that has one. The log stands for the
+/// contract alone.
 fn joined(
     alloc: Global,
     _log: &[u8],
@@ -83,9 +88,11 @@ fn joined(
 ) -> Result<Vec<Session>, LogFault>
     requires whole { flat_map (λ part. part.now) parts.now ≡ blocks_of _log.now }
     requires count { length read.items ≡ length parts.now }
-    requires read { (i : ℕ) (d : _) (blocks : _) → slice_get (map (λ part. part.now) parts.now) i ≡ Some blocks →
+    requires read { (i : ℕ) (d : _) (blocks : _)
+        → slice_get (map (λ part. part.now) parts.now) i ≡ Some blocks →
         MatchResult (slice_index_or read.items i d)
-        (λ ss. AreRead _log.now blocks (map view ss.items)) (λ f. IsFault f (fault_of_blocks _log.now blocks)) }
+        (λ ss. AreRead _log.now blocks (map view ss.items))
+        (λ f. IsFault f (fault_of_blocks _log.now blocks)) }
     ensures read { IfOk result (λ ss. AreRead _log.now (blocks_of _log.now) (map view ss.items)) }
     ensures fault { IfErr result (λ f. IsFault f (grammar_fault _log.now)) }
 {
@@ -97,7 +104,8 @@ fn joined(
     Ok(sessions)
 }
 
-/// Refuses sessions of which two have one number or two writes one identity, at the first line whose number stood before.
+/// Refuses sessions of which two have one number or two writes one identity, at the first line
+/// whose number stood before.
 fn check_numbers(alloc: Global, version: Version, sessions: &[Session]) -> Result<(), LogFault>
     requires room { length (log_lines (map view sessions.now)) < 2 ^ 63 }
     ensures accepted { IfOk result (λ _.

@@ -26,8 +26,8 @@ fn with_pair(first: Option<usize>, one: Stated, next: Stated) -> Option<usize>
     }
 }
 
-/// The first line whose number stood before. It takes no time that the numbers could make long: they are sorted, and then equal
-/// ones are neighbours, by their lines.
+/// The first line whose number stood before. It takes no time that the numbers could make long:
+/// they are sorted, and then equal ones are neighbours, by their lines.
 pub fn first_repeated(stated: &mut [Stated]) -> Option<usize>
     requires { AscendFrom 0 (by_line stated.old) }
     ensures { result ≡ repeated [] (by_line stated.old) }

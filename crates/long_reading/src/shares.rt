@@ -7,7 +7,8 @@ use desk::seat_no::Workers;
 use session_log::Block;
 use std::alloc::{AllocError, Global};
 
-/// How many of these blocks, from the first on, have their middle before this byte of the log, or at it.
+/// How many of these blocks, from the first on, have their middle before this byte of the log, or
+/// at it.
 fn count_before(blocks: &[Block], byte: usize) -> usize
     ensures { result ≤ length blocks.now }
 {
@@ -19,8 +20,8 @@ fn count_before(blocks: &[Block], byte: usize) -> usize
     blocks.len()
 }
 
-/// The blocks of a log of so many bytes, in their order and in as many parts as there are workers. The parts have about equally
-/// many bytes; some may have no block.
+/// The blocks of a log of so many bytes, in their order and in as many parts as there are workers.
+/// The parts have about equally many bytes; some may have no block.
 pub fn shares<'b>(
     alloc: Global,
     blocks: &'b [Block],

@@ -7,7 +7,7 @@ use std::process::Abort;
 use std::test::*;
 use std::thread::Threads;
 
-// What is told of a log that is refused.
+/// What is told of a log that is refused.
 fn is_told<R: Threads + Abort + Sync>(rt: &R, alloc: Global, log: &[u8], want: &str) {
     let workers = Workers::new(1).expect(rt, "a worker");
     let fault = read_long_log(rt, alloc, log, workers)

@@ -29,7 +29,7 @@ fn see_text(
     }
 }
 
-// Reads a log with 1, 2 and 16 workers, and sees its own text each time.
+/// Reads a log with 1, 2 and 16 workers, and sees its own text each time.
 fn is_read<R: Threads + Abort + Sync>(rt: &R, alloc: Global, log: &str) {
     for count in [1, 2, 16] {
         let workers = Workers::new(count).expect(rt, "workers");
@@ -38,7 +38,7 @@ fn is_read<R: Threads + Abort + Sync>(rt: &R, alloc: Global, log: &str) {
     }
 }
 
-// The same of this fault.
+/// The same of this fault.
 fn is_refused<R: Threads + Abort + Sync>(rt: &R, alloc: Global, log: &str, fault: LogFault) {
     for count in [1, 2, 16] {
         let workers = Workers::new(count).expect(rt, "workers");
@@ -79,7 +79,7 @@ fn numbers_that_stand_twice_are_named(rt: HostRuntime) {
     is_refused(&rt, alloc, log, LogFault::WriteTwice { line: 9 });
 }
 
-// A log of so many sessions, each with as many operations of its own.
+/// A log of so many sessions, each with as many operations of its own.
 fn many(alloc: Global, sessions: u64, operations: u64) -> Result<String, Fail> {
     let mut log = String::new(alloc);
     for session in 0..sessions {
@@ -99,7 +99,7 @@ fn many(alloc: Global, sessions: u64, operations: u64) -> Result<String, Fail> {
     Ok(log)
 }
 
-// More sessions, transactions and keys than a log may have.
+/// More sessions, transactions and keys than a log may have.
 #[test]
 fn there_is_no_limit_but_the_size(rt: HostRuntime) -> Result<(), Fail> {
     let alloc = rt.alloc();

@@ -19,7 +19,8 @@ pub record IsBipath (n : ℕ) (c : Choice) : Type 0 where
   pub first : IsSingle n c.one
   pub second : IsSingle n c.two
 
--- Each known edge joins two different nodes, each side of a choice is one such edge, and the clauses, where they are few enough,
+-- Each known edge joins two different nodes, each side of a choice is one such edge, and the
+-- clauses, where they are few enough,
 -- are a formula.
 pub record HasPlain (p : Polygraph) : Type 0 where
   pub few : p.nodes ≤ MAX_NODES

@@ -13,12 +13,14 @@ pub record IsCursor (end : ℕ) (c : Cursor) : Type 0 where
   pub second : c.second ≤ end
   pub third : c.third ≤ end
 
--- the clauses of the first two nodes and each from the third on, of the first and two nodes behind the second, and of three nodes
+-- the clauses of the first two nodes and each from the third on, of the first and two nodes behind
+-- the second, and of three nodes
 -- behind the first
 unfoldable pub cursor_left : Relation → Cursor → List (List Literal)
 cursor_left r c =
     of_one r c.first c.second (up_to c.third (r.nodes + 1))
-    ++ (of_two r c.first (up_to (c.second + 1) (r.nodes + 1)) ++ of_three r (up_to (c.first + 1) (r.nodes + 1)))
+    ++ (of_two r c.first (up_to (c.second + 1) (r.nodes + 1)) ++ of_three r
+    (up_to (c.first + 1) (r.nodes + 1)))
 
 -- at most so many steps are left
 abbrev pub steps_left : Cursor → ℕ

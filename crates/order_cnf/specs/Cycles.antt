@@ -1,5 +1,6 @@
 -- Cycles of three nodes, and words of bits that say of which nodes they are open.
-use Rattle.std.specs.Prelude.{◌≡◌, ℕ, ◌+◌, ◌*◌, ◌<◌, ◌≤◌, ◌==◌, ◌&&◌, Bool, not, nat_le, List, length}
+use Rattle.std.specs.Prelude.{◌≡◌, ℕ, ◌+◌, ◌*◌, ◌<◌, ◌≤◌, ◌==◌, ◌&&◌, Bool, not, nat_le, List}
+use Rattle.std.specs.Prelude.{length}
 use Rattle.std.specs.Int.{bit_at}
 use Rattle.known_graph.specs.Bits.{bit_of, row_len}
 use Rattle.known_graph.specs.Held.{bit_place}
@@ -8,7 +9,8 @@ use Rattle.order_cnf.specs.declared.open_pairs.OpenPairs.{OpenPairs}
 
 -- k is a node, and of no edge of the cycle u, v, k it is known that it is so
 unfoldable pub is_open_cycle : Relation → ℕ → ℕ → ℕ → Bool
-is_open_cycle r u v k = nat_le k r.nodes && (not (known_in r u v) && (not (known_in r v k) && not (known_in r k u)))
+is_open_cycle r u v k = nat_le k r.nodes && (not (known_in r u v) &&
+    (not (known_in r v k) && not (known_in r k u)))
 
 -- and it is none of the nodes before `from`
 unfoldable pub is_open_from : Relation → ℕ → ℕ → ℕ → ℕ → Bool
@@ -21,7 +23,8 @@ pub record IsWord (p : ℕ → Bool) (place word : ℕ) : Type 0 where
 -- words have a row for each of nodes 0 to n, whose bits say with which nodes f holds
 pub record IsPairTable (n : ℕ) (f : ℕ → ℕ → Bool) (words : List ℕ) : Type 0 where
   pub len : length words ≡ (n + 1) * row_len n
-  pub bits : (u v : ℕ) → u ≤ n → v < row_len n * 64 → bit_of words (bit_place n u v) ≡ (nat_le v n && f u v)
+  pub bits : (u v : ℕ) → u ≤ n → v < row_len n * 64
+      → bit_of words (bit_place n u v) ≡ (nat_le v n && f u v)
 
 -- the pairs of which it is not known that the first stands before the second
 pub record AreOpenPairs (r : Relation) (pairs : OpenPairs) : Type 0 where

@@ -23,7 +23,8 @@ abbrev pub formula_left : Pruned → Cnf
 formula_left (Dead ledger) = contradiction
 formula_left (Open rest) = formula_of_rest rest
 
--- a polygraph whose known edges have no cycle and refute no side, with the rows of what reaches what by them
+-- a polygraph whose known edges have no cycle and refute no side, with the rows of what reaches
+-- what by them
 pub record IsRest (p : Polygraph) (reach : Graph) : Type 0 where
   pub graph : IsKnownGraph (record { nodes = p.nodes; edges = p.known })
   pub polygraph : IsPolygraph p
@@ -35,7 +36,8 @@ pub record IsProperRest (r : Remainder) : Type 0 where
   pub proper : IsProper r.poly
   pub reach : IsReach r.poly.known (is_listed r.rows.edges)
 
--- the formula is one to which the laws of reduced formulas apply: the contradiction, or that of a proper polygraph with its reach
+-- the formula is one to which the laws of reduced formulas apply: the contradiction, or that of a
+-- proper polygraph with its reach
 abbrev pub IsLawful : Pruned → Type 0
 IsLawful (Dead ledger) = Unit {0}
 IsLawful (Open rest) = IsProperRest rest

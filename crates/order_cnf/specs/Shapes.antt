@@ -11,7 +11,12 @@ pub record Shape : Type 0 where
 
 -- with so many variables
 abbrev pub cnf_with : Shape → ℕ → Cnf
-cnf_with s variables = record { nodes = s.relation.nodes; known = is_listed s.relation.known; variables = variables; clauses = s.clauses }
+cnf_with s variables = record {
+  nodes = s.relation.nodes;
+  known = is_listed s.relation.known;
+  variables = variables;
+  clauses = s.clauses;
+}
 
 -- made of so many choices
 abbrev pub data_with : Shape → ℕ → ℕ → FormulaData

@@ -1,5 +1,6 @@
 -- The clauses of a formula that are still to come, one kind after another.
-use Rattle.std.specs.Prelude.{◌≡◌, ℕ, ◌+◌, ◌-◌, ◌*◌, true, false, if◌then◌else◌, List, [], ◌∷◌, ◌++◌, length, map, take, drop, Option, None}
+use Rattle.std.specs.Prelude.{◌≡◌, ℕ, ◌+◌, ◌-◌, ◌*◌, true, false, if◌then◌else◌, List, [], ◌∷◌}
+use Rattle.std.specs.Prelude.{◌++◌, length, map, take, drop, Option, None}
 use Rattle.std.specs.List.{flat_map, range_with_len}
 use Rattle.serializability.specs.declared.literal.Literal.{Literal}
 use Rattle.serializability.specs.Polygraph.{Edge, Choice}
@@ -30,7 +31,8 @@ unfoldable pub of_one : Relation → ℕ → ℕ → List ℕ → List (List Lit
 of_one r i j nodes = flat_map (clauses_at r) (map (λ k. (i, j, k)) nodes)
 
 -- a step of what is left: its first clause, or none where nothing is
-pub record IsStep (old : List (List Literal)) (item : Option Clause) (new : List (List Literal)) : Type 0 where
+pub record IsStep (old : List (List Literal)) (item : Option Clause)
+    (new : List (List Literal)) : Type 0 where
   pub parts : old ≡ given item ++ new
   pub last : item ≡ None → new ≡ []
 
@@ -38,7 +40,8 @@ pub record IsStep (old : List (List Literal)) (item : Option Clause) (new : List
 
 -- the literal of the next side: a choice's variable is negated with side one
 abbrev pub turned : Literal → Literal
-turned l = if l.positive then record { variable = l.variable + 1; positive = false } else record { variable = l.variable; positive = true }
+turned l = if l.positive then record { variable = l.variable + 1; positive = false } else
+    record { variable = l.variable; positive = true }
 
 -- how many sides come before the one of this literal, and two more
 abbrev pub rank_of : Literal → ℕ
@@ -48,11 +51,13 @@ rank_of l = 2 * l.variable + (if l.positive then 1 else 0)
 unfoldable pub sides_after : Relation → Literal → List Edge → List ℕ → List (List Literal)
 sides_after r l edges [] = []
 sides_after r l edges (n ∷ counts) =
-    side_clauses (known_in r) (pairs_in r) (turned l) (take n edges) ++ sides_after r (turned l) (drop n edges) counts
+    side_clauses (known_in r) (pairs_in r) (turned l) (take n edges) ++ sides_after r (turned l)
+    (drop n edges) counts
 
 -- so many edges of the side of this literal, and then the sides behind it
 abbrev pub sides_left : Relation → Literal → ℕ → List Edge → List ℕ → List (List Literal)
-sides_left r l n edges counts = side_clauses (known_in r) (pairs_in r) l (take n edges) ++ sides_after r l (drop n edges) counts
+sides_left r l n edges counts = side_clauses (known_in r) (pairs_in r) l
+    (take n edges) ++ sides_after r l (drop n edges) counts
 
 -- behind the last pair's variable
 abbrev pub last_variable : Relation → Literal
@@ -68,7 +73,8 @@ unfoldable pub units_of : List Literal → List (List Literal)
 units_of literals = map (λ l. l ∷ []) literals
 
 unfoldable pub bipaths_of : Relation → List Choice → List (List Literal)
-bipaths_of r bipaths = map (λ c. map (λ e. edge_literal (pairs_in r) e.0 e.1) (c.one ++ c.two)) bipaths
+bipaths_of r bipaths = map (λ c. map (λ e. edge_literal (pairs_in r) e.0 e.1) (c.one ++ c.two))
+    bipaths
 
 -- each side of the bipath is one edge, and of neither edge it is known whether it is so
 pub record IsFreeBipath (r : Relation) (c : Choice) : Type 0 where
@@ -76,5 +82,7 @@ pub record IsFreeBipath (r : Relation) (c : Choice) : Type 0 where
   pub nothing : r.known ≡ []
 
 -- these units, then these bipaths, then these clauses of triples and of sides
-unfoldable pub rest_of : Relation → List Literal → List Choice → List (List Literal) → List (List Literal) → List (List Literal)
-rest_of r units bipaths triples sides = units_of units ++ (bipaths_of r bipaths ++ (triples ++ sides))
+unfoldable pub rest_of : Relation → List Literal → List Choice → List (List Literal)
+    → List (List Literal) → List (List Literal)
+rest_of r units bipaths triples sides = units_of units ++
+    (bipaths_of r bipaths ++ (triples ++ sides))

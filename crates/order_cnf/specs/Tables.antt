@@ -1,5 +1,6 @@
 -- What a formula knows of pairs of nodes, as data.
-use Rattle.std.specs.Prelude.{◌≡◌, ℕ, suc, ◌+◌, ◌*◌, ◌<◌, ◌≤◌, Bool, true, false, if◌then◌else◌, List, [], ◌∷◌, length, slice_index_or, Option, None, Some}
+use Rattle.std.specs.Prelude.{◌≡◌, ℕ, suc, ◌+◌, ◌*◌, ◌<◌, ◌≤◌, Bool, true, false, if◌then◌else◌}
+use Rattle.std.specs.Prelude.{List, [], ◌∷◌, length, slice_index_or, Option, None, Some}
 use Rattle.std.specs.List.{list_any, range_with_len}
 use Rattle.serializability.specs.declared.literal.Literal.{Literal}
 use Rattle.serializability.specs.Pairs.{Known, is_free, free_pairs, pair_place, edge_literal}
@@ -48,7 +49,8 @@ pub record IsTable (r : Relation) (table : List ℕ) : Type 0 where
   pub few : r.nodes ≤ MAX_NODES
   pub strict : IsStrict (known_in r)
   pub places : length table ≡ (r.nodes + 1) * (r.nodes + 1)
-  pub entry : (u v : ℕ) → u < v → v ≤ r.nodes → slice_index_or table (u * (r.nodes + 1) + v) 0 ≡ variable_of r u v
+  pub entry : (u v : ℕ) → u < v → v ≤ r.nodes → slice_index_or table
+      (u * (r.nodes + 1) + v) 0 ≡ variable_of r u v
 
 -- "one of these", where no term is true
 abbrev pub is_true : Term → Bool

@@ -17,7 +17,7 @@ pub enum Clause {
     Triple(Literal, Literal, Literal),
 }
 
-// Whether an assignment makes a literal true.
+/// Whether an assignment makes a literal true.
 pub fn literal_is_true(values: &[bool], literal: Literal) -> bool
     requires within { (0 < literal.variable) × (literal.variable ≤ length values.now) }
     ensures value { result ≡ literal_true values.now literal }
@@ -25,7 +25,7 @@ pub fn literal_is_true(values: &[bool], literal: Literal) -> bool
     values[literal.variable as usize - 1] == literal.positive
 }
 
-// Whether an assignment makes a clause true.
+/// Whether an assignment makes a clause true.
 pub fn clause_is_true(values: &[bool], clause: Clause) -> bool
     requires within { AllByRecursion (IsWithin (length values.now)) (literals clause) }
     ensures value { result ≡ clause_true values.now (literals clause) }
@@ -40,7 +40,7 @@ pub fn clause_is_true(values: &[bool], clause: Clause) -> bool
 }
 
 #[tactic(auto, unfolding(crate::specs::Tables::clause_of))]
-// "One of these", where none of them is known to be so.
+/// "One of these", where none of them is known to be so.
 pub fn clause_of(a: Term, b: Term, c: Term) -> Option<Clause>
     requires some { a ≡ Term.False → b ≡ Term.False → c ≡ Term.False → ⊥ }
     ensures value { given result ≡ clause_of (a ∷ b ∷ c ∷ []) }

@@ -19,10 +19,11 @@ use serializability::{Literal, MAX_CLAUSES, NodeIx};
 use std::alloc::Global;
 use std::marker::Model;
 
-/// A formula over the order of nodes 0 to n, in clauses of one to three literals, each of which is made when it is asked for.
+/// A formula over the order of nodes 0 to n, in clauses of one to three literals, each of which is
+/// made when it is asked for.
 ///
-/// It has at most 1,000 nodes and 20,000,000 clauses, and each assignment that satisfies it stands for
-/// an order of the nodes.
+/// It has at most 1,000 nodes and 20,000,000 clauses, and each assignment that satisfies it stands
+/// for an order of the nodes.
 #[derive(Drop)]
 pub struct Formula {
     layout: Layout,
@@ -45,9 +46,11 @@ impl Model for Formula {
 }
 
 impl Formula {
-    /// The formula of these clauses and so many variables and choices, where there are at most 20,000,000 clauses.
+    /// The formula of these clauses and so many variables and choices, where there are at most
+    /// 20,000,000 clauses.
     pub(crate) fn of(layout: Layout, variables: u32, choices: usize) -> Result<Formula, CnfFault>
-        requires sound { length layout.clauses ≤ MAX_CLAUSES → IsFormula (cnf_with layout variables) }
+        requires sound { length layout.clauses ≤ MAX_CLAUSES
+            → IsFormula (cnf_with layout variables) }
         requires numbered { length (pairs_in layout.relation) ≤ variables }
         requires few { variables ≤ 600500 }
         ensures formula { IfOk result (λ f. f ≡ data_with layout variables choices) }
@@ -71,7 +74,7 @@ impl Formula {
         ensures few { result ≤ MAX_NODES }
         ensures sound { IsFormula (cnf_of self.now) }
     {
-        let _variables = self.variables;
+        let _invariant = self.variables;
         self.layout.relation().nodes()
     }
 
@@ -91,8 +94,8 @@ impl Formula {
         self.count
     }
 
-    /// How many choices the formula is made of: the bipaths of a plain formula, the open choices of a reduced one, and none of
-    /// the contradiction.
+    /// How many choices the formula is made of: the bipaths of a plain formula, the open choices of
+    /// a reduced one, and none of the contradiction.
     pub fn choices(&self) -> usize
         ensures count { result ≡ self.now.choices }
     {
@@ -114,7 +117,7 @@ impl Formula {
         ensures satisfied { IsOk result ↔ Satisfies values.now (cnf_of self.now) }
         ensures first_false { IfErr result (IsFirstFalse values.now self.now.clauses) }
     {
-        let _most = self.count();
+        let _invariant = self.count();
         let mut number = 0;
         for clause in self.clauses() {
             number += 1;

@@ -45,7 +45,8 @@ impl Model for Layout {
       clauses = clauses_in l.relation l.start l.units.items l.bipaths.items l.edges.items l.counts.items;
     } };
 
-    ghost invariant = { λ l. IsLayout l.relation l.start l.bipaths.items l.edges.items l.counts.items };
+    ghost invariant = { λ l. IsLayout l.relation l.start l.bipaths.items l.edges.items
+        l.counts.items };
 }
 
 /// The literal of an edge, where of no pair it is known which comes first.
@@ -64,7 +65,8 @@ pub(crate) fn free_literal(relation: &Relation, edge: Edge) -> Literal
 fn side_literal(relation: &Relation, edge: Edge) -> Literal
     requires nothing { relation.now.known ≡ [] }
     requires single { IsSingle relation.now.nodes (edge ∷ []) }
-    ensures value { result ∷ [] ≡ map (λ e. edge_literal (pairs_in relation.now) e.0 e.1) (edge ∷ []) }
+    ensures value { result ∷ [] ≡ map (λ e. edge_literal (pairs_in relation.now) e.0 e.1)
+        (edge ∷ []) }
 {
     free_literal(relation, edge)
 }

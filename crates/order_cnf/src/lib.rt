@@ -1,6 +1,9 @@
-//! Formulas in conjunctive normal form whose satisfying assignments are orders of a history's nodes:
-//! the plain formula of a history, the reduced formula of what pruning leaves, and a formula that nothing satisfies.
-//! A formula keeps no clause: each is made when it is asked for.
+//! Formulas in conjunctive normal form whose satisfying assignments are orders of a history's
+//! nodes: the plain formula of a history, the reduced formula of what pruning leaves, and a formula
+//! that nothing satisfies. A formula keeps no clause: each is made when it is asked for.
+//!
+//! Called by `cobra_formulas`; `dimacs` and `decode_order` read what it makes. It knows no text and
+//! no solver.
 #![tactic(auto)]
 
 mod clause;

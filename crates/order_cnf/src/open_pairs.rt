@@ -13,8 +13,8 @@ use known_graph::bits::{row_len, set_bit};
 use reach_rows::Rows;
 use std::alloc::{AllocError, Global};
 
-/// The pairs (u, v) of nodes 0 to n of which it is not known that u stands before v: a bit for each of them in the row of u,
-/// and once more in the row of v.
+/// The pairs (u, v) of nodes 0 to n of which it is not known that u stands before v: a bit for each
+/// of them in the row of u, and once more in the row of v.
 #[derive(Drop)]
 pub(crate) struct OpenPairs {
     pub by_first: Vec<u64>,
@@ -31,13 +31,16 @@ pub(crate) fn bit_place(nodes: usize, u: usize, v: usize) -> usize
     u * (row_len(nodes) * 64) + v
 }
 
-/// Sets the bits of the pairs of nodes 0 to n of which these rows do not say that the first stands before the second.
+/// Sets the bits of the pairs of nodes 0 to n of which these rows do not say that the first stands
+/// before the second.
 fn set_open(nodes: usize, rows: &Option<Rows>, by_first: &mut [u64], by_second: &mut [u64])
     requires few { nodes ≤ MAX_NODES }
     requires first { by_first.old ≡ replicate ((nodes + 1) * row_len nodes) 0 }
     requires second { by_second.old ≡ replicate ((nodes + 1) * row_len nodes) 0 }
-    ensures first { IsPairTable nodes (λ u v. not (is_listed (rows_known rows.now) u v)) by_first.new }
-    ensures second { IsPairTable nodes (λ v u. not (is_listed (rows_known rows.now) u v)) by_second.new }
+    ensures first { IsPairTable nodes (λ u v. not (is_listed (rows_known rows.now) u v))
+        by_first.new }
+    ensures second { IsPairTable nodes (λ v u. not (is_listed (rows_known rows.now) u v))
+        by_second.new }
 {
     for u in 0..nodes + 1 {
         for v in 0..nodes + 1 {
@@ -50,14 +53,16 @@ fn set_open(nodes: usize, rows: &Option<Rows>, by_first: &mut [u64], by_second: 
 }
 
 impl OpenPairs {
-    /// The pairs of nodes 0 to n of which these rows do not say that the first stands before the second.
+    /// The pairs of nodes 0 to n of which these rows do not say that the first stands before the
+    /// second.
     pub(crate) fn of(
         alloc: Global,
         nodes: usize,
         rows: &Option<Rows>,
     ) -> Result<OpenPairs, AllocError>
         requires few { nodes ≤ MAX_NODES }
-        ensures pairs { IfOk result (AreOpenPairs (record { nodes = nodes; known = rows_known rows.now })) }
+        ensures pairs { IfOk result (AreOpenPairs
+            (record { nodes = nodes; known = rows_known rows.now })) }
     {
         let words = (nodes + 1) * row_len(nodes);
         let mut by_first = vec![in alloc; 0; words]?;

@@ -34,7 +34,8 @@ fn arc_literals(
 ) -> Result<Vec<Literal>, AllocError>
     requires nothing { relation.now.known ≡ [] }
     requires joined { AllByRecursion (Joins relation.now.nodes) arcs.now }
-    ensures literals { IfOk result (λ l. l.items ≡ map (λ e. spec.edge_literal (pairs_in relation.now) e.0 e.1) arcs.now) }
+    ensures literals { IfOk result (λ l. l.items ≡ map
+        (λ e. spec.edge_literal (pairs_in relation.now) e.0 e.1) arcs.now) }
 {
     let mut literals = Vec::with_capacity(alloc, arcs.len())?;
     for arc in arcs {
@@ -67,12 +68,12 @@ fn formula_of(alloc: Global, polygraph: BipathGraph) -> Result<Formula, CnfFault
     Formula::of(layout, variables, choices)
 }
 
-/// The plain formula of a clean history: a variable for each pair of nodes, and a clause for each arc,
-/// for each bipath and, twice, for each three nodes.
+/// The plain formula of a clean history: a variable for each pair of nodes, and a clause for each
+/// arc, for each bipath and, twice, for each three nodes.
 ///
-/// Its satisfying assignments stand for the serial orders. There is none for more than 100 committed
-/// transactions, more than 100,000 bipaths or more than 20,000,000 clauses; the first of these is the
-/// error.
+/// Its satisfying assignments stand for the serial orders. There is none for more than 100
+/// committed transactions, more than 100,000 bipaths or more than 20,000,000 clauses; the first of
+/// these is the error.
 pub fn plain_formula(alloc: Global, history: &History) -> Result<Formula, CnfFault>
     requires clean { IsClean (log_of history.now) }
     ensures formula { IfOk result (λ f. cnf_of f ≡ plain (log_of history.now)) }

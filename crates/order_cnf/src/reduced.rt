@@ -3,7 +3,8 @@
 ghost use Rattle.std.specs.Prelude.{◌≡◌, ◌∷◌, ◌++◌, [], length, None, IfOk, IfErr, OnOk};
 ghost use Rattle.std.specs.List.{flat_map};
 ghost use Rattle.order_cnf.specs.Data.{cnf_of};
-ghost use Rattle.order_cnf.specs.Left.{choices_left, formula_left, formula_of_rest, IsLawful, IsProperRest, IsRest};
+ghost use Rattle.order_cnf.specs.Left.{choices_left, formula_left, formula_of_rest, IsLawful};
+ghost use Rattle.order_cnf.specs.Left.{IsProperRest, IsRest};
 ghost use Rattle.order_cnf.specs.Limits.{size_fault, IsFault};
 
 use crate::fault::CnfFault;
@@ -37,7 +38,8 @@ impl Sides {
     /// Adds a side.
     fn push(&mut self, side: &[Edge]) -> Result<(), AllocError>
         ensures edges { OnOk result (self.new.edges.items ≡ self.old.edges.items ++ side.now) }
-        ensures counts { OnOk result (self.new.counts.items ≡ self.old.counts.items ++ length side.now ∷ []) }
+        ensures counts { OnOk result (self.new.counts.items ≡ self.old.counts.items
+            ++ length side.now ∷ []) }
     {
         self.edges.extend_from_slice(side)?;
         self.counts.push(side.len())?;
@@ -48,7 +50,8 @@ impl Sides {
 /// The sides of these choices.
 fn sides_of(alloc: Global, choices: &[Choice]) -> Result<Sides, AllocError>
     ensures edges { IfOk result (λ s. s.edges.items ≡ flat_map (λ h. h.one ++ h.two) choices.now) }
-    ensures counts { IfOk result (λ s. s.counts.items ≡ flat_map (λ h. length h.one ∷ length h.two ∷ []) choices.now) }
+    ensures counts { IfOk result (λ s. s.counts.items ≡ flat_map
+        (λ h. length h.one ∷ length h.two ∷ []) choices.now) }
 {
     let mut sides = Sides {
         edges: Vec::with_capacity(alloc, edge_count(choices))?,
@@ -66,8 +69,8 @@ fn left_is_proper(reduced: &Reduced)
     ensures rest { IsRest reduced.now.poly reduced.now.rows }
     ensures proper { IsProperRest reduced.now }
 {
-    let _nodes = reduced.poly().nodes();
-    let _rows = reduced.rows();
+    let _invariant = reduced.poly().nodes();
+    let _invariant = reduced.rows();
 }
 
 /// The formula of what pruning leaves open.
@@ -89,10 +92,12 @@ fn formula_of_open(alloc: Global, reduced: &Reduced) -> Result<Formula, CnfFault
     Formula::of(layout, variables, choices.len())
 }
 
-/// The reduced formula of what pruning leaves of a polygraph: a variable for each pair of nodes of which neither reaches the
-/// other, and one for each open choice; a dead polygraph has the contradiction.
+/// The reduced formula of what pruning leaves of a polygraph: a variable for each pair of nodes of
+/// which neither reaches the other, and one for each open choice; a dead polygraph has the
+/// contradiction.
 ///
-/// Its satisfying assignments stand for the orders that fit. There is none of more than 20,000,000 clauses.
+/// Its satisfying assignments stand for the orders that fit. There is none of more than 20,000,000
+/// clauses.
 pub fn reduced_formula(alloc: Global, pruned: &Pruned) -> Result<Formula, CnfFault>
     ensures formula { IfOk result (λ f. cnf_of f ≡ formula_left pruned.now) }
     ensures choices { IfOk result (λ f. f.choices ≡ choices_left pruned.now) }

@@ -8,7 +8,8 @@ ghost use Rattle.serializability.specs.Decoded.{is_before};
 ghost use Rattle.order_cnf.specs.Clauses.{IsWithin};
 ghost use Rattle.order_cnf.specs.Cycles.{is_open_cycle, IsWord};
 ghost use Rattle.order_cnf.specs.Data.{is_listed};
-ghost use Rattle.order_cnf.specs.Tables.{Relation as Data, IsStrict, IsTable, known_in, pairs_in, rows_known, term_of};
+ghost use Rattle.order_cnf.specs.Tables.{Relation as Data, IsStrict, IsTable, known_in, pairs_in};
+ghost use Rattle.order_cnf.specs.Tables.{rows_known, term_of};
 ghost use Rattle.serializability.specs.declared.node.TheConstants.{MAX_NODES};
 
 use crate::clause::literal_is_true;
@@ -22,8 +23,8 @@ use serializability::numbers::node;
 use std::alloc::{AllocError, Global};
 use std::marker::Model;
 
-/// Nodes 0 to n, and of each pair of them which one is known to stand before the other, or the variable that says it.
-/// Variables are numbered from 1, by the first node and then the second.
+/// Nodes 0 to n, and of each pair of them which one is known to stand before the other, or the
+/// variable that says it. Variables are numbered from 1, by the first node and then the second.
 #[derive(Drop)]
 pub(crate) struct Relation {
     nodes: usize,
@@ -46,7 +47,8 @@ impl Model for Relation {
 
     ghost view = { λ r. record { nodes = r.nodes; known = rows_known r.rows } };
 
-    ghost invariant = { λ r. IsTable (record { nodes = r.nodes; known = rows_known r.rows }) r.table.items
+    ghost invariant = { λ r. IsTable (record { nodes = r.nodes; known = rows_known r.rows })
+        r.table.items
         × (r.variables ≡ length (pairs_in (record { nodes = r.nodes; known = rows_known r.rows })))
         × AreOpenPairs (record { nodes = r.nodes; known = rows_known r.rows }) r.pairs };
 }
@@ -80,9 +82,11 @@ struct Numbering {
 /// Numbers the pairs of which these rows say nothing.
 fn number_pairs(alloc: Global, nodes: usize, rows: &Option<Rows>) -> Result<Numbering, AllocError>
     requires few { nodes ≤ MAX_NODES }
-    ensures table { IfOk result (λ m. (r : Data) → r ≡ record { nodes = nodes; known = rows_known rows.now } →
+    ensures table { IfOk result (λ m. (r : Data)
+        → r ≡ record { nodes = nodes; known = rows_known rows.now } →
         IsStrict (known_in r) → IsTable r m.table.items) }
-    ensures count { IfOk result (λ m. (r : Data) → r ≡ record { nodes = nodes; known = rows_known rows.now } →
+    ensures count { IfOk result (λ m. (r : Data)
+        → r ≡ record { nodes = nodes; known = rows_known rows.now } →
         m.variables ≡ length (pairs_in r)) }
 {
     let side = nodes + 1;
@@ -136,7 +140,8 @@ impl Relation {
     ) -> Result<Relation, AllocError>
         requires few { nodes ≤ MAX_NODES }
         requires strict { IsStrict (is_listed (rows_known rows)) }
-        ensures relation { IfOk result (λ r. r ≡ record { nodes = nodes; known = rows_known rows }) }
+        ensures relation { IfOk result (λ r. r
+            ≡ record { nodes = nodes; known = rows_known rows }) }
     {
         let Numbering { table, variables } = number_pairs(alloc, nodes, &rows)?;
         let pairs = OpenPairs::of(alloc, nodes, &rows)?;
@@ -187,7 +192,8 @@ impl Relation {
     pub(crate) fn term(&self, u: usize, v: usize) -> Term
         requires within { (u ≤ self.now.nodes) × (v ≤ self.now.nodes) × (u ≢ v) }
         ensures value { result ≡ term_of self.now u v }
-        ensures literal { (l : Literal) → result ≡ Term.Open l → IsWithin (length (pairs_in self.now)) l }
+        ensures literal { (l : Literal) → result ≡ Term.Open l
+            → IsWithin (length (pairs_in self.now)) l }
     {
         if u < v {
             self.terms(u, v).0
@@ -196,9 +202,11 @@ impl Relation {
         }
     }
 
-    /// Of the 64 nodes from 64 * place on, those k for which it is known of no edge of the cycle u, v, k that it is so, as bits.
+    /// Of the 64 nodes from 64 * place on, those k for which it is known of no edge of the cycle u,
+    /// v, k that it is so, as bits.
     pub(crate) fn open_cycles(&self, u: usize, v: usize, place: usize) -> u64
-        requires within { (u ≤ self.now.nodes) × (v ≤ self.now.nodes) × (place < row_len self.now.nodes) }
+        requires within { (u ≤ self.now.nodes) × (v ≤ self.now.nodes)
+            × (place < row_len self.now.nodes) }
         ensures word { IsWord (is_open_cycle self.now u v) place result }
     {
         if !has_bit(&self.pairs.by_first, bit_place(self.nodes, u, v)) {

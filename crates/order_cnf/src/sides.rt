@@ -1,6 +1,7 @@
 //! The clauses of open choices.
 
-ghost use Rattle.std.specs.Prelude.{◌≡◌, ◌↔◌, ◌+◌, IsSome, IfSome, false, ◌<◌, ◌≤◌, [], ◌∷◌, length, if◌then◌else◌};
+ghost use Rattle.std.specs.Prelude.{◌≡◌, ◌↔◌, ◌+◌, IsSome, IfSome, false, ◌<◌, ◌≤◌, [], ◌∷◌};
+ghost use Rattle.std.specs.Prelude.{length, if◌then◌else◌};
 ghost use Rattle.std.specs.List.{AllByRecursion};
 ghost use Rattle.order_laws.specs.Reduced.{side_clauses};
 ghost use Rattle.order_cnf.specs.Tables.{known_in, pairs_in, given};
@@ -14,7 +15,8 @@ use reach_laws::Edge;
 use serializability::Literal;
 use std::marker::Model;
 
-/// The literal of the side behind the one of this literal: a choice's variable is negated with its first side.
+/// The literal of the side behind the one of this literal: a choice's variable is negated with its
+/// first side.
 fn turned(literal: Literal) -> Literal
     requires few { literal.variable ≤ 650000 }
     ensures value { result ≡ turned literal }
@@ -35,7 +37,8 @@ fn turned(literal: Literal) -> Literal
 /// "This literal or this edge", where it is not known that the edge is so.
 fn edge_clause(relation: &Relation, literal: Literal, edge: Edge) -> Option<Clause>
     requires open_to { IsUnturned relation.now edge }
-    ensures value { given result ≡ side_clauses (known_in relation.now) (pairs_in relation.now) literal (edge ∷ []) }
+    ensures value { given result ≡ side_clauses (known_in relation.now)
+        (pairs_in relation.now) literal (edge ∷ []) }
 {
     match relation.term(edge.source().get(), edge.target().get()) {
         Term::Open(other) => Some(Clause::Pair(literal, other)),
@@ -72,12 +75,13 @@ impl<'a> Model for Sides<'a> {
 }
 
 impl<'a> Sides<'a> {
-    /// The clauses of choices whose sides have these edges, so many each, and whose variables come behind those of the
-    /// relation.
+    /// The clauses of choices whose sides have these edges, so many each, and whose variables come
+    /// behind those of the relation.
     pub(crate) fn new(relation: &'a Relation, edges: &'a [Edge], counts: &'a [usize]) -> Sides<'a>
         requires open_to { AllByRecursion (IsUnturned relation.now) edges.now }
         requires few { length counts.now ≤ 200000 }
-        ensures value { result ≡ sides_after relation.now (last_variable relation.now) edges.now counts.now }
+        ensures value { result ≡ sides_after relation.now
+            (last_variable relation.now) edges.now counts.now }
     {
         Sides {
             relation,
@@ -91,7 +95,8 @@ impl<'a> Sides<'a> {
         }
     }
 
-    /// How many clauses there are with these that were counted before, where they are at most so many.
+    /// How many clauses there are with these that were counted before, where they are at most so
+    /// many.
     pub(crate) fn count_after(mut self, counted: usize, most: usize) -> Option<usize>
         requires within { counted ≤ most }
         requires few { most ≤ MAX_CLAUSES }

@@ -1,6 +1,7 @@
 //! The clauses that make a relation of nodes an order.
 
-ghost use Rattle.std.specs.Prelude.{◌≡◌, ◌≢◌, ◌↔◌, ◌<◌, ◌≤◌, ◌+◌, ◌/◌, ◌++◌, [], length, not, nat_le, IsTrue, IsSome, IfSome, IfNone, None};
+ghost use Rattle.std.specs.Prelude.{◌≡◌, ◌≢◌, ◌↔◌, ◌<◌, ◌≤◌, ◌+◌, ◌/◌, ◌++◌, [], length, not};
+ghost use Rattle.std.specs.Prelude.{nat_le, IsTrue, IsSome, IfSome, IfNone, None};
 ghost use Rattle.known_graph.specs.Bits.{row_len};
 ghost use Rattle.order_cnf.specs.Cycles.{is_open_from, IsWord};
 ghost use Rattle.order_cnf.specs.Tables.{Relation as Data, given};
@@ -12,8 +13,8 @@ use crate::relation::Relation;
 use known_graph::bits::row_len;
 use std::marker::Model;
 
-/// The clauses of one triple of nodes: no cycle through them, either way round. A clause that holds by what is known is left
-/// out.
+/// The clauses of one triple of nodes: no cycle through them, either way round. A clause that holds
+/// by what is known is left out.
 pub(crate) fn triple_clauses(
     relation: &Relation,
     i: usize,
@@ -23,7 +24,7 @@ pub(crate) fn triple_clauses(
     requires within { (i < j) × (j < k) × (k ≤ relation.now.nodes) }
     ensures value { given result.0 ++ given result.1 ≡ clauses_at relation.now (i, j, k) }
 {
-    let _nodes = relation.nodes();
+    let _invariant = relation.nodes();
     let (ij, ji) = relation.terms(i, j);
     let (jk, kj) = relation.terms(j, k);
     let (ik, ki) = relation.terms(i, k);
@@ -42,8 +43,8 @@ fn nodes_from(from: usize, place: usize) -> u64
     }
 }
 
-/// Of the 64 nodes from 64 * place on, those that are not before `from` and for which it is known of no edge of their cycle with
-/// u and v that it is so, as bits.
+/// Of the 64 nodes from 64 * place on, those that are not before `from` and for which it is known
+/// of no edge of their cycle with u and v that it is so, as bits.
 fn open_from(relation: &Relation, u: usize, v: usize, from: usize, place: usize) -> u64
     requires nodes { (u ≤ relation.now.nodes) × (v ≤ relation.now.nodes) }
     requires behind { from / 64 ≤ place }
@@ -59,8 +60,11 @@ fn next_open(relation: &Relation, i: usize, j: usize, from: usize) -> Option<usi
     requires within { from ≤ relation.now.nodes }
     ensures node { IfSome result (λ k. (from ≤ k) × (k ≤ relation.now.nodes)) }
     ensures some { IfSome result (λ k. clauses_at relation.now (i, j, k) ≢ []) }
-    ensures passed { IfSome result (λ k. of_one relation.now i j (up_to k (relation.now.nodes + 1)) ≡ of_one relation.now i j (up_to from (relation.now.nodes + 1))) }
-    ensures none { IfNone result (of_one relation.now i j (up_to from (relation.now.nodes + 1)) ≡ []) }
+    ensures passed { IfSome result (λ k. of_one relation.now i j
+        (up_to k (relation.now.nodes + 1)) ≡ of_one relation.now i j
+        (up_to from (relation.now.nodes + 1))) }
+    ensures none { IfNone result (of_one relation.now i j
+        (up_to from (relation.now.nodes + 1)) ≡ []) }
 {
     for place in from / 64..row_len(relation.nodes()) {
         let one = open_from(relation, j, i, from, place);
@@ -73,7 +77,8 @@ fn next_open(relation: &Relation, i: usize, j: usize, from: usize) -> Option<usi
     None
 }
 
-/// Where a walk over all triples of nodes has come to: the next one is (first, second, third), where third is a node.
+/// Where a walk over all triples of nodes has come to: the next one is (first, second, third),
+/// where third is a node.
 #[derive(Drop)]
 pub(crate) struct Cursor {
     pub first: usize,
@@ -89,8 +94,10 @@ impl Cursor {
         requires cursor { IsCursor end self.old }
         ensures cursor { IsCursor end self.new }
         ensures found { IsTrue result → self.new.third < end }
-        ensures same { (r : Data) → r.nodes + 1 ≡ end → cursor_left r self.new ≡ cursor_left r self.old }
-        ensures none { IsTrue (not result) → (r : Data) → r.nodes + 1 ≡ end → cursor_left r self.old ≡ [] }
+        ensures same { (r : Data) → r.nodes + 1 ≡ end
+            → cursor_left r self.new ≡ cursor_left r self.old }
+        ensures none { IsTrue (not result) → (r : Data) → r.nodes + 1 ≡ end
+            → cursor_left r self.old ≡ [] }
         ensures steps { steps_left self.new ≤ steps_left self.old }
     {
         while self.third >= end {
@@ -113,7 +120,8 @@ impl Cursor {
         requires cursor { IsCursor (relation.now.nodes + 1) self.old }
         ensures cursor { IsCursor (relation.now.nodes + 1) self.new }
         ensures found { IsTrue result → self.new.third ≤ relation.now.nodes }
-        ensures some { IsTrue result → clauses_at relation.now (self.new.first, self.new.second, self.new.third) ≢ [] }
+        ensures some { IsTrue result → clauses_at relation.now
+            (self.new.first, self.new.second, self.new.third) ≢ [] }
         ensures same { cursor_left relation.now self.new ≡ cursor_left relation.now self.old }
         ensures none { IsTrue (not result) → cursor_left relation.now self.old ≡ [] }
         ensures steps { steps_left self.new ≤ steps_left self.old }
@@ -133,7 +141,8 @@ impl Cursor {
     fn row_count(&self, relation: &Relation) -> usize
         requires cursor { IsCursor (relation.now.nodes + 1) self.now }
         requires found { self.now.third < relation.now.nodes + 1 }
-        ensures value { result ≡ length (of_one relation.now self.now.first self.now.second (up_to self.now.third (relation.now.nodes + 1))) }
+        ensures value { result ≡ length (of_one relation.now self.now.first self.now.second
+            (up_to self.now.third (relation.now.nodes + 1))) }
         ensures few { result ≤ 2002 }
     {
         let mut count = 0;
@@ -149,8 +158,10 @@ impl Cursor {
     fn next_pair(&mut self, relation: &Relation) -> (Option<Clause>, Option<Clause>)
         requires cursor { IsCursor (relation.now.nodes + 1) self.old }
         ensures cursor { IsCursor (relation.now.nodes + 1) self.new }
-        ensures value { given result.0 ++ (given result.1 ++ cursor_left relation.now self.new) ≡ cursor_left relation.now self.old }
-        ensures none { result.0 ≡ None → (result.1 ≡ None) × (cursor_left relation.now self.new ≡ []) }
+        ensures value { given result.0 ++ (given result.1 ++ cursor_left relation.now self.new)
+            ≡ cursor_left relation.now self.old }
+        ensures none { result.0 ≡ None → (result.1 ≡ None)
+            × (cursor_left relation.now self.new ≡ []) }
     {
         while self.advance(relation) {
             let (one, other) = triple_clauses(relation, self.first, self.second, self.third);
@@ -170,8 +181,10 @@ impl Cursor {
 pub(crate) fn count_triples(relation: &Relation, start: usize, most: usize) -> Option<usize>
     requires within { start ≤ relation.now.nodes + 1 }
     requires few { most ≤ MAX_CLAUSES }
-    ensures some { IfSome result (λ n. n ≡ length (of_three relation.now (up_to start (relation.now.nodes + 1)))) }
-    ensures none { IsSome result ↔ (length (of_three relation.now (up_to start (relation.now.nodes + 1))) ≤ most) }
+    ensures some { IfSome result (λ n. n ≡ length
+        (of_three relation.now (up_to start (relation.now.nodes + 1)))) }
+    ensures none { IsSome result ↔ (length (of_three relation.now
+        (up_to start (relation.now.nodes + 1))) ≤ most) }
 {
     let end = relation.nodes() + 1;
     let mut cursor = Cursor {

@@ -1,5 +1,7 @@
--- The reduced formula of a polygraph: a variable for each pair of nodes of which neither reaches the other, and one for each choice.
-use Rattle.std.specs.Prelude.{◌≡◌, ◌↔◌, ℕ, suc, ◌+◌, true, false, if◌then◌else◌, List, [], ◌∷◌, ◌++◌, length}
+-- The reduced formula of a polygraph: a variable for each pair of nodes of which neither reaches
+-- the other, and one for each choice.
+use Rattle.std.specs.Prelude.{◌≡◌, ◌↔◌, ℕ, suc, ◌+◌, true, false, if◌then◌else◌, List, [], ◌∷◌}
+use Rattle.std.specs.Prelude.{◌++◌, length}
 use Rattle.std.specs.List.{range_with_len}
 use Rattle.serializability.specs.declared.literal.Literal.{Literal}
 use Rattle.serializability.specs.Polygraph.{Edge, Choice, Polygraph}
@@ -11,7 +13,8 @@ use Rattle.reach_laws.specs.Reach.{Reaches}
 abbrev pub side_clauses : Known → List (ℕ × ℕ) → Literal → List Edge → List (List Literal)
 side_clauses known pairs or_else [] = []
 side_clauses known pairs or_else (e ∷ edges) =
-    (if known e.0 e.1 then [] else (or_else ∷ edge_literal pairs e.0 e.1 ∷ []) ∷ []) ++ side_clauses known pairs or_else edges
+    (if known e.0 e.1 then [] else (or_else ∷ edge_literal pairs e.0 e.1 ∷ []) ∷ [])
+    ++ side_clauses known pairs or_else edges
 
 -- the choices' variables count from c, and are true where side one is kept
 abbrev pub choice_clauses : Known → List (ℕ × ℕ) → ℕ → List Choice → List (List Literal)
@@ -25,7 +28,8 @@ choice_clauses known pairs c (h ∷ rest) =
 abbrev pub order_nodes : ℕ → List ℕ
 order_nodes n = range_with_len 1 n
 
--- of what is known of the nodes, and of the choices: the clauses of each three nodes, and then those of each choice
+-- of what is known of the nodes, and of the choices: the clauses of each three nodes, and then
+-- those of each choice
 unfoldable pub reduced : Known → Polygraph → Cnf
 reduced known p =
     let pairs = free_pairs known (order_nodes p.nodes) in
@@ -33,7 +37,8 @@ reduced known p =
       nodes = p.nodes;
       known = known;
       variables = length pairs + length p.choices;
-      clauses = order_clauses known (order_nodes p.nodes) ++ choice_clauses known pairs (suc (length pairs)) p.choices;
+      clauses = order_clauses known (order_nodes p.nodes) ++ choice_clauses known pairs
+          (suc (length pairs)) p.choices;
     }
 
 -- what is known is what reaches what by these edges

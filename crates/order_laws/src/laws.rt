@@ -15,7 +15,8 @@ ghost use Rattle.serializability.specs.declared.node.TheConstants.{MAX_NODES};
 /// Each order that fits gives an assignment that satisfies the reduced formula.
 pub fn fitting_order_satisfies()
     ensures { (p : Polygraph) → IsProper p → (known : Known) → IsReach p.known known →
-        (order : List ℕ) → Fits p order → ((values : List Bool) × Satisfies values (reduced known p)) }
+        (order : List ℕ) → Fits p order → ((values : List Bool)
+        × Satisfies values (reduced known p)) }
 {}
 
 /// The order that a satisfying assignment stands for fits, and there is one.
@@ -28,10 +29,12 @@ pub fn satisfying_order_fits()
         ((order : List ℕ) × IsDecoded p.nodes (before (reduced known p) values) order) }
 {}
 
-/// A reduced formula that is not too large is a formula: its literals are in range, its clauses have one to three of them, and
-/// what a satisfying assignment puts before what is a strict total order of the nodes.
+/// A reduced formula that is not too large is a formula: its literals are in range, its clauses
+/// have one to three of them, and what a satisfying assignment puts before what is a strict total
+/// order of the nodes.
 pub fn reduced_formula_is_a_formula()
-    ensures { (p : Polygraph) → IsProper p → (known : Known) → IsReach p.known known → p.nodes ≤ MAX_NODES →
+    ensures { (p : Polygraph) → IsProper p → (known : Known) → IsReach p.known known
+        → p.nodes ≤ MAX_NODES →
         length (reduced known p).clauses ≤ MAX_CLAUSES → IsFormula (reduced known p) }
 {}
 
@@ -41,15 +44,21 @@ pub fn one_forced_set()
         EachNumbered (λ c h. (side : Side) → forced c side ≡ same c side) 0 p.choices }
 {}
 
-/// A polygraph has one reduced formula: its variables and clauses do not depend on how forced set and reach are written.
+/// A polygraph has one reduced formula: its variables and clauses do not depend on how forced set
+/// and reach are written.
 pub fn one_reduced_formula()
-    ensures variables { (p : Polygraph) (forced same : Sides) (known knows : Known) → IsForced p forced → IsForced p same →
+    ensures variables { (p : Polygraph) (forced same : Sides) (known knows : Known)
+        → IsForced p forced → IsForced p same →
         IsReach (edges_with p forced) known → IsReach (edges_with p same) knows →
         (reduced known (pruned p forced)).variables ≡ (reduced knows (pruned p same)).variables }
-    ensures clauses { (p : Polygraph) (forced same : Sides) (known knows : Known) → IsForced p forced → IsForced p same →
+    ensures clauses { (p : Polygraph) (forced same : Sides) (known knows : Known)
+        → IsForced p forced → IsForced p same →
         IsReach (edges_with p forced) known → IsReach (edges_with p same) knows →
         (reduced known (pruned p forced)).clauses ≡ (reduced knows (pruned p same)).clauses }
-    ensures before { (p : Polygraph) (forced same : Sides) (known knows : Known) → IsForced p forced → IsForced p same →
-        IsReach (edges_with p forced) known → IsReach (edges_with p same) knows → (values : List Bool) (u v : ℕ) →
-        before (reduced known (pruned p forced)) values u v ≡ before (reduced knows (pruned p same)) values u v }
+    ensures before { (p : Polygraph) (forced same : Sides) (known knows : Known) → IsForced p forced
+        → IsForced p same →
+        IsReach (edges_with p forced) known → IsReach (edges_with p same) knows
+        → (values : List Bool) (u v : ℕ) →
+        before (reduced known (pruned p forced)) values u v ≡ before
+        (reduced knows (pruned p same)) values u v }
 {}

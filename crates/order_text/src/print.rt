@@ -6,7 +6,7 @@ ghost use Rattle.session_history.specs.Tables.{name_in};
 ghost use Rattle.order_text.specs.Text.{joined_by, name_text, name_line, order_text, AreNodes};
 
 use itoa::Buffer;
-use session_history::{History, Name, NodeIx, Order};
+use session_history::{History, Name, NodeIx, NodeLine};
 use std::alloc::{AllocError, Global};
 
 fn put_joined(out: &mut Vec<u8>, byte: u8, name: Name) -> Result<(), AllocError>
@@ -45,7 +45,11 @@ pub fn put_name(out: &mut Vec<u8>, history: &History, node: NodeIx) -> Result<()
 /// The text of an order of this history: a line for each place, in which a space stands between the
 /// node's session number and its place in the session.
 #[tactic(auto, unfolding(crate::specs::Text::order_text))]
-pub fn print_order(alloc: Global, history: &History, order: &Order) -> Result<Vec<u8>, AllocError>
+pub fn print_order(
+    alloc: Global,
+    history: &History,
+    order: &NodeLine,
+) -> Result<Vec<u8>, AllocError>
     requires nodes { AreNodes history.now order.now }
     ensures text { IfOk result (λ text. text.items ≡ order_text history.now order.now) }
 {

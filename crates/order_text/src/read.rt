@@ -3,10 +3,11 @@
 ghost use Rattle.std.specs.Prelude.{◌≡◌, None, Some, IfOk, IfErr};
 ghost use Rattle.std.specs.Option.{option_map};
 ghost use Rattle.order_text.specs.Text.{order_text, AreNodes};
-ghost use Rattle.order_text.specs.Faults.{words_of, named_by, named, line_fault, order_fault, IsOrderFault};
+ghost use Rattle.order_text.specs.Faults.{words_of, named_by, named, line_fault, order_fault};
+ghost use Rattle.order_text.specs.Faults.{IsOrderFault};
 
 use crate::fault::OrderFault;
-use session_history::{History, NodeIx, Order};
+use session_history::{History, NodeIx, NodeLine};
 use session_log::{index_of, is_numeral, next_line, number_of};
 use std::alloc::Global;
 
@@ -30,8 +31,8 @@ fn named_by(history: &History, session: &[u8], place: &[u8]) -> Option<NodeIx>
     history.node_at(number_of(session)? as usize, number_of(place)? as usize)
 }
 
-/// The committed transaction that a line names: its text without its LF, whether it has one, and its
-/// number.
+/// The committed transaction that a line names: its text without its LF, whether it has one, and
+/// its number.
 #[tactic(auto, unfolding(crate::specs::Faults::line_fault))]
 fn node_on(history: &History, body: &[u8], ended: bool, line: usize) -> Result<NodeIx, OrderFault>
     ensures named { IfOk result (λ v. named history.now body.now ≡ Some v) }
@@ -50,11 +51,11 @@ fn node_on(history: &History, body: &[u8], ended: bool, line: usize) -> Result<N
 /// The order that a text lists, a committed transaction a line.
 ///
 /// # Errors
-/// `TooLong` where the text is longer than [`MAX_ORDER_BYTES`]; else the fault of the first line that
-/// has one: `BadLine` where it is not two numbers without leading zeros, with one space between them,
-/// ended by a line feed, and `NoSuchTransaction` where they name no committed transaction. `Memory`
-/// in place of any of these.
-pub fn read_order(alloc: Global, text: &[u8], history: &History) -> Result<Order, OrderFault>
+/// `TooLong` where the text is longer than [`MAX_ORDER_BYTES`]; else the fault of the first line
+/// that has one: `BadLine` where it is not two numbers without leading zeros, with one space
+/// between them, ended by a line feed, and `NoSuchTransaction` where they name no committed
+/// transaction. `Memory` in place of any of these.
+pub fn read_order(alloc: Global, text: &[u8], history: &History) -> Result<NodeLine, OrderFault>
     ensures order { IfOk result (λ order. text.now ≡ order_text history.now order) }
     ensures nodes { IfOk result (λ order. AreNodes history.now order) }
     ensures accepted { IfOk result (λ _. order_fault history.now text.now ≡ None) }
@@ -73,5 +74,5 @@ pub fn read_order(alloc: Global, text: &[u8], history: &History) -> Result<Order
         rest = after;
         line += 1;
     }
-    Ok(Order::from_nodes(nodes))
+    Ok(NodeLine::from_nodes(nodes))
 }

@@ -6,10 +6,11 @@ ghost use Rattle.session_log.specs.Text.{ClientSession, IsLegal};
 ghost use Rattle.log_definitions.specs.Unknown.{ops_in};
 ghost use Rattle.log_definitions.specs.WellFormed.{written};
 ghost use Rattle.piece_laws.specs.Logs.{IsSoundLog, IsLearntLog, HasOrder, present};
-ghost use Rattle.piece_laws.specs.Pieces.{OrderAtCut, OrderByPieces, PiecesAreLogs, HeldCanBeChosen};
+ghost use Rattle.piece_laws.specs.Pieces.{OrderAtCut, OrderByPieces, PiecesAreLogs};
+ghost use Rattle.piece_laws.specs.Pieces.{HeldCanBeChosen};
 
-/// At a cut, a log whose outcomes are known has a serial order exactly where the log of its first part and that of its
-/// rest have one.
+/// At a cut, a log whose outcomes are known has a serial order exactly where the log of its first
+/// part and that of its rest have one.
 pub fn order_at_cut()
     ensures { OrderAtCut }
 {}
@@ -31,7 +32,8 @@ pub fn held_can_be_chosen()
 
 /// Legal sessions are sound where their numbers and the identities that they write are distinct.
 pub fn sound_where_legal()
-    ensures { (ss : List ClientSession) → AllByRecursion IsLegal ss → IsDistinct nat_eq (map (λ s. s.number) ss) →
+    ensures { (ss : List ClientSession) → AllByRecursion IsLegal ss
+        → IsDistinct nat_eq (map (λ s. s.number) ss) →
         IsDistinct nat_eq (written (ops_in ss)) → IsSoundLog ss }
 {}
 

@@ -1,4 +1,6 @@
 //! How large the pieces of a log are to be.
+//!
+//! Called by `audit_command` and `pieces_command`. It knows no cut and no text.
 #![tactic(auto)]
 
 ghost use Rattle.std.specs.Prelude.{◌≡◌, ℕ, Some, IfOk};
@@ -71,9 +73,10 @@ fn are_within(alloc: Global, sessions: &[Session]) -> Result<bool, AllocError> {
     Ok(true)
 }
 
-/// How many nodes each piece of a log is to have at least, where the next cut allows: as many as are stated; where nothing is, the whole
-/// log is one piece (`None`) if it keeps the limits of a log, so that `check` takes it, and else 250. The sessions are those of the log, as
-/// they were read, of so many bytes.
+/// How many nodes each piece of a log is to have at least, where the next cut allows: as many as
+/// are stated; where nothing is, the whole log is one piece (`None`) if it keeps the limits of a
+/// log, so that `check` takes it, and else 250. The sessions are those of the log, as they were
+/// read, of so many bytes.
 pub fn size_of_pieces(
     alloc: Global,
     log_bytes: usize,

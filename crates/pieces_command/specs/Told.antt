@@ -1,5 +1,6 @@
 -- What `pieces` tells of a long log.
-use Rattle.std.specs.Prelude.{◌≡◌, ℕ, ◌+◌, ◌-◌, List, [], ◌∷◌, ◌++◌, length, map, count_by, slice_get, decimal, Option, Some}
+use Rattle.std.specs.Prelude.{◌≡◌, ℕ, ◌+◌, ◌-◌, List, [], ◌∷◌, ◌++◌, length, map, count_by}
+use Rattle.std.specs.Prelude.{slice_get, decimal, Option, Some}
 use Rattle.std.specs.List.{filter, flat_map}
 use Rattle.std.specs.Io.KnownBytes.{Appends}
 use Rattle.session_log.specs.Text.{ClientSession, Transaction, view, log_text, least_version}
@@ -28,12 +29,14 @@ pub record AreNodes (ts : List Transaction) (c : NodeCounts) : Type 0 where
   pub nodes : c.nodes ≡ count_by is_committed ts
   pub operations : c.operations ≡ length (flat_map (λ t. t.ops) (filter is_committed ts))
 
--- The line of a piece: its number, its nodes, and their operations. Only a log without transactions has a piece without sessions, which
+-- The line of a piece: its number, its nodes, and their operations. Only a log without transactions
+-- has a piece without sessions, which
 -- has no line.
 abbrev pub line_of : ℕ → List ClientSession → List ℕ
 line_of number [] = []
 line_of number (s ∷ ss) =
-    (decimal number ++ 32 ∷ []) ++ (decimal (count_by is_committed (txns_in (s ∷ ss))) ++ 32 ∷ []) ++ (decimal (length (committed_ops (s ∷ ss))) ++ 10 ∷ [])
+    (decimal number ++ 32 ∷ []) ++ (decimal (count_by is_committed (txns_in (s ∷ ss))) ++ 32 ∷ [])
+    ++ (decimal (length (committed_ops (s ∷ ss))) ++ 10 ∷ [])
 
 -- those of pieces, the first of which has this number
 abbrev pub lines_from : ℕ → List HeldPiece → List ℕ

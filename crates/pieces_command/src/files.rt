@@ -40,7 +40,8 @@ fn put_txn(out: &mut Vec<u8>, txn: &Txn, begin: usize) -> Result<(), AllocError>
     put_line(out, line.saturating_add(1))
 }
 
-/// The identity that a read of the log names, of one of the log of a piece before which this is held.
+/// The identity that a read of the log names, of one of the log of a piece before which this is
+/// held.
 fn named(held: Option<u64>, wid: u64) -> u64 {
     match held {
         Some(own) if wid == own => 0,
@@ -126,8 +127,9 @@ impl<'a> PieceFiles<'a> {
         Ok(())
     }
 
-    /// The map of a piece, from 0: for each line of its log that of the long log; for a read at the end of a session that of a later
-    /// read for which it stands; `-` for the lines around these. Nothing where there is no such piece.
+    /// The map of a piece, from 0: for each line of its log that of the long log; for a read at the
+    /// end of a session that of a later read for which it stands; `-` for the lines around these.
+    /// Nothing where there is no such piece.
     pub fn map(&self, alloc: Global, piece: usize) -> Result<Vec<u8>, AllocError> {
         let mut out = Vec::new(alloc);
         if piece >= self.pieces.count() {

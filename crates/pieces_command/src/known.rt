@@ -24,7 +24,8 @@ pub struct KnownLog {
 impl KnownLog {
     /// Its pieces.
     pub fn pieces(&self, alloc: Global) -> Result<Pieces<'_>, AllocError>
-        ensures pieces { IfOk result (λ pieces. (log : List ℕ) → IsKnown log self.now → ArePiecesOf log pieces) }
+        ensures pieces { IfOk result (λ pieces. (log : List ℕ) → IsKnown log self.now
+            → ArePiecesOf log pieces) }
     {
         Pieces::of(alloc, &self.sessions, self.size)
     }

@@ -1,4 +1,7 @@
-//! The command `pieces`: a long log is cut into pieces, each of which is told, or is a log of its own.
+//! The command `pieces`: a long log is cut into pieces, each of which is told, or is a log of its
+//! own.
+//!
+//! Called by `cobra_poly`. It knows no word of the command line and no verdict.
 //!
 //! ```text
 //! list(rt, alloc, &log, size, workers, &mut sink)?;
@@ -14,8 +17,8 @@
 //!
 //! # What is promised
 //!
-//! The lines and the log of a piece are those of pieces between cuts of the log, with something held at each cut. Of the maps nothing is
-//! said but that each call is safe and returns.
+//! The lines and the log of a piece are those of pieces between cuts of the log, with something
+//! held at each cut. Of the maps nothing is said but that each call is safe and returns.
 #![tactic(auto)]
 
 mod fault;

@@ -1,11 +1,13 @@
 //! The lines and the logs of pieces.
 
-ghost use Rattle.std.specs.Prelude.{◌≡◌, ◌++◌, ◌∷◌, [], ◌+◌, ◌-◌, ◌<◌, ℕ, List, Some, IfOk, IfErr, OnOk, length, map, slice_get, decimal};
+ghost use Rattle.std.specs.Prelude.{◌≡◌, ◌++◌, ◌∷◌, [], ◌+◌, ◌-◌, ◌<◌, ℕ, List, Some, IfOk, IfErr};
+ghost use Rattle.std.specs.Prelude.{OnOk, length, map, slice_get, decimal};
 ghost use Rattle.session_log.specs.Text.{Transaction, view_txn};
 ghost use Rattle.log_definitions.specs.Unknown.{txns_in};
 ghost use Rattle.cutting.specs.Parts.{parts_view};
 ghost use Rattle.held_pieces.specs.Pieces.{HeldPiece};
-ghost use Rattle.pieces_command.specs.Told.{AreNodes, line_of, lines_from, piece_text, IsListed, IsPieceTold, IsRefusal};
+ghost use Rattle.pieces_command.specs.Told.{AreNodes, line_of, lines_from, piece_text, IsListed};
+ghost use Rattle.pieces_command.specs.Told.{IsPieceTold, IsRefusal};
 
 use crate::fault::PiecesFault;
 use crate::known::read_known;
@@ -120,7 +122,8 @@ pub fn count_of(pieces: &Pieces) -> usize {
 /// The text of a piece's log.
 pub fn piece_text(alloc: Global, pieces: &Pieces, piece: usize) -> Result<Vec<u8>, AllocError>
     requires { piece < length pieces.now }
-    ensures { IfOk result (λ text. (p : HeldPiece) → slice_get pieces.now piece ≡ Some p → text.items ≡ piece_text p) }
+    ensures { IfOk result (λ text. (p : HeldPiece) → slice_get pieces.now piece ≡ Some p
+        → text.items ≡ piece_text p) }
 {
     let log = pieces.log(alloc, piece)?;
     print_log(alloc, &log)
@@ -128,7 +131,8 @@ pub fn piece_text(alloc: Global, pieces: &Pieces, piece: usize) -> Result<Vec<u8
 
 /// The text of the log of the piece of this number, from 1.
 fn numbered_text(alloc: Global, pieces: &Pieces, number: usize) -> Result<Vec<u8>, PiecesFault>
-    ensures told { IfOk result (λ text. (p : HeldPiece) × (slice_get pieces.now (number - 1) ≡ Some p) × (text.items ≡ piece_text p)) }
+    ensures told { IfOk result (λ text. (p : HeldPiece)
+        × (slice_get pieces.now (number - 1) ≡ Some p) × (text.items ≡ piece_text p)) }
     ensures refused { IfErr result (λ f. (log : List ℕ) → IsRefusal log f) }
 {
     let count = count_of(pieces);
@@ -138,8 +142,9 @@ fn numbered_text(alloc: Global, pieces: &Pieces, number: usize) -> Result<Vec<u8
     Ok(piece_text(alloc, pieces, number - 1)?)
 }
 
-/// Puts a line `K TRANSACTIONS OPERATIONS` for each piece of a long log into a sink: its number from 1, its nodes, and their operations.
-/// A piece ends at the first cut before which it has at least so many nodes.
+/// Puts a line `K TRANSACTIONS OPERATIONS` for each piece of a long log into a sink: its number
+/// from 1, its nodes, and their operations. A piece ends at the first cut before which it has at
+/// least so many nodes.
 ///
 /// # Errors
 /// The log's first fault, and nothing is written; the sink's failure; want of memory.
@@ -164,7 +169,8 @@ pub fn list<R: Threads + Sync, W: Sink>(
 /// Puts the log of a piece of a long log into a sink, of the piece of this number, from 1.
 ///
 /// # Errors
-/// The log's first fault, or that it has no such piece, and nothing is written; the sink's failure; want of memory.
+/// The log's first fault, or that it has no such piece, and nothing is written; the sink's failure;
+/// want of memory.
 pub fn put_piece<R: Threads + Sync, W: Sink>(
     rt: &R,
     alloc: Global,

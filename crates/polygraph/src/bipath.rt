@@ -22,14 +22,14 @@ use serializability::numbers::node;
 use session_history::History;
 use std::alloc::{AllocError, Global};
 
-// Whether a writer is neither the source nor the reader.
+/// Whether a writer is neither the source nor the reader.
 fn is_other(writer: NodeIx, source: NodeIx, reader: NodeIx) -> bool
     ensures value { result ≡ is_other source reader writer }
 {
     writer != source && writer != reader
 }
 
-// A rival stands before the source, or the reader stands before the rival.
+/// A rival stands before the source, or the reader stands before the rival.
 fn bipath(source: NodeIx, reader: NodeIx, rival: NodeIx) -> Bipath
     ensures choice { result ≡ rival_choice source reader rival }
 {
@@ -38,7 +38,7 @@ fn bipath(source: NodeIx, reader: NodeIx, rival: NodeIx) -> Bipath
     Bipath::new(before_source, behind_reader)
 }
 
-// How many of the writers of a key are neither the reader nor its source.
+/// How many of the writers of a key are neither the reader nor its source.
 fn rival_count(writers: &[NodeIx], source: NodeIx, reader: NodeIx) -> usize
     ensures count { result ≡ count_by (is_other source reader) writers.now }
 {
@@ -48,7 +48,7 @@ fn rival_count(writers: &[NodeIx], source: NodeIx, reader: NodeIx) -> usize
         .count()
 }
 
-// Adds the bipaths of a reader and a source.
+/// Adds the bipaths of a reader and a source.
 fn add_rivals(
     choices: &mut Vec<Bipath>,
     writers: &[NodeIx],
@@ -56,7 +56,8 @@ fn add_rivals(
     reader: NodeIx,
 ) -> Result<(), PolyFault>
     ensures ok { OnOk result (choices.new.items
-        ≡ choices.old.items ++ map (rival_choice source reader) (filter (is_other source reader) writers.now)) }
+        ≡ choices.old.items ++ map (rival_choice source reader)
+        (filter (is_other source reader) writers.now)) }
     ensures fault { IfErr result (λ e. e ≡ PolyFault.Memory) }
 {
     choices.extend(
@@ -68,7 +69,7 @@ fn add_rivals(
     Ok(())
 }
 
-// The number of bipaths of a clean history.
+/// The number of bipaths of a clean history.
 fn bipath_count(history: &History) -> Result<usize, PolyFault>
     requires clean { IsClean (log_of history.now) }
     ensures count { IfOk result (λ k. k ≡ length (spec.bipaths (log_of history.now))) }
@@ -89,7 +90,7 @@ fn bipath_count(history: &History) -> Result<usize, PolyFault>
     Ok(count)
 }
 
-// The bipaths of a clean history, by reader, key and rival.
+/// The bipaths of a clean history, by reader, key and rival.
 fn choices_of(alloc: Global, history: &History) -> Result<Vec<Bipath>, PolyFault>
     requires clean { IsClean (log_of history.now) }
     ensures choices { IfOk result (λ c. c.items ≡ spec.bipaths (log_of history.now)) }
@@ -112,11 +113,11 @@ fn choices_of(alloc: Global, history: &History) -> Result<Vec<Bipath>, PolyFault
     Ok(choices)
 }
 
-/// The polygraph of a clean history: its arcs are known, and its bipaths are the choices, by reader, key
-/// and rival.
+/// The polygraph of a clean history: its arcs are known, and its bipaths are the choices, by
+/// reader, key and rival.
 ///
-/// It is refused with `TooManyChoices` where there are more than 100,000 bipaths, which are then counted
-/// no further, and with `Memory` where memory was refused.
+/// It is refused with `TooManyChoices` where there are more than 100,000 bipaths, which are then
+/// counted no further, and with `Memory` where memory was refused.
 pub fn bipath_graph(alloc: Global, history: &History) -> Result<BipathGraph, PolyFault>
     requires clean { IsClean (log_of history.now) }
     ensures polygraph { IfOk result (λ p. p ≡ bipath_polygraph (log_of history.now)) }
@@ -128,7 +129,7 @@ pub fn bipath_graph(alloc: Global, history: &History) -> Result<BipathGraph, Pol
     Ok(BipathGraph::new(known, bipaths))
 }
 
-// The same choices, each with its sides as lists.
+/// The same choices, each with its sides as lists.
 fn with_lists(alloc: Global, bipaths: &[Bipath]) -> Result<Vec<Choice>, AllocError>
     ensures same { IfOk result (λ listed. listed.items ≡ bipaths.now) }
 {

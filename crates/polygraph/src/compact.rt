@@ -66,13 +66,23 @@ impl Model for BipathGraph {
 
     ghost Value = { spec.Polygraph };
 
-    ghost view = { λ g. record { nodes = g.known.nodes; known = g.known.edges; choices = g.bipaths.items } };
+    ghost view = { λ g. record {
+      nodes = g.known.nodes;
+      known = g.known.edges;
+      choices
+          = g.bipaths.items;
+    } };
 }
 
 impl BipathGraph {
     /// The polygraph of these known edges and bipaths.
     pub(crate) fn new(known: Known, bipaths: Vec<Bipath>) -> BipathGraph
-        ensures { result ≡ record { nodes = known.nodes; known = known.edges; choices = bipaths.items } }
+        ensures { result ≡ record {
+          nodes = known.nodes;
+          known = known.edges;
+          choices
+              = bipaths.items;
+        } }
     {
         BipathGraph { known, bipaths }
     }

@@ -13,7 +13,7 @@ use reach_laws::Edge;
 use serializability::NodeIx;
 use serializability::numbers::node;
 
-// Whether each of these edges leads to a later place.
+/// Whether each of these edges leads to a later place.
 fn keeps(places: &Places, edges: &[Edge]) -> bool
     ensures { result ≡ list_all (keeps places.now.places) edges.now }
 {
@@ -22,14 +22,14 @@ fn keeps(places: &Places, edges: &[Edge]) -> bool
         .all(|edge| places.before(edge.source(), edge.target()))
 }
 
-// Whether each edge of one side of the choice does.
+/// Whether each edge of one side of the choice does.
 fn keeps_one(places: &Places, choice: &Choice) -> bool
     ensures { result ≡ keeps_one places.now.places choice.now }
 {
     keeps(places, choice.one()) || keeps(places, choice.two())
 }
 
-// Whether of each of these choices it keeps a side.
+/// Whether of each of these choices it keeps a side.
 fn keeps_each(places: &Places, choices: &[Choice]) -> bool
     ensures { result ≡ list_all (keeps_one places.now.places) choices.now }
 {
@@ -52,8 +52,8 @@ pub fn keeps_known(places: &Places, known: &Known) -> bool
     true
 }
 
-/// Whether an order fits a polygraph: it lists nodes 1 to n once each and, where node 0 stands before
-/// them, keeps all known edges and of each choice all edges of one side.
+/// Whether an order fits a polygraph: it lists nodes 1 to n once each and, where node 0 stands
+/// before them, keeps all known edges and of each choice all edges of one side.
 ///
 /// It takes no memory. The time is quadratic in the number of nodes, and linear in the edges of the
 /// choices.

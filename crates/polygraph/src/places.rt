@@ -22,7 +22,7 @@ impl Places {
     }
 }
 
-// The place 0 for each node.
+/// The place 0 for each node.
 fn no_places() -> [u16; MAX_NODES + 1]
     ensures len { length result ≡ 1001 }
     ensures zero { (v : ℕ) → slice_index result v ≡ 0 }

@@ -13,8 +13,8 @@ use crate::index::ChoiceIx;
 use known_graph::Known;
 use std::marker::Model;
 
-/// Edges that are known, and choices, between nodes 0 to n of a history, where n is at most 1,000. It has
-/// at most 100,000 choices, and each edge of a choice joins two different nodes.
+/// Edges that are known, and choices, between nodes 0 to n of a history, where n is at most 1,000.
+/// It has at most 100,000 choices, and each edge of a choice joins two different nodes.
 #[derive(Drop)]
 pub struct Polygraph {
     known: Known,
@@ -38,7 +38,12 @@ impl Polygraph {
     pub fn new(known: Known, choices: Vec<Choice>) -> Polygraph
         requires few { length choices.items ≤ MAX_CHOICES }
         requires joined { AllByRecursion (JoinsBoth known.nodes) choices.items }
-        ensures { result ≡ record { nodes = known.nodes; known = known.edges; choices = choices.items } }
+        ensures { result ≡ record {
+          nodes = known.nodes;
+          known = known.edges;
+          choices
+              = choices.items;
+        } }
     {
         Polygraph { known, choices }
     }
@@ -50,7 +55,7 @@ impl Polygraph {
         ensures polygraph { IsPolygraph self.now }
         ensures known { IsKnownGraph (record { nodes = self.now.nodes; edges = self.now.known }) }
     {
-        let _choices = &self.choices;
+        let _invariant = &self.choices;
         self.known.nodes()
     }
 

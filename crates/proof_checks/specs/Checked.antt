@@ -14,7 +14,8 @@ use Rattle.proof_checks.specs.Lrat.{lrat_fault}
 use Rattle.proof_checks.specs.Drat.{IsDratFault, IsDratEnd}
 use Rattle.proof_checks.specs.Ends.{end_fault}
 
--- the clauses of a formula, its variables, which count from 1, and how many numbers of variables the checker knows
+-- the clauses of a formula, its variables, which count from 1, and how many numbers of variables
+-- the checker knows
 pub record Given : Type 0 where
   pub clauses : List (Option (List Literal))
   pub variables : ℕ
@@ -22,7 +23,8 @@ pub record Given : Type 0 where
 
 -- the first fault of an LRAT proof; none where it shows that the clauses cannot be satisfied
 abbrev pub lrat_fault_of : Given → List ℕ → Option ProofFault
-lrat_fault_of g proof = lrat_fault g.known (lrat_steps g.variables proof) (record { clauses = g.clauses; added = [] })
+lrat_fault_of g proof = lrat_fault g.known (lrat_steps g.variables proof)
+    (record { clauses = g.clauses; added = [] })
 
 -- a proof of this form has this fault
 abbrev pub HasFault : Form → Given → List ℕ → ProofFault → Type 0
@@ -60,7 +62,8 @@ pub record HasFaultWithin (g : Given) (proof : List ℕ) (f : ProofFault) : Type
   pub within : length proof ≤ MAX_PROOF_BYTES
   pub fault : HasFault (form_of_text proof) g proof f
 
--- the fault of a proof: more than 1 GiB exactly where it has them, and each other one within; memory may run out at any
+-- the fault of a proof: more than 1 GiB exactly where it has them, and each other one within;
+-- memory may run out at any
 abbrev pub IsProofFault : Given → List ℕ → ProofFault → Type 0
 IsProofFault g proof TooLong = MAX_PROOF_BYTES < length proof
 IsProofFault g proof Memory = Unit {0}

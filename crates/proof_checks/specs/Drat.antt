@@ -1,10 +1,12 @@
 -- What the first fault of a DRAT proof is, up to what unit propagation finds.
-use Rattle.std.specs.Prelude.{◌≡◌, ℕ, Bool, true, false, ◌&&◌, IsTrue, IsFalse, List, [], ◌∷◌, ◌++◌, map, Option, None, Some}
+use Rattle.std.specs.Prelude.{◌≡◌, ℕ, Bool, true, false, ◌&&◌, IsTrue, IsFalse, List, [], ◌∷◌, ◌++◌}
+use Rattle.std.specs.Prelude.{map, Option, None, Some}
 use Rattle.std.specs.List.{AllByRecursion, list_any}
 use Rattle.serializability.specs.declared.literal.Literal.{Literal}
 use Rattle.proof_text.specs.Steps.{DratStep}
 use Rattle.proof_text.specs.declared.fault.ProofFault.{ProofFault}
-use Rattle.proof_text.specs.declared.fault.ProofFault.TheVariants.{BadLine, NotImplied, NoEmptyClause, Memory}
+use Rattle.proof_text.specs.declared.fault.ProofFault.TheVariants.{BadLine, NotImplied}
+use Rattle.proof_text.specs.declared.fault.ProofFault.TheVariants.{NoEmptyClause, Memory}
 use Rattle.proof_text.specs.declared.drat.DratAction.{DratAction}
 use Rattle.proof_text.specs.declared.drat.DratAction.TheVariants.{Add, Delete}
 use Rattle.proof_checks.specs.Distinct.{is_tautology}
@@ -27,7 +29,8 @@ pub record MayFail (s : DratStep) : Type 0 where
 abbrev pub StopsAt : List (ℕ × Option DratStep) → ProofFault → Type 0
 StopsAt left (BadLine line) = (rest : List (ℕ × Option DratStep)) × (left ≡ (line, None) ∷ rest)
 StopsAt left (NotImplied line) =
-    (s : DratStep) × (rest : List (ℕ × Option DratStep)) × (left ≡ (line, Some s) ∷ rest) × MayFail s
+    (s : DratStep) × (rest : List (ℕ × Option DratStep)) × (left ≡ (line, Some s) ∷ rest)
+    × MayFail s
 StopsAt left NoEmptyClause = left ≡ []
 StopsAt left _ = ⊥
 
@@ -35,7 +38,8 @@ abbrev pub as_read : ℕ × DratStep → ℕ × Option DratStep
 as_read s = (s.0, Some s.1)
 
 -- these steps stand first, each with its line, and none of them adds the empty clause
-pub record Passes (steps : List (ℕ × Option DratStep)) (passed : List (ℕ × DratStep)) (left : List (ℕ × Option DratStep)) : Type 0 where
+pub record Passes (steps : List (ℕ × Option DratStep)) (passed : List (ℕ × DratStep))
+    (left : List (ℕ × Option DratStep)) : Type 0 where
   pub all : steps ≡ map as_read passed ++ left
   pub none : AllByRecursion (λ s. IsFalse (adds_empty s.1)) passed
 

@@ -1,6 +1,8 @@
 -- The first fault of an LRAT proof.
-use Rattle.std.specs.Prelude.{ℕ, ◌+◌, ◌-◌, Bool, true, false, ◌&&◌, if◌then◌else◌, nat_le, nat_lt, ◌==◌, List, [], ◌∷◌}
-use Rattle.std.specs.Prelude.{◌++◌, length, position, Option, None, Some, is_some, unwrap_or, option_map, option_and_then}
+use Rattle.std.specs.Prelude.{ℕ, ◌+◌, ◌-◌, Bool, true, false, ◌&&◌, if◌then◌else◌, nat_le, nat_lt}
+use Rattle.std.specs.Prelude.{◌==◌, List, [], ◌∷◌}
+use Rattle.std.specs.Prelude.{◌++◌, length, position, Option, None, Some, is_some, unwrap_or}
+use Rattle.std.specs.Prelude.{option_map, option_and_then}
 use Rattle.std.specs.Prelude.{slice_set, slice_index_or}
 use Rattle.std.specs.Option.{option_or}
 use Rattle.serializability.specs.declared.literal.Literal.{Literal}
@@ -15,7 +17,8 @@ use Rattle.proof_text.specs.declared.lrat.LratAction.TheVariants.{Add, Delete}
 use Rattle.proof_checks.specs.Distinct.{distinct}
 use Rattle.proof_checks.specs.Ends.{is_nil, end_fault}
 
--- the clauses by their numbers, those of the formula first, and the IDs of the others, which were added
+-- the clauses by their numbers, those of the formula first, and the IDs of the others, which were
+-- added
 pub record Proof : Type 0 where
   pub clauses : List (Option (List Literal))
   pub added : List ℕ
@@ -32,7 +35,8 @@ number_at p id =
 
 -- the same, where the clause stands
 unfoldable pub standing_at : Proof → ℕ → Option ℕ
-standing_at p id = option_and_then (λ n. if is_some (clause_at p.clauses n) then Some n else None) (number_at p id)
+standing_at p id = option_and_then (λ n. if is_some (clause_at p.clauses n) then Some n else None)
+    (number_at p id)
 
 -- the number that a step names; that of an ID below 0 has no clause
 unfoldable pub named_at : Proof → Option ℕ → Option ℕ
@@ -42,7 +46,8 @@ named_at p (Some id) = standing_at p id
 -- the numbers of the clauses that a step names; none where one does not stand
 unfoldable pub numbers_at : Proof → List (Option ℕ) → Option (List ℕ)
 numbers_at p [] = Some []
-numbers_at p (id ∷ ids) = option_and_then (λ n. option_map (λ ns. n ∷ ns) (numbers_at p ids)) (named_at p id)
+numbers_at p (id ∷ ids) = option_and_then (λ n. option_map (λ ns. n ∷ ns) (numbers_at p ids))
+    (named_at p id)
 
 -- an added clause has a greater ID than all before
 abbrev pub is_next : Proof → ℕ → Bool
@@ -60,7 +65,8 @@ without (k ∷ ks) clauses = without ks (slice_set clauses k None)
 -- what is wrong with a clause that is added on this line under an ID
 unfoldable pub addition_fault : ℕ → ℕ → Proof → ℕ → List Literal → List ℕ → Option ProofFault
 addition_fault n line p id c hints =
-    if is_next p id then (if follows_by n p c hints then None else Some (NotImplied line)) else Some (BadLine line)
+    if is_next p id then (if follows_by n p c hints then None else Some (NotImplied line)) else Some
+    (BadLine line)
 
 abbrev pub action_fault : ℕ → ℕ → Proof → LratAction → List Literal → List ℕ → Option ProofFault
 action_fault n line p (Add id) c hints = addition_fault n line p id c hints
@@ -75,7 +81,11 @@ unfoldable pub step_fault : ℕ → ℕ → Proof → LratStep → Option ProofF
 step_fault n line p s = fault_by n line p s (numbers_at p s.ids)
 
 abbrev pub after_action : Proof → LratAction → List Literal → List ℕ → Proof
-after_action p (Add id) c hints = record { clauses = p.clauses ++ Some c ∷ []; added = p.added ++ id ∷ [] }
+after_action p (Add id) c hints = record {
+  clauses = p.clauses ++ Some c ∷ [];
+  added = p.added ++ id
+      ∷ [];
+}
 after_action p Delete c numbers = record p { clauses = without numbers p.clauses }
 
 -- what stands behind a step
@@ -91,12 +101,14 @@ abbrev pub adds_empty : LratStep → Bool
 adds_empty s = adds s.action && is_nil s.literals
 
 -- the first fault of a step and of what is behind it
-abbrev pub fault_from : ℕ → ℕ → Proof → Option LratStep → (Proof → Option ProofFault) → Option ProofFault
+abbrev pub fault_from : ℕ → ℕ → Proof → Option LratStep → (Proof → Option ProofFault)
+    → Option ProofFault
 fault_from n line p None behind = Some (BadLine line)
 fault_from n line p (Some s) behind =
     option_or (step_fault n line p s) (if adds_empty s then None else behind (after_step p s))
 
--- the first fault of these steps, each with its line, over so many variables; none where the empty clause is derived
+-- the first fault of these steps, each with its line, over so many variables; none where the empty
+-- clause is derived
 unfoldable pub lrat_fault : ℕ → List (ℕ × Option LratStep) → Proof → Option ProofFault
 lrat_fault n [] p = end_fault p.clauses
 lrat_fault n (s ∷ left) p = fault_from n s.0 p s.1 (λ q. lrat_fault n left q)

@@ -34,8 +34,10 @@ IsStepStop line s Memory = Unit {0}
 IsStepStop line s _ = ⊥
 
 -- the next step of all is passed; or this is the end, or the empty clause stands
-abbrev pub GoesOn : List (ℕ × Option DratStep) → List (ℕ × Option DratStep) → List (Option (List Literal)) → Bool → Type 0
-GoesOn all left clauses true = (line : ℕ) × (s : DratStep) × (all ≡ (line, Some s) ∷ left) × IsFalse (adds_empty s)
+abbrev pub GoesOn : List (ℕ × Option DratStep) → List (ℕ × Option DratStep)
+    → List (Option (List Literal)) → Bool → Type 0
+GoesOn all left clauses true = (line : ℕ) × (s : DratStep) × (all ≡ (line, Some s) ∷ left)
+    × IsFalse (adds_empty s)
 GoesOn all left clauses false = list_any is_empty_clause clauses ≡ false → all ≡ []
 
 -- why a step is not taken; memory may run out at any

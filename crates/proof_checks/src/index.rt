@@ -5,8 +5,8 @@ use crate::distinct::Marks;
 use crate::store::Store;
 use std::alloc::{AllocError, Global};
 
-/// The most clauses of one list that are looked at, so that no choice of clauses makes it slow. A deletion of a clause behind
-/// these is passed over, which only leaves more clauses standing.
+/// The most clauses of one list that are looked at, so that no choice of clauses makes it slow. A
+/// deletion of a clause behind these is passed over, which only leaves more clauses standing.
 const MOST_LOOKED_AT: usize = 64;
 
 /// A clause in its list: its sum, and the clause that came into the list before it.
@@ -103,7 +103,8 @@ impl Index {
         Ok(())
     }
 
-    /// Takes out a clause that has the marked literals, which are those of `clause`, and gives its number.
+    /// Takes out a clause that has the marked literals, which are those of `clause`, and gives its
+    /// number.
     pub(crate) fn take(&mut self, store: &Store, marks: &Marks, clause: &[Code]) -> Option<u32> {
         let sum = sum_of(clause);
         let mut behind = None;

@@ -1,5 +1,8 @@
-//! Solvers' proofs that a formula cannot be satisfied, checked: the steps of an LRAT proof by their hints, those of a DRAT proof by
-//! unit propagation. What finds the clauses that a step follows from is not trusted: the crate `refutation` looks at each of them.
+//! Solvers' proofs that a formula cannot be satisfied, checked: the steps of an LRAT proof by their
+//! hints, those of a DRAT proof by unit propagation. What finds the clauses that a step follows
+//! from is not trusted: the crate `refutation` looks at each of them.
+//!
+//! Called by `refute_command`. It knows no log: its formula may be any.
 #![tactic(auto)]
 
 mod code;
@@ -44,12 +47,12 @@ fn take_steps(
     }
 }
 
-/// Checks a proof that the clauses of a checker, whose variables are 1 to `variables`, cannot be satisfied. What stands behind the
-/// first empty clause is not read.
+/// Checks a proof that the clauses of a checker, whose variables are 1 to `variables`, cannot be
+/// satisfied. What stands behind the first empty clause is not read.
 ///
 /// # Errors
-/// The fault that stands first: a line of no form, a clause that does not follow, the end of the proof without an empty clause;
-/// more than 1 GiB before all of them; want of memory.
+/// The fault that stands first: a line of no form, a clause that does not follow, the end of the
+/// proof without an empty clause; more than 1 GiB before all of them; want of memory.
 pub fn check_proof(
     alloc: Global,
     checker: &mut Checker,

@@ -180,8 +180,8 @@ impl Lrat {
         }
     }
 
-    /// Takes the next step, and says whether the proof goes on behind it: not at its end, nor behind
-    /// the empty clause.
+    /// Takes the next step, and says whether the proof goes on behind it: not at its end, nor
+    /// behind the empty clause.
     fn take_next(
         &mut self,
         checker: &mut Checker,

@@ -1,7 +1,8 @@
-//! What unit propagation finds of a step: the clauses that the checker is to be shown. Nothing rests on it.
+//! What unit propagation finds of a step: the clauses that the checker is to be shown. Nothing
+//! rests on it.
 //!
-//! A literal that the clauses alone force is a root. The checker has it as a unit clause of its own, so that each later step that
-//! needs it is shown one clause for it.
+//! A literal that the clauses alone force is a root. The checker has it as a unit clause of its
+//! own, so that each later step that needs it is shown one clause for it.
 
 ghost use Rattle.std.specs.Prelude.{◌≡◌, ◌++◌, ◌∷◌, [], Some, IfOk, IsTrue};
 ghost use Rattle.refutation.specs.Follows.{Entails};
@@ -191,7 +192,8 @@ impl Search {
         }
     }
 
-    /// Puts two literals first that are not false by the roots, as far as the clause has them, and says how many it found.
+    /// Puts two literals first that are not false by the roots, as far as the clause has them, and
+    /// says how many it found.
     fn put_open_first(&mut self) -> usize {
         let mut open = 0usize;
         for index in 0..self.codes.len() {
@@ -247,8 +249,8 @@ impl Search {
         Ok(())
     }
 
-    /// Finds the roots that the clauses added since give, and has the checker take each as a unit clause. The checker has no
-    /// other clauses than the search.
+    /// Finds the roots that the clauses added since give, and has the checker take each as a unit
+    /// clause. The checker has no other clauses than the search.
     pub(crate) fn settle(&mut self, checker: &mut Checker) -> Result<(), AllocError>
         ensures follows { Entails checker.old.clauses checker.new.clauses }
     {
@@ -307,7 +309,8 @@ impl Search {
         Ok(())
     }
 
-    /// Makes true what the true literals force. The number of a clause that is false, if there is one.
+    /// Makes true what the true literals force. The number of a clause that is false, if there is
+    /// one.
     fn propagate(&mut self) -> Result<Option<u32>, AllocError> {
         for _ in 0..self.trail.truth.len() {
             let Some(code) = self.trail.next() else {
@@ -395,7 +398,8 @@ impl Search {
         Ok(found)
     }
 
-    /// Makes each literal of a step false, and what follows true. The number of a clause that is false then, if there is one.
+    /// Makes each literal of a step false, and what follows true. The number of a clause that is
+    /// false then, if there is one.
     fn assume(&mut self, literals: &[Literal]) -> Result<Option<u32>, AllocError> {
         for literal in literals {
             let code = Code::of(*literal);
@@ -409,8 +413,8 @@ impl Search {
         self.propagate()
     }
 
-    /// Finds the clauses that a conflict rests on: those of the roots, then those that forced literals, in their order, and last the
-    /// clause that is false.
+    /// Finds the clauses that a conflict rests on: those of the roots, then those that forced
+    /// literals, in their order, and last the clause that is false.
     fn explain(&mut self, conflict: u32) -> Result<(), AllocError> {
         self.marked.clear();
         self.forcing.clear();
@@ -467,7 +471,8 @@ impl Search {
         Ok(())
     }
 
-    /// Forgets a clause that has the marked literals, which are these, where one stands and is neither a unit nor false by the roots.
+    /// Forgets a clause that has the marked literals, which are these, where one stands and is
+    /// neither a unit nor false by the roots.
     pub(crate) fn forget(
         &mut self,
         checker: &mut Checker,

@@ -3,7 +3,8 @@
 use crate::code::Code;
 use std::alloc::{AllocError, Global};
 
-/// Where the codes of a clause begin, and how many they are: none where the clause is forgotten, or not for the search.
+/// Where the codes of a clause begin, and how many they are: none where the clause is forgotten, or
+/// not for the search.
 #[derive(Clone, Copy)]
 struct Span {
     start: u32,

@@ -12,7 +12,7 @@ fn literal(number: i32) -> Literal {
     }
 }
 
-// What a proof shows of the four clauses over two variables.
+/// What a proof shows of the four clauses over two variables.
 fn shown(rt: &(impl Abort + AllocGlobal), proof: &[u8]) -> Result<(), ProofFault> {
     let mut checker = Checker::new(rt.alloc(), 3).expect(rt, "memory");
     for clause in [[1, 2], [1, -2], [-1, 2], [-1, -2]] {

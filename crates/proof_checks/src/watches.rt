@@ -1,11 +1,12 @@
-//! Two watched literals a clause (Moskewicz, Madigan, Zhao, Zhang and Malik 2001): a clause is looked at only when one of them
-//! becomes false.
+//! Two watched literals a clause (Moskewicz, Madigan, Zhao, Zhang and Malik 2001): a clause is
+//! looked at only when one of them becomes false.
 
 use crate::code::{Code, places};
 use std::alloc::{AllocError, Global};
 use std::mem;
 
-/// A clause by its number, and another literal of it: where that is true, the clause need not be looked at.
+/// A clause by its number, and another literal of it: where that is true, the clause need not be
+/// looked at.
 #[derive(Clone, Copy)]
 pub(crate) struct Watch {
     pub(crate) number: u32,

@@ -1,5 +1,6 @@
 -- DRAT in its binary form: it is read as words of bytes, in lines that end behind a 0.
-use Rattle.std.specs.Prelude.{ℕ, ◌+◌, ◌*◌, ◌/◌, ◌%◌, Bool, false, ◌&&◌, if◌then◌else◌, nat_lt, nat_le, ◌==◌, List, [], ◌∷◌, length, map, drop, Option, Some, None}
+use Rattle.std.specs.Prelude.{ℕ, ◌+◌, ◌*◌, ◌/◌, ◌%◌, Bool, false, ◌&&◌, if◌then◌else◌, nat_lt}
+use Rattle.std.specs.Prelude.{nat_le, ◌==◌, List, [], ◌∷◌, length, map, drop, Option, Some, None}
 use Rattle.std.specs.List.{enumerate_from, list_any}
 use Rattle.std.specs.Str.{bytes_eq}
 use Rattle.proof_text.specs.Words.{onto_first}
@@ -11,7 +12,8 @@ use Rattle.proof_text.specs.declared.drat.DratAction.TheVariants.{Add, Delete}
 -- the words: each ends with its first byte below 128, and only the last may lack it
 unfoldable pub binary_words : List ℕ → List (List ℕ)
 binary_words [] = []
-binary_words (b ∷ bs) = if nat_lt b 128 then (b ∷ []) ∷ binary_words bs else onto_first b (binary_words bs)
+binary_words (b ∷ bs) = if nat_lt b 128 then (b ∷ []) ∷ binary_words bs else onto_first b
+    (binary_words bs)
 
 -- the number of a word, seven bits a byte, the lowest first
 unfoldable pub sevens : List ℕ → ℕ
@@ -42,7 +44,8 @@ onto_line w (l ∷ ls) = (w ∷ l) ∷ ls
 -- the lines: each ends with its first 0, and only the last may lack it
 unfoldable pub binary_lines : List (List ℕ) → List (List (List ℕ))
 binary_lines [] = []
-binary_lines (w ∷ ws) = if is_zero (binary_number w) then (w ∷ []) ∷ binary_lines ws else onto_line w (binary_lines ws)
+binary_lines (w ∷ ws) = if is_zero (binary_number w) then
+    (w ∷ []) ∷ binary_lines ws else onto_line w (binary_lines ws)
 
 -- the numbers of words
 abbrev pub binary_numbers : List (List ℕ) → List (Option Number)
@@ -60,7 +63,8 @@ behind_line (w ∷ ws) = if is_zero (binary_number w) then ws else behind_line w
 
 -- what a step does: `a` or `d`
 abbrev pub action_of_word : List ℕ → Option DratAction
-action_of_word w = if bytes_eq w (97 ∷ []) then Some Add else (if bytes_eq w (100 ∷ []) then Some Delete else None)
+action_of_word w = if bytes_eq w (97 ∷ []) then Some Add else
+    (if bytes_eq w (100 ∷ []) then Some Delete else None)
 
 abbrev pub binary_action : List (List ℕ) → Option DratAction
 binary_action [] = None
@@ -81,4 +85,5 @@ binary_lines_of bytes = enumerate_from 1 (binary_lines (binary_words bytes))
 
 -- the numbered steps of a proof
 unfoldable pub drat_steps_in : Bool → ℕ → List ℕ → List (ℕ × Option DratStep)
-drat_steps_in binary v proof = if binary then steps_by (binary_step v) (binary_lines_of proof) else drat_steps v proof
+drat_steps_in binary v proof = if binary then steps_by (binary_step v)
+    (binary_lines_of proof) else drat_steps v proof

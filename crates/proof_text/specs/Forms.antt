@@ -1,5 +1,6 @@
 -- Which form a proof has.
-use Rattle.std.specs.Prelude.{ℕ, Bool, true, false, ◌&&◌, ◌||◌, not, if◌then◌else◌, nat_lt, ◌==◌, List, [], ◌∷◌, drop, Option, Some, None}
+use Rattle.std.specs.Prelude.{ℕ, Bool, true, false, ◌&&◌, ◌||◌, not, if◌then◌else◌, nat_lt, ◌==◌}
+use Rattle.std.specs.Prelude.{List, [], ◌∷◌, drop, Option, Some, None}
 use Rattle.proof_text.specs.Words.{words, lines, lines_of, is_delete}
 use Rattle.proof_text.specs.Numbers.{numbers_of, first_number}
 use Rattle.proof_text.specs.declared.number.Number.{Number}
@@ -43,9 +44,11 @@ abbrev pub is_some_nonzero : Option Number → Bool
 is_some_nonzero None = false
 is_some_nonzero (Some n) = nat_lt 0 n.size
 
--- a line of these words is one of LRAT: its first number is not 0, and `d` is next, or a 0 stands before the last word
+-- a line of these words is one of LRAT: its first number is not 0, and `d` is next, or a 0 stands
+-- before the last word
 unfoldable pub is_lrat : List (List ℕ) → Bool
-is_lrat ws = is_some_nonzero (first_number (numbers_of ws)) && (is_delete (drop 1 ws) || is_more (behind_zero (numbers_of (drop 1 ws))))
+is_lrat ws = is_some_nonzero (first_number (numbers_of ws)) &&
+    (is_delete (drop 1 ws) || is_more (behind_zero (numbers_of (drop 1 ws))))
 
 -- the form of a text, by its first line that says something
 abbrev pub text_form : List (ℕ × List (List ℕ)) → Form
@@ -54,7 +57,8 @@ text_form (l ∷ ls) = if is_lrat l.1 then Lrat else Drat
 
 -- it begins with `a`, or with `d` where its first line deletes nothing
 unfoldable pub is_binary_proof : List ℕ → Bool
-is_binary_proof proof = begins_with 97 proof || (begins_with 100 proof && not (deletes (words (first_line (lines proof)))))
+is_binary_proof proof = begins_with 97 proof ||
+    (begins_with 100 proof && not (deletes (words (first_line (lines proof)))))
 
 -- the form of a proof
 unfoldable pub form_of_text : List ℕ → Form

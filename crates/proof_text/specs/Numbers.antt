@@ -1,5 +1,6 @@
 -- Numbers, and what they stand for.
-use Rattle.std.specs.Prelude.{ℕ, Bool, true, false, ◌&&◌, not, if◌then◌else◌, nat_le, nat_lt, ◌==◌, List, [], ◌∷◌, length, map, Option, Some, None}
+use Rattle.std.specs.Prelude.{ℕ, Bool, true, false, ◌&&◌, not, if◌then◌else◌, nat_le, nat_lt, ◌==◌}
+use Rattle.std.specs.Prelude.{List, [], ◌∷◌, length, map, Option, Some, None}
 use Rattle.std.specs.List.{list_all}
 use Rattle.std.specs.Char.{is_ascii_digit}
 use Rattle.std.specs.Str.Parse.{digits_value}
@@ -40,7 +41,8 @@ first_number (n ∷ ns) = n
 
 -- the literal of one of the variables 1 to v
 unfoldable pub literal_of : ℕ → Number → Option Literal
-literal_of v n = if nat_lt 0 n.size && nat_le n.size v then Some (record { variable = n.size; positive = not n.negative }) else None
+literal_of v n = if nat_lt 0 n.size && nat_le n.size v then Some
+    (record { variable = n.size; positive = not n.negative }) else None
 
 -- the ID that a number is; only that of a hint may be below 0, and is none
 unfoldable pub id_of : Bool → Number → Option (Option ℕ)
@@ -52,11 +54,14 @@ with_front None more = None
 with_front (Some x) None = None
 with_front (Some x) (Some more) = Some (x ∷ more.0, more.1)
 
--- what each number before the first 0 stands for, and what is left behind that 0; none where there is no 0, or a word before it is no such number
-unfoldable pub before_zero : {A : Type 0} → (Number → Option A) → List (Option Number) → Option (List A × List (Option Number))
+-- what each number before the first 0 stands for, and what is left behind that 0; none where there
+-- is no 0, or a word before it is no such number
+unfoldable pub before_zero : {A : Type 0} → (Number → Option A) → List (Option Number)
+    → Option (List A × List (Option Number))
 before_zero f [] = None
 before_zero f (None ∷ ns) = None
-before_zero f (Some n ∷ ns) = if n.size == 0 then Some ([], ns) else with_front (f n) (before_zero f ns)
+before_zero f (Some n ∷ ns) = if n.size == 0 then Some ([], ns) else with_front (f n)
+    (before_zero f ns)
 
 -- the same where nothing is left
 abbrev pub if_whole : {A B : Type 0} → List A → List B → Option (List A)

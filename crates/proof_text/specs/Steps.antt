@@ -1,15 +1,18 @@
 -- The steps of proofs in texts.
-use Rattle.std.specs.Prelude.{ℕ, true, false, ◌||◌, if◌then◌else◌, ◌==◌, List, [], map, drop, Option, Some, None, option_map, option_and_then}
+use Rattle.std.specs.Prelude.{ℕ, true, false, ◌||◌, if◌then◌else◌, ◌==◌, List, [], map, drop}
+use Rattle.std.specs.Prelude.{Option, Some, None, option_map, option_and_then}
 use Rattle.serializability.specs.declared.literal.Literal.{Literal}
 use Rattle.proof_text.specs.Words.{is_delete, behind_delete, lines_of}
-use Rattle.proof_text.specs.Numbers.{numbers_of, literal_of, first_number, id_of, before_zero, whole}
+use Rattle.proof_text.specs.Numbers.{numbers_of, literal_of, first_number, id_of, before_zero}
+use Rattle.proof_text.specs.Numbers.{whole}
 use Rattle.proof_text.specs.declared.number.Number.{Number}
 use Rattle.proof_text.specs.declared.lrat.LratAction.{LratAction}
 use Rattle.proof_text.specs.declared.lrat.LratAction.TheVariants as lrat
 use Rattle.proof_text.specs.declared.drat.DratAction.{DratAction}
 use Rattle.proof_text.specs.declared.drat.DratAction.TheVariants as drat
 
--- what a step of an LRAT proof does, its literals, and the IDs that it names, of which those below 0 are none
+-- what a step of an LRAT proof does, its literals, and the IDs that it names, of which those below
+-- 0 are none
 pub record LratStep : Type 0 where
   pub action : LratAction
   pub literals : List Literal
@@ -34,7 +37,8 @@ deletion_of ns = option_map lrat_deletion (whole (before_zero (id_of false) ns))
 
 -- the hints behind a clause
 unfoldable pub addition_with : ℕ → List Literal × List (Option Number) → Option LratStep
-addition_with id clause = option_map (lrat_addition id clause.0) (whole (before_zero (id_of true) clause.1))
+addition_with id clause = option_map (lrat_addition id clause.0)
+    (whole (before_zero (id_of true) clause.1))
 
 -- `LITERALS 0 HINTS 0`
 unfoldable pub addition_of : ℕ → ℕ → List (Option Number) → Option LratStep
@@ -48,7 +52,8 @@ line_id (Some n) = if n.negative || n.size == 0 then None else Some n.size
 -- the step of a line with this ID, and these words behind it
 unfoldable pub step_of_id : ℕ → List (List ℕ) → Option ℕ → Option LratStep
 step_of_id v ws None = None
-step_of_id v ws (Some id) = if is_delete ws then deletion_of (numbers_of (drop 1 ws)) else addition_of v id (numbers_of ws)
+step_of_id v ws (Some id) = if is_delete ws then deletion_of
+    (numbers_of (drop 1 ws)) else addition_of v id (numbers_of ws)
 
 -- the step of a line: `ID d IDS 0`, or `ID LITERALS 0 HINTS 0`
 unfoldable pub lrat_step : ℕ → List (List ℕ) → Option LratStep
@@ -73,14 +78,20 @@ drat_step v ws = clause_of v (action_of ws) (numbers_of (behind_delete ws))
 -- the step of an action, where there is one
 abbrev pub lrat_with : Option LratAction → List Literal → List (Option ℕ) → Option LratStep
 lrat_with None literals ids = None
-lrat_with (Some action) literals ids = Some (record { action = action; literals = literals; ids = ids })
+lrat_with (Some action) literals ids = Some (record {
+  action = action;
+  literals = literals;
+  ids
+      = ids;
+})
 
 abbrev pub drat_with : Option DratAction → List Literal → Option DratStep
 drat_with None literals = None
 drat_with (Some action) literals = Some (drat_clause action literals)
 
 -- the numbered steps of these lines; a line of no form has none
-abbrev pub steps_by : {S : Type 0} → (List (List ℕ) → Option S) → List (ℕ × List (List ℕ)) → List (ℕ × Option S)
+abbrev pub steps_by : {S : Type 0} → (List (List ℕ) → Option S) → List (ℕ × List (List ℕ))
+    → List (ℕ × Option S)
 steps_by step ls = map (λ l. (l.0, step l.1)) ls
 
 -- the numbered steps of a text, for a formula of so many variables

@@ -1,5 +1,6 @@
 -- The words and the lines of a text.
-use Rattle.std.specs.Prelude.{◌≡◌, ℕ, ◌+◌, ◌^◌, ◌≤◌, Bool, true, false, ◌||◌, not, if◌then◌else◌, ◌==◌, List, [], ◌∷◌, length, drop}
+use Rattle.std.specs.Prelude.{◌≡◌, ℕ, ◌+◌, ◌^◌, ◌≤◌, Bool, true, false, ◌||◌, not, if◌then◌else◌}
+use Rattle.std.specs.Prelude.{◌==◌, List, [], ◌∷◌, length, drop}
 use Rattle.std.specs.Str.{bytes_eq}
 
 -- a space, a tab or a carriage return
@@ -19,7 +20,8 @@ begins_word (b ∷ bs) = not (is_blank b)
 -- the words of a line: what stands between blanks
 unfoldable pub words : List ℕ → List (List ℕ)
 words [] = []
-words (b ∷ bs) = if is_blank b then words bs else (if begins_word bs then onto_first b (words bs) else (b ∷ []) ∷ words bs)
+words (b ∷ bs) = if is_blank b then words bs else
+    (if begins_word bs then onto_first b (words bs) else (b ∷ []) ∷ words bs)
 
 -- the lines of a text: what stands between line feeds
 unfoldable pub lines : List ℕ → List (List ℕ)
@@ -39,7 +41,8 @@ is_passed (w ∷ ws) = begins_comment w
 -- the lines that say something, each with its number, counted from this one, and its words
 unfoldable pub stated : ℕ → List (List ℕ) → List (ℕ × List (List ℕ))
 stated n [] = []
-stated n (l ∷ ls) = if is_passed (words l) then stated (n + 1) ls else (n, words l) ∷ stated (n + 1) ls
+stated n (l ∷ ls) = if is_passed (words l) then stated (n + 1) ls else (n, words l) ∷ stated
+    (n + 1) ls
 
 -- the same of a text
 unfoldable pub lines_of : List ℕ → List (ℕ × List (List ℕ))
@@ -59,7 +62,8 @@ abbrev pub is_empty : List (List ℕ) → Bool
 is_empty [] = true
 is_empty (w ∷ ws) = false
 
--- of a text, the first line of which has this number: the first that says something is line n, and this stands behind it
+-- of a text, the first line of which has this number: the first that says something is line n, and
+-- this stands behind it
 pub record IsFound (first : ℕ) (text : List ℕ) (n : ℕ) (line behind : List ℕ) : Type 0 where
   pub stated_are : stated first (lines text) ≡ (n, words line) ∷ stated (n + 1) (lines behind)
   pub within : n + 1 + length behind ≤ 2 ^ 63

@@ -6,10 +6,12 @@ ghost use Rattle.proof_text.specs.Refusals.{proof_status};
 use std::alloc::AllocError;
 use std::fmt;
 
-/// Why a step of a proof is refused. Lines count from 1; of a proof in binary form a line is a step.
+/// Why a step of a proof is refused. Lines count from 1; of a proof in binary form a line is a
+/// step.
 #[derive(Clone, Copy, Debug, PartialEq, Eq)]
 pub enum StepFault {
-    /// The line has none of the forms, a literal is out of range, or the step names a clause that is not there.
+    /// The line has none of the forms, a literal is out of range, or the step names a clause that
+    /// is not there.
     BadLine { line: usize },
     /// The step's clause does not follow by unit propagation.
     NotImplied { line: usize },
@@ -30,7 +32,8 @@ impl From<AllocError> for StepFault {
 /// Why a proof shows nothing. It is displayed as the line that says so, without its line feed.
 #[derive(Clone, Copy, Debug, PartialEq, Eq)]
 pub enum ProofFault {
-    /// A step is refused since its line has none of the forms, a literal is out of range, or it names a clause that is not there.
+    /// A step is refused since its line has none of the forms, a literal is out of range, or it
+    /// names a clause that is not there.
     BadLine { line: usize },
     /// A step is refused since its clause does not follow by unit propagation.
     NotImplied { line: usize },

@@ -26,7 +26,7 @@ fn forms_at_the_corners(rt: HostRuntime) {
     assert_eq!(rt; form_of(b"\n \t\r\nc note\n7 x 0 1\n"), Form::Drat);
 }
 
-// The line of the next step of a DRAT proof, what it does, and how many literals it has.
+/// The line of the next step of a DRAT proof, what it does, and how many literals it has.
 fn next_drat(
     rt: &(impl Abort + AllocGlobal),
     steps: &mut DratSteps<'_>,
@@ -67,7 +67,7 @@ fn comments_and_blanks_are_passed(rt: HostRuntime) {
     assert_eq!(rt; next_drat(&rt, &mut steps), None);
 }
 
-// The fault of the first step of a DRAT proof over three variables.
+/// The fault of the first step of a DRAT proof over three variables.
 fn drat_fault(rt: &(impl Abort + AllocGlobal), text: &[u8], binary: bool) -> StepFault {
     let mut literals = Vec::new(rt.alloc());
     DratSteps::new(text, 3, binary)
@@ -110,7 +110,7 @@ fn numbers_of_five_bytes(rt: HostRuntime) {
     assert_eq!(rt; next_drat(&rt, &mut steps), None);
 }
 
-// The line of the next step of an LRAT proof, what it does, and how many literals and IDs it has.
+/// The line of the next step of an LRAT proof, what it does, and how many literals and IDs it has.
 fn next_lrat(
     rt: &(impl Abort + AllocGlobal),
     steps: &mut LratSteps<'_>,
@@ -148,7 +148,7 @@ fn numbers_of_eighteen_digits(rt: HostRuntime) {
     );
 }
 
-// The fault of the first step of an LRAT text over three variables.
+/// The fault of the first step of an LRAT text over three variables.
 fn lrat_fault(rt: &(impl Abort + AllocGlobal), text: &[u8]) -> StepFault {
     let mut literals = Vec::new(rt.alloc());
     let mut ids = Vec::new(rt.alloc());

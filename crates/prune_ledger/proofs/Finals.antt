@@ -30,9 +30,9 @@ use Rattle.prune_ledger.specs.Entered as entered
 use Rattle.prune_ledger.specs.Pruned.{posts_in, kept_by, IsReduced, IsRemainder, IsProgress, IsGraphOf, unrefused, IsLast}
 use Rattle.prune_ledger.specs.declared.ledger.Ledger.{Ledger}
 use Rattle.prune_ledger.specs.declared.ledger.LedgerEntry.{LedgerEntry}
-use Rattle.prune_ledger.specs.declared.messages.Mark.{Mark}
-use Rattle.prune_ledger.specs.declared.messages.Event.{Event}
-use Rattle.prune_ledger.specs.declared.messages.Reply.{Reply}
+use Rattle.prune_ledger.specs.declared.messages.ChoiceState.{ChoiceState}
+use Rattle.prune_ledger.specs.declared.messages.PruneEvent.{PruneEvent}
+use Rattle.prune_ledger.specs.declared.messages.PruneReply.{PruneReply}
 use Rattle.known_graph.proofs.Tested.{same_bool}
 use Rattle.prune_ledger.proofs.Sides.{side_is, side_with}
 use Rattle.prune_ledger.proofs.Grown.{some_mark, walk_in, reaches_in, grown_opening, opens, grown_reopened, ran, kept_append, shown_append, refuted_in}
@@ -43,10 +43,10 @@ flag_at [] k lt = absurd (omega (arith, lt))
 flag_at (f ∷ fs) zero lt = (f, refl)
 flag_at (f ∷ fs) (suc k) lt = flag_at fs k (omega (arith, lt))
 
-refused_at : (s : State) (c : ℕ) (m : Mark) (side : Side) → slice_get s.marks c ≡ Some m → refuses m side ≡ true → is_refused s c side ≡ true
+refused_at : (s : State) (c : ℕ) (m : ChoiceState) (side : Side) → slice_get s.marks c ≡ Some m → refuses m side ≡ true → is_refused s c side ≡ true
 refused_at s c m side at t = ap (λ o. option_map_or (λ k. refuses k side) o false) at ∙ t
 
-refuses_at : (s : State) (c : ℕ) (m : Mark) (side : Side) → slice_get s.marks c ≡ Some m → is_refused s c side ≡ true → refuses m side ≡ true
+refuses_at : (s : State) (c : ℕ) (m : ChoiceState) (side : Side) → slice_get s.marks c ≡ Some m → is_refused s c side ≡ true → refuses m side ≡ true
 refuses_at s c m side at t = ap (λ o. option_map_or (λ k. refuses k side) o false) (sym at) ∙ t
 
 -- a side that is kept is not refuted where there is no cycle
@@ -96,7 +96,7 @@ or_swapped true false = refl
 or_swapped false true = refl
 or_swapped false false = refl
 
-open_listed : (ms : List Mark) (hs : List Choice) (sides : Sides) (c : ℕ) → length ms ≡ length hs → ((k : ℕ) (m : Mark) → slice_get ms k ≡ Some m → (sides (c + k) One || sides (c + k) Two) ≡ (m.one || m.two)) → unrefused ms hs ≡ open_from sides c hs
+open_listed : (ms : List ChoiceState) (hs : List Choice) (sides : Sides) (c : ℕ) → length ms ≡ length hs → ((k : ℕ) (m : ChoiceState) → slice_get ms k ≡ Some m → (sides (c + k) One || sides (c + k) Two) ≡ (m.one || m.two)) → unrefused ms hs ≡ open_from sides c hs
 open_listed [] [] sides c len f = refl
 open_listed [] (h ∷ hs) sides c len f = absurd (omega (arith, len))
 open_listed (m ∷ ms) [] sides c len f = absurd (omega (arith, len))
@@ -106,7 +106,7 @@ open_listed (m ∷ ms) (h ∷ hs) sides c len f =
     let rest = open_listed ms hs sides (c + 1) (omega (arith, len)) (λ k n at. (let s : c + suc k ≡ c + 1 + k = omega arith in subst (λ j. (sides j One || sides j Two) ≡ (n.one || n.two)) s (f (suc k) n at))) in
     ap (λ l. cond (m.one || m.two) l (h ∷ l)) rest ∙ ap (λ b. cond b (open_from sides (c + 1) hs) (h ∷ open_from sides (c + 1) hs)) (sym here)
 
-mark_sides : (p : Polygraph) (kept : List Kept) (s : State) → Grown p kept s → (c : ℕ) (m : Mark) → slice_get s.marks c ≡ Some m → (sides_in kept c One || sides_in kept c Two) ≡ (m.one || m.two)
+mark_sides : (p : Polygraph) (kept : List Kept) (s : State) → Grown p kept s → (c : ℕ) (m : ChoiceState) → slice_get s.marks c ≡ Some m → (sides_in kept c One || sides_in kept c Two) ≡ (m.one || m.two)
 mark_sides p kept s g c m at =
     let one : m.one ≡ sides_in kept c Two = same_bool m.one (sides_in kept c Two) (λ t. g.marks c One (refused_at s c m One at t)) (λ t. refuses_at s c m One at (g.back c One t)) in
     let two : m.two ≡ sides_in kept c One = same_bool m.two (sides_in kept c One) (λ t. g.marks c Two (refused_at s c m Two at t)) (λ t. refuses_at s c m Two at (g.back c Two t)) in
@@ -117,7 +117,7 @@ choices_left p kept s g =
     open_listed s.marks s.choices (sides_in kept) 0 g.marked (λ k m at. (let z : k ≡ 0 + k = omega arith in subst (λ n. (sides_in kept n One || sides_in kept n Two) ≡ (m.one || m.two)) z (mark_sides p kept s g k m at)))
     ∙ ap (open_from (sides_in kept) 0) g.same
 
-unrefused_where : (P : Choice → Type 0) (ms : List Mark) (hs : List Choice) → ((k : ℕ) (m : Mark) (h : Choice) → slice_get ms k ≡ Some m → slice_get hs k ≡ Some h → (m.one || m.two) ≡ false → P h) → AllByRecursion P (unrefused ms hs)
+unrefused_where : (P : Choice → Type 0) (ms : List ChoiceState) (hs : List Choice) → ((k : ℕ) (m : ChoiceState) (h : Choice) → slice_get ms k ≡ Some m → slice_get hs k ≡ Some h → (m.one || m.two) ≡ false → P h) → AllByRecursion P (unrefused ms hs)
 unrefused_where P [] hs f = tt
 unrefused_where P (m ∷ ms) [] f = tt
 unrefused_where P (m ∷ ms) (h ∷ hs) f =
@@ -190,17 +190,17 @@ posts_entered_by : (seat : ℕ) (posts : List Posted) → posts_in (map (entered
 posts_entered_by seat [] = refl
 posts_entered_by seat (q ∷ qs) = ap (λ l. q ∷ l) (posts_entered_by seat qs)
 
-posts_entered : (history : List (Entry Event Reply)) → posts_in (entered_in history) ≡ ledger_of history
+posts_entered : (history : List (Entry PruneEvent PruneReply)) → posts_in (entered_in history) ≡ ledger_of history
 posts_entered [] = refl
 posts_entered (x ∷ xs) =
     posts_joined (entered_by x.seat x.event x.reply) (entered_in xs)
     ∙ ap (λ l. l ++ posts_in (entered_in xs)) (posts_entered_by x.seat (posts_of x.event x.reply))
     ∙ ap (λ l. posts_of x.event x.reply ++ l) (posts_entered xs)
 
-pub posts_more : (entries next : List LedgerEntry) (history : List (Entry Event Reply)) → next ≡ entries ++ entered_in history → posts_in next ≡ posts_in entries ++ ledger_of history
+pub posts_more : (entries next : List LedgerEntry) (history : List (Entry PruneEvent PruneReply)) → next ≡ entries ++ entered_in history → posts_in next ≡ posts_in entries ++ ledger_of history
 posts_more entries next history is = ap posts_in is ∙ posts_joined entries (entered_in history) ∙ ap (λ l. posts_in entries ++ l) (posts_entered history)
 
-pub progress_more : (p : Polygraph) → IsWhole p → (entries next : List LedgerEntry) (s start now : State) (history : List (Entry Event Reply)) → IsProgress p entries s → start ≡ reopened_state s → IsReached next_of reply_of (Some start) history now
+pub progress_more : (p : Polygraph) → IsWhole p → (entries next : List LedgerEntry) (s start now : State) (history : List (Entry PruneEvent PruneReply)) → IsProgress p entries s → start ≡ reopened_state s → IsReached next_of reply_of (Some start) history now
     → next ≡ entries ++ entered_in history → IsProgress p next now
 progress_more p whole entries next s start now history i is reached is_next =
     let more = posts_more entries next history is_next in

@@ -10,7 +10,7 @@ use Rattle.known_graph.proofs.Listed.{In, Contains-from_In, In-append_left, In-a
 use Rattle.prune_ledger.specs.Opening.{given_back}
 use Rattle.prune_ledger.specs.Rounds.{IsOpenIn}
 use Rattle.prune_ledger.specs.Pruned.{unrefused, AreOpen, AreSettled}
-use Rattle.prune_ledger.specs.declared.messages.Mark.{Mark}
+use Rattle.prune_ledger.specs.declared.messages.ChoiceState.{ChoiceState}
 use Rattle.prune_ledger.proofs.Marks.{some-inj, get_set}
 
 -- ---- flags
@@ -45,60 +45,60 @@ pub open_more : (edges : List Edge) (choices : List Choice) (old now : List Bool
 open_more edges choices old now passed a b f = record { each = λ c h. (elim (f c h) [ inl x ↦ a.each c x | inr y ↦ each_contained (IsOpenIn edges choices) passed c b y ]) }
 
 -- ---- marks that are given back
-pub given_part : ℕ → List Mark → List Mark
+pub given_part : ℕ → List ChoiceState → List ChoiceState
 given_part zero ms = ms
 given_part (suc n) [] = []
 given_part (suc n) (m ∷ ms) = given_back m ∷ given_part n ms
 
-pub given_none : (ms : List Mark) → given_part 0 ms ≡ ms
+pub given_none : (ms : List ChoiceState) → given_part 0 ms ≡ ms
 unfolding given_part
 given_none ms = refl
 
-set_given : (n : ℕ) (ms : List Mark) (m : Mark) → slice_get (given_part n ms) n ≡ Some m → slice_set (given_part n ms) n (given_back m) ≡ given_part (suc n) ms
+set_given : (n : ℕ) (ms : List ChoiceState) (m : ChoiceState) → slice_get (given_part n ms) n ≡ Some m → slice_set (given_part n ms) n (given_back m) ≡ given_part (suc n) ms
 unfolding given_part
 set_given zero [] m e = refl
-set_given zero (x ∷ xs) m e = ap (λ (y : Mark). given_back y ∷ xs) (sym (some-inj x m e))
+set_given zero (x ∷ xs) m e = ap (λ (y : ChoiceState). given_back y ∷ xs) (sym (some-inj x m e))
 set_given (suc n) [] m e = refl
 set_given (suc n) (x ∷ xs) m e = ap (λ l. given_back x ∷ l) (set_given n xs m e)
 
-pub given_more : (n : ℕ) (ms : List Mark) (m : Mark) → slice_get (given_part n ms) n ≡ Some m → slice_set (given_part n ms) n (given_back m) ≡ given_part (n + 1) ms
+pub given_more : (n : ℕ) (ms : List ChoiceState) (m : ChoiceState) → slice_get (given_part n ms) n ≡ Some m → slice_set (given_part n ms) n (given_back m) ≡ given_part (n + 1) ms
 given_more n ms m e = let s : suc n ≡ n + 1 = omega arith in set_given n ms m e ∙ ap (λ k. given_part k ms) s
 
-pub given_all : (n : ℕ) (ms : List Mark) → length ms ≤ n → given_part n ms ≡ map given_back ms
+pub given_all : (n : ℕ) (ms : List ChoiceState) → length ms ≤ n → given_part n ms ≡ map given_back ms
 unfolding given_part
 given_all zero [] h = refl
 given_all zero (m ∷ ms) h = absurd (omega arith)
 given_all (suc n) [] h = refl
 given_all (suc n) (m ∷ ms) h = ap (λ l. given_back m ∷ l) (given_all n ms (omega arith))
 
-pub given_length : (n : ℕ) (ms : List Mark) → length (given_part n ms) ≡ length ms
+pub given_length : (n : ℕ) (ms : List ChoiceState) → length (given_part n ms) ≡ length ms
 unfolding given_part
 given_length zero ms = refl
 given_length (suc n) [] = refl
 given_length (suc n) (m ∷ ms) = ap suc (given_length n ms)
 
 -- ---- open choices
-pub unrefused_none : (ms : List Mark) → unrefused ms [] ≡ []
+pub unrefused_none : (ms : List ChoiceState) → unrefused ms [] ≡ []
 unrefused_none [] = refl
 unrefused_none (m ∷ ms) = refl
 
-drop_at : (ms : List Mark) (k : ℕ) (m : Mark) → slice_get ms k ≡ Some m → drop k ms ≡ m ∷ drop (suc k) ms
+drop_at : (ms : List ChoiceState) (k : ℕ) (m : ChoiceState) → slice_get ms k ≡ Some m → drop k ms ≡ m ∷ drop (suc k) ms
 drop_at [] k m e = absurd (cc)
-drop_at (x ∷ xs) zero m e = ap (λ (y : Mark). y ∷ xs) (some-inj x m e)
+drop_at (x ∷ xs) zero m e = ap (λ (y : ChoiceState). y ∷ xs) (some-inj x m e)
 drop_at (x ∷ xs) (suc k) m e = drop_at xs k m e
 
-unrefused_at : (ms : List Mark) (k : ℕ) (m : Mark) (h : Choice) (hs : List Choice) → slice_get ms k ≡ Some m
+unrefused_at : (ms : List ChoiceState) (k : ℕ) (m : ChoiceState) (h : Choice) (hs : List Choice) → slice_get ms k ≡ Some m
     → unrefused (drop k ms) (h ∷ hs) ≡ cond (m.one || m.two) (unrefused (drop (k + 1) ms) hs) (h ∷ unrefused (drop (k + 1) ms) hs)
 unrefused_at ms k m h hs e =
     let s : suc k ≡ k + 1 = omega arith in
-    ap (λ (l : List Mark). unrefused l (h ∷ hs)) (drop_at ms k m e) ∙ ap (λ n. cond (m.one || m.two) (unrefused (drop n ms) hs) (h ∷ unrefused (drop n ms) hs)) s
+    ap (λ (l : List ChoiceState). unrefused l (h ∷ hs)) (drop_at ms k m e) ∙ ap (λ n. cond (m.one || m.two) (unrefused (drop n ms) hs) (h ∷ unrefused (drop n ms) hs)) s
 
-pub open_skipped : (ms : List Mark) (k : ℕ) (m : Mark) (h : Choice) (hs rest open_now whole : List Choice) → slice_get ms k ≡ Some m → (m.one || m.two) ≡ true → rest ≡ h ∷ hs
+pub open_skipped : (ms : List ChoiceState) (k : ℕ) (m : ChoiceState) (h : Choice) (hs rest open_now whole : List Choice) → slice_get ms k ≡ Some m → (m.one || m.two) ≡ true → rest ≡ h ∷ hs
     → open_now ++ unrefused (drop k ms) rest ≡ whole → open_now ++ unrefused (drop (k + 1) ms) hs ≡ whole
 open_skipped ms k m h hs rest open_now whole at t r i =
     ap (λ l. open_now ++ l) (sym (ap (unrefused (drop k ms)) r ∙ unrefused_at ms k m h hs at ∙ ap (λ b. cond b (unrefused (drop (k + 1) ms) hs) (h ∷ unrefused (drop (k + 1) ms) hs)) t)) ∙ i
 
-pub open_pushed : (ms : List Mark) (k : ℕ) (m : Mark) (h : Choice) (hs rest open_now next whole : List Choice) → slice_get ms k ≡ Some m → (m.one || m.two) ≡ false → rest ≡ h ∷ hs
+pub open_pushed : (ms : List ChoiceState) (k : ℕ) (m : ChoiceState) (h : Choice) (hs rest open_now next whole : List Choice) → slice_get ms k ≡ Some m → (m.one || m.two) ≡ false → rest ≡ h ∷ hs
     → next ≡ open_now ++ h ∷ [] → open_now ++ unrefused (drop k ms) rest ≡ whole → next ++ unrefused (drop (k + 1) ms) hs ≡ whole
 open_pushed ms k m h hs rest open_now next whole at t r n i =
     ap (λ l. l ++ unrefused (drop (k + 1) ms) hs) n ∙ joined open_now (h ∷ []) (unrefused (drop (k + 1) ms) hs)
@@ -108,7 +108,7 @@ open_pushed ms k m h hs rest open_now next whole at t r n i =
     joined [] b c = refl
     joined (x ∷ a) b c = ap (λ l. x ∷ l) (joined a b c)
 
-pub unrefused_each : (P : Choice → Type 0) (ms : List Mark) (hs : List Choice) → AllByRecursion P hs → AllByRecursion P (unrefused ms hs)
+pub unrefused_each : (P : Choice → Type 0) (ms : List ChoiceState) (hs : List Choice) → AllByRecursion P hs → AllByRecursion P (unrefused ms hs)
 unrefused_each P [] hs a = tt
 unrefused_each P (m ∷ ms) [] a = tt
 unrefused_each P (m ∷ ms) (h ∷ hs) a = elim (cases_Bool (m.one || m.two)) [
@@ -116,7 +116,7 @@ unrefused_each P (m ∷ ms) (h ∷ hs) a = elim (cases_Bool (m.one || m.two)) [
   | inr f ↦ rw f (a.0, unrefused_each P ms hs a.1)
 ]
 
-pub unrefused_few : (ms : List Mark) (hs : List Choice) → length (unrefused ms hs) ≤ length hs
+pub unrefused_few : (ms : List ChoiceState) (hs : List Choice) → length (unrefused ms hs) ≤ length hs
 unrefused_few [] hs = omega arith
 unrefused_few (m ∷ ms) [] = omega arith
 unrefused_few (m ∷ ms) (h ∷ hs) = (let i = unrefused_few ms hs in elim (cases_Bool (m.one || m.two)) [
@@ -125,18 +125,18 @@ unrefused_few (m ∷ ms) (h ∷ hs) = (let i = unrefused_few ms hs in elim (case
 ])
 
 -- ---- settled choices
-pub record SettledTo (k : ℕ) (marks : List Mark) (flags : List Bool) : Type 0 where
-  pub each : (c : ℕ) (m : Mark) (f : Bool) → c < k → slice_get marks c ≡ Some m → slice_get flags c ≡ Some f → ((m.one || m.two) || f) ≡ true
+pub record SettledTo (k : ℕ) (marks : List ChoiceState) (flags : List Bool) : Type 0 where
+  pub each : (c : ℕ) (m : ChoiceState) (f : Bool) → c < k → slice_get marks c ≡ Some m → slice_get flags c ≡ Some f → ((m.one || m.two) || f) ≡ true
 
-pub settled_none : (marks : List Mark) (flags : List Bool) → SettledTo 0 marks flags
+pub settled_none : (marks : List ChoiceState) (flags : List Bool) → SettledTo 0 marks flags
 settled_none marks flags = record { each = λ c m f lt. absurd (omega (arith, lt)) }
 
-pub settled_more : (k : ℕ) (marks : List Mark) (flags : List Bool) (m : Mark) (f : Bool) → SettledTo k marks flags → slice_get marks k ≡ Some m → slice_get flags k ≡ Some f → ((m.one || m.two) || f) ≡ true → SettledTo (k + 1) marks flags
+pub settled_more : (k : ℕ) (marks : List ChoiceState) (flags : List Bool) (m : ChoiceState) (f : Bool) → SettledTo k marks flags → slice_get marks k ≡ Some m → slice_get flags k ≡ Some f → ((m.one || m.two) || f) ≡ true → SettledTo (k + 1) marks flags
 settled_more k marks flags m f s a b t = record {
   each = λ c n g lt at bt. (elim (cases_eq c k) [
     | inl same ↦ (let x : Some m ≡ Some n = sym a ∙ ap (slice_get marks) (sym same) ∙ at in
         let y : Some f ≡ Some g = sym b ∙ ap (slice_get flags) (sym same) ∙ bt in
-        subst (λ (z : Bool). ((n.one || n.two) || z) ≡ true) (some-inj f g y) (subst (λ (z : Mark). ((z.one || z.two) || f) ≡ true) (some-inj m n x) t))
+        subst (λ (z : Bool). ((n.one || n.two) || z) ≡ true) (some-inj f g y) (subst (λ (z : ChoiceState). ((z.one || z.two) || f) ≡ true) (some-inj m n x) t))
     | inr apart ↦ s.each c n g (omega (arith, lt, apart)) at bt
   ]);
 }
@@ -146,7 +146,7 @@ within_of [] c x e = absurd (cc)
 within_of (y ∷ ys) zero x e = omega arith
 within_of (y ∷ ys) (suc c) x e = let i = within_of ys c x e in omega (arith, i)
 
-pub settled_all : (k : ℕ) (marks : List Mark) (flags : List Bool) → SettledTo k marks flags → length marks ≤ k → AreSettled marks flags
+pub settled_all : (k : ℕ) (marks : List ChoiceState) (flags : List Bool) → SettledTo k marks flags → length marks ≤ k → AreSettled marks flags
 settled_all k marks flags s le = record { each = λ c m f a b. s.each c m f (let w = within_of marks c m a in omega (arith, w, le)) a b }
 
 pub get_some : {A : Type 0} (xs : List A) (k : ℕ) (d : A) → k < length xs → slice_get xs k ≡ Some (get_or xs k d)
@@ -154,10 +154,10 @@ get_some [] k d lt = absurd (omega (arith, lt))
 get_some (x ∷ xs) zero d lt = refl
 get_some (x ∷ xs) (suc k) d lt = get_some xs k d (omega (arith, lt))
 
-pub given_step : (k : ℕ) (ms now : List Mark) (x d : Mark) → now ≡ given_part k ms → k < length now → x ≡ given_back (get_or now k d) → slice_set now k x ≡ given_part (k + 1) ms
+pub given_step : (k : ℕ) (ms now : List ChoiceState) (x d : ChoiceState) → now ≡ given_part k ms → k < length now → x ≡ given_back (get_or now k d) → slice_set now k x ≡ given_part (k + 1) ms
 given_step k ms now x d is lt e =
     let at : slice_get (given_part k ms) k ≡ Some (get_or now k d) = ap (λ l. slice_get l k) (sym is) ∙ get_some now k d lt in
-    ap (λ (y : Mark). slice_set now k y) e ∙ ap (λ l. slice_set l k (given_back (get_or now k d))) is ∙ given_more k ms (get_or now k d) at
+    ap (λ (y : ChoiceState). slice_set now k y) e ∙ ap (λ l. slice_set l k (given_back (get_or now k d))) is ∙ given_more k ms (get_or now k d) at
 
 pub all_from_index : {X : Type 0} (P : X → Type 0) (xs : List X) (n : ℕ) → length xs ≡ n → ((i : ℕ) (d : X) → i < n → P (get_or xs i d)) → AllByRecursion P xs
 all_from_index P [] n e f = tt

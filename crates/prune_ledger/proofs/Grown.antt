@@ -26,12 +26,14 @@ use Rattle.prune_ledger.specs.Opening.{no_mark, opening_state, given_back, reope
 use Rattle.known_graph.specs.Tests.{has_edge, is_line}
 use Rattle.prune_ledger.specs.Steps.{listed, with_edges, refuses, refusing, is_free, free_from, is_refused, side_at, is_choice, is_against, post_reply, is_entered, refused_mark, refused, hand_out, taken, posted, next_of, reply_of}
 use Rattle.prune_ledger.specs.Ledger.{side_of, kept_side, kept_after, edges_after, IsShown, AreShown}
+use Rattle.prune_ledger.specs.Pruned.{posts_in}
+use Rattle.prune_ledger.specs.declared.ledger.LedgerEntry.{LedgerEntry}
 use Rattle.prune_ledger.specs.Runs.{IsWhole, IsOpening, KeepsForced, EachKeepsForced, posts_of, ledger_of, Grown}
-use Rattle.prune_ledger.specs.declared.messages.Mark.{Mark}
-use Rattle.prune_ledger.specs.declared.messages.Event.{Event}
-use Rattle.prune_ledger.specs.declared.messages.Event.TheVariants.{Take, Post, Pass, Release}
-use Rattle.prune_ledger.specs.declared.messages.Reply.{Reply}
-use Rattle.prune_ledger.specs.declared.messages.Reply.TheVariants.{Judge, NoneLeft, Entered, AlreadyIn, BadWalk, Noted, Released, Dead}
+use Rattle.prune_ledger.specs.declared.messages.ChoiceState.{ChoiceState}
+use Rattle.prune_ledger.specs.declared.messages.PruneEvent.{PruneEvent}
+use Rattle.prune_ledger.specs.declared.messages.PruneEvent.TheVariants.{Take, Post, Pass, Release}
+use Rattle.prune_ledger.specs.declared.messages.PruneReply.{PruneReply}
+use Rattle.prune_ledger.specs.declared.messages.PruneReply.TheVariants.{Judge, NoneLeft, Entered, AlreadyIn, BadWalk, Noted, Released, Dead}
 use Rattle.known_graph.proofs.Tested.{edge_in, walk_of}
 use Rattle.prune_ledger.proofs.Edges.{in_listed, in_of_listed}
 use Rattle.prune_ledger.proofs.Marks.{some-inj, get_set, side_joins, marks_opening}
@@ -39,7 +41,7 @@ use Rattle.prune_ledger.proofs.Sides.{other_other, ChoiceAt, choice_of_edge, sid
 use Rattle.pruning_laws.proofs.Ledgers.{same_is}
 
 -- ---- replies
-pub is_entered_true : (r : Reply) → is_entered r ≡ true → r ≡ Entered
+pub is_entered_true : (r : PruneReply) → is_entered r ≡ true → r ≡ Entered
 is_entered_true Entered e = refl
 is_entered_true (Judge c) e = absurd (false≢true e)
 is_entered_true NoneLeft e = absurd (false≢true e)
@@ -95,78 +97,78 @@ new_edges g more j e i =
     Contains-from_In (listed g.nodes (g.edges ++ more)) e (in_listed g.nodes (g.edges ++ more) e q.from q.to (In-append_right e g.edges more i))
 
 -- ---- marks
-abbrev test : List Mark → ℕ → Side → Bool
+abbrev test : List ChoiceState → ℕ → Side → Bool
 test marks c side = option_map_or (λ m. refuses m side) (slice_get marks c) false
 
-record TestedMark (marks : List Mark) (c : ℕ) (side : Side) : Type 0 where
-  pub mark : Mark
+record TestedMark (marks : List ChoiceState) (c : ℕ) (side : Side) : Type 0 where
+  pub mark : ChoiceState
   pub at : slice_get marks c ≡ Some mark
   pub refuses_it : refuses mark side ≡ true
 
-tested : (marks : List Mark) (c : ℕ) (side : Side) (o : Option Mark) → slice_get marks c ≡ o → option_map_or (λ m. refuses m side) o false ≡ true → TestedMark marks c side
+tested : (marks : List ChoiceState) (c : ℕ) (side : Side) (o : Option ChoiceState) → slice_get marks c ≡ o → option_map_or (λ m. refuses m side) o false ≡ true → TestedMark marks c side
 tested marks c side None e t = absurd (false≢true t)
 tested marks c side (Some m) e t = record { mark = m; at = e; refuses_it = t }
 
-from_mark : (marks : List Mark) (c : ℕ) (side : Side) (m : Mark) → slice_get marks c ≡ Some m → refuses m side ≡ true → test marks c side ≡ true
+from_mark : (marks : List ChoiceState) (c : ℕ) (side : Side) (m : ChoiceState) → slice_get marks c ≡ Some m → refuses m side ≡ true → test marks c side ≡ true
 from_mark marks c side m e t = ap (λ o. option_map_or (λ k. refuses k side) o false) e ∙ t
 
-refusing_one : (m : Mark) (side other_one : Side) → refuses (refusing m side) other_one ≡ true → (other_one ≡ side) ⊎ (refuses m other_one ≡ true)
+refusing_one : (m : ChoiceState) (side other_one : Side) → refuses (refusing m side) other_one ≡ true → (other_one ≡ side) ⊎ (refuses m other_one ≡ true)
 refusing_one m One One t = inl refl
 refusing_one m One Two t = inr t
 refusing_one m Two One t = inr t
 refusing_one m Two Two t = inl refl
 
-handed_one : (m : Mark) (side : Side) → refuses (hand_out m) side ≡ true → refuses m side ≡ true
+handed_one : (m : ChoiceState) (side : Side) → refuses (hand_out m) side ≡ true → refuses m side ≡ true
 handed_one m One t = t
 handed_one m Two t = t
 
-given_one : (m : Mark) (side : Side) → refuses (given_back m) side ≡ true → refuses m side ≡ true
+given_one : (m : ChoiceState) (side : Side) → refuses (given_back m) side ≡ true → refuses m side ≡ true
 given_one m One t = t
 given_one m Two t = t
 
-after_refused : (marks : List Mark) (c : ℕ) (side : Side) (o : Option Mark) → slice_get marks c ≡ o → (k : ℕ) (w : Side) → test (option_map_or (λ m. slice_set marks c (refusing m side)) o marks) k w ≡ true → ((k ≡ c) × (w ≡ side)) ⊎ (test marks k w ≡ true)
+after_refused : (marks : List ChoiceState) (c : ℕ) (side : Side) (o : Option ChoiceState) → slice_get marks c ≡ o → (k : ℕ) (w : Side) → test (option_map_or (λ m. slice_set marks c (refusing m side)) o marks) k w ≡ true → ((k ≡ c) × (w ≡ side)) ⊎ (test marks k w ≡ true)
 after_refused marks c side None e k w t = inr t
 after_refused marks c side (Some m) e k w t =
     let x = tested (slice_set marks c (refusing m side)) k w (slice_get (slice_set marks c (refusing m side)) k) refl t in
     elim (get_set marks c k (refusing m side) x.mark x.at) [
-      | inl p ↦ elim (refusing_one m side w (subst (λ (y : Mark). refuses y w ≡ true) p.1 x.refuses_it)) [
+      | inl p ↦ elim (refusing_one m side w (subst (λ (y : ChoiceState). refuses y w ≡ true) p.1 x.refuses_it)) [
         | inl q ↦ inl (p.0, q)
         | inr r ↦ inr (from_mark marks k w m (ap (slice_get marks) p.0 ∙ e) r)
       ]
       | inr q ↦ inr (from_mark marks k w x.mark q x.refuses_it)
     ]
 
-after_handed : (marks : List Mark) (c : ℕ) (o : Option Mark) → slice_get marks c ≡ o → (k : ℕ) (w : Side) → test (option_map_or (λ m. slice_set marks c (hand_out m)) o marks) k w ≡ true → test marks k w ≡ true
+after_handed : (marks : List ChoiceState) (c : ℕ) (o : Option ChoiceState) → slice_get marks c ≡ o → (k : ℕ) (w : Side) → test (option_map_or (λ m. slice_set marks c (hand_out m)) o marks) k w ≡ true → test marks k w ≡ true
 after_handed marks c None e k w t = t
 after_handed marks c (Some m) e k w t =
     let x = tested (slice_set marks c (hand_out m)) k w (slice_get (slice_set marks c (hand_out m)) k) refl t in
     elim (get_set marks c k (hand_out m) x.mark x.at) [
-      | inl p ↦ from_mark marks k w m (ap (slice_get marks) p.0 ∙ e) (handed_one m w (subst (λ (y : Mark). refuses y w ≡ true) p.1 x.refuses_it))
+      | inl p ↦ from_mark marks k w m (ap (slice_get marks) p.0 ∙ e) (handed_one m w (subst (λ (y : ChoiceState). refuses y w ≡ true) p.1 x.refuses_it))
       | inr q ↦ from_mark marks k w x.mark q x.refuses_it
     ]
 
-after_given : (marks : List Mark) (k : ℕ) (w : Side) → test (map given_back marks) k w ≡ true → test marks k w ≡ true
+after_given : (marks : List ChoiceState) (k : ℕ) (w : Side) → test (map given_back marks) k w ≡ true → test marks k w ≡ true
 after_given [] k w t = t
 after_given (m ∷ ms) zero w t = given_one m w t
 after_given (m ∷ ms) (suc k) w t = after_given ms k w t
 
-before_given : (marks : List Mark) (k : ℕ) (w : Side) → test marks k w ≡ true → test (map given_back marks) k w ≡ true
+before_given : (marks : List ChoiceState) (k : ℕ) (w : Side) → test marks k w ≡ true → test (map given_back marks) k w ≡ true
 before_given [] k w t = t
 before_given (m ∷ ms) zero One t = t
 before_given (m ∷ ms) zero Two t = t
 before_given (m ∷ ms) (suc k) w t = before_given ms k w t
 
-length_given : (marks : List Mark) → length (map given_back marks) ≡ length marks
+length_given : (marks : List ChoiceState) → length (map given_back marks) ≡ length marks
 length_given [] = refl
 length_given (m ∷ ms) = ap suc (length_given ms)
 
-refusing_old : (m : Mark) (side w : Side) → refuses m w ≡ true → refuses (refusing m side) w ≡ true
+refusing_old : (m : ChoiceState) (side w : Side) → refuses m w ≡ true → refuses (refusing m side) w ≡ true
 refusing_old m One One t = refl
 refusing_old m One Two t = t
 refusing_old m Two One t = t
 refusing_old m Two Two t = refl
 
-refusing_new : (m : Mark) (side : Side) → refuses (refusing m side) side ≡ true
+refusing_new : (m : ChoiceState) (side : Side) → refuses (refusing m side) side ≡ true
 refusing_new m One = refl
 refusing_new m Two = refl
 
@@ -183,49 +185,49 @@ get_other (z ∷ zs) (suc k) zero y ne = refl
 get_other (z ∷ zs) (suc k) (suc j) y ne = get_other zs k j y (λ e. ne (ap suc e))
 
 -- a mark that is there
-pub some_mark : (marks : List Mark) (k : ℕ) → k < length marks → (m : Mark) × (slice_get marks k ≡ Some m)
+pub some_mark : (marks : List ChoiceState) (k : ℕ) → k < length marks → (m : ChoiceState) × (slice_get marks k ≡ Some m)
 some_mark [] k lt = absurd (omega arith)
 some_mark (m ∷ ms) zero lt = (m, refl)
 some_mark (m ∷ ms) (suc k) lt = some_mark ms k (omega arith)
 
 -- a written mark keeps what others say
-kept_mark : (marks : List Mark) (c k : ℕ) (m x : Mark) (w : Side) → slice_get marks c ≡ Some m → (refuses m w ≡ true → refuses x w ≡ true) → test marks k w ≡ true → test (slice_set marks c x) k w ≡ true
+kept_mark : (marks : List ChoiceState) (c k : ℕ) (m x : ChoiceState) (w : Side) → slice_get marks c ≡ Some m → (refuses m w ≡ true → refuses x w ≡ true) → test marks k w ≡ true → test (slice_set marks c x) k w ≡ true
 kept_mark marks c k m x w at f t = elim (cases_eq k c) [
   | inl same ↦ from_mark (slice_set marks c x) k w x (ap (slice_get (slice_set marks c x)) same ∙ get_put marks c m x at)
       (f (ap (λ o. option_map_or (λ y. refuses y w) o false) (sym (ap (slice_get marks) same ∙ at)) ∙ t))
   | inr apart ↦ ap (λ o. option_map_or (λ y. refuses y w) o false) (get_other marks c k x apart) ∙ t
 ]
 
-before_refused : (marks : List Mark) (c : ℕ) (side : Side) (o : Option Mark) → slice_get marks c ≡ o → (k : ℕ) (w : Side) → test marks k w ≡ true → test (option_map_or (λ m. slice_set marks c (refusing m side)) o marks) k w ≡ true
+before_refused : (marks : List ChoiceState) (c : ℕ) (side : Side) (o : Option ChoiceState) → slice_get marks c ≡ o → (k : ℕ) (w : Side) → test marks k w ≡ true → test (option_map_or (λ m. slice_set marks c (refusing m side)) o marks) k w ≡ true
 before_refused marks c side None e k w t = t
 before_refused marks c side (Some m) e k w t = kept_mark marks c k m (refusing m side) w e (refusing_old m side w) t
 
-now_refused : (marks : List Mark) (c : ℕ) (side : Side) (o : Option Mark) → slice_get marks c ≡ o → (m : Mark) → o ≡ Some m → test (option_map_or (λ m. slice_set marks c (refusing m side)) o marks) c side ≡ true
+now_refused : (marks : List ChoiceState) (c : ℕ) (side : Side) (o : Option ChoiceState) → slice_get marks c ≡ o → (m : ChoiceState) → o ≡ Some m → test (option_map_or (λ m. slice_set marks c (refusing m side)) o marks) c side ≡ true
 now_refused marks c side None e m is = absurd (cc)
 now_refused marks c side (Some n) e m is = from_mark (slice_set marks c (refusing n side)) c side (refusing n side) (get_put marks c n (refusing n side) e) (refusing_new n side)
 
-length_refused : (marks : List Mark) (c : ℕ) (side : Side) (o : Option Mark) → length (option_map_or (λ m. slice_set marks c (refusing m side)) o marks) ≡ length marks
+length_refused : (marks : List ChoiceState) (c : ℕ) (side : Side) (o : Option ChoiceState) → length (option_map_or (λ m. slice_set marks c (refusing m side)) o marks) ≡ length marks
 length_refused marks c side None = refl
 length_refused marks c side (Some m) = length-set marks c (refusing m side)
 
-handed_old : (m : Mark) (w : Side) → refuses m w ≡ true → refuses (hand_out m) w ≡ true
+handed_old : (m : ChoiceState) (w : Side) → refuses m w ≡ true → refuses (hand_out m) w ≡ true
 handed_old m One t = t
 handed_old m Two t = t
 
-before_handed : (marks : List Mark) (c : ℕ) (o : Option Mark) → slice_get marks c ≡ o → (k : ℕ) (w : Side) → test marks k w ≡ true → test (option_map_or (λ m. slice_set marks c (hand_out m)) o marks) k w ≡ true
+before_handed : (marks : List ChoiceState) (c : ℕ) (o : Option ChoiceState) → slice_get marks c ≡ o → (k : ℕ) (w : Side) → test marks k w ≡ true → test (option_map_or (λ m. slice_set marks c (hand_out m)) o marks) k w ≡ true
 before_handed marks c None e k w t = t
 before_handed marks c (Some m) e k w t = kept_mark marks c k m (hand_out m) w e (handed_old m w) t
 
-length_handed : (marks : List Mark) (c : ℕ) (o : Option Mark) → length (option_map_or (λ m. slice_set marks c (hand_out m)) o marks) ≡ length marks
+length_handed : (marks : List ChoiceState) (c : ℕ) (o : Option ChoiceState) → length (option_map_or (λ m. slice_set marks c (hand_out m)) o marks) ≡ length marks
 length_handed marks c None = refl
 length_handed marks c (Some m) = length-set marks c (hand_out m)
 
-free_at : (marks : List Mark) (c : ℕ) (m : Mark) → AllByRecursion (λ (x : Mark). is_free x ≡ true) marks → slice_get marks c ≡ Some m → is_free m ≡ true
+free_at : (marks : List ChoiceState) (c : ℕ) (m : ChoiceState) → AllByRecursion (λ (x : ChoiceState). is_free x ≡ true) marks → slice_get marks c ≡ Some m → is_free m ≡ true
 free_at [] c m a e = absurd (cc)
-free_at (x ∷ xs) zero m a e = subst (λ (y : Mark). is_free y ≡ true) (some-inj x m e) a.0
+free_at (x ∷ xs) zero m a e = subst (λ (y : ChoiceState). is_free y ≡ true) (some-inj x m e) a.0
 free_at (x ∷ xs) (suc c) m a e = free_at xs c m a.1 e
 
-not_refusing : (m : Mark) (side : Side) → is_free m ≡ true → refuses m side ≡ true → ⊥
+not_refusing : (m : ChoiceState) (side : Side) → is_free m ≡ true → refuses m side ≡ true → ⊥
 not_refusing m One f t = (let p = and_parts (not (m.one || m.two)) (not m.handed) f in let o = or_parts m.one m.two (not-true (m.one || m.two) p.0) in false≢true (sym o.0 ∙ t))
 not_refusing m Two f t = (let p = and_parts (not (m.one || m.two)) (not m.handed) f in let o = or_parts m.one m.two (not-true (m.one || m.two) p.0) in false≢true (sym o.1 ∙ t))
 
@@ -244,7 +246,7 @@ grown_opening p whole s o = record {
   dead = λ t. absurd (false≢true (sym o.alive ∙ t));
 }
 
-free_marks : (n : ℕ) → AllByRecursion (λ (x : Mark). is_free x ≡ true) (replicate n no_mark)
+free_marks : (n : ℕ) → AllByRecursion (λ (x : ChoiceState). is_free x ≡ true) (replicate n no_mark)
 free_marks zero = tt
 free_marks (suc n) = (refl, free_marks n)
 
@@ -339,7 +341,7 @@ grown_refused p whole kept s q g e =
     }
 
 -- ---- a step
-pub record Stepped (p : Polygraph) (kept : List Kept) (event : Event) (reply : Reply) (s : State) : Type 0 where
+pub record Stepped (p : Polygraph) (kept : List Kept) (event : PruneEvent) (reply : PruneReply) (s : State) : Type 0 where
   pub grown : Grown p (kept_after kept (posts_of event reply)) s
   pub shown : AreShown p kept (posts_of event reply)
 
@@ -365,7 +367,7 @@ step_posted : (p : Polygraph) → IsWhole p → (kept : List Kept) (b : Bool) (s
 step_posted p whole kept true s q g = record { grown = g; shown = tt }
 step_posted p whole kept false s q g = step_entered p whole kept (is_entered (post_reply s q)) s q g refl
 
-pub stepped : (p : Polygraph) → IsWhole p → (kept : List Kept) (s : State) → Grown p kept s → (seat : ℕ) (e : Event) → Stepped p kept e (reply_of s seat e) (next_of s seat e)
+pub stepped : (p : Polygraph) → IsWhole p → (kept : List Kept) (s : State) → Grown p kept s → (seat : ℕ) (e : PruneEvent) → Stepped p kept e (reply_of s seat e) (next_of s seat e)
 stepped p whole kept s g seat Take = record { grown = step_taken p kept s.dead s g; shown = tt }
 stepped p whole kept s g seat (Post q) = let r = step_posted p whole kept s.dead s q g in record { grown = r.grown; shown = r.shown }
 stepped p whole kept s g seat (Pass c) = record { grown = g; shown = tt }
@@ -376,19 +378,23 @@ pub kept_append : (kept : List Kept) (xs ys : List Posted) → kept_after kept (
 kept_append kept [] ys = refl
 kept_append kept (q ∷ qs) ys = kept_append (kept_side q ∷ kept) qs ys
 
+pub posts_append : (xs ys : List LedgerEntry) → posts_in (xs ++ ys) ≡ posts_in xs ++ posts_in ys
+posts_append [] ys = refl
+posts_append (x ∷ xs) ys = ap (λ l. x.post ∷ l) (posts_append xs ys)
+
 pub shown_append : (p : Polygraph) (kept : List Kept) (xs ys : List Posted) → AreShown p kept xs → AreShown p (kept_after kept xs) ys → AreShown p kept (xs ++ ys)
 shown_append p kept [] ys a b = b
 shown_append p kept (q ∷ qs) ys a b = (a.0, shown_append p (kept_side q ∷ kept) qs ys a.1 b)
 
 -- what holds after a legal history
-pub record Ran (p : Polygraph) (kept : List Kept) (history : List (Entry Event Reply)) (last : State) : Type 0 where
+pub record Ran (p : Polygraph) (kept : List Kept) (history : List (Entry PruneEvent PruneReply)) (last : State) : Type 0 where
   pub grown : Grown p (kept_after kept (ledger_of history)) last
   pub shown : AreShown p kept (ledger_of history)
 
-pub ran : (p : Polygraph) → IsWhole p → (kept : List Kept) (s : State) → Grown p kept s → (history : List (Entry Event Reply)) → IsLegal next_of reply_of s history → Ran p kept history (replay next_of s history)
+pub ran : (p : Polygraph) → IsWhole p → (kept : List Kept) (s : State) → Grown p kept s → (history : List (Entry PruneEvent PruneReply)) → IsLegal next_of reply_of s history → Ran p kept history (replay next_of s history)
 ran p whole kept s g [] legal = record { grown = g; shown = tt }
 ran p whole kept s g (x ∷ xs) legal =
-    let step = subst (λ (r : Reply). Stepped p kept x.event r (next_of s x.seat x.event)) (sym legal.0) (stepped p whole kept s g x.seat x.event) in
+    let step = subst (λ (r : PruneReply). Stepped p kept x.event r (next_of s x.seat x.event)) (sym legal.0) (stepped p whole kept s g x.seat x.event) in
     let rest = ran p whole (kept_after kept (posts_of x.event x.reply)) (next_of s x.seat x.event) step.grown xs legal.1 in
     record {
       grown = subst (λ (k : List Kept). Grown p k (replay next_of (next_of s x.seat x.event) xs)) (sym (kept_append kept (posts_of x.event x.reply) (ledger_of xs))) rest.grown;
@@ -396,11 +402,11 @@ ran p whole kept s g (x ∷ xs) legal =
     }
 
 -- ---- each kept side is forced
-alive_entered : (dead : Bool) (r : Reply) → cond dead Dead r ≡ Entered → r ≡ Entered
+alive_entered : (dead : Bool) (r : PruneReply) → cond dead Dead r ≡ Entered → r ≡ Entered
 alive_entered true r e = absurd (false≢true (ap is_entered e))
 alive_entered false r e = e
 
-keeps_forced : (p : Polygraph) → IsWhole p → (sides : Sides) → IsClosed p sides → (kept : List Kept) (s : State) → Grown p kept s → (seat : ℕ) (e : Event) → KeepsForced sides e (reply_of s seat e)
+keeps_forced : (p : Polygraph) → IsWhole p → (sides : Sides) → IsClosed p sides → (kept : List Kept) (s : State) → Grown p kept s → (seat : ℕ) (e : PruneEvent) → KeepsForced sides e (reply_of s seat e)
 keeps_forced p whole sides f kept s g seat Take = tt
 keeps_forced p whole sides f kept s g seat (Post q) = λ e. (
     let r = alive_entered s.dead (post_reply s q) e in
@@ -411,7 +417,7 @@ keeps_forced p whole sides f kept s g seat (Post q) = λ e. (
 keeps_forced p whole sides f kept s g seat (Pass c) = tt
 keeps_forced p whole sides f kept s g seat Release = tt
 
-pub each_forced : (p : Polygraph) → IsWhole p → (sides : Sides) → IsClosed p sides → (kept : List Kept) (s : State) → Grown p kept s → (history : List (Entry Event Reply)) → IsLegal next_of reply_of s history → EachKeepsForced sides history
+pub each_forced : (p : Polygraph) → IsWhole p → (sides : Sides) → IsClosed p sides → (kept : List Kept) (s : State) → Grown p kept s → (history : List (Entry PruneEvent PruneReply)) → IsLegal next_of reply_of s history → EachKeepsForced sides history
 each_forced p whole sides f kept s g [] legal = tt
 each_forced p whole sides f kept s g (x ∷ xs) legal = (
   subst (KeepsForced sides x.event) (sym legal.0) (keeps_forced p whole sides f kept s g x.seat x.event),

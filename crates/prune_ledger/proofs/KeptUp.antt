@@ -16,8 +16,7 @@ use Rattle.prune_ledger.specs.Rounds.{AddsEdges, Extends, IsOpenIn}
 use Rattle.prune_ledger.specs.Pruned.{posts_in, kept_by, IsGraphOf}
 use Rattle.prune_ledger.specs.declared.ledger.LedgerEntry.{LedgerEntry}
 use Rattle.prune_ledger.proofs.Edges.{Added}
-use Rattle.prune_ledger.proofs.Grown.{kept_append, refuted_in}
-use Rattle.prune_ledger.proofs.Held.{posts_append}
+use Rattle.prune_ledger.proofs.Grown.{kept_append, posts_append, refuted_in}
 use Rattle.prune_ledger.proofs.Sides.{side_is, known_with, more_kept, new_kept, kept_cases, no_kept}
 
 -- ---- more edges

@@ -5,7 +5,5 @@ pub mod Grown
 pub mod Turns
 pub mod Flags
 pub mod Finals
-pub mod Held
 pub mod Seats
-pub mod KeptBits
 pub mod KeptUp

@@ -3,6 +3,7 @@ use Rattle.std.proofs.Common.{◌≡◌, ℕ, suc, ◌+◌, ◌<◌, ◌≤◌, 
 use Rattle.std.specs.Prelude.{◌==◌, map}
 use Rattle.std.proofs.lemmas.Bool.{cases_eq, or_left, or_right}
 use Rattle.desk.specs.Seats.{has_seat}
+use Rattle.desk.specs.Views.{SeatView}
 
 abbrev pub firsts : {A B : Type 0} → List (A × B) → List A
 firsts xs = map (λ d. d.0) xs
@@ -23,14 +24,14 @@ at_end old [] whole e i = nil_right old ∙ i
     nil_right (x ∷ xs) = ap (λ l. x ∷ l) (nil_right xs)
 at_end old (x ∷ rest) whole e i = absurd (omega (arith, e))
 
-pub has_from : {C D : Type 0} (done : List ((ℕ × C) × D)) (k m : ℕ) → ((i : ℕ) (d : (ℕ × C) × D) → i < length done → (get_or done i d).0.0 ≡ k + i + 1) → k < m → m ≤ k + length done → has_seat m (firsts done) ≡ true
+pub has_from : {E R D : Type 0} (done : List (SeatView E R × D)) (k m : ℕ) → ((i : ℕ) (d : SeatView E R × D) → i < length done → (get_or done i d).0.number ≡ k + i + 1) → k < m → m ≤ k + length done → has_seat m (firsts done) ≡ true
 has_from [] k m f lo hi = absurd (omega (arith, lo, hi))
 has_from (x ∷ xs) k m f lo hi = elim (cases_eq (k + 1) m) [
-  | inl e ↦ (let n = f 0 x (omega arith) in let is : x.0.0 ≡ m = omega (arith, n, e) in or_left (x.0.0 == m) (has_seat m (firsts xs)) (eq-eqb x.0.0 m is))
-  | inr ne ↦ or_right (x.0.0 == m) (has_seat m (firsts xs)) (has_from xs (k + 1) m (λ i d lt. (let n = f (suc i) d (omega (arith, lt)) in omega (arith, n))) (omega (arith, lo, ne)) (omega (arith, hi)))
+  | inl e ↦ (let n = f 0 x (omega arith) in let is : x.0.number ≡ m = omega (arith, n, e) in or_left (x.0.number == m) (has_seat m (firsts xs)) (eq-eqb x.0.number m is))
+  | inr ne ↦ or_right (x.0.number == m) (has_seat m (firsts xs)) (has_from xs (k + 1) m (λ i d lt. (let n = f (suc i) d (omega (arith, lt)) in omega (arith, n))) (omega (arith, lo, ne)) (omega (arith, hi)))
 ]
 
-pub has_all : {C D : Type 0} (done : List ((ℕ × C) × D)) (lefts : List (ℕ × C)) (n m : ℕ) → lefts ≡ firsts done → length done ≡ n → ((i : ℕ) (d : (ℕ × C) × D) → i < n → (get_or done i d).0.0 ≡ i + 1) → 0 < m → m ≤ n → has_seat m lefts ≡ true
+pub has_all : {E R D : Type 0} (done : List (SeatView E R × D)) (lefts : List (SeatView E R)) (n m : ℕ) → lefts ≡ firsts done → length done ≡ n → ((i : ℕ) (d : SeatView E R × D) → i < n → (get_or done i d).0.number ≡ i + 1) → 0 < m → m ≤ n → has_seat m lefts ≡ true
 has_all done lefts n m e len f lo hi =
     subst (λ l. has_seat m l ≡ true) (sym e)
     (has_from done 0 m (λ i d lt. (let p = f i d (omega (arith, len, lt)) in omega (arith, p))) lo (omega (arith, len, hi)))

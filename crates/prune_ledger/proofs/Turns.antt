@@ -15,16 +15,16 @@ use Rattle.polygraph.specs.Polygraphs.{Joins, JoinsBoth, IsPolygraph}
 use Rattle.prune_ledger.proofs.Marks.{side_joins, contained_at}
 use Rattle.prune_ledger.specs.Posted.{Posted}
 use Rattle.prune_ledger.specs.Rounds.{Refutes, HasPost, EachHandled, Handled, PostedOf, Settled, Turned, IsOpenIn}
-use Rattle.prune_ledger.specs.declared.messages.Event.{Event}
-use Rattle.prune_ledger.specs.declared.messages.Event.TheVariants.{Take, Post, Pass, Release}
-use Rattle.prune_ledger.specs.declared.messages.Reply.{Reply}
-use Rattle.prune_ledger.specs.declared.messages.Reply.TheVariants.{Judge}
+use Rattle.prune_ledger.specs.declared.messages.PruneEvent.{PruneEvent}
+use Rattle.prune_ledger.specs.declared.messages.PruneEvent.TheVariants.{Take, Post, Pass, Release}
+use Rattle.prune_ledger.specs.declared.messages.PruneReply.{PruneReply}
+use Rattle.prune_ledger.specs.declared.messages.PruneReply.TheVariants.{Judge}
 
 some-inj : {A : Type 0} (x y : A) → Some x ≡ Some y → x ≡ y
 some-inj x y e = cc
 
 abbrev Calls : Type 0
-Calls = List (Event × Reply)
+Calls = List (PruneEvent × PruneReply)
 
 pub nil_right : {X : Type 0} (xs : List X) → xs ≡ xs ++ []
 nil_right [] = refl
@@ -69,14 +69,14 @@ handled_turn passed listed a b n h t = record {
       (subst (λ l. EachHandled l h.calls) (sym t.longer) (handled_longer passed t.more h.calls h.each)) t.handled.each;
 }
 
-pub turned_stop : (passed : List ℕ) (b n : Calls) (r : Reply) → ((c : ℕ) → r ≡ Judge c → ⊥) → n ≡ b ++ (Take, r) ∷ [] → Turned passed passed b n
+pub turned_stop : (passed : List ℕ) (b n : Calls) (r : PruneReply) → ((c : ℕ) → r ≡ Judge c → ⊥) → n ≡ b ++ (Take, r) ∷ [] → Turned passed passed b n
 turned_stop passed b n r none e = record {
   handled = record { calls = (Take, r) ∷ []; same = e; each = ((λ c h. absurd (none c h)), tt) };
   more = [];
   longer = nil_right passed;
 }
 
-pub handled_last : (passed : List ℕ) (a b n : Calls) (r : Reply) → Handled passed a b → n ≡ b ++ (Release, r) ∷ [] → Handled passed a n
+pub handled_last : (passed : List ℕ) (a b n : Calls) (r : PruneReply) → Handled passed a b → n ≡ b ++ (Release, r) ∷ [] → Handled passed a n
 handled_last passed a b n r h e = record {
   calls = h.calls ++ (Release, r) ∷ [];
   same = e ∙ ap (λ l. l ++ (Release, r) ∷ []) h.same ∙ joined a h.calls ((Release, r) ∷ []);
@@ -86,7 +86,7 @@ handled_last passed a b n r h e = record {
 judge-inj : (c d : ℕ) → Judge c ≡ Judge d → c ≡ d
 judge-inj c d e = cc
 
-pub turned_settled : (c : ℕ) (passed listed : List ℕ) (b m n : Calls) (r : Reply) → r ≡ Judge c → m ≡ b ++ (Take, r) ∷ [] → Settled c passed listed m n → Turned passed listed b n
+pub turned_settled : (c : ℕ) (passed listed : List ℕ) (b m n : Calls) (r : PruneReply) → r ≡ Judge c → m ≡ b ++ (Take, r) ∷ [] → Settled c passed listed m n → Turned passed listed b n
 turned_settled c passed listed b m n r is e s = record {
   handled = record {
     calls = (Take, r) ∷ s.calls;
@@ -97,7 +97,7 @@ turned_settled c passed listed b m n r is e s = record {
   longer = s.longer;
 }
 
-pub settled_pass : (c : ℕ) (passed listed : List ℕ) (b n : Calls) (r : Reply) → listed ≡ passed ++ c ∷ [] → n ≡ b ++ (Pass c, r) ∷ [] → Settled c passed listed b n
+pub settled_pass : (c : ℕ) (passed listed : List ℕ) (b n : Calls) (r : PruneReply) → listed ≡ passed ++ c ∷ [] → n ≡ b ++ (Pass c, r) ∷ [] → Settled c passed listed b n
 settled_pass c passed listed b n r l e = record {
   calls = (Pass c, r) ∷ [];
   same = e;
@@ -107,7 +107,7 @@ settled_pass c passed listed b n r l e = record {
   longer = l;
 }
 
-pub posted_by : (c : ℕ) (b n : Calls) (q : Posted) (r : Reply) → q.choice ≡ c → n ≡ b ++ (Post q, r) ∷ [] → PostedOf c b n
+pub posted_by : (c : ℕ) (b n : Calls) (q : Posted) (r : PruneReply) → q.choice ≡ c → n ≡ b ++ (Post q, r) ∷ [] → PostedOf c b n
 posted_by c b n q r is e = record { post = q; reply = r; same = e; its = is }
 
 pub settled_one : (c : ℕ) (passed : List ℕ) (b n : Calls) → PostedOf c b n → Settled c passed passed b n

@@ -26,12 +26,14 @@ kept_after earlier (q ∷ qs) = kept_after (kept_side q ∷ earlier) qs
 abbrev pub edges_after : Polygraph → List Entry → List Edge
 edges_after p kept = edges_with p (sides_in kept)
 
--- the edge is in the refused side, and the walk leads against it over the known edges and the sides kept before
+-- the edge is in the refused side, and the walk leads against it over the known edges and the sides
+-- kept before
 pub record IsShown (p : Polygraph) (kept : List Entry) (q : Posted) : Type 0 where
   pub within : Contains (side_of p.choices q.choice q.side) q.edge
   pub walk : IsWalk (edges_after p kept) q.edge.1 q.edge.0 q.walk
 
--- each of these posts is shown by the sides kept before the first one and those that earlier posts keep
+-- each of these posts is shown by the sides kept before the first one and those that earlier posts
+-- keep
 abbrev pub AreShown : Polygraph → List Entry → List Posted → Type 0
 AreShown p kept [] = Unit {0}
 AreShown p kept (q ∷ qs) = IsShown p kept q × AreShown p (kept_side q ∷ kept) qs

@@ -9,5 +9,3 @@ pub mod Rounds
 pub mod Entered
 pub mod Pruned
 pub mod Outcome
-pub mod Tested
-pub mod KeptEdges

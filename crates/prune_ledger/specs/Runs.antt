@@ -13,10 +13,10 @@ use Rattle.prune_ledger.specs.Posted.{Posted}
 use Rattle.prune_ledger.specs.State.{State}
 use Rattle.prune_ledger.specs.Steps.{is_free, is_refused, is_entered}
 use Rattle.prune_ledger.specs.Ledger.{edges_after}
-use Rattle.prune_ledger.specs.declared.messages.Event.{Event}
-use Rattle.prune_ledger.specs.declared.messages.Event.TheVariants.{Take, Post, Pass, Release}
-use Rattle.prune_ledger.specs.declared.messages.Reply.{Reply}
-use Rattle.prune_ledger.specs.declared.messages.Reply.TheVariants.{Entered}
+use Rattle.prune_ledger.specs.declared.messages.PruneEvent.{PruneEvent}
+use Rattle.prune_ledger.specs.declared.messages.PruneEvent.TheVariants.{Take, Post, Pass, Release}
+use Rattle.prune_ledger.specs.declared.messages.PruneReply.{PruneReply}
+use Rattle.prune_ledger.specs.declared.messages.PruneReply.TheVariants.{Entered}
 
 -- what the type of polygraphs keeps
 pub record IsWhole (p : Polygraph) : Type 0 where
@@ -32,28 +32,29 @@ pub record IsOpening (p : Polygraph) (s : State) : Type 0 where
   pub alive : s.dead ≡ false
 
 -- where the step is a post that was entered, the side that it keeps is in the set
-abbrev pub KeepsForced : Sides → Event → Reply → Type 0
+abbrev pub KeepsForced : Sides → PruneEvent → PruneReply → Type 0
 KeepsForced forced Take r = Unit {0}
 KeepsForced forced (Post q) r = r ≡ Entered → forced q.choice (other q.side) ≡ true
 KeepsForced forced (Pass c) r = Unit {0}
 KeepsForced forced Release r = Unit {0}
 
-abbrev pub EachKeepsForced : Sides → List (Entry Event Reply) → Type 0
+abbrev pub EachKeepsForced : Sides → List (Entry PruneEvent PruneReply) → Type 0
 EachKeepsForced forced history = AllByRecursion (λ x. KeepsForced forced x.event x.reply) history
 
 -- the post of a step, where it was entered
-abbrev pub posts_of : Event → Reply → List Posted
+abbrev pub posts_of : PruneEvent → PruneReply → List Posted
 posts_of Take r = []
 posts_of (Post q) r = if is_entered r then q ∷ [] else []
 posts_of (Pass c) r = []
 posts_of Release r = []
 
 -- the posts that were entered, in order
-abbrev pub ledger_of : List (Entry Event Reply) → List Posted
+abbrev pub ledger_of : List (Entry PruneEvent PruneReply) → List Posted
 ledger_of [] = []
 ledger_of (x ∷ xs) = posts_of x.event x.reply ++ ledger_of xs
 
--- a state in which these sides are kept, the newest first: each was refuted in turn, the edges are the known ones and theirs,
+-- a state in which these sides are kept, the newest first: each was refuted in turn, the edges are
+-- the known ones and theirs,
 -- a side is refused exactly where the other one is kept, and a dead machine's edges have a cycle
 pub record Grown (p : Polygraph) (kept : List Kept) (s : State) : Type 0 where
   pub same : s.choices ≡ p.choices
@@ -62,7 +63,9 @@ pub record Grown (p : Polygraph) (kept : List Kept) (s : State) : Type 0 where
   pub from : (e : Edge) → Contains s.graph.edges e → Contains (edges_after p kept) e
   pub to : (e : Edge) → Contains (edges_after p kept) e → Contains s.graph.edges e
   pub marked : length s.marks ≡ length s.choices
-  pub marks : (c : ℕ) (side : Side) → is_refused s c side ≡ true → sides_in kept c (other side) ≡ true
-  pub back : (c : ℕ) (side : Side) → sides_in kept c (other side) ≡ true → is_refused s c side ≡ true
+  pub marks : (c : ℕ) (side : Side) → is_refused s c side ≡ true
+      → sides_in kept c (other side) ≡ true
+  pub back : (c : ℕ) (side : Side) → sides_in kept c (other side) ≡ true
+      → is_refused s c side ≡ true
   pub ledger : IsLedger p kept
   pub dead : s.dead ≡ true → IsCyclic s.graph.edges

@@ -1,6 +1,7 @@
 //! A round of several workers.
 
-ghost use Rattle.std.specs.Prelude.{◌≡◌, ◌⊎◌, ℕ, ◌+◌, ◌<◌, List, length, map, Some, IfOk, slice_get, slice_index_or, true};
+ghost use Rattle.std.specs.Prelude.{◌≡◌, ◌⊎◌, ℕ, ◌+◌, ◌<◌, List, length, map, Some, IfOk};
+ghost use Rattle.std.specs.Prelude.{slice_get, slice_index_or, true};
 ghost use Rattle.std.specs.List.{AllByRecursion, Contains};
 ghost use Rattle.serializability.specs.Polygraph.{Edge, Choice};
 ghost use Rattle.reach_rows.specs.ReachRows.{AreRowsOf};
@@ -26,7 +27,7 @@ use std::thread;
 use std::thread::Threads;
 use std::time::Clock;
 
-// What each seat's round gave, in the order of the seats.
+/// What each seat's round gave, in the order of the seats.
 fn all_work<J: Naming + Send + Sync, G: Gate, R: Threads + Wait + Clock + Sync>(
     rt: &R,
     alloc: Global,
@@ -42,7 +43,7 @@ fn all_work<J: Naming + Send + Sync, G: Gate, R: Threads + Wait + Clock + Sync>(
     requires fresh { AreFresh seats.items }
     ensures len { IfOk result (λ v. length v.items ≡ length seats.items) }
     ensures numbers { IfOk result (λ v. (i : ℕ) (d : _) → i < length seats.items →
-        (slice_index_or v.items i d).0.0 ≡ i + 1) }
+        (slice_index_or v.items i d).0.number ≡ i + 1) }
     ensures each { IfOk result (λ v. (i : ℕ) (d : _) → i < length seats.items →
         IfOk (slice_index_or v.items i d).1 (λ passed.
         AllByRecursion (IsOpenIn known.now.edges polygraph.now.choices) passed.items)) }
@@ -52,14 +53,14 @@ fn all_work<J: Naming + Send + Sync, G: Gate, R: Threads + Wait + Clock + Sync>(
         seats,
         &|seat| -> (Left<PruneMachine, J>, Result<Vec<ChoiceIx>, AllocError>)
             requires { (known.now.nodes ≡ polygraph.now.nodes) × AreRowsOf rows.now known.now }
-            ensures number { result.0.0 ≡ seat.0 }
+            ensures number { result.0.number ≡ seat.number }
             ensures open { IfOk result.1 (λ passed.
                 AllByRecursion (IsOpenIn known.entry.now.edges polygraph.entry.now.choices) passed.items) }
         { work(rt, alloc, desk, seat, polygraph, known, rows, gate) },
     )
 }
 
-// Sets the flag of each choice in a list.
+/// Sets the flag of each choice in a list.
 fn flag_all(flags: &mut [bool], passed: &[ChoiceIx])
     ensures flags { (c : ℕ) → slice_get flags.new c ≡ Some true →
         (slice_get flags.old c ≡ Some true) ⊎ Contains passed.now c }
@@ -70,7 +71,7 @@ fn flag_all(flags: &mut [bool], passed: &[ChoiceIx])
     }
 }
 
-// Sets the flag of a choice, where it has one.
+/// Sets the flag of a choice, where it has one.
 fn flag(flags: &mut [bool], choice: ChoiceIx)
     ensures flags { (c : ℕ) → slice_get flags.new c ≡ Some true →
         (slice_get flags.old c ≡ Some true) ⊎ (choice ≡ c) }
@@ -82,14 +83,15 @@ fn flag(flags: &mut [bool], choice: ChoiceIx)
     }
 }
 
-// The seats that have left, and a flag for each choice that one of them passed.
+/// The seats that have left, and a flag for each choice that one of them passed.
 fn joined<J: Naming>(
     alloc: Global,
     done: Vec<(Left<PruneMachine, J>, Result<Vec<ChoiceIx>, AllocError>)>,
     count: usize,
 ) -> Result<(Vec<Left<PruneMachine, J>>, Vec<bool>), AllocError>
     ensures open { IfOk result (λ r. (edges : List Edge) (choices : List Choice) →
-        AllByRecursion (λ d. IfOk d.1 (λ passed. AllByRecursion (IsOpenIn edges choices) passed.items)) done.items →
+        AllByRecursion (λ d. IfOk d.1 (λ passed. AllByRecursion
+        (IsOpenIn edges choices) passed.items)) done.items →
         AreOpen edges choices r.1.items) }
     ensures len { IfOk result (λ r. length r.1.items ≡ count) }
     ensures lefts { IfOk result (λ r. r.0.items ≡ map (λ d. d.0) done.items) }
@@ -105,8 +107,8 @@ fn joined<J: Naming>(
     Ok((lefts, flags))
 }
 
-/// What a round gave: the machine as it is now, its history, and a flag for each choice that a worker
-/// passed.
+/// What a round gave: the machine as it is now, its history, and a flag for each choice that a
+/// worker passed.
 #[derive(Drop)]
 pub struct Round {
     pub closed: Closed<PruneMachine>,
@@ -123,12 +125,12 @@ pub fn round_of<J: Naming + Send + Sync, G: Gate, R: Threads + Wait + Clock + Sy
     rows: &Rows,
     gate: &G,
 ) -> Result<Round, AllocError>
-    requires names { J.names ≡ opened.1 }
-    requires desk { J.desk ≡ opened.2 }
+    requires names { J.names ≡ opened.names }
+    requires desk { J.desk ≡ opened.desk }
     requires nodes { known.now.nodes ≡ polygraph.now.nodes }
     requires rows { AreRowsOf rows.now known.now }
     ensures legal { IfOk result (λ r.
-        IsReached next_of reply_of (Some opened.0) r.closed.history.items r.closed.machine) }
+        IsReached next_of reply_of (Some opened.machine) r.closed.history.items r.closed.machine) }
     ensures open { IfOk result (λ r.
         AreOpen known.now.edges polygraph.now.choices r.passed.items) }
     ensures len { IfOk result (λ r. length r.passed.items ≡ length polygraph.now.choices) }

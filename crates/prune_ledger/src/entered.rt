@@ -6,14 +6,14 @@ ghost use Rattle.prune_ledger.specs.Steps.{is_entered};
 ghost use Rattle.prune_ledger.specs.Entered.{entered_by, entered_in};
 
 use crate::ledger::LedgerEntry;
-use crate::messages::{Event, Reply};
+use crate::messages::{PruneEvent, PruneReply};
 use desk::history::Entry;
 use std::alloc::AllocError;
 
 /// The entries, with the posts that a history entered behind them, each with the seat that sent it.
 pub fn with_entered(
     entries: Vec<LedgerEntry>,
-    history: Vec<Entry<Event, Reply>>,
+    history: Vec<Entry<PruneEvent, PruneReply>>,
 ) -> Result<Vec<LedgerEntry>, AllocError>
     ensures entries { IfOk result (λ v. v.items ≡ entries.items ++ entered_in history.items) }
 {
@@ -26,37 +26,37 @@ pub fn with_entered(
     Ok(all)
 }
 
-// The entry of a step, where it is a post that was entered.
-fn entered(step: Entry<Event, Reply>) -> Option<LedgerEntry>
+/// The entry of a step, where it is a post that was entered.
+fn entered(step: Entry<PruneEvent, PruneReply>) -> Option<LedgerEntry>
     ensures { option_to_list result ≡ entered_by step.seat step.event step.reply }
 {
     let Entry { seat, event, reply } = step;
     match event {
-        Event::Post(post) => {
+        PruneEvent::Post(post) => {
             if is_entered(reply) {
                 Some(LedgerEntry { seat, post })
             } else {
                 None
             }
         }
-        Event::Take => None,
-        Event::Pass(_) => None,
-        Event::Release => None,
+        PruneEvent::Take => None,
+        PruneEvent::Pass(_) => None,
+        PruneEvent::Release => None,
     }
 }
 
 /// Whether a post was entered.
-pub(crate) fn is_entered(reply: Reply) -> bool
+pub(crate) fn is_entered(reply: PruneReply) -> bool
     ensures { result ≡ is_entered reply }
 {
     match reply {
-        Reply::Entered => true,
-        Reply::Judge(_) => false,
-        Reply::NoneLeft => false,
-        Reply::AlreadyIn => false,
-        Reply::BadWalk => false,
-        Reply::Noted => false,
-        Reply::Released => false,
-        Reply::Dead => false,
+        PruneReply::Entered => true,
+        PruneReply::Judge(_) => false,
+        PruneReply::NoneLeft => false,
+        PruneReply::AlreadyIn => false,
+        PruneReply::BadWalk => false,
+        PruneReply::Noted => false,
+        PruneReply::Released => false,
+        PruneReply::Dead => false,
     }
 }

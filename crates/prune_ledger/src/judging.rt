@@ -31,7 +31,7 @@ pub fn judge(rows: &Rows, choice: &Choice) -> Verdict
     }
 }
 
-// An edge of the side of which the target reaches the source.
+/// An edge of the side of which the target reaches the source.
 fn refuting_edge(rows: &Rows, side: &[Edge]) -> Option<Edge>
     ensures { (graph : Graph) → AreRowsOf rows.now graph → MatchOption result
         (¬ IsRefuted graph.edges side.now) (Refutes graph.edges side.now) }

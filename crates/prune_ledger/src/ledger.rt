@@ -11,8 +11,8 @@ pub struct LedgerEntry {
     pub post: Refutation,
 }
 
-/// The posts that were entered, the oldest first, and, where the polygraph is dead, a cycle in its known
-/// edges and the sides that they keep, with its first node repeated last.
+/// The posts that were entered, the oldest first, and, where the polygraph is dead, a cycle in its
+/// known edges and the sides that they keep, with its first node repeated last.
 #[derive(Drop)]
 pub struct Ledger {
     pub entries: Vec<LedgerEntry>,

@@ -1,13 +1,13 @@
-//! Pruning a polygraph: rounds in which workers refute sides of choices by walks, a machine that keeps
-//! the other sides, and the ledger of what was kept and why.
+//! Pruning a polygraph: rounds in which workers refute sides of choices by walks, a machine that
+//! keeps the other sides, and the ledger of what was kept and why.
+//!
+//! Called by `reduction`. It knows no log, no key and no formula: its polygraph may be any.
 #![tactic(auto)]
 
-mod checking;
 mod copies;
 mod crew;
 mod entered;
 mod judging;
-mod kept;
 pub mod laws;
 mod ledger;
 pub mod machine;
@@ -18,7 +18,6 @@ mod rounds;
 mod rowed;
 mod rules;
 
-pub use checking::check_ledger;
 pub use judging::{Verdict, judge};
 pub use ledger::{Ledger, LedgerEntry};
 pub use machine::PruneMachine;

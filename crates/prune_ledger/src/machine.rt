@@ -1,18 +1,22 @@
 //! The machine that keeps sides of choices.
 
-ghost use Rattle.std.specs.Prelude.{◌≡◌, ℕ, ◌+◌, ◌<◌, ◌≤◌, ◌&&◌, ◌||◌, Bool, true, false, List, length, slice_get, Some, IfSome, IfNone, IfOk, IsTrue, replicate, map};
+ghost use Rattle.std.specs.Prelude.{◌≡◌, ℕ, ◌+◌, ◌<◌, ◌≤◌, ◌&&◌, ◌||◌, Bool, true, false, List};
+ghost use Rattle.std.specs.Prelude.{length, slice_get, Some, IfSome, IfNone, IfOk, IsTrue};
+ghost use Rattle.std.specs.Prelude.{replicate, map};
 ghost use Rattle.std.specs.List.{AllByRecursion};
 ghost use Rattle.pruning_laws.specs.Forced.{edges_of, other};
 ghost use Rattle.polygraph.specs.Polygraphs.{Joins, JoinsBoth};
 ghost use Rattle.known_graph.specs.Tests.{has_edge};
-ghost use Rattle.prune_ledger.specs.Steps.{with_edges, is_refused, post_reply, refused, refuses, free_from, take_reply, taken, posted, refusing, is_free, hand_out};
+ghost use Rattle.prune_ledger.specs.Steps.{with_edges, is_refused, post_reply, refused, refuses};
+ghost use Rattle.prune_ledger.specs.Steps.{free_from, take_reply, taken, posted, refusing, is_free};
+ghost use Rattle.prune_ledger.specs.Steps.{hand_out};
 ghost use Rattle.prune_ledger.specs.Kept.{IsPast};
 ghost use Rattle.prune_ledger.specs.Opening.{no_mark, opening_state, given_back, reopened_state};
 ghost use Rattle.prune_ledger.specs.Pruned.{unrefused, AreSettled};
-ghost use Rattle.prune_ledger.specs.declared.messages.Reply.TheVariants.{Entered};
+ghost use Rattle.prune_ledger.specs.declared.messages.PruneReply.TheVariants.{Entered};
 ghost use Rattle.polygraph.specs.declared.index.TheConstants.{MAX_CHOICES};
 
-use crate::messages::{Mark, Refutation, Reply};
+use crate::messages::{ChoiceState, PruneReply, Refutation};
 use known_graph::Known;
 use polygraph::{Choice, ChoiceIx};
 use pruning_laws::Side;
@@ -21,13 +25,14 @@ use serializability::NodeIx;
 use std::alloc::{AllocError, Global};
 use std::marker::Model;
 
-/// The machine that keeps sides of choices. Contracts see its choices, its graph, which is the known
-/// edges with those of the sides that it keeps, a mark for each choice, and whether it is dead.
+/// The machine that keeps sides of choices. Contracts see its choices, its graph, which is the
+/// known edges with those of the sides that it keeps, a mark for each choice, and whether it is
+/// dead.
 #[derive(Drop)]
 pub struct PruneMachine {
     choices: Vec<Choice>,
     graph: Known,
-    marks: Vec<Mark>,
+    marks: Vec<ChoiceState>,
     cursor: usize,
     dead: bool,
 }
@@ -38,12 +43,18 @@ impl Model for PruneMachine {
 
     ghost Value = { State };
 
-    ghost view = { λ m. record { choices = m.choices.items; graph = m.graph; marks = m.marks.items; dead = m.dead } };
+    ghost view = { λ m. record {
+      choices = m.choices.items;
+      graph = m.graph;
+      marks = m.marks.items;
+      dead = m.dead;
+    } };
 
     ghost invariant = { λ m. IsKept m.graph.nodes m.choices.items m.marks.items m.cursor };
 }
 
-pub(crate) fn other_side(side: Side) -> Side
+/// The other side of a choice.
+pub fn other_side(side: Side) -> Side
     ensures { result ≡ other side }
 {
     match side {
@@ -52,7 +63,7 @@ pub(crate) fn other_side(side: Side) -> Side
     }
 }
 
-fn is_refusing(mark: Mark, side: Side) -> bool
+fn is_refusing(mark: ChoiceState, side: Side) -> bool
     ensures { result ≡ refuses mark side }
 {
     match side {
@@ -61,32 +72,32 @@ fn is_refusing(mark: Mark, side: Side) -> bool
     }
 }
 
-fn with_refused(mark: Mark, side: Side) -> Mark
+fn with_refused(mark: ChoiceState, side: Side) -> ChoiceState
     ensures { result ≡ refusing mark side }
 {
     match side {
-        Side::One => Mark { one: true, ..mark },
-        Side::Two => Mark { two: true, ..mark },
+        Side::One => ChoiceState { one: true, ..mark },
+        Side::Two => ChoiceState { two: true, ..mark },
     }
 }
 
-fn handed_out(mark: Mark) -> Mark
+fn handed_out(mark: ChoiceState) -> ChoiceState
     ensures { result ≡ hand_out mark }
 {
-    Mark {
+    ChoiceState {
         handed: true,
         ..mark
     }
 }
 
-fn is_free(mark: Mark) -> bool
+fn is_free(mark: ChoiceState) -> bool
     ensures { result ≡ is_free mark }
 {
     !(mark.one || mark.two) && !mark.handed
 }
 
-// Whether the edge is in the list.
-pub(crate) fn has_edge(edges: &[Edge], edge: Edge) -> bool
+/// Whether the edge is in the list.
+pub fn has_edge(edges: &[Edge], edge: Edge) -> bool
     ensures { result ≡ has_edge edges.now edge }
 {
     let (u, v) = (edge.source().get(), edge.target().get());
@@ -95,8 +106,8 @@ pub(crate) fn has_edge(edges: &[Edge], edge: Edge) -> bool
         .any(|e| e.source().get() == u && e.target().get() == v)
 }
 
-// The least free choice, where none before the cursor is free.
-fn free_choice(marks: &[Mark], cursor: usize) -> Option<usize>
+/// The least free choice, where none before the cursor is free.
+fn free_choice(marks: &[ChoiceState], cursor: usize) -> Option<usize>
     requires within { cursor ≤ length marks.now }
     requires past { IsPast cursor marks.now }
     ensures first { result ≡ free_from 0 marks.now }
@@ -110,7 +121,7 @@ fn free_choice(marks: &[Mark], cursor: usize) -> Option<usize>
     None
 }
 
-// Adds each edge of a side.
+/// Adds each edge of a side.
 fn add_all(graph: &mut Known, side: &[Edge])
     requires { AllByRecursion (Joins graph.old.nodes) side.now }
     ensures { graph.new ≡ with_edges graph.old side.now }
@@ -118,14 +129,14 @@ fn add_all(graph: &mut Known, side: &[Edge])
     for &edge in side {
         graph.add_edge(edge.source(), edge.target());
     }
-    let _nodes = graph.nodes();
+    let _invariant = graph.nodes();
 }
 
-// No choice is refused or handed out.
-fn free_marks(alloc: Global, count: usize) -> Result<Vec<Mark>, AllocError>
+/// No choice is refused or handed out.
+fn free_marks(alloc: Global, count: usize) -> Result<Vec<ChoiceState>, AllocError>
     ensures { IfOk result (λ v. v.items ≡ replicate count no_mark) }
 {
-    let mark = Mark {
+    let mark = ChoiceState {
         one: false,
         two: false,
         handed: false,
@@ -137,8 +148,8 @@ fn free_marks(alloc: Global, count: usize) -> Result<Vec<Mark>, AllocError>
     Ok(marks)
 }
 
-// Takes back what was handed out.
-fn give_back(marks: &mut [Mark])
+/// Takes back what was handed out.
+fn give_back(marks: &mut [ChoiceState])
     ensures { marks.new ≡ map given_back marks.old }
 {
     for k in 0..marks.len() {
@@ -146,24 +157,24 @@ fn give_back(marks: &mut [Mark])
     }
 }
 
-fn given(mark: Mark) -> Mark
+fn given(mark: ChoiceState) -> ChoiceState
     ensures { result ≡ given_back mark }
 {
-    Mark {
+    ChoiceState {
         handed: false,
         ..mark
     }
 }
 
-// Whether a side is refused.
-fn has_refused(mark: Mark) -> bool
+/// Whether a side is refused.
+fn has_refused(mark: ChoiceState) -> bool
     ensures { result ≡ (mark.one || mark.two) }
 {
     mark.one || mark.two
 }
 
-// Whether each choice has a refused side or its flag is set.
-fn are_settled(marks: &[Mark], flags: &[bool]) -> bool
+/// Whether each choice has a refused side or its flag is set.
+fn are_settled(marks: &[ChoiceState], flags: &[bool]) -> bool
     requires { length flags.now ≡ length marks.now }
     ensures { IsTrue result → AreSettled marks.now flags.now }
 {
@@ -175,10 +186,10 @@ fn are_settled(marks: &[Mark], flags: &[bool]) -> bool
     true
 }
 
-// The choices of which neither side is refused.
+/// The choices of which neither side is refused.
 fn open_choices(
     alloc: Global,
-    marks: &[Mark],
+    marks: &[ChoiceState],
     choices: Vec<Choice>,
 ) -> Result<Vec<Choice>, AllocError>
     requires { length marks.now ≡ length choices.items }
@@ -197,7 +208,8 @@ fn open_choices(
 }
 
 impl PruneMachine {
-    /// The opening state: the choices and known edges of a polygraph, and nothing refused or handed out.
+    /// The opening state: the choices and known edges of a polygraph, and nothing refused or handed
+    /// out.
     pub fn opening(
         alloc: Global,
         choices: Vec<Choice>,
@@ -276,40 +288,41 @@ impl PruneMachine {
         self.dead
     }
 
-    pub(crate) fn take(&mut self) -> Reply
+    pub(crate) fn take(&mut self) -> PruneReply
         ensures reply { result ≡ take_reply (free_from 0 self.old.marks) }
         ensures state { self.new ≡ taken self.old (free_from 0 self.old.marks) }
     {
         let Some(choice) = free_choice(&self.marks, self.cursor) else {
-            return Reply::NoneLeft;
+            return PruneReply::NoneLeft;
         };
         let mark = self.marks[choice];
         self.marks[choice] = handed_out(mark);
         self.cursor = choice + 1;
-        Reply::Judge(choice_ix(choice))
+        PruneReply::Judge(choice_ix(choice))
     }
 
-    pub(crate) fn post(&mut self, post: &Refutation) -> Reply
+    pub(crate) fn post(&mut self, post: &Refutation) -> PruneReply
         ensures reply { result ≡ post_reply self.old post.now }
         ensures state { self.new ≡ posted self.old post.now }
     {
         let reply = self.judged(post);
-        if let Reply::Entered = reply {
+        if let PruneReply::Entered = reply {
             self.refuse(post.choice.get(), post.side);
         }
         reply
     }
 
-    fn judged(&self, post: &Refutation) -> Reply
+    fn judged(&self, post: &Refutation) -> PruneReply
         ensures reply { result ≡ post_reply self.now post.now }
-        ensures within { result ≡ Entered → (post.now.choice < length self.now.choices) × (is_refused self.now post.now.choice post.now.side ≡ false) }
+        ensures within { result ≡ Entered → (post.now.choice < length self.now.choices)
+            × (is_refused self.now post.now.choice post.now.side ≡ false) }
     {
         let number = post.choice.get();
         if number >= self.choices.len() {
-            return Reply::BadWalk;
+            return PruneReply::BadWalk;
         }
         if is_refusing(self.marks[number], post.side) {
-            return Reply::AlreadyIn;
+            return PruneReply::AlreadyIn;
         }
         let choice = &self.choices[number];
         if has_edge(choice.edges(post.side), post.edge)
@@ -317,9 +330,9 @@ impl PruneMachine {
                 .graph
                 .is_line(post.edge.target(), &post.walk, post.edge.source())
         {
-            Reply::Entered
+            PruneReply::Entered
         } else {
-            Reply::BadWalk
+            PruneReply::BadWalk
         }
     }
 
@@ -337,7 +350,7 @@ impl PruneMachine {
     }
 }
 
-// The choice with this number.
+/// The choice with this number.
 pub(crate) fn choice_ix(number: usize) -> ChoiceIx
     requires few { number < MAX_CHOICES }
     ensures value { result ≡ number }

@@ -8,14 +8,14 @@ use std::marker::Model;
 
 /// Which sides of a choice are refused, and whether it was handed out in this round.
 #[derive(Clone, Copy, Debug, PartialEq, Eq)]
-pub struct Mark {
+pub struct ChoiceState {
     pub one: bool,
     pub two: bool,
     pub handed: bool,
 }
 
-/// Why a side of a choice is refuted: an edge of it, and the nodes of a walk against the edge, from its
-/// target to its source, both included.
+/// Why a side of a choice is refuted: an edge of it, and the nodes of a walk against the edge, from
+/// its target to its source, both included.
 #[derive(Drop)]
 pub struct Refutation {
     pub choice: ChoiceIx,
@@ -29,12 +29,18 @@ impl Model for Refutation {
 
     ghost Value = { Posted };
 
-    ghost view = { λ r. record { choice = r.choice; side = r.side; edge = r.edge; walk = r.walk.items } };
+    ghost view = { λ r. record {
+      choice = r.choice;
+      side = r.side;
+      edge = r.edge;
+      walk
+          = r.walk.items;
+    } };
 }
 
 /// What a worker sends.
 #[derive(Drop)]
-pub enum Event {
+pub enum PruneEvent {
     /// Asks for a choice to judge.
     Take,
     /// Posts a refuted side.
@@ -47,7 +53,7 @@ pub enum Event {
 
 /// What the machine answers.
 #[derive(Clone, Copy, Debug, PartialEq, Eq)]
-pub enum Reply {
+pub enum PruneReply {
     /// The choice that is to be judged.
     Judge(ChoiceIx),
     /// Each choice was handed out in this round, or has a refused side.

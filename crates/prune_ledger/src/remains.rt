@@ -9,9 +9,9 @@ use polygraph::Polygraph;
 use reach_rows::Rows;
 use std::marker::Model;
 
-/// What is left of a polygraph: its known edges with those of the forced sides, and the choices that are
-/// open; which node reaches which by these edges; and the ledger of the forced sides. The edges have no
-/// cycle, and they refute no side of a choice.
+/// What is left of a polygraph: its known edges with those of the forced sides, and the choices
+/// that are open; which node reaches which by these edges; and the ledger of the forced sides. The
+/// edges have no cycle, and they refute no side of a choice.
 #[derive(Drop)]
 pub struct Reduced {
     poly: Polygraph,

@@ -1,18 +1,19 @@
-//! A worker's round: it takes, judges, and posts or passes. It judges by the rows with which the round began and
-//! the sides that its own posts have kept since.
+//! A worker's round: it takes, judges, and posts or passes. It judges by the rows with which the
+//! round began and the sides that its own posts have kept since.
 
 ghost use Rattle.std.specs.Prelude.{◌≡◌, ◌⊎◌, ℕ, ◌≤◌, IfOk, IfSome, IfNone, [], ◌++◌, ◌∷◌};
 ghost use Rattle.std.specs.List.{AllByRecursion};
 ghost use Rattle.reach_laws.specs.Reach.{Graph, Reaches};
 ghost use Rattle.polygraph.specs.Polygraphs.{JoinsBoth};
 ghost use Rattle.reach_rows.specs.ReachRows.{AreRowsOf};
-ghost use Rattle.prune_ledger.specs.declared.messages.Reply.TheVariants.{Judge};
-ghost use Rattle.prune_ledger.specs.Rounds.{Handled, PostedOf, Settled, Turned, IsOpenIn, Extends, IsKeptUp, KeepsUp};
+ghost use Rattle.prune_ledger.specs.declared.messages.PruneReply.TheVariants.{Judge};
+ghost use Rattle.prune_ledger.specs.Rounds.{Handled, PostedOf, Settled, Turned, IsOpenIn, Extends};
+ghost use Rattle.prune_ledger.specs.Rounds.{IsKeptUp, KeepsUp};
 
 use crate::entered::is_entered;
 use crate::judging::judge;
 use crate::machine::{PruneMachine, other_side};
-use crate::messages::{Event, Refutation, Reply};
+use crate::messages::{PruneEvent, PruneReply, Refutation};
 use crate::rowed::RowedGraph;
 use desk::desk::Desk;
 use desk::gate::Gate;
@@ -27,15 +28,15 @@ use std::alloc::{AllocError, Global};
 use std::sync::Wait;
 use std::time::Clock;
 
-// A call, of which at a refusal the event is let go.
+/// A call, of which at a refusal the event is let go.
 fn send<J: Naming, R: Wait>(
     rt: &R,
     desk: &Desk<PruneMachine, J>,
     seat: &mut Seat<PruneMachine, J>,
-    event: Event,
-) -> Result<Reply, AllocError>
-    ensures number { seat.new.0 ≡ seat.old.0 }
-    ensures ok { IfOk result (λ r. seat.new.1 ≡ seat.old.1 ++ (event, r) ∷ []) }
+    event: PruneEvent,
+) -> Result<PruneReply, AllocError>
+    ensures number { seat.new.number ≡ seat.old.number }
+    ensures ok { IfOk result (λ r. seat.new.calls ≡ seat.old.calls ++ (event, r) ∷ []) }
 {
     match desk.call(rt, seat, event) {
         Ok(reply) => Ok(reply),
@@ -46,8 +47,8 @@ fn send<J: Naming, R: Wait>(
     }
 }
 
-// Adds the edges that the post of a side keeps, where it was entered.
-fn keep_up(own: &mut RowedGraph, sides: &Choice, refused: Side, reply: Reply)
+/// Adds the edges that the post of a side keeps, where it was entered.
+fn keep_up(own: &mut RowedGraph, sides: &Choice, refused: Side, reply: PruneReply)
     requires joined { JoinsBoth own.old.nodes sides.now }
     ensures kept { IsKeptUp sides.now refused reply own.old own.new }
     ensures more { Extends own.old own.new }
@@ -57,7 +58,8 @@ fn keep_up(own: &mut RowedGraph, sides: &Choice, refused: Side, reply: Reply)
     }
 }
 
-// Posts a side with a walk against its edge, and keeps the worker's graph up with what the machine keeps.
+/// Posts a side with a walk against its edge, and keeps the worker's graph up with what the machine
+/// keeps.
 fn post_side<J: Naming, R: Wait>(
     rt: &R,
     alloc: Global,
@@ -72,15 +74,16 @@ fn post_side<J: Naming, R: Wait>(
     requires nodes { (edge.1 ≤ own.old.nodes) × (edge.0 ≤ own.old.nodes) }
     requires back { Reaches own.old.edges edge.1 edge.0 }
     requires joined { JoinsBoth own.old.nodes sides.now }
-    ensures number { seat.new.0 ≡ seat.old.0 }
-    ensures posted { IfOk result (λ _. PostedOf choice seat.old.1 seat.new.1) }
-    ensures kept { IfOk result (λ _. KeepsUp sides.now side seat.old.1 seat.new.1 own.old own.new) }
+    ensures number { seat.new.number ≡ seat.old.number }
+    ensures posted { IfOk result (λ _. PostedOf choice seat.old.calls seat.new.calls) }
+    ensures kept { IfOk result (λ _.
+        KeepsUp sides.now side seat.old.calls seat.new.calls own.old own.new) }
     ensures more { IfOk result (λ _. Extends own.old own.new) }
 {
     let Some(walk) = own.graph().walk(alloc, edge.target(), edge.source())? else {
         unreachable!()
     };
-    let post = Event::Post(Refutation {
+    let post = PruneEvent::Post(Refutation {
         choice,
         side,
         edge,
@@ -91,7 +94,7 @@ fn post_side<J: Naming, R: Wait>(
     Ok(())
 }
 
-// Notes a choice of which neither side is refuted.
+/// Notes a choice of which neither side is refuted.
 fn pass_on<J: Naming, R: Wait>(
     rt: &R,
     desk: &Desk<PruneMachine, J>,
@@ -99,16 +102,18 @@ fn pass_on<J: Naming, R: Wait>(
     choice: ChoiceIx,
     passed: &mut Vec<ChoiceIx>,
 ) -> Result<(), AllocError>
-    ensures number { seat.new.0 ≡ seat.old.0 }
-    ensures settled { IfOk result (λ _. Settled choice passed.old.items passed.new.items seat.old.1 seat.new.1) }
-    ensures list { (passed.new.items ≡ passed.old.items) ⊎ (passed.new.items ≡ passed.old.items ++ choice ∷ []) }
+    ensures number { seat.new.number ≡ seat.old.number }
+    ensures settled { IfOk result (λ _.
+        Settled choice passed.old.items passed.new.items seat.old.calls seat.new.calls) }
+    ensures list { (passed.new.items ≡ passed.old.items)
+        ⊎ (passed.new.items ≡ passed.old.items ++ choice ∷ []) }
 {
     passed.push(choice)?;
-    send(rt, desk, seat, Event::Pass(choice))?;
+    send(rt, desk, seat, PruneEvent::Pass(choice))?;
     Ok(())
 }
 
-// Posts each side that is refuted, and passes the choice where none is.
+/// Posts each side that is refuted, and passes the choice where none is.
 fn settle<J: Naming, R: Wait>(
     rt: &R,
     alloc: Global,
@@ -120,14 +125,15 @@ fn settle<J: Naming, R: Wait>(
     passed: &mut Vec<ChoiceIx>,
 ) -> Result<(), AllocError>
     requires nodes { own.old.nodes ≡ polygraph.now.nodes }
-    ensures number { seat.new.0 ≡ seat.old.0 }
-    ensures settled { IfOk result (λ _. Settled choice passed.old.items passed.new.items seat.old.1 seat.new.1) }
+    ensures number { seat.new.number ≡ seat.old.number }
+    ensures settled { IfOk result (λ _.
+        Settled choice passed.old.items passed.new.items seat.old.calls seat.new.calls) }
     ensures more { IfOk result (λ _. Extends own.old own.new) }
     ensures each { (given : Graph) → Extends given own.old →
         AllByRecursion (IsOpenIn given.edges polygraph.now.choices) passed.old.items →
         AllByRecursion (IsOpenIn given.edges polygraph.now.choices) passed.new.items }
 {
-    let _nodes = polygraph.nodes();
+    let _invariant = polygraph.nodes();
     let Some(sides) = polygraph.choice(choice) else {
         pass_on(rt, desk, seat, choice, passed)?;
         return Ok(());
@@ -148,24 +154,24 @@ fn settle<J: Naming, R: Wait>(
     Ok(())
 }
 
-// The choice that is to be judged.
-fn handed(reply: Reply) -> Option<ChoiceIx>
+/// The choice that is to be judged.
+fn handed(reply: PruneReply) -> Option<ChoiceIx>
     ensures some { IfSome result (λ c. reply ≡ Judge c) }
     ensures none { IfNone result ((c : ℕ) → reply ≡ Judge c → ⊥) }
 {
     match reply {
-        Reply::Judge(choice) => Some(choice),
-        Reply::NoneLeft => None,
-        Reply::Entered => None,
-        Reply::AlreadyIn => None,
-        Reply::BadWalk => None,
-        Reply::Noted => None,
-        Reply::Released => None,
-        Reply::Dead => None,
+        PruneReply::Judge(choice) => Some(choice),
+        PruneReply::NoneLeft => None,
+        PruneReply::Entered => None,
+        PruneReply::AlreadyIn => None,
+        PruneReply::BadWalk => None,
+        PruneReply::Noted => None,
+        PruneReply::Released => None,
+        PruneReply::Dead => None,
     }
 }
 
-// Takes a choice and settles it. It answers whether there may be another.
+/// Takes a choice and settles it. It answers whether there may be another.
 fn turn<J: Naming, R: Wait>(
     rt: &R,
     alloc: Global,
@@ -176,14 +182,15 @@ fn turn<J: Naming, R: Wait>(
     passed: &mut Vec<ChoiceIx>,
 ) -> Result<bool, AllocError>
     requires nodes { own.old.nodes ≡ polygraph.now.nodes }
-    ensures number { seat.new.0 ≡ seat.old.0 }
-    ensures turned { IfOk result (λ _. Turned passed.old.items passed.new.items seat.old.1 seat.new.1) }
+    ensures number { seat.new.number ≡ seat.old.number }
+    ensures turned { IfOk result (λ _.
+        Turned passed.old.items passed.new.items seat.old.calls seat.new.calls) }
     ensures more { IfOk result (λ _. Extends own.old own.new) }
     ensures each { (given : Graph) → Extends given own.old →
         AllByRecursion (IsOpenIn given.edges polygraph.now.choices) passed.old.items →
         AllByRecursion (IsOpenIn given.edges polygraph.now.choices) passed.new.items }
 {
-    let reply = send(rt, desk, seat, Event::Take)?;
+    let reply = send(rt, desk, seat, PruneEvent::Take)?;
     let Some(choice) = handed(reply) else {
         return Ok(false);
     };
@@ -191,7 +198,7 @@ fn turn<J: Naming, R: Wait>(
     Ok(true)
 }
 
-// Turns until no choice is left, by a copy of the graph and of its rows.
+/// Turns until no choice is left, by a copy of the graph and of its rows.
 fn turns<J: Naming, G: Gate, R: Wait + Clock>(
     rt: &R,
     alloc: Global,
@@ -206,9 +213,10 @@ fn turns<J: Naming, G: Gate, R: Wait + Clock>(
     requires nodes { known.now.nodes ≡ polygraph.now.nodes }
     requires rows { AreRowsOf rows.now known.now }
     requires none { passed.old.items ≡ [] }
-    ensures number { seat.new.0 ≡ seat.old.0 }
-    ensures handled { IfOk result (λ _. Handled passed.new.items seat.old.1 seat.new.1) }
-    ensures each { AllByRecursion (IsOpenIn known.now.edges polygraph.now.choices) passed.new.items }
+    ensures number { seat.new.number ≡ seat.old.number }
+    ensures handled { IfOk result (λ _. Handled passed.new.items seat.old.calls seat.new.calls) }
+    ensures each { AllByRecursion (IsOpenIn known.now.edges polygraph.now.choices)
+        passed.new.items }
 {
     let mut own = RowedGraph::copy_of(alloc, known, rows)?;
     for number in 0..u64::MAX {
@@ -220,13 +228,14 @@ fn turns<J: Naming, G: Gate, R: Wait + Clock>(
     Ok(())
 }
 
-/// A round of one seat: it takes choices, judges each, posts each refuted side with a walk, and passes the
-/// choices of which no side is refuted, until no choice is left or the machine is dead; then it leaves. It
-/// judges, and makes walks, by copies of the graph and rows with which the round began, to which it adds the
-/// edges of each side that a post of its own kept. The gate is passed before each turn, with the turns
-/// counted from 0.
+/// A round of one seat: it takes choices, judges each, posts each refuted side with a walk, and
+/// passes the choices of which no side is refuted, until no choice is left or the machine is dead;
+/// then it leaves. It judges, and makes walks, by copies of the graph and rows with which the round
+/// began, to which it adds the edges of each side that a post of its own kept. The gate is passed
+/// before each turn, with the turns counted from 0.
 ///
-/// It answers with the choices that it passed. At `Err` memory was refused to it, and it has left too.
+/// It answers with the choices that it passed. At `Err` memory was refused to it, and it has left
+/// too.
 pub fn work<J: Naming, G: Gate, R: Wait + Clock>(
     rt: &R,
     alloc: Global,
@@ -239,10 +248,10 @@ pub fn work<J: Naming, G: Gate, R: Wait + Clock>(
 ) -> (Left<PruneMachine, J>, Result<Vec<ChoiceIx>, AllocError>)
     requires nodes { known.now.nodes ≡ polygraph.now.nodes }
     requires rows { AreRowsOf rows.now known.now }
-    ensures number { result.0.0 ≡ seat.0 }
+    ensures number { result.0.number ≡ seat.number }
 
     // Each choice that the seat was handed stands in the list, or in a later post of the seat.
-    ensures handled { IfOk result.1 (λ passed. Handled passed.items seat.1 result.0.1) }
+    ensures handled { IfOk result.1 (λ passed. Handled passed.items seat.calls result.0.calls) }
     ensures each { IfOk result.1 (λ passed.
         AllByRecursion (IsOpenIn known.now.edges polygraph.now.choices) passed.items) }
 {
@@ -259,7 +268,7 @@ pub fn work<J: Naming, G: Gate, R: Wait + Clock>(
         gate,
         &mut passed,
     );
-    let (_, left) = desk.leave(rt, seat, Event::Release);
+    let (_, left) = desk.leave(rt, seat, PruneEvent::Release);
     match done {
         Ok(()) => (left, Ok(passed)),
         Err(refused) => (left, Err(refused)),

@@ -5,7 +5,8 @@ ghost use Rattle.reach_laws.specs.Reach.{IsCyclic};
 ghost use Rattle.prune_ledger.specs.Runs.{IsWhole};
 ghost use Rattle.pruning_laws.specs.Ledger.{Entry as Kept};
 ghost use Rattle.prune_ledger.specs.Ledger.{kept_after, kept_side};
-ghost use Rattle.prune_ledger.specs.Pruned.{posts_in, kept_by, IsProgress, IsGraphOf, IsLast, IsRemainder, IsDeadBy};
+ghost use Rattle.prune_ledger.specs.Pruned.{posts_in, kept_by, IsProgress, IsGraphOf, IsLast};
+ghost use Rattle.prune_ledger.specs.Pruned.{IsRemainder, IsDeadBy};
 ghost use Rattle.prune_ledger.specs.Outcome.{IsEnded, IsStage, IsPruning};
 
 use crate::copies::copy_choices;
@@ -29,19 +30,20 @@ use std::sync::Wait;
 use std::thread::Threads;
 use std::time::Clock;
 
-/// Between two rounds the machine, the entries so far, and the known edges with those that the entries keep.
+/// Between two rounds the machine, the entries so far, and the known edges with those that the
+/// entries keep.
 #[derive(Drop)]
-pub struct Progress {
+pub struct BetweenRounds {
     pub machine: PruneMachine,
     pub entries: Vec<LedgerEntry>,
     pub own: RowedGraph,
 }
 
-/// A round that has ended: how things stand behind it, but for the graph, which has no edges of it yet; how many entries stood before it; and a
-/// flag for each choice that a worker passed.
+/// A round that has ended: how things stand behind it, but for the graph, which has no edges of it
+/// yet; how many entries stood before it; and a flag for each choice that a worker passed.
 #[derive(Drop)]
 pub struct Ended {
-    pub progress: Progress,
+    pub progress: BetweenRounds,
     pub before: usize,
     pub passed: Vec<bool>,
 }
@@ -49,12 +51,12 @@ pub struct Ended {
 /// Where a round led.
 #[derive(Drop)]
 pub enum Stage {
-    More(Progress),
+    More(BetweenRounds),
     Done(Pruned),
 }
 
-/// Prunes a polygraph by rounds of so many workers, each of which passes the gate before its turns, which
-/// count from 0 in each round.
+/// Prunes a polygraph by rounds of so many workers, each of which passes the gate before its turns,
+/// which count from 0 in each round.
 ///
 /// At `Err` memory was refused to the calling thread or to a worker.
 pub fn prune<G: Gate, R: Threads + Wait + Clock + Sync>(
@@ -76,33 +78,33 @@ pub fn prune<G: Gate, R: Threads + Wait + Clock + Sync>(
     unreachable!()
 }
 
-// Nothing is kept yet.
+/// Nothing is kept yet.
 fn beginning<R: Threads + Wait + Clock + Sync>(
     rt: &R,
     alloc: Global,
     polygraph: &Polygraph,
     workers: Workers,
-) -> Result<Progress, AllocError>
+) -> Result<BetweenRounds, AllocError>
     ensures machine { IfOk result (λ r. IsProgress polygraph.now r.entries.items r.machine) }
     ensures graph { IfOk result (λ r. IsGraphOf polygraph.now (kept_by r.entries.items) r.own) }
 {
-    let _nodes = polygraph.nodes();
+    let _invariant = polygraph.nodes();
     let choices = copy_choices(alloc, polygraph.choices())?;
     let known = polygraph.known().copy(alloc)?;
     let rows = Rows::compute(rt, alloc, polygraph.known(), workers, &OpenGate)?;
-    Ok(Progress {
+    Ok(BetweenRounds {
         machine: PruneMachine::opening(alloc, choices, known)?,
         entries: Vec::new(alloc),
         own: RowedGraph::new(polygraph.known().copy(alloc)?, rows),
     })
 }
 
-// A round, where the edges have no cycle.
+/// A round, where the edges have no cycle.
 fn next_stage<G: Gate, R: Threads + Wait + Clock + Sync>(
     rt: &R,
     alloc: Global,
     polygraph: &Polygraph,
-    progress: Progress,
+    progress: BetweenRounds,
     workers: Workers,
     gate: &G,
 ) -> Result<Stage, AllocError>
@@ -110,7 +112,7 @@ fn next_stage<G: Gate, R: Threads + Wait + Clock + Sync>(
     requires graph { IsGraphOf polygraph.now (kept_by progress.entries.items) progress.own }
     ensures { IfOk result (IsStage polygraph.now) }
 {
-    if progress.own.rows().cyclic() {
+    if progress.own.rows().has_cycle() {
         let ledger = with_cycle(alloc, polygraph, progress)?;
         return Ok(Stage::Done(Pruned::Dead(ledger)));
     }
@@ -118,12 +120,12 @@ fn next_stage<G: Gate, R: Threads + Wait + Clock + Sync>(
     stage_after(alloc, polygraph, ended)
 }
 
-// A round of the workers.
+/// A round of the workers.
 fn one_round<G: Gate, R: Threads + Wait + Clock + Sync>(
     rt: &R,
     alloc: Global,
     polygraph: &Polygraph,
-    progress: Progress,
+    progress: BetweenRounds,
     workers: Workers,
     gate: &G,
 ) -> Result<Ended, AllocError>
@@ -132,8 +134,8 @@ fn one_round<G: Gate, R: Threads + Wait + Clock + Sync>(
     requires acyclic { IsCyclic progress.own.edges → ⊥ }
     ensures { IfOk result (IsEnded polygraph.now) }
 {
-    let _nodes = polygraph.nodes();
-    let Progress {
+    let _invariant = polygraph.nodes();
+    let BetweenRounds {
         machine,
         entries,
         own,
@@ -152,7 +154,7 @@ fn one_round<G: Gate, R: Threads + Wait + Clock + Sync>(
     let Closed { machine, history } = closed;
     let entries = with_entered(entries, history)?;
     Ok(Ended {
-        progress: Progress {
+        progress: BetweenRounds {
             machine,
             entries,
             own,
@@ -162,18 +164,19 @@ fn one_round<G: Gate, R: Threads + Wait + Clock + Sync>(
     })
 }
 
-// Where a round that has ended led: to another one, where it entered something or a choice is not settled.
+/// Where a round that has ended led: to another one, where it entered something or a choice is not
+/// settled.
 fn stage_after(alloc: Global, polygraph: &Polygraph, ended: Ended) -> Result<Stage, AllocError>
     requires ended { IsEnded polygraph.now ended }
     ensures { IfOk result (IsStage polygraph.now) }
 {
-    let _nodes = polygraph.nodes();
+    let _invariant = polygraph.nodes();
     let Ended {
         progress,
         before,
         passed,
     } = ended;
-    let Progress {
+    let BetweenRounds {
         machine,
         entries,
         mut own,
@@ -181,7 +184,7 @@ fn stage_after(alloc: Global, polygraph: &Polygraph, ended: Ended) -> Result<Sta
     if entries.len() > before || !machine.is_settled(&passed) {
         let (_, entered) = entries.split_at(before);
         keep_all(&mut own, polygraph, entered);
-        return Ok(Stage::More(Progress {
+        return Ok(Stage::More(BetweenRounds {
             machine,
             entries,
             own,
@@ -192,7 +195,7 @@ fn stage_after(alloc: Global, polygraph: &Polygraph, ended: Ended) -> Result<Sta
     Ok(Stage::Done(Pruned::Open(reduced)))
 }
 
-// Adds the edges of the sides that these entries keep.
+/// Adds the edges of the sides that these entries keep.
 fn keep_all(own: &mut RowedGraph, polygraph: &Polygraph, entries: &[LedgerEntry])
     requires nodes { own.old.nodes ≡ polygraph.now.nodes }
     ensures kept { (earlier : List Kept) → IsGraphOf polygraph.now earlier own.old →
@@ -203,31 +206,31 @@ fn keep_all(own: &mut RowedGraph, polygraph: &Polygraph, entries: &[LedgerEntry]
     }
 }
 
-// Adds the edges of the side that a post keeps.
+/// Adds the edges of the side that a post keeps.
 fn keep(own: &mut RowedGraph, polygraph: &Polygraph, post: &Refutation)
     requires nodes { own.old.nodes ≡ polygraph.now.nodes }
     ensures kept { (earlier : List Kept) → IsGraphOf polygraph.now earlier own.old →
         IsGraphOf polygraph.now (kept_side post.now ∷ earlier) own.new }
     ensures nodes { own.new.nodes ≡ own.old.nodes }
 {
-    let _nodes = polygraph.nodes();
+    let _invariant = polygraph.nodes();
     if let Some(sides) = polygraph.choice(post.choice) {
         own.add_all(sides.edges(other_side(post.side)));
     }
 }
 
-// The ledger of a graph that has a cycle.
+/// The ledger of a graph that has a cycle.
 fn with_cycle(
     alloc: Global,
     polygraph: &Polygraph,
-    progress: Progress,
+    progress: BetweenRounds,
 ) -> Result<Ledger, AllocError>
     requires machine { IsProgress polygraph.now progress.entries.items progress.machine }
     requires graph { IsGraphOf polygraph.now (kept_by progress.entries.items) progress.own }
     requires cyclic { IsCyclic progress.own.edges }
     ensures { IfOk result (IsDeadBy polygraph.now) }
 {
-    let Progress {
+    let BetweenRounds {
         machine: _machine,
         entries,
         own,
@@ -241,7 +244,7 @@ fn with_cycle(
     })
 }
 
-// What is left, where no side is left to refute.
+/// What is left, where no side is left to refute.
 fn remainder(
     alloc: Global,
     polygraph: &Polygraph,

@@ -64,7 +64,8 @@ impl RowedGraph {
         &self.rows
     }
 
-    /// Adds these edges to the graph, and makes the rows those of the graph with them. It takes no memory.
+    /// Adds these edges to the graph, and makes the rows those of the graph with them. It takes no
+    /// memory.
     pub fn add_all(&mut self, edges: &[Edge])
         requires joined { AllByRecursion (Joins self.old.nodes) edges.now }
         ensures edges { AddsEdges self.old self.new edges.now }
@@ -82,7 +83,7 @@ impl RowedGraph {
     }
 }
 
-// Adds these edges to a graph, and to its rows.
+/// Adds these edges to a graph, and to its rows.
 fn add_edges(graph: &mut Known, rows: &mut Rows, edges: &[Edge])
     requires joined { AllByRecursion (Joins graph.old.nodes) edges.now }
     requires rows { AreRowsOf rows.old graph.old }

@@ -26,7 +26,8 @@ EachNumbered P c (h ∷ rest) = P c h × EachNumbered P (c + 1) rest
 -- the edges of the sides in the set
 abbrev pub kept_from : Sides → ℕ → List Choice → List Edge
 kept_from sides c [] = []
-kept_from sides c (h ∷ rest) = (if sides c One then h.one else []) ++ (if sides c Two then h.two else []) ++ kept_from sides (c + 1) rest
+kept_from sides c (h ∷ rest) = (if sides c One then h.one else []) ++
+    (if sides c Two then h.two else []) ++ kept_from sides (c + 1) rest
 
 -- the known edges and those
 abbrev pub edges_with : Polygraph → Sides → List Edge
@@ -38,12 +39,14 @@ IsRefuted edges side = (u : ℕ) × ((v : ℕ) × (Contains side (u, v) × Reach
 
 -- where a side is refuted, the other side of its choice is in the set
 pub record IsClosed (p : Polygraph) (sides : Sides) : Type 0 where
-  pub rule : EachNumbered (λ c h. (s : Side) → IsRefuted (edges_with p sides) (edges_of h s) → sides c (other s) ≡ true) 0 p.choices
+  pub rule : EachNumbered (λ c h. (s : Side) → IsRefuted (edges_with p sides) (edges_of h s)
+      → sides c (other s) ≡ true) 0 p.choices
 
 -- the least set that is closed
 pub record IsForced (p : Polygraph) (forced : Sides) : Type 0 where
   pub closed : IsClosed p forced
-  pub least : (sides : Sides) → IsClosed p sides → EachNumbered (λ c h. (s : Side) → forced c s ≡ true → sides c s ≡ true) 0 p.choices
+  pub least : (sides : Sides) → IsClosed p sides
+      → EachNumbered (λ c h. (s : Side) → forced c s ≡ true → sides c s ≡ true) 0 p.choices
 
 -- the edges have a cycle that no order escapes: the forced set's have, and so each closed set's
 abbrev pub IsDead : Polygraph → Type 0
@@ -52,8 +55,14 @@ IsDead p = (sides : Sides) → IsClosed p sides → IsCyclic (edges_with p sides
 -- the choices of which neither side is in the set
 abbrev pub open_from : Sides → ℕ → List Choice → List Choice
 open_from sides c [] = []
-open_from sides c (h ∷ rest) = if sides c One || sides c Two then open_from sides (c + 1) rest else h ∷ open_from sides (c + 1) rest
+open_from sides c (h ∷ rest) = if sides c One || sides c Two then open_from sides
+    (c + 1) rest else h ∷ open_from sides (c + 1) rest
 
 -- the known and the kept edges, and the open choices
 abbrev pub pruned : Polygraph → Sides → Polygraph
-pruned p forced = record { nodes = p.nodes; known = edges_with p forced; choices = open_from forced 0 p.choices }
+pruned p forced = record {
+  nodes = p.nodes;
+  known = edges_with p forced;
+  choices = open_from forced
+      0 p.choices;
+}

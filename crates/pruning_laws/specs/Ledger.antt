@@ -23,4 +23,6 @@ sides_in entries c s = list_any (λ e. (e.0 == c) && same_side e.1 s) entries
 abbrev pub IsLedger : Polygraph → List Entry → Type 0
 IsLedger p [] = Unit {0}
 IsLedger p (e ∷ earlier) =
-    ((h : Choice) × ((slice_get p.choices e.0 ≡ Some h) × IsRefuted (edges_with p (sides_in earlier)) (edges_of h (other e.1)))) × IsLedger p earlier
+    ((h : Choice) × ((slice_get p.choices e.0 ≡ Some h)
+    × IsRefuted (edges_with p (sides_in earlier)) (edges_of h (other e.1))))
+    × IsLedger p earlier

@@ -5,7 +5,8 @@ ghost use Rattle.std.specs.List.{Contains};
 ghost use Rattle.serializability.specs.Polygraph.{Edge, Polygraph, Fits};
 ghost use Rattle.reach_laws.specs.Reach.{Reaches, IsCyclic};
 ghost use Rattle.pruning_laws.specs.Ledger.{Entry, sides_in, IsLedger};
-ghost use Rattle.pruning_laws.specs.Forced.{Sides, IsForced, IsClosed, IsDead, IsRefuted, EachNumbered, edges_of, other, edges_with, pruned};
+ghost use Rattle.pruning_laws.specs.Forced.{Sides, IsForced, IsClosed, IsDead, IsRefuted};
+ghost use Rattle.pruning_laws.specs.Forced.{EachNumbered, edges_of, other, edges_with, pruned};
 ghost use Rattle.pruning_laws.specs.declared.side.Side.{Side};
 
 /// An order fits a polygraph exactly when it fits what pruning leaves of it.
@@ -29,17 +30,22 @@ pub fn no_order_fits_where_dead()
 pub fn forced_exactly_where_other_refuted()
     ensures { (p : Polygraph) (forced : Sides) → IsForced p forced → (known : ℕ → ℕ → Bool) →
         ((u v : ℕ) → (known u v ≡ true ↔ Reaches (edges_with p forced) u v)) →
-        EachNumbered (λ c h. (s : Side) → (forced c (other s) ≡ true ↔ IsRefuted (edges_with p forced) (edges_of h s))) 0 p.choices }
+        EachNumbered (λ c h. (s : Side) → (forced c (other s) ≡ true ↔ IsRefuted
+        (edges_with p forced) (edges_of h s))) 0 p.choices }
 {}
 
-/// What a ledger keeps is the forced set where it is closed, and where its edges have a cycle the polygraph is dead.
+/// What a ledger keeps is the forced set where it is closed, and where its edges have a cycle the
+/// polygraph is dead.
 pub fn ledgers_keep_forced_sides()
-    ensures forced { (p : Polygraph) (entries : List Entry) → IsLedger p entries → IsClosed p (sides_in entries) → IsForced p (sides_in entries) }
-    ensures dead { (p : Polygraph) (entries : List Entry) → IsLedger p entries → IsCyclic (edges_with p (sides_in entries)) → IsDead p }
+    ensures forced { (p : Polygraph) (entries : List Entry) → IsLedger p entries
+        → IsClosed p (sides_in entries) → IsForced p (sides_in entries) }
+    ensures dead { (p : Polygraph) (entries : List Entry) → IsLedger p entries
+        → IsCyclic (edges_with p (sides_in entries)) → IsDead p }
 {}
 
 /// Of the known edges the orders that fit see the set alone.
 pub fn known_edges_are_a_set()
-    ensures { (p q : Polygraph) → p.nodes ≡ q.nodes → ((e : Edge) → (Contains p.known e ↔ Contains q.known e)) →
+    ensures { (p q : Polygraph) → p.nodes ≡ q.nodes
+        → ((e : Edge) → (Contains p.known e ↔ Contains q.known e)) →
         p.choices ≡ q.choices → (order : List ℕ) → (Fits p order ↔ Fits q order) }
 {}

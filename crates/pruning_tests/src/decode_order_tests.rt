@@ -2,11 +2,12 @@ use crate::reduction_tests::read;
 use decode_order::{ReplayFault, replay};
 use desk::seat_no::Workers;
 use serializability::NodeIx;
-use session_history::{History, Order};
+use session_history::{History, NodeLine};
 use std::alloc::Global;
 use std::process::Abort;
 
-// Each of two writers of a key has ended when the next transaction begins, which reads what the first wrote.
+/// Each of two writers of a key has ended when the next transaction begins, which reads what the
+/// first wrote.
 const IN_TURN: &str =
     "log 3\nsession 1\nbegin 1\nw x 1\ncommit 2\nsession 2\nbegin 3\nw x 2\ncommit 4\n\
     session 3\nbegin 5\nr x 1\ncommit 6\n";
@@ -15,7 +16,7 @@ fn node(rt: &impl Abort, number: usize) -> NodeIx {
     NodeIx::new(number).expect(rt, "a node")
 }
 
-// The order of these nodes has this fault.
+/// The order of these nodes has this fault.
 fn refuses(
     rt: &impl Abort,
     alloc: Global,
@@ -23,11 +24,12 @@ fn refuses(
     nodes: [NodeIx; 3],
     fault: ReplayFault,
 ) {
-    let order = Order::from_nodes(Vec::from_array(alloc, nodes).expect(rt, "memory"));
+    let order = NodeLine::from_nodes(Vec::from_array(alloc, nodes).expect(rt, "memory"));
     assert_eq!(rt; replay(alloc, history, &order), Err(fault));
 }
 
-// Moments are looked at before reads, and the first listed node is named that stands before one that ended before it began.
+/// Moments are looked at before reads, and the first listed node is named that stands before one
+/// that ended before it began.
 #[test]
 fn replayed_orders(rt: HostRuntime) {
     let rt = &rt;

@@ -42,7 +42,7 @@ fn sink_of(alloc: Global, good: usize) -> Counted<Drip> {
 
 const CONTRADICTION: &str = "p cnf 1 2\n1 0\n-1 0\n";
 
-// As much of the text goes out as was put before the sink failed.
+/// As much of the text goes out as was put before the sink failed.
 fn see_failing(rt: &impl Abort, alloc: Global, formula: &Formula, good: usize) {
     let text = CONTRADICTION.as_bytes();
     assert!(rt; good < text.len());
@@ -56,7 +56,7 @@ fn see_failing(rt: &impl Abort, alloc: Global, formula: &Formula, good: usize) {
     assert_eq!(rt; sink.failures, 1);
 }
 
-// All of the text goes out.
+/// All of the text goes out.
 fn see_sound(rt: &impl Abort, alloc: Global, formula: &Formula) {
     let text = CONTRADICTION.as_bytes();
     let mut sink = sink_of(alloc, text.len());
@@ -77,7 +77,7 @@ fn each_put_fails_in_turn(rt: HostRuntime) {
 
 const FIRST: &str = "s SATISFIABLE\nv 1 -2 3 0\n";
 
-// An answer of this text for three variables is refused.
+/// An answer of this text for three variables is refused.
 fn refuses(rt: &impl Abort, alloc: Global, text: &str, fault: AnswerFault) {
     assert_eq!(rt; read_answer(alloc, text.as_bytes(), 3), Err(fault));
 }
@@ -109,7 +109,7 @@ fn answers_are_read(rt: HostRuntime) {
     refuses(rt, alloc, "v 9 x\n", AnswerFault::OutOfRange { line: 1 });
 }
 
-// What the first answer gives when it is cut after some bytes.
+/// What the first answer gives when it is cut after some bytes.
 fn fault_of_cut(length: usize) -> Option<AnswerFault> {
     match length {
         0 => Some(AnswerFault::NoStatus),

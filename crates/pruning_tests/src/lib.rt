@@ -1,4 +1,5 @@
-//! Tests of the crates that prune, and of those that write a formula and read an answer, each by its public calls.
+//! Tests of the crates that prune, and of those that write a formula and read an answer, each by
+//! its public calls.
 #![tactic(auto)]
 
 #[cfg(test)]

@@ -9,11 +9,12 @@ use desk::naming::Naming;
 use desk::opened::Opened;
 use desk::seat_no::{SeatNo, Workers};
 use known_graph::Known;
+use ledger_checks::check_ledger;
 use polygraph::{Choice, ChoiceIx, Edges, Polygraph};
 use prune_ledger::laws::work;
 use prune_ledger::machine::PruneMachine;
-use prune_ledger::messages::{Event, Refutation, Reply};
-use prune_ledger::{Ledger, Pruned, check_ledger, judge, prune};
+use prune_ledger::messages::{PruneEvent, PruneReply, Refutation};
+use prune_ledger::{Ledger, Pruned, judge, prune};
 use pruning_laws::Side;
 use reach_laws::Edge;
 use reach_rows::Rows;
@@ -50,8 +51,8 @@ fn join(rt: &impl Abort, known: &mut Known, ends: (usize, usize)) {
     known.add_edge(edge.source(), edge.target());
 }
 
-// Five transactions: the first stands before the second and is read by the third, which the fourth
-// reads, which the fifth reads. Where `dead`, the fifth also reads the second.
+/// Five transactions: the first stands before the second and is read by the third, which the fourth
+/// reads, which the fifth reads. Where `dead`, the fifth also reads the second.
 fn polygraph(rt: &impl Abort, alloc: Global, dead: bool) -> Polygraph {
     let mut known = Known::new(alloc, 5).expect(rt, "memory");
     for ends in [(1, 2), (1, 3), (3, 4), (4, 5)] {
@@ -83,10 +84,16 @@ fn index(rt: &impl Abort, number: usize) -> ChoiceIx {
     ChoiceIx::new(number).expect(rt, "a choice")
 }
 
-fn post(rt: &impl Abort, alloc: Global, choice: usize, side: Side, ends: (usize, usize)) -> Event {
+fn post(
+    rt: &impl Abort,
+    alloc: Global,
+    choice: usize,
+    side: Side,
+    ends: (usize, usize),
+) -> PruneEvent {
     let edge = edge(rt, ends);
     let walk = vec![in alloc; edge.target(), edge.source()].expect(rt, "memory");
-    Event::Post(Refutation {
+    PruneEvent::Post(Refutation {
         choice: index(rt, choice),
         side,
         edge,
@@ -94,7 +101,7 @@ fn post(rt: &impl Abort, alloc: Global, choice: usize, side: Side, ends: (usize,
     })
 }
 
-fn see(rt: &impl Abort, machine: &mut PruneMachine, seat: u8, event: Event, want: Reply) {
+fn see(rt: &impl Abort, machine: &mut PruneMachine, seat: u8, event: PruneEvent, want: PruneReply) {
     let seat = SeatNo::new(seat).expect(rt, "a seat");
     assert!(rt; machine.step(seat, &event) == want);
 }
@@ -105,21 +112,45 @@ fn steps_of_two_seats(rt: HostRuntime) {
     let alloc = rt.alloc();
     let mut machine = machine(rt, alloc, false);
     let machine = &mut machine;
-    see(rt, machine, 1, Event::Take, Reply::Judge(index(rt, 0)));
-    see(rt, machine, 2, Event::Take, Reply::Judge(index(rt, 1)));
+    see(
+        rt,
+        machine,
+        1,
+        PruneEvent::Take,
+        PruneReply::Judge(index(rt, 0)),
+    );
+    see(
+        rt,
+        machine,
+        2,
+        PruneEvent::Take,
+        PruneReply::Judge(index(rt, 1)),
+    );
     let early = post(rt, alloc, 1, Side::One, (2, 3));
-    see(rt, machine, 2, early, Reply::BadWalk);
+    see(rt, machine, 2, early, PruneReply::BadWalk);
     let first = post(rt, alloc, 0, Side::Two, (2, 1));
-    see(rt, machine, 1, first, Reply::Entered);
+    see(rt, machine, 1, first, PruneReply::Entered);
     let second = post(rt, alloc, 1, Side::One, (2, 3));
-    see(rt, machine, 2, second, Reply::Entered);
+    see(rt, machine, 2, second, PruneReply::Entered);
     let again = post(rt, alloc, 0, Side::Two, (2, 1));
-    see(rt, machine, 2, again, Reply::AlreadyIn);
-    see(rt, machine, 1, Event::Take, Reply::Judge(index(rt, 2)));
-    see(rt, machine, 1, Event::Pass(index(rt, 2)), Reply::Noted);
-    see(rt, machine, 2, Event::Take, Reply::NoneLeft);
+    see(rt, machine, 2, again, PruneReply::AlreadyIn);
+    see(
+        rt,
+        machine,
+        1,
+        PruneEvent::Take,
+        PruneReply::Judge(index(rt, 2)),
+    );
+    see(
+        rt,
+        machine,
+        1,
+        PruneEvent::Pass(index(rt, 2)),
+        PruneReply::Noted,
+    );
+    see(rt, machine, 2, PruneEvent::Take, PruneReply::NoneLeft);
     let stranger = post(rt, alloc, 3, Side::One, (2, 4));
-    see(rt, machine, 2, stranger, Reply::BadWalk);
+    see(rt, machine, 2, stranger, PruneReply::BadWalk);
 }
 
 #[test]
@@ -135,13 +166,13 @@ fn steps_of_a_seat_until_it_is_dead(rt: HostRuntime) {
         (1, Side::Two, (4, 2)),
     ] {
         let event = post(rt, alloc, number, side, ends);
-        see(rt, machine, 1, event, Reply::Entered);
+        see(rt, machine, 1, event, PruneReply::Entered);
     }
-    see(rt, machine, 1, Event::Take, Reply::Dead);
-    see(rt, machine, 1, Event::Release, Reply::Released);
+    see(rt, machine, 1, PruneEvent::Take, PruneReply::Dead);
+    see(rt, machine, 1, PruneEvent::Release, PruneReply::Released);
 }
 
-// Counts the rounds, by turn 0 of seat 1.
+/// Counts the rounds, by turn 0 of seat 1.
 #[derive(Drop)]
 struct Counting {
     rounds: AtomicU64,
@@ -155,7 +186,7 @@ impl Gate for Counting {
     }
 }
 
-// The ledger of what is open, with its polygraph's choices counted.
+/// The ledger of what is open, with its polygraph's choices counted.
 fn ledger_of(rt: &impl Abort, pruned: Pruned, open: bool) -> Ledger {
     match pruned {
         Pruned::Dead(ledger) => {
@@ -166,13 +197,13 @@ fn ledger_of(rt: &impl Abort, pruned: Pruned, open: bool) -> Ledger {
             assert!(rt; open);
             let (poly, rows, ledger) = reduced.into_parts();
             assert_eq!(rt; poly.choices().len(), 0);
-            assert!(rt; !rows.cyclic());
+            assert!(rt; !rows.has_cycle());
             ledger
         }
     }
 }
 
-// The choice of each entry, and whether its side one is refused.
+/// The choice of each entry, and whether its side one is refused.
 fn see_refused(rt: &impl Abort, ledger: &Ledger, wanted: &[(usize, bool)]) {
     assert_eq!(rt; ledger.entries.len(), wanted.len());
     for (entry, want) in ledger.entries.iter().zip(wanted) {
@@ -181,7 +212,7 @@ fn see_refused(rt: &impl Abort, ledger: &Ledger, wanted: &[(usize, bool)]) {
     }
 }
 
-// Whether the ledger is valid, and is not once its first walk is reversed.
+/// Whether the ledger is valid, and is not once its first walk is reversed.
 fn see_ledger(rt: &impl Abort, polygraph: &Polygraph, ledger: Ledger) {
     assert!(rt; check_ledger(polygraph, &ledger));
     let Ledger { mut entries, cycle } = ledger;
@@ -223,7 +254,7 @@ fn dead_with_any_number_of_workers(rt: HostRuntime) -> Result<(), Fail> {
     Ok(())
 }
 
-// Holds a seat at its first turn 0 until the other has once come to a turn 1.
+/// Holds a seat at its first turn 0 until the other has once come to a turn 1.
 #[derive(Drop)]
 struct Holding {
     held: u8,
@@ -248,7 +279,7 @@ impl Gate for Holding {
 }
 
 impl Holding {
-    // Looks at most 10,000 times, a millisecond apart.
+    /// Looks at most 10,000 times, a millisecond apart.
     fn wait<R: Clock>(&self, rt: &R) {
         for _ in 0..10_000 {
             if self.came.load(Ordering::SeqCst) {
@@ -307,8 +338,8 @@ fn work_together<J: Naming + Send + Sync, R: Threads + Wait + Clock + Abort + Sy
     known: &Known,
     rows: &Rows,
 )
-    requires names { J.names ≡ opened.1 }
-    requires desk { J.desk ≡ opened.2 }
+    requires names { J.names ≡ opened.names }
+    requires desk { J.desk ≡ opened.desk }
     requires nodes { known.now.nodes ≡ polygraph.now.nodes }
     requires rows { AreRowsOf rows.now known.now }
 {
@@ -332,6 +363,6 @@ fn work_together<J: Naming + Send + Sync, R: Threads + Wait + Clock + Abort + Sy
     let entered = closed
         .history
         .iter()
-        .filter(|step| step.reply == Reply::Entered);
+        .filter(|step| step.reply == PruneReply::Entered);
     assert_eq!(rt; passed.wrapping_add(entered.count()), 3);
 }

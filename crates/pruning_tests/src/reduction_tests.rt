@@ -19,12 +19,13 @@ const READ_BEFORE_WRITTEN: &str = "session 1\nbegin\nr x 1\ncommit\nbegin\nw x 1
 const LOST_UPDATE: &str =
     "session 1\nbegin\nr x 0\nw x 1\ncommit\nsession 2\nbegin\nr x 0\nw x 2\ncommit\n";
 
-// Each of three choices is settled in turn, the first by the session, each other by what was kept before.
+/// Each of three choices is settled in turn, the first by the session, each other by what was kept
+/// before.
 const SETTLED: &str = "session 1\nbegin\nw a 1\ncommit\nbegin\nw a 2\nw b 3\nw c 4\ncommit\n\
     session 2\nbegin\nr a 1\nw b 5\ncommit\nsession 3\nbegin\nr b 5\nw c 6\ncommit\n\
     session 4\nbegin\nr c 6\ncommit\n";
 
-// The same, where the last transaction also reads what the second one writes.
+/// The same, where the last transaction also reads what the second one writes.
 const DEAD: &str = "session 1\nbegin\nw a 1\ncommit\nbegin\nw a 2\nw b 3\nw c 4\nw d 7\ncommit\n\
     session 2\nbegin\nr a 1\nw b 5\ncommit\nsession 3\nbegin\nr b 5\nw c 6\ncommit\n\
     session 4\nbegin\nr c 6\nr d 7\ncommit\n";
@@ -40,7 +41,7 @@ pub fn read<R: Threads + Wait + Clock + Sync>(
     History::build(alloc, version, sessions)
 }
 
-// What the steps make of a log with one worker and with four, by its name.
+/// What the steps make of a log with one worker and with four, by its name.
 fn reduces_to<R: Threads + Wait + Clock + Abort + Sync>(
     rt: &R,
     alloc: Global,

@@ -7,7 +7,8 @@ ghost use Rattle.reach_laws.specs.Reach.{Reaches, IsCyclic, IsCycle};
 
 /// What a node reaches, all that reaches it reaches too.
 pub fn reach_is_transitive()
-    ensures { (edges : List Edge) (u v w : ℕ) → Reaches edges u v → Reaches edges v w → Reaches edges u w }
+    ensures { (edges : List Edge) (u v w : ℕ) → Reaches edges u v → Reaches edges v w
+        → Reaches edges u w }
 {}
 
 /// Among more edges a node reaches no less.

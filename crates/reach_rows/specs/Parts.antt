@@ -3,7 +3,8 @@ use Rattle.std.specs.Prelude.{◌≡◌, ℕ, ◌+◌, ◌-◌, ◌<◌, ◌≤�
 use Rattle.reach_laws.specs.Reach.{Graph}
 use Rattle.reach_rows.specs.Sources.{AreReachRows}
 
--- where the sources of each worker begin, from 0 on, and in the end one past the last of so many sources
+-- where the sources of each worker begin, from 0 on, and in the end one past the last of so many
+-- sources
 pub record ArePartStarts (sources : ℕ) (starts : List ℕ) : Type 0 where
   pub some : 0 < length starts
   pub first : slice_index starts 0 ≡ 0
@@ -12,4 +13,5 @@ pub record ArePartStarts (sources : ℕ) (starts : List ℕ) : Type 0 where
 
 -- the rows of a worker's sources; workers count from 0
 abbrev pub IsPart : Graph → List ℕ → ℕ → List ℕ → Type 0
-IsPart graph starts worker words = AreReachRows graph (slice_index starts worker) (slice_index starts (worker + 1)) words
+IsPart graph starts worker words = AreReachRows graph (slice_index starts worker)
+    (slice_index starts (worker + 1)) words

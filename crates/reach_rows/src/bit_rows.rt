@@ -24,8 +24,8 @@ use std::sync::Wait;
 use std::thread::Threads;
 use std::time::Clock;
 
-/// Which of nodes 0 to n reaches which, where n is at most 1,000. Contracts see a graph in which an edge
-/// leads from each node to each that it reaches.
+/// Which of nodes 0 to n reaches which, where n is at most 1,000. Contracts see a graph in which an
+/// edge leads from each node to each that it reaches.
 #[derive(Drop)]
 pub struct Rows {
     nodes: usize,
@@ -69,9 +69,9 @@ impl Rows {
 
     /// The rows of a graph, computed by so many workers in threads of their own.
     ///
-    /// Each worker has consecutive nodes, with about as many edges as those of each other one. It finds what
-    /// they reach, and passes the gate before each, with its turns counted from 0; one that has none passes
-    /// it once. Seats are 1 to the number of workers.
+    /// Each worker has consecutive nodes, with about as many edges as those of each other one. It
+    /// finds what they reach, and passes the gate before each, with its turns counted from 0; one
+    /// that has none passes it once. Seats are 1 to the number of workers.
     pub fn compute<R: Threads + Wait + Clock + Sync, G: Gate>(
         rt: &R,
         alloc: Global,
@@ -105,7 +105,7 @@ impl Rows {
         from <= self.nodes && to <= self.nodes && self.is_set(from, to)
     }
 
-    // Whether the bit of a pair of nodes is set.
+    /// Whether the bit of a pair of nodes is set.
     fn is_set(&self, u: usize, v: usize) -> bool
         requires nodes { (u ≤ self.now.nodes) × (v ≤ self.now.nodes) }
         ensures edge { IsTrue result ↔ Contains self.now.edges (u, v) }
@@ -114,7 +114,7 @@ impl Rows {
     }
 
     /// Whether some node reaches itself.
-    pub fn cyclic(&self) -> bool
+    pub fn has_cycle(&self) -> bool
         ensures edge { IsTrue result ↔ ((v : ℕ) × Contains self.now.edges (v, v)) }
         ensures cycle { (graph : Graph) → AreRowsOf self.now graph →
             (IsTrue result ↔ IsCyclic graph.edges) }
@@ -129,8 +129,8 @@ impl Rows {
 
     /// Makes these the rows of the graph with an edge more, from u to v. It takes no memory.
     ///
-    /// Where u reaches v already, nothing changes. Else u, and each node that reaches u, now reaches v
-    /// and what v reached.
+    /// Where u reaches v already, nothing changes. Else u, and each node that reaches u, now
+    /// reaches v and what v reached.
     pub fn add_edge(&mut self, u: NodeIx, v: NodeIx)
         requires nodes { (u ≤ self.old.nodes) × (v ≤ self.old.nodes) }
         ensures rows { (old new : Graph) → AreRowsOf self.old old → AddsEdge old new (u, v) →
@@ -163,8 +163,9 @@ impl Rows {
 
 /// Lets u, and each node that reaches u, reach v and what v reaches.
 ///
-/// Row v itself may change on the way, where v reaches u or is u. It then gets the bit of v and its own
-/// bits alone; and the bit of v is added to each row with row v, so that the old row v would give the same.
+/// Row v itself may change on the way, where v reaches u or is u. It then gets the bit of v and its
+/// own bits alone; and the bit of v is added to each row with row v, so that the old row v would
+/// give the same.
 fn add_reach(words: &mut [u64], nodes: usize, u: usize, v: usize)
     requires few { nodes ≤ MAX_NODES }
     requires nodes { (u ≤ nodes) × (v ≤ nodes) }

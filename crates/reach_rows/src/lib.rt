@@ -1,9 +1,11 @@
-//! Which node of a graph reaches which, as bit rows: a row of words for each node, in which the bit of
-//! each node that it reaches is set.
+//! Which node of a graph reaches which, as bit rows: a row of words for each node, in which the bit
+//! of each node that it reaches is set.
 //!
-//! A node reaches another by a walk of at least one edge, so it reaches itself only where it lies on a
-//! cycle. `Rows` are computed by one thread or by several workers, asked in constant time, and kept up
-//! while edges are added to the graph.
+//! Called by `prune_ledger`, `branching` and `order_cnf`. It knows no choice and no log.
+//!
+//! A node reaches another by a walk of at least one edge, so it reaches itself only where it lies
+//! on a cycle. `Rows` are computed by one thread or by several workers, asked in constant time, and
+//! kept up while edges are added to the graph.
 #![tactic(auto)]
 
 mod bit_rows;

@@ -23,7 +23,7 @@ fn work_of(known: &Known, source: NodeIx) -> usize
     requires node { source ≤ known.now.nodes }
     ensures few { result ≤ 1_100 }
 {
-    let _nodes = known.nodes();
+    let _invariant = known.nodes();
     let mut work = 1;
     for word in known.row_words(source) {
         work += word.count_ones() as usize;
@@ -42,8 +42,8 @@ fn whole_work(known: &Known) -> usize
     work
 }
 
-/// The first source, from one on, before which so much work lies, or one past the last; `before` is the work
-/// that lies before the one, and then before the other.
+/// The first source, from one on, before which so much work lies, or one past the last; `before` is
+/// the work that lies before the one, and then before the other.
 fn source_after(known: &Known, from: usize, before: &mut usize, work: usize) -> usize
     requires from { from ≤ known.now.nodes + 1 }
     requires few { work ≤ 1_101_100 }
@@ -58,8 +58,8 @@ fn source_after(known: &Known, from: usize, before: &mut usize, work: usize) -> 
     source
 }
 
-/// Where the sources of each worker begin, and in the end one past the last source. Each worker has about
-/// the same work.
+/// Where the sources of each worker begin, and in the end one past the last source. Each worker has
+/// about the same work.
 fn part_starts(alloc: Global, known: &Known, workers: usize) -> Result<Vec<usize>, AllocError>
     requires workers { (0 < workers) × (workers ≤ 16) }
     ensures starts { IfOk result (λ starts. ArePartStarts (known.now.nodes + 1) starts.items) }
@@ -101,7 +101,8 @@ pub fn rows_by_workers<R: Threads + Wait + Clock + Sync, G: Gate>(
     let starts = part_starts(alloc, known, count)?;
     let starts = starts.as_slice();
     let part = |worker: usize| -> Result<Vec<u64>, AllocError>
-        requires { (worker < 16) × (worker + 1 < length starts.now) × ArePartStarts (known.now.nodes + 1) starts.now }
+        requires { (worker < 16) × (worker + 1 < length starts.now)
+            × ArePartStarts (known.now.nodes + 1) starts.now }
         ensures { IfOk result (λ part. IsPart known.entry.now starts.entry.now worker part.items) }
     { part_rows(rt, alloc, known, starts, worker, gate) };
     let parts = thread::map_indices(rt, alloc, count, &part)?;
@@ -131,7 +132,8 @@ fn joined(
     Ok(words)
 }
 
-/// The rows of a worker's sources, where workers count from 0. It passes the gate before each source, and once where it has none.
+/// The rows of a worker's sources, where workers count from 0. It passes the gate before each
+/// source, and once where it has none.
 fn part_rows<R: Wait + Clock, G: Gate>(
     rt: &R,
     alloc: Global,

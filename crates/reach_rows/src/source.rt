@@ -20,7 +20,7 @@ fn spread(known: &Known, row: &mut [u64])
     ensures spread { Spreads known.now.edges row.old row.new }
     ensures len { length row.new ≡ length row.old }
 {
-    let _nodes = known.nodes();
+    let _invariant = known.nodes();
     let mut done: NodeBits = [0; NODE_WORDS];
     while let Some(number) = first_open(row, &done) {
         set_bit(&mut done, number);
@@ -34,7 +34,7 @@ fn reach_row(known: &Known, source: NodeIx) -> NodeBits
     ensures reach { (v : ℕ) → ((bit_of result v ≡ true) ↔ Reaches known.now.edges source v) }
     ensures len { length result ≡ NODE_WORDS }
 {
-    let _nodes = known.nodes();
+    let _invariant = known.nodes();
     let mut row: NodeBits = [0; NODE_WORDS];
     join_words(&mut row, known.row_words(source));
     spread(known, &mut row);

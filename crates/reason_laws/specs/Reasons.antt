@@ -1,6 +1,9 @@
--- Why one transaction stands before another in each serial order, in the words of the log. Nodes are those of the sessions, and
--- operations count from 0. The kinds are those of Adya's dependencies (1999), the order of a session, and that of real time.
-use Rattle.std.specs.Prelude.{◌≡◌, ◌≢◌, ℕ, ◌+◌, ◌<◌, ◌≤◌, List, [], ◌∷◌, length, take, drop, slice_get, Some}
+-- Why one transaction stands before another in each serial order, in the words of the log. Nodes
+-- are those of the sessions, and
+-- operations count from 0. The kinds are those of Adya's dependencies (1999), the order of a
+-- session, and that of real time.
+use Rattle.std.specs.Prelude.{◌≡◌, ◌≢◌, ℕ, ◌+◌, ◌<◌, ◌≤◌, List, [], ◌∷◌, length, take, drop}
+use Rattle.std.specs.Prelude.{slice_get, Some}
 use Rattle.std.specs.List.{AllByRecursion}
 use Rattle.session_log.specs.Text.{ClientSession}
 use Rattle.session_log.specs.declared.session.Op.{Op}
@@ -20,7 +23,8 @@ abbrev pub IsNoWriteOf : List ℕ → Op → Type 0
 IsNoWriteOf key (Read k wid) = Unit {0}
 IsNoWriteOf key (Write k wid) = k ≢ key
 
--- operation i of node v is a read of the key that names this identity, and no own write of the key stands before it
+-- operation i of node v is a read of the key that names this identity, and no own write of the key
+-- stands before it
 pub record ReadsAt (ss : List ClientSession) (v i : ℕ) (key : List ℕ) (wid : ℕ) : Type 0 where
   pub read : IsOpAt ss v i (Read key wid)
   pub external : AllByRecursion (IsNoWriteOf key) (take i (ops_of ss v))
@@ -49,7 +53,8 @@ pub record IsReadBy (ss : List ClientSession) (a written b read : ℕ) : Type 0 
   pub writes : IsOpAt ss a written (Write key wid)
   pub reads : IsOpAt ss b read (Read key wid)
 
--- a and b read the same write of a key, before any own write of it, and operation `overwrites` of b writes the key: so a, which does
+-- a and b read the same write of a key, before any own write of it, and operation `overwrites` of b
+-- writes the key: so a, which does
 -- not see that, stands before b
 pub record IsOverwrittenBy (ss : List ClientSession) (a read b overwrites : ℕ) : Type 0 where
   pub first : IsNode ss a
@@ -73,15 +78,19 @@ pub record Link : Type 0 where
 -- behind this identity each reads the key's write of the one before, and writes the key
 abbrev pub AreLinked : List ClientSession → List ℕ → ℕ → List Link → Type 0
 AreLinked ss key wid [] = Unit {0}
-AreLinked ss key wid (l ∷ ls) = IsNode ss l.node × (ReadsAt ss l.node l.read key wid × (WritesLastAt ss l.node l.write key l.wid × AreLinked ss key l.wid ls))
+AreLinked ss key wid (l ∷ ls) = IsNode ss l.node
+    × (ReadsAt ss l.node l.read key wid × (WritesLastAt ss l.node l.write key l.wid
+    × AreLinked ss key l.wid ls))
 
 -- the identity that the last of them leaves
 abbrev pub left_by : ℕ → List Link → ℕ
 left_by wid [] = wid
 left_by wid (l ∷ ls) = left_by l.wid ls
 
--- operation `read` of a, before any own write of the key, names the key's initial value or a write of the chain that begins with it, and
--- operation `begins` of b, which reads the key from nobody, writes it: so b's write stands behind those of the chain
+-- operation `read` of a, before any own write of the key, names the key's initial value or a write
+-- of the chain that begins with it, and
+-- operation `begins` of b, which reads the key from nobody, writes it: so b's write stands behind
+-- those of the chain
 pub record IsOfInitialBefore (ss : List ClientSession) (a read b begins : ℕ) : Type 0 where
   pub first : IsNode ss a
   pub second : IsNode ss b

@@ -1,5 +1,6 @@
 -- Operations on numbered keys: which of them read what, and which one is the first.
-use Rattle.std.specs.Prelude.{ℕ, ◌+◌, ◌==◌, ◌&&◌, nat_lt, Bool, true, false, if◌then◌else◌, List, [], ◌∷◌, Option, None, Some}
+use Rattle.std.specs.Prelude.{ℕ, ◌+◌, ◌==◌, ◌&&◌, nat_lt, Bool, true, false, if◌then◌else◌, List}
+use Rattle.std.specs.Prelude.{[], ◌∷◌, Option, None, Some}
 use Rattle.std.specs.List.{list_any}
 use Rattle.std.specs.Option.{option_map_or}
 use Rattle.serializability.specs.declared.event.Event.{Event}
@@ -38,9 +39,11 @@ is_below x (Some write) = nat_lt x write.key
 -- the least key that passes, with the first write of it
 abbrev pub least_after : (ℕ → Bool) → Option KeyWrite → ℕ → Event → Option KeyWrite
 least_after test least place (event.Read x w) = least
-least_after test least place (event.Write x w) = if is_below x least && test x then Some (record { key = x; place = place }) else least
+least_after test least place (event.Write x w) = if is_below x least && test x then Some
+    (record { key = x; place = place }) else least
 
 -- with these operations too, of which the first has this place
 unfoldable pub least_from : (ℕ → Bool) → Option KeyWrite → ℕ → List Event → Option KeyWrite
 least_from test least place [] = least
-least_from test least place (e ∷ es) = least_from test (least_after test least place e) (place + 1) es
+least_from test least place (e ∷ es) = least_from test (least_after test least place e)
+    (place + 1) es

@@ -4,7 +4,8 @@ use Rattle.session_log.specs.Text.{ClientSession}
 use Rattle.session_log.specs.declared.session.Op.TheVariants.{Write}
 use Rattle.log_definitions.specs.WellFormed.{keys_in}
 use Rattle.log_definitions.specs.Numbers.{number_in}
-use Rattle.reason_laws.specs.Reasons.{AreOfSession, IsReadBy, IsOverwrittenBy, IsOfInitialBefore, EndsBefore, IsOpAt}
+use Rattle.reason_laws.specs.Reasons.{AreOfSession, IsReadBy, IsOverwrittenBy, IsOfInitialBefore}
+use Rattle.reason_laws.specs.Reasons.{EndsBefore, IsOpAt}
 use Rattle.reasons.specs.declared.reason.Reason.{Reason}
 use Rattle.reasons.specs.declared.reason.Reason.TheVariants as reason
 
@@ -26,13 +27,17 @@ NoneOverwritten ss a b = (i j : ℕ) → IsOverwrittenBy ss a i b j → ⊥
 abbrev pub NoneInitial : List ClientSession → ℕ → ℕ → Type 0
 NoneInitial ss a b = (i j : ℕ) → IsOfInitialBefore ss a i b j → ⊥
 
--- none of the kinds that stand before this one has a reason: session, read, overwritten, initial, moments
+-- none of the kinds that stand before this one has a reason: session, read, overwritten, initial,
+-- moments
 abbrev pub IsOfFirstKind : List ClientSession → ℕ → ℕ → Reason → Type 0
 IsOfFirstKind ss a b reason.Session = Unit {0}
 IsOfFirstKind ss a b (reason.Read written read) = ¬ AreOfSession ss a b
-IsOfFirstKind ss a b (reason.Overwritten read overwrites) = (¬ AreOfSession ss a b) × NoneRead ss a b
-IsOfFirstKind ss a b (reason.Initial read begins) = (¬ AreOfSession ss a b) × NoneRead ss a b × NoneOverwritten ss a b
-IsOfFirstKind ss a b reason.Moments = (¬ AreOfSession ss a b) × NoneRead ss a b × NoneOverwritten ss a b × NoneInitial ss a b
+IsOfFirstKind ss a b (reason.Overwritten read overwrites) = (¬ AreOfSession ss a b)
+    × NoneRead ss a b
+IsOfFirstKind ss a b (reason.Initial read begins) = (¬ AreOfSession ss a b) × NoneRead ss a b
+    × NoneOverwritten ss a b
+IsOfFirstKind ss a b reason.Moments = (¬ AreOfSession ss a b) × NoneRead ss a b
+    × NoneOverwritten ss a b × NoneInitial ss a b
 
 -- no kind has a reason
 pub record HaveNone (ss : List ClientSession) (a b : ℕ) : Type 0 where
@@ -43,17 +48,20 @@ pub record HaveNone (ss : List ClientSession) (a b : ℕ) : Type 0 where
   pub moments : ¬ EndsBefore ss a b
 
 -- ---- no lesser operations would do
--- no earlier operation of b reads a write of a, and the write is no later than any that this one reads
+-- no earlier operation of b reads a write of a, and the write is no later than any that this one
+-- reads
 pub record IsLeastRead (ss : List ClientSession) (a written b read : ℕ) : Type 0 where
   pub second : (i j : ℕ) → IsReadBy ss a i b j → read ≤ j
   pub first : (i : ℕ) → IsReadBy ss a i b read → written ≤ i
 
--- no key of a lesser number would do, and of this key no earlier read of a and no earlier write of b
+-- no key of a lesser number would do, and of this key no earlier read of a and no earlier write of
+-- b
 pub record IsLeastOverwrite (ss : List ClientSession) (a read b overwrites : ℕ) : Type 0 where
   pub key : List ℕ
   pub wid : ℕ
   pub writes : IsOpAt ss b overwrites (Write key wid)
-  pub keys : (i j : ℕ) (other : IsOverwrittenBy ss a i b j) → number_in (keys_in ss) key ≤ number_in (keys_in ss) other.key
+  pub keys : (i j : ℕ) (other : IsOverwrittenBy ss a i b j)
+      → number_in (keys_in ss) key ≤ number_in (keys_in ss) other.key
   pub first : (i j : ℕ) (other : IsOverwrittenBy ss a i b j) → other.key ≡ key → read ≤ i
   pub second : (i j : ℕ) (other : IsOverwrittenBy ss a i b j) → other.key ≡ key → overwrites ≤ j
 

@@ -6,7 +6,8 @@ ghost use Rattle.log_definitions.specs.Numbers.{log_of};
 ghost use Rattle.chain_laws.specs.Chains.{writes};
 ghost use Rattle.session_history.specs.Rows.{event_key};
 ghost use Rattle.reason_laws.specs.Reasons.{IsNode, IsOfInitialBefore};
-ghost use Rattle.reasons.specs.Initials.{IsOfInitial, FollowsInitial, IsBegun, IsBeginning, BeginsBehind, ArePlain};
+ghost use Rattle.reasons.specs.Initials.{IsOfInitial, FollowsInitial, IsBegun, IsBeginning};
+ghost use Rattle.reasons.specs.Initials.{BeginsBehind, ArePlain};
 ghost use Rattle.reasons.specs.Given.{IsLeastInitial, NoneInitial};
 
 use crate::operations::Operations;
@@ -15,8 +16,8 @@ use serializability::{Event, NodeIx};
 use session_history::History;
 use std::alloc::{AllocError, Global};
 
-/// Whether the chain of this writer of the key begins with node 0, which one that closes on itself does not.
-/// It takes as many steps as writers stand before it there.
+/// Whether the chain of this writer of the key begins with node 0, which one that closes on itself
+/// does not. It takes as many steps as writers stand before it there.
 fn is_of_initial(history: &History, key: usize, writer: NodeIx) -> bool
     requires clean { IsClean (log_of history.now) }
     requires key { key < (log_of history.now).keys }
@@ -54,7 +55,8 @@ fn follows_initial(history: &History, key: usize, node: NodeIx) -> bool
     }
 }
 
-/// Whether `b`, where it writes the key, begins a chain behind that of the initial value, which `a` reads from.
+/// Whether `b`, where it writes the key, begins a chain behind that of the initial value, which `a`
+/// reads from.
 fn is_begun(history: &History, a: NodeIx, b: NodeIx, key: usize) -> bool
     requires clean { IsClean (log_of history.now) }
     requires first { IsNode history.now a }
@@ -64,7 +66,8 @@ fn is_begun(history: &History, a: NodeIx, b: NodeIx, key: usize) -> bool
     history.source_of(b, key).is_none() && follows_initial(history, key, a)
 }
 
-/// The same with marks of the keys of which it is known not to be so: it is asked of each of these once.
+/// The same with marks of the keys of which it is known not to be so: it is asked of each of these
+/// once.
 #[tactic(auto, using(crate::proofs::Beginnings::judged))]
 fn judge(plain: &mut [bool], history: &History, a: NodeIx, b: NodeIx, key: usize) -> bool
     requires clean { IsClean (log_of history.now) }
@@ -79,7 +82,8 @@ fn judge(plain: &mut [bool], history: &History, a: NodeIx, b: NodeIx, key: usize
     begun
 }
 
-/// Whether an operation of `b` begins a chain behind that of the initial value of its key, which `a` reads from.
+/// Whether an operation of `b` begins a chain behind that of the initial value of its key, which
+/// `a` reads from.
 fn is_beginning(plain: &mut [bool], history: &History, a: NodeIx, b: NodeIx, event: Event) -> bool
     requires clean { IsClean (log_of history.now) }
     requires first { IsNode history.now a }
@@ -94,8 +98,9 @@ fn is_beginning(plain: &mut [bool], history: &History, a: NodeIx, b: NodeIx, eve
     }
 }
 
-/// The first operation of `b` that begins a chain behind that of the initial value of its key, which `a` reads from. The chain
-/// of each key is walked once, however often `b` writes the key. The one error is that memory runs out for a byte of each key.
+/// The first operation of `b` that begins a chain behind that of the initial value of its key,
+/// which `a` reads from. The chain of each key is walked once, however often `b` writes the key.
+/// The one error is that memory runs out for a byte of each key.
 fn begins_behind_initial(
     alloc: Global,
     history: &History,
@@ -129,7 +134,8 @@ fn key_of(event: Event) -> usize
     }
 }
 
-/// The first read of `a` that stands before operation `begins` of `b` by the chain of the initial value of its key.
+/// The first read of `a` that stands before operation `begins` of `b` by the chain of the initial
+/// value of its key.
 fn read_before(history: &History, a: NodeIx, b: NodeIx, begins: usize) -> usize
     requires clean { IsClean (log_of history.now) }
     requires begun { BeginsBehind history.now a b begins }
@@ -142,8 +148,9 @@ fn read_before(history: &History, a: NodeIx, b: NodeIx, begins: usize) -> usize
     }
 }
 
-/// The first operation of `b` that begins a chain behind that of the initial value of its key, and the first read of `a` from that
-/// one. The one error is that memory runs out for a byte of each key.
+/// The first operation of `b` that begins a chain behind that of the initial value of its key, and
+/// the first read of `a` from that one. The one error is that memory runs out for a byte of each
+/// key.
 pub fn before_by_initial(
     alloc: Global,
     history: &History,
@@ -153,8 +160,10 @@ pub fn before_by_initial(
     requires clean { IsClean (log_of history.now) }
     requires first { IsNode history.now a }
     requires second { IsNode history.now b }
-    ensures is { IfOk result (λ found. IfSome found (λ o. IsOfInitialBefore history.now a o.first b o.second)) }
-    ensures least { IfOk result (λ found. IfSome found (λ o. IsLeastInitial history.now a o.first b o.second)) }
+    ensures is { IfOk result (λ found. IfSome found
+        (λ o. IsOfInitialBefore history.now a o.first b o.second)) }
+    ensures least { IfOk result (λ found. IfSome found
+        (λ o. IsLeastInitial history.now a o.first b o.second)) }
     ensures none { IfOk result (λ found. IfNone found (NoneInitial history.now a b)) }
 {
     match begins_behind_initial(alloc, history, a, b)? {

@@ -1,4 +1,6 @@
 //! Why one node stands before another in each serial order, found in the log's own operations.
+//!
+//! Called by the crates that tell. It knows no line, no text and no ledger.
 #![tactic(auto)]
 
 mod initial;

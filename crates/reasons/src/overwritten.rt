@@ -44,7 +44,8 @@ fn is_below(key: usize, least: Option<KeyWrite>) -> bool
     }
 }
 
-/// The least key that both nodes read alike, with the first write of it, once this operation of `b` is looked at.
+/// The least key that both nodes read alike, with the first write of it, once this operation of `b`
+/// is looked at.
 fn least_after(
     history: &History,
     a: NodeIx,
@@ -81,7 +82,8 @@ fn least_write(history: &History, a: NodeIx, b: NodeIx) -> Option<KeyWrite>
     least
 }
 
-/// The first read in `a` of the least key that both nodes read alike and `b` writes, and the first write of it in `b`.
+/// The first read in `a` of the least key that both nodes read alike and `b` writes, and the first
+/// write of it in `b`.
 pub fn overwritten_by(history: &History, a: NodeIx, b: NodeIx) -> Option<Operations>
     requires clean { IsClean (log_of history.now) }
     requires first { IsNode history.now a }

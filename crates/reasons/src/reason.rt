@@ -20,10 +20,12 @@ pub enum Reason {
     Session,
     /// Operation `read` of the second names the write that is operation `written` of the first.
     Read { written: usize, read: usize },
-    /// Both read the same write of a key, by operation `read` of the first, and operation `overwrites` of the second writes the key.
+    /// Both read the same write of a key, by operation `read` of the first, and operation
+    /// `overwrites` of the second writes the key.
     Overwritten { read: usize, overwrites: usize },
-    /// Operation `read` of the first names a key's initial value, or a write of the chain that begins with it; operation `begins` of
-    /// the second, which reads the key from nobody, writes it.
+    /// Operation `read` of the first names a key's initial value, or a write of the chain that
+    /// begins with it; operation `begins` of the second, which reads the key from nobody, writes
+    /// it.
     Initial { read: usize, begins: usize },
     /// The first ended before the second began.
     Moments,
@@ -54,7 +56,8 @@ fn ended_before(history: &History, a: NodeIx, b: NodeIx) -> bool
     }
 }
 
-/// Why `a` stands before `b` in each serial order, where the log shows it. The one error is that memory runs out.
+/// Why `a` stands before `b` in each serial order, where the log shows it. The one error is that
+/// memory runs out.
 pub fn reason_of(
     alloc: Global,
     history: &History,

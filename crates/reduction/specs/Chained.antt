@@ -24,7 +24,8 @@ pub record HasItsOrders (ss : List ClientSession) (p : Polygraph) : Type 0 where
 pub record HasNoSerialOrder (ss : List ClientSession) : Type 0 where
   pub none : (order : List ℕ) → IsSerialOrder ss order → ⊥
 
--- neither an anomaly stands nor have the arcs a cycle, and there are at most 100,000 choices between chains
+-- neither an anomaly stands nor have the arcs a cycle, and there are at most 100,000 choices
+-- between chains
 pub record IsCoalesced (log : Log) : Type 0 where
   pub anomaly : anomaly_of log ≡ None
   pub acyclic : IsCyclic (arcs log) → ⊥
@@ -38,4 +39,5 @@ pub record IsUnpruned (log : Log) (p : Polygraph) : Type 0 where
 
 -- a cycle of the arcs or, where these have none, of all known edges of the chains
 abbrev pub IsKnownCycle : Log → List ℕ → Type 0
-IsKnownCycle log line = IsCycle (arcs log) line ⊎ (IsCoalesced log × IsCycle (chain_polygraph log).known line)
+IsKnownCycle log line = IsCycle (arcs log) line
+    ⊎ (IsCoalesced log × IsCycle (chain_polygraph log).known line)

@@ -30,14 +30,16 @@ pub record IsCyclicHistory (ss : List ClientSession) (line : List ℕ) : Type 0 
   pub within : All (λ v. v ≤ (log_of ss).nodes) line
   pub orders : HasNoSerialOrder ss
 
--- the known edges of the chains have no cycle, and the ledger shows that the polygraph of the chains is dead
+-- the known edges of the chains have no cycle, and the ledger shows that the polygraph of the
+-- chains is dead
 pub record IsDeadHistory (ss : List ClientSession) (ledger : Ledger) : Type 0 where
   pub poly : Polygraph
   pub unpruned : IsUnpruned (log_of ss) poly
   pub dead : IsDeadBy poly ledger
   pub orders : HasNoSerialOrder ss
 
--- this is what pruning leaves of the polygraph of the chains, and the orders that fit it are the serial ones
+-- this is what pruning leaves of the polygraph of the chains, and the orders that fit it are the
+-- serial ones
 pub record IsOpenHistory (ss : List ClientSession) (reduced : Remainder) : Type 0 where
   pub poly : Polygraph
   pub unpruned : IsUnpruned (log_of ss) poly
@@ -45,7 +47,8 @@ pub record IsOpenHistory (ss : List ClientSession) (reduced : Remainder) : Type 
   pub orders : HasItsOrders ss reduced.poly
 
 -- the polygraph of the chains has so many choices, and this is what pruning leaves of it
-pub record IsCountedHistory (ss : List ClientSession) (choices : ℕ) (reduced : Remainder) : Type 0 where
+pub record IsCountedHistory (ss : List ClientSession) (choices : ℕ)
+    (reduced : Remainder) : Type 0 where
   pub counted : choices ≡ length (chain_choices (log_of ss))
   pub left : IsOpenHistory ss reduced
 
@@ -56,8 +59,10 @@ IsReduction ss (Cyclic line) = IsCyclicHistory ss line.items
 IsReduction ss (Dead ledger) = IsDeadHistory ss ledger
 IsReduction ss (Open choices reduced) = IsCountedHistory ss choices reduced
 
--- where neither an anomaly stands nor the arcs have a cycle, there are more than 100,000 choices between chains; of want of
+-- where neither an anomaly stands nor the arcs have a cycle, there are more than 100,000 choices
+-- between chains; of want of
 -- memory nothing is said
 abbrev pub IsReduceFault : List ClientSession → PolyFault → Type 0
-IsReduceFault ss TooManyChoices = (anomaly_of (log_of ss) ≡ None) × (IsCyclic (arcs (log_of ss)) → ⊥) × (MAX_CHOICES < length (chain_choices (log_of ss)))
+IsReduceFault ss TooManyChoices = (anomaly_of (log_of ss) ≡ None)
+    × (IsCyclic (arcs (log_of ss)) → ⊥) × (MAX_CHOICES < length (chain_choices (log_of ss)))
 IsReduceFault ss Memory = Unit {0}

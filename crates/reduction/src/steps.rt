@@ -38,7 +38,8 @@ pub fn open_chains<'a>(alloc: Global, history: &'a History) -> Result<Chains<'a>
     Ok(found.unwrap())
 }
 
-/// The polygraph of the chains of a clean history, to which its arcs are given, which have no cycle.
+/// The polygraph of the chains of a clean history, to which its arcs are given, which have no
+/// cycle.
 fn chained(alloc: Global, history: &History, arcs: Known) -> Result<Polygraph, PolyFault>
     requires clean { IsClean (log_of history.now) }
     requires arcs { arcs ≡ arc_graph (log_of history.now) }
@@ -67,12 +68,12 @@ fn reduce_clean<G: Gate, R: Threads + Wait + Clock + Sync>(
     ensures fault { IfErr result (IsReduceFault history.now) }
 {
     let arcs = Known::of(alloc, history)?;
-    let _nodes = arcs.nodes();
+    let _invariant = arcs.nodes();
     if let Some(cycle) = arcs.find_cycle(alloc)? {
         return Ok(Reduction::Cyclic(cycle));
     }
     let polygraph = chained(alloc, history, arcs)?;
-    let _nodes = polygraph.nodes();
+    let _invariant = polygraph.nodes();
     if let Some(cycle) = polygraph.known().find_cycle(alloc)? {
         return Ok(Reduction::Cyclic(cycle));
     }
@@ -83,12 +84,13 @@ fn reduce_clean<G: Gate, R: Threads + Wait + Clock + Sync>(
     }
 }
 
-/// What is left of a history for a search: the first of its anomaly, a cycle of its arcs, a cycle of all known edges
-/// of its chains, and what pruning gives, for which so many workers pass the gate before their turns.
+/// What is left of a history for a search: the first of its anomaly, a cycle of its arcs, a cycle
+/// of all known edges of its chains, and what pruning gives, for which so many workers pass the
+/// gate before their turns.
 ///
 /// # Errors
-/// `TooManyChoices` where there are more than 100,000 choices between chains, and neither an anomaly nor a cycle of
-/// the arcs was found; `Memory` where memory was refused.
+/// `TooManyChoices` where there are more than 100,000 choices between chains, and neither an
+/// anomaly nor a cycle of the arcs was found; `Memory` where memory was refused.
 pub fn reduce<G: Gate, R: Threads + Wait + Clock + Sync>(
     rt: &R,
     alloc: Global,
@@ -101,7 +103,7 @@ pub fn reduce<G: Gate, R: Threads + Wait + Clock + Sync>(
     ensures reduction { IfOk result (IsReduction history.now) }
     ensures fault { IfErr result (IsReduceFault history.now) }
 {
-    let _nodes = history.committed();
+    let _invariant = history.committed();
     match classify(alloc, history)? {
         Some(anomaly) => Ok(Reduction::Anomalous(anomaly)),
         None => reduce_clean(rt, alloc, history, workers, gate),

@@ -10,7 +10,8 @@ use Rattle.refutation.specs.declared.checker.Shown.TheVariants.{Nothing, Forced,
 
 -- there is no such clause, or more than one of its literals is left
 pub record ShowsNothing (old new : Standing) (k : ℕ) : Type 0 where
-  pub left : (c : List Literal) → clause_at old.clauses k ≡ Some c → 2 ≤ length (left_of old.known c)
+  pub left : (c : List Literal) → clause_at old.clauses k ≡ Some c
+      → 2 ≤ length (left_of old.known c)
   pub same : new ≡ old
 
 -- the literal l alone is left, and is known to be true now

@@ -15,5 +15,7 @@ abbrev pub standing : List (Option (List Literal)) → List Literal → List (Op
 standing clauses step known = record { clauses = clauses; step = step; known = known }
 
 -- what is known holds wherever all clauses are true and the step's clause is false
-pub record IsSound (clauses : List (Option (List Literal))) (step : List Literal) (known : List (Option Bool)) : Type 0 where
-  pub assumed : (values : List Bool) → SatisfiesAll values clauses → clause_true values step ≡ false → Agrees known values
+pub record IsSound (clauses : List (Option (List Literal))) (step : List Literal)
+    (known : List (Option Bool)) : Type 0 where
+  pub assumed : (values : List Bool) → SatisfiesAll values clauses → clause_true values step ≡ false
+      → Agrees known values

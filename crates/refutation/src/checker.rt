@@ -1,6 +1,7 @@
 //! The checker.
 
-ghost use Rattle.std.specs.Prelude.{◌≡◌, ◌∷◌, [], ◌++◌, None, Some, length, slice_set, OnOk, OnErr, IfOk, MatchOption, IsTrue, ◌↔◌, Contains};
+ghost use Rattle.std.specs.Prelude.{◌≡◌, ◌∷◌, [], ◌++◌, None, Some, length, slice_set, OnOk, OnErr};
+ghost use Rattle.std.specs.Prelude.{IfOk, MatchOption, IsTrue, ◌↔◌, Contains};
 ghost use Rattle.refutation.specs.Follows.{Entails, IsRefuted};
 ghost use Rattle.refutation.specs.Known.{Assumes, left_of, with_false, all_open};
 ghost use Rattle.refutation.specs.Left.{IsLeft};
@@ -45,7 +46,12 @@ impl Model for Checker {
 impl Checker {
     /// A checker without clauses, for variables below a number.
     pub fn new(alloc: Global, variables: usize) -> Result<Checker, AllocError>
-        ensures { IfOk result (λ c. c ≡ record { clauses = []; step = []; known = all_open variables }) }
+        ensures { IfOk result (λ c. c ≡ record {
+          clauses = [];
+          step = [];
+          known = all_open
+              variables;
+        }) }
     {
         let assigned = Assignment::new(alloc, variables)?;
         Ok(Checker {
@@ -57,17 +63,20 @@ impl Checker {
 
     /// Takes a clause for granted, as those of the formula are.
     pub fn give(&mut self, clause: &[Literal]) -> Result<(), AllocError>
-        ensures given { OnOk result (self.new ≡ record self.old { clauses = self.old.clauses ++ Some clause.now ∷ [] }) }
+        ensures given { OnOk result (self.new ≡ record self.old
+            { clauses = self.old.clauses ++ Some clause.now ∷ [] }) }
         ensures same { OnErr result (self.new ≡ self.old) }
     {
         self.clauses.push(clause)
     }
 
-    /// Begins a step: the literals of its clause are assumed false, and what an earlier step knew is forgotten.
+    /// Begins a step: the literals of its clause are assumed false, and what an earlier step knew
+    /// is forgotten.
     pub fn begin(&mut self, step: &[Literal]) -> Result<(), AllocError>
         ensures clauses { self.new.clauses ≡ self.old.clauses }
         ensures step { OnOk result (self.new.step ≡ step.now) }
-        ensures known { OnOk result (self.new.known ≡ with_false step.now (all_open (length self.old.known))) }
+        ensures known { OnOk result (self.new.known ≡ with_false step.now
+            (all_open (length self.old.known))) }
     {
         self.assigned.clear();
         self.step.clear();

@@ -1,6 +1,7 @@
 //! Clauses by their numbers.
 
-ghost use Rattle.std.specs.Prelude.{◌≡◌, ◌∷◌, [], ◌++◌, None, Some, length, slice_set, OnOk, OnErr, IfOk, MatchOption};
+ghost use Rattle.std.specs.Prelude.{◌≡◌, ◌∷◌, [], ◌++◌, None, Some, length, slice_set, OnOk, OnErr};
+ghost use Rattle.std.specs.Prelude.{IfOk, MatchOption};
 ghost use Rattle.refutation.specs.Numbered.{clause_at};
 
 use serializability::Literal;
@@ -14,8 +15,8 @@ struct Span {
     end: usize,
 }
 
-/// Clauses by their numbers, counted from 0 in the order in which they came. A clause that is forgotten leaves its number
-/// unused.
+/// Clauses by their numbers, counted from 0 in the order in which they came. A clause that is
+/// forgotten leaves its number unused.
 #[derive(Drop)]
 pub struct Clauses {
     alloc: Global,
@@ -59,7 +60,8 @@ impl Clauses {
 
     /// The clause with a number.
     pub fn get(&self, number: usize) -> Option<&[Literal]>
-        ensures { MatchOption result (clause_at self.now number ≡ None) (λ c. clause_at self.now number ≡ Some c.now) }
+        ensures { MatchOption result (clause_at self.now number ≡ None)
+            (λ c. clause_at self.now number ≡ Some c.now) }
     {
         match self.spans.get(number) {
             Some(Some(span)) => Some(&self.literals[span.start..span.end]),
@@ -117,7 +119,8 @@ impl Clauses {
         Ok(packed)
     }
 
-    /// Gives back the memory of forgotten clauses, once it is more than that of all others and of the numbers.
+    /// Gives back the memory of forgotten clauses, once it is more than that of all others and of
+    /// the numbers.
     pub fn reclaim(&mut self) -> Result<(), AllocError>
         ensures { self.new ≡ self.old }
     {

@@ -10,9 +10,9 @@ use crate::checker::{Checker, Shown};
 use serializability::Literal;
 use std::alloc::AllocError;
 
-/// Takes a step: shows the clauses with the numbers in `hints`, in turn, until the step is closed, and says whether it was.
-/// A step is not taken where a hint shows nothing, or where the hints end before it is closed. A literal that a clause has
-/// twice counts twice.
+/// Takes a step: shows the clauses with the numbers in `hints`, in turn, until the step is closed,
+/// and says whether it was. A step is not taken where a hint shows nothing, or where the hints end
+/// before it is closed. A literal that a clause has twice counts twice.
 pub fn take_step(
     checker: &mut Checker,
     step: &[Literal],

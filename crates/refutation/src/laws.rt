@@ -6,5 +6,6 @@ ghost use Rattle.refutation.specs.Follows.{Entails, IsRefuted};
 
 /// A formula whose clauses are refuted is satisfied by no assignment.
 pub fn refuted_formula_is_not_satisfied()
-    ensures { (f : Cnf) → IsRefuted (map Some f.clauses) → (values : List Bool) → Satisfies values f → ⊥ }
+    ensures { (f : Cnf) → IsRefuted (map Some f.clauses) → (values : List Bool) → Satisfies values f
+        → ⊥ }
 {}

@@ -17,7 +17,7 @@ fn negative(variable: u32) -> Literal {
     }
 }
 
-// What the clause with this number shows: -1 that the step is closed, 0 nothing, a variable else.
+/// What the clause with this number shows: -1 that the step is closed, 0 nothing, a variable else.
 fn shows(rt: &impl Abort, checker: &mut Checker, index: usize) -> i64 {
     match checker.show(index).expect(rt, "memory") {
         Shown::Closed => -1,
@@ -26,7 +26,7 @@ fn shows(rt: &impl Abort, checker: &mut Checker, index: usize) -> i64 {
     }
 }
 
-// The four clauses over two variables.
+/// The four clauses over two variables.
 fn give_all(rt: &impl Abort, checker: &mut Checker) {
     checker
         .give(&[positive(1), positive(2)])
@@ -42,7 +42,7 @@ fn give_all(rt: &impl Abort, checker: &mut Checker) {
         .expect(rt, "memory");
 }
 
-// The steps 1 (by clauses 0 and 1) and the empty clause (by 4, 2 and 3).
+/// The steps 1 (by clauses 0 and 1) and the empty clause (by 4, 2 and 3).
 fn take_steps(rt: &impl Abort, checker: &mut Checker) {
     checker.begin(&[positive(1)]).expect(rt, "memory");
     assert_eq!(rt; shows(rt, checker, 2), 0);
@@ -63,7 +63,7 @@ fn four_clauses_are_refuted(rt: HostRuntime) {
     assert!(rt; checker.is_refuted());
 }
 
-// Whether a step by hints is taken.
+/// Whether a step by hints is taken.
 fn takes(rt: &impl Abort, checker: &mut Checker, step: &[Literal], hints: &[usize]) -> bool {
     take_step(checker, step, hints).expect(rt, "memory")
 }

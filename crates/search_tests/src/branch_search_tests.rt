@@ -2,7 +2,7 @@ ghost use Rattle.reduction.specs.Chained.{HasItsOrders};
 
 use branch_search::{
     Alternate, Answer, Budget, ByWords, CubeView, Decision, FirstOpen, Growth, MostEdges, NodeLine,
-    Strategy, Tree, TreeNode, check_tree, search,
+    Strategy, Tree, TreeNode, search,
 };
 use decode_order::replay;
 use desk::gate::{Gate, OpenGate};
@@ -22,15 +22,16 @@ use std::test::*;
 use std::thread;
 use std::thread::Threads;
 use std::time::{Clock, Duration};
+use tree_checks::check_tree;
 
-// Two writers of each of two keys, and a reader of each pair of them: two open choices, and each of the four
-// cubes that decide both has a cycle.
+/// Two writers of each of two keys, and a reader of each pair of them: two open choices, and each
+/// of the four cubes that decide both has a cycle.
 const EIGHT: &str = "session 1\nbegin\nw x 1\ncommit\nsession 2\nbegin\nw x 2\ncommit\n\
     session 3\nbegin\nw y 3\ncommit\nsession 4\nbegin\nw y 4\ncommit\n\
     session 5\nbegin\nr x 1\nr y 3\ncommit\nsession 6\nbegin\nr x 1\nr y 4\ncommit\n\
     session 7\nbegin\nr x 2\nr y 3\ncommit\nsession 8\nbegin\nr x 2\nr y 4\ncommit\n";
 
-// Six writers of one key, which may come in any order: fifteen open choices.
+/// Six writers of one key, which may come in any order: fifteen open choices.
 const SIX_WRITERS: &str = "session 1\nbegin\nw x 1\ncommit\nsession 2\nbegin\nw x 2\ncommit\n\
     session 3\nbegin\nw x 3\ncommit\nsession 4\nbegin\nw x 4\ncommit\n\
     session 5\nbegin\nw x 5\ncommit\nsession 6\nbegin\nw x 6\ncommit\n";
@@ -51,7 +52,7 @@ fn read<R: Threads + Wait + Clock + Abort + Sync>(rt: &R, alloc: Global, log: &s
     history.expect(rt, "a history")
 }
 
-// What pruning leaves of a history's polygraph.
+/// What pruning leaves of a history's polygraph.
 fn reduced_of<R: Threads + Wait + Clock + Abort + Sync>(
     rt: &R,
     alloc: Global,
@@ -66,7 +67,7 @@ fn reduced_of<R: Threads + Wait + Clock + Abort + Sync>(
     }
 }
 
-// The tree that a search of the eight transactions ends with.
+/// The tree that a search of the eight transactions ends with.
 fn tree_of_eight<S: Strategy, G: Gate, R: Threads + Wait + Clock + Abort + Sync>(
     rt: &R,
     alloc: Global,
@@ -109,7 +110,7 @@ fn seven_nodes_refute_every_cube(rt: HostRuntime) {
     }
 }
 
-// The cycle of the last node, or nothing where that is no leaf.
+/// The cycle of the last node, or nothing where that is no leaf.
 fn last_cycle(rt: &impl Abort, alloc: Global, nodes: &[TreeNode]) -> NodeLine {
     match &nodes.last().expect(rt, "a node").growth {
         Growth::Leaf(line) => {
@@ -119,7 +120,7 @@ fn last_cycle(rt: &impl Abort, alloc: Global, nodes: &[TreeNode]) -> NodeLine {
     }
 }
 
-// The last two nodes are leaves: the last one with the cycle of the other.
+/// The last two nodes are leaves: the last one with the cycle of the other.
 fn with_another_cycle(rt: &impl Abort, alloc: Global, mut nodes: Vec<TreeNode>) -> Vec<TreeNode> {
     let mut last = nodes.pop().expect(rt, "a node");
     last.growth = Growth::Leaf(last_cycle(rt, alloc, &nodes));
@@ -127,7 +128,7 @@ fn with_another_cycle(rt: &impl Abort, alloc: Global, mut nodes: Vec<TreeNode>) 
     nodes
 }
 
-// The last node by the side of the other.
+/// The last node by the side of the other.
 fn with_another_side(rt: &impl Abort, mut nodes: Vec<TreeNode>) -> Vec<TreeNode> {
     let mut last = nodes.pop().expect(rt, "a node");
     let Decision { choice, side: _ } = last.decision.expect(rt, "a decision");
@@ -142,7 +143,7 @@ fn without_the_last(mut nodes: Vec<TreeNode>) -> Vec<TreeNode> {
     nodes
 }
 
-// The tree of the eight transactions with its last leaf changed.
+/// The tree of the eight transactions with its last leaf changed.
 fn changed_tree<R: Threads + Wait + Clock + Abort + Sync>(
     rt: &R,
     alloc: Global,
@@ -168,7 +169,7 @@ fn changed_trees_show_nothing(rt: HostRuntime) {
     }
 }
 
-// Whether a search by so many workers finds an order of the six writers that replays.
+/// Whether a search by so many workers finds an order of the six writers that replays.
 fn orders_six<R: Threads + Wait + Clock + Abort + Sync>(
     rt: &R,
     alloc: Global,
@@ -186,7 +187,7 @@ fn orders_six<R: Threads + Wait + Clock + Abort + Sync>(
     }
 }
 
-// Fifteen choices are open, and a budget of many fewer cubes than there are suffices.
+/// Fifteen choices are open, and a budget of many fewer cubes than there are suffices.
 #[test]
 fn orders_are_replayed(rt: HostRuntime) {
     assert!(rt; orders_six(&rt, rt.alloc(), 1));
@@ -202,7 +203,7 @@ fn strategies_in_turn(rt: HostRuntime) {
     assert_eq!(rt; tree.nodes().len(), 7);
 }
 
-// Holds a seat at its first turn 0 until the other has once come to a turn 1, and counts turns.
+/// Holds a seat at its first turn 0 until the other has once come to a turn 1, and counts turns.
 #[derive(Drop)]
 struct Holding {
     held: u8,
@@ -227,7 +228,7 @@ impl Gate for Holding {
 }
 
 impl Holding {
-    // Looks at most 10,000 times, a millisecond apart.
+    /// Looks at most 10,000 times, a millisecond apart.
     fn wait<R: Clock>(&self, rt: &R) {
         for _ in 0..10_000 {
             if self.came.load(Ordering::SeqCst) {
@@ -258,7 +259,7 @@ fn each_of_two_workers_takes_turns(rt: HostRuntime) {
     }
 }
 
-// Picks the first open choice, and at depth 1 waits until a second such pick has begun.
+/// Picks the first open choice, and at depth 1 waits until a second such pick has begun.
 #[derive(Drop)]
 struct Meeting {
     begun: AtomicU64,
@@ -266,7 +267,7 @@ struct Meeting {
 }
 
 impl Meeting {
-    // Looks at most 100,000,000 times.
+    /// Looks at most 100,000,000 times.
     fn wait(&self) {
         for _ in 0..100_000_000 {
             if self.begun.load(Ordering::SeqCst) >= 2 {

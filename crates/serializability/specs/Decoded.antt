@@ -1,5 +1,6 @@
 -- The order that an assignment stands for.
-use Rattle.std.specs.Prelude.{◌≡◌, ◌≢◌, ◌⊎◌, true, false, ℕ, ◌+◌, ◌<◌, ◌≤◌, ◌==◌, ◌&&◌, ◌||◌, not, Bool, List, length, slice_index, EachIndex}
+use Rattle.std.specs.Prelude.{◌≡◌, ◌≢◌, ◌⊎◌, true, false, ℕ, ◌+◌, ◌<◌, ◌≤◌, ◌==◌, ◌&&◌, ◌||◌, not}
+use Rattle.std.specs.Prelude.{Bool, List, length, slice_index, EachIndex}
 use Rattle.std.specs.List.{count_by, range_with_len, All}
 use Rattle.serializability.specs.Formula.{Cnf, Satisfies, literal_true, IsInRange, HasShortClauses}
 use Rattle.serializability.specs.Pairs.{Known, free_pairs, edge_literal}
@@ -31,9 +32,11 @@ pub record IsOrder (n : ℕ) (r : ℕ → ℕ → Bool) : Type 0 where
 pub record IsDecoded (n : ℕ) (r : ℕ → ℕ → Bool) (order : List ℕ) : Type 0 where
   pub places : length order ≡ n
   pub nodes : All (λ v. (0 < v) × (v ≤ n)) order
-  pub each : EachIndex order (λ p. count_by (λ u. r u (slice_index order p)) (range_with_len 0 (n + 1)) ≡ p + 1)
+  pub each : EachIndex order (λ p. count_by (λ u. r u (slice_index order p))
+      (range_with_len 0 (n + 1)) ≡ p + 1)
 
--- a formula of at most 1,000 nodes and 20,000,000 clauses, each satisfying assignment of which stands for an order of the nodes
+-- a formula of at most 1,000 nodes and 20,000,000 clauses, each satisfying assignment of which
+-- stands for an order of the nodes
 pub record IsFormula (f : Cnf) : Type 0 where
   pub few_nodes : f.nodes ≤ MAX_NODES
   pub few_clauses : length f.clauses ≤ MAX_CLAUSES

@@ -1,5 +1,6 @@
 -- Pairs of nodes: of some it is known which comes first, and each other one has a variable.
-use Rattle.std.specs.Prelude.{ℕ, suc, ◌==◌, ◌&&◌, nat_lt, not, Bool, true, false, if◌then◌else◌, List, [], ◌∷◌, ◌++◌, map}
+use Rattle.std.specs.Prelude.{ℕ, suc, ◌==◌, ◌&&◌, nat_lt, not, Bool, true, false, if◌then◌else◌}
+use Rattle.std.specs.Prelude.{List, [], ◌∷◌, ◌++◌, map}
 use Rattle.std.specs.List.{filter, flat_map, list_any}
 use Rattle.serializability.specs.declared.literal.Literal.{Literal}
 use Rattle.serializability.specs.Polygraph.{Edge}
@@ -49,4 +50,5 @@ triple_clauses known pairs t =
     ++ edge_clause known pairs ((t.0, t.1) ∷ (t.1, t.2) ∷ (t.2, t.0) ∷ [])
 
 abbrev pub order_clauses : Known → List ℕ → List (List Literal)
-order_clauses known nodes = flat_map (triple_clauses known (free_pairs known nodes)) (triples_of nodes)
+order_clauses known nodes = flat_map (triple_clauses known (free_pairs known nodes))
+    (triples_of nodes)

@@ -1,4 +1,5 @@
--- The plain formula of a log, in which each pair of nodes 0 to n has a variable, and the contradiction.
+-- The plain formula of a log, in which each pair of nodes 0 to n has a variable, and the
+-- contradiction.
 use Rattle.std.specs.Prelude.{ℕ, ◌+◌, true, false, List, [], ◌∷◌, ◌++◌, length, map}
 use Rattle.std.specs.List.{range_with_len}
 use Rattle.serializability.specs.declared.literal.Literal.{Literal}
@@ -20,7 +21,8 @@ plain_pairs n = free_pairs nothing_known (plain_nodes n)
 abbrev pub literals_of : ℕ → List Edge → List Literal
 literals_of n edges = map (λ e. edge_literal (plain_pairs n) e.0 e.1) edges
 
--- of a polygraph with one edge a side: a unit for each known edge, a clause for each choice, and the triples of nodes 0 to n
+-- of a polygraph with one edge a side: a unit for each known edge, a clause for each choice, and
+-- the triples of nodes 0 to n
 abbrev pub plain_of : Polygraph → Cnf
 plain_of p = record {
   nodes = p.nodes;
@@ -40,5 +42,6 @@ contradiction = record {
   nodes = 0;
   known = nothing_known;
   variables = 1;
-  clauses = (record { variable = 1; positive = true } ∷ []) ∷ (record { variable = 1; positive = false } ∷ []) ∷ [];
+  clauses = (record { variable = 1; positive = true } ∷ []) ∷
+      (record { variable = 1; positive = false } ∷ []) ∷ [];
 }

@@ -1,5 +1,6 @@
 -- Arcs, bipaths and the orders that fit them.
-use Rattle.std.specs.Prelude.{◌⊎◌, ℕ, ◌+◌, ◌==◌, ◌&&◌, ◌||◌, not, List, [], ◌∷◌, Option, None, Some, Bool, false, unwrap_or, is_some, map}
+use Rattle.std.specs.Prelude.{◌⊎◌, ℕ, ◌+◌, ◌==◌, ◌&&◌, ◌||◌, not, List, [], ◌∷◌, Option, None, Some}
+use Rattle.std.specs.Prelude.{Bool, false, unwrap_or, is_some, map}
 use Rattle.std.specs.List.{find, filter, flat_map, list_any, range_with_len, AllByRecursion}
 use Rattle.std.specs.Option.{option_map, option_map_or}
 use Rattle.serializability.specs.Log.{Log, precedes}
@@ -56,13 +57,16 @@ abbrev pub source : Log → ℕ → ℕ → Option ℕ
 source log r x = option_map (writer_of log x) (external_read x (log.ops r))
 
 abbrev pub reads_from : Log → ℕ → ℕ → Bool
-reads_from log r w = list_any (λ x. option_map_or (λ u. u == w) (source log r x) false) (all_keys log)
+reads_from log r w = list_any (λ x. option_map_or (λ u. u == w) (source log r x) false)
+    (all_keys log)
 
--- an arc: from node 0, to the next of the session, from a writer to its reader, or to a node that began behind the end of another
+-- an arc: from node 0, to the next of the session, from a writer to its reader, or to a node that
+-- began behind the end of another
 abbrev pub is_arc : Log → Edge → Bool
 is_arc log e =
     not (e.1 == 0)
-    && ((e.0 == 0) || (((e.0 + 1 == e.1) && (log.session e.0 == log.session e.1)) || (reads_from log e.1 e.0 || precedes log e.0 e.1)))
+    && ((e.0 == 0) || (((e.0 + 1 == e.1) && (log.session e.0 == log.session e.1)) ||
+    (reads_from log e.1 e.0 || precedes log e.0 e.1)))
 
 -- by (from, to)
 abbrev pub arcs : Log → List Edge
@@ -82,7 +86,8 @@ bipaths_at log r x (Some w) = map (rival_choice w r) (filter (is_rival log x w r
 
 -- by reader, key and other writer
 abbrev pub bipaths : Log → List Choice
-bipaths log = flat_map (λ r. flat_map (λ x. bipaths_at log r x (source log r x)) (all_keys log)) (committed log)
+bipaths log = flat_map (λ r. flat_map (λ x. bipaths_at log r x (source log r x)) (all_keys log))
+    (committed log)
 
 abbrev pub bipath_polygraph : Log → Polygraph
 bipath_polygraph log = record { nodes = log.nodes; known = arcs log; choices = bipaths log }

@@ -46,6 +46,8 @@ pub record ListsOnce (n : ℕ) (order : List ℕ) : Type 0 where
 -- the order explains every read, and keeps the order of each session and that of the stated moments
 pub record IsSerial (log : Log) (order : List ℕ) : Type 0 where
   pub once : ListsOnce log.nodes order
-  pub sessions : (a b : ℕ) → 0 < a → a < b → b ≤ log.nodes → log.session a ≡ log.session b → Before order a b
-  pub moments : (a b : ℕ) → 0 < a → a ≤ log.nodes → 0 < b → b ≤ log.nodes → precedes log a b ≡ true → Before order a b
+  pub sessions : (a b : ℕ) → 0 < a → a < b → b ≤ log.nodes → log.session a ≡ log.session b
+      → Before order a b
+  pub moments : (a b : ℕ) → 0 < a → a ≤ log.nodes → 0 < b → b ≤ log.nodes → precedes log a b ≡ true
+      → Before order a b
   pub reads : Meets empty (flat_map log.ops order)

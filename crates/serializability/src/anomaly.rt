@@ -15,7 +15,8 @@ pub enum ReadAnomaly {
     OwnWriteMissed,
     /// An external read of a later write of its own transaction.
     Future,
-    /// An external read, where an earlier external read of the key in the transaction names another identity.
+    /// An external read, where an earlier external read of the key in the transaction names another
+    /// identity.
     Split,
 }
 

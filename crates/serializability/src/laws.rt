@@ -15,7 +15,8 @@ pub fn serial_exactly_when_fitting()
         (IsSerial log order ↔ Fits (bipath_polygraph log) order) }
 {}
 
-/// What a satisfying assignment of a plain formula puts before what is a strict total order of the nodes.
+/// What a satisfying assignment of a plain formula puts before what is a strict total order of the
+/// nodes.
 pub fn satisfying_assignment_is_order()
     ensures { (log : Log) (values : List Bool) → Satisfies values (plain log) →
         IsOrder log.nodes (before (plain log) values) }
@@ -26,7 +27,9 @@ pub fn plain_formula_is_serializability()
     ensures some { (log : Log) → IsClean log → (order : List ℕ) → IsSerial log order →
         ((values : List Bool) × Satisfies values (plain log)) }
     ensures each { (log : Log) → IsClean log → (values : List Bool) → Satisfies values (plain log) →
-        (order : List ℕ) → IsDecoded log.nodes (before (plain log) values) order → IsSerial log order }
-    ensures decodes { (log : Log) → IsClean log → (values : List Bool) → Satisfies values (plain log) →
+        (order : List ℕ) → IsDecoded log.nodes (before (plain log) values) order
+        → IsSerial log order }
+    ensures decodes { (log : Log) → IsClean log → (values : List Bool)
+        → Satisfies values (plain log) →
         ((order : List ℕ) × IsDecoded log.nodes (before (plain log) values) order) }
 {}

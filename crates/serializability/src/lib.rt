@@ -2,6 +2,9 @@
 //! anomalies, the polygraph of a log and the orders that fit it, and the formula whose satisfying
 //! assignments are those orders.
 //!
+//! Cited by the contracts of nearly all crates. It knows no text, no session and no table of the
+//! code.
+//!
 //! The definitions stand in `specs/`. This crate has the few types that they speak of, and the laws
 //! that join them, each the contract of a function that does nothing.
 #![tactic(auto)]

@@ -19,7 +19,7 @@ use Rattle.session_history.specs.Rows.{row_view}
 use Rattle.session_history.specs.Sources.{reads_view}
 use Rattle.session_history.specs.Held.{numbered_node, node_kept, sessions_of, row_in, IsHistory}
 use Rattle.session_history.specs.declared.nodes.Node.{Node}
-use Rattle.session_history.specs.declared.rows.Row.{Row}
+use Rattle.session_history.specs.declared.rows.KeyRow.{KeyRow}
 use Rattle.session_history.specs.declared.log.History.TheInside.{Inside}
 use Rattle.log_definitions.proofs.FewNodes.{few_nodes}
 use Rattle.log_definitions.proofs.Scanning.{rules_where_no_fault}
@@ -45,7 +45,7 @@ module _ (h : Inside) (k : IsHistory h) where
   pub key_kept : (x : ℕ) (key : List ℕ) → slice_get h.keys.keys x ≡ Some key → slice_get (keys_in (sessions_of h)) x ≡ Some key
   key_kept x key e = ap (λ ks. slice_get ks x) (sym k.keys) ∙ e
 
-  pub row_kept : (x : ℕ) (row : Row) → x < (log_of (sessions_of h)).keys → row ≡ get_or h.rows.items x row → row_view row ≡ row_in (log_of (sessions_of h)) x
+  pub row_kept : (x : ℕ) (row : KeyRow) → x < (log_of (sessions_of h)).keys → row ≡ get_or h.rows.items x row → row_view row ≡ row_in (log_of (sessions_of h)) x
   row_kept x row lt e =
       let at = slice_get_read h.rows.items (length h.rows.items) x row refl (omega (arith, k.rows.count)) e in
       some_same (row_view row) (row_in (log_of its) x) (ap (option_map row_view) (sym at) ∙ k.rows.each x lt)

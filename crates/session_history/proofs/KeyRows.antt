@@ -11,7 +11,7 @@ use Rattle.serializability.specs.declared.event.Event.TheVariants.{Read, Write}
 use Rattle.serializability.specs.Reads.{last_write, external_read, later}
 use Rattle.serializability.proofs.Replays.{last_write-append}
 use Rattle.session_history.specs.declared.nodes.Node.{Node}
-use Rattle.session_history.specs.declared.rows.Row.{Row}
+use Rattle.session_history.specs.declared.rows.KeyRow.{KeyRow}
 use Rattle.session_history.specs.declared.rows.Reader.{Reader}
 use Rattle.session_history.specs.Rows.{RowView, reader_view, row_view, writer_if, reader_if, row_after, row_from, no_row, IsBelow, AreRows, event_key}
 
@@ -101,7 +101,7 @@ reader_by_view : (v : ℕ) (o : Option Reader) → option_map_or (λ r. nat_eq r
 reader_by_view v None = refl
 reader_by_view v (Some r) = refl
 
-module _ (row : Row) (before : RowView) (k v : ℕ) (front : List Event) (h : IsBelow v before) (e : row_view row ≡ row_after before k v front) where
+module _ (row : KeyRow) (before : RowView) (k v : ℕ) (front : List Event) (h : IsBelow v before) (e : row_view row ≡ row_after before k v front) where
   pub is_writer : option_map_or (λ u. nat_eq u v) (slice_get row.writers.items (length row.writers.items - 1)) false ≡ is_some (last_write k front)
   is_writer = ap (λ r. option_map_or (λ u. nat_eq u v) (slice_get r.writers (length r.writers - 1)) false) e ∙ last_writer v before.writers (last_write k front) h.writers
 
@@ -114,7 +114,7 @@ module _ (row : Row) (before : RowView) (k v : ℕ) (front : List Event) (h : Is
       ∙ last_reader v before.readers (external_read k front) h.readers
 
   -- a write that is the first of the node, and one that is not
-  pub write_first : (new : Row) (w : ℕ) → is_some (last_write k front) ≡ false → new.writers.items ≡ row.writers.items ++ v ∷ [] → new.readers ≡ row.readers → row_view new ≡ row_after before k v (front ++ Write k w ∷ [])
+  pub write_first : (new : KeyRow) (w : ℕ) → is_some (last_write k front) ≡ false → new.writers.items ≡ row.writers.items ++ v ∷ [] → new.readers ≡ row.readers → row_view new ≡ row_after before k v (front ++ Write k w ∷ [])
   write_first new w first pushed same = rw (last_write_written k w front, external_read_written k w front)
       (go (last_write k front) first e)
     where
@@ -134,7 +134,7 @@ module _ (row : Row) (before : RowView) (k v : ℕ) (front : List Event) (h : Is
       go (Some w) f g = g
 
   -- a read that is the first operation on the key, and one that is not
-  pub read_first : (new : Row) (r : Reader) (w : ℕ) → is_some (last_write k front) ≡ false → is_some (external_read k front) ≡ false → new.readers.items ≡ row.readers.items ++ r ∷ [] → reader_view r ≡ (v, w) → new.writers ≡ row.writers
+  pub read_first : (new : KeyRow) (r : Reader) (w : ℕ) → is_some (last_write k front) ≡ false → is_some (external_read k front) ≡ false → new.readers.items ≡ row.readers.items ++ r ∷ [] → reader_view r ≡ (v, w) → new.writers ≡ row.writers
       → row_view new ≡ row_after before k v (front ++ Read k w ∷ [])
   read_first new r w unwritten unread pushed is_view same = rw (last_write_read k k w front, external_read_more k w front)
       (go (last_write k front) unwritten (external_read k front) unread e)
@@ -167,7 +167,7 @@ module _ (row : Row) (before : RowView) (k v : ℕ) (front : List Event) (h : Is
 
 -- ---- the rows of all keys
 
-pub rows_same : (keys : ℕ) (f g : ℕ → RowView) (rows : List Row) → ((x : ℕ) → x < keys → f x ≡ g x) → AreRows keys f rows → AreRows keys g rows
+pub rows_same : (keys : ℕ) (f g : ℕ → RowView) (rows : List KeyRow) → ((x : ℕ) → x < keys → f x ≡ g x) → AreRows keys f rows → AreRows keys g rows
 rows_same keys f g rows e h = record {
   count = h.count;
   each = λ x lt. h.each x lt ∙ ap (λ r. Some r) (e x lt);
@@ -186,7 +186,7 @@ slice_get-set_apart (x ∷ xs) (suc k) zero y h = refl
 slice_get-set_apart (x ∷ xs) (suc k) (suc j) y h = slice_get-set_apart xs k j y (ne_eqb k j (λ same. eqb-false (suc k) (suc j) h (ap suc same)))
 
 -- one row changed
-pub rows_entered : (keys v : ℕ) (f : ℕ → RowView) (rows : List Row) (old new : Row) (k : ℕ) (e : Event) (front : List Event) → k ≡ event_key e → k < length rows
+pub rows_entered : (keys v : ℕ) (f : ℕ → RowView) (rows : List KeyRow) (old new : KeyRow) (k : ℕ) (e : Event) (front : List Event) → k ≡ event_key e → k < length rows
     → slice_get rows k ≡ Some old
     → (row_view old ≡ row_after (f k) k v front → row_view new ≡ row_after (f k) k v (front ++ e ∷ []))
     → AreRows keys (λ x. row_after (f x) x v front) rows → AreRows keys (λ x. row_after (f x) x v (front ++ e ∷ [])) (set rows k new)
@@ -213,7 +213,7 @@ row_after_none row x v =
     ap (λ ws. record { writers = ws; readers = row.readers ++ [] }) (append-nil row.writers)
     ∙ ap (λ rs. record { writers = row.writers; readers = rs }) (append-nil row.readers)
 
-pub rows_begin : (keys v : ℕ) (f : ℕ → RowView) (rows : List Row) → AreRows keys f rows → AreRows keys (λ x. row_after (f x) x v []) rows
+pub rows_begin : (keys v : ℕ) (f : ℕ → RowView) (rows : List KeyRow) → AreRows keys f rows → AreRows keys (λ x. row_after (f x) x v []) rows
 rows_begin keys v f rows h = rows_same keys f (λ x. row_after (f x) x v []) rows (λ x _. sym (row_after_none (f x) x v)) h
 
 -- ---- node by node
@@ -254,7 +254,7 @@ node_below nodes i v x h e =
     let P : ℕ → Type 0 = λ n. IsBelow n (row_from no_row x 1 (map (λ (node : Node). node.events.items) (take i nodes))) in
     subst P (let len = length-taken nodes i h in omega (arith, len, e)) (below_from no_row x 1 (map (λ node. node.events.items) (take i nodes)) (below_none 1))
 
-pub node_rows_more : (keys : ℕ) (nodes : List Node) (i v : ℕ) (node : Node) (passed : List Event) (rows : List Row) → i < length nodes → node ≡ get_or nodes i node → v ≡ i + 1 → passed ≡ node.events.items
+pub node_rows_more : (keys : ℕ) (nodes : List Node) (i v : ℕ) (node : Node) (passed : List Event) (rows : List KeyRow) → i < length nodes → node ≡ get_or nodes i node → v ≡ i + 1 → passed ≡ node.events.items
     → AreRows keys (λ x. row_after (row_from no_row x 1 (map (λ n. n.events.items) (take i nodes))) x v passed) rows
     → AreRows keys (λ x. row_from no_row x 1 (map (λ n. n.events.items) (take (i + 1) nodes))) rows
 node_rows_more keys nodes i v node passed rows h at number is rows_are =
@@ -266,7 +266,7 @@ node_rows_more keys nodes i v node passed rows h at number is rows_are =
     rows_are
 
 -- the same, where the step is told at the operation's key
-pub rows_entered_at : (keys v : ℕ) (f : ℕ → RowView) (rows : List Row) (old new : Row) (k : ℕ) (e : Event) (front : List Event) → k ≡ event_key e → k < length rows
+pub rows_entered_at : (keys v : ℕ) (f : ℕ → RowView) (rows : List KeyRow) (old new : KeyRow) (k : ℕ) (e : Event) (front : List Event) → k ≡ event_key e → k < length rows
     → slice_get rows k ≡ Some old
     → (event_key e < keys → row_view old ≡ row_after (f (event_key e)) (event_key e) v front → row_view new ≡ row_after (f (event_key e)) (event_key e) v (front ++ e ∷ []))
     → AreRows keys (λ x. row_after (f x) x v front) rows → AreRows keys (λ x. row_after (f x) x v (front ++ e ∷ [])) (set rows k new)

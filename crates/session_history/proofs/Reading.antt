@@ -4,7 +4,7 @@ use Rattle.std.specs.Option.{option_map}
 use Rattle.std.proofs.lemmas.Bool.{eqb-true, eqb-false, eq-eqb, ne_eqb}
 use Rattle.std.proofs.lemmas.List.{append-nil, map-append, length-map, length-take, length-set, take_more}
 use Rattle.session_history.specs.declared.reads.ReadFrom.{ReadFrom}
-use Rattle.session_history.specs.declared.rows.Row.{Row}
+use Rattle.session_history.specs.declared.rows.KeyRow.{KeyRow}
 use Rattle.session_history.specs.declared.rows.Reader.{Reader}
 use Rattle.session_history.specs.Rows.{reader_view}
 use Rattle.session_history.specs.Sources.{AreReads, reads_view, found_by, found_in, readers_of}
@@ -65,7 +65,7 @@ reader_more n x source g readers i r d reads h at so_far =
     so_far
 
 -- one key more
-pub key_more : (n : ℕ) (source : ℕ → ℕ → ℕ) (rows : List Row) (x : ℕ) (row : Row) (passed : List Reader) (reads : List (Vec ReadFrom Global)) → x < length rows → row ≡ get_or rows x row → passed ≡ row.readers.items
+pub key_more : (n : ℕ) (source : ℕ → ℕ → ℕ) (rows : List KeyRow) (x : ℕ) (row : KeyRow) (passed : List Reader) (reads : List (Vec ReadFrom Global)) → x < length rows → row ≡ get_or rows x row → passed ≡ row.readers.items
     → AreReads n (λ v. found_in 0 source v (map readers_of (take x rows)) ++ found_by x (source x) v (map reader_view passed)) reads
     → AreReads n (λ v. found_in 0 source v (map readers_of (take (x + 1) rows))) reads
 key_more n source rows x row passed reads h at is so_far =

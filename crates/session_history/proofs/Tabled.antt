@@ -28,7 +28,7 @@ use Rattle.session_history.specs.declared.rows.Reader.{Reader}
 use Rattle.session_history.specs.Written.{entry_of, is_last_write, ends_with, HasWrites}
 use Rattle.session_history.specs.Held.{readers_in, row_in, numbered_node, FindsWrites}
 use Rattle.session_history.specs.declared.nodes.Node.{Node}
-use Rattle.session_history.specs.declared.rows.Row.{Row}
+use Rattle.session_history.specs.declared.rows.KeyRow.{KeyRow}
 use Rattle.session_history.specs.declared.writes.Written.{Written}
 use Rattle.session_history.specs.declared.writes.Writes.{Writes}
 use Rattle.session_history.proofs.Stepping.{some_same}
@@ -164,13 +164,13 @@ module _ (ops : ℕ → List Event) (x : ℕ) where
 
 -- ---- all keys
 
-rows_as_map_from : (f : ℕ → RowView) (x : ℕ) (rows : List Row) → ((i : ℕ) → i < length rows → option_map row_view (slice_get rows i) ≡ Some (f (x + i))) → map row_view rows ≡ map f (range_with_len x (length rows))
+rows_as_map_from : (f : ℕ → RowView) (x : ℕ) (rows : List KeyRow) → ((i : ℕ) → i < length rows → option_map row_view (slice_get rows i) ≡ Some (f (x + i))) → map row_view rows ≡ map f (range_with_len x (length rows))
 rows_as_map_from f x [] h = refl
 rows_as_map_from f x (row ∷ rows) h =
     let first : row_view row ≡ f x = some_same (row_view row) (f x) (h 0 (omega arith) ∙ ap (λ y. Some (f y)) (omega arith)) in
     ap (λ r. r ∷ map row_view rows) first ∙ ap (λ l. f x ∷ l) (rows_as_map_from f (x + 1) rows (λ i lt. h (suc i) (omega arith) ∙ ap (λ y. Some (f y)) (omega arith)))
 
-pub rows_as_map : (keys : ℕ) (f : ℕ → RowView) (rows : List Row) → AreRows keys f rows → map row_view rows ≡ map f (range_with_len 0 keys)
+pub rows_as_map : (keys : ℕ) (f : ℕ → RowView) (rows : List KeyRow) → AreRows keys f rows → map row_view rows ≡ map f (range_with_len 0 keys)
 rows_as_map keys f rows h =
     rows_as_map_from f 0 rows (λ i lt. h.each i (omega (arith, h.count)) ∙ ap (λ y. Some (f y)) (omega arith)) ∙ ap (λ n. map f (range_with_len 0 n)) h.count
 
@@ -193,7 +193,7 @@ option_map_same f g None e = refl
 option_map_same f g (Some x) e = ap (λ y. Some y) (e x)
 
 -- what a node reads, by the readers of each key
-pub reads_by_key : (log : Log) (s : ℕ → ℕ → ℕ) (rows : List Row) (v : ℕ) → 0 < v → v ≤ log.nodes → ((x w : ℕ) → s x w ≡ writer_of log x w) → AreRows log.keys (row_in log) rows
+pub reads_by_key : (log : Log) (s : ℕ → ℕ → ℕ) (rows : List KeyRow) (v : ℕ) → 0 < v → v ≤ log.nodes → ((x w : ℕ) → s x w ≡ writer_of log x w) → AreRows log.keys (row_in log) rows
     → found_in 0 s v (map readers_of rows) ≡ sources_of log v
 reads_by_key log s rows v low high writers h =
     ap (found_in 0 s v) (sym (map_map (λ (r : RowView). r.readers) row_view rows) ∙ ap (map (λ (r : RowView). r.readers)) (rows_as_map log.keys (row_in log) rows h) ∙ map_map (λ (r : RowView). r.readers) (row_in log) (range_with_len 0 log.keys))
@@ -335,7 +335,7 @@ named_node ss session place nodes h = named_from session place nodes [] (committ
 
 -- ---- all of it
 
-pub rows_by_log : (ss : List ClientSession) (keys : ℕ) (nodes : List Node) (rows : List Row) → keys ≡ length (keys_in ss) → map node_view nodes ≡ map (numbered_node (keys_in ss)) (committed_in ss)
+pub rows_by_log : (ss : List ClientSession) (keys : ℕ) (nodes : List Node) (rows : List KeyRow) → keys ≡ length (keys_in ss) → map node_view nodes ≡ map (numbered_node (keys_in ss)) (committed_in ss)
     → AreRows keys (λ x. row_from no_row x 1 (map (λ node. node.events.items) nodes)) rows → AreRows (log_of ss).keys (row_in (log_of ss)) rows
 rows_by_log ss keys nodes rows e same h =
     let P : ℕ → Type 0 = λ k. AreRows k (row_in (log_of ss)) rows in
@@ -366,7 +366,7 @@ by_view : (n : ℕ) (rs : List Reader) → AllByRecursion (λ r. (0 < r.0) × (r
 by_view n [] h = tt
 by_view n (r ∷ rs) h = (h.0, by_view n rs h.1)
 
-pub readers_within : (log : Log) (rows : List Row) → AreRows log.keys (row_in log) rows → All (λ row. All (λ r. (0 < r.node) × (r.node ≤ log.nodes)) row.readers.items) rows
+pub readers_within : (log : Log) (rows : List KeyRow) → AreRows log.keys (row_in log) rows → All (λ row. All (λ r. (0 < r.node) × (r.node ≤ log.nodes)) row.readers.items) rows
 readers_within log rows h = λ k d lt.
     let row = get_or rows k d in
     let is : row_view row ≡ row_in log k = some_same (row_view row) (row_in log k) (sym (ap (option_map row_view) (slice_get-get_or rows k d lt)) ∙ h.each k (omega (arith, h.count))) in
@@ -388,7 +388,7 @@ events_within keys ps nodes e same =
     go [] h = tt
     go (n ∷ ns) h = (All-from_recursion (λ event. event_key event < length keys) n.events.items h.0, go ns h.1)
 
-pub reads_by_log : (log : Log) (t : Writes) (rows : List Row) (n : ℕ) (reads : List (Vec ReadFrom Global)) → n ≡ log.nodes → ((v : ℕ) → log.nodes < v → log.ops v ≡ []) → FindsWrites log t → AreRows log.keys (row_in log) rows
+pub reads_by_log : (log : Log) (t : Writes) (rows : List KeyRow) (n : ℕ) (reads : List (Vec ReadFrom Global)) → n ≡ log.nodes → ((v : ℕ) → log.nodes < v → log.ops v ≡ []) → FindsWrites log t → AreRows log.keys (row_in log) rows
     → AreReads n (λ v. found_in 0 (λ x w. final_node (entry_of t w) x) v (map readers_of rows)) reads → AreReads log.nodes (sources_of log) reads
 reads_by_log log t rows n reads e past h rows_are reads_are = record {
   count = reads_are.count ∙ e;
@@ -424,22 +424,22 @@ module _ (ss : List ClientSession) (all : Transactions) (h : HoldsAll all (place
   pub writes_held : all.writes.twice ≡ None → FindsWrites (log_of ss) all.writes
   writes_held once = finds_writes ss all.numbers.texts.items all.writes once keys_held h.writes
 
-  pub rows_held : (keys : ℕ) (passed : List Node) (rows : List Row) → keys ≡ length all.numbers.texts.items → passed ≡ all.nodes.items
+  pub rows_held : (keys : ℕ) (passed : List Node) (rows : List KeyRow) → keys ≡ length all.numbers.texts.items → passed ≡ all.nodes.items
       → AreRows keys (λ x. row_from no_row x 1 (map (λ node. node.events.items) passed)) rows → AreRows (log_of ss).keys (row_in (log_of ss)) rows
   rows_held keys passed rows number same r = rows_by_log ss keys passed rows (number ∙ ap length keys_held) (ap (map node_view) same ∙ nodes_held) r
 
   pub number_held : (n : ℕ) → n ≡ length all.nodes.items → n ≡ (log_of ss).nodes
   number_held n e = e ∙ count_held ∙ sym (log_nodes ss)
 
-  pub readers_held : (n : ℕ) (rows passed : List Row) → n ≡ length all.nodes.items → passed ≡ rows → AreRows (log_of ss).keys (row_in (log_of ss)) rows
+  pub readers_held : (n : ℕ) (rows passed : List KeyRow) → n ≡ length all.nodes.items → passed ≡ rows → AreRows (log_of ss).keys (row_in (log_of ss)) rows
       → All (λ row. All (λ r. (0 < r.node) × (r.node ≤ n)) row.readers.items) passed
   readers_held n rows passed e same r =
-      let P : ℕ → Type 0 = λ m. All (λ (row : Row). All (λ r. (0 < r.node) × (r.node ≤ m)) row.readers.items) rows in
-      let Q : List Row → Type 0 = λ rs. All (λ row. All (λ r. (0 < r.node) × (r.node ≤ n)) row.readers.items) rs in
+      let P : ℕ → Type 0 = λ m. All (λ (row : KeyRow). All (λ r. (0 < r.node) × (r.node ≤ m)) row.readers.items) rows in
+      let Q : List KeyRow → Type 0 = λ rs. All (λ row. All (λ r. (0 < r.node) × (r.node ≤ n)) row.readers.items) rs in
       subst Q (sym same) (subst P (sym (number_held n e)) (readers_within (log_of ss) rows r))
 
-  pub reads_held : (n : ℕ) (rows passed : List Row) (reads : List (Vec ReadFrom Global)) → all.writes.twice ≡ None → n ≡ length all.nodes.items → passed ≡ rows → AreRows (log_of ss).keys (row_in (log_of ss)) rows
+  pub reads_held : (n : ℕ) (rows passed : List KeyRow) (reads : List (Vec ReadFrom Global)) → all.writes.twice ≡ None → n ≡ length all.nodes.items → passed ≡ rows → AreRows (log_of ss).keys (row_in (log_of ss)) rows
       → AreReads n (λ v. found_in 0 (λ x w. final_node (entry_of all.writes w) x) v (map readers_of passed)) reads → AreReads (log_of ss).nodes (sources_of (log_of ss)) reads
   reads_held n rows passed reads once e same r a =
-      let P : List Row → Type 0 = λ rs. AreReads n (λ v. found_in 0 (λ x w. final_node (entry_of all.writes w) x) v (map readers_of rs)) reads in
+      let P : List KeyRow → Type 0 = λ rs. AreReads n (λ v. found_in 0 (λ x w. final_node (entry_of all.writes w) x) v (map readers_of rs)) reads in
       reads_by_log (log_of ss) all.writes rows n reads (number_held n e) (ops_past ss) (writes_held once) r (subst P same a)

@@ -26,12 +26,14 @@ use Rattle.session_history.specs.declared.log.History.TheInside.{Inside}
 
 -- the nodes that read a key externally, ascending, each with the identity that it reads first
 abbrev pub readers_in : Log → ℕ → List (ℕ × ℕ)
-readers_in log x = filter_map (λ v. option_map (λ w. (v, w)) (external_read x (log.ops v))) (committed log)
+readers_in log x = filter_map (λ v. option_map (λ w. (v, w)) (external_read x (log.ops v)))
+    (committed log)
 
 abbrev pub row_in : Log → ℕ → RowView
 row_in log x = record { writers = writers_in log x; readers = readers_in log x }
 
--- The table finds each write by its identity: that of a node, the last of its key there, and that of a transaction that counts
+-- The table finds each write by its identity: that of a node, the last of its key there, and that
+-- of a transaction that counts
 -- as aborted.
 pub record FindsWrites (log : Log) (t : Writes) : Type 0 where
   pub nodes : (x w v : ℕ) → 0 < v → is_write x v (entry_of t w) ≡ writes_as x w (log.ops v)
@@ -39,7 +41,14 @@ pub record FindsWrites (log : Log) (t : Writes) : Type 0 where
   pub aborted : (x w : ℕ) → is_write x 0 (entry_of t w) ≡ list_any (writes_as x w) log.aborted
 
 abbrev pub numbered_node : List (List ℕ) → Committed → NumberedNode
-numbered_node keys node = record { session = node.session; place = node.place; events = events_of keys node.ops; begun = node.begun; ended = node.ended }
+numbered_node keys node = record {
+  session = node.session;
+  place = node.place;
+  events = events_of
+      keys node.ops;
+  begun = node.begun;
+  ended = node.ended;
+}
 
 abbrev pub sessions_of : Inside → List ClientSession
 sessions_of h = map view h.sessions.items
@@ -49,10 +58,13 @@ pub record IsHistory (h : Inside) : Type 0 where
   pub sound : IsWellFormedList (sessions_of h)
   pub taken : (n : ℕ) → contains nat_cmp h.taken n ≡ taken (sessions_of h) n
   pub keys : h.keys.keys ≡ keys_in (sessions_of h)
-  pub nodes : map node_view h.nodes.items ≡ map (numbered_node (keys_in (sessions_of h))) (committed_in (sessions_of h))
-  pub names : (session place : ℕ) → get name_cmp h.names (session, place) ≡ node_named (sessions_of h) session place
+  pub nodes : map node_view h.nodes.items ≡ map (numbered_node (keys_in (sessions_of h)))
+      (committed_in (sessions_of h))
+  pub names : (session place : ℕ) → get name_cmp h.names (session, place) ≡ node_named
+      (sessions_of h) session place
   pub rows : AreRows (log_of (sessions_of h)).keys (row_in (log_of (sessions_of h))) h.rows.items
-  pub reads : AreReads (log_of (sessions_of h)).nodes (sources_of (log_of (sessions_of h))) h.reads.items
+  pub reads : AreReads (log_of (sessions_of h)).nodes
+      (sources_of (log_of (sessions_of h))) h.reads.items
   pub writes : FindsWrites (log_of (sessions_of h)) h.writes
   pub counts : CountsAll (sessions_of h) h.counts
 

@@ -12,4 +12,5 @@ name_cmp a b = ordering_then (nat_cmp a.0 b.0) (nat_cmp a.1 b.1)
 abbrev pub node_among : ℕ → ℕ → ℕ → List Node → Option ℕ
 node_among session place v [] = None
 node_among session place v (node ∷ nodes) =
-    if (node.session == session) && (node.place == place) then Some v else node_among session place (v + 1) nodes
+    if (node.session == session) && (node.place == place) then Some v else node_among session place
+    (v + 1) nodes

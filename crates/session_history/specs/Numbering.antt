@@ -20,4 +20,5 @@ pub record KeepsPlaces (keys : List (List ℕ)) : Type 0 where
 pub record FindsEach (n : Numbers) : Type 0 where
   pub places : KeepsPlaces n.texts.items
   pub marks : length n.recent.items ≡ 65536
-  pub found : (key : List ℕ) → get (slice_cmp nat_cmp) n.numbers key ≡ number_among n.texts.items key
+  pub found : (key : List ℕ) → get (slice_cmp nat_cmp) n.numbers key
+      ≡ number_among n.texts.items key

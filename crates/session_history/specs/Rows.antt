@@ -1,13 +1,15 @@
 -- Who writes and who reads a key, node by node.
-use Rattle.std.specs.Prelude.{◌≡◌, ℕ, ◌+◌, ◌<◌, List, [], ◌∷◌, ◌++◌, length, map, Option, None, Some, slice_get, All}
+use Rattle.std.specs.Prelude.{◌≡◌, ℕ, ◌+◌, ◌<◌, List, [], ◌∷◌, ◌++◌, length, map, Option, None}
+use Rattle.std.specs.Prelude.{Some, slice_get, All}
 use Rattle.std.specs.Option.{option_map}
 use Rattle.serializability.specs.declared.event.Event.{Event}
 use Rattle.serializability.specs.declared.event.Event.TheVariants as event
 use Rattle.serializability.specs.Reads.{last_write, external_read}
-use Rattle.session_history.specs.declared.rows.Row.{Row}
+use Rattle.session_history.specs.declared.rows.KeyRow.{KeyRow}
 use Rattle.session_history.specs.declared.rows.Reader.{Reader}
 
--- the nodes that write a key, and those that read it externally, each with the identity that it reads
+-- the nodes that write a key, and those that read it externally, each with the identity that it
+-- reads
 pub record RowView : Type 0 where
   pub writers : List ℕ
   pub readers : List (ℕ × ℕ)
@@ -15,7 +17,7 @@ pub record RowView : Type 0 where
 abbrev pub reader_view : Reader → ℕ × ℕ
 reader_view r = (r.node, r.wid)
 
-abbrev pub row_view : Row → RowView
+abbrev pub row_view : KeyRow → RowView
 row_view row = record { writers = row.writers.items; readers = map reader_view row.readers.items }
 
 abbrev pub writer_if : ℕ → Option ℕ → List ℕ
@@ -47,7 +49,7 @@ pub record IsBelow (v : ℕ) (row : RowView) : Type 0 where
   pub readers : All (λ r. r.0 < v) row.readers
 
 -- so many rows, which are those of a function
-pub record AreRows (keys : ℕ) (f : ℕ → RowView) (rows : List Row) : Type 0 where
+pub record AreRows (keys : ℕ) (f : ℕ → RowView) (rows : List KeyRow) : Type 0 where
   pub count : length rows ≡ keys
   pub each : (x : ℕ) → x < keys → option_map row_view (slice_get rows x) ≡ Some (f x)
 

@@ -23,12 +23,14 @@ sources_of log r = filter_map (λ x. option_map (λ w. (x, w)) (source log r x))
 abbrev pub writers_in : Log → ℕ → List ℕ
 writers_in log x = filter (λ v. is_some (last_write x (log.ops v))) (committed log)
 
--- a session number and a place in the session from 1, aborted transactions counted; node 0 has 0 and 0
+-- a session number and a place in the session from 1, aborted transactions counted; node 0 has 0
+-- and 0
 abbrev pub name_in : List ClientSession → ℕ → ℕ × ℕ
 name_in ss v = option_map_or (λ node. (node.session, node.place)) (node_of ss v) (0, 0)
 
 -- the node of this name
 abbrev pub node_named : List ClientSession → ℕ → ℕ → Option ℕ
 node_named ss session place =
-    find (λ v. option_map_or (λ node. (node.session == session) && (node.place == place)) (node_of ss v) false)
+    find (λ v. option_map_or (λ node. (node.session == session) && (node.place == place))
+    (node_of ss v) false)
     (range_with_len 1 (length (committed_in ss)))

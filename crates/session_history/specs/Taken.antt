@@ -1,5 +1,6 @@
 -- What is kept of transactions, one after the other.
-use Rattle.std.specs.Prelude.{◌≡◌, ℕ, ◌+◌, if◌then◌else◌, List, [], ◌∷◌, ◌++◌, length, map, Option, None}
+use Rattle.std.specs.Prelude.{◌≡◌, ℕ, ◌+◌, if◌then◌else◌, List, [], ◌∷◌, ◌++◌, length, map, Option}
+use Rattle.std.specs.Prelude.{None}
 use Rattle.std.specs.List.{flat_map}
 use Rattle.std.specs.BTreeSet.{contains}
 use Rattle.std.specs.Ordering.{nat_cmp}
@@ -36,17 +37,31 @@ pub record NumberedNode : Type 0 where
   pub ended : Option ℕ
 
 abbrev pub node_view : Node → NumberedNode
-node_view node = record { session = node.session; place = node.place; events = node.events.items; begun = node.begun; ended = node.ended }
+node_view node = record {
+  session = node.session;
+  place = node.place;
+  events = node.events.items;
+  begun = node.begun;
+  ended = node.ended;
+}
 
 -- the nodes of these transactions, where the keys have these numbers
 abbrev pub nodes_among : List (List ℕ) → List Placed → List NumberedNode
 nodes_among keys [] = []
 nodes_among keys (t ∷ ts) =
     if is_committed t.2 then
-    record { session = t.0; place = t.1; events = events_of keys t.2.ops; begun = t.2.begun; ended = t.2.ended } ∷ nodes_among keys ts
+    record {
+      session = t.0;
+      place = t.1;
+      events = events_of keys t.2.ops;
+      begun = t.2.begun;
+      ended
+          = t.2.ended;
+    } ∷ nodes_among keys ts
     else nodes_among keys ts
 
--- each transaction's operations with its node, behind so many nodes, or with 0 where it counts as aborted
+-- each transaction's operations with its node, behind so many nodes, or with 0 where it counts as
+-- aborted
 abbrev pub numbered_from : ℕ → List (List ℕ) → List Placed → List (ℕ × List Event)
 numbered_from n keys [] = []
 numbered_from n keys (t ∷ ts) =
@@ -56,14 +71,18 @@ numbered_from n keys (t ∷ ts) =
 abbrev pub keys_among : List Placed → List (List ℕ)
 keys_among ts = map key_of (flat_map (λ t. t.2.ops) ts)
 
--- new is old with these transactions, which stand in these lines; whatever keys come later, the operations keep their numbers
+-- new is old with these transactions, which stand in these lines; whatever keys come later, the
+-- operations keep their numbers
 pub record Takes (old new : Transactions) (lines : List Line) (ts : List Placed) : Type 0 where
   pub keys : new.numbers.texts.items ≡ first_seen old.numbers.texts.items (keys_among ts)
-  pub nodes : (more : List (List ℕ)) → map node_view new.nodes.items ≡ map node_view old.nodes.items ++ nodes_among (first_seen new.numbers.texts.items more) ts
+  pub nodes : (more : List (List ℕ)) → map node_view new.nodes.items ≡ map node_view old.nodes.items
+      ++ nodes_among (first_seen new.numbers.texts.items more) ts
   pub line : new.writes.line ≡ old.writes.line + length lines
-  pub seen : (before : List (ℕ × ℕ)) → HasSeen before old.writes → HasSeen (before ++ writes_from old.writes.line lines) new.writes
+  pub seen : (before : List (ℕ × ℕ)) → HasSeen before old.writes
+      → HasSeen (before ++ writes_from old.writes.line lines) new.writes
   pub writes : (before : List (ℕ × List Event)) (more : List (List ℕ)) → HasWrites before old.writes
-      → HasWrites (before ++ numbered_from (length old.nodes.items) (first_seen new.numbers.texts.items more) ts) new.writes
+      → HasWrites (before ++ numbered_from (length old.nodes.items)
+      (first_seen new.numbers.texts.items more) ts) new.writes
 
 -- before this line
 pub record IsStart (n : ℕ) (t : Transactions) : Type 0 where
@@ -79,7 +98,8 @@ pub record HoldsAll (t : Transactions) (ts : List Placed) : Type 0 where
   pub nodes : map node_view t.nodes.items ≡ nodes_among t.numbers.texts.items ts
   pub writes : HasWrites (numbered_from 0 t.numbers.texts.items ts) t.writes
 
--- all that the sessions hold, no identity of which is written twice, and those whose transaction of unknown outcome is taken
+-- all that the sessions hold, no identity of which is written twice, and those whose transaction of
+-- unknown outcome is taken
 pub record IsAccepted (ss : List ClientSession) (a : Accepted) : Type 0 where
   pub taken : (n : ℕ) → contains nat_cmp a.taken n ≡ taken ss n
   pub holds : HoldsAll a.all (placed_in (resolved ss))

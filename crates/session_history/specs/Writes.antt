@@ -9,11 +9,13 @@ use Rattle.serializability.specs.Reads.{last_write}
 -- no transaction of the log, aborted ones included, writes this identity
 pub record IsUnwritten (log : Log) (wid : ℕ) : Type 0 where
   pub committed : (v x : ℕ) → 0 < v → v ≤ log.nodes → Contains (log.ops v) (Write x wid) → ⊥
-  pub aborted : (x : ℕ) (ops : List Event) → Contains log.aborted ops → Contains ops (Write x wid) → ⊥
+  pub aborted : (x : ℕ) (ops : List Event) → Contains log.aborted ops → Contains ops (Write x wid)
+      → ⊥
 
 -- an aborted transaction writes the key with this identity
 abbrev pub IsAbortedWrite : Log → ℕ → ℕ → Type 0
-IsAbortedWrite log x wid = (ops : List Event) × Contains log.aborted ops × Contains ops (Write x wid)
+IsAbortedWrite log x wid = (ops : List Event) × Contains log.aborted ops
+    × Contains ops (Write x wid)
 
 -- node v writes the key with this identity, and whether that is its last write of the key
 pub record IsNodesWrite (log : Log) (v x wid : ℕ) (last : Bool) : Type 0 where

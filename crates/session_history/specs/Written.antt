@@ -1,5 +1,6 @@
 -- A table of the writes of a log by their identities.
-use Rattle.std.specs.Prelude.{◌≡◌, ℕ, ◌+◌, ◌==◌, ◌&&◌, ◌||◌, Bool, false, List, [], ◌∷◌, Option, None, Some, is_some, slice_index}
+use Rattle.std.specs.Prelude.{◌≡◌, ℕ, ◌+◌, ◌==◌, ◌&&◌, ◌||◌, Bool, false, List, [], ◌∷◌, Option}
+use Rattle.std.specs.Prelude.{None, Some, is_some, slice_index}
 use Rattle.std.specs.List.{list_any}
 use Rattle.std.specs.Option.{option_map_or}
 use Rattle.std.specs.Ordering.{nat_cmp}
@@ -30,25 +31,36 @@ is_last_write x v (Some r) = ((r.key == x) && (r.node == v)) && r.last
 abbrev pub ends_with : ℕ → ℕ → List Event → Bool
 ends_with x w ops = option_map_or (λ y. y == w) (last_write x ops) false
 
--- The identities that are written here, each with its line, where the first operation stands in line n.
+-- The identities that are written here, each with its line, where the first operation stands in
+-- line n.
 abbrev pub writes_at : ℕ → List Event → List (ℕ × ℕ)
 writes_at n [] = []
 writes_at n (event.Read x w ∷ ops) = writes_at (n + 1) ops
 writes_at n (event.Write x w ∷ ops) = (n, w) ∷ writes_at (n + 1) ops
 
--- Of these writes, by their lines, the first that was written before is known, and while there is none the table has each identity.
+-- Of these writes, by their lines, the first that was written before is known, and while there is
+-- none the table has each identity.
 pub record HasSeen (lines : List (ℕ × ℕ)) (t : Writes) : Type 0 where
   pub twice : t.twice ≡ repeated [] lines
   pub seen : t.twice ≡ None → (w : ℕ) → is_some (entry_of t w) ≡ list_any (λ p. w == p.1) lines
 
--- While no identity was written twice, the table has the writes of these transactions, each with its node, or with 0 where
+-- While no identity was written twice, the table has the writes of these transactions, each with
+-- its node, or with 0 where
 -- it was aborted.
 pub record HasWrites (txns : List (ℕ × List Event)) (t : Writes) : Type 0 where
-  pub writes : t.twice ≡ None → (x w v : ℕ) → is_write x v (entry_of t w) ≡ list_any (λ p. (p.0 == v) && writes_as x w p.1) txns
-  pub lasts : t.twice ≡ None → (x w v : ℕ) → is_last_write x v (entry_of t w) ≡ list_any (λ p. (p.0 == v) && ends_with x w p.1) txns
+  pub writes : t.twice ≡ None → (x w v : ℕ) → is_write x v (entry_of t w) ≡ list_any
+      (λ p. (p.0 == v) && writes_as x w p.1) txns
+  pub lasts : t.twice ≡ None → (x w v : ℕ) → is_last_write x v (entry_of t w) ≡ list_any
+      (λ p. (p.0 == v) && ends_with x w p.1) txns
 
--- While a transaction of this node is taken in, with these operations in front, each last identity is kept.
-pub record IsTaking (txns : List (ℕ × List Event)) (node : ℕ) (all front : List Event) (t : Writes) : Type 0 where
-  pub writes : t.twice ≡ None → (x w v : ℕ) → is_write x v (entry_of t w) ≡ (list_any (λ p. (p.0 == v) && writes_as x w p.1) txns || ((node == v) && writes_as x w front))
-  pub lasts : t.twice ≡ None → (x w v : ℕ) → is_last_write x v (entry_of t w) ≡ (list_any (λ p. (p.0 == v) && ends_with x w p.1) txns || ((node == v) && (writes_as x w front && ends_with x w all)))
+-- While a transaction of this node is taken in, with these operations in front, each last identity
+-- is kept.
+pub record IsTaking (txns : List (ℕ × List Event)) (node : ℕ) (all front : List Event)
+    (t : Writes) : Type 0 where
+  pub writes : t.twice ≡ None → (x w v : ℕ) → is_write x v
+      (entry_of t w) ≡ (list_any (λ p. (p.0 == v) && writes_as x w p.1) txns ||
+      ((node == v) && writes_as x w front))
+  pub lasts : t.twice ≡ None → (x w v : ℕ) → is_last_write x v
+      (entry_of t w) ≡ (list_any (λ p. (p.0 == v) && ends_with x w p.1) txns ||
+      ((node == v) && (writes_as x w front && ends_with x w all)))
   pub kept : (x w : ℕ) → last_write x all ≡ Some w → slice_index t.lasts.items x ≡ w

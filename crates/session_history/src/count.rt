@@ -1,6 +1,7 @@
 //! How much a log holds.
 
-ghost use Rattle.std.specs.Prelude.{◌≡◌, ◌+◌, ◌-◌, ◌^◌, ◌++◌, ◌∷◌, [], List, length, map, count_by, min, ◌<◌, ◌≤◌};
+ghost use Rattle.std.specs.Prelude.{◌≡◌, ◌+◌, ◌-◌, ◌^◌, ◌++◌, ◌∷◌, [], List, length, map, count_by};
+ghost use Rattle.std.specs.Prelude.{min, ◌<◌, ◌≤◌};
 ghost use Rattle.session_log.specs.Text.{Transaction, view, view_txn};
 ghost use Rattle.log_definitions.specs.Unknown.{ops_in, txns_in};
 ghost use Rattle.log_definitions.specs.WellFormed.{log_lines};
@@ -23,7 +24,8 @@ pub struct Counts {
     pub aborted: usize,
     /// The transactions whose outcome the client never learnt.
     pub unknown: usize,
-    /// Those of unknown outcome of which a committed or a taken one reads a write, and which so are nodes.
+    /// Those of unknown outcome of which a committed or a taken one reads a write, and which so are
+    /// nodes.
     pub taken: usize,
     pub keys: usize,
     pub operations: usize,
@@ -36,7 +38,8 @@ pub fn has_ended(txn: &Txn, outcome: Outcome) -> bool
     txn.outcome == outcome
 }
 
-/// How many transactions ended in each way, and how many operations they have, each up to `usize::MAX`.
+/// How many transactions ended in each way, and how many operations they have, each up to
+/// `usize::MAX`.
 #[derive(Clone, Copy)]
 pub struct Tally {
     pub committed: usize,

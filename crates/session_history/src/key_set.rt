@@ -7,8 +7,8 @@ use indexmap::IndexSet;
 use session_log::Key;
 use std::alloc::{AllocError, Global};
 
-/// The keys, each with its place here as its index. Each is entered once, so keys that collide cost no more than a comparison of
-/// each two.
+/// The keys, each with its place here as its index. Each is entered once, so keys that collide cost
+/// no more than a comparison of each two.
 pub fn indexed(alloc: Global, texts: Vec<Key>) -> Result<IndexSet<Key>, AllocError>
     requires { KeepsPlaces texts.items }
     ensures { IfOk result (λ keys. keys.keys ≡ texts.items) }

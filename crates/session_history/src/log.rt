@@ -1,6 +1,7 @@
 //! The history of a log.
 
-ghost use Rattle.std.specs.Prelude.{◌≡◌, ℕ, ◌+◌, ◌<◌, ◌≤◌, ◌^◌, None, Some, IfOk, IfErr, MatchOption, length, map, count_by, slice_get};
+ghost use Rattle.std.specs.Prelude.{◌≡◌, ℕ, ◌+◌, ◌<◌, ◌≤◌, ◌^◌, None, Some, IfOk, IfErr};
+ghost use Rattle.std.specs.Prelude.{MatchOption, length, map, count_by, slice_get};
 ghost use Rattle.std.specs.List.{AllByRecursion};
 ghost use Rattle.std.specs.BTreeSet.{contains};
 ghost use Rattle.std.specs.Ordering.{nat_cmp};
@@ -8,7 +9,8 @@ ghost use Rattle.session_log.specs.Text.{view, IsLegal};
 ghost use Rattle.session_log.specs.Faults.{IsFault};
 ghost use Rattle.session_log.specs.Version.{first_line};
 ghost use Rattle.serializability.specs.Polygraph.{source};
-ghost use Rattle.log_definitions.specs.Unknown.{txns_in, ops_in, is_committed, is_unknown, taken, resolved};
+ghost use Rattle.log_definitions.specs.Unknown.{txns_in, ops_in, is_committed, is_unknown, taken};
+ghost use Rattle.log_definitions.specs.Unknown.{resolved};
 ghost use Rattle.log_definitions.specs.WellFormed.{log_lines, list_fault, keys_in, is_aborted};
 ghost use Rattle.log_definitions.specs.Serial.{committed_in, begun_of, ended_of};
 ghost use Rattle.log_definitions.specs.Numbers.{log_of, IsWellFormedList};
@@ -23,7 +25,7 @@ use crate::key_set::indexed;
 use crate::names::{Name, names_of};
 use crate::nodes::{Accepted, Node, Transactions};
 use crate::reads::{ReadFrom, reads_of};
-use crate::rows::{Row, rows_of};
+use crate::rows::{KeyRow, rows_of};
 use crate::scan::session_twice;
 use crate::taken::taken_among;
 use crate::writes::{Writes, Written};
@@ -44,7 +46,7 @@ pub struct History {
     keys: IndexSet<Key>,
     nodes: Vec<Node>,
     names: BTreeMap<(usize, usize), NodeIx>,
-    rows: Vec<Row>,
+    rows: Vec<KeyRow>,
     reads: Vec<Vec<ReadFrom>>,
     writes: Writes,
     counts: Counts,
@@ -68,8 +70,9 @@ impl History {
     ghost use Rattle.session_history.specs.Taken.{node_view};
     ghost use Rattle.session_history.specs.Held.{node_kept};
 
-    /// The history of these sessions, or the first fault that makes them no well-formed log: a session number that stands twice,
-    /// a limit, or an identity that is written twice. Lines count from the first of a log of this version.
+    /// The history of these sessions, or the first fault that makes them no well-formed log: a
+    /// session number that stands twice, a limit, or an identity that is written twice. Lines count
+    /// from the first of a log of this version.
     pub fn build(
         alloc: Global,
         version: Version,
@@ -134,8 +137,8 @@ impl History {
         self.nodes.len()
     }
 
-    /// The write that has an identity, where the log has one: its key, its node, which is node 0 where its transaction counts as
-    /// aborted, and whether it is the last write of the key there.
+    /// The write that has an identity, where the log has one: its key, its node, which is node 0
+    /// where its transaction counts as aborted, and whether it is the last write of the key there.
     pub fn written(&self, wid: u64) -> Option<Written>
         ensures write { MatchOption result (IsUnwritten (log_of self.now) wid)
             (λ w. IsWrite (log_of self.now) wid w.key w.node w.last) }
@@ -161,8 +164,8 @@ impl History {
         }
     }
 
-    /// The keys that a node reads externally, ascending, each with the node that it reads from; none where there is no such
-    /// node.
+    /// The keys that a node reads externally, ascending, each with the node that it reads from;
+    /// none where there is no such node.
     pub fn reads_of(&self, node: NodeIx) -> &[ReadFrom]
         ensures sources { map (λ r. (r.key, r.source)) result.now
             ≡ sources_of (log_of self.now) node }
@@ -252,8 +255,8 @@ impl History {
         self.names.get(&(session, place)).copied()
     }
 
-    /// Whether the session of this number ends in a transaction of unknown outcome that is taken: a committed or a taken
-    /// transaction reads a write of it.
+    /// Whether the session of this number ends in a transaction of unknown outcome that is taken: a
+    /// committed or a taken transaction reads a write of it.
     pub fn taken(&self, session: usize) -> bool
         ensures taken { result ≡ taken self.now session }
     {
@@ -284,8 +287,8 @@ impl History {
     }
 }
 
-/// What the transactions hold, and the sessions whose transaction of unknown outcome is taken, where the sessions have no fault, or
-/// their first fault.
+/// What the transactions hold, and the sessions whose transaction of unknown outcome is taken,
+/// where the sessions have no fault, or their first fault.
 fn checked(alloc: Global, version: Version, sessions: &[Session]) -> Result<Accepted, LogFault>
     requires room { length (log_lines (map view sessions.now)) < 2 ^ 63 }
     ensures holds { IfOk result (IsAccepted (map view sessions.now)) }

@@ -10,7 +10,8 @@ use serializability::NodeIx;
 use std::alloc::{AllocError, Global};
 use std::collections::BTreeMap;
 
-/// The number of a session, and the place of a transaction in it, from 1, where aborted ones count too. Node 0 has 0 and 0.
+/// The number of a session, and the place of a transaction in it, from 1, where aborted ones count
+/// too. Node 0 has 0 and 0.
 #[derive(Clone, Copy, Debug, PartialEq, Eq)]
 pub struct Name {
     pub session: u16,

@@ -1,6 +1,7 @@
 //! The transactions of a log, one after the other.
 
-ghost use Rattle.std.specs.Prelude.{◌≡◌, ◌+◌, ◌<◌, ◌≤◌, ◌^◌, [], ◌∷◌, length, map, count_by, OnOk, IfOk};
+ghost use Rattle.std.specs.Prelude.{◌≡◌, ◌+◌, ◌<◌, ◌≤◌, ◌^◌, [], ◌∷◌, length, map, count_by, OnOk};
+ghost use Rattle.std.specs.Prelude.{IfOk};
 ghost use Rattle.std.specs.BTreeSet.{contains};
 ghost use Rattle.std.specs.Ordering.{nat_cmp};
 ghost use Rattle.session_log.specs.Text.{view, view_txn, txn_lines, session_lines};
@@ -15,7 +16,8 @@ use session_log::{Outcome, Session, Txn};
 use std::alloc::{AllocError, Global};
 use std::collections::BTreeSet;
 
-/// A committed or taken transaction: the number of its session, its place in the session from 1, its operations, and its moments.
+/// A committed or taken transaction: the number of its session, its place in the session from 1,
+/// its operations, and its moments.
 #[derive(Drop)]
 pub struct Node {
     pub session: u16,
@@ -34,7 +36,7 @@ pub fn node_at(number: usize) -> NodeIx
 }
 
 /// Whether a transaction is a node, where those of unknown outcome are taken, or not.
-fn is_node(txn: &Txn, is_taken: bool) -> bool
+pub fn is_node(txn: &Txn, is_taken: bool) -> bool
     ensures { result ≡ is_committed (settle is_taken (view_txn txn.now)) }
 {
     match txn.outcome {
@@ -52,8 +54,8 @@ pub struct Transactions {
     pub writes: Writes,
 }
 
-/// What the transactions of sessions without a fault hold, and the numbers of the sessions whose transaction of unknown outcome
-/// is taken.
+/// What the transactions of sessions without a fault hold, and the numbers of the sessions whose
+/// transaction of unknown outcome is taken.
 #[derive(Drop)]
 pub struct Accepted {
     pub all: Transactions,
@@ -77,8 +79,8 @@ impl Transactions {
         })
     }
 
-    /// Takes the next transaction, which stands at this place of its session, whose transactions of unknown outcome are taken, or
-    /// not.
+    /// Takes the next transaction, which stands at this place of its session, whose transactions of
+    /// unknown outcome are taken, or not.
     fn add(
         &mut self,
         alloc: Global,
@@ -136,8 +138,8 @@ impl Transactions {
         Ok(())
     }
 
-    /// Takes all sessions, of which the first stands in line `first`. Of their transactions of unknown outcome, those in sessions of
-    /// these numbers are taken.
+    /// Takes all sessions, of which the first stands in line `first`. Of their transactions of
+    /// unknown outcome, those in sessions of these numbers are taken.
     pub fn of(
         alloc: Global,
         first: usize,

@@ -1,6 +1,7 @@
 //! Keys as numbers.
 
-ghost use Rattle.std.specs.Prelude.{◌≡◌, ℕ, ◌<◌, List, [], ◌∷◌, map, length, slice_get, Some, IsTrue, OnOk, IfOk};
+ghost use Rattle.std.specs.Prelude.{◌≡◌, ℕ, ◌<◌, List, [], ◌∷◌, map, length, slice_get, Some};
+ghost use Rattle.std.specs.Prelude.{IsTrue, OnOk, IfOk};
 ghost use Rattle.log_definitions.specs.WellFormed.{first_seen, key_of};
 ghost use Rattle.log_definitions.specs.Numbers.{number_in, event_of, events_of};
 
@@ -13,8 +14,9 @@ use std::hash::{FoldHasher, Hasher};
 /// How many marks there are.
 const MARKS: usize = 65_536;
 
-/// The keys that have been seen, in the order of their first appearance. A key is tried first at the number that the last key of
-/// its mark had, and else found by comparison, so that no choice of keys makes the search long.
+/// The keys that have been seen, in the order of their first appearance. A key is tried first at
+/// the number that the last key of its mark had, and else found by comparison, so that no choice of
+/// keys makes the search long.
 #[derive(Drop)]
 pub struct Numbers {
     texts: Vec<Key>,

@@ -1,11 +1,13 @@
 //! What each node reads, and from which node.
 
-ghost use Rattle.std.specs.Prelude.{◌≡◌, ℕ, ◌<◌, ◌≤◌, ◌==◌, List, [], ◌∷◌, ◌++◌, length, map, All, OnOk, IfOk, if◌then◌else◌};
+ghost use Rattle.std.specs.Prelude.{◌≡◌, ℕ, ◌<◌, ◌≤◌, ◌==◌, List, [], ◌∷◌, ◌++◌, length, map, All};
+ghost use Rattle.std.specs.Prelude.{OnOk, IfOk, if◌then◌else◌};
 ghost use Rattle.session_history.specs.Written.{entry_of};
 ghost use Rattle.session_history.specs.Rows.{reader_view};
-ghost use Rattle.session_history.specs.Sources.{AreReads, final_node, found_by, found_in, readers_of};
+ghost use Rattle.session_history.specs.Sources.{AreReads, final_node, found_by, found_in};
+ghost use Rattle.session_history.specs.Sources.{readers_of};
 
-use crate::rows::{Reader, Row};
+use crate::rows::{KeyRow, Reader};
 use crate::writes::Writes;
 use serializability::NodeIx;
 use std::alloc::{AllocError, Global};
@@ -53,7 +55,8 @@ fn add_key(
     ensures count { length reads.new.items ≡ length reads.old.items }
     ensures added { OnOk result ((n : ℕ) (g : ℕ → List (ℕ × ℕ)) → AreReads n g reads.old.items →
         AreReads n (λ v. g v
-        ++ found_by key (λ w. final_node (entry_of writes.now w) key) v (map reader_view readers.now))
+        ++ found_by key (λ w. final_node (entry_of writes.now w) key) v
+        (map reader_view readers.now))
         reads.new.items) }
 {
     for reader in readers {
@@ -67,7 +70,7 @@ fn add_key(
 pub fn reads_of(
     alloc: Global,
     nodes: usize,
-    rows: &[Row],
+    rows: &[KeyRow],
     writes: &Writes,
 ) -> Result<Vec<Vec<ReadFrom>>, AllocError>
     requires { All (λ row. All (λ r. (0 < r.node) × (r.node ≤ nodes)) row.readers.items) rows.now }

@@ -1,9 +1,11 @@
 //! The keys of a log, each with the nodes that write it and those that read it.
 
-ghost use Rattle.std.specs.Prelude.{◌≡◌, ℕ, ◌+◌, ◌-◌, ◌<◌, ◌≤◌, ◌==◌, false, List, [], ◌∷◌, ◌++◌, length, map, slice_get, All, OnOk, IfOk};
+ghost use Rattle.std.specs.Prelude.{◌≡◌, ℕ, ◌+◌, ◌-◌, ◌<◌, ◌≤◌, ◌==◌, false, List, [], ◌∷◌, ◌++◌};
+ghost use Rattle.std.specs.Prelude.{length, map, slice_get, All, OnOk, IfOk};
 ghost use Rattle.std.specs.Option.{option_map_or};
 ghost use Rattle.serializability.specs.declared.event.Event.{Event};
-ghost use Rattle.session_history.specs.Rows.{RowView, IsBelow, AreRows, row_after, row_from, no_row, event_key};
+ghost use Rattle.session_history.specs.Rows.{RowView, IsBelow, AreRows, row_after, row_from};
+ghost use Rattle.session_history.specs.Rows.{no_row, event_key};
 ghost use Rattle.serializability.specs.declared.node.TheConstants.{MAX_NODES};
 
 use crate::nodes::{Node, node_at};
@@ -19,12 +21,12 @@ pub struct Reader {
 
 /// The nodes that write a key, and those that read it externally, both ascending.
 #[derive(Drop)]
-pub struct Row {
+pub struct KeyRow {
     pub writers: Vec<NodeIx>,
     pub readers: Vec<Reader>,
 }
 
-impl Row {
+impl KeyRow {
     ghost use Rattle.session_history.specs.Rows.{RowView, IsBelow, row_view, row_after, event_key};
 
     fn is_last_writer(&self, node: NodeIx) -> bool
@@ -78,7 +80,7 @@ fn key_of(event: Event) -> usize
 }
 
 /// Takes an operation of this node.
-fn enter(rows: &mut Vec<Row>, node: NodeIx, event: Event) -> Result<(), AllocError>
+fn enter(rows: &mut Vec<KeyRow>, node: NodeIx, event: Event) -> Result<(), AllocError>
     requires { event_key event < length rows.old.items }
     ensures count { length rows.new.items ≡ length rows.old.items }
     ensures entered { OnOk result ((keys : ℕ) (f : ℕ → RowView) (front : List Event) →
@@ -92,7 +94,7 @@ fn enter(rows: &mut Vec<Row>, node: NodeIx, event: Event) -> Result<(), AllocErr
 }
 
 /// Takes the operations of a node.
-fn add_node(rows: &mut Vec<Row>, node: NodeIx, events: &[Event]) -> Result<(), AllocError>
+fn add_node(rows: &mut Vec<KeyRow>, node: NodeIx, events: &[Event]) -> Result<(), AllocError>
     requires { All (λ event. event_key event < length rows.old.items) events.now }
     ensures { OnOk result ((keys : ℕ) (f : ℕ → RowView) →
         ((x : ℕ) → x < keys → IsBelow node (f x)) →
@@ -106,12 +108,12 @@ fn add_node(rows: &mut Vec<Row>, node: NodeIx, events: &[Event]) -> Result<(), A
 }
 
 /// Rows of so many keys, with no node.
-fn empty_rows(alloc: Global, keys: usize) -> Result<Vec<Row>, AllocError>
+fn empty_rows(alloc: Global, keys: usize) -> Result<Vec<KeyRow>, AllocError>
     ensures { IfOk result (λ rows. AreRows keys (λ _. no_row) rows.items) }
 {
     let mut rows = Vec::with_capacity(alloc, keys)?;
     for i in 0..keys {
-        rows.push(Row {
+        rows.push(KeyRow {
             writers: Vec::new(alloc),
             readers: Vec::new(alloc),
         })?;
@@ -120,9 +122,10 @@ fn empty_rows(alloc: Global, keys: usize) -> Result<Vec<Row>, AllocError>
 }
 
 /// The rows of these keys and nodes.
-pub fn rows_of(alloc: Global, keys: usize, nodes: &[Node]) -> Result<Vec<Row>, AllocError>
+pub fn rows_of(alloc: Global, keys: usize, nodes: &[Node]) -> Result<Vec<KeyRow>, AllocError>
     requires few { length nodes.now ≤ MAX_NODES }
-    requires keys { All (λ node. All (λ event. event_key event < keys) node.events.items) nodes.now }
+    requires keys { All (λ node. All (λ event. event_key event < keys) node.events.items)
+        nodes.now }
     ensures { IfOk result (λ rows. AreRows keys
         (λ x. row_from no_row x 1 (map (λ node. node.events.items) nodes.now)) rows.items) }
 {

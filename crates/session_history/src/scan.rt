@@ -20,7 +20,8 @@ fn line_count(session: &Session) -> usize
     count
 }
 
-/// The line of the first session whose number stood before, where the first session stands in line `first`.
+/// The line of the first session whose number stood before, where the first session stands in line
+/// `first`.
 pub fn session_twice(
     alloc: Global,
     first: usize,

@@ -1,4 +1,5 @@
-//! Which transactions of unknown outcome are taken: those of which a committed or a taken one reads a write.
+//! Which transactions of unknown outcome are taken: those of which a committed or a taken one reads
+//! a write.
 
 ghost use Rattle.std.specs.Prelude.{◌≡◌, ℕ, List, [], ◌∷◌, ◌++◌, map, count_by, OnOk, IfOk};
 ghost use Rattle.std.specs.BTreeSet.{contains};
@@ -27,7 +28,8 @@ pub struct UnknownWrites<'a> {
 }
 
 impl<'a> UnknownWrites<'a> {
-    ghost use Rattle.session_history.specs.Worklist.{WriteAt, writes_of, unknown_writes_of, unknown_writes};
+    ghost use Rattle.session_history.specs.Worklist.{WriteAt, writes_of, unknown_writes_of};
+    ghost use Rattle.session_history.specs.Worklist.{unknown_writes};
     ghost use Rattle.session_history.specs.Tracked.{FindsLast};
 
     /// The writes of these sessions.
@@ -55,7 +57,8 @@ impl<'a> UnknownWrites<'a> {
 
     fn add_txn(&mut self, session: &'a Session, txn: &'a Txn) -> Result<(), AllocError>
         ensures { OnOk result ((old : List WriteAt) → FindsLast old self.old →
-            FindsLast (old ++ unknown_writes_of (view session.now) (view_txn txn.now ∷ [])) self.new) }
+            FindsLast (old ++ unknown_writes_of (view session.now) (view_txn txn.now ∷ []))
+            self.new) }
     {
         if !has_ended(txn, Outcome::Unknown) {
             return Ok(());
@@ -95,7 +98,8 @@ pub struct Taking<'a> {
 }
 
 impl<'a> Taking<'a> {
-    ghost use Rattle.session_history.specs.Worklist.{with_session, with_read, with_reads, ops_ended, committed_in_all};
+    ghost use Rattle.session_history.specs.Worklist.{with_session, with_read, with_reads};
+    ghost use Rattle.session_history.specs.Worklist.{ops_ended, committed_in_all};
     ghost use Rattle.session_history.specs.Tracked.{IsTaking, order_of, found_in};
 
     /// No sessions.
@@ -164,7 +168,8 @@ impl<'a> Taking<'a> {
         requires { IsTaking self.old }
         ensures taking { OnOk result (IsTaking self.new) }
         ensures order { OnOk result (order_of self.new
-            ≡ with_reads (found_in writes.now) (ops_ended outcome (view_txn txn.now ∷ [])) (order_of self.old)) }
+            ≡ with_reads (found_in writes.now) (ops_ended outcome (view_txn txn.now ∷ []))
+            (order_of self.old)) }
     {
         if !has_ended(txn, outcome) {
             return Ok(());
@@ -183,7 +188,8 @@ impl<'a> Taking<'a> {
         requires { IsTaking self.old }
         ensures taking { OnOk result (IsTaking self.new) }
         ensures order { OnOk result (order_of self.new
-            ≡ with_reads (found_in writes.now) (ops_ended outcome (view session.now).txns) (order_of self.old)) }
+            ≡ with_reads (found_in writes.now) (ops_ended outcome (view session.now).txns)
+            (order_of self.old)) }
     {
         for txn in &session.txns {
             self.read_txn(txn, outcome, writes)?;
@@ -200,7 +206,8 @@ impl<'a> Taking<'a> {
         requires { IsTaking self.old }
         ensures taking { OnOk result (IsTaking self.new) }
         ensures order { OnOk result (order_of self.new
-            ≡ with_reads (found_in writes.now) (committed_in_all (map view sessions.now)) (order_of self.old)) }
+            ≡ with_reads (found_in writes.now) (committed_in_all (map view sessions.now))
+            (order_of self.old)) }
     {
         for session in sessions {
             self.read_session(session, Outcome::Commit, writes)?;
@@ -209,8 +216,8 @@ impl<'a> Taking<'a> {
     }
 }
 
-/// The numbers of the sessions whose transaction of unknown outcome is taken. There are `unknown` such transactions, and where there is
-/// none, nothing more is looked at.
+/// The numbers of the sessions whose transaction of unknown outcome is taken. There are `unknown`
+/// such transactions, and where there is none, nothing more is looked at.
 pub fn taken_among(
     alloc: Global,
     sessions: &[Session],

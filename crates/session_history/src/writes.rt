@@ -1,6 +1,7 @@
 //! The writes of a log, by their identities.
 
-ghost use Rattle.std.specs.Prelude.{◌≡◌, ℕ, ◌+◌, ◌<◌, ◌^◌, List, [], ◌∷◌, ◌++◌, length, None, OnOk, slice_index, unwrap_or, vec_len};
+ghost use Rattle.std.specs.Prelude.{◌≡◌, ℕ, ◌+◌, ◌<◌, ◌^◌, List, [], ◌∷◌, ◌++◌, length, None, OnOk};
+ghost use Rattle.std.specs.Prelude.{slice_index, unwrap_or, vec_len};
 ghost use Rattle.serializability.specs.Reads.{last_write};
 ghost use Rattle.serializability.specs.declared.event.Event.{Event};
 
@@ -8,7 +9,8 @@ use serializability::{Event, NodeIx};
 use std::alloc::{AllocError, Global};
 use std::collections::BTreeMap;
 
-/// A write: its key, its node, which is 0 where its transaction counts as aborted, and whether it is the last of the key there.
+/// A write: its key, its node, which is 0 where its transaction counts as aborted, and whether it
+/// is the last of the key there.
 #[derive(Clone, Copy)]
 pub struct Written {
     pub key: usize,
@@ -28,7 +30,8 @@ pub struct Writes {
 }
 
 impl Writes {
-    ghost use Rattle.session_history.specs.Written.{HasSeen, HasWrites, IsTaking, entry_of, writes_at};
+    ghost use Rattle.session_history.specs.Written.{HasSeen, HasWrites, IsTaking, entry_of};
+    ghost use Rattle.session_history.specs.Written.{writes_at};
     ghost use Rattle.session_history.specs.Sources.{final_node};
 
     /// No writes, before this line.

@@ -18,8 +18,8 @@ use Rattle.session_log.specs.declared.session.Outcome.{Outcome}
 use Rattle.session_log.specs.declared.session.Outcome.TheVariants.{Commit, Abort, Unknown}
 use Rattle.session_log.specs.declared.session.Txn.{Txn}
 use Rattle.session_log.specs.declared.parse.OpenTxn.{OpenTxn}
-use Rattle.session_log.specs.declared.parse.Progress.{Progress}
-use Rattle.session_log.specs.declared.parse.Progress.TheVariants as progress
+use Rattle.session_log.specs.declared.parse.LineState.{LineState}
+use Rattle.session_log.specs.declared.parse.LineState.TheVariants as progress
 use Rattle.session_log.specs.declared.parse.Reading.{Reading}
 use Rattle.session_log.specs.declared.version.Version.{Version}
 
@@ -76,7 +76,7 @@ pub write_more : (n : ℕ) (old : Reading) (form : Line) (new : Reading) (t : Op
 write_more n old form new t ops key wid p f some same q e = with_op n old form new t ops (Write key wid) p f (after_write n t.line t.begun key wid some) (λ v k. (k.0, some, k.1)) same q e
 
 -- the end of a transaction
-abbrev pub end_progress : Outcome → Progress
+abbrev pub end_progress : Outcome → LineState
 end_progress Commit = progress.Between
 end_progress Abort = progress.Between
 end_progress Unknown = progress.Over

@@ -11,8 +11,8 @@ use Rattle.session_log.specs.declared.line.Line.TheVariants as line
 use Rattle.session_log.specs.declared.fault.LogFault.{LogFault}
 use Rattle.session_log.specs.declared.fault.LogFault.TheVariants as faults
 use Rattle.session_log.specs.declared.parse.OpenTxn.{OpenTxn}
-use Rattle.session_log.specs.declared.parse.Progress.TheVariants as progress
-use Rattle.session_log.specs.declared.parse.Progress.{Progress}
+use Rattle.session_log.specs.declared.parse.LineState.TheVariants as progress
+use Rattle.session_log.specs.declared.parse.LineState.{LineState}
 use Rattle.session_log.specs.declared.version.Version.TheVariants.{One, Two, Three}
 use Rattle.session_log.specs.declared.version.Version.{Version}
 use Rattle.session_log.specs.declared.parse.Reading.{Reading}
@@ -25,7 +25,7 @@ pub start_text : (k : ℕ) (r : Reading) (text bytes rest : List ℕ) → r.txns
 start_text k r text bytes rest a b e h =
     e ∙ ap (λ x. x ++ rest) (h ∙ (sym (append-nil (line_text (line.Session k) ++ 10 ∷ [])) ∙ ap (λ ls. text_of_lines (line.Session k ∷ ls)) (sym (lines_of_none r a b))))
 
-none_ended : (v : Version) (p : Progress) (ts : List Transaction) → p ≡ progress.Between → ts ≡ [] → AreEnded v p ts
+none_ended : (v : Version) (p : LineState) (ts : List Transaction) → p ≡ progress.Between → ts ≡ [] → AreEnded v p ts
 none_ended v p ts a b = rw (a, b) tt
 
 pub start_legal : (v : Version) (r : Reading) → r.txns.items ≡ [] → r.progress ≡ progress.Between → IsLegalReading v r
@@ -41,11 +41,11 @@ pub end_fault : (v : Version) (n : ℕ) (r : Reading) (t : OpenTxn) (rest : List
 end_fault v n r t rest whole e h o = e ∙ (fault_end v n (place_of r) rest h ∙ ap (λ p. fault_at_end (place_at p)) o)
 
 -- none is open
-abbrev pub IsClosed : Progress → Type 0
+abbrev pub IsClosed : LineState → Type 0
 IsClosed (progress.Inside t) = ⊥
 IsClosed _ = Unit {0}
 
-closed_place : (p : Progress) → IsClosed p → fault_at_end (place_at p) ≡ None
+closed_place : (p : LineState) → IsClosed p → fault_at_end (place_at p) ≡ None
 closed_place progress.Between c = refl
 closed_place (progress.Inside t) c = absurd c
 closed_place progress.Over c = refl
@@ -59,7 +59,7 @@ all_before [] h = tt
 all_before (t ∷ []) h = tt
 all_before (t ∷ u ∷ ts) h = (h.0, all_before (u ∷ ts) h.1)
 
-ended_before : (v : Version) (p : Progress) (ts : List Transaction) → IsClosed p → AreEnded v p ts → IsKnownBeforeLast ts
+ended_before : (v : Version) (p : LineState) (ts : List Transaction) → IsClosed p → AreEnded v p ts → IsKnownBeforeLast ts
 ended_before v progress.Between ts c h = all_before ts h
 ended_before v (progress.Inside t) ts c h = absurd c
 ended_before v progress.Over ts c h = h.0
@@ -67,7 +67,7 @@ ended_before v progress.Over ts c h = h.0
 pub end_known : (v : Version) (r : Reading) → IsClosed r.progress → IsLegalReading v r → IsKnownBeforeLast (map view_txn r.txns.items)
 end_known v r c h = ended_before v r.progress (map view_txn r.txns.items) c h.ended
 
-ended_held : (v : Version) (p : Progress) (k : ℕ) (ts : List Transaction) → IsClosed p → AreEnded v p ts → (has_moments v ≡ false → AllByRecursion HasNoMoments ts) → IsHeldBy v (record { number = k; txns = ts })
+ended_held : (v : Version) (p : LineState) (k : ℕ) (ts : List Transaction) → IsClosed p → AreEnded v p ts → (has_moments v ≡ false → AllByRecursion HasNoMoments ts) → IsHeldBy v (record { number = k; txns = ts })
 ended_held Three p k ts c h m = tt
 ended_held Two p k ts c h m = m refl
 ended_held One progress.Between k ts c h m = (h, m refl)
@@ -81,7 +81,7 @@ no_rest : (rest : List ℕ) → 0 ≡ length rest → rest ≡ []
 no_rest [] e = refl
 no_rest (b ∷ bs) e = absurd (omega arith)
 
-closed_lines : (p : Progress) → IsClosed p → open_lines p ≡ []
+closed_lines : (p : LineState) → IsClosed p → open_lines p ≡ []
 closed_lines progress.Between c = refl
 closed_lines (progress.Inside t) c = absurd c
 closed_lines progress.Over c = refl
@@ -92,6 +92,6 @@ end_text k r text rest e h c =
     let done : lines_of r ≡ flat_map txn_lines (map view_txn r.txns.items) = ap (λ ls. flat_map txn_lines (map view_txn r.txns.items) ++ ls) (closed_lines r.progress c) ∙ append-nil (flat_map txn_lines (map view_txn r.txns.items)) in
     e ∙ (ap (λ x. text_of_lines (line.Session k ∷ lines_of r) ++ x) (no_rest rest h) ∙ (append-nil (text_of_lines (line.Session k ∷ lines_of r)) ∙ ap (λ ls. text_of_lines (line.Session k ∷ ls)) done))
 
-pub closed_where : (p : Progress) → (p ≡ progress.Between) ⊎ (p ≡ progress.Over) → IsClosed p
+pub closed_where : (p : LineState) → (p ≡ progress.Between) ⊎ (p ≡ progress.Over) → IsClosed p
 closed_where p (inl e) = subst IsClosed (sym e) tt
 closed_where p (inr e) = subst IsClosed (sym e) tt

@@ -1,5 +1,7 @@
--- The blocks of a log: each begins at the first line behind the header, or at a line that begins with the bytes `session`.
-use Rattle.std.specs.Prelude.{ℕ, ◌+◌, Bool, true, if◌then◌else◌, nat_lt, List, [], ◌∷◌, length, count_by, slice_range, Option, Some, None}
+-- The blocks of a log: each begins at the first line behind the header, or at a line that begins
+-- with the bytes `session`.
+use Rattle.std.specs.Prelude.{ℕ, ◌+◌, Bool, true, if◌then◌else◌, nat_lt, List, [], ◌∷◌, length}
+use Rattle.std.specs.Prelude.{count_by, slice_range, Option, Some, None}
 use Rattle.std.specs.List.{flat_map}
 use Rattle.session_log.specs.Lines.{lines, bytes_of}
 use Rattle.session_log.specs.Version.{header_text, first_line, version_of, body_of}
@@ -33,7 +35,13 @@ text_of ls = flat_map bytes_of ls
 -- where each block lies, the first of which begins at this byte, with this line
 abbrev pub located : Version → ℕ → ℕ → List (List (List ℕ × Bool)) → List Block
 located v at n [] = []
-located v at n (b ∷ bs) = record { version = v; start = at; stop = at + length (text_of b); line = n } ∷ located v (at + length (text_of b)) (n + length b) bs
+located v at n (b ∷ bs) = record {
+  version = v;
+  start = at;
+  stop = at + length
+      (text_of b);
+  line = n;
+} ∷ located v (at + length (text_of b)) (n + length b) bs
 
 -- the blocks of a log
 unfoldable pub blocks_of : List ℕ → List Block
@@ -53,7 +61,8 @@ block_fault text b = first_fault b.version b.line Start (lines (block_text text 
 unfoldable pub size_fault : List ℕ → Option LogFault
 size_fault text =
     if nat_lt (MAX_LOG_BYTES) (length text) then Some (OverLimit limit.LogBytes) else
-    (if nat_lt MAX_SESSIONS (count_by is_session_line (lines text)) then Some (OverLimit limit.Sessions) else None)
+    (if nat_lt MAX_SESSIONS (count_by is_session_line (lines text)) then Some
+    (OverLimit limit.Sessions) else None)
 
 -- the first of these that is a fault
 abbrev pub first_of : List (Option LogFault) → Option LogFault

@@ -1,5 +1,6 @@
 -- The first fault of a text, line by line.
-use Rattle.std.specs.Prelude.{◌≡◌, ℕ, zero, suc, ◌+◌, Bool, false, if◌then◌else◌, nat_eq, List, [], ◌∷◌, codes, Option, Some, None, Result, Ok, Err}
+use Rattle.std.specs.Prelude.{◌≡◌, ℕ, zero, suc, ◌+◌, Bool, false, if◌then◌else◌, nat_eq, List, []}
+use Rattle.std.specs.Prelude.{◌∷◌, codes, Option, Some, None, Result, Ok, Err}
 use Rattle.std.specs.List.{starts_with, AllByRecursion}
 use Rattle.session_log.specs.Lines.{form_of, lines}
 use Rattle.session_log.specs.Moments.{is_earlier}
@@ -8,11 +9,15 @@ use Rattle.session_log.specs.declared.line.Line.{Line}
 use Rattle.session_log.specs.declared.line.Line.TheVariants as line
 use Rattle.session_log.specs.declared.fault.LogFault.{LogFault}
 use Rattle.session_log.specs.declared.fault.Limit.TheVariants.{LogBytes, Sessions}
-use Rattle.session_log.specs.declared.fault.LogFault.TheVariants.{BadLine, OutsideTransaction, OpenTransaction, WriteZero, UnknownNotLast, EndsBeforeBegin, OverLimit, Memory}
+use Rattle.session_log.specs.declared.fault.LogFault.TheVariants.{BadLine, OutsideTransaction}
+use Rattle.session_log.specs.declared.fault.LogFault.TheVariants.{OpenTransaction, WriteZero}
+use Rattle.session_log.specs.declared.fault.LogFault.TheVariants.{UnknownNotLast, EndsBeforeBegin}
+use Rattle.session_log.specs.declared.fault.LogFault.TheVariants.{OverLimit, Memory}
 use Rattle.session_log.specs.declared.version.Version.{Version}
 
 -- where reading has come to: no session has begun; a session has, and no transaction is open;
--- the transaction is open whose `begin` is at this line and may state a moment; the session is over: no transaction is
+-- the transaction is open whose `begin` is at this line and may state a moment; the session is
+-- over: no transaction is
 -- open and none may begin, since the outcome of the last is unknown
 pub data Place : Type 0 where
   Start : Place
@@ -32,7 +37,8 @@ after n (Inside start begun) (line.Begin _) = Err (OpenTransaction start)
 after n (Inside start begun) (line.Read _ _) = Ok (Inside start begun)
 after n (Inside start begun) (line.Write _ zero) = Err (WriteZero n)
 after n (Inside start begun) (line.Write _ (suc _)) = Ok (Inside start begun)
-after n (Inside start begun) (line.Commit ended) = if is_earlier ended begun then Err (EndsBeforeBegin n) else Ok Between
+after n (Inside start begun) (line.Commit ended) = if is_earlier ended begun then Err
+    (EndsBeforeBegin n) else Ok Between
 after n (Inside start begun) line.Abort = Ok Between
 after n (Inside start begun) line.Unknown = Ok Over
 after n Over (line.Session _) = Ok Between
@@ -52,9 +58,11 @@ is_session_line l = starts_with nat_eq l.0 (codes "session")
 abbrev pub form_at : Version → List ℕ × Bool → Option Line
 form_at v l = if l.1 then form_of v l.0 else None
 
--- the same of the line as it stands: where a transaction is open, a line that begins so ends it too early
+-- the same of the line as it stands: where a transaction is open, a line that begins so ends it too
+-- early
 unfoldable pub step : Version → ℕ → Place → List ℕ × Bool → Result Place LogFault
-step v n (Inside start begun) l = if is_session_line l then Err (OpenTransaction start) else after_form n (Inside start begun) (form_at v l)
+step v n (Inside start begun) l = if is_session_line l then Err
+    (OpenTransaction start) else after_form n (Inside start begun) (form_at v l)
 step v n p l = after_form n p (form_at v l)
 
 -- after the last line: the transaction that is open
@@ -74,7 +82,8 @@ first_fault v n p (l ∷ ls) = going_on (step v n p l) (λ q. first_fault v (n +
 
 -- the first fault of the grammar in a log
 unfoldable pub grammar_fault : List ℕ → Option LogFault
-grammar_fault text = first_fault (version_of text) (first_line (version_of text)) Start (lines (body_of text))
+grammar_fault text = first_fault (version_of text) (first_line (version_of text)) Start
+    (lines (body_of text))
 
 -- no line begins with the bytes `session`
 abbrev pub NoSessionLine : List (List ℕ × Bool) → Type 0

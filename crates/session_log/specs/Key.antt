@@ -5,7 +5,8 @@ use Rattle.std.specs.List.{list_all}
 -- `A-Z a-z 0-9 _ . : / -`
 unfoldable pub is_key_byte : ℕ → Bool
 is_key_byte b =
-    (nat_le 65 b && nat_le b 90) || (nat_le 97 b && nat_le b 122) || (nat_le 48 b && nat_le b 57) || b == 95 || b == 46 || b == 58 || b == 47 || b == 45
+    (nat_le 65 b && nat_le b 90) || (nat_le 97 b && nat_le b 122) ||
+    (nat_le 48 b && nat_le b 57) || b == 95 || b == 46 || b == 58 || b == 47 || b == 45
 
 -- 1 to 64 such bytes
 abbrev pub is_key : List ℕ → Bool

@@ -1,5 +1,7 @@
 -- The lines of a text, and the form of each.
-use Rattle.std.specs.Prelude.{ℕ, ◌^◌, Bool, true, false, ◌&&◌, ◌||◌, not, if◌then◌else◌, nat_le, nat_lt, ◌==◌, List, [], ◌∷◌, ◌++◌, length, take, drop, codes, position, ◌+◌, slice_index, Option, Some, None, option_and_then}
+use Rattle.std.specs.Prelude.{ℕ, ◌^◌, Bool, true, false, ◌&&◌, ◌||◌, not, if◌then◌else◌, nat_le}
+use Rattle.std.specs.Prelude.{nat_lt, ◌==◌, List, [], ◌∷◌, ◌++◌, length, take, drop, codes}
+use Rattle.std.specs.Prelude.{position, ◌+◌, slice_index, Option, Some, None, option_and_then}
 use Rattle.std.specs.List.{list_all, starts_with}
 use Rattle.std.specs.Prelude.{nat_eq}
 use Rattle.std.specs.Str.{bytes_eq}
@@ -32,11 +34,13 @@ o >>= f = option_and_then f o
 
 -- decimal digits, with no leading zero
 abbrev pub is_numeral : List ℕ → Bool
-is_numeral word = list_all is_ascii_digit word && nat_le 1 (length word) && (length word == 1 || not (slice_index word 0 == 48))
+is_numeral word = list_all is_ascii_digit word && nat_le 1 (length word) &&
+    (length word == 1 || not (slice_index word 0 == 48))
 
 -- the number below 2 ^ 64 that a word writes
 unfoldable pub number_of : List ℕ → Option ℕ
-number_of word = if is_numeral word && nat_lt (digits_value 10 word) (2 ^ 64) then Some (digits_value 10 word) else None
+number_of word = if is_numeral word && nat_lt (digits_value 10 word) (2 ^ 64) then Some
+    (digits_value 10 word) else None
 
 -- the line of a session with the number that a word writes, 1 to 65535
 unfoldable pub session_of : List ℕ → Option Line
@@ -58,8 +62,12 @@ form_of v body =
     (if bytes_eq body (codes "commit") then Some (line.Commit None) else
     (if bytes_eq body (codes "abort") then Some line.Abort else
     (if starts_with nat_eq body (codes "session ") then session_of (drop 8 body) else
-    (if starts_with nat_eq body (codes "r ") then keyed_of (drop 2 body) >>= (λ k. Some (line.Read k.0 k.1)) else
-    (if starts_with nat_eq body (codes "w ") then keyed_of (drop 2 body) >>= (λ k. Some (line.Write k.0 k.1)) else
+    (if starts_with nat_eq body (codes "r ") then keyed_of
+    (drop 2 body) >>= (λ k. Some (line.Read k.0 k.1)) else
+    (if starts_with nat_eq body (codes "w ") then keyed_of
+    (drop 2 body) >>= (λ k. Some (line.Write k.0 k.1)) else
     (if has_unknown_line v && bytes_eq body (codes "unknown") then Some line.Unknown else
-    (if has_moments v && starts_with nat_eq body (codes "begin ") then number_of (drop 6 body) >>= (λ m. Some (line.Begin (Some m))) else
-    (if has_moments v && starts_with nat_eq body (codes "commit ") then number_of (drop 7 body) >>= (λ m. Some (line.Commit (Some m))) else None))))))))
+    (if has_moments v && starts_with nat_eq body (codes "begin ") then number_of
+    (drop 6 body) >>= (λ m. Some (line.Begin (Some m))) else
+    (if has_moments v && starts_with nat_eq body (codes "commit ") then number_of
+    (drop 7 body) >>= (λ m. Some (line.Commit (Some m))) else None))))))))

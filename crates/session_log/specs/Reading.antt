@@ -1,19 +1,21 @@
 -- A session that is being read.
 use Rattle.std.specs.Prelude.{◌≡◌, ℕ, Bool, true, false, List, [], ◌∷◌, ◌++◌, map, Ok}
 use Rattle.std.specs.List.{flat_map, AllByRecursion}
-use Rattle.session_log.specs.Text.{Transaction, op_line, txn_lines, view_txn, IsLegalLine, IsLegalMoment, IsLegalOp, IsLegalTxn, HasNoMoments, IsKnown, IsKnownBeforeLast, text_of_lines}
+use Rattle.session_log.specs.Text.{Transaction, op_line, txn_lines, view_txn, IsLegalLine}
+use Rattle.session_log.specs.Text.{IsLegalMoment, IsLegalOp, IsLegalTxn, HasNoMoments, IsKnown}
+use Rattle.session_log.specs.Text.{IsKnownBeforeLast, text_of_lines}
 use Rattle.session_log.specs.Lines.{bytes_of}
 use Rattle.session_log.specs.Version.{has_unknown_line, has_moments}
 use Rattle.session_log.specs.Faults.{Place, Between, Inside, Over, after, step}
 use Rattle.session_log.specs.declared.line.Line.{Line}
 use Rattle.session_log.specs.declared.line.Line.TheVariants as line
-use Rattle.session_log.specs.declared.parse.Progress.{Progress}
-use Rattle.session_log.specs.declared.parse.Progress.TheVariants as progress
+use Rattle.session_log.specs.declared.parse.LineState.{LineState}
+use Rattle.session_log.specs.declared.parse.LineState.TheVariants as progress
 use Rattle.session_log.specs.declared.parse.Reading.{Reading}
 use Rattle.session_log.specs.declared.version.Version.{Version}
 
 -- the place after its lines
-abbrev pub place_at : Progress → Place
+abbrev pub place_at : LineState → Place
 place_at progress.Between = Between
 place_at (progress.Inside t) = Inside t.line t.begun
 place_at progress.Over = Over
@@ -23,7 +25,7 @@ abbrev pub place_of : Reading → Place
 place_of r = place_at r.progress
 
 -- the lines of a transaction that is open
-abbrev pub open_lines : Progress → List Line
+abbrev pub open_lines : LineState → List Line
 open_lines (progress.Inside t) = line.Begin t.begun ∷ map op_line t.ops.items
 open_lines _ = []
 
@@ -32,12 +34,13 @@ abbrev pub lines_of : Reading → List Line
 lines_of r = flat_map txn_lines (map view_txn r.txns.items) ++ open_lines r.progress
 
 -- its operations are legal, and so is its moment in this version
-abbrev pub IsLegalOpen : Version → Progress → Type 0
+abbrev pub IsLegalOpen : Version → LineState → Type 0
 IsLegalOpen v (progress.Inside t) = AllByRecursion IsLegalOp t.ops.items × IsLegalMoment v t.begun
 IsLegalOpen v _ = Unit {0}
 
--- the outcomes before it: the last may be unknown where the session is over, and then the version has such
-abbrev pub AreEnded : Version → Progress → List Transaction → Type 0
+-- the outcomes before it: the last may be unknown where the session is over, and then the version
+-- has such
+abbrev pub AreEnded : Version → LineState → List Transaction → Type 0
 AreEnded v progress.Over ts = IsKnownBeforeLast ts × (has_unknown_line v ≡ true)
 AreEnded v _ ts = AllByRecursion IsKnown ts
 
@@ -60,7 +63,8 @@ pub record Adds (n : ℕ) (old : Reading) (form : Line) (new : Reading) : Type 0
   pub legal : (v : Version) → IsLegalReading v old → IsLegalLine v form → IsLegalReading v new
 
 -- new is old with this line, which is line n
-pub record Takes (v : Version) (n : ℕ) (old : Reading) (l : List ℕ × Bool) (new : Reading) : Type 0 where
+pub record Takes (v : Version) (n : ℕ) (old : Reading) (l : List ℕ × Bool)
+    (new : Reading) : Type 0 where
   pub place : step v n (place_of old) l ≡ Ok (place_of new)
   pub text : text_of_lines (lines_of new) ≡ text_of_lines (lines_of old) ++ bytes_of l
   pub legal : IsLegalReading v old → IsLegalReading v new

@@ -1,6 +1,7 @@
 -- The one text of each list of sessions. Its lines are this project's own; that each write has an
 -- identity, which the reads of it name, is after Cobra (Tan et al., OSDI 2020).
-use Rattle.std.specs.Prelude.{◌≡◌, ℕ, ◌<◌, ◌^◌, Bool, true, false, ◌||◌, if◌then◌else◌, List, [], ◌∷◌, ◌++◌, map, codes, decimal, is_some, Option, Some, None}
+use Rattle.std.specs.Prelude.{◌≡◌, ℕ, ◌<◌, ◌^◌, Bool, true, false, ◌||◌, if◌then◌else◌, List, []}
+use Rattle.std.specs.Prelude.{◌∷◌, ◌++◌, map, codes, decimal, is_some, Option, Some, None}
 use Rattle.std.specs.List.{flat_map, list_any, AllByRecursion}
 use Rattle.session_log.specs.Key.{IsKey}
 use Rattle.session_log.specs.Moments.{is_earlier, moment_text, IsMoment}
@@ -16,7 +17,8 @@ use Rattle.session_log.specs.declared.session.Session.{Session}
 use Rattle.session_log.specs.declared.version.Version.{Version}
 use Rattle.session_log.specs.declared.version.Version.TheVariants.{One, Two, Three}
 
--- a transaction, without where it lies in memory: its operations, how it ended, and the moments at which it began and ended, where
+-- a transaction, without where it lies in memory: its operations, how it ended, and the moments at
+-- which it began and ended, where
 -- they are stated
 pub record Transaction : Type 0 where
   pub ops : List Op
@@ -142,7 +144,8 @@ pub record IsLegal (s : ClientSession) : Type 0 where
 abbrev pub HasNoMoments : Transaction → Type 0
 HasNoMoments t = (t.begun ≡ None) × (t.ended ≡ None)
 
--- a session that a log of this version can hold: version 1 has no unknown outcomes, and only version 3 has moments
+-- a session that a log of this version can hold: version 1 has no unknown outcomes, and only
+-- version 3 has moments
 abbrev pub IsHeldBy : Version → ClientSession → Type 0
 IsHeldBy One s = AllByRecursion IsKnown s.txns × AllByRecursion HasNoMoments s.txns
 IsHeldBy Two s = AllByRecursion HasNoMoments s.txns
@@ -158,4 +161,5 @@ has_moment s = list_any (λ t. is_some t.begun || is_some t.ended) s.txns
 
 -- the least version that holds these sessions
 abbrev pub least_version : List ClientSession → Version
-least_version ss = if list_any has_moment ss then Three else (if list_any has_unknown ss then Two else One)
+least_version ss = if list_any has_moment ss then Three else
+    (if list_any has_unknown ss then Two else One)

@@ -1,6 +1,7 @@
 //! A log, cut into the blocks of its sessions.
 
-ghost use Rattle.std.specs.Prelude.{◌≡◌, ◌<◌, ◌≤◌, ◌^◌, None, IfOk, IfErr, length, Contains, codes, nat_eq};
+ghost use Rattle.std.specs.Prelude.{◌≡◌, ◌<◌, ◌≤◌, ◌^◌, None, IfOk, IfErr, length, Contains, codes};
+ghost use Rattle.std.specs.Prelude.{nat_eq};
 ghost use Rattle.std.specs.List.{starts_with};
 ghost use Rattle.session_log.specs.Faults.{IsFault, IsSizeFault, IsGrammarFault};
 ghost use Rattle.session_log.specs.Text.{view, session_text, IsLegal, IsHeldBy};
@@ -59,7 +60,7 @@ pub fn cut(alloc: Global, log: &[u8]) -> Result<(Version, Vec<Block>), LogFault>
     Ok((version, cut_lines(alloc, log, version, body)?))
 }
 
-// The blocks of a log that has lines behind its header and keeps the limit on bytes.
+/// The blocks of a log that has lines behind its header and keeps the limit on bytes.
 fn cut_lines(
     alloc: Global,
     log: &[u8],

@@ -35,7 +35,8 @@ pub enum LogFault {
     WriteZero { line: usize },
     /// Two writes have one identity: the line of the later one.
     WriteTwice { line: usize },
-    /// A transaction stands behind one whose outcome is unknown, in one session: the line of its `begin`.
+    /// A transaction stands behind one whose outcome is unknown, in one session: the line of its
+    /// `begin`.
     UnknownNotLast { line: usize },
     /// A transaction is said to end before it began: the line of its `commit`.
     EndsBeforeBegin { line: usize },

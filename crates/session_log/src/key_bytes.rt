@@ -7,8 +7,8 @@ use crate::short_bytes::ShortBytes;
 use std::alloc::{AllocError, Global};
 use std::marker::Model;
 
-// As many bytes as leave an operation of a log 32 bytes: a log has millions of operations, and most of their keys are
-// this short.
+/// As many bytes as leave an operation of a log 32 bytes: a log has millions of operations, and
+/// most of their keys are this short.
 const IN_PLACE: usize = 14;
 
 /// The most bytes of a key.
@@ -16,7 +16,8 @@ pub(crate) const LONGEST: usize = 64;
 
 const _: () = prove!(size_of::<KeyBytes>() == 16);
 
-/// Up to `LONGEST` bytes: a few lie in place, and more in memory of their own. Contracts see the bytes.
+/// Up to `LONGEST` bytes: a few lie in place, and more in memory of their own. Contracts see the
+/// bytes.
 #[derive(Debug, Drop)]
 pub(crate) struct KeyBytes {
     place: Place,

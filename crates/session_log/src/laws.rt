@@ -1,13 +1,16 @@
 //! What the definitions say of each other.
 
-ghost use Rattle.std.specs.Prelude.{◌≡◌, ◌<◌, ◌≤◌, ◌+◌, ◌++◌, ℕ, List, length, map, Some, None, Contains};
+ghost use Rattle.std.specs.Prelude.{◌≡◌, ◌<◌, ◌≤◌, ◌+◌, ◌++◌, ℕ, List, length, map, Some, None};
+ghost use Rattle.std.specs.Prelude.{Contains};
 ghost use Rattle.std.specs.List.{AllByRecursion};
 ghost use Rattle.session_log.specs.Lines.{lines, form_of};
 ghost use Rattle.session_log.specs.Faults.{grammar_fault};
 ghost use Rattle.session_log.specs.Blocks.{blocks_of, block_text, block_fault, first_of};
-ghost use Rattle.session_log.specs.Text.{ClientSession, IsLegal, IsHeldBy, IsLegalLine, line_text, session_text};
+ghost use Rattle.session_log.specs.Text.{ClientSession, IsLegal, IsHeldBy, IsLegalLine, line_text};
+ghost use Rattle.session_log.specs.Text.{session_text};
 ghost use Rattle.session_log.specs.Text.{log_text, least_version};
-ghost use Rattle.session_log.specs.Version.{header_text, first_line, version_of, body_of, version_number};
+ghost use Rattle.session_log.specs.Version.{header_text, first_line, version_of, body_of};
+ghost use Rattle.session_log.specs.Version.{version_number};
 ghost use Rattle.session_log.specs.declared.block.Block.{Block};
 ghost use Rattle.session_log.specs.declared.line.Line.{Line};
 ghost use Rattle.session_log.specs.declared.version.Version.{Version};

@@ -1,6 +1,7 @@
 //! One line of a log.
 
-ghost use Rattle.std.specs.Prelude.{◌≡◌, ◌^◌, ◌==◌, ◌&&◌, true, false, nat_lt, nat_eq, position, drop, codes, Some, None, IfOk, if◌then◌else◌, option_and_then};
+ghost use Rattle.std.specs.Prelude.{◌≡◌, ◌^◌, ◌==◌, ◌&&◌, true, false, nat_lt, nat_eq, position};
+ghost use Rattle.std.specs.Prelude.{drop, codes, Some, None, IfOk, if◌then◌else◌, option_and_then};
 ghost use Rattle.session_log.specs.declared.line.Line.TheVariants as line;
 ghost use Rattle.std.specs.List.{list_all, starts_with};
 ghost use Rattle.std.specs.Str.{bytes_eq};
@@ -44,7 +45,7 @@ fn session_of(word: &[u8]) -> Option<Line>
     }
 }
 
-// The line of a `begin` with the moment that a word writes.
+/// The line of a `begin` with the moment that a word writes.
 fn begin_of(word: &[u8]) -> Option<Line>
     ensures { result ≡ option_and_then (λ m. Some (line.Begin (Some m))) (number_of word.now) }
 {
@@ -52,7 +53,7 @@ fn begin_of(word: &[u8]) -> Option<Line>
     Some(Line::Begin(Some(moment)))
 }
 
-// The same of a `commit`.
+/// The same of a `commit`.
 fn commit_of(word: &[u8]) -> Option<Line>
     ensures { result ≡ option_and_then (λ m. Some (line.Commit (Some m))) (number_of word.now) }
 {
@@ -60,7 +61,7 @@ fn commit_of(word: &[u8]) -> Option<Line>
     Some(Line::Commit(Some(moment)))
 }
 
-// A key, a space and a number.
+/// A key, a space and a number.
 #[tactic(auto, unfolding(crate::specs::Lines::keyed_of))]
 fn keyed_of(alloc: Global, words: &[u8]) -> Result<Option<(Key, u64)>, AllocError>
     ensures { IfOk result (λ o. o ≡ keyed_of words.now) }
@@ -77,9 +78,10 @@ fn keyed_of(alloc: Global, words: &[u8]) -> Result<Option<(Key, u64)>, AllocErro
     }
 }
 
-// The line of a read.
+/// The line of a read.
 fn read_of(alloc: Global, words: &[u8]) -> Result<Option<Line>, AllocError>
-    ensures { IfOk result (λ o. o ≡ option_and_then (λ k. Some (line.Read k.0 k.1)) (keyed_of words.now)) }
+    ensures { IfOk result (λ o. o ≡ option_and_then (λ k. Some (line.Read k.0 k.1))
+        (keyed_of words.now)) }
 {
     match keyed_of(alloc, words)? {
         Some((key, wid)) => Ok(Some(Line::Read(key, wid))),
@@ -87,9 +89,10 @@ fn read_of(alloc: Global, words: &[u8]) -> Result<Option<Line>, AllocError>
     }
 }
 
-// The same of a write.
+/// The same of a write.
 fn write_of(alloc: Global, words: &[u8]) -> Result<Option<Line>, AllocError>
-    ensures { IfOk result (λ o. o ≡ option_and_then (λ k. Some (line.Write k.0 k.1)) (keyed_of words.now)) }
+    ensures { IfOk result (λ o. o ≡ option_and_then (λ k. Some (line.Write k.0 k.1))
+        (keyed_of words.now)) }
 {
     match keyed_of(alloc, words)? {
         Some((key, wid)) => Ok(Some(Line::Write(key, wid))),
@@ -97,7 +100,7 @@ fn write_of(alloc: Global, words: &[u8]) -> Result<Option<Line>, AllocError>
     }
 }
 
-// The forms that only some versions have.
+/// The forms that only some versions have.
 fn later_form(version: Version, body: &[u8]) -> Option<Line>
     ensures { result ≡
         (if has_unknown_line version && bytes_eq body.now (codes "unknown") then Some line.Unknown else
@@ -115,7 +118,7 @@ fn later_form(version: Version, body: &[u8]) -> Option<Line>
     }
 }
 
-// The form of a line that is no single word of every version.
+/// The form of a line that is no single word of every version.
 #[tactic(auto, unfolding(crate::specs::Lines::form_of))]
 fn longer_form(alloc: Global, version: Version, body: &[u8]) -> Result<Option<Line>, AllocError>
     requires begin { bytes_eq body.now (codes "begin") ≡ false }

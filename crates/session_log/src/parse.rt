@@ -3,7 +3,8 @@
 ghost use Rattle.std.specs.Prelude.{◌≡◌, ◌∷◌, ◌++◌, ◌<◌, ◌+◌, ◌^◌, false, Some, None, length};
 ghost use Rattle.std.specs.Prelude.{[], if◌then◌else◌, IfOk, IfErr, OnOk};
 ghost use Rattle.session_log.specs.Lines.{lines, form_of, bytes_of};
-ghost use Rattle.session_log.specs.Faults.{Start, Over, after, step, first_fault, form_at, is_session_line};
+ghost use Rattle.session_log.specs.Faults.{Start, Over, after, step, first_fault, form_at};
+ghost use Rattle.session_log.specs.Faults.{is_session_line};
 ghost use Rattle.session_log.specs.Faults.{IsBlock, FailsAs, IsFault, IsGrammarFault};
 ghost use Rattle.session_log.specs.Text.{view, session_text, IsLegal, IsHeldBy};
 ghost use Rattle.session_log.specs.Reading.{place_of, Adds, Takes, IsBodyLine};
@@ -25,7 +26,7 @@ struct OpenTxn {
 
 /// How far a session has come.
 #[derive(Drop)]
-enum Progress {
+enum LineState {
     /// No transaction is open.
     Between,
     /// This one is.
@@ -38,10 +39,11 @@ enum Progress {
 #[derive(Drop)]
 struct Reading {
     txns: Vec<Txn>,
-    progress: Progress,
+    progress: LineState,
 }
 
-/// Adds an operation. A full list grows by an eighth, so that many short transactions hold little room that they do not use.
+/// Adds an operation. A full list grows by an eighth, so that many short transactions hold little
+/// room that they do not use.
 fn add(ops: &mut Vec<Op>, op: Op) -> Result<(), AllocError>
     ensures { OnOk result (ops.new.items ≡ ops.old.items ++ op ∷ []) }
 {
@@ -73,16 +75,16 @@ fn with_line(alloc: Global, reading: Reading, n: usize, form: Line) -> Result<Re
 {
     let Reading { mut txns, progress } = reading;
     let progress = match progress {
-        Progress::Between => match form {
-            Line::Begin(begun) => Progress::Inside(OpenTxn {
+        LineState::Between => match form {
+            Line::Begin(begun) => LineState::Inside(OpenTxn {
                 line: n,
                 begun,
                 ops: Vec::new(alloc),
             }),
             _ => return Err(LogFault::OutsideTransaction { line: n }),
         },
-        Progress::Over => return Err(fault_when_over(n, &form)),
-        Progress::Inside(
+        LineState::Over => return Err(fault_when_over(n, &form)),
+        LineState::Inside(
             OpenTxn {
                 line,
                 begun,
@@ -93,11 +95,11 @@ fn with_line(alloc: Global, reading: Reading, n: usize, form: Line) -> Result<Re
             Line::Write(_, 0) => return Err(LogFault::WriteZero { line: n }),
             Line::Read(key, wid) => {
                 add(&mut ops, Op::Read { key, wid })?;
-                Progress::Inside(OpenTxn { line, begun, ops })
+                LineState::Inside(OpenTxn { line, begun, ops })
             }
             Line::Write(key, wid) => {
                 add(&mut ops, Op::Write { key, wid })?;
-                Progress::Inside(OpenTxn { line, begun, ops })
+                LineState::Inside(OpenTxn { line, begun, ops })
             }
             Line::Commit(ended) => {
                 if is_earlier(ended, begun) {
@@ -109,7 +111,7 @@ fn with_line(alloc: Global, reading: Reading, n: usize, form: Line) -> Result<Re
                     begun,
                     ended,
                 })?;
-                Progress::Between
+                LineState::Between
             }
             Line::Abort => {
                 txns.push(Txn {
@@ -118,7 +120,7 @@ fn with_line(alloc: Global, reading: Reading, n: usize, form: Line) -> Result<Re
                     begun,
                     ended: None,
                 })?;
-                Progress::Between
+                LineState::Between
             }
             Line::Unknown => {
                 txns.push(Txn {
@@ -127,7 +129,7 @@ fn with_line(alloc: Global, reading: Reading, n: usize, form: Line) -> Result<Re
                     begun,
                     ended: None,
                 })?;
-                Progress::Over
+                LineState::Over
             }
         },
     };
@@ -144,7 +146,8 @@ fn session_number(
     first_line: usize,
 ) -> Result<u16, LogFault>
     ensures number { IfOk result (λ k. form_at version (body.now, ended) ≡ Some (Line.Session k)) }
-    ensures fault { IfErr result (λ f. FailsAs f (step version first_line Start (body.now, ended))) }
+    ensures fault { IfErr result (λ f. FailsAs f
+        (step version first_line Start (body.now, ended))) }
     ensures kind { IfErr result (λ f. IsGrammarFault f) }
 {
     match read_form(alloc, version, body, ended)? {
@@ -167,7 +170,8 @@ fn with_next(
 ) -> Result<Reading, LogFault>
     requires { is_session_line (body.now, ended) ≡ false }
     ensures taken { IfOk result (λ new. Takes version n reading (body.now, ended) new) }
-    ensures fault { IfErr result (λ f. FailsAs f (step version n (place_of reading) (body.now, ended))) }
+    ensures fault { IfErr result (λ f. FailsAs f
+        (step version n (place_of reading) (body.now, ended))) }
     ensures kind { IfErr result (λ f. IsGrammarFault f) }
 {
     match read_form(alloc, version, body, ended)? {
@@ -189,7 +193,8 @@ pub fn parse_lines(
 ) -> Result<Session, LogFault>
     requires block { IsBlock (lines text.now) }
     requires room { first_line + length text.now < 2 ^ 64 }
-    ensures accepted { IfOk result (λ _. first_fault version first_line Start (lines text.now) ≡ None) }
+    ensures accepted { IfOk result (λ _. first_fault version first_line Start
+        (lines text.now) ≡ None) }
     ensures legal { IfOk result (λ s. IsLegal (view s)) }
     ensures held { IfOk result (λ s. IsHeldBy version (view s)) }
     ensures text { IfOk result (λ s. text.now ≡ session_text (view s)) }
@@ -201,7 +206,7 @@ pub fn parse_lines(
     let number = session_number(alloc, version, first, ended, first_line)?;
     let mut reading = Reading {
         txns: Vec::new(alloc),
-        progress: Progress::Between,
+        progress: LineState::Between,
     };
     let mut n = first_line;
     while !rest.is_empty() {
@@ -212,8 +217,8 @@ pub fn parse_lines(
     }
     let Reading { txns, progress } = reading;
     match progress {
-        Progress::Inside(txn) => Err(LogFault::OpenTransaction { line: txn.line }),
-        Progress::Between | Progress::Over => Ok(Session { number, txns }),
+        LineState::Inside(txn) => Err(LogFault::OpenTransaction { line: txn.line }),
+        LineState::Between | LineState::Over => Ok(Session { number, txns }),
     }
 }
 

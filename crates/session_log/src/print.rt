@@ -1,6 +1,7 @@
 //! The text of sessions.
 
-ghost use Rattle.std.specs.Prelude.{◌≡◌, ◌++◌, ◌∷◌, [], ◌||◌, is_some, IfOk, OnOk, map, decimal, codes};
+ghost use Rattle.std.specs.Prelude.{◌≡◌, ◌++◌, ◌∷◌, [], ◌||◌, is_some, IfOk, OnOk, map, decimal};
+ghost use Rattle.std.specs.Prelude.{codes};
 ghost use Rattle.std.specs.List.{flat_map, list_any};
 ghost use Rattle.session_log.specs.Text.{view, view_txn, op_line, end_line, full_line};
 ghost use Rattle.session_log.specs.Text.{text_of_lines, txn_lines, session_text, log_text};
@@ -49,7 +50,7 @@ fn put_op(alloc: Global, out: &mut Vec<u8>, op: &Op) -> Result<(), AllocError>
     }
 }
 
-// A word, and behind it the moment that it states, where it states one.
+/// A word, and behind it the moment that it states, where it states one.
 fn put_moment(
     alloc: Global,
     out: &mut Vec<u8>,
@@ -131,7 +132,8 @@ fn any_unknown(txns: &[Txn]) -> bool
 }
 
 fn any_with_unknown(sessions: &[Session]) -> bool
-    ensures { result ≡ list_any (λ s. list_any (λ t. is_unknown t.outcome) s.txns.items) sessions.now }
+    ensures { result ≡ list_any (λ s. list_any (λ t. is_unknown t.outcome) s.txns.items)
+        sessions.now }
 {
     sessions.iter().any(|session| any_unknown(&session.txns))
 }

@@ -15,7 +15,8 @@ pub enum Op {
     Write { key: Key, wid: u64 },
 }
 
-// A log of the greatest size can have millions of operations, and is read whole before they are counted.
+/// A log of the greatest size can have millions of operations, and is read whole before they are
+/// counted.
 const _: () = prove!(size_of::<Op>() == 32);
 
 /// How a transaction ended.
@@ -23,7 +24,8 @@ const _: () = prove!(size_of::<Op>() == 32);
 pub enum Outcome {
     Commit,
     Abort,
-    /// The client was not told: it committed or it did not. In a legal session only the last transaction may end so.
+    /// The client was not told: it committed or it did not. In a legal session only the last
+    /// transaction may end so.
     Unknown,
 }
 
@@ -49,8 +51,9 @@ pub fn is_earlier(one: Option<u64>, other: Option<u64>) -> bool
     }
 }
 
-/// A transaction: its operations in the order of the log, how it ended, and the moments at which it began and, where it was
-/// committed, ended, as the log states them: both by one clock, in whatever unit.
+/// A transaction: its operations in the order of the log, how it ended, and the moments at which it
+/// began and, where it was committed, ended, as the log states them: both by one clock, in whatever
+/// unit.
 #[derive(Debug, Drop)]
 pub struct Txn {
     pub ops: Vec<Op>,

@@ -1,7 +1,8 @@
 //! The versions of the log's text.
 
 ghost use Rattle.std.specs.Prelude.{◌≡◌};
-ghost use Rattle.session_log.specs.Version.{header_text, first_line, has_unknown_line, has_moments, version_of};
+ghost use Rattle.session_log.specs.Version.{header_text, first_line, has_unknown_line, has_moments};
+ghost use Rattle.session_log.specs.Version.{version_of};
 
 /// A version of the log's text, which a log tells by its header: the line that it begins with.
 #[derive(Clone, Copy, Debug, PartialEq, Eq)]

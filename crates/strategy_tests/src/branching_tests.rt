@@ -4,7 +4,7 @@ ghost use Rattle.polygraph.specs.Polygraphs.{Joins, JoinsBoth};
 
 use branching::laws::turn;
 use branching::{Alternate, ByWords, CubeView, FirstOpen, Forced, LeastEdges, MostEdges, Strategy};
-use cube_laws::{Event, NodeLine};
+use cube_laws::CubeEvent;
 use desk::gate::OpenGate;
 use desk::seat_no::Workers;
 use known_graph::Known;
@@ -13,6 +13,7 @@ use prune_ledger::{Pruned, Reduced, prune};
 use pruning_laws::Side;
 use reach_laws::Edge;
 use serializability::NodeIx;
+use session_history::NodeLine;
 use std::alloc::Global;
 use std::process::Abort;
 use std::sync::Wait;
@@ -34,14 +35,14 @@ fn edge(rt: &impl Abort, nodes: usize, ends: Ends) -> Edge
     Edge::new(node(rt, ends.0), node(rt, ends.1))
 }
 
-// A side of one edge.
+/// A side of one edge.
 fn single(rt: &impl Abort, nodes: usize, ends: Ends) -> Edges
     ensures { AllByRecursion (Joins nodes) result }
 {
     Edges::single(edge(rt, nodes, ends))
 }
 
-// A side of two edges.
+/// A side of two edges.
 fn double(rt: &impl Abort, alloc: Global, nodes: usize, first: Ends, second: Ends) -> Edges
     ensures { AllByRecursion (Joins nodes) result }
 {
@@ -80,7 +81,7 @@ const PATHS: [Ends; 8] = [
     (4, 8),
 ];
 
-// A choice of two edges a side between eight nodes.
+/// A choice of two edges a side between eight nodes.
 fn of_eight(rt: &impl Abort, alloc: Global, one: (Ends, Ends), two: (Ends, Ends)) -> Choice
     ensures { JoinsBoth 8 result }
 {
@@ -88,7 +89,7 @@ fn of_eight(rt: &impl Abort, alloc: Global, one: (Ends, Ends), two: (Ends, Ends)
     Choice::new(first, double(rt, alloc, 8, two.0, two.1))
 }
 
-// Eight nodes and two choices of two edges a side; each way to decide both closes a cycle.
+/// Eight nodes and two choices of two edges a side; each way to decide both closes a cycle.
 fn eight_nodes(rt: &impl Abort, alloc: Global) -> Polygraph {
     let mut choices = Vec::new(alloc);
     let zero = of_eight(rt, alloc, ((5, 2), (6, 2)), ((7, 1), (8, 1)));
@@ -98,7 +99,7 @@ fn eight_nodes(rt: &impl Abort, alloc: Global) -> Polygraph {
     Polygraph::new(known(rt, alloc, 8, &PATHS), choices)
 }
 
-// What pruning leaves, where that is not dead.
+/// What pruning leaves, where that is not dead.
 fn reduced<R: Threads + Wait + Clock + Abort + Sync>(
     rt: &R,
     alloc: Global,
@@ -127,7 +128,7 @@ fn decide(rt: &impl Abort, view: &mut CubeView<'_>, number: usize, side: Side)
     assert!(rt; view.side_of(choice) == Some(side));
 }
 
-// The strategy picks this choice and this side first.
+/// The strategy picks this choice and this side first.
 fn see(rt: &impl Abort, view: &CubeView<'_>, strategy: &impl Strategy, number: usize, side: Side) {
     let picked = strategy.pick(view);
     let choice = picked.expect(rt, "an open choice");
@@ -150,7 +151,7 @@ fn words(rt: &impl Abort, alloc: Global) -> ByWords {
     ByWords::new(words)
 }
 
-// Two strategies, before a choice is decided and after it.
+/// Two strategies, before a choice is decided and after it.
 fn see_in_turn(
     rt: &impl Abort,
     view: &mut CubeView<'_>,
@@ -177,22 +178,22 @@ fn strategies_by_words_and_in_turn(rt: HostRuntime) {
     see_in_turn(rt, &mut view, &words(rt, alloc), &both);
 }
 
-// A choice of either order of two nodes of six.
+/// A choice of either order of two nodes of six.
 fn either(rt: &impl Abort, one: usize, two: usize) -> Choice
     ensures { JoinsBoth 6 result }
 {
     Choice::new(single(rt, 6, (one, two)), single(rt, 6, (two, one)))
 }
 
-// A choice of more edges.
+/// A choice of more edges.
 fn of_more(rt: &impl Abort, alloc: Global) -> Choice
     ensures { JoinsBoth 6 result }
 {
     Choice::new(double(rt, alloc, 6, (4, 5), (4, 6)), single(rt, 6, (5, 4)))
 }
 
-// Six nodes and choices of one edge a side between nodes 1 and 2, 2 and 3, 1 and 3, 3 and 1 again, and one of
-// more edges between 4, 5 and 6.
+/// Six nodes and choices of one edge a side between nodes 1 and 2, 2 and 3, 1 and 3, 3 and 1 again,
+/// and one of more edges between 4, 5 and 6.
 fn six_nodes(rt: &impl Abort, alloc: Global) -> Polygraph {
     let mut choices = Vec::new(alloc);
     choices.push(either(rt, 1, 2)).expect(rt, "memory");
@@ -203,7 +204,7 @@ fn six_nodes(rt: &impl Abort, alloc: Global) -> Polygraph {
     Polygraph::new(known(rt, alloc, 6, &[]), choices)
 }
 
-// Decides a choice for side one; the strategy by forced choices then picks another one.
+/// Decides a choice for side one; the strategy by forced choices then picks another one.
 fn see_forced(rt: &impl Abort, view: &mut CubeView<'_>, decided: usize, forced: usize, side: Side)
     ensures { view.new.polygraph ≡ view.old.polygraph }
 {
@@ -211,7 +212,7 @@ fn see_forced(rt: &impl Abort, view: &mut CubeView<'_>, decided: usize, forced: 
     see(rt, view, &Forced, forced, side);
 }
 
-// Decides one choice more, and goes back to what was saved before it.
+/// Decides one choice more, and goes back to what was saved before it.
 fn see_restored(rt: &impl Abort, alloc: Global, view: &mut CubeView<'_>) {
     let saved = view.save(alloc).expect(rt, "memory");
     see_forced(rt, view, 2, 3, Side::Two);
@@ -231,23 +232,23 @@ fn forced_choices_are_picked_first(rt: HostRuntime) {
     see_restored(rt, alloc, &mut view);
 }
 
-fn see_split(rt: &impl Abort, event: &Event, number: usize) {
+fn see_split(rt: &impl Abort, event: &CubeEvent, number: usize) {
     match event {
-        Event::Split(choice) => assert_eq!(rt; choice.get(), number),
+        CubeEvent::Split(choice) => assert_eq!(rt; choice.get(), number),
         _ => panic!(rt; "no split"),
     }
 }
 
-fn see_cycle(rt: &impl Abort, event: &Event, want: &[usize]) {
+fn see_cycle(rt: &impl Abort, event: &CubeEvent, want: &[usize]) {
     match event {
-        Event::Refute(line) => see_line(rt, line, want),
+        CubeEvent::Refute(line) => see_line(rt, line, want),
         _ => panic!(rt; "no cycle"),
     }
 }
 
-fn see_order(rt: &impl Abort, event: &Event, want: &[usize]) {
+fn see_order(rt: &impl Abort, event: &CubeEvent, want: &[usize]) {
     match event {
-        Event::Solve(line) => see_line(rt, line, want),
+        CubeEvent::Solve(line) => see_line(rt, line, want),
         _ => panic!(rt; "no order"),
     }
 }

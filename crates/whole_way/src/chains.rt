@@ -20,7 +20,7 @@ fn found<'a>(
 ) -> Result<Option<Result<Chains<'a>, Vec<NodeIx>>>, AllocError>
     ensures { IfOk result (λ found. IfSome found (λ some. IfOk some (λ c. c ≡ history.now))) }
 {
-    let _nodes = history.committed();
+    let _invariant = history.committed();
     if classify(alloc, history)?.is_some() {
         return Ok(None);
     }

@@ -7,19 +7,22 @@ use branch_search::Budget;
 use cobra_cli::{Options, StrategyName};
 use std::process::Abort;
 
-// With a budget of seven cubes a search finds an order by the choices with the most edges, and none by those with the least.
+/// With a budget of seven cubes a search finds an order by the choices with the most edges, and
+/// none by those with the least.
 const BY_SIZES: &str = "session 1\nbegin\nw y 1\ncommit\nsession 2\nbegin\nw x 2\ncommit\n\
     session 3\nbegin\nr x 2\nr y 1\ncommit\nsession 4\nbegin\nr y 1\nr x 2\ncommit\n\
     session 5\nbegin\nw x 3\ncommit\nsession 6\nbegin\nw x 4\ncommit\n\
     session 7\nbegin\nr y 1\nr x 4\ncommit\nsession 8\nbegin\nw y 5\ncommit\n\
     session 9\nbegin\nr x 3\nr y 5\ncommit\n";
 
-// With a budget of six cubes a search finds an order by the first choices, and none by those with the most edges.
+/// With a budget of six cubes a search finds an order by the first choices, and none by those with
+/// the most edges.
 const BY_PLACES: &str = "session 1\nbegin\nw x 1\ncommit\nsession 2\nbegin\nw y 2\nw x 3\ncommit\n\
     session 3\nbegin\nw x 4\nw y 5\ncommit\nsession 4\nbegin\nw y 6\ncommit\n\
     session 5\nbegin\nr y 6\nr x 1\ncommit\nsession 6\nbegin\nr y 6\nr x 3\ncommit\n";
 
-// With a budget of three cubes a search finds an order where it first takes the choices that its cube forces, and none else.
+/// With a budget of three cubes a search finds an order where it first takes the choices that its
+/// cube forces, and none else.
 const BY_FORCE: &str = "session 1\nbegin\nw x 1\nr y 2\ncommit\n\
     session 2\nbegin\nw y 2\nr x 4\ncommit\nsession 3\nbegin\nw x 3\ncommit\n\
     session 4\nbegin\nw x 4\ncommit\nsession 5\nbegin\nr x 4\nr y 2\ncommit\n\
@@ -98,7 +101,7 @@ fn not_serializable(rt: HostRuntime) {
     }
 }
 
-// By which choice and which side a search goes on, with one worker, shows in what it prints.
+/// By which choice and which side a search goes on, with one worker, shows in what it prints.
 #[test]
 fn by_strategy(rt: HostRuntime) {
     let found = "serializable\n1 1\n3 1\n2 1\n";

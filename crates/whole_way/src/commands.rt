@@ -35,7 +35,8 @@ pub fn options(rt: &impl Abort, plain: bool, workers: u8) -> Options {
     }
 }
 
-/// What a command answers, and what it put into a sink that takes a byte a call and fails after `good` calls.
+/// What a command answers, and what it put into a sink that takes a byte a call and fails after
+/// `good` calls.
 pub fn ended<G: Gate, R: Threads + Wait + Clock + Sync>(
     rt: &R,
     alloc: Global,

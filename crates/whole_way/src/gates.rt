@@ -10,7 +10,7 @@ use std::sync::atomic::{AtomicU64, Ordering};
 use std::thread::Threads;
 use std::time::Clock;
 
-// Counts how often it is passed.
+/// Counts how often it is passed.
 #[derive(Drop)]
 struct Counting {
     passed: AtomicU64,
@@ -38,8 +38,8 @@ fn passes<R: Threads + Wait + Clock + Sync + Abort>(
     gate.passed.load(Ordering::SeqCst)
 }
 
-// A log is read by one pass for each block and one that finds none left. Where an anomaly stands nothing is pruned; else whoever
-// prunes passes the gate too.
+/// A log is read by one pass for each block and one that finds none left. Where an anomaly stands
+/// nothing is pruned; else whoever prunes passes the gate too.
 #[test]
 fn reading_and_pruning(rt: HostRuntime) {
     for command in [

@@ -1,4 +1,5 @@
-//! Tests that cross crates, over bytes in memory: a log goes in, and what a command prints and how it ends is compared.
+//! Tests that cross crates, over bytes in memory: a log goes in, and what a command prints and how
+//! it ends is compared.
 #![tactic(auto)]
 
 #[cfg(test)]

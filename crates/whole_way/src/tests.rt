@@ -12,27 +12,27 @@ const ABORTED_WRITE: &str = "session 1\nbegin\nw x 1\nabort\n";
 
 const ABORTED_READ: &str = "session 1\nbegin\nr x 9\nabort\n";
 
-// The client of session 1 was never told how its transaction ended; session 2 read what it wrote.
+/// The client of session 1 was never told how its transaction ended; session 2 read what it wrote.
 const UNKNOWN_WRITE_READ: &str =
     "log 2\nsession 1\nbegin\nw x 1\nunknown\nsession 2\nbegin\nr x 1\ncommit\n";
 
-// Nobody read what the transaction of unknown outcome wrote.
+/// Nobody read what the transaction of unknown outcome wrote.
 const UNKNOWN_WRITE_UNREAD: &str =
     "log 2\nsession 1\nbegin\nw x 1\nunknown\nsession 2\nbegin\nr x 0\ncommit\n";
 
-// A transaction of unknown outcome reads what another one wrote, and what it wrote is read.
+/// A transaction of unknown outcome reads what another one wrote, and what it wrote is read.
 const UNKNOWN_IN_TURN: &str =
     "log 2\nsession 1\nbegin\nw x 1\nunknown\nsession 2\nbegin\nr x 1\nw y 2\nunknown\n\
     session 3\nbegin\nr y 2\ncommit\n";
 
-// Two writers of a key that nobody reads.
+/// Two writers of a key that nobody reads.
 const UNREAD: &str = "session 1\nbegin\nw x 1\ncommit\nsession 2\nbegin\nw x 2\ncommit\n";
 
-// Each transaction reads what the one before wrote.
+/// Each transaction reads what the one before wrote.
 const ONE_CHAIN: &str = "session 1\nbegin\nr x 0\nw x 1\ncommit\nbegin\nr x 1\nw x 2\ncommit\n\
     begin\nr x 2\nw x 3\ncommit\nbegin\nr x 3\nw x 4\ncommit\nbegin\nr x 4\nw x 5\ncommit\n";
 
-// Ten transactions of two sessions in turn, each of which began when the one before it had ended.
+/// Ten transactions of two sessions in turn, each of which began when the one before it had ended.
 const TEN_IN_TURN: &str = "log 3\nsession 1\nbegin 2\nw k1 1\ncommit 3\nbegin 6\nw k3 3\ncommit 7\n\
     begin 10\nw k5 5\ncommit 11\nbegin 14\nw k7 7\ncommit 15\nbegin 18\nw k9 9\ncommit 19\n\
     session 2\nbegin 4\nw k2 2\ncommit 5\nbegin 8\nw k4 4\ncommit 9\n\
@@ -339,7 +339,7 @@ fn refused_logs(rt: HostRuntime) {
     }
 }
 
-// A session of so many transactions without operations.
+/// A session of so many transactions without operations.
 fn transactions(rt: &impl Abort, alloc: Global, count: usize) -> String {
     let mut log = String::from_str(alloc, "session 1\n").expect(rt, "memory");
     for _ in 0..count {
@@ -348,7 +348,7 @@ fn transactions(rt: &impl Abort, alloc: Global, count: usize) -> String {
     log
 }
 
-// 101 transactions are too many for the plain formula alone, 1,001 are too many for a log.
+/// 101 transactions are too many for the plain formula alone, 1,001 are too many for a log.
 #[test]
 fn too_many_transactions(rt: HostRuntime) {
     let rt = &rt;
@@ -388,7 +388,7 @@ fn each_put_fails_in_turn(rt: HostRuntime) {
     }
 }
 
-// An operation on each of so many keys, with identities of the session's own.
+/// An operation on each of so many keys, with identities of the session's own.
 fn push_ops(
     rt: &impl Abort,
     alloc: Global,
@@ -403,7 +403,7 @@ fn push_ops(
     }
 }
 
-// 50 sessions, each with a transaction that writes so many keys and one that reads these writes.
+/// 50 sessions, each with a transaction that writes so many keys and one that reads these writes.
 fn many_bipaths(rt: &impl Abort, alloc: Global, keys: usize) -> String {
     let mut log = String::new(alloc);
     for session in 1..51usize {
@@ -430,7 +430,7 @@ fn choices_at_the_limit(rt: HostRuntime) {
     see(rt, alloc, &options, Command::Encode, &log, 2, "refused: G1");
 }
 
-// 64 sessions, each with so many transactions that write one key and read nothing.
+/// 64 sessions, each with so many transactions that write one key and read nothing.
 fn blind_writers(rt: &impl Abort, alloc: Global, each: usize) -> String {
     let mut log = String::new(alloc);
     for session in 1..65usize {
@@ -446,7 +446,7 @@ fn blind_writers(rt: &impl Abort, alloc: Global, each: usize) -> String {
     log
 }
 
-// Each two of 448 chains of a key are a choice, which is 100,128.
+/// Each two of 448 chains of a key are a choice, which is 100,128.
 #[test]
 fn too_many_choices_of_chains(rt: HostRuntime) {
     let rt = &rt;

@@ -1,5 +1,5 @@
 use clap::Error;
-use cobra_words::{Command, FormatWord, PiecesWord, Request, StrategyWord, Words, words_of};
+use cobra_words::{Command, FormatWord, PiecesWord, Request, StrategyName, Words, words_of};
 use std::alloc::Global;
 use std::process::Abort;
 
@@ -171,7 +171,7 @@ fn files_of_logs(rt: HostRuntime) {
 }
 
 /// The strategy and the budget of a call, where it is one of `check`.
-fn asked(request: &Request<'_>) -> Option<(StrategyWord, usize)> {
+fn asked(request: &Request<'_>) -> Option<(StrategyName, usize)> {
     match &request.command {
         Command::Check => Some((request.strategy, request.budget.get())),
         _ => None,
@@ -179,7 +179,7 @@ fn asked(request: &Request<'_>) -> Option<(StrategyWord, usize)> {
 }
 
 /// Words are a call of `check` with this strategy and budget.
-fn see_asked(rt: &impl Abort, alloc: Global, line: &str, strategy: StrategyWord, budget: usize) {
+fn see_asked(rt: &impl Abort, alloc: Global, line: &str, strategy: StrategyName, budget: usize) {
     let words = words(rt, alloc, line);
     let found = asked(&request(rt, alloc, &words));
     assert!(rt; found == Some((strategy, budget)), "{line}");
@@ -188,25 +188,25 @@ fn see_asked(rt: &impl Abort, alloc: Global, line: &str, strategy: StrategyWord,
 #[test]
 fn words_of_check(rt: HostRuntime) {
     for (line, strategy, budget) in [
-        ("cobra_poly check", StrategyWord::First, 10_000),
+        ("cobra_poly check", StrategyName::First, 10_000),
         (
             "cobra_poly check --strategy most --budget 1 log",
-            StrategyWord::Most,
+            StrategyName::Most,
             1,
         ),
         (
             "cobra_poly check --budget 1000000 --strategy least",
-            StrategyWord::Least,
+            StrategyName::Least,
             1_000_000,
         ),
         (
             "cobra_poly check --strategy forced",
-            StrategyWord::Forced,
+            StrategyName::Forced,
             10_000,
         ),
         (
             "cobra_poly check --strategy first",
-            StrategyWord::First,
+            StrategyName::First,
             10_000,
         ),
     ] {
@@ -245,7 +245,8 @@ fn words_of_explain(rt: HostRuntime) {
     }
 }
 
-/// The size, the least number of commits and the seconds of a call, and its budget, where it is one of `audit`.
+/// The size, the least number of commits and the seconds of a call, and its budget, where it is one
+/// of `audit`.
 fn audit_asked(request: &Request<'_>) -> Option<(Option<usize>, usize, Option<u32>, usize)> {
     match &request.command {
         Command::Audit(words) => Some((

@@ -18,14 +18,23 @@ pub record KeyView : Type 0 where
   pub readers : List (ℕ × List ℕ)
 
 abbrev pub key_view : KeyChains → KeyView
-key_view c = record { initial = chain_view c.initial; others = map chain_view c.others.items; readers = map group_view c.readers.items }
+key_view c = record {
+  initial = chain_view c.initial;
+  others = map chain_view c.others.items;
+  readers = map group_view c.readers.items;
+}
 
 -- the readers of each node that the key is read from
 abbrev pub readers_by : Log → ℕ → List (ℕ × List ℕ)
 readers_by log x = pairs (λ w. unless_empty (readers log x w)) 0 (log.nodes + 1)
 
 abbrev pub key_in : Log → ℕ → KeyView
-key_in log x = record { initial = chain_from log x 0; others = chains_in log x; readers = readers_by log x }
+key_in log x = record {
+  initial = chain_from log x 0;
+  others = chains_in log x;
+  readers = readers_by
+      log x;
+}
 
 abbrev pub sessions_of : Inside → List ClientSession
 sessions_of c = c.history.now
@@ -33,5 +42,6 @@ sessions_of c = c.history.now
 -- the tables are those of the sessions, and no chain closes on itself
 pub record AreChains (c : Inside) : Type 0 where
   pub none_closes : (x : ℕ) → NoneCloses (log_of (sessions_of c)) x
-  pub keys : map key_view c.keys.items ≡ map (key_in (log_of (sessions_of c))) (all_keys (log_of (sessions_of c)))
+  pub keys : map key_view c.keys.items ≡ map (key_in (log_of (sessions_of c)))
+      (all_keys (log_of (sessions_of c)))
   pub inner : c.inner.items ≡ inner_edges (log_of (sessions_of c))

@@ -1,10 +1,12 @@
 -- Lists by number, and tables of nodes.
-use Rattle.std.specs.Prelude.{◌≡◌, ℕ, ◌+◌, ◌<◌, ◌≤◌, List, [], ◌∷◌, length, slice_get, slice_index_or, Option, None, Some, Vec}
+use Rattle.std.specs.Prelude.{◌≡◌, ℕ, ◌+◌, ◌<◌, ◌≤◌, List, [], ◌∷◌, length, slice_get}
+use Rattle.std.specs.Prelude.{slice_index_or, Option, None, Some, Vec}
 use Rattle.std.specs.Option.{option_map}
 use Rattle.std.specs.declared.alloc.Global.{Global}
 
 -- so many lists, which are those of a function
-pub record AreLists {X : Type 0} (n : ℕ) (f : ℕ → List X) (lists : List (Vec X Global)) : Type 0 where
+pub record AreLists {X : Type 0} (n : ℕ) (f : ℕ → List X)
+    (lists : List (Vec X Global)) : Type 0 where
   pub count : length lists ≡ n
   pub each : (v : ℕ) → v < n → option_map (λ l. l.items) (slice_get lists v) ≡ Some (f v)
 

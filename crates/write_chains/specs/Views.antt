@@ -1,5 +1,6 @@
 -- What the code's chains, links and edges stand for.
-use Rattle.std.specs.Prelude.{◌≡◌, ℕ, ◌+◌, ◌<◌, ◌==◌, not, List, [], length, map, slice_index_or, Option, None, Some}
+use Rattle.std.specs.Prelude.{◌≡◌, ℕ, ◌+◌, ◌<◌, ◌==◌, not, List, [], length, map, slice_index_or}
+use Rattle.std.specs.Prelude.{Option, None, Some}
 use Rattle.std.specs.List.{filter}
 use Rattle.serializability.specs.Log.{Log}
 use Rattle.serializability.specs.Polygraph as graph
@@ -20,7 +21,12 @@ chain_view c = record { head = c.head; tail = c.tail; readers = c.readers.items 
 
 -- the chain of the key that begins with this node
 abbrev pub chain_from : Log → ℕ → ℕ → ChainView
-chain_from log x h = record { head = h; tail = tail log x h; readers = readers log x (tail log x h) }
+chain_from log x h = record {
+  head = h;
+  tail = tail log x h;
+  readers = readers log x
+      (tail log x h);
+}
 
 -- by head, the chains of the key that do not begin with node 0
 abbrev pub chains_in : Log → ℕ → List ChainView
@@ -37,7 +43,8 @@ pub record AreLinks (log : Log) (x : ℕ) (links : Links) : Type 0 where
 -- both tables have the same nodes, and lead to no others
 pub record FitTogether (links : Links) : Type 0 where
   pub same : length links.readers.items ≡ length links.next.items
-  pub stays : (v u : ℕ) → slice_index_or links.next.items v None ≡ Some u → u < length links.next.items
+  pub stays : (v u : ℕ) → slice_index_or links.next.items v None ≡ Some u
+      → u < length links.next.items
 
 -- from each of these readers but v itself, an edge to v
 abbrev pub edges_before : List ℕ → Option ℕ → List graph.Edge

@@ -102,7 +102,8 @@ impl<'a> Chains<'a> {
         readers_in(&self.keys[key].readers, node)
     }
 
-    /// The inner edges of all chains: from each reader of a writer to the writer behind it, by key, writer and reader.
+    /// The inner edges of all chains: from each reader of a writer to the writer behind it, by key,
+    /// writer and reader.
     pub fn inner_edges(&self) -> &[Edge]
         ensures edges { result.now ≡ spec.inner_edges (log_of self.now) }
     {

@@ -14,8 +14,8 @@ use serializability::NodeIx;
 use session_history::History;
 use std::alloc::{AllocError, Global};
 
-/// The chains of a clean history, or a chain that closes on itself, where there is one: its nodes, each of which reads the
-/// key externally from the one before, with the first once more at the end.
+/// The chains of a clean history, or a chain that closes on itself, where there is one: its nodes,
+/// each of which reads the key externally from the one before, with the first once more at the end.
 ///
 /// Where a chain closes on itself, the history has no serial order.
 pub fn chains<'a>(

@@ -1,6 +1,7 @@
 //! Chains of a key.
 
-ghost use Rattle.std.specs.Prelude.{◌≡◌, ◌+◌, ◌<◌, ℕ, List, Option, length, slice_index_or, None, Some, IfOk};
+ghost use Rattle.std.specs.Prelude.{◌≡◌, ◌+◌, ◌<◌, ℕ, List, Option, length, slice_index_or, None};
+ghost use Rattle.std.specs.Prelude.{Some, IfOk};
 ghost use Rattle.log_definitions.specs.Numbers.{log_of};
 ghost use Rattle.write_chains.specs.Lists.{AreLists, IsTable};
 ghost use Rattle.write_chains.specs.Walks.{end_by};
@@ -13,7 +14,8 @@ use serializability::NodeIx;
 use session_history::History;
 use std::alloc::{AllocError, Global};
 
-/// A chain of a key: its first and its last writer, and the nodes that read the key from the last, ascending.
+/// A chain of a key: its first and its last writer, and the nodes that read the key from the last,
+/// ascending.
 #[derive(Drop)]
 pub struct Chain {
     pub head: NodeIx,
@@ -21,8 +23,8 @@ pub struct Chain {
     pub readers: Vec<NodeIx>,
 }
 
-/// The chains of a key: that which begins with the initial transaction, and the others by their heads. Beside them the readers
-/// of each node that the key is read from.
+/// The chains of a key: that which begins with the initial transaction, and the others by their
+/// heads. Beside them the readers of each node that the key is read from.
 #[derive(Drop)]
 pub struct KeyChains {
     pub initial: Chain,
@@ -53,7 +55,12 @@ fn chain_of(alloc: Global, links: &Links, head: NodeIx) -> Result<Chain, AllocEr
     requires links { FitTogether links.now }
     ensures chain { IfOk result (λ c. (n : ℕ) (f : ℕ → Option ℕ) (g : ℕ → List ℕ) →
         IsTable n f links.now.next.items → AreLists (n + 1) g links.now.readers.items →
-        chain_view c ≡ record { head = head; tail = end_by f n head; readers = g (end_by f n head) }) }
+        chain_view c ≡ record {
+          head = head;
+          tail = end_by f n head;
+          readers = g
+              (end_by f n head);
+        }) }
 {
     let tail = tail_of(&links.next, head);
     let readers = Vec::from_slice(alloc, &links.readers[tail.get()])?;

@@ -1,6 +1,7 @@
 //! Chains that close on themselves.
 
-ghost use Rattle.std.specs.Prelude.{◌≡◌, ◌+◌, ◌<◌, ◌≤◌, ℕ, true, length, None, Some, IfOk, IfSome, IfNone, MatchOption, All};
+ghost use Rattle.std.specs.Prelude.{◌≡◌, ◌+◌, ◌<◌, ◌≤◌, ℕ, true, length, None, Some, IfOk, IfSome};
+ghost use Rattle.std.specs.Prelude.{IfNone, MatchOption, All};
 ghost use Rattle.serializability.specs.Log.{Log};
 ghost use Rattle.serializability.specs.Reads.{IsClean};
 ghost use Rattle.serializability.specs.Polygraph.{source};
@@ -27,8 +28,9 @@ fn source_unless_open(history: &History, key: usize, marks: &[bool], node: NodeI
     }
 }
 
-/// Walks from a writer back along the sources of the key. Where that comes to a node that is open, all nodes on the way are
-/// open, and are marked. Where it comes back to the writer, the way is a chain that closes on itself.
+/// Walks from a writer back along the sources of the key. Where that comes to a node that is open,
+/// all nodes on the way are open, and are marked. Where it comes back to the writer, the way is a
+/// chain that closes on itself.
 fn walk_back(
     alloc: Global,
     history: &History,

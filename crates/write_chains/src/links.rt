@@ -14,7 +14,8 @@ use serializability::NodeIx;
 use session_history::History;
 use std::alloc::{AllocError, Global};
 
-/// Of each node of a history, the writer of a key that stands behind it, and the nodes that read the key from it.
+/// Of each node of a history, the writer of a key that stands behind it, and the nodes that read
+/// the key from it.
 #[derive(Drop)]
 pub struct Links {
     pub next: Vec<Option<NodeIx>>,

@@ -1,6 +1,7 @@
 //! Lists by number.
 
-ghost use Rattle.std.specs.Prelude.{◌≡◌, ◌<◌, ◌==◌, ◌++◌, ◌∷◌, [], ℕ, List, length, if◌then◌else◌, IfOk, OnOk};
+ghost use Rattle.std.specs.Prelude.{◌≡◌, ◌<◌, ◌==◌, ◌++◌, ◌∷◌, [], ℕ, List, length, if◌then◌else◌};
+ghost use Rattle.std.specs.Prelude.{IfOk, OnOk};
 ghost use Rattle.write_chains.specs.Lists.{AreLists};
 
 use std::alloc::{AllocError, Global};

@@ -1,7 +1,7 @@
 use Rattle.std.proofs.Common.{ap, sym, ◌∙◌, length, map, take}
 use Rattle.session_log.specs.Text.{view}
 use Rattle.log_definitions.specs.WellFormed.{log_lines}
-use Rattle.auditing.specs.Counts.{capped}
+use Rattle.session_history.specs.Counted.{capped}
 use Rattle.auditing.proofs.Sizing.{one_session}
 use Rattle.auditing.proofs.sizes.line_count.Goals as goal
 

@@ -1,5 +1,5 @@
 use Rattle.std.proofs.Common.{◌≡◌, ◌+◌, ℕ, take}
-use Rattle.auditing.specs.Counts.{capped}
+use Rattle.session_history.specs.Counted.{capped}
 use Rattle.auditing.proofs.Sizing.{txns_lines}
 use Rattle.auditing.proofs.sizes.with_lines.Given as goal
 

@@ -11,5 +11,5 @@ loop-seat-preserved g c =
     record {
       whole = seen_more seen rest more c.args.seats.items x i.whole c.in-Some.ensures.steps.0;
       count = same_length c.loop-seat.jobs.items c.push.new.self.items _ seen x c.in_ok-push.ensures.items i.count;
-      numbers = numbered_push (λ job. job.seat.0) c.loop-seat.jobs.items c.push.new.self.items _ c.in_ok-push.ensures.items i.numbers (number ∙ ap (λ m. m + 1) (sym i.count));
+      numbers = numbered_push (λ job. job.seat.number) c.loop-seat.jobs.items c.push.new.self.items _ c.in_ok-push.ensures.items i.numbers (number ∙ ap (λ m. m + 1) (sym i.count));
     }

@@ -7,5 +7,5 @@ invariant-loop-seat g l =
     record {
       whole : l.yielded ++ l.seat-iterator.rest.items ≡ l.fn.seats.items;
       count : length l.jobs.items ≡ length l.yielded;
-      numbers : AreNumbered (λ job. job.seat.0) l.jobs.items;
+      numbers : AreNumbered (λ job. job.seat.number) l.jobs.items;
     }

@@ -2,4 +2,4 @@ use Rattle.branch_search.proofs.Asked.{after_release}
 use Rattle.branch_search.proofs.worker.give_back.Goals as goal
 
 pub returns-clause-asked : goal.returns-clause-asked
-returns-clause-asked g c = λ first. after_release first c.args.seat.now.1 c.send.new.seat.1 c.in_ok-send.field-0 c.in_ok-send.ensures.called
+returns-clause-asked g c = λ first. after_release first c.args.seat.now.calls c.send.new.seat.calls c.in_ok-send.field-0 c.in_ok-send.ensures.called

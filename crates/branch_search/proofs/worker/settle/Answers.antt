@@ -20,13 +20,13 @@ returns-in-Closed-clause-asked g c =
       | inl closed ↦ ap (λ r. request_after first event r) (sym closed)
       | inr solved ↦ ap (λ r. request_after first event r) (sym solved)
     ] in
-    asked_after first c.args.seat.now.1 c.send.new.seat.1 event c.in_ok-reply.reply Any c.in_ok-reply.ensures.called any
+    asked_after first c.args.seat.now.calls c.send.new.seat.calls event c.in_ok-reply.reply Any c.in_ok-reply.ensures.called any
 
 pub returns-in-Children-clause-asked : goal.returns-in-Children-clause-asked
 returns-in-Children-clause-asked g c =
     let first = g.S.Strategy.first_of c.args.task.now.strategy.now c.args.view.now in
     let event = c.in_ok-event.event in
-    asked_after first c.args.seat.now.1 c.send.new.seat.1 event c.in_ok-reply.reply c.first_child.result c.in_ok-reply.ensures.called
+    asked_after first c.args.seat.now.calls c.send.new.seat.calls event c.in_ok-reply.reply c.first_child.result c.in_ok-reply.ensures.called
     (c.first_child.ensures.child
     ∙ ap (λ choice. first_child first choice c.in-Children.one c.in-Children.two) c.split_by-choice.ensures.choice
     ∙ ap (λ r. request_after first event r) (sym c.in-Children.is))

@@ -12,7 +12,7 @@ returns-in-NotOpen-clause-asked g c =
       | inl not_open ↦ ap (λ r. request_after first event r) (sym not_open)
       | inr none_now ↦ ap (λ r. request_after first event r) (sym none_now)
     ] in
-    asked_after first c.args.seat.now.1 c.send.new.seat.1 event c.in_ok-reply.reply Any c.in_ok-reply.ensures.called any
+    asked_after first c.args.seat.now.calls c.send.new.seat.calls event c.in_ok-reply.reply Any c.in_ok-reply.ensures.called any
 
 pub returns-else-branch-clause-next : goal.returns-else-branch-clause-next
 returns-else-branch-clause-next g c =

@@ -6,10 +6,10 @@ use Rattle.branching.proofs.Turned.{split_answered, all_decided, depth_of_closed
 use Rattle.branching.proofs.laws.turn.Goals as goal
 
 pub refutation-requires : goal.refutation-requires
-refutation-requires g c = record { cyclic = (c.cyclic.ensures.cycle (graph_in c.args.view.now) c.rows.ensures.rows).0 c.if-cyclic.true }
+refutation-requires g c = record { cyclic = (c.has_cycle.ensures.cycle (graph_in c.args.view.now) c.rows.ensures.rows).0 c.if-has_cycle.true }
 
 pub solution-requires-clause-acyclic : goal.solution-requires-clause-acyclic
-solution-requires-clause-acyclic g c = λ k. false≢true (sym c.if-cyclic.false ∙ (c.cyclic.ensures.cycle (graph_in c.args.view.now) c.rows.ensures.rows).1 k)
+solution-requires-clause-acyclic g c = λ k. false≢true (sym c.if-has_cycle.false ∙ (c.has_cycle.ensures.cycle (graph_in c.args.view.now) c.rows.ensures.rows).1 k)
 
 pub solution-requires-clause-decided : goal.solution-requires-clause-decided
 solution-requires-clause-decided g c =
@@ -30,10 +30,10 @@ returns-clause-answered g c =
     split_answered v c.in-Some.choice c.rows.ensures.view (laws.picks_open c.args.strategy.now v c.in-Some.choice (sym c.pick.ensures.pick ∙ c.in-Some.is))
 
 pub returns-clause-decision : goal.returns-clause-decision
-returns-clause-decision g c = ((λ k. false≢true (sym c.if-cyclic.false ∙ (c.cyclic.ensures.cycle (graph_in c.args.view.now) c.rows.ensures.rows).1 k)), sym c.pick.ensures.pick ∙ c.in-Some.is)
+returns-clause-decision g c = ((λ k. false≢true (sym c.if-has_cycle.false ∙ (c.has_cycle.ensures.cycle (graph_in c.args.view.now) c.rows.ensures.rows).1 k)), sym c.pick.ensures.pick ∙ c.in-Some.is)
 
-pub returns-then-cyclic-clause-decision : goal.returns-then-cyclic-clause-decision
-returns-then-cyclic-clause-decision g c = c.refutation.ensures.decision (g.S.Strategy.picks c.args.strategy.now c.args.view.now)
+pub returns-then-has_cycle-clause-decision : goal.returns-then-has_cycle-clause-decision
+returns-then-has_cycle-clause-decision g c = c.refutation.ensures.decision (g.S.Strategy.picks c.args.strategy.now c.args.view.now)
 
 pub returns-then-depth-choices-clause-decision : goal.returns-then-depth-choices-clause-decision
 returns-then-depth-choices-clause-decision g c = c.solution.ensures.decision (g.S.Strategy.picks c.args.strategy.now c.args.view.now)

@@ -16,7 +16,7 @@ invariant_of-result c =
     let sides = c.in_ok-open.ensures.open ∙ ap (λ (l : List Choice). replicate (length l) None) (c.choices-2.ensures.choices ∙ ap (λ (q : Polygraph). q.choices) same) in
     let graph : c.in_ok-copy.field-0 ≡ graph_of p = c.in_ok-copy.ensures.same ∙ c.known.ensures ∙ ap graph_of same in
     record {
-      view = record { sided = sided_opened p c.in_ok-open.field-0 sides; whole = record { choices = subst IsPolygraph same c.nodes-nodes.ensures.polygraph; known = subst (λ (q : Polygraph). IsKnownGraph (graph_of q)) same c.nodes-nodes.ensures.known } };
+      view = record { sided = sided_opened p c.in_ok-open.field-0 sides; whole = record { choices = subst IsPolygraph same c.nodes-invariant.ensures.polygraph; known = subst (λ (q : Polygraph). IsKnownGraph (graph_of q)) same c.nodes-invariant.ensures.known } };
       counted = c.in_ok-new.ensures.counts ∙ ap (map size_of) (c.choices.ensures.choices ∙ ap (λ (q : Polygraph). q.choices) same);
       graph = held_opened p c.in_ok-open.field-0 c.in_ok-copy.field-0 sides graph;
       rows = rows_opened p c.args.reduced.now.rows c.in_ok-copy-2.field-0 c.in_ok-copy.field-0 (c.in_ok-copy-2.ensures.same ∙ c.rows.ensures.rows) graph c.rows.ensures.reach;

@@ -25,8 +25,8 @@ returns-clause-faithful c =
     let r = c.args.reduced in
     let known = is_listed r.rows.edges in
     let left = c.requires.left.left.left in
-    let polygraph = subst (λ (p : Polygraph). IsPolygraph p) c.poly.ensures.poly c.nodes-nodes.ensures.polygraph in
-    let graph = subst (λ (p : Polygraph). IsKnownGraph (record { nodes = p.nodes; edges = p.known })) c.poly.ensures.poly c.nodes-nodes.ensures.known in
+    let polygraph = subst (λ (p : Polygraph). IsPolygraph p) c.poly.ensures.poly c.nodes-invariant.ensures.polygraph in
+    let graph = subst (λ (p : Polygraph). IsKnownGraph (record { nodes = p.nodes; edges = p.known })) c.poly.ensures.poly c.nodes-invariant.ensures.known in
     let proper = proper_polygraph r.poly polygraph graph left.reduced in
     let reach = listed_reach r.rows (record { nodes = r.poly.nodes; edges = r.poly.known }) left.rows in
     faithful_as ss (cnf_of c.in_ok-reduced_formula.field-0) (formula_of_rest r) c.in_ok-reduced_formula.ensures.formula

@@ -8,7 +8,7 @@ returns-in-Yes g c = record {
 
 pub returns-in-No : goal.returns-in-No
 returns-in-No g c = record {
-  decides = refuted_decided c.args.means.now.budget c.args.history.now c.args.reduced c.in-No.tree c.refuted.result c.refuted.ensures.decision c.requires.well_formed c.requires.left
+  decides = refuted_decided c.args.means.now.budget c.args.history.now c.args.reduced c.in-No.tree c.decide_by_tree.result c.decide_by_tree.ensures.decision c.requires.well_formed c.requires.left
       (rw c.in-No.is at c.in_ok-order.ensures.ran) (rw c.in-No.is at c.in_ok-order.ensures.tree) (rw c.in-No.is at c.in_ok-order.ensures.no);
 }
 

@@ -3,4 +3,4 @@ use Rattle.desk.specs.History.{part_of}
 use Rattle.desk.proofs.desk.compare_all.Given as goal
 
 abbrev pub invariant-loop-left : goal.invariant-loop-left
-invariant-loop-left g l = (l.guarded ≡ l.fn.guarded) × All (λ x. part_of x.0 l.fn.guarded.1 ≡ x.1) l.yielded × (l.yielded ++ l.left-iterator.rest.items ≡ l.fn.lefts.items)
+invariant-loop-left g l = (l.guarded ≡ l.fn.guarded) × All (λ x. part_of x.number l.fn.guarded.history ≡ x.calls) l.yielded × (l.yielded ++ l.left-iterator.rest.items ≡ l.fn.lefts.items)

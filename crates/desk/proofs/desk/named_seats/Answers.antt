@@ -24,6 +24,6 @@ loop-seat-preserved g c =
     let named = c.requires (length xs) seat at in
     let new = c.in_ok-push.ensures.items in (
       append_assoc xs (seat ∷ []) c.next.new.self.rest.items ∙ ap (λ l. xs ++ l) (sym c.in-Some.ensures.steps.0) ∙ i.0,
-      fresh_push c.loop-seat.seats.items c.push.new.self.items c.named_seat.result i.1 new (c.named_seat.ensures ∙ (λ j. ((named.0 ∙ ap (λ n. n + 1) (sym i.2)) j, named.3 j))),
+      fresh_push c.loop-seat.seats.items c.push.new.self.items c.named_seat.result i.1 new (c.named_seat.ensures.number ∙ named.0 ∙ ap (λ n. n + 1) (sym i.2)) (c.named_seat.ensures.calls ∙ named.3),
       (let a = ap length new in let b = i.2 in omega (arith, length-append c.loop-seat.seats.items (c.named_seat.result ∷ []), length-append xs (seat ∷ []))),
     )

@@ -1,4 +1,4 @@
 use Rattle.gather.proofs.collecting.read_pieces.Given as goal
 
 abbrev pub ghosts-run : goal.ghosts-run
-ghosts-run g a = record { names = a.opened.1; desk = a.opened.2 }
+ghosts-run g a = record { names = a.opened.names; desk = a.opened.desk }

@@ -2,4 +2,4 @@ use Rattle.std.proofs.Common.{◌≡◌}
 use Rattle.gather.proofs.worker.work.Given as goal
 
 abbrev pub invariant-loop : goal.invariant-loop
-invariant-loop g l = l.seat.0 ≡ l.initial.seat.0
+invariant-loop g l = l.seat.number ≡ l.initial.seat.number

@@ -8,10 +8,10 @@ pub returns-clause-rest : goal.returns-clause-rest
 returns-clause-rest c =
     let same = c.poly.ensures.poly in
     record {
-      graph = subst (λ q. IsKnownGraph (record { nodes = q.nodes; edges = q.known })) same c.nodes-nodes.ensures.known;
-      polygraph = subst IsPolygraph same c.nodes-nodes.ensures.polygraph;
+      graph = subst (λ q. IsKnownGraph (record { nodes = q.nodes; edges = q.known })) same c.nodes-invariant.ensures.known;
+      polygraph = subst IsPolygraph same c.nodes-invariant.ensures.polygraph;
       reduced = c.poly.ensures.reduced;
-      rows = c.rows-rows.ensures.reach;
+      rows = c.rows-invariant.ensures.reach;
     }
 
 pub returns-clause-proper : goal.returns-clause-proper

@@ -7,4 +7,4 @@ pub returns-clause-numbers : goal.returns-clause-numbers
 returns-clause-numbers g c =
     IfOk-weaker c.map_vec.result _ _ (λ v h. λ i d lt.
     (let job = (h i d lt).1 in
-    job.call.met.0 ∙ ap (λ x. x.0) (c.requires.fresh i job.job (get_some c.args.seats.items i job.job lt ∙ ap Some (job.job_is job.job))))) c.map_vec.ensures.each
+    job.call.met.0 ∙ (c.requires.fresh i job.job (get_some c.args.seats.items i job.job lt ∙ ap Some (job.job_is job.job))).0)) c.map_vec.ensures.each

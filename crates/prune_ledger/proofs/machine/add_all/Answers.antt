@@ -17,4 +17,4 @@ loop-edge-preserved c =
     c.loop-edge-test.true c.edge-item.is c.source.ensures c.target.ensures c.loop-edge.invariant c.add_edge.ensures.nodes c.add_edge.ensures.edges
 
 pub returns : goal.returns
-returns c = added_all c.args.graph.now c.loop-edge.graph c.args.side.now c.nodes-nodes.ensures.graph (let t = c.loop-edge-test.false in let a = c.loop-edge.auto.edge-index-end in rw (take_all) at c.loop-edge.invariant)
+returns c = added_all c.args.graph.now c.loop-edge.graph c.args.side.now c.nodes-invariant.ensures.graph (let t = c.loop-edge-test.false in let a = c.loop-edge.auto.edge-index-end in rw (take_all) at c.loop-edge.invariant)

@@ -8,19 +8,19 @@ use Rattle.prune_ledger.proofs.round.settle.Goals as goal
 pub post_side-requires-clause-nodes : goal.post_side-requires-clause-nodes
 post_side-requires-clause-nodes g c =
     let r = judged_some c.args.own.now.edges c.in-Some.sides.now.one c.judge-verdict.result.one c.in-Some-one.edge c.in-Some-one.is (c.judge-verdict.ensures.one c.args.own.now c.rows.ensures.rows) in
-    edge_joins c.args.polygraph.now c.args.own.now.nodes c.args.choice c.in-Some.sides.now One c.in-Some-one.edge c.nodes-nodes.ensures.polygraph c.requires.nodes (sym c.in-Some.ensures) r.within
+    edge_joins c.args.polygraph.now c.args.own.now.nodes c.args.choice c.in-Some.sides.now One c.in-Some-one.edge c.nodes-invariant.ensures.polygraph c.requires.nodes (sym c.in-Some.ensures) r.within
 
 pub post_side-requires-clause-back : goal.post_side-requires-clause-back
 post_side-requires-clause-back g c =
     (judged_some c.args.own.now.edges c.in-Some.sides.now.one c.judge-verdict.result.one c.in-Some-one.edge c.in-Some-one.is (c.judge-verdict.ensures.one c.args.own.now c.rows.ensures.rows)).back
 
 pub post_side-requires-clause-joined : goal.post_side-requires-clause-joined
-post_side-requires-clause-joined g c = choice_joins c.args.polygraph.now c.args.own.now.nodes c.args.choice c.in-Some.sides.now c.nodes-nodes.ensures.polygraph c.requires.nodes (sym c.in-Some.ensures)
+post_side-requires-clause-joined g c = choice_joins c.args.polygraph.now c.args.own.now.nodes c.args.choice c.in-Some.sides.now c.nodes-invariant.ensures.polygraph c.requires.nodes (sym c.in-Some.ensures)
 
 pub post_side-requires-in-Some-two-clause-nodes : goal.post_side-requires-in-Some-two-clause-nodes
 post_side-requires-in-Some-two-clause-nodes g c =
     let r = judged_some c.args.own.now.edges c.in-Some.sides.now.two c.judge-verdict.result.two c.in-Some-two.other c.in-Some-two.is (c.judge-verdict.ensures.two c.args.own.now c.rows.ensures.rows) in
-    edge_joins c.args.polygraph.now c.post_side.new.own.nodes c.args.choice c.in-Some.sides.now Two c.in-Some-two.other c.nodes-nodes.ensures.polygraph (c.in_ok-post_side.ensures.more.nodes ∙ c.requires.nodes) (sym c.in-Some.ensures) r.within
+    edge_joins c.args.polygraph.now c.post_side.new.own.nodes c.args.choice c.in-Some.sides.now Two c.in-Some-two.other c.nodes-invariant.ensures.polygraph (c.in_ok-post_side.ensures.more.nodes ∙ c.requires.nodes) (sym c.in-Some.ensures) r.within
 
 pub post_side-requires-in-Some-two-clause-back : goal.post_side-requires-in-Some-two-clause-back
 post_side-requires-in-Some-two-clause-back g c =
@@ -29,19 +29,19 @@ post_side-requires-in-Some-two-clause-back g c =
 
 pub post_side-requires-in-Some-two-clause-joined : goal.post_side-requires-in-Some-two-clause-joined
 post_side-requires-in-Some-two-clause-joined g c =
-    choice_joins c.args.polygraph.now c.post_side.new.own.nodes c.args.choice c.in-Some.sides.now c.nodes-nodes.ensures.polygraph (c.in_ok-post_side.ensures.more.nodes ∙ c.requires.nodes) (sym c.in-Some.ensures)
+    choice_joins c.args.polygraph.now c.post_side.new.own.nodes c.args.choice c.in-Some.sides.now c.nodes-invariant.ensures.polygraph (c.in_ok-post_side.ensures.more.nodes ∙ c.requires.nodes) (sym c.in-Some.ensures)
 
 pub post_side-requires-in-Some-two-2-clause-nodes : goal.post_side-requires-in-Some-two-2-clause-nodes
 post_side-requires-in-Some-two-2-clause-nodes g c =
     let r = judged_some c.args.own.now.edges c.in-Some.sides.now.two c.judge-verdict.result.two c.in-Some-two-2.edge c.in-Some-two-2.is (c.judge-verdict.ensures.two c.args.own.now c.rows.ensures.rows) in
-    edge_joins c.args.polygraph.now c.args.own.now.nodes c.args.choice c.in-Some.sides.now Two c.in-Some-two-2.edge c.nodes-nodes.ensures.polygraph c.requires.nodes (sym c.in-Some.ensures) r.within
+    edge_joins c.args.polygraph.now c.args.own.now.nodes c.args.choice c.in-Some.sides.now Two c.in-Some-two-2.edge c.nodes-invariant.ensures.polygraph c.requires.nodes (sym c.in-Some.ensures) r.within
 
 pub post_side-requires-in-Some-two-2-clause-back : goal.post_side-requires-in-Some-two-2-clause-back
 post_side-requires-in-Some-two-2-clause-back g c =
     (judged_some c.args.own.now.edges c.in-Some.sides.now.two c.judge-verdict.result.two c.in-Some-two-2.edge c.in-Some-two-2.is (c.judge-verdict.ensures.two c.args.own.now c.rows.ensures.rows)).back
 
 pub post_side-requires-in-Some-two-2-clause-joined : goal.post_side-requires-in-Some-two-2-clause-joined
-post_side-requires-in-Some-two-2-clause-joined g c = choice_joins c.args.polygraph.now c.args.own.now.nodes c.args.choice c.in-Some.sides.now c.nodes-nodes.ensures.polygraph c.requires.nodes (sym c.in-Some.ensures)
+post_side-requires-in-Some-two-2-clause-joined g c = choice_joins c.args.polygraph.now c.args.own.now.nodes c.args.choice c.in-Some.sides.now c.nodes-invariant.ensures.polygraph c.requires.nodes (sym c.in-Some.ensures)
 
 pub returns-in_ok-post_side-2-clause-settled : goal.returns-in_ok-post_side-2-clause-settled
 returns-in_ok-post_side-2-clause-settled g c = settled_two _ _ _ _ _ c.in_ok-post_side.ensures.posted c.in_ok-post_side-2.ensures.posted

@@ -5,8 +5,8 @@ use Rattle.prune_ledger.proofs.round.turns.Given as goal
 
 abbrev pub invariant-loop-number : goal.invariant-loop-number
 invariant-loop-number g l = record {
-  number : l.seat.0 ≡ l.fn.seat.0;
-  handled : Handled l.passed.items l.fn.seat.1 l.seat.1;
+  number : l.seat.number ≡ l.fn.seat.number;
+  handled : Handled l.passed.items l.fn.seat.calls l.seat.calls;
   more : Extends l.known l.own;
   each : AllByRecursion (IsOpenIn l.known.edges l.polygraph.choices) l.passed.items;
 }

@@ -11,7 +11,7 @@ returns-clause-machine g c =
     let hs = c.in_ok-choices.ensures ∙ c.choices.ensures.choices in
     let gs = c.in_ok-known.ensures.same ∙ c.known.ensures in
     subst (λ (es : List LedgerEntry). IsProgress c.args.polygraph.now es c.in_ok-opening.field-0) (sym c.new.ensures.items)
-    (progress_first c.args.polygraph.now (record { choices = c.nodes-nodes.ensures.polygraph; known = c.nodes-nodes.ensures.known }) c.in_ok-opening.field-0
+    (progress_first c.args.polygraph.now (record { choices = c.nodes-invariant.ensures.polygraph; known = c.nodes-invariant.ensures.known }) c.in_ok-opening.field-0
     (c.in_ok-opening.ensures ∙ (λ i. opening_state (hs i) (gs i))))
 
 pub returns-clause-graph : goal.returns-clause-graph

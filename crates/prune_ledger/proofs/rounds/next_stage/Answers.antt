@@ -3,7 +3,7 @@ use Rattle.std.proofs.lemmas.Bool.{false≢true}
 use Rattle.prune_ledger.proofs.rounds.next_stage.Goals as goal
 
 pub with_cycle-requires-clause-cyclic : goal.with_cycle-requires-clause-cyclic
-with_cycle-requires-clause-cyclic g c = (c.if-cyclic.ensures.cycle c.args.progress.own c.rows.ensures.rows).0 refl
+with_cycle-requires-clause-cyclic g c = (c.if-has_cycle.ensures.cycle c.args.progress.own c.rows.ensures.rows).0 refl
 
 pub one_round-requires-clause-acyclic : goal.one_round-requires-clause-acyclic
-one_round-requires-clause-acyclic g c = λ _ _ cycle. false≢true ((c.if-cyclic.ensures.cycle c.args.progress.own c.rows.ensures.rows).1 cycle)
+one_round-requires-clause-acyclic g c = λ _ _ cycle. false≢true ((c.if-has_cycle.ensures.cycle c.args.progress.own c.rows.ensures.rows).1 cycle)

@@ -23,7 +23,7 @@ pub set_bit-requires : goal.set_bit-requires
 set_bit-requires c =
     let n = c.args.known.now.nodes in
     let here = c.loop-number.invariant.nodes c.in-Some.number c.in-Some.ensures.found.0 in
-    record { within = omega (arith, word_within n c.in-Some.number here, row_len_small n c.nodes-nodes.ensures.graph.few) }
+    record { within = omega (arith, word_within n c.in-Some.number here, row_len_small n c.nodes-invariant.ensures.graph.few) }
 
 pub loop-number-smaller : goal.loop-number-smaller
 loop-number-smaller c =
@@ -49,4 +49,4 @@ loop-number-preserved c =
       done_bits = c.set_bit.ensures.bits;
       edges = subst (λ u. (v : ℕ) → ((bit_of more v ≡ true) ↔ Contains graph.edges (u, v))) c.node.ensures.value c.row_words.ensures.edges;
     } in
-    spreading_more graph c.args.row.now c.loop-number.row c.loop-number.done more c.join_words.new.words c.set_bit.new.words k c.nodes-nodes.ensures.graph c.loop-number.invariant step
+    spreading_more graph c.args.row.now c.loop-number.row c.loop-number.done more c.join_words.new.words c.set_bit.new.words k c.nodes-invariant.ensures.graph c.loop-number.invariant step

@@ -8,7 +8,7 @@ use Rattle.reduction.proofs.steps.reduce_clean.Goals as goal
 pub returns-in-Some-clause-reduction : goal.returns-in-Some-clause-reduction
 returns-in-Some-clause-reduction g c =
     let found = rw c.in-Some.is at c.in_ok-cycle.ensures.cycle in
-    cyclic_by_arcs c.args.history.now c.requires.clean c.in_ok-arcs.arcs c.in_ok-arcs.ensures.arcs c.nodes-nodes.ensures.graph c.in-Some.cycle.items found
+    cyclic_by_arcs c.args.history.now c.requires.clean c.in_ok-arcs.arcs c.in_ok-arcs.ensures.arcs c.nodes-invariant.ensures.graph c.in-Some.cycle.items found
 
 pub returns-in_err-polygraph-clause-fault : goal.returns-in_err-polygraph-clause-fault
 returns-in_err-polygraph-clause-fault g c =
@@ -24,7 +24,7 @@ returns-in-Some-2-clause-reduction g c =
     let found = rw c.in-Some-2.is at c.in_ok-cycle-2.ensures.cycle in
     let coalesced = coalesced_log (log_of c.args.history.now) c.requires.none (subst (λ (known : Graph). IsCyclic known.edges → ⊥) c.in_ok-arcs.ensures.arcs arcs_acyclic) c.in_ok-polygraph.ensures.few in
     cyclic_by_known c.args.history.now c.in_ok-polygraph.polygraph c.in_ok-polygraph.ensures.chained c.in_ok-polygraph.ensures.orders coalesced
-    c.nodes-nodes-2.ensures.known c.in-Some-2.cycle.items
+    c.nodes-invariant-2.ensures.known c.in-Some-2.cycle.items
     (subst (λ (known : Graph). IsCycle known.edges c.in-Some-2.cycle.items) c.known.ensures found)
 
 pub returns-in-Dead-clause-reduction : goal.returns-in-Dead-clause-reduction

@@ -4,7 +4,7 @@ use Rattle.session_log.specs.Lines.{lines}
 use Rattle.session_log.specs.Faults.{Start, Between}
 use Rattle.session_log.proofs.Steps.{block_some, block_others, fault_on, step_header, legal_header}
 use Rattle.session_log.proofs.Blocks.{start_text, start_legal, end_fault, end_accepted, end_known, end_held, end_text, closed_where}
-use Rattle.session_log.specs.declared.parse.Progress.TheVariants as progress
+use Rattle.session_log.specs.declared.parse.LineState.TheVariants as progress
 use Rattle.session_log.proofs.parse.parse_lines.Goals as goal
 
 pub next_line-ended-requires : goal.next_line-ended-requires

@@ -4,7 +4,7 @@ use Rattle.std.specs.Option.{option_map_or}
 use Rattle.std.proofs.lemmas.Option.{slice_get_read}
 use Rattle.cube_laws.specs.State.{Node}
 use Rattle.cube_laws.specs.Steps.{is_open, held_from}
-use Rattle.cube_laws.specs.declared.messages.Mark.TheVariants.{Held}
+use Rattle.cube_laws.specs.declared.messages.CubeState.TheVariants.{Held}
 use Rattle.cube_machine.specs.Growth.{Growth}
 use Rattle.cube_machine.proofs.Cubes.{mark_written}
 use Rattle.cube_machine.proofs.Places.{IsPlace}

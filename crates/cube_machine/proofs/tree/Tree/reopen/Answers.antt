@@ -1,7 +1,7 @@
 use Rattle.std.proofs.Common.{◌≡◌, ◌∙◌, Some, subst, sym, arith}
 use Rattle.std.proofs.lemmas.Option.{slice_get_read}
 use Rattle.cube_laws.specs.Steps.{held_from}
-use Rattle.cube_laws.specs.declared.messages.Mark.TheVariants.{Open}
+use Rattle.cube_laws.specs.declared.messages.CubeState.TheVariants.{Open}
 use Rattle.cube_machine.specs.Growth.{Growth}
 use Rattle.cube_machine.proofs.Cubes.{mark_written}
 use Rattle.cube_machine.proofs.Places.{IsPlace}

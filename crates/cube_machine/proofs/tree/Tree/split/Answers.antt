@@ -3,7 +3,7 @@ use Rattle.std.proofs.lemmas.List.{length_push}
 use Rattle.pruning_laws.specs.declared.side.Side.TheVariants.{One, Two}
 use Rattle.cube_laws.specs.State.{Node}
 use Rattle.cube_laws.specs.Steps.{with_mark, child}
-use Rattle.cube_laws.specs.declared.messages.Mark.TheVariants.{Split as Divided}
+use Rattle.cube_laws.specs.declared.messages.CubeState.TheVariants.{Split as Divided}
 use Rattle.cube_machine.specs.Ways.{cube_in}
 use Rattle.cube_machine.proofs.Splits.{held_within, length_marked, cube_marked, two_more}
 use Rattle.cube_machine.proofs.tree.Tree.split.Goals as goal

@@ -12,5 +12,5 @@ returns-clause-all g c =
 
 pub returns-clause-parts : goal.returns-clause-parts
 returns-clause-parts g c =
-    let same : c.into_parts-machine.result.1.items ≡ c.into_inner.result.1 = c.into_parts-machine.ensures.same.1 ∙ ap (λ v. v.1) c.compare_all-guarded.ensures.same in
-    subst (λ history. All (λ l. part_of l.0 history ≡ l.1) c.args.lefts.items) (sym same) c.compare_all-guarded.ensures.parts
+    let same : c.into_parts-machine.result.1.items ≡ c.into_inner.result.history = c.into_parts-machine.ensures.same.1 ∙ ap (λ v. v.history) c.compare_all-guarded.ensures.same in
+    subst (λ history. All (λ l. part_of l.number history ≡ l.calls) c.args.lefts.items) (sym same) c.compare_all-guarded.ensures.parts

@@ -27,4 +27,4 @@ invariant_of-self-2 g c =
 pub returns-clause-entered : goal.returns-clause-entered
 returns-clause-entered g c =
     let m = g.M.Machine in let n = c.args.seat in let event = c.args.event in let r = c.step-reply.result in
-    entered-push m.next m.reply_at (λ s. s ≡ c.args.self.now.0) (opening_of c.self.inside.opening.calls) c.self.inside.history.items c.enter.new.history.items c.self.inside.machine n event r c.enter.new.receipt.calls (ap (λ v. v.0) c.self.view_is) c.self.invariant.0 (c.enter.ensures.history ∙ ap (λ l. l ++ entry n event r ∷ []) c.reserve.ensures.items) c.step-reply.ensures.reply c.enter.ensures.part
+    entered-push m.next m.reply_at (λ s. s ≡ c.args.self.now.machine) (opening_of c.self.inside.opening.calls) c.self.inside.history.items c.enter.new.history.items c.self.inside.machine n event r c.enter.new.receipt.calls (ap (λ v. v.machine) c.self.view_is) c.self.invariant.0 (c.enter.ensures.history ∙ ap (λ l. l ++ entry n event r ∷ []) c.reserve.ensures.items) c.step-reply.ensures.reply c.enter.ensures.part

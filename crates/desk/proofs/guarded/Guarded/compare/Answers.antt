@@ -24,4 +24,4 @@ returns-clause-part g c =
     let is : k ≡ c.args.seat - 1 = omega arith in let here : c.args.seat ≡ k + 1 = omega arith in
     let n = ap (slice_get g.J.Naming.names) is ∙ c.requires.named in
     let at = row_at g.J.Naming.names c.self.inside.rows.items c.self.inside.history.items k _ d c.self.invariant.2 n c.index_mut-row.ensures.value in
-    (λ j. part_of (here j) ((sym (ap (λ v. v.1) c.self.view_is)) j)) ∙ sym (c.self.invariant.2.1 k d at).1 ∙ c.compare.ensures.same.1
+    (λ j. part_of (here j) ((sym (ap (λ v. v.history) c.self.view_is)) j)) ∙ sym (c.self.invariant.2.1 k d at).1 ∙ c.compare.ensures.same.1

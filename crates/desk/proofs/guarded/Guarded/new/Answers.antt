@@ -1,14 +1,14 @@
 use Rattle.std.proofs.Common.{◌≡◌, ℕ, ◌+◌, List, [], length, Some, refl, sym, ap, ◌∙◌, subst, arith}
 use Rattle.std.specs.Prelude.{slice_get}
 use Rattle.desk.specs.declared.history.Entry.{Entry}
-use Rattle.desk.specs.declared.row.Row.{Row}
+use Rattle.desk.specs.declared.row.SeatRow.{SeatRow}
 use Rattle.desk.specs.History.{part_of, IsReached, opening_of}
 use Rattle.desk.specs.Rows.{AreTied, names_of}
 use Rattle.desk.proofs.Tied.{staying_le}
 use Rattle.desk.proofs.Seating.{length-names_of, name_at}
 use Rattle.desk.proofs.guarded.Guarded.new.Goals as goal
 
-tied_first : {E R : Type 0} (names : List ℕ) (rows : List (Row E R)) (history : List (Entry E R)) → names ≡ names_of rows → history ≡ [] → ((k : ℕ) (x : Row E R) → slice_get rows k ≡ Some x → x.account.calls ≡ []) → AreTied names rows history
+tied_first : {E R : Type 0} (names : List ℕ) (rows : List (SeatRow E R)) (history : List (Entry E R)) → names ≡ names_of rows → history ≡ [] → ((k : ℕ) (x : SeatRow E R) → slice_get rows k ≡ Some x → x.account.calls ≡ []) → AreTied names rows history
 tied_first names rows history is none empty =
     (sym (ap length is ∙ length-names_of rows), (λ k x e. (ap (λ l. slice_get l k) is ∙ name_at rows k x e, empty k x e ∙ ap (part_of (k + 1)) (sym none))), (λ k d below. absurd (let n = ap length none in omega arith)))
 

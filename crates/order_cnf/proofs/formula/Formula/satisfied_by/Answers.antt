@@ -10,7 +10,7 @@ loop-clause-init c =
 
 pub overflow_add-number : goal.overflow_add-number
 overflow_add-number c =
-    omega (arith, passed_number c.args.values.now c.args.self.now.clauses c.loop-clause.clause-iterator c.loop-clause.number c.loop-clause.invariant, c.count-most.ensures.few, c.count-most.ensures.count)
+    omega (arith, passed_number c.args.values.now c.args.self.now.clauses c.loop-clause.clause-iterator c.loop-clause.number c.loop-clause.invariant, c.count-invariant.ensures.few, c.count-invariant.ensures.count)
 
 pub returns-then-not-clause_is_true-clause-first_false : goal.returns-then-not-clause_is_true-clause-first_false
 returns-then-not-clause_is_true-clause-first_false c =

@@ -1,8 +1,0 @@
-use Rattle.std.proofs.Common.{◌≡◌, ℕ, ◌<◌, true, Some}
-use Rattle.std.specs.Prelude.{slice_get}
-use Rattle.branch_search.specs.declared.tree.TreeNode.{TreeNode}
-use Rattle.branch_search.specs.Checks.{is_sound}
-use Rattle.branch_search.proofs.checking.are_sound.Given as goal
-
-abbrev pub invariant-loop-number : goal.invariant-loop-number
-invariant-loop-number l = (k : ℕ) (x : TreeNode) → k < l.number → slice_get l.nodes k ≡ Some x → is_sound l.polygraph l.nodes k x ≡ true

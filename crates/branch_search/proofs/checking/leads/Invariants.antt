@@ -1,8 +1,0 @@
-use Rattle.std.proofs.Common.{◌≡◌, drop}
-use Rattle.known_graph.specs.Tests.{leads}
-use Rattle.cube_laws.specs.Cubes.{edges_under}
-use Rattle.branch_search.specs.Trees.{cube_of}
-use Rattle.branch_search.proofs.checking.leads.Given as goal
-
-abbrev pub invariant-loop-node : goal.invariant-loop-node
-invariant-loop-node l = leads (edges_under l.polygraph (cube_of l.nodes l.number)) l.at (drop l.node-index l.steps) l.to ≡ leads (edges_under l.polygraph (cube_of l.nodes l.number)) l.fn.from l.steps l.to

@@ -1,5 +1,0 @@
-use Rattle.explaining.proofs.Known.{reason_there}
-use Rattle.explaining.proofs.cycles.reason.Goals as goal
-
-pub unreachable-requires : goal.unreachable-requires
-unreachable-requires c = reason_there c.args.history.now c.requires.clean c.args.a c.args.b c.requires.shown (rw c.in-None.is at c.in_ok-reason.ensures.none)

@@ -1,5 +1,0 @@
-use Rattle.explanations.proofs.Written.{IsBefore}
-use Rattle.explanations.proofs.writes.write_in.Given as goal
-
-abbrev pub invariant-loop-earlier : goal.invariant-loop-earlier
-invariant-loop-earlier l = IsBefore l.first l.key l.wid l.session.txns.items l.earlier l.begin

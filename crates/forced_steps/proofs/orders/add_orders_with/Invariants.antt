@@ -1,8 +1,0 @@
-use Rattle.std.proofs.Common.{◌≡◌, ◌++◌, take}
-use Rattle.std.specs.Prelude.{map}
-use Rattle.write_chains.specs.Views.{chain_view}
-use Rattle.forced_steps.specs.Orders.{order_to}
-use Rattle.forced_steps.proofs.orders.add_orders_with.Given as goal
-
-abbrev pub invariant-loop-other : goal.invariant-loop-other
-invariant-loop-other l = l.orders.items ≡ l.initial.orders.items ++ map (order_to l.key l.first) (map chain_view (take l.other-index l.others))

@@ -1,5 +1,0 @@
-use Rattle.forced_steps.specs.Lines.{AreAnswers}
-use Rattle.forced_steps.proofs.shorter.earliest.Given as goal
-
-abbrev pub invariant-loop-place : goal.invariant-loop-place
-invariant-loop-place l = AreAnswers l.basis.history.now l.answers

@@ -1,0 +1,7 @@
+use Rattle.std.proofs.Common.{◌++◌, List, take}
+use Rattle.serializability.specs.Polygraph.{Edge}
+use Rattle.ledger_checks.specs.KeptEdges.{HasEdges}
+use Rattle.ledger_checks.proofs.kept.KeptEdges.add_all.Given as goal
+
+abbrev pub invariant-loop-edge : goal.invariant-loop-edge
+invariant-loop-edge l = (before : List Edge) → HasEdges l.fn.self before → HasEdges l.self (before ++ take l.edge-index l.edges)

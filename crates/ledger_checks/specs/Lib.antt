@@ -1,0 +1,2 @@
+pub mod KeptEdges
+pub mod Tested

@@ -1,8 +1,0 @@
-use Rattle.std.proofs.Common.{◌∙◌}
-use Rattle.prune_ledger.proofs.KeptBits.{edge_bit}
-use Rattle.prune_ledger.proofs.kept.KeptEdges.has.Goals as goal
-
-pub returns : goal.returns
-returns c edges h =
-    let n = c.edge_place.ensures.nodes in
-    c.has_bit.ensures.value ∙ edge_bit c.args.self.now edges c.args.u c.args.v c.edge_place.result c.edge_place.ensures.place n.0 n.1 h

@@ -1,6 +1,0 @@
-use Rattle.std.proofs.Common.{ℕ, ◌<◌}
-use Rattle.std.specs.List.{Contains}
-use Rattle.reach_rows.proofs.bit_rows.Rows.cyclic.Given as goal
-
-abbrev pub invariant-loop-number : goal.invariant-loop-number
-invariant-loop-number l = (v : ℕ) → v < l.number → Contains l.self.edges (v, v) → ⊥

@@ -1,0 +1,22 @@
+use Rattle.std.proofs.Common.{◌≡◌, ℕ, suc, ◌+◌, ◌∷◌, drop, sym, ap, ◌∙◌, arith, drop-cons}
+use Rattle.tell_decision.specs.Names.{kinds_after}
+use Rattle.tell_decision.proofs.LeftOver.{none_left}
+use Rattle.tell_decision.proofs.names.kinds_of.Goals as goal
+
+pub loop-item-preserved : goal.loop-item-preserved
+loop-item-preserved c =
+    let items = c.args.items.now in
+    let i = c.loop-item.item-index in
+    let d = c.item-item.result in
+    let kinds = c.loop-item.kinds in
+    let next : suc i ≡ i + 1 = omega arith in
+    let here : drop i items ≡ d ∷ drop (i + 1) items =
+    drop-cons items i d c.loop-item-test.true ∙ ap (λ x. x ∷ drop (suc i) items) (sym c.item-item.is) ∙ ap (λ (n : ℕ). d ∷ drop n items) next in
+    ap (λ k. kinds_after k (drop (i + 1) items)) c.with_item-kinds.ensures ∙ sym (ap (kinds_after kinds) here) ∙ c.loop-item.invariant
+
+pub returns : goal.returns
+returns c =
+    let items = c.args.items.now in
+    let i = c.loop-item.item-index in
+    let none = none_left items i c.loop-item-test.false in
+    sym (ap (kinds_after c.loop-item.kinds) none) ∙ c.loop-item.invariant

@@ -1,0 +1,16 @@
+//! Why a decision stands, as text or as a graph.
+//!
+//! Called by `cobra_cli`, and by `tell_pieces` of a piece's log. It knows no piece and no status.
+#![tactic(auto)]
+
+mod anomaly;
+mod cycles;
+mod explained;
+mod format;
+mod names;
+mod steps;
+mod telling;
+mod written;
+
+pub use format::Format;
+pub use telling::explain;

@@ -1,0 +1,80 @@
+//! Why a decision stands.
+
+ghost use Rattle.std.specs.Prelude.{◌≡◌, ◌+◌, ◌<◌, ◌^◌, length, IfOk};
+ghost use Rattle.session_log.specs.Version.{first_line};
+ghost use Rattle.log_definitions.specs.WellFormed.{log_lines};
+ghost use Rattle.log_lines.specs.Places.{AreBeginLines};
+ghost use Rattle.deciding.specs.Decides.{IsDecided};
+ghost use Rattle.tell_reasons.specs.Lines.{begin_at, AreLines};
+ghost use Rattle.tell_decision.specs.Explained.{empty_text, IsWhy, IsExplained};
+
+use crate::anomaly::explain_anomaly;
+use crate::explained::{explain_cycle, explain_dead, explain_tree};
+use crate::format::Format;
+use deciding::Decision;
+use log_lines::begin_lines;
+use session_history::History;
+use session_log::Version;
+use std::alloc::{AllocError, Global};
+
+/// A graph without boxes.
+const EMPTY_GRAPH: &[u8] = b"strict digraph explanation {\nnode [shape=box];\n}\n";
+
+/// What stands where there is nothing to explain.
+fn empty(format: Format) -> &'static [u8]
+    ensures text { result.now ≡ empty_text format }
+{
+    match format {
+        Format::Text => b"",
+        Format::Dot => EMPTY_GRAPH,
+    }
+}
+
+/// Why a decision stands. Of `begins`, element `v - 1` is the line at which node `v` begins.
+fn why(
+    alloc: Global,
+    version: Version,
+    history: &History,
+    begins: &[usize],
+    format: Format,
+    decision: &Decision,
+) -> Result<Vec<u8>, AllocError>
+    requires room { length (log_lines history.now) + 2 < 2 ^ 63 }
+    requires begins { AreBeginLines (first_line version) history.now begins.now }
+    requires lines { AreLines history.now begins.now }
+    requires decided { IsDecided history.now decision.now }
+    ensures why { IfOk result (λ text. IsWhy format (first_line version)
+        history.now (begin_at begins.now) decision.now text.items) }
+{
+    match decision {
+        Decision::Anomalous(anomaly) => {
+            explain_anomaly(alloc, version, history, begins, format, *anomaly)
+        }
+        Decision::Cyclic(line) => explain_cycle(alloc, history, begins, format, line),
+        Decision::Dead(ledger) => explain_dead(alloc, history, begins, format, ledger),
+        Decision::Refuted { reduced, tree } => {
+            explain_tree(alloc, history, begins, format, reduced, tree)
+        }
+        Decision::Serial(_) | Decision::Spent { .. } => Vec::from_slice(alloc, empty(format)),
+    }
+}
+
+/// Why a decision about a history stands, in the lines of its log, which is of this version: the
+/// operations that show an anomaly; of each edge of a cycle the reason; the forced steps that
+/// pruning's cycle needs, and the cycle; the steps that a tree needs, and the tree. Nothing, or a
+/// graph without boxes, of an order and of a spent budget.
+pub fn explain(
+    alloc: Global,
+    version: Version,
+    history: &History,
+    format: Format,
+    decision: &Decision,
+) -> Result<Vec<u8>, AllocError>
+    requires room { length (log_lines history.now) + 2 < 2 ^ 63 }
+    requires decided { IsDecided history.now decision.now }
+    ensures explained { IfOk result (λ text. IsExplained format (first_line version)
+        history.now decision.now text.items) }
+{
+    let begins = begin_lines(alloc, version, history)?;
+    why(alloc, version, history, &begins, format, decision)
+}

@@ -1,0 +1,113 @@
+//! What is told, as text or as a graph.
+
+ghost use Rattle.std.specs.Prelude.{◌≡◌, ◌++◌, IfOk, OnOk};
+ghost use Rattle.std.specs.List.{flat_map};
+ghost use Rattle.tell_reasons.specs.Lines.{begin_at, AreLines};
+ghost use Rattle.tell_texts.specs.Texts.{AreTellable};
+ghost use Rattle.tell_decision.specs.Explained.{told_text, known_as, cycle_text, lines_text};
+ghost use Rattle.tell_decision.specs.Explained.{label_byte, box_text};
+
+use crate::format::Format;
+use crate::names::name_of;
+use session_history::History;
+use std::alloc::{AllocError, Global};
+use tell_steps::Item;
+use tell_texts::{put_graph, put_items};
+
+/// Items as lines of text, or as a graph.
+pub fn written(
+    alloc: Global,
+    history: &History,
+    begins: &[usize],
+    format: Format,
+    items: &[Item],
+) -> Result<Vec<u8>, AllocError>
+    requires lines { AreLines history.now begins.now }
+    requires items { AreTellable history.now items.now }
+    ensures text { IfOk result (λ text.
+        text.items ≡ told_text format history.now (begin_at begins.now) items.now) }
+{
+    let mut out = Vec::new(alloc);
+    match format {
+        Format::Text => put_items(&mut out, history, begins, items)?,
+        Format::Dot => put_graph(alloc, &mut out, history, begins, items)?,
+    }
+    Ok(out)
+}
+
+/// Appends the name of the cycle that these tell, a line of a text.
+fn put_known_as(out: &mut Vec<u8>, format: Format, items: &[Item]) -> Result<(), AllocError>
+    ensures text { OnOk result (out.new.items ≡ out.old.items ++ known_as format items.now) }
+{
+    match format {
+        Format::Text => {
+            out.extend_from_slice(b"known as: ")?;
+            out.extend_from_slice(name_of(items).as_bytes())?;
+            out.extend_from_slice(b"\n")?;
+            Ok(())
+        }
+        Format::Dot => Ok(()),
+    }
+}
+
+/// The edges of a cycle as lines of text and its name, or as a graph.
+pub fn written_cycle(
+    alloc: Global,
+    history: &History,
+    begins: &[usize],
+    format: Format,
+    items: &[Item],
+) -> Result<Vec<u8>, AllocError>
+    requires lines { AreLines history.now begins.now }
+    requires items { AreTellable history.now items.now }
+    ensures text { IfOk result (λ text.
+        text.items ≡ cycle_text format history.now (begin_at begins.now) items.now) }
+{
+    let mut out = written(alloc, history, begins, format, items)?;
+    put_known_as(&mut out, format, items)?;
+    Ok(out)
+}
+
+/// Appends a byte of a label, in which a line break is a backslash and `n`.
+fn put_label_byte(out: &mut Vec<u8>, byte: u8) -> Result<(), AllocError>
+    ensures text { OnOk result (out.new.items ≡ out.old.items ++ label_byte byte) }
+{
+    if byte == b'\n' {
+        out.extend_from_slice(b"\\n")?;
+    } else {
+        out.push(byte)?;
+    }
+    Ok(())
+}
+
+/// Appends lines as a label.
+fn put_label(out: &mut Vec<u8>, lines: &[u8]) -> Result<(), AllocError>
+    ensures text { OnOk result (out.new.items ≡ out.old.items ++ flat_map label_byte lines.now) }
+{
+    for byte in lines {
+        put_label_byte(out, *byte)?;
+    }
+    Ok(())
+}
+
+/// A graph of one box with these lines.
+fn boxed(alloc: Global, lines: &[u8]) -> Result<Vec<u8>, AllocError>
+    ensures text { IfOk result (λ text. text.items ≡ box_text lines.now) }
+{
+    let mut out = Vec::new(alloc);
+    out.extend_from_slice(b"strict digraph explanation {\nnode [shape=box];\n")?;
+    out.extend_from_slice(b"\"anomaly\" [label=\"")?;
+    put_label(&mut out, lines)?;
+    out.extend_from_slice(b"\"];\n}\n")?;
+    Ok(out)
+}
+
+/// Lines as they are, or in the one box of a graph.
+pub fn written_lines(alloc: Global, format: Format, lines: Vec<u8>) -> Result<Vec<u8>, AllocError>
+    ensures text { IfOk result (λ text. text.items ≡ lines_text format lines.items) }
+{
+    match format {
+        Format::Text => Ok(lines),
+        Format::Dot => boxed(alloc, &lines),
+    }
+}

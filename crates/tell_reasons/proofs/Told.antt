@@ -1,0 +1,142 @@
+-- Texts that were appended, and what they tell.
+use Rattle.std.proofs.Common.{◌≡◌, ◌≢◌, ℕ, ◌+◌, ◌<◌, ◌≤◌, List, [], ◌∷◌, ◌++◌, length, take, Option, None, Some, Result, Ok, Err, refl, sym, ap, ◌∙◌, subst, append_assoc}
+use Rattle.std.specs.Prelude.{map, codes, slice_get, OnOk}
+use Rattle.std.proofs.lemmas.List.{append-nil}
+use Rattle.std.proofs.lemmas.Option.{slice_get_within}
+use Rattle.session_log.specs.Text.{ClientSession, Transaction, view, view_txn}
+use Rattle.session_log.specs.declared.session.Op.TheVariants.{Write}
+use Rattle.session_log.specs.declared.session.Txn.{Txn}
+use Rattle.session_log.specs.declared.session.Session.{Session}
+use Rattle.log_definitions.specs.Unknown.{ops_in}
+use Rattle.log_definitions.specs.WellFormed.{log_lines}
+use Rattle.tell_reasons.specs.declared.writes.Keys.{Keys}
+use Rattle.tell_reasons.specs.declared.writes.Keys.TheVariants.{This, Any}
+use Rattle.tell_reasons.specs.declared.writes.WriteAt.{WriteAt}
+use Rattle.tell_reasons.specs.Reasons.{op_at, key_text, reads_text, op_wid}
+use Rattle.tell_reasons.specs.Anomalies.{Appends, IsRead, IsWriteAt, IsFirstWriteAt, IsWriterTold, IsReadTold, IsDoneTold, IsBeforeTold, IsBadReadTold, wrote_text, elsewhere_text, did_text}
+use Rattle.tell_reasons.specs.Anomalies.IsWriterTold.{initial, nobody, elsewhere, wrote}
+use Rattle.tell_reasons.specs.Writes.{IsNoneWrite, Finds}
+use Rattle.tell_reasons.proofs.Begun.{begins_within}
+use Rattle.tell_reasons.proofs.Texts.{two}
+use Rattle.tell_reasons.proofs.Written.{txn_ops, among_this, none_here, none_anywhere}
+
+pub on_ok : {T E : Type 0} (P Q : Type 0) (r : Result T E) → (P → Q) → OnOk r P → OnOk r Q
+on_ok P Q (Ok x) f h = f h
+on_ok P Q (Err e) f h = tt
+
+-- ---- who wrote
+pub initial_told : (n : ℕ) (ss : List ClientSession) (read : ℕ) (key : List ℕ) (wid : ℕ) (old new : List ℕ) → wid ≡ 0 → new ≡ old ++ codes ", the initial value" → Appends old new (IsWriterTold n ss read key wid)
+initial_told n ss read key wid old new z e = record { text = codes ", the initial value"; added = e; told = initial z }
+
+pub nobody_told : (n : ℕ) (ss : List ClientSession) (read : ℕ) (key : List ℕ) (wid : ℕ) (old new : List ℕ) → wid ≢ 0 → IsNoneWrite Any key wid (ops_in ss) → new ≡ old ++ codes ", which no transaction wrote"
+    → Appends old new (IsWriterTold n ss read key wid)
+nobody_told n ss read key wid old new nz none e = record { text = codes ", which no transaction wrote"; added = e; told = nobody nz (none_anywhere key wid (ops_in ss) none) }
+
+pub elsewhere_told : (n : ℕ) (ss : List ClientSession) (read : ℕ) (key : List ℕ) (wid : ℕ) (other : List ℕ) (session place begin i : ℕ) (t : Transaction) (old new : List ℕ) → wid ≢ 0 → IsNoneWrite This key wid (ops_in ss)
+    → IsFirstWriteAt n ss other wid session place t begin i → new ≡ old ++ elsewhere_text key session place (slice_get t.ops i) (begin + 1 + i) → Appends old new (IsWriterTold n ss read key wid)
+elsewhere_told n ss read key wid other session place begin i t old new nz none w e = record {
+  text = elsewhere_text key session place (slice_get t.ops i) (begin + 1 + i);
+  added = e;
+  told = elsewhere nz (none_here key wid (ops_in ss) none) other session place begin i t w;
+}
+
+pub wrote_told : (n : ℕ) (ss : List ClientSession) (read : ℕ) (key : List ℕ) (wid session place begin i : ℕ) (t : Transaction) (old new : List ℕ) → IsWriteAt n ss key wid session place t begin i
+    → new ≡ old ++ wrote_text read key session place t begin i → Appends old new (IsWriterTold n ss read key wid)
+wrote_told n ss read key wid session place begin i t old new w e = record { text = wrote_text read key session place t begin i; added = e; told = wrote session place begin i t w }
+
+-- what was found stands, once its session and its transaction are looked up again
+looked_up : (n : ℕ) (sessions : List Session) (keys : Keys) (key : List ℕ) (wid : ℕ) (w : WriteAt) (s : Session) (t : Txn) (P : Session → Txn → Type 0) (f : Finds n sessions keys key wid w) → slice_get sessions w.session ≡ Some s
+    → slice_get s.txns.items w.txn ≡ Some t → P f.session f.txn → P s t
+looked_up n sessions keys key wid w s t P f p q h =
+    let session : f.session ≡ s = let among = f.among in cc in
+    let moved : slice_get s.txns.items w.txn ≡ Some f.txn = ap (λ (x : Session). slice_get x.txns.items w.txn) (sym session) ∙ f.stands in
+    let txn : f.txn ≡ t = cc in
+    subst (λ (x : Session). P x t) session (subst (λ (y : Txn). P f.session y) txn h)
+
+pub txn_below : (n : ℕ) (sessions : List Session) (keys : Keys) (key : List ℕ) (wid : ℕ) (w : WriteAt) (s : Session) → Finds n sessions keys key wid w → slice_get sessions w.session ≡ Some s → w.txn < length s.txns.items
+txn_below n sessions keys key wid w s f p =
+    let session : f.session ≡ s = let among = f.among in cc in
+    subst (λ (x : Session). w.txn < length x.txns.items) session (slice_get_within f.session.txns.items w.txn f.txn f.stands)
+
+-- the write that was found, as an operation of the transaction
+pub record IsOpFound (n : ℕ) (ss : List ClientSession) (w : WriteAt) (t : Txn) : Type 0 where
+  pub below : w.op < length t.ops.items
+  pub room : w.begin + 2 + length t.ops.items ≤ n + length (log_lines ss)
+
+pub op_found : (n : ℕ) (sessions : List Session) (keys : Keys) (key : List ℕ) (wid : ℕ) (w : WriteAt) (s : Session) (t : Txn) → Finds n sessions keys key wid w → slice_get sessions w.session ≡ Some s
+    → slice_get s.txns.items w.txn ≡ Some t → IsOpFound n (map view sessions) w t
+op_found n sessions keys key wid w s t f p q =
+    let at = f.write in
+    looked_up n sessions keys key wid w s t (λ x y. IsOpFound n (map view sessions) w y) f p q (record {
+      below = slice_get_within f.txn.ops.items w.op (Write f.written wid) at.writes;
+      room = begins_within n (map view sessions) f.session.number (w.txn + 1) (view_txn f.txn) w.begin at.begins;
+    })
+
+pub this_write : (n : ℕ) (sessions : List Session) (key : List ℕ) (wid : ℕ) (w : WriteAt) (s : Session) (t : Txn) → Finds n sessions This key wid w → slice_get sessions w.session ≡ Some s → slice_get s.txns.items w.txn ≡ Some t
+    → IsWriteAt n (map view sessions) key wid s.number (w.txn + 1) (view_txn t) w.begin w.op
+this_write n sessions key wid w s t f p q =
+    let ss = map view sessions in
+    looked_up n sessions This key wid w s t (λ x y. IsWriteAt n ss key wid x.number (w.txn + 1) (view_txn y) w.begin w.op) f p q
+    (subst (λ k. IsWriteAt n ss k wid f.session.number (w.txn + 1) (view_txn f.txn) w.begin w.op) (sym (among_this key f.written f.is)) f.write)
+
+-- the first write of an identity under any key, and that key
+pub record IsFirstFound (n : ℕ) (ss : List ClientSession) (wid : ℕ) (w : WriteAt) (s : Session) (t : Txn) : Type 0 where
+  pub other : List ℕ
+  pub write : IsFirstWriteAt n ss other wid s.number (w.txn + 1) (view_txn t) w.begin w.op
+
+pub any_write : (n : ℕ) (sessions : List Session) (key : List ℕ) (wid : ℕ) (w : WriteAt) (s : Session) (t : Txn) → Finds n sessions Any key wid w → slice_get sessions w.session ≡ Some s → slice_get s.txns.items w.txn ≡ Some t
+    → IsFirstFound n (map view sessions) wid w s t
+any_write n sessions key wid w s t f p q =
+    let at = f.write in
+    let ops = ops_in at.begins.before ++ (txn_ops at.begins.earlier ++ take w.op f.txn.ops.items) in
+    looked_up n sessions Any key wid w s t (λ x y. IsFirstFound n (map view sessions) wid w x y) f p q (record {
+      other = f.written;
+      write = record { write = f.write; first = none_anywhere key wid ops f.first };
+    })
+
+-- ---- a read
+-- the rest of a read's line
+pub rest_told : (n : ℕ) (ss : List ClientSession) (begin : ℕ → ℕ) (v i line : ℕ) (old mid new key : List ℕ) (wid : ℕ) → IsRead (op_at ss v i) → line ≡ begin v + 1 + i → key ≡ key_text (op_at ss v i) → wid ≡ op_wid (op_at ss v i)
+    → Appends old mid (IsWriterTold n ss line key wid) → new ≡ mid ++ 10 ∷ [] → Appends old new (IsReadTold n ss begin v i [])
+rest_told n ss begin v i line old mid new key wid r l k w a q =
+    let keys : key ≡ r.key = k ∙ ap key_text r.is in
+    let wids : wid ≡ r.wid = w ∙ ap op_wid r.is in
+    let told : IsWriterTold n ss (begin v + 1 + i) r.key r.wid a.text =
+    subst (λ x. IsWriterTold n ss (begin v + 1 + i) r.key x a.text) wids (subst (λ x. IsWriterTold n ss (begin v + 1 + i) x wid a.text) keys (subst (λ x. IsWriterTold n ss x key wid a.text) l a.told)) in
+    record {
+      text = a.text ++ 10 ∷ [];
+      added = two old a.text (10 ∷ []) mid new a.added q;
+      told = record { key = r.key; wid = r.wid; writer = a.text; reads = r.is; told = told; whole = refl };
+    }
+
+-- what is said in front of it
+pub said_told : (n : ℕ) (ss : List ClientSession) (begin : ℕ → ℕ) (v i : ℕ) (said old mid new : List ℕ) → mid ≡ old ++ said → Appends mid new (IsReadTold n ss begin v i []) → Appends old new (IsReadTold n ss begin v i said)
+said_told n ss begin v i said old mid new p a =
+    let r = a.told in
+    record {
+      text = said ++ a.text;
+      added = two old said a.text mid new p a.added;
+      told = record { key = r.key; wid = r.wid; writer = r.writer; reads = r.reads; told = r.told; whole = ap (λ t. said ++ t) r.whole ∙ sym (append_assoc said r.writer (10 ∷ [])) };
+    }
+
+pub bad_read : (n : ℕ) (ss : List ClientSession) (begin : ℕ → ℕ) (v i : ℕ) (old mid new : List ℕ) → Appends old mid (IsReadTold n ss begin v i (reads_text ss begin v i))
+    → Appends mid new (IsBeforeTold n ss begin v i (key_text (op_at ss v i)) (op_wid (op_at ss v i))) → Appends old new (IsBadReadTold n ss begin v i)
+bad_read n ss begin v i old mid new a b =
+    let r = a.told in
+    let keys : key_text (op_at ss v i) ≡ r.key = ap key_text r.reads in
+    let wids : op_wid (op_at ss v i) ≡ r.wid = ap op_wid r.reads in
+    let done : IsBeforeTold n ss begin v i r.key r.wid b.text =
+    subst (λ x. IsBeforeTold n ss begin v i r.key x b.text) wids (subst (λ k. IsBeforeTold n ss begin v i k (op_wid (op_at ss v i)) b.text) keys b.told) in
+    record {
+      text = a.text ++ b.text;
+      added = two old a.text b.text mid new a.added b.added;
+      told = record { line = a.text; before = b.text; read = a.told; done = done; whole = refl };
+    }
+
+-- ---- before it
+pub write_before : (n : ℕ) (ss : List ClientSession) (begin : ℕ → ℕ) (v i : ℕ) (other : Option ℕ) (old new : List ℕ) → new ≡ old ++ (did_text ss begin v (codes " wrote ") i ++ 10 ∷ [])
+    → Appends old new (IsDoneTold n ss begin v (Some i) other)
+write_before n ss begin v i other old new e = record { text = did_text ss begin v (codes " wrote ") i ++ 10 ∷ []; added = e; told = refl }
+
+pub nothing_before : (n : ℕ) (ss : List ClientSession) (begin : ℕ → ℕ) (v : ℕ) (old : List ℕ) → Appends old old (IsDoneTold n ss begin v None None)
+nothing_before n ss begin v old = record { text = []; added = sym (append-nil old); told = refl }

@@ -1,0 +1,153 @@
+-- Nodes that read a key and write it.
+use Rattle.std.proofs.Common.{◌≡◌, ℕ, suc, ◌+◌, ◌-◌, ◌<◌, ◌≤◌, Bool, true, cond, eqb, List, [], ◌∷◌, ◌++◌, length, take, get_or, Option, None, Some, refl, sym, ap, ◌∙◌, subst, inl, inr, arith, eqb-true, eq-eqb}
+use Rattle.std.specs.Prelude.{codes, slice_get, position, reverse, unwrap_or}
+use Rattle.std.specs.Option.{option_map}
+use Rattle.std.proofs.lemmas.Bool.{cases_Bool, false≢true}
+use Rattle.std.proofs.lemmas.List.{length-reverse, get_or-reverse}
+use Rattle.std.proofs.lemmas.List.Quantifiers.{position-Some}
+use Rattle.session_log.specs.Text.{ClientSession}
+use Rattle.session_log.specs.declared.session.Op.{Op}
+use Rattle.session_log.specs.declared.session.Op.TheVariants.{Read, Write}
+use Rattle.serializability.specs.declared.event.Event.{Event}
+use Rattle.serializability.specs.declared.event.Event.TheVariants as event
+use Rattle.serializability.specs.Reads.{later, last_write, external_read}
+use Rattle.serializability.specs.Polygraph.{writer_of}
+use Rattle.anomaly_laws.specs.Meaning.{IsUpdate}
+use Rattle.log_definitions.specs.WellFormed.{keys_in}
+use Rattle.log_definitions.specs.Serial.{ops_of}
+use Rattle.log_definitions.specs.Numbers.{event_of, log_of}
+use Rattle.tell_reasons.specs.Reasons.{op_at, key_text, key_bytes, named, wid_text, op_in_line, reads_text}
+use Rattle.tell_reasons.specs.Events.{is_write_in, is_read_in}
+use Rattle.tell_reasons.specs.Anomalies.{Appends, IsRead, IsReadTold, IsUpdateTold, AreUpdatesTold, is_read_of, is_write_of, last_position}
+use Rattle.tell_reasons.proofs.Found.{front_all, none_at}
+use Rattle.tell_reasons.proofs.Keyed.{last_told, read_told}
+use Rattle.tell_reasons.proofs.Ops.{event_count, item_at, op_of, key_told}
+use Rattle.tell_reasons.proofs.Texts.{two}
+
+-- ---- an item that passes
+record PassesAt (p : Event → Bool) (es : List Event) : Type 0 where
+  pub at : ℕ
+  pub below : at < length es
+  pub passes : p (get_or es at (event.Read 0 0)) ≡ true
+
+further : (p : Event → Bool) (e : Event) (es : List Event) → PassesAt p es → PassesAt p (e ∷ es)
+further p e es h = record { at = suc h.at; below = omega (arith, h.below); passes = h.passes }
+
+none_passes : (p : Event → Bool) (es : List Event) → PassesAt p es → None ≡ position p es → ⊥
+none_passes p es h e = none_at p es h.at (event.Read 0 0) e h.below h.passes
+
+same : (k x : ℕ) → eqb k x ≡ true → eqb x k ≡ true
+same k x e = eq-eqb x k (sym (eqb-true k x e))
+
+read_there : (x w : ℕ) (es : List Event) → external_read x es ≡ Some w → PassesAt (is_read_in x) es
+read_there x w [] e = cc
+read_there x w (event.Read k v ∷ es) e = elim (cases_Bool (eqb k x)) [
+  | inl t ↦ record { at = 0; below = omega arith; passes = same k x t }
+  | inr f ↦ further (is_read_in x) (event.Read k v) es (read_there x w es (sym (ap (λ b. cond b (Some v) (external_read x es)) f) ∙ e))
+]
+read_there x w (event.Write k v ∷ es) e = elim (cases_Bool (eqb k x)) [
+  | inl t ↦ (let none : None ≡ Some w = sym (ap (λ b. cond b None (external_read x es)) t) ∙ e in cc)
+  | inr f ↦ further (is_read_in x) (event.Write k v) es (read_there x w es (sym (ap (λ b. cond b None (external_read x es)) f) ∙ e))
+]
+
+write_there : (x w : ℕ) (es : List Event) → last_write x es ≡ Some w → PassesAt (is_write_in x) es
+write_there x w [] e = cc
+write_there x w (event.Read k v ∷ es) e = further (is_write_in x) (event.Read k v) es (write_there x w es e)
+write_there x w (event.Write k v ∷ es) e = elim (cases_Bool (eqb k x)) [
+  | inl t ↦ record { at = 0; below = omega arith; passes = same k x t }
+  | inr f ↦ further (is_write_in x) (event.Write k v) es (write_there x w es (kept (last_write x es) (sym (ap (λ b. later (cond b (Some v) None) (last_write x es)) f) ∙ e)))
+]
+  where
+    kept : (o : Option ℕ) → later None o ≡ Some w → o ≡ Some w
+    kept None e = e
+    kept (Some y) e = e
+
+mapped : {X Y : Type 0} (f : X → Y) (o : Option X) (y : Y) → option_map f o ≡ Some y → (x : X) × (o ≡ Some x)
+mapped f None y e = cc
+mapped f (Some x) y e = (x, refl)
+
+none_mapped : {X Y : Type 0} (f : X → Y) (o : Option X) → None ≡ option_map f o → None ≡ o
+none_mapped f None e = refl
+none_mapped f (Some x) e = cc
+
+pub no_read : (ss : List ClientSession) (x u v : ℕ) → IsUpdate (log_of ss) x u v → None ≡ position (is_read_in x) ((log_of ss).ops v) → ⊥
+no_read ss x u v h e =
+    let es = (log_of ss).ops v in
+    let r = mapped (writer_of (log_of ss) x) (external_read x es) u h.reads in
+    none_passes (is_read_in x) es (read_there x r.0 es r.1) e
+
+-- the last place, from the end
+last_there : (p : Event → Bool) (es : List Event) → PassesAt p es → None ≡ last_position p es → ⊥
+last_there p es h e =
+    let back = length es - 1 - h.at in
+    let below = h.below in
+    let size = length-reverse es in
+    let n = length es in
+    let none = none_mapped (λ b. n - (b + 1)) (position p (reverse es)) e in
+    let lt : back < length es = omega arith in
+    let index : length es - 1 - back ≡ h.at = omega arith in
+    let item = get_or-reverse es back (event.Read 0 0) lt ∙ ap (λ k. get_or es k (event.Read 0 0)) index in
+    none_at p (reverse es) back (event.Read 0 0) none (omega (arith, lt, size)) (ap p item ∙ h.passes)
+
+-- ---- the read that is found first
+read_event : (x : ℕ) (e : Event) → is_read_in x e ≡ true → (w : ℕ) × (e ≡ event.Read x w)
+read_event x (event.Read k w) t = (w, let s = eqb-true x k t in cc)
+read_event x (event.Write k w) t = absurd (false≢true t)
+
+pub record IsFirstRead (ss : List ClientSession) (x v i : ℕ) : Type 0 where
+  pub wid : ℕ
+  pub event : slice_get ((log_of ss).ops v) i ≡ Some (event.Read x wid)
+  pub below : i < length (ops_of ss v)
+
+pub first_read : (ss : List ClientSession) (x v i : ℕ) → position (is_read_in x) ((log_of ss).ops v) ≡ Some i → IsFirstRead ss x v i
+first_read ss x v i e =
+    let es = (log_of ss).ops v in
+    let f = position-Some (is_read_in x) es i (event.Read 0 0) e in
+    let r = read_event x (get_or es i (event.Read 0 0)) f.1 in
+    let count = event_count ss v in
+    let lt = f.0 in
+    record { wid = r.0; event = item_at es i (event.Read 0 0) lt ∙ ap (λ d. Some d) r.1; below = omega (arith, lt, count) }
+
+read_op : (keys : List (List ℕ)) (x w : ℕ) (o : Op) → event_of keys o ≡ event.Read x w → IsRead (Some o)
+read_op keys x w (Read key wid) e = record { key = key; wid = wid; is = refl }
+read_op keys x w (Write key wid) e = cc
+
+pub is_read : (ss : List ClientSession) (v i x w : ℕ) → slice_get ((log_of ss).ops v) i ≡ Some (event.Read x w) → IsRead (op_at ss v i)
+is_read ss v i x w h =
+    let o = op_of ss v i (event.Read x w) h in
+    subst (λ (op : Option Op). IsRead op) (sym o.stands) (read_op (keys_in ss) x w o.op o.event)
+
+pub no_write : (ss : List ClientSession) (x u v i n : ℕ) → IsUpdate (log_of ss) x u v → position (is_read_in x) ((log_of ss).ops v) ≡ Some i → length (ops_of ss v) ≤ n
+    → None ≡ last_position (is_write_of (key_text (op_at ss v i))) (take n (ops_of ss v)) → ⊥
+no_write ss x u v i n h at le e =
+    let es = (log_of ss).ops v in
+    let r = first_read ss x v i at in
+    let count = event_count ss v in
+    let told = last_told ss v i n (event.Read x r.wid) r.event in
+    let all = front_all es n (omega (arith, count, le)) in
+    let none = e ∙ sym told ∙ ap (λ l. last_position (is_write_in x) l) all in
+    last_there (is_write_in x) es (write_there x h.writes.0 es h.writes.1) none
+
+-- ---- an update
+pub update_told : (n : ℕ) (ss : List ClientSession) (begin : ℕ → ℕ) (x v read write : ℕ) (old mid new : List ℕ) → position (is_read_in x) ((log_of ss).ops v) ≡ Some read
+    → last_position (is_write_of (key_text (op_at ss v read))) (ops_of ss v) ≡ Some write → Appends old mid (IsReadTold n ss begin v read (reads_text ss begin v read))
+    → new ≡ mid ++ (named ss v ++ codes " overwrites it with " ++ wid_text (op_at ss v write) ++ op_in_line begin v write ++ 10 ∷ []) → Appends old new (IsUpdateTold n ss begin (key_bytes ss x) v)
+update_told n ss begin x v read write old mid new at last a e =
+    let r = first_read ss x v read at in
+    let key : key_bytes ss x ≡ key_text (op_at ss v read) = ap (λ o. unwrap_or o []) (key_told ss v read (event.Read x r.wid) r.event) in
+    let first = ap (λ k. position (is_read_of k) (ops_of ss v)) key ∙ sym (read_told ss v read (event.Read x r.wid) r.event) ∙ at in
+    let lasts = ap (λ k. last_position (is_write_of k) (ops_of ss v)) key ∙ last in
+    let tail = named ss v ++ codes " overwrites it with " ++ wid_text (op_at ss v write) ++ op_in_line begin v write ++ 10 ∷ [] in
+    record {
+      text = a.text ++ tail;
+      added = two old a.text tail mid new a.added e;
+      told = record { read = read; write = write; line = a.text; first = first; last = lasts; told = a.told; whole = refl };
+    }
+
+pub updates_told : (n : ℕ) (ss : List ClientSession) (begin : ℕ → ℕ) (x a b : ℕ) (old mid new : List ℕ) → Appends old mid (IsUpdateTold n ss begin (key_bytes ss x) a) → Appends mid new (IsUpdateTold n ss begin (key_bytes ss x) b)
+    → Appends old new (AreUpdatesTold n ss begin x a b)
+updates_told n ss begin x a b old mid new p q = record {
+  text = p.text ++ q.text;
+  added = two old p.text q.text mid new p.added q.added;
+  told = record { one = p.text; two = q.text; first = p.told; second = q.told; whole = refl };
+}

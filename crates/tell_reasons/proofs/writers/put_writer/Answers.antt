@@ -1,0 +1,17 @@
+use Rattle.std.proofs.Common.{◌≡◌, ◌++◌}
+use Rattle.std.specs.Prelude.{codes, map}
+use Rattle.session_log.specs.Text.{view}
+use Rattle.tell_reasons.specs.Anomalies.{Appends, IsWriterTold}
+use Rattle.tell_reasons.proofs.Told.{on_ok, initial_told}
+use Rattle.tell_reasons.proofs.writers.put_writer.Goals as goal
+
+pub returns-then-wid-eq0 : goal.returns-then-wid-eq0
+returns-then-wid-eq0 c =
+    let ss = map view c.args.sessions.now in
+    let old = c.args.out.now.items in
+    let new = c.put_text.new.out.items in
+    record {
+      told =
+          on_ok (new ≡ old ++ codes ", the initial value") (Appends old new (IsWriterTold c.args.first ss c.args.read c.args.key.now c.args.wid)) c.put_text.result
+          (λ e. initial_told c.args.first ss c.args.read c.args.key.now c.args.wid old new c.if-wid-eq0.true e) c.put_text.ensures.text;
+    }

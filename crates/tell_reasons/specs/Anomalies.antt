@@ -1,0 +1,205 @@
+-- How an anomaly is told: the reads that show it, who wrote what they name, and what their
+-- transactions did with the key besides.
+-- `n` is the line of the first session; operations count from 0.
+use Rattle.std.specs.Prelude.{◌≡◌, ◌≢◌, ℕ, ◌+◌, ◌-◌, ◌&&◌, ◌==◌, not, Bool, false, List, [], ◌∷◌}
+use Rattle.std.specs.Prelude.{◌++◌, length, take, drop, reverse, position, codes, slice_get, Option}
+use Rattle.std.specs.Prelude.{None, Some, nat_lt, if◌then◌else◌}
+use Rattle.std.specs.List.{Contains, flat_map}
+use Rattle.std.specs.Option.{option_map}
+use Rattle.std.specs.Str.{bytes_eq}
+use Rattle.session_log.specs.Text.{ClientSession, Transaction}
+use Rattle.session_log.specs.declared.session.Op.{Op}
+use Rattle.session_log.specs.declared.session.Op.TheVariants.{Read, Write}
+use Rattle.session_log.specs.declared.session.Outcome.{Outcome}
+use Rattle.session_log.specs.declared.session.Outcome.TheVariants.{Commit, Abort, Unknown}
+use Rattle.serializability.specs.declared.anomaly.Anomaly.{Anomaly}
+use Rattle.serializability.specs.declared.anomaly.Anomaly.TheVariants as anomaly
+use Rattle.log_definitions.specs.Unknown.{ops_in}
+use Rattle.log_definitions.specs.Serial.{ops_of}
+use Rattle.order_text.specs.Text.{name_text}
+use Rattle.log_lines.specs.Places.{BeginsAt}
+use Rattle.tell_reasons.specs.Reasons.{key_bytes, named, in_line, op_at, op_in_line, key_and_wid}
+use Rattle.tell_reasons.specs.Reasons.{wid_text, reads_text}
+
+-- ---- operations of a key
+abbrev pub is_write_of : List ℕ → Op → Bool
+is_write_of key (Read k wid) = false
+is_write_of key (Write k wid) = bytes_eq key k
+
+abbrev pub is_read_of : List ℕ → Op → Bool
+is_read_of key (Read k wid) = bytes_eq key k
+is_read_of key (Write k wid) = false
+
+-- a read of the key that names another identity
+abbrev pub is_other_read : List ℕ → ℕ → Op → Bool
+is_other_read key wid (Read k w) = bytes_eq key k && not (w == wid)
+is_other_read key wid (Write k w) = false
+
+-- the place of the last operation that passes
+abbrev pub last_position : {X : Type 0} → (X → Bool) → List X → Option ℕ
+last_position passes xs = option_map (λ back. length xs - (back + 1)) (position passes (reverse xs))
+
+-- the place of the first that passes behind place i
+abbrev pub next_position : {X : Type 0} → (X → Bool) → List X → ℕ → Option ℕ
+next_position passes xs i = option_map (λ more. i + 1 + more) (position passes (drop (i + 1) xs))
+
+-- it is a read
+pub record IsRead (op : Option Op) : Type 0 where
+  pub key : List ℕ
+  pub wid : ℕ
+  pub is : op ≡ Some (Read key wid)
+
+-- ---- who wrote what a read names
+-- operation i of the transaction t, which stands at this place of this session and begins at this
+-- line, is the write
+pub record IsWriteAt (n : ℕ) (ss : List ClientSession) (key : List ℕ) (wid session place : ℕ)
+    (t : Transaction) (begin i : ℕ) : Type 0 where
+  pub begins : BeginsAt n ss session place t begin
+  pub writes : slice_get t.ops i ≡ Some (Write key wid)
+
+-- the transaction wrote the key again
+abbrev pub overwrote_text : List Op → ℕ → Option ℕ → List ℕ
+overwrote_text ops begin None = []
+overwrote_text ops begin (Some i) = codes " and overwrote with " ++ wid_text
+    (slice_get ops i) ++ in_line (begin + 1 + i)
+
+-- it is not committed
+abbrev pub outcome_text : Outcome → ℕ → List ℕ
+outcome_text Commit line = []
+outcome_text Abort line = codes " and aborted" ++ in_line line
+outcome_text Unknown line = codes ", whose outcome is unknown" ++ in_line line
+
+-- the read in this line stands in the transaction that begins at line `begin`, in front of its
+-- write in line `written`
+abbrev pub is_early : ℕ → ℕ → ℕ → Bool
+is_early read begin written = nat_lt begin read && nat_lt read written
+
+abbrev pub verb_text : ℕ → ℕ → ℕ → List ℕ
+verb_text read begin written = if is_early read begin written then
+    codes " writes itself only later" else codes " wrote"
+
+-- what stands in line `read` was written by operation i of this transaction
+abbrev pub wrote_text : ℕ → List ℕ → ℕ → ℕ → Transaction → ℕ → ℕ → List ℕ
+wrote_text read key session place t begin i =
+    codes ", which " ++ name_text (session, place) ++ verb_text read begin (begin + 1 + i)
+    ++ in_line (begin + 1 + i)
+    ++ overwrote_text t.ops begin (next_position (is_write_of key) t.ops i)
+    ++ outcome_text t.outcome (begin + 1 + length t.ops)
+
+-- nobody wrote it to this key
+abbrev pub not_here_text : List ℕ → List ℕ
+not_here_text key = codes ", which no transaction wrote to " ++ key ++ codes "; "
+
+-- this transaction wrote what this operation says, in this line
+abbrev pub other_write_text : ℕ → ℕ → Option Op → ℕ → List ℕ
+other_write_text session place op line =
+    name_text (session, place) ++ codes " wrote " ++ key_and_wid op ++ in_line line
+
+-- the identity was written to another key, by this operation
+abbrev pub elsewhere_text : List ℕ → ℕ → ℕ → Option Op → ℕ → List ℕ
+elsewhere_text key session place op line =
+    not_here_text key ++ other_write_text session place op line
+
+-- none of these operations writes the identity under any key
+abbrev pub IsUnwritten : ℕ → List Op → Type 0
+IsUnwritten wid ops = (key : List ℕ) → ¬ Contains ops (Write key wid)
+
+-- the write is the first of this identity, under any key, in the order of sessions, transactions
+-- and operations
+pub record IsFirstWriteAt (n : ℕ) (ss : List ClientSession) (key : List ℕ)
+    (wid session place : ℕ) (t : Transaction) (begin i : ℕ) : Type 0 where
+  pub write : IsWriteAt n ss key wid session place t begin i
+  pub first : IsUnwritten wid (ops_in write.begins.before
+      ++ (flat_map (λ earlier. earlier.ops) write.begins.earlier ++ take i t.ops))
+
+-- who wrote what the read in line `read` names, this identity of this key: nobody where no
+-- operation of any transaction writes the identity under any key, and elsewhere where one does, but
+-- none under this key
+pub data IsWriterTold (n : ℕ) (ss : List ClientSession) (read : ℕ) (key : List ℕ) (wid : ℕ)
+    : List ℕ → Type 0 where
+  initial : wid ≡ 0 → IsWriterTold n ss read key wid (codes ", the initial value")
+  nobody : wid ≢ 0 → IsUnwritten wid (ops_in ss)
+      → IsWriterTold n ss read key wid (codes ", which no transaction wrote")
+  elsewhere : wid ≢ 0 → ¬ Contains (ops_in ss) (Write key wid)
+      → (other : List ℕ) (session place begin i : ℕ) (t : Transaction)
+      → IsFirstWriteAt n ss other wid session place t begin i
+      → IsWriterTold n ss read key wid
+      (elsewhere_text key session place (slice_get t.ops i) (begin + 1 + i))
+  wrote : (session place begin i : ℕ) (t : Transaction)
+      → IsWriteAt n ss key wid session place t begin i
+      → IsWriterTold n ss read key wid (wrote_text read key session place t begin i)
+
+-- ---- a read
+-- operation i of node v is a read; its line says this of it, and then who wrote what it read
+pub record IsReadTold (n : ℕ) (ss : List ClientSession) (begin : ℕ → ℕ) (v i : ℕ)
+    (said text : List ℕ) : Type 0 where
+  pub key : List ℕ
+  pub wid : ℕ
+  pub writer : List ℕ
+  pub reads : op_at ss v i ≡ Some (Read key wid)
+  pub told : IsWriterTold n ss (begin v + 1 + i) key wid writer
+  pub whole : text ≡ said ++ writer ++ 10 ∷ []
+
+-- what node v did before, by operation i
+abbrev pub did_text : List ClientSession → (ℕ → ℕ) → ℕ → List ℕ → ℕ → List ℕ
+did_text ss begin v did i = named ss v ++ did ++ key_and_wid (op_at ss v i) ++ codes " before"
+    ++ op_in_line begin v i
+
+-- what the transaction did with the key before: this write, else this read and who wrote what it
+-- read, else nothing
+abbrev pub IsDoneTold : ℕ → List ClientSession → (ℕ → ℕ) → ℕ → Option ℕ → Option ℕ → List ℕ
+    → Type 0
+IsDoneTold n ss begin v (Some i) other text =
+    text ≡ did_text ss begin v (codes " wrote ") i ++ 10 ∷ []
+IsDoneTold n ss begin v None (Some i) text =
+    IsReadTold n ss begin v i (did_text ss begin v (codes " read ") i) text
+IsDoneTold n ss begin v None None text = text ≡ []
+
+-- before its read of the key at operation i, which named this identity: its latest write of the
+-- key, else its first read of another one
+abbrev pub IsBeforeTold : ℕ → List ClientSession → (ℕ → ℕ) → ℕ → ℕ → List ℕ → ℕ → List ℕ → Type 0
+IsBeforeTold n ss begin v i key wid text =
+    IsDoneTold n ss begin v (last_position (is_write_of key) (take i (ops_of ss v)))
+    (position (is_other_read key wid) (take i (ops_of ss v))) text
+
+-- a read that is an anomaly: operation i of node v
+pub record IsBadReadTold (n : ℕ) (ss : List ClientSession) (begin : ℕ → ℕ) (v i : ℕ)
+    (text : List ℕ) : Type 0 where
+  pub line : List ℕ
+  pub before : List ℕ
+  pub read : IsReadTold n ss begin v i (reads_text ss begin v i) line
+  pub done : IsBeforeTold n ss begin v i read.key read.wid before
+  pub whole : text ≡ line ++ before
+
+-- ---- a lost update
+-- node v reads the key first at operation `read`, and writes it last at operation `write`
+pub record IsUpdateTold (n : ℕ) (ss : List ClientSession) (begin : ℕ → ℕ) (key : List ℕ) (v : ℕ)
+    (text : List ℕ) : Type 0 where
+  pub read : ℕ
+  pub write : ℕ
+  pub line : List ℕ
+  pub first : position (is_read_of key) (ops_of ss v) ≡ Some read
+  pub last : last_position (is_write_of key) (ops_of ss v) ≡ Some write
+  pub told : IsReadTold n ss begin v read (reads_text ss begin v read) line
+  pub whole : text ≡ line ++ (named ss v ++ codes " overwrites it with " ++ wid_text
+      (op_at ss v write) ++ op_in_line begin v write ++ 10 ∷ [])
+
+-- two nodes read the key of number x first and write it last
+pub record AreUpdatesTold (n : ℕ) (ss : List ClientSession) (begin : ℕ → ℕ) (x a b : ℕ)
+    (text : List ℕ) : Type 0 where
+  pub one : List ℕ
+  pub two : List ℕ
+  pub first : IsUpdateTold n ss begin (key_bytes ss x) a one
+  pub second : IsUpdateTold n ss begin (key_bytes ss x) b two
+  pub whole : text ≡ one ++ two
+
+-- ---- an anomaly, whose operations count from 1
+abbrev pub IsAnomalyTold : ℕ → List ClientSession → (ℕ → ℕ) → Anomaly → List ℕ → Type 0
+IsAnomalyTold n ss begin (anomaly.Read kind v op) text = IsBadReadTold n ss begin v (op - 1) text
+IsAnomalyTold n ss begin (anomaly.LostUpdate x u a b) text = AreUpdatesTold n ss begin x a b text
+
+-- a told text was appended
+pub record Appends (old new : List ℕ) (IsTold : List ℕ → Type 0) : Type 0 where
+  pub text : List ℕ
+  pub added : new ≡ old ++ text
+  pub told : IsTold text

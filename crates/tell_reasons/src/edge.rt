@@ -1,0 +1,304 @@
+//! Why one node stands before another, in a line.
+
+ghost use Rattle.std.specs.Prelude.{◌≡◌, ℕ, ◌+◌, ◌<◌, ◌≤◌, ◌^◌, ◌++◌, length, decimal, codes, OnOk};
+ghost use Rattle.std.specs.Prelude.{unwrap_or};
+ghost use Rattle.reason_laws.specs.Reasons.{IsNode, IsReadBy, IsOverwrittenBy, IsOfInitialBefore};
+ghost use Rattle.reason_laws.specs.Reasons.{EndsBefore};
+ghost use Rattle.reasons.specs.Given.{IsReason};
+ghost use Rattle.reasons.specs.declared.reason.Reason.TheVariants as kind;
+ghost use Rattle.log_definitions.specs.Serial.{session_of, ops_of, begun_of, ended_of};
+ghost use Rattle.log_definitions.specs.Numbers.{log_of};
+ghost use Rattle.tell_reasons.specs.Lines.{begin_at, AreLines};
+ghost use Rattle.tell_reasons.specs.Reasons.{before_text, reason_text, origin_text, CanTell};
+ghost use Rattle.tell_reasons.specs.Reasons.{end_in_line, in_line, op_at};
+ghost use Rattle.tell_reasons.specs.Edges.{why_text, comes_text, by_step, supposed};
+
+use crate::pieces::{
+    op_count, put_in_line, put_key_and_wid, put_named, put_number, put_op_in_line, put_reads,
+    put_wid, wid_at,
+};
+use crate::versions::{put_held, put_version};
+use crate::why::Why;
+use reasons::Reason;
+use serializability::NodeIx;
+use session_history::History;
+use std::alloc::AllocError;
+
+/// Appends that a node stands before another, as `1.2 before 2.1: `.
+fn put_before(out: &mut Vec<u8>, history: &History, a: NodeIx, b: NodeIx) -> Result<(), AllocError>
+    requires first { a ≤ (log_of history.now).nodes }
+    requires second { b ≤ (log_of history.now).nodes }
+    ensures text { OnOk result (out.new.items ≡ out.old.items ++ before_text history.now a b) }
+{
+    put_named(out, b"", history, a)?;
+    put_named(out, b" before ", history, b)?;
+    out.extend_from_slice(b": ")?;
+    Ok(())
+}
+
+/// Appends the session of a node.
+#[tactic(auto, unfolding(log_definitions::specs::Numbers::log_of))]
+fn put_session(out: &mut Vec<u8>, history: &History, a: NodeIx) -> Result<(), AllocError>
+    ensures text { OnOk result (out.new.items ≡ out.old.items
+        ++ (codes "session " ++ decimal (session_of history.now a))) }
+{
+    out.extend_from_slice(b"session ")?;
+    put_number(out, u64::from(history.session_of(a)))
+}
+
+/// Appends that `b` reads what `a` wrote.
+fn put_read(
+    out: &mut Vec<u8>,
+    history: &History,
+    begins: &[usize],
+    a: NodeIx,
+    b: NodeIx,
+    written: usize,
+    read: usize,
+) -> Result<(), AllocError>
+    requires lines { AreLines history.now begins.now }
+    requires reason { IsReadBy history.now a written b read }
+    ensures text { OnOk result (out.new.items ≡ out.old.items
+        ++ reason_text history.now (begin_at begins.now) a b (kind.Read written read)) }
+{
+    put_reads(out, history, begins, b, read)?;
+    put_named(out, b", which ", history, a)?;
+    out.extend_from_slice(b" wrote")?;
+    put_op_in_line(out, begins, a, written)
+}
+
+/// Appends that `b` overwrites what both read.
+fn put_overwritten(
+    out: &mut Vec<u8>,
+    history: &History,
+    begins: &[usize],
+    a: NodeIx,
+    b: NodeIx,
+    read: usize,
+    overwrites: usize,
+) -> Result<(), AllocError>
+    requires lines { AreLines history.now begins.now }
+    requires reason { IsOverwrittenBy history.now a read b overwrites }
+    ensures text { OnOk result (out.new.items ≡ out.old.items
+        ++ reason_text history.now (begin_at begins.now) a b (kind.Overwritten read overwrites)) }
+{
+    put_reads(out, history, begins, a, read)?;
+    put_named(out, b", and ", history, b)?;
+    out.extend_from_slice(b" overwrites it with ")?;
+    put_wid(out, history, b, overwrites)?;
+    put_op_in_line(out, begins, b, overwrites)
+}
+
+/// Appends whether an operation names the initial value itself, or what stands behind it.
+fn put_origin(
+    out: &mut Vec<u8>,
+    history: &History,
+    node: NodeIx,
+    op: usize,
+) -> Result<(), AllocError>
+    requires op { op < length (ops_of history.now node) }
+    ensures text { OnOk result (out.new.items ≡ out.old.items ++ origin_text
+        (op_at history.now node op)) }
+{
+    if wid_at(history, node, op) == 0 {
+        out.extend_from_slice(b", the initial value")?;
+    } else {
+        out.extend_from_slice(b", which goes back to the initial value")?;
+    }
+    Ok(())
+}
+
+/// Appends that `a` reads a key's initial value, or what stands behind it, and `b` wrote the key.
+fn put_initial(
+    out: &mut Vec<u8>,
+    history: &History,
+    begins: &[usize],
+    a: NodeIx,
+    b: NodeIx,
+    read: usize,
+    write: usize,
+) -> Result<(), AllocError>
+    requires lines { AreLines history.now begins.now }
+    requires reason { IsOfInitialBefore history.now a read b write }
+    ensures text { OnOk result (out.new.items ≡ out.old.items
+        ++ reason_text history.now (begin_at begins.now) a b (kind.Initial read write)) }
+{
+    put_reads(out, history, begins, a, read)?;
+    put_origin(out, history, a, read)?;
+    put_named(out, b", and ", history, b)?;
+    out.extend_from_slice(b" wrote ")?;
+    put_key_and_wid(out, history, b, write)?;
+    put_op_in_line(out, begins, b, write)
+}
+
+/// Appends when `a` ended.
+fn put_ended(
+    out: &mut Vec<u8>,
+    history: &History,
+    begins: &[usize],
+    a: NodeIx,
+) -> Result<(), AllocError>
+    requires node { IsNode history.now a }
+    requires lines { AreLines history.now begins.now }
+    ensures text { OnOk result (out.new.items ≡ out.old.items
+        ++ (decimal (unwrap_or (ended_of history.now a) 0)
+        ++ end_in_line history.now (begin_at begins.now) a)) }
+{
+    put_number(out, history.ended_of(a).unwrap_or(0))?;
+    put_op_in_line(out, begins, a, op_count(history, a))
+}
+
+/// Appends when `b` began.
+fn put_begun(
+    out: &mut Vec<u8>,
+    history: &History,
+    begins: &[usize],
+    b: NodeIx,
+) -> Result<(), AllocError>
+    requires node { IsNode history.now b }
+    requires lines { AreLines history.now begins.now }
+    ensures text { OnOk result (out.new.items ≡ out.old.items
+        ++ (decimal (unwrap_or (begun_of history.now b) 0)
+        ++ in_line (begin_at begins.now b))) }
+{
+    put_number(out, history.begun_of(b).unwrap_or(0))?;
+    put_in_line(out, begins[b.get() - 1])
+}
+
+/// Appends that `a` ended before `b` began.
+fn put_moments(
+    out: &mut Vec<u8>,
+    history: &History,
+    begins: &[usize],
+    a: NodeIx,
+    b: NodeIx,
+) -> Result<(), AllocError>
+    requires lines { AreLines history.now begins.now }
+    requires reason { EndsBefore history.now a b }
+    ensures text { OnOk result (out.new.items ≡ out.old.items
+        ++ reason_text history.now (begin_at begins.now) a b kind.Moments) }
+{
+    put_named(out, b"", history, a)?;
+    out.extend_from_slice(b" ended at ")?;
+    put_ended(out, history, begins, a)?;
+    put_named(out, b", ", history, b)?;
+    out.extend_from_slice(b" began at ")?;
+    put_begun(out, history, begins, b)
+}
+
+/// Appends why the log shows that `a` stands before `b`.
+fn put_reason(
+    out: &mut Vec<u8>,
+    history: &History,
+    begins: &[usize],
+    a: NodeIx,
+    b: NodeIx,
+    reason: Reason,
+) -> Result<(), AllocError>
+    requires lines { AreLines history.now begins.now }
+    requires reason { IsReason history.now a b reason }
+    ensures text { OnOk result (out.new.items ≡ out.old.items
+        ++ reason_text history.now (begin_at begins.now) a b reason) }
+{
+    match reason {
+        Reason::Session => put_session(out, history, a),
+        Reason::Read { written, read } => put_read(out, history, begins, a, b, written, read),
+        Reason::Overwritten { read, overwrites } => {
+            put_overwritten(out, history, begins, a, b, read, overwrites)
+        }
+        Reason::Initial {
+            read,
+            begins: write,
+        } => put_initial(out, history, begins, a, b, read, write),
+        Reason::Moments => put_moments(out, history, begins, a, b),
+    }
+}
+
+/// Appends by which forced step a version comes first; steps count from 1 in a text.
+fn put_by_step(out: &mut Vec<u8>, step: usize) -> Result<(), AllocError>
+    requires { step + 1 < 2 ^ 64 }
+    ensures text { OnOk result (out.new.items ≡ out.old.items ++ by_step step) }
+{
+    out.extend_from_slice(b", which by [")?;
+    put_number(out, step as u64 + 1)?;
+    out.extend_from_slice(b"] comes before ")?;
+    Ok(())
+}
+
+/// Appends what `a` has of a key, and that a forced step puts it before what `b` wrote of it, and
+/// ends the line.
+fn put_forced(
+    out: &mut Vec<u8>,
+    history: &History,
+    begins: &[usize],
+    key: usize,
+    a: NodeIx,
+    b: NodeIx,
+    step: usize,
+) -> Result<(), AllocError>
+    requires lines { AreLines history.now begins.now }
+    requires first { IsNode history.now a }
+    requires second { IsNode history.now b }
+    requires step { step + 1 < 2 ^ 64 }
+    ensures text { OnOk result (out.new.items ≡ out.old.items
+        ++ comes_text history.now (begin_at begins.now) key a b (by_step step)) }
+{
+    put_held(out, history, begins, key, a)?;
+    put_by_step(out, step)?;
+    put_version(out, history, begins, key, b)?;
+    out.extend_from_slice(b"\n")?;
+    Ok(())
+}
+
+/// Appends what `a` has of a key, and that it is supposed to come before what `b` wrote of it, and
+/// ends the line.
+fn put_chosen(
+    out: &mut Vec<u8>,
+    history: &History,
+    begins: &[usize],
+    key: usize,
+    a: NodeIx,
+    b: NodeIx,
+) -> Result<(), AllocError>
+    requires lines { AreLines history.now begins.now }
+    requires first { IsNode history.now a }
+    requires second { IsNode history.now b }
+    ensures text { OnOk result (out.new.items ≡ out.old.items
+        ++ comes_text history.now (begin_at begins.now) key a b supposed) }
+{
+    put_held(out, history, begins, key, a)?;
+    out.extend_from_slice(b", which is supposed to come before ")?;
+    put_version(out, history, begins, key, b)?;
+    out.extend_from_slice(b"\n")?;
+    Ok(())
+}
+
+/// Appends the line that says why `a` stands before `b`. Of `begins`, element `v - 1` is the line
+/// at which node `v` begins. Where memory runs out, a part of the line may have been appended.
+#[tactic(auto, using(reason_laws::proofs::Numbers::within))]
+pub fn put_edge(
+    out: &mut Vec<u8>,
+    history: &History,
+    begins: &[usize],
+    a: NodeIx,
+    b: NodeIx,
+    why: Why,
+) -> Result<(), AllocError>
+    requires lines { AreLines history.now begins.now }
+    requires first { IsNode history.now a }
+    requires second { IsNode history.now b }
+    requires why { CanTell history.now a b why }
+    ensures text { OnOk result (out.new.items
+        ≡ out.old.items ++ why_text history.now (begin_at begins.now) a b why) }
+{
+    put_before(out, history, a, b)?;
+    match why {
+        Why::Known(reason) => {
+            put_reason(out, history, begins, a, b, reason)?;
+            out.push(b'\n')?;
+            Ok(())
+        }
+        Why::Forced { step, order } => put_forced(out, history, begins, order.key, a, b, step),
+        Why::Chosen(order) => put_chosen(out, history, begins, order.key, a, b),
+    }
+}

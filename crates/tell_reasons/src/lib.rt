@@ -1,0 +1,19 @@
+//! The lines that say why there is no order, in a log's own words.
+//!
+//! Called by the other crates that tell. It knows no ledger, no tree and no piece.
+#![tactic(auto)]
+
+mod anomalies;
+mod edge;
+mod pieces;
+mod places;
+mod versions;
+mod why;
+mod writers;
+mod writes;
+
+pub use anomalies::put_anomaly;
+pub use edge::put_edge;
+pub use pieces::{put_key, put_key_and_wid, put_named, put_number, put_op_in_line};
+pub use versions::{put_otherwise, put_versions};
+pub use why::{ChainOrder, Why};

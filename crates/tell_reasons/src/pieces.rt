@@ -1,0 +1,186 @@
+//! Pieces of lines: places in the log, operations and their keys.
+
+ghost use Rattle.std.specs.Prelude.{◌≡◌, ℕ, ◌+◌, ◌<◌, ◌≤◌, ◌++◌, Some, length, slice_get, decimal};
+ghost use Rattle.std.specs.Prelude.{codes, OnOk};
+ghost use Rattle.reason_laws.specs.Reasons.{IsNode};
+ghost use Rattle.log_definitions.specs.Serial.{ops_of};
+ghost use Rattle.log_definitions.specs.Numbers.{log_of};
+ghost use Rattle.tell_reasons.specs.Lines.{begin_at, AreLines, HasLine};
+ghost use Rattle.session_history.specs.Rows.{event_key};
+ghost use Rattle.tell_reasons.specs.Events.{event_wid};
+ghost use Rattle.tell_reasons.specs.Reasons as spec;
+ghost use Rattle.tell_reasons.specs.Reasons.{named, in_line, op_at, op_in_line, op_wid};
+ghost use Rattle.tell_reasons.specs.Reasons.{key_and_wid, reads_text};
+
+use itoa::Buffer;
+use order_text::put_name;
+use serializability::{Event, NodeIx};
+use session_history::History;
+use std::alloc::AllocError;
+
+/// Appends a number.
+pub fn put_number(out: &mut Vec<u8>, number: u64) -> Result<(), AllocError>
+    ensures text { OnOk result (out.new.items ≡ out.old.items ++ decimal number) }
+{
+    let mut digits = Buffer::new();
+    out.extend_from_slice(digits.format(number).as_bytes())?;
+    Ok(())
+}
+
+/// Appends a word, and the name of a node.
+pub fn put_named(
+    out: &mut Vec<u8>,
+    word: &[u8],
+    history: &History,
+    node: NodeIx,
+) -> Result<(), AllocError>
+    requires known { node ≤ (log_of history.now).nodes }
+    ensures text { OnOk result (out.new.items ≡ out.old.items ++
+        (word.now ++ named history.now node)) }
+{
+    out.extend_from_slice(word)?;
+    put_name(out, history, node)
+}
+
+/// Appends a line of the log, as ` (line 12)`.
+pub fn put_in_line(out: &mut Vec<u8>, line: usize) -> Result<(), AllocError>
+    ensures text { OnOk result (out.new.items ≡ out.old.items ++ in_line line) }
+{
+    out.extend_from_slice(b" (line ")?;
+    put_number(out, line as u64)?;
+    out.push(b')')?;
+    Ok(())
+}
+
+/// The line of an operation of a node, or where its operations are over, of its end.
+pub fn line_of(begins: &[usize], node: NodeIx, op: usize) -> usize
+    requires line { HasLine begins.now node op }
+    ensures line { result ≡ begin_at begins.now node + 1 + op }
+{
+    begins[node.get() - 1] + 1 + op
+}
+
+/// Appends the line of an operation of a node, or where its operations are over, of its end.
+pub fn put_op_in_line(
+    out: &mut Vec<u8>,
+    begins: &[usize],
+    node: NodeIx,
+    op: usize,
+) -> Result<(), AllocError>
+    requires line { HasLine begins.now node op }
+    ensures text { OnOk result (out.new.items
+        ≡ out.old.items ++ op_in_line (begin_at begins.now) node op) }
+{
+    put_in_line(out, line_of(begins, node, op))
+}
+
+/// The number of the key of an event.
+pub fn key_of(event: Event) -> usize
+    ensures { result ≡ event_key event }
+{
+    match event {
+        Event::Read { key, .. } | Event::Write { key, .. } => key,
+    }
+}
+
+/// The identity that an event names.
+pub fn wid_of(event: Event) -> u64
+    ensures { result ≡ event_wid event }
+{
+    match event {
+        Event::Read { wid, .. } | Event::Write { wid, .. } => wid,
+    }
+}
+
+/// How many operations a node has.
+pub fn op_count(history: &History, node: NodeIx) -> usize
+    ensures count { result ≡ length (ops_of history.now node) }
+{
+    history.events_of(node).len()
+}
+
+/// An operation of a node.
+pub fn event_at(history: &History, node: NodeIx, op: usize) -> Event
+    requires op { op < length (ops_of history.now node) }
+    ensures event { slice_get ((log_of history.now).ops node) op ≡ Some result }
+{
+    history.events_of(node)[op]
+}
+
+/// The bytes of the key of an operation.
+pub fn key_at(history: &History, node: NodeIx, op: usize) -> &[u8]
+    requires op { op < length (ops_of history.now node) }
+    ensures bytes { result.now ≡ spec.key_text (op_at history.now node op) }
+{
+    history
+        .key_text(key_of(event_at(history, node, op)))
+        .as_bytes()
+}
+
+/// The identity that an operation names.
+pub fn wid_at(history: &History, node: NodeIx, op: usize) -> u64
+    requires op { op < length (ops_of history.now node) }
+    ensures text { decimal result ≡ spec.wid_text (op_at history.now node op) }
+    ensures wid { result ≡ op_wid (op_at history.now node op) }
+{
+    wid_of(event_at(history, node, op))
+}
+
+/// Appends the bytes of a key.
+pub fn put_key(out: &mut Vec<u8>, history: &History, key: usize) -> Result<(), AllocError>
+    requires key { key < (log_of history.now).keys }
+    ensures text { OnOk result (out.new.items ≡ out.old.items ++ spec.key_bytes history.now key) }
+{
+    out.extend_from_slice(history.key_text(key).as_bytes())?;
+    Ok(())
+}
+
+/// Appends the identity that an operation names.
+pub fn put_wid(
+    out: &mut Vec<u8>,
+    history: &History,
+    node: NodeIx,
+    op: usize,
+) -> Result<(), AllocError>
+    requires op { op < length (ops_of history.now node) }
+    ensures text { OnOk result (out.new.items
+        ≡ out.old.items ++ spec.wid_text (op_at history.now node op)) }
+{
+    put_number(out, wid_at(history, node, op))
+}
+
+/// Appends the key and the identity of an operation, with a space between.
+pub fn put_key_and_wid(
+    out: &mut Vec<u8>,
+    history: &History,
+    node: NodeIx,
+    op: usize,
+) -> Result<(), AllocError>
+    requires op { op < length (ops_of history.now node) }
+    ensures text { OnOk result (out.new.items
+        ≡ out.old.items ++ key_and_wid (op_at history.now node op)) }
+{
+    out.extend_from_slice(key_at(history, node, op))?;
+    out.push(b' ')?;
+    put_wid(out, history, node, op)
+}
+
+/// Appends what a node reads, as `2.1 reads x 7 (line 12)`.
+pub fn put_reads(
+    out: &mut Vec<u8>,
+    history: &History,
+    begins: &[usize],
+    node: NodeIx,
+    op: usize,
+) -> Result<(), AllocError>
+    requires node { IsNode history.now node }
+    requires lines { AreLines history.now begins.now }
+    requires op { op < length (ops_of history.now node) }
+    ensures text { OnOk result (out.new.items
+        ≡ out.old.items ++ reads_text history.now (begin_at begins.now) node op) }
+{
+    put_named(out, b"", history, node)?;
+    out.extend_from_slice(b" reads ")?;
+    put_key_and_wid(out, history, node, op)?;
+    put_op_in_line(out, begins, node, op)
+}

@@ -1,0 +1,183 @@
+//! The places of operations of a key among a node's.
+
+ghost use Rattle.std.specs.Prelude.{◌≡◌, ℕ, ◌+◌, ◌<◌, ◌≤◌, length, take, drop, reverse, position};
+ghost use Rattle.std.specs.Prelude.{IfSome};
+ghost use Rattle.log_definitions.specs.Serial.{ops_of};
+ghost use Rattle.log_definitions.specs.Numbers.{log_of};
+ghost use Rattle.tell_reasons.specs.Reasons.{op_at, op_wid, key_text};
+ghost use Rattle.tell_reasons.specs.Events.{is_write_in, is_read_in, is_other_in};
+ghost use Rattle.tell_reasons.specs.Anomalies as spec;
+ghost use Rattle.tell_reasons.specs.Anomalies.{last_position, next_position};
+
+use crate::pieces::{event_at, key_of, wid_of};
+use serializability::{Event, NodeIx};
+use session_history::History;
+use session_log::Op;
+
+/// Whether an event writes the key.
+fn writes(event: Event, key: usize) -> bool
+    ensures { result ≡ is_write_in key event }
+{
+    match event {
+        Event::Read { .. } => false,
+        Event::Write { key: written, .. } => key == written,
+    }
+}
+
+/// Whether an event reads the key.
+fn reads(event: Event, key: usize) -> bool
+    ensures { result ≡ is_read_in key event }
+{
+    match event {
+        Event::Read { key: read, .. } => key == read,
+        Event::Write { .. } => false,
+    }
+}
+
+/// Whether an event reads the key and names another identity.
+fn reads_other(event: Event, key: usize, wid: u64) -> bool
+    ensures { result ≡ is_other_in key wid event }
+{
+    match event {
+        Event::Read {
+            key: read,
+            wid: named,
+        } => key == read && named != wid,
+        Event::Write { .. } => false,
+    }
+}
+
+/// How far the last of these that writes the key is from the end.
+fn back_of_last(events: &[Event], key: usize) -> Option<usize>
+    ensures place { result ≡ position (is_write_in key) (reverse events.now) }
+    ensures within { IfSome result (λ i. i < length events.now) }
+{
+    events.iter().rev().position(|event| writes(*event, key))
+}
+
+/// The last of these that writes the key.
+pub fn last_among(events: &[Event], key: usize) -> Option<usize>
+    ensures place { result ≡ last_position (is_write_in key) events.now }
+    ensures within { IfSome result (λ i. i < length events.now) }
+{
+    match back_of_last(events, key) {
+        Some(back) => Some(events.len() - (back + 1)),
+        None => None,
+    }
+}
+
+/// The first of these that reads the key and names another identity.
+fn other_among(events: &[Event], key: usize, wid: u64) -> Option<usize>
+    ensures place { result ≡ position (is_other_in key wid) events.now }
+    ensures within { IfSome result (λ i. i < length events.now) }
+{
+    events
+        .iter()
+        .position(|event| reads_other(*event, key, wid))
+}
+
+/// The first `count` of these.
+fn front(events: &[Event], count: usize) -> &[Event]
+    requires { count ≤ length events.now }
+    ensures { result.now ≡ take count events.now }
+{
+    let (front, _) = events.split_at(count);
+    front
+}
+
+/// The first `count` operations of a node.
+fn events_before(history: &History, node: NodeIx, count: usize) -> &[Event]
+    requires count { count ≤ length (ops_of history.now node) }
+    ensures before { result.now ≡ take count ((log_of history.now).ops node) }
+    ensures size { length result.now ≡ count }
+{
+    front(history.events_of(node), count)
+}
+
+/// The last write, among the first `count` operations of a node, of the key of its operation `op`.
+pub fn last_write(history: &History, node: NodeIx, op: usize, count: usize) -> Option<usize>
+    requires op { op < length (ops_of history.now node) }
+    requires count { count ≤ length (ops_of history.now node) }
+    ensures place { result ≡ last_position (spec.is_write_of (key_text (op_at history.now node op)))
+        (take count (ops_of history.now node)) }
+    ensures within { IfSome result (λ i. i < count) }
+{
+    let key = key_of(event_at(history, node, op));
+    last_among(events_before(history, node, count), key)
+}
+
+/// The first read of the same key before operation `op` of a node that names another identity.
+pub fn other_read(history: &History, node: NodeIx, op: usize) -> Option<usize>
+    requires op { op < length (ops_of history.now node) }
+    ensures place { let read = op_at history.now node op in
+        result ≡ position (spec.is_other_read (key_text read) (op_wid read))
+        (take op (ops_of history.now node)) }
+    ensures within { IfSome result (λ i. i < op) }
+    ensures read { IfSome result (λ i. spec.IsRead (op_at history.now node i)) }
+{
+    let event = event_at(history, node, op);
+    other_among(
+        events_before(history, node, op),
+        key_of(event),
+        wid_of(event),
+    )
+}
+
+/// The first of these that reads the key.
+pub fn first_read_among(events: &[Event], key: usize) -> Option<usize>
+    ensures place { result ≡ position (is_read_in key) events.now }
+    ensures within { IfSome result (λ i. i < length events.now) }
+{
+    events.iter().position(|event| reads(*event, key))
+}
+
+/// The first read of a key in a node.
+pub fn first_read(history: &History, node: NodeIx, key: usize) -> Option<usize>
+    ensures place { result ≡ position (is_read_in key) ((log_of history.now).ops node) }
+{
+    history
+        .events_of(node)
+        .iter()
+        .position(|event| reads(*event, key))
+}
+
+/// Whether an operation writes the key.
+fn is_write_of(op: &Op, key: &[u8]) -> bool
+    ensures { result ≡ spec.is_write_of key.now op.now }
+{
+    match op {
+        Op::Read { .. } => false,
+        Op::Write { key: written, .. } => key == written.as_bytes(),
+    }
+}
+
+/// The first of these that writes the key.
+fn first_among(ops: &[Op], key: &[u8]) -> Option<usize>
+    ensures place { result ≡ position (spec.is_write_of key.now) ops.now }
+    ensures within { IfSome result (λ i. i < length ops.now) }
+{
+    ops.iter().position(|op| is_write_of(op, key))
+}
+
+/// All but the first `count` of these.
+fn ops_behind(ops: &[Op], count: usize) -> &[Op]
+    requires { count ≤ length ops.now }
+    ensures rest { result.now ≡ drop count ops.now }
+    ensures size { length result.now + count ≡ length ops.now }
+{
+    let (_, behind) = ops.split_at(count);
+    behind
+}
+
+/// The next write of the key behind operation `op`.
+pub fn next_write(ops: &[Op], key: &[u8], op: usize) -> Option<usize>
+    requires op { op < length ops.now }
+    ensures place { result ≡ next_position (spec.is_write_of key.now) ops.now op }
+    ensures within { IfSome result (λ i. i < length ops.now) }
+{
+    let behind = ops_behind(ops, op + 1);
+    match first_among(behind, key) {
+        Some(more) => Some(op + 1 + more),
+        None => None,
+    }
+}

@@ -1,0 +1,296 @@
+//! Who wrote what a read names, in the log's own lines.
+
+ghost use Rattle.std.specs.Prelude.{◌≡◌, ◌≢◌, ℕ, ◌+◌, ◌<◌, ◌^◌, ◌++◌, Some};
+ghost use Rattle.std.specs.Prelude.{length, map, slice_get, codes, OnOk, IfSome};
+ghost use Rattle.session_log.specs.Text.{view, view_txn};
+ghost use Rattle.log_definitions.specs.Unknown.{ops_in};
+ghost use Rattle.log_definitions.specs.WellFormed.{log_lines};
+ghost use Rattle.order_text.specs.Text.{name_text};
+ghost use Rattle.tell_reasons.specs.declared.writes.Keys.TheVariants.{This};
+ghost use Rattle.tell_reasons.specs.Reasons.{in_line, key_and_wid, wid_text};
+ghost use Rattle.tell_reasons.specs.Writes.{IsNoneWrite};
+ghost use Rattle.tell_reasons.specs.Anomalies as spec;
+ghost use Rattle.tell_reasons.specs.Anomalies.{Appends, IsWriterTold, not_here_text};
+ghost use Rattle.tell_reasons.specs.Anomalies.{other_write_text, elsewhere_text};
+ghost use Rattle.tell_reasons.specs.Anomalies.{overwrote_text, wrote_text, verb_text};
+
+use crate::pieces::{put_in_line, put_number};
+use crate::places::next_write;
+use crate::writes::{Keys, op_among, session_at, txn_at, write_at};
+use session_log::{Op, Outcome, Session, Txn};
+use std::alloc::AllocError;
+
+/// Appends the name of a transaction.
+fn put_place(out: &mut Vec<u8>, session: u16, place: usize) -> Result<(), AllocError>
+    ensures text { OnOk result (out.new.items ≡ out.old.items ++ name_text (session, place)) }
+{
+    put_number(out, u64::from(session))?;
+    out.push(b'.')?;
+    put_number(out, place as u64)
+}
+
+/// Appends the identity that an operation names.
+fn put_op_wid(out: &mut Vec<u8>, op: &Op) -> Result<(), AllocError>
+    ensures text { OnOk result (out.new.items ≡ out.old.items ++ wid_text (Some op.now)) }
+{
+    match op {
+        Op::Read { wid, .. } | Op::Write { wid, .. } => put_number(out, *wid),
+    }
+}
+
+/// Appends the key and the identity of an operation, with a space between.
+fn put_op(out: &mut Vec<u8>, op: &Op) -> Result<(), AllocError>
+    ensures text { OnOk result (out.new.items ≡ out.old.items ++ key_and_wid (Some op.now)) }
+{
+    match op {
+        Op::Read { key, wid } | Op::Write { key, wid } => {
+            out.extend_from_slice(key.as_bytes())?;
+            out.push(b' ')?;
+            put_number(out, *wid)
+        }
+    }
+}
+
+/// Appends a word, and a line of the log.
+fn put_with_line(out: &mut Vec<u8>, word: &[u8], line: usize) -> Result<(), AllocError>
+    ensures text { OnOk result (out.new.items ≡ out.old.items ++ (word.now ++ in_line line)) }
+{
+    out.extend_from_slice(word)?;
+    put_in_line(out, line)
+}
+
+/// Appends that a transaction that begins at this line wrote the key again by this operation.
+fn put_again(out: &mut Vec<u8>, ops: &[Op], begin: usize, again: usize) -> Result<(), AllocError>
+    requires again { again < length ops.now }
+    requires room { begin + 1 + length ops.now < 2 ^ 63 }
+    ensures text { OnOk result (out.new.items ≡ out.old.items ++ (codes " and overwrote with "
+        ++ wid_text (slice_get ops.now again) ++ in_line (begin + 1 + again))) }
+{
+    out.extend_from_slice(b" and overwrote with ")?;
+    put_op_wid(out, op_among(ops, again))?;
+    put_in_line(out, begin + 1 + again)
+}
+
+/// Appends that a transaction that begins at this line wrote the key again, where it did.
+fn put_overwrote(
+    out: &mut Vec<u8>,
+    ops: &[Op],
+    begin: usize,
+    again: Option<usize>,
+) -> Result<(), AllocError>
+    requires again { IfSome again (λ i. i < length ops.now) }
+    requires room { begin + 1 + length ops.now < 2 ^ 63 }
+    ensures text { OnOk result (out.new.items ≡ out.old.items
+        ++ overwrote_text ops.now begin again) }
+{
+    match again {
+        Some(again) => put_again(out, ops, begin, again),
+        None => Ok(()),
+    }
+}
+
+/// Appends how a transaction ended, where it is not committed.
+fn put_outcome(out: &mut Vec<u8>, outcome: Outcome, line: usize) -> Result<(), AllocError>
+    ensures text { OnOk result (out.new.items ≡ out.old.items ++ spec.outcome_text outcome line) }
+{
+    match outcome {
+        Outcome::Commit => Ok(()),
+        Outcome::Abort => put_with_line(out, b" and aborted", line),
+        Outcome::Unknown => put_with_line(out, b", whose outcome is unknown", line),
+    }
+}
+
+/// Appends a text.
+pub fn put_text(out: &mut Vec<u8>, text: &[u8]) -> Result<(), AllocError>
+    ensures text { OnOk result (out.new.items ≡ out.old.items ++ text.now) }
+{
+    out.extend_from_slice(text)?;
+    Ok(())
+}
+
+/// Whether a read in this line stands in the transaction that begins at line `begin`, in front of
+/// its write in line `written`.
+fn is_early(read: usize, begin: usize, written: usize) -> bool
+    ensures { result ≡ spec.is_early read begin written }
+{
+    begin < read && read < written
+}
+
+/// Appends that a transaction wrote, or where the read stands in front of its own write, that it
+/// does so only later.
+fn put_verb(out: &mut Vec<u8>, read: usize, begin: usize, written: usize) -> Result<(), AllocError>
+    ensures text { OnOk result (out.new.items ≡ out.old.items ++ verb_text read begin written) }
+{
+    if is_early(read, begin, written) {
+        put_text(out, b" writes itself only later")
+    } else {
+        put_text(out, b" wrote")
+    }
+}
+
+/// Appends that a transaction wrote in this line, or does so only later.
+fn put_verb_in_line(
+    out: &mut Vec<u8>,
+    read: usize,
+    begin: usize,
+    written: usize,
+) -> Result<(), AllocError>
+    ensures text { OnOk result (out.new.items ≡ out.old.items
+        ++ (verb_text read begin written ++ in_line written)) }
+{
+    put_verb(out, read, begin, written)?;
+    put_in_line(out, written)
+}
+
+/// Appends which transaction wrote what is read in line `read`, and what became of the write.
+fn put_written(
+    out: &mut Vec<u8>,
+    read: usize,
+    key: &[u8],
+    session: u16,
+    place: usize,
+    txn: &Txn,
+    begin: usize,
+    op: usize,
+) -> Result<(), AllocError>
+    requires op { op < length txn.now.ops.items }
+    requires room { begin + 1 + length txn.now.ops.items < 2 ^ 63 }
+    ensures text { OnOk result (out.new.items ≡ out.old.items
+        ++ wrote_text read key.now session place (view_txn txn.now) begin op) }
+{
+    out.extend_from_slice(b", which ")?;
+    put_place(out, session, place)?;
+    put_verb_in_line(out, read, begin, begin + 1 + op)?;
+    let again = next_write(&txn.ops, key, op);
+    put_overwrote(out, &txn.ops, begin, again)?;
+    put_outcome(out, txn.outcome, begin + 1 + txn.ops.len())?;
+    Ok(())
+}
+
+/// Appends that no transaction wrote what was read to this key.
+fn put_not_here(out: &mut Vec<u8>, key: &[u8]) -> Result<(), AllocError>
+    ensures text { OnOk result (out.new.items ≡ out.old.items ++ not_here_text key.now) }
+{
+    out.extend_from_slice(b", which no transaction wrote to ")?;
+    out.extend_from_slice(key)?;
+    out.extend_from_slice(b"; ")?;
+    Ok(())
+}
+
+/// Appends that a transaction wrote this in a line.
+fn put_other_write(
+    out: &mut Vec<u8>,
+    session: u16,
+    place: usize,
+    op: &Op,
+    line: usize,
+) -> Result<(), AllocError>
+    ensures text { OnOk result (out.new.items ≡ out.old.items
+        ++ other_write_text session place (Some op.now) line) }
+{
+    put_place(out, session, place)?;
+    out.extend_from_slice(b" wrote ")?;
+    put_op(out, op)?;
+    put_in_line(out, line)
+}
+
+/// Appends that no transaction wrote what was read to this key, and which operation of a
+/// transaction wrote the identity to another key.
+fn put_written_elsewhere(
+    out: &mut Vec<u8>,
+    key: &[u8],
+    session: u16,
+    place: usize,
+    op: &Op,
+    line: usize,
+) -> Result<(), AllocError>
+    ensures text { OnOk result (out.new.items ≡ out.old.items
+        ++ elsewhere_text key.now session place (Some op.now) line) }
+{
+    put_not_here(out, key)?;
+    put_other_write(out, session, place, op, line)
+}
+
+/// Appends which transaction wrote, to another key, an identity that is not 0 and that none wrote
+/// to this key, or that none did.
+fn put_elsewhere(
+    out: &mut Vec<u8>,
+    first: usize,
+    sessions: &[Session],
+    read: usize,
+    key: &[u8],
+    wid: u64,
+) -> Result<(), AllocError>
+    requires room { first + length (log_lines (map view sessions.now)) < 2 ^ 63 }
+    requires nonzero { wid ≢ 0 }
+    requires none { IsNoneWrite This key.now wid (ops_in (map view sessions.now)) }
+    ensures told { OnOk result (Appends out.old.items out.new.items
+        (IsWriterTold first (map view sessions.now) read key.now wid)) }
+{
+    match write_at(sessions, first, Keys::Any, key, wid) {
+        Some(write) => {
+            let session = session_at(sessions, write.session);
+            let txn = txn_at(session, write.txn);
+            let place = write.txn + 1;
+            let op = op_among(&txn.ops, write.op);
+            let line = write.begin + 1 + write.op;
+            put_written_elsewhere(out, key, session.number, place, op, line)
+        }
+        None => put_text(out, b", which no transaction wrote"),
+    }
+}
+
+/// Appends which transaction wrote what is read in line `read`: the key under this identity, which
+/// is not 0.
+fn put_wrote(
+    out: &mut Vec<u8>,
+    first: usize,
+    sessions: &[Session],
+    read: usize,
+    key: &[u8],
+    wid: u64,
+) -> Result<(), AllocError>
+    requires room { first + length (log_lines (map view sessions.now)) < 2 ^ 63 }
+    requires nonzero { wid ≢ 0 }
+    ensures told { OnOk result (Appends out.old.items out.new.items
+        (IsWriterTold first (map view sessions.now) read key.now wid)) }
+{
+    match write_at(sessions, first, Keys::This, key, wid) {
+        Some(write) => {
+            let session = session_at(sessions, write.session);
+            let txn = txn_at(session, write.txn);
+            let place = write.txn + 1;
+            put_written(
+                out,
+                read,
+                key,
+                session.number,
+                place,
+                txn,
+                write.begin,
+                write.op,
+            )
+        }
+        None => put_elsewhere(out, first, sessions, read, key, wid),
+    }
+}
+
+/// Appends who wrote what a read in line `read` names.
+pub fn put_writer(
+    out: &mut Vec<u8>,
+    first: usize,
+    sessions: &[Session],
+    read: usize,
+    key: &[u8],
+    wid: u64,
+) -> Result<(), AllocError>
+    requires room { first + length (log_lines (map view sessions.now)) < 2 ^ 63 }
+    ensures told { OnOk result (Appends out.old.items out.new.items
+        (IsWriterTold first (map view sessions.now) read key.now wid)) }
+{
+    if wid == 0 {
+        put_text(out, b", the initial value")
+    } else {
+        put_wrote(out, first, sessions, read, key, wid)
+    }
+}

@@ -1,0 +1,386 @@
+-- What a dead ledger of the chains' polygraph keeps, and what its walks and its cycle rest on.
+use Rattle.std.proofs.Common.{◌≡◌, ◌⊎◌, ℕ, zero, suc, ◌+◌, ◌<◌, true, List, [], ◌∷◌, ◌++◌, length, get_or, take, Option, None, Some, refl, sym, ap, ◌∙◌, subst, inl, inr, arith}
+use Rattle.std.specs.Prelude.{map, slice_get, unwrap_or}
+use Rattle.std.specs.List.{All, AllByRecursion, Contains, flat_map}
+use Rattle.std.proofs.lemmas.Option.{slice_get_within, slice_get-get_or, slice_get_read}
+use Rattle.std.proofs.lemmas.List.{length-map, get_or-map}
+use Rattle.std.proofs.lemmas.List.Elements.{All-cons, All-nil, Contains-append_cases}
+use Rattle.session_log.specs.Text.{ClientSession}
+use Rattle.serializability.specs.Log.{Log}
+use Rattle.serializability.specs.Reads.{IsClean}
+use Rattle.serializability.specs.Polygraph.{Edge, Polygraph, arcs, all_keys, all_nodes, committed}
+use Rattle.serializability.proofs.Places.{each_from_range, each_from_filter, each_from_map, each_from_flat_map, each_from_append}
+use Rattle.serializability.proofs.Serial.{each_from_arcs, arc_cases}
+use Rattle.reach_laws.specs.Reach.{Walk, IsCycle}
+use Rattle.reach_laws.proofs.Walks.{each_contained}
+use Rattle.known_graph.proofs.Listed.{In, In-from_Contains, Contains-from_In}
+use Rattle.chain_laws.specs.Chains.{heads, is_head, next, readers, tail, edges_to, chain_first, inner_at, inner_edges, initial_first, chain_polygraph, chain_choices}
+use Rattle.chain_laws.proofs.Walks.{next_is}
+use Rattle.reasons.specs.Given.{HaveNone}
+use Rattle.reason_laws.proofs.Found.{arc_reason, inner_reason, initial_reason}
+use Rattle.log_definitions.specs.Numbers.{log_of}
+use Rattle.pruning_laws.specs.declared.side.Side.{Side}
+use Rattle.pruning_laws.specs.declared.side.Side.TheVariants.{One, Two}
+use Rattle.pruning_laws.specs.Forced.{edges_of, other}
+use Rattle.pruning_laws.specs.Ledger.{Entry}
+use Rattle.prune_ledger.specs.Posted.{Posted}
+use Rattle.prune_ledger.specs.Ledger.{side_of, kept_side, kept_after, edges_after, IsShown, AreShown}
+use Rattle.prune_ledger.specs.Pruned.{posts_in}
+use Rattle.prune_ledger.specs.declared.ledger.LedgerEntry.{LedgerEntry}
+use Rattle.prune_ledger.specs.declared.ledger.Ledger.{Ledger}
+use Rattle.prune_ledger.proofs.Sides.{side_is, choice_of_edge, kept_cases, no_kept}
+use Rattle.tell_reasons.specs.declared.why.ChainOrder.{ChainOrder}
+use Rattle.tell_steps.specs.Steps.{turned, edges_in, IsOrder}
+use Rattle.tell_steps.specs.Orders.{choice_of, orders_in, kept_of, kept_order}
+use Rattle.tell_steps.specs.Lines.{sides_of, IsBetween, Rests, LineRests}
+use Rattle.tell_steps.specs.Marks.{AreRested}
+use Rattle.tell_steps.specs.Ledgers.{IsDeadLedger, AreEntries, kept_by, IsStep, AreSteps, IsClosed}
+use Rattle.tell_steps.proofs.FirstSides.{Sides}
+use Rattle.tell_steps.proofs.Chosen.{choices_are, all_orders, turned_order}
+
+-- ---- lists by place
+pub get_map : {X Y : Type 0} (f : X → Y) (xs : List X) (k : ℕ) (y : Y) → slice_get (map f xs) k ≡ Some y → (x : X) × ((slice_get xs k ≡ Some x) × (f x ≡ y))
+get_map f [] k y e = absurd (cc)
+get_map f (x ∷ xs) zero y e = let same : f x ≡ y = cc in (x, (refl, same))
+get_map f (x ∷ xs) (suc k) y e = get_map f xs k y e
+
+pub map_get : {X Y : Type 0} (f : X → Y) (xs : List X) (k : ℕ) (x : X) → slice_get xs k ≡ Some x → slice_get (map f xs) k ≡ Some (f x)
+map_get f [] k x e = absurd (cc)
+map_get f (y ∷ xs) zero x e = let same : y ≡ x = cc in ap (λ z. Some (f z)) same
+map_get f (y ∷ xs) (suc k) x e = map_get f xs k x e
+
+get_take : {X : Type 0} (xs : List X) (n k : ℕ) (x : X) → slice_get (take n xs) k ≡ Some x → (k < n) × (slice_get xs k ≡ Some x)
+get_take xs zero k x e = absurd (cc)
+get_take [] (suc n) k x e = absurd (cc)
+get_take (y ∷ xs) (suc n) zero x e = (omega arith, e)
+get_take (y ∷ xs) (suc n) (suc k) x e = let r = get_take xs n k x e in (omega (arith, r.0), r.1)
+
+-- ---- where edges lead
+each_const : {X : Type 0} (Q : Type 0) → Q → (xs : List X) → AllByRecursion (λ x. Q) xs
+each_const Q q [] = tt
+each_const Q q (x ∷ xs) = (q, each_const Q q xs)
+
+pub to_target : (P : ℕ → Type 0) (t b : ℕ) → P b → (rs : List ℕ) → AllByRecursion (λ (e : Edge). P e.1) (edges_to t b rs)
+to_target P t b p [] = (p, tt)
+to_target P t b p (r ∷ rs) = (p, each_from_map (λ (e : Edge). P e.1) (λ q. (q, b)) rs (each_const (P b) p rs))
+
+heads_between : (ss : List ClientSession) (x : ℕ) → AllByRecursion (IsBetween ss) (heads (log_of ss) x)
+heads_between ss x =
+    each_from_filter (IsBetween ss) (is_head (log_of ss) x) (committed (log_of ss))
+    (each_from_range (λ v. is_head (log_of ss) x v ≡ true → IsBetween ss v) 1 (log_of ss).nodes (λ v lo hi t. record { low = omega (arith, lo); high = omega (arith, hi) }))
+
+pub head_between : (ss : List ClientSession) (x v : ℕ) → Contains (heads (log_of ss) x) v → IsBetween ss v
+head_between ss x v c = each_contained (IsBetween ss) (heads (log_of ss) x) v (heads_between ss x) c
+
+inner_leads : (ss : List ClientSession) (x w : ℕ) (o : Option ℕ) → next (log_of ss) x w ≡ o → AllByRecursion (λ (e : Edge). IsBetween ss e.1) (inner_at (log_of ss) x w o)
+inner_leads ss x w None e = tt
+inner_leads ss x w (Some v) e =
+    let n = next_is (log_of ss) x w v e in
+    let here : IsBetween ss v = record { low = n.low; high = n.high } in
+    each_from_map (λ (d : Edge). IsBetween ss d.1) (λ r. (r, v)) _ (each_const (IsBetween ss v) here _)
+
+known_lead : (ss : List ClientSession) → AllByRecursion (λ (e : Edge). IsBetween ss e.1) (chain_polygraph (log_of ss)).known
+known_lead ss =
+    let log = log_of ss in
+    let P : Edge → Type 0 = λ e. IsBetween ss e.1 in
+    each_from_append P (arcs log ++ inner_edges log) (initial_first log)
+    (each_from_append P (arcs log) (inner_edges log)
+    (each_from_arcs log P (λ u v hu hv t. record { low = (arc_cases log u v t).0; high = hv }))
+    (each_from_flat_map P (λ x. flat_map (λ w. inner_at log x w (next log x w)) (all_nodes log)) (all_keys log)
+    (each_from_range (λ x. AllByRecursion P (flat_map (λ w. inner_at log x w (next log x w)) (all_nodes log))) 0 log.keys (λ x lo hi.
+    each_from_flat_map P (λ w. inner_at log x w (next log x w)) (all_nodes log)
+    (each_from_range (λ w. AllByRecursion P (inner_at log x w (next log x w))) 0 (log.nodes + 1) (λ w lo' hi'. inner_leads ss x w (next log x w) refl))))))
+    (each_from_flat_map P (λ x. flat_map (chain_first log x 0) (heads log x)) (all_keys log)
+    (each_from_range (λ x. AllByRecursion P (flat_map (chain_first log x 0) (heads log x))) 0 log.keys (λ x lo hi.
+    each_from_flat_map P (chain_first log x 0) (heads log x)
+    (each_from_filter (λ h. AllByRecursion P (chain_first log x 0 h)) (is_head log x) (committed log)
+    (each_from_range (λ h. is_head log x h ≡ true → AllByRecursion P (chain_first log x 0 h)) 1 log.nodes (λ h lo' hi' t.
+    (let here : IsBetween ss h = record { low = omega (arith, lo'); high = omega (arith, hi') } in
+    to_target (IsBetween ss) (tail log x 0) h here (readers log x (tail log x 0)))))))))
+
+known_leads : (ss : List ClientSession) (e : Edge) → Contains (chain_polygraph (log_of ss)).known e → IsBetween ss e.1
+known_leads ss e c = each_contained (λ (d : Edge). IsBetween ss d.1) (chain_polygraph (log_of ss)).known e (known_lead ss) c
+
+-- an order's edges lead to the head of its second chain
+pub order_leads : (ss : List ClientSession) (o : ChainOrder) → IsOrder (log_of ss) o → (e : Edge) → Contains (edges_in (log_of ss) o) e → IsBetween ss e.1
+order_leads ss o h e c =
+    each_contained (λ (d : Edge). IsBetween ss d.1) (edges_in (log_of ss) o) e
+    (to_target (IsBetween ss) (tail (log_of ss) o.key o.first) o.second (head_between ss o.key o.second h.two) (readers (log_of ss) o.key (tail (log_of ss) o.key o.first))) c
+
+-- ---- known edges have reasons
+arc_not : (ss : List ClientSession) → IsClean (log_of ss) → (a b : ℕ) → 0 < a → Contains (arcs (log_of ss)) (a, b) → HaveNone ss a b → ⊥
+arc_not ss clean a b lo c none = elim (arc_reason ss clean a b lo c) [
+  | inl s ↦ none.session s
+  | inr t ↦ (elim t [ inl r ↦ none.read r.0 r.1.0 r.1.1 | inr m ↦ none.moments m ])
+]
+
+known_not : (ss : List ClientSession) → IsClean (log_of ss) → (a b : ℕ) → 0 < a → Contains (chain_polygraph (log_of ss)).known (a, b) → HaveNone ss a b → ⊥
+known_not ss clean a b lo c none =
+    let log = log_of ss in
+    elim (Contains-append_cases (arcs log ++ inner_edges log) (initial_first log) (a, b) c) [
+      | inl d ↦ (elim (Contains-append_cases (arcs log) (inner_edges log) (a, b) d) [
+        | inl f ↦ arc_not ss clean a b lo f none
+        | inr f ↦ (let r = inner_reason ss clean a b lo f in none.overwritten r.0 r.1.0 r.1.1)
+      ])
+      | inr d ↦ (let r = initial_reason ss clean a b lo d in none.initial r.0 r.1.0 r.1.1)
+    ]
+
+-- ---- the orders that posts keep
+abbrev orders_of : List ClientSession → List ChainOrder
+orders_of ss = orders_in (log_of ss)
+
+record PostOrder (ss : List ClientSession) (p : Polygraph) (c : ℕ) : Type 0 where
+  pub order : ChainOrder
+  pub at : slice_get (orders_of ss) c ≡ Some order
+  pub choice : slice_get p.choices c ≡ Some (choice_of (log_of ss) order)
+  pub two_chains : IsOrder (log_of ss) order
+
+order_there : (ss : List ClientSession) (k : ℕ) (o : ChainOrder) → slice_get (orders_of ss) k ≡ Some o → IsOrder (log_of ss) o
+order_there ss k o at =
+    let here : o ≡ get_or (orders_of ss) k o = (let e : Some o ≡ Some (get_or (orders_of ss) k o) = sym at ∙ slice_get-get_or (orders_of ss) k o (slice_get_within (orders_of ss) k o at) in cc) in
+    subst (IsOrder (log_of ss)) (sym here) (all_orders (log_of ss) k o (slice_get_within (orders_of ss) k o at))
+
+post_order : (ss : List ClientSession) (p : Polygraph) → p.choices ≡ chain_choices (log_of ss) → (c : ℕ) (s : Side) (x : Edge) → In x (side_of p.choices c s) → PostOrder ss p c
+post_order ss p e c s x i =
+    let g = choice_of_edge p.choices c s x i in
+    let all : p.choices ≡ map (choice_of (log_of ss)) (orders_of ss) = e ∙ sym (choices_are (log_of ss)) in
+    let r = get_map (choice_of (log_of ss)) (orders_of ss) c g.choice (ap (λ hs. slice_get hs c) (sym all) ∙ g.at) in
+    record {
+      order = r.0;
+      at = r.1.0;
+      choice = g.at ∙ ap Some (sym r.1.1);
+      two_chains = order_there ss c r.0 r.1.0;
+    }
+
+keeps_by : (log : Log) (o : ChainOrder) (s : Side) → edges_of (choice_of log o) (other s) ≡ edges_in log (kept_of s o)
+keeps_by log o One = refl
+keeps_by log o Two = refl
+
+refuses_by : (log : Log) (o : ChainOrder) (s : Side) → edges_of (choice_of log o) s ≡ edges_in log (turned (kept_of s o))
+refuses_by log o One = refl
+refuses_by log o Two = refl
+
+kept_two : (log : Log) (o : ChainOrder) (s : Side) → IsOrder log o → IsOrder log (kept_of s o)
+kept_two log o One h = turned_order log o h
+kept_two log o Two h = h
+
+abbrev pub order_by : List ClientSession → Posted → ChainOrder
+order_by ss q = kept_order (orders_of ss) q
+
+record PostKeeps (ss : List ClientSession) (p : Polygraph) (q : Posted) : Type 0 where
+  pub within : q.choice < length (orders_of ss)
+  pub two_chains : IsOrder (log_of ss) (order_by ss q)
+  pub keeps : side_of p.choices q.choice (other q.side) ≡ edges_in (log_of ss) (order_by ss q)
+  pub refuses : side_of p.choices q.choice q.side ≡ edges_in (log_of ss) (turned (order_by ss q))
+
+post_keeps : (ss : List ClientSession) (p : Polygraph) → p.choices ≡ chain_choices (log_of ss) → (q : Posted) (s : Side) (x : Edge) → In x (side_of p.choices q.choice s) → PostKeeps ss p q
+post_keeps ss p e q s x i =
+    let log = log_of ss in
+    let o = post_order ss p e q.choice s x i in
+    let is : order_by ss q ≡ kept_of q.side o.order = ap (λ z. kept_of q.side (unwrap_or z (record { key = 0; first = 0; second = 0 }))) o.at in
+    record {
+      within = slice_get_within (orders_of ss) q.choice o.order o.at;
+      two_chains = subst (IsOrder log) (sym is) (kept_two log o.order q.side o.two_chains);
+      keeps = side_is p.choices q.choice (choice_of log o.order) (other q.side) o.choice ∙ keeps_by log o.order q.side ∙ ap (edges_in log) (sym is);
+      refuses = side_is p.choices q.choice (choice_of log o.order) q.side o.choice ∙ refuses_by log o.order q.side ∙ ap (λ z. edges_in log (turned z)) (sym is);
+    }
+
+-- ---- what earlier posts keep
+shown_at : (p : Polygraph) (kept : List Entry) (qs : List Posted) (k : ℕ) (q : Posted) → AreShown p kept qs → slice_get qs k ≡ Some q → IsShown p (kept_after kept (take k qs)) q
+shown_at p kept [] k q h e = absurd (cc)
+shown_at p kept (x ∷ qs) zero q h e = let same : x ≡ q = cc in subst (IsShown p kept) same h.0
+shown_at p kept (x ∷ qs) (suc k) q h e = shown_at p (kept_side x ∷ kept) qs k q h.1 e
+
+record KeptIn (p : Polygraph) (qs : List Posted) (x : Edge) : Type 0 where
+  pub number : ℕ
+  pub post : Posted
+  pub at : slice_get qs number ≡ Some post
+  pub within : In x (side_of p.choices post.choice (other post.side))
+
+after_cases : (p : Polygraph) (earlier : List Entry) (qs : List Posted) (x : Edge) → In x (edges_after p (kept_after earlier qs)) → In x (edges_after p earlier) ⊎ KeptIn p qs x
+after_cases p earlier [] x i = inl i
+after_cases p earlier (q ∷ qs) x i = elim (after_cases p (kept_side q ∷ earlier) qs x i) [
+  | inl a ↦ (elim (kept_cases p earlier (kept_side q) x a) [
+    | inl b ↦ inl b
+    | inr b ↦ inr (record { number = 0; post = q; at = refl; within = b })
+  ])
+  | inr k ↦ inr (record { number = suc k.number; post = k.post; at = k.at; within = k.within })
+]
+
+-- ---- lines
+pub line_one : (ss : List ClientSession) (sides : Sides) (bound v : ℕ) → IsBetween ss v → LineRests ss sides bound (v ∷ [])
+line_one ss sides bound v h = record {
+  some = omega arith;
+  nodes = All-cons (IsBetween ss) v [] h (All-nil (IsBetween ss));
+  each = λ i lt. absurd (omega (arith, lt));
+}
+
+pub line_cons : (ss : List ClientSession) (sides : Sides) (bound u w : ℕ) (rest : List ℕ) → Rests ss sides bound u w → LineRests ss sides bound (w ∷ rest) → LineRests ss sides bound (u ∷ w ∷ rest)
+line_cons ss sides bound u w rest r h = record {
+  some = omega arith;
+  nodes = All-cons (IsBetween ss) u (w ∷ rest) r.first h.nodes;
+  each = each_of;
+}
+  where
+    each_of : (i : ℕ) → i + 1 < length (u ∷ w ∷ rest) → Rests ss sides bound (get_or (u ∷ w ∷ rest) i 0) (get_or (u ∷ w ∷ rest) (i + 1) 0)
+    each_of zero lt = r
+    each_of (suc i) lt =
+        let e : suc (i + 1) ≡ suc i + 1 = omega arith in
+        subst (λ k. Rests ss sides bound (get_or (w ∷ rest) i 0) (get_or (u ∷ w ∷ rest) k 0)) e (h.each i (omega (arith, lt)))
+
+walk_rests : (ss : List ClientSession) (sides : Sides) (bound : ℕ) (edges : List Edge) → ((a b : ℕ) → Contains edges (a, b) → IsBetween ss a → Rests ss sides bound a b)
+    → (ws : List ℕ) (u v : ℕ) → IsBetween ss u → Walk edges u ws v → LineRests ss sides bound (u ∷ (ws ++ v ∷ []))
+walk_rests ss sides bound edges each [] u v h w =
+    let r = each u v w h in
+    line_cons ss sides bound u v [] r (line_one ss sides bound v r.second)
+walk_rests ss sides bound edges each (x ∷ ws) u v h w =
+    let r = each u x w.0 h in
+    line_cons ss sides bound u x (ws ++ v ∷ []) r (walk_rests ss sides bound edges each ws x v r.second w.1)
+
+pub walk_end : (edges : List Edge) (ws : List ℕ) (u v : ℕ) → Walk edges u ws v → (a : ℕ) × Contains edges (a, v)
+walk_end edges [] u v w = (u, w)
+walk_end edges (x ∷ ws) u v w = walk_end edges ws x v w.1
+
+-- ---- edges over what posts keep
+pub record Given (ss : List ClientSession) (p : Polygraph) : Type 0 where
+  pub clean : IsClean (log_of ss)
+  pub known : (e : Edge) → Contains p.known e → Contains (chain_polygraph (log_of ss)).known e
+  pub choices : p.choices ≡ chain_choices (log_of ss)
+
+pub edge_leads : (ss : List ClientSession) (p : Polygraph) → Given ss p → (qs : List Posted) (x : Edge) → Contains (edges_after p (kept_after [] qs)) x → IsBetween ss x.1
+edge_leads ss p g qs x c = elim (after_cases p [] qs x (In-from_Contains (edges_after p (kept_after [] qs)) x c)) [
+  | inl i ↦ known_leads ss x (g.known x (Contains-from_In p.known x (no_kept p x i)))
+  | inr k ↦ (let q = post_keeps ss p g.choices k.post (other k.post.side) x k.within in
+      order_leads ss (order_by ss k.post) q.two_chains x (Contains-from_In (edges_in (log_of ss) (order_by ss k.post)) x (subst (In x) q.keeps k.within)))
+]
+
+pub edge_rests : (ss : List ClientSession) (p : Polygraph) → Given ss p → (posts qs : List Posted) (bound : ℕ) → ((j : ℕ) (q : Posted) → slice_get qs j ≡ Some q → (j < bound) × (slice_get posts j ≡ Some q))
+    → (a b : ℕ) → Contains (edges_after p (kept_after [] qs)) (a, b) → IsBetween ss a → Rests ss (sides_of ss (map (order_by ss) posts)) bound a b
+edge_rests ss p g posts qs bound below a b c h = record {
+  first = h;
+  second = edge_leads ss p g qs (a, b) c;
+  kept = λ none. elim (after_cases p [] qs (a, b) (In-from_Contains (edges_after p (kept_after [] qs)) (a, b) c)) [
+    | inl i ↦ absurd (known_not ss g.clean a b h.low (g.known (a, b) (Contains-from_In p.known (a, b) (no_kept p (a, b) i))) none)
+    | inr k ↦ (let q = post_keeps ss p g.choices k.post (other k.post.side) (a, b) k.within in
+        let at = below k.number k.post k.at in
+        record {
+          number = k.number;
+          below = at.0;
+          side = edges_in (log_of ss) (order_by ss k.post);
+          at = map_get (edges_in (log_of ss)) (map (order_by ss) posts) k.number (order_by ss k.post) (map_get (order_by ss) posts k.number k.post at.1);
+          within = Contains-from_In (edges_in (log_of ss) (order_by ss k.post)) (a, b) (subst (In (a, b)) q.keeps k.within);
+        })
+  ];
+}
+
+given_of : (ss : List ClientSession) (entries : List LedgerEntry) → IsClean (log_of ss) → (d : AreEntries ss entries) → Given ss d.poly
+given_of ss entries clean d = record { clean = clean; known = d.known; choices = d.choices }
+
+pub posts_many : (entries : List LedgerEntry) → length (posts_in entries) ≡ length entries
+posts_many [] = refl
+posts_many (x ∷ es) = ap suc (posts_many es)
+
+-- a dead ledger's are such
+pub dead_entries : (ss : List ClientSession) (ledger : Ledger) → IsDeadLedger ss ledger → AreEntries ss ledger.entries.items
+dead_entries ss ledger d = record { poly = d.poly; known = d.known; choices = d.choices; shown = d.valid.shown }
+
+-- ---- the steps of entries
+pub step_of : (ss : List ClientSession) (entries : List LedgerEntry) → IsClean (log_of ss) → AreEntries ss entries → (k : ℕ) (q : Posted) → slice_get (posts_in entries) k ≡ Some q → IsStep ss (kept_by ss entries) k q
+step_of ss entries clean d k q at =
+    let log = log_of ss in
+    let p = d.poly in
+    let g = given_of ss entries clean d in
+    let posts = posts_in entries in
+    let sh = shown_at p [] posts k q d.shown at in
+    let inside = In-from_Contains (side_of p.choices q.choice q.side) q.edge sh.within in
+    let keeps = post_keeps ss p d.choices q q.side q.edge inside in
+    let refuted : Contains (edges_in log (turned (order_by ss q))) q.edge = Contains-from_In (edges_in log (turned (order_by ss q))) q.edge (subst (In q.edge) keeps.refuses inside) in
+    let start : IsBetween ss q.edge.1 = order_leads ss (turned (order_by ss q)) (turned_order log (order_by ss q) keeps.two_chains) q.edge refuted in
+    let edges = edges_after p (kept_after [] (take k posts)) in
+    let rests : LineRests ss (sides_of ss (map (order_by ss) posts)) k (q.edge.1 ∷ (sh.walk.inner ++ q.edge.0 ∷ [])) =
+    walk_rests ss (sides_of ss (map (order_by ss) posts)) k edges (edge_rests ss p g posts (take k posts) k (λ j r e. get_take posts k j r e)) sh.walk.inner q.edge.1 q.edge.0 start sh.walk.steps in
+    record {
+      order = order_by ss q;
+      at = map_get (order_by ss) posts k q at;
+      two_chains = keeps.two_chains;
+      refuted = refuted;
+      inner = sh.walk.inner;
+      shape = sh.walk.shape;
+      rests = subst (LineRests ss (sides_of ss (map (order_by ss) posts)) k) (sym sh.walk.shape) rests;
+    }
+
+pub steps_of : (ss : List ClientSession) (entries : List LedgerEntry) → IsClean (log_of ss) → AreEntries ss entries → AreSteps ss (kept_by ss entries) entries
+steps_of ss entries clean d = record {
+  count = length-map (posts_in entries) (order_by ss) ∙ posts_many entries;
+  each = step_of ss entries clean d;
+}
+
+pub rested_of : (ss : List ClientSession) (kept : List ChainOrder) (entries : List LedgerEntry) → AreSteps ss kept entries → AreRested ss (sides_of ss kept) entries
+rested_of ss kept entries s = record { each = λ k q at. (s.each k q at).rests }
+
+all_from_get : {X : Type 0} (P : X → Type 0) (xs : List X) → ((k : ℕ) (x : X) → slice_get xs k ≡ Some x → P x) → All P xs
+all_from_get P xs h k d lt = h k (get_or xs k d) (slice_get-get_or xs k d lt)
+
+pub choices_within : (ss : List ClientSession) (entries : List LedgerEntry) → IsClean (log_of ss) → AreEntries ss entries → (orders : List ChainOrder) → orders ≡ orders_in (log_of ss) → All (λ q. q.choice < length orders) (posts_in entries)
+choices_within ss entries clean d orders e =
+    all_from_get (λ q. q.choice < length orders) (posts_in entries) (λ k q at.
+    (let sh = shown_at d.poly [] (posts_in entries) k q d.shown at in
+    let keeps = post_keeps ss d.poly d.choices q q.side q.edge (In-from_Contains (side_of d.poly.choices q.choice q.side) q.edge sh.within) in
+    omega (arith, keeps.within, ap length e)))
+
+pub kept_orders_are : (ss : List ClientSession) (entries : List LedgerEntry) → IsClean (log_of ss) → AreEntries ss entries → All (IsOrder (log_of ss)) (kept_by ss entries)
+kept_orders_are ss entries clean d =
+    all_from_get (IsOrder (log_of ss)) (kept_by ss entries) (λ k o at.
+    (let r = get_map (order_by ss) (posts_in entries) k o at in
+    let s = step_of ss entries clean d k r.0 r.1.0 in
+    let sh = shown_at d.poly [] (posts_in entries) k r.0 d.shown r.1.0 in
+    let keeps = post_keeps ss d.poly d.choices r.0 r.0.side r.0.edge (In-from_Contains (side_of d.poly.choices r.0.choice r.0.side) r.0.edge sh.within) in
+    subst (IsOrder (log_of ss)) r.1.1 keeps.two_chains))
+
+-- ---- its cycle
+pub closed_of : (ss : List ClientSession) (entries : List LedgerEntry) → IsClean (log_of ss) → (d : AreEntries ss entries) → (line : List ℕ) → IsCycle (edges_after d.poly (kept_after [] (posts_in entries))) line → IsClosed ss (kept_by ss entries) line
+closed_of ss entries clean d line c =
+    let p = d.poly in
+    let g = given_of ss entries clean d in
+    let posts = posts_in entries in
+    let K = kept_by ss entries in
+    let w = c.1 in
+    let edges = edges_after p (kept_after [] posts) in
+    let last = walk_end edges w.inner c.0 c.0 w.steps in
+    let start : IsBetween ss c.0 = edge_leads ss p g posts (last.0, c.0) last.1 in
+    let many : length posts ≡ length K = sym (length-map posts (order_by ss)) in
+    let rests : LineRests ss (sides_of ss K) (length K) (c.0 ∷ (w.inner ++ c.0 ∷ [])) =
+    walk_rests ss (sides_of ss K) (length K) edges (edge_rests ss p g posts posts (length K) (λ j q e. (omega (arith, slice_get_within posts j q e, many), e))) w.inner c.0 c.0 start w.steps in
+    record {
+      start = c.0;
+      inner = w.inner;
+      shape = w.shape;
+      rests = subst (LineRests ss (sides_of ss K) (length K)) (sym w.shape) rests;
+    }
+
+pub dead_closed : (ss : List ClientSession) (ledger : Ledger) → IsClean (log_of ss) → (d : IsDeadLedger ss ledger) → (line : List ℕ) → IsCycle (edges_after d.poly (kept_after [] (posts_in ledger.entries.items))) line → IsClosed ss (kept_by ss ledger.entries.items) line
+dead_closed ss ledger clean d line c = closed_of ss ledger.entries.items clean (record { poly = d.poly; known = d.known; choices = d.choices; shown = d.valid.shown }) line c
+
+pub choice_within : (entries : List LedgerEntry) (orders : List ChainOrder) → All (λ q. q.choice < length orders) (posts_in entries) → (i : ℕ) (x : LedgerEntry) → i < length entries → x ≡ get_or entries i x → x.post.choice < length orders
+choice_within entries orders h i x lt is =
+    let post : LedgerEntry → Posted = λ y. y.post in
+    let many : i < length (posts_in entries) = omega (arith, lt, posts_many entries) in
+    let here : get_or (posts_in entries) i x.post ≡ x.post = get_or-map post entries i x x.post lt ∙ ap post (sym is) in
+    subst (λ (q : Posted). q.choice < length orders) here (h i x.post many)
+
+-- an entry's post, in the list of posts
+pub post_at : (entries : List LedgerEntry) (i : ℕ) (x : LedgerEntry) → i < length entries → x ≡ get_or entries i x → slice_get (posts_in entries) i ≡ Some x.post
+post_at entries i x lt is =
+    let post : LedgerEntry → Posted = λ y. y.post in
+    let got : slice_get entries i ≡ Some x = slice_get_read entries (length entries) i x refl lt is in
+    map_get post entries i x got
+
+-- ---- the same, of orders that are those that the entries keep
+pub steps_in : (ss : List ClientSession) (entries : List LedgerEntry) (kept : List ChainOrder) → IsClean (log_of ss) → AreEntries ss entries → kept ≡ kept_by ss entries → AreSteps ss kept entries
+steps_in ss entries kept clean d e = subst (λ k. AreSteps ss k entries) (sym e) (steps_of ss entries clean d)
+
+pub closed_in : (ss : List ClientSession) (entries : List LedgerEntry) (kept : List ChainOrder) (line : List ℕ) → kept ≡ kept_by ss entries → IsClosed ss (kept_by ss entries) line → IsClosed ss kept line
+closed_in ss entries kept line e c = subst (λ k. IsClosed ss k line) (sym e) c
+
+pub kept_are : (ss : List ClientSession) (entries : List LedgerEntry) (orders kept : List ChainOrder) → orders ≡ orders_in (log_of ss) → kept ≡ map (kept_order orders) (posts_in entries) → kept ≡ kept_by ss entries
+kept_are ss entries orders kept o k = k ∙ ap (λ z. map (kept_order z) (posts_in entries)) o

@@ -1,0 +1,38 @@
+-- Orders of two chains: those of the choices between chains, and those that a ledger keeps.
+use Rattle.std.specs.Prelude.{ℕ, List, [], ◌∷◌, ◌++◌, map, slice_get, unwrap_or}
+use Rattle.std.specs.List.{flat_map}
+use Rattle.serializability.specs.Log.{Log}
+use Rattle.serializability.specs.Polygraph.{Choice, all_keys}
+use Rattle.chain_laws.specs.Chains.{chain_choice}
+use Rattle.write_chains.specs.Views.{ChainView, chains_in}
+use Rattle.pruning_laws.specs.declared.side.Side.{Side}
+use Rattle.pruning_laws.specs.declared.side.Side.TheVariants.{One, Two}
+use Rattle.prune_ledger.specs.Posted.{Posted}
+use Rattle.tell_reasons.specs.declared.why.ChainOrder.{ChainOrder}
+use Rattle.tell_steps.specs.Steps.{turned}
+
+-- the choice of which this order is side one
+abbrev pub choice_of : Log → ChainOrder → Choice
+choice_of log o = chain_choice log o.key (o.first, o.second)
+
+-- a chain of the key with this head before another
+abbrev pub order_to : ℕ → ℕ → ChainView → ChainOrder
+order_to x h other = record { key = x; first = h; second = other.head }
+
+-- each chain before each that comes behind it
+abbrev pub orders_among : ℕ → List ChainView → List ChainOrder
+orders_among x [] = []
+orders_among x (a ∷ rest) = map (order_to x a.head) rest ++ orders_among x rest
+
+-- of each choice between chains, in order, the two chains as its first side has them
+unfoldable pub orders_in : Log → List ChainOrder
+orders_in log = flat_map (λ x. orders_among x (chains_in log x)) (all_keys log)
+
+-- what is kept where a side is refused
+abbrev pub kept_of : Side → ChainOrder → ChainOrder
+kept_of One o = turned o
+kept_of Two o = o
+
+abbrev pub kept_order : List ChainOrder → Posted → ChainOrder
+kept_order orders q = kept_of q.side (unwrap_or (slice_get orders q.choice)
+    (record { key = 0; first = 0; second = 0 }))

@@ -1,0 +1,63 @@
+//! Which decided order has an edge.
+
+ghost use Rattle.std.specs.Prelude.{◌≡◌, ◌<◌, ℕ, IsTrue, not, IfSome, IfNone};
+ghost use Rattle.std.specs.List.{All, Contains};
+ghost use Rattle.chain_laws.specs.Chains.{edges_to};
+ghost use Rattle.log_definitions.specs.Numbers.{log_of};
+ghost use Rattle.tell_steps.specs.Steps.{IsOrder, edges_in};
+
+use crate::firsts::place_of;
+use serializability::NodeIx;
+use tell_reasons::ChainOrder;
+use write_chains::{Chain, Chains};
+
+/// Whether an edge leads from this node to the chains that stand behind this one.
+fn leads_from(chain: &Chain, node: NodeIx) -> bool
+    ensures yes { IsTrue result → (b : ℕ) → Contains
+        (edges_to chain.now.tail b chain.now.readers.items) (node, b) }
+    ensures no { IsTrue (not result) → (b : ℕ)
+        → Contains (edges_to chain.now.tail b chain.now.readers.items) (node, b) → ⊥ }
+{
+    if chain.readers.is_empty() {
+        chain.tail == node
+    } else {
+        chain.readers.contains(&node)
+    }
+}
+
+/// Whether the order has the edge.
+pub fn has_edge(chains: &Chains<'_>, order: ChainOrder, a: NodeIx, b: NodeIx) -> bool
+    requires order { IsOrder (log_of chains.now) order }
+    ensures yes { IsTrue result → Contains (edges_in (log_of chains.now) order) (a, b) }
+    ensures no { IsTrue (not result) → Contains (edges_in (log_of chains.now) order) (a, b) → ⊥ }
+{
+    if order.second.get() != b.get() {
+        return false;
+    }
+    let others = chains.chains_of(order.key);
+    match place_of(others, order.first) {
+        Some(place) => leads_from(&others[place], a),
+        None => unreachable!(),
+    }
+}
+
+/// The first of the orders that has the edge.
+pub fn order_with(
+    chains: &Chains<'_>,
+    orders: &[ChainOrder],
+    a: NodeIx,
+    b: NodeIx,
+) -> Option<ChainOrder>
+    requires orders { All (IsOrder (log_of chains.now)) orders.now }
+    ensures among { IfSome result (Contains orders.now) }
+    ensures edge { IfSome result (λ o. Contains (edges_in (log_of chains.now) o) (a, b)) }
+    ensures none { IfNone result (All (λ o. Contains (edges_in (log_of chains.now) o) (a, b) → ⊥)
+        orders.now) }
+{
+    for order in orders {
+        if has_edge(chains, *order, a, b) {
+            return Some(*order);
+        }
+    }
+    None
+}

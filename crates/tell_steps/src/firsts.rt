@@ -1,0 +1,148 @@
+//! Of each edge, the first order that has it.
+
+ghost use Rattle.std.specs.Prelude.{◌≡◌, ◌≢◌, ◌<◌, ◌≤◌, ◌++◌, ◌∷◌, [], ℕ, List, length, map, IfOk};
+ghost use Rattle.std.specs.Prelude.{IfSome, IfNone, slice_index_or};
+ghost use Rattle.std.specs.List.{All, Contains};
+ghost use Rattle.serializability.specs.Polygraph.{Edge};
+ghost use Rattle.serializability.specs.declared.node.TheConstants.{MAX_NODES};
+ghost use Rattle.log_definitions.specs.Numbers.{log_of};
+ghost use Rattle.chain_laws.specs.Chains.{edges_to};
+ghost use Rattle.write_chains.specs.declared.chain.Chain as chain;
+ghost use Rattle.tell_steps.specs.Steps.{IsOrder, edges_in};
+ghost use Rattle.tell_steps.specs.Firsts as spec;
+ghost use Rattle.tell_steps.specs.Lines.{sides_of, AreGrounds};
+
+use crate::cell::{cell, cells};
+use crate::ground::Grounds;
+use serializability::NodeIx;
+use std::alloc::{AllocError, Global};
+use tell_reasons::ChainOrder;
+use write_chains::{Chain, Chains};
+
+/// Notes that an entry keeps the edge from `a` to `b`, unless an earlier one does.
+fn note(table: &mut [Option<usize>], nodes: usize, a: NodeIx, b: NodeIx, entry: usize)
+    requires few { nodes ≤ MAX_NODES }
+    requires first { a ≤ nodes }
+    requires second { b ≤ nodes }
+    requires count { length table.old ≡ spec.cells nodes }
+    ensures noted { table.new ≡ spec.noted_in nodes table.old a b entry }
+{
+    let place = cell(nodes, a, b);
+    table[place] = table[place].or(Some(entry));
+}
+
+/// Notes that an entry keeps the edges from these nodes to `target`.
+fn note_from(
+    table: &mut [Option<usize>],
+    nodes: usize,
+    sources: &[NodeIx],
+    target: NodeIx,
+    entry: usize,
+)
+    requires few { nodes ≤ MAX_NODES }
+    requires sources { All (λ u. u ≤ nodes) sources.now }
+    requires target { target ≤ nodes }
+    requires count { length table.old ≡ spec.cells nodes }
+    ensures noted { (sides : List (List Edge)) → length sides ≡ entry →
+        spec.AreFirsts nodes sides table.old →
+        spec.AreFirsts nodes (sides ++ map (λ u. (u, target)) sources.now ∷ []) table.new }
+{
+    for source in sources {
+        note(table, nodes, *source, target, entry);
+    }
+}
+
+/// Notes that an entry keeps the edges of a chain before that of another head.
+fn note_side(table: &mut [Option<usize>], nodes: usize, first: &Chain, second: NodeIx, entry: usize)
+    requires few { nodes ≤ MAX_NODES }
+    requires tail { first.now.tail ≤ nodes }
+    requires readers { All (λ u. u ≤ nodes) first.now.readers.items }
+    requires second { second ≤ nodes }
+    requires count { length table.old ≡ spec.cells nodes }
+    ensures noted { (sides : List (List Edge)) → length sides ≡ entry →
+        spec.AreFirsts nodes sides table.old → spec.AreFirsts nodes
+        (sides ++ edges_to first.now.tail second first.now.readers.items ∷ []) table.new }
+{
+    if first.readers.is_empty() {
+        note_from(table, nodes, &[first.tail], second, entry);
+    } else {
+        note_from(table, nodes, &first.readers, second, entry);
+    }
+}
+
+/// The place of the chain with this head, where there is one.
+pub fn place_of(chains: &[Chain], head: NodeIx) -> Option<usize>
+    ensures within { IfSome result (λ k. k < length chains.now) }
+    ensures head { IfSome result (λ k. (d : chain.Chain)
+        → (slice_index_or chains.now k d).head ≡ head) }
+    ensures none { IfNone result (All (λ c. c.head ≢ head) chains.now) }
+{
+    for (place, chain) in chains.iter().enumerate() {
+        if chain.head == head {
+            return Some(place);
+        }
+    }
+    None
+}
+
+/// Notes that an entry keeps the order.
+fn note_order(
+    table: &mut [Option<usize>],
+    nodes: usize,
+    chains: &Chains,
+    order: ChainOrder,
+    entry: usize,
+)
+    requires nodes { nodes ≡ (log_of chains.now).nodes }
+    requires few { nodes ≤ MAX_NODES }
+    requires order { IsOrder (log_of chains.now) order }
+    requires count { length table.old ≡ spec.cells nodes }
+    ensures noted { (sides : List (List Edge)) → length sides ≡ entry →
+        spec.AreFirsts nodes sides table.old →
+        spec.AreFirsts nodes (sides ++ edges_in (log_of chains.now) order ∷ []) table.new }
+{
+    let others = chains.chains_of(order.key);
+    if let Some(place) = place_of(others, order.first) {
+        note_side(table, nodes, &others[place], order.second, entry);
+    }
+}
+
+/// Of each edge, the first of these orders that has it.
+fn firsts_of(
+    alloc: Global,
+    chains: &Chains,
+    nodes: usize,
+    kept: &[ChainOrder],
+) -> Result<Vec<Option<usize>>, AllocError>
+    requires nodes { nodes ≡ (log_of chains.now).nodes }
+    requires few { nodes ≤ MAX_NODES }
+    requires orders { All (IsOrder (log_of chains.now)) kept.now }
+    ensures firsts { IfOk result (λ table.
+        spec.AreFirsts nodes (sides_of chains.now kept.now) table.items) }
+{
+    let mut firsts = vec![in alloc; None; cells(nodes)]?;
+    let table = firsts.as_mut_slice();
+    for (entry, order) in kept.iter().enumerate() {
+        note_order(table, nodes, chains, *order, entry);
+    }
+    Ok(firsts)
+}
+
+/// The orders that the entries of a ledger keep, with the first of them for each edge.
+pub fn grounds_of(
+    alloc: Global,
+    chains: &Chains,
+    kept: Vec<ChainOrder>,
+) -> Result<Grounds, AllocError>
+    requires orders { All (IsOrder (log_of chains.now)) kept.items }
+    ensures grounds { IfOk result (AreGrounds chains.now) }
+    ensures kept { IfOk result (λ grounds. grounds.kept.items ≡ kept.items) }
+{
+    let nodes = chains.history().committed();
+    let firsts = firsts_of(alloc, chains, nodes, &kept)?;
+    Ok(Grounds {
+        nodes,
+        kept,
+        firsts,
+    })
+}

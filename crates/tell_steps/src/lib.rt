@@ -1,0 +1,24 @@
+//! How the ledger of pruning is told: as forced steps, each of which rests on the log and on
+//! earlier steps alone, and only those that some lines need.
+//!
+//! Called by `tell_decision` and `tell_trees`. It knows no format, no tree and no piece.
+#![tactic(auto)]
+
+mod cell;
+mod dead;
+mod decided;
+mod firsts;
+mod forced;
+mod ground;
+mod item;
+mod lines;
+mod marks;
+mod near;
+mod orders;
+mod shorter;
+mod steps;
+
+pub use dead::tell_dead;
+pub use forced::{Steps, steps_of};
+pub use item::Item;
+pub use orders::choice_orders;

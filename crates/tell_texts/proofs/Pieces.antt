@@ -1,0 +1,86 @@
+-- Texts of what stands in a list or a range, one piece more.
+use Rattle.std.proofs.Common.{◌≡◌, ℕ, zero, suc, ◌+◌, ◌*◌, ◌<◌, ◌≤◌, Bool, true, false, List, [], ◌∷◌, ◌++◌, length, get_or, take, refl, sym, ap, ◌∙◌, arith, append_assoc}
+use Rattle.std.specs.Prelude.{if◌then◌else◌, replicate, codes, Result, Ok, Err, OnOk}
+use Rattle.std.specs.List.{filter, flat_map, range_with_len}
+use Rattle.std.proofs.lemmas.List.{append-nil, take_more, replicate-append-replicate}
+use Rattle.std.proofs.lemmas.List.Concat.{flat_map-append}
+use Rattle.std.proofs.lemmas.List.Elements.{filter-append}
+use Rattle.tell_texts.specs.Texts.{indent}
+use Rattle.tell_texts.specs.Graphs.{quoted}
+
+-- ---- ranges
+pub range_last : (a k : ℕ) → range_with_len a (k + 1) ≡ range_with_len a k ++ (a + k) ∷ []
+range_last a zero = let e : a ≡ a + 0 = omega arith in ap (λ n. n ∷ []) e
+range_last a (suc k) =
+    let e : (a + 1) + k ≡ a + suc k = omega arith in
+    let two : suc k + 1 ≡ suc (k + 1) = omega arith in
+    ap (range_with_len a) two ∙ ap (λ l. a ∷ l) (range_last (a + 1) k) ∙ ap (λ n. a ∷ (range_with_len (a + 1) k ++ n ∷ [])) e
+
+-- of one element, where it passes
+of_one : {X : Type 0} (f : ℕ → List X) (p : ℕ → Bool) (n : ℕ) (t : Bool) → p n ≡ t → flat_map f (filter p (n ∷ [])) ≡ (if t then f n else [])
+of_one f p n true e = rw e (append-nil (f n))
+of_one f p n false e = rw e refl
+
+-- of those that pass among the numbers of a range, one number more
+pub passed_more : {X : Type 0} (f : ℕ → List X) (p : ℕ → Bool) (a k n : ℕ) → a + k ≡ n → flat_map f (filter p (range_with_len a (k + 1))) ≡ flat_map f (filter p (range_with_len a k)) ++ (if p n then f n else [])
+passed_more f p a k n e =
+    let front = range_with_len a k in
+    let last : range_with_len a (k + 1) ≡ front ++ n ∷ [] = range_last a k ∙ ap (λ v. front ++ v ∷ []) e in
+    ap (λ l. flat_map f (filter p l)) last
+    ∙ ap (flat_map f) (filter-append p front (n ∷ []))
+    ∙ flat_map-append f (filter p front) (filter p (n ∷ []))
+    ∙ ap (λ l. flat_map f (filter p front) ++ l) (of_one f p n (p n) refl)
+
+-- two tests that agree on a range
+pub filter_range_same : (p q : ℕ → Bool) (a n : ℕ) → ((i : ℕ) → a ≤ i → i < a + n → p i ≡ q i) → filter p (range_with_len a n) ≡ filter q (range_with_len a n)
+filter_range_same p q a zero h = refl
+filter_range_same p q a (suc n) h =
+    let here : p a ≡ q a = h a (omega arith) (omega arith) in
+    let rest : filter p (range_with_len (a + 1) n) ≡ filter q (range_with_len (a + 1) n) = filter_range_same p q (a + 1) n (λ i lo hi. h i (omega arith) (omega arith)) in
+    rw (here, rest) refl
+
+-- ---- lists
+pub mapped_more : {X A : Type 0} (f : X → List A) (xs : List X) (i : ℕ) (d : X) → i < length xs → flat_map f (take (i + 1) xs) ≡ flat_map f (take i xs) ++ f (get_or xs i d)
+mapped_more f xs i d lt =
+    ap (flat_map f) (take_more xs i d lt)
+    ∙ flat_map-append f (take i xs) (get_or xs i d ∷ [])
+    ∙ ap (λ l. flat_map f (take i xs) ++ l) (append-nil (f (get_or xs i d)))
+
+-- ---- blanks
+pub indent_more : (k : ℕ) → indent (k + 1) ≡ indent k ++ 32 ∷ 32 ∷ []
+indent_more k =
+    let e : 2 * (k + 1) ≡ 2 * k + 2 = omega arith in
+    ap (λ n. replicate n 32) e ∙ sym (replicate-append-replicate (2 * k) 2 32)
+
+-- a text to which a piece is appended
+pub appended : {X : Type 0} (old now new piece next : List X) (all : List X) → now ≡ old ++ all → new ≡ now ++ piece → next ≡ all ++ piece → new ≡ old ++ next
+appended old now new piece next all h p e = p ∙ ap (λ l. l ++ piece) h ∙ append_assoc old all piece ∙ ap (λ l. old ++ l) (sym e)
+
+-- ---- texts of pieces that are written one behind the other
+pub add_piece : (old all now piece new : List ℕ) → now ≡ old ++ all → new ≡ now ++ piece → new ≡ old ++ (all ++ piece)
+add_piece old all now piece new h p = p ∙ ap (λ l. l ++ piece) h ∙ append_assoc old all piece
+
+-- a word and a name
+pub add_named : (old all now word name new : List ℕ) → now ≡ old ++ all → new ≡ now ++ (word ++ name) → new ≡ old ++ (all ++ word ++ name)
+add_named old all now word name new h p = add_piece old all now (word ++ name) new h p ∙ ap (λ l. old ++ l) (sym (append_assoc all word name))
+
+-- the pieces of a box, and those of an arrow, where q is a quote
+box_joined : (q n a l e : List ℕ) → (q ++ n ++ (q ++ a ++ q) ++ n ++ l ++ (q ++ e)) ≡ ((q ++ n ++ q) ++ a ++ (q ++ (n ++ l) ++ q) ++ e)
+box_joined q n a l e = simp append_assoc
+
+arrow_joined : (q n a m b k c o e : List ℕ) → (q ++ n ++ (q ++ a ++ q) ++ m ++ (q ++ b ++ q) ++ k ++ (q ++ c ++ q) ++ o ++ (q ++ e)) ≡ ((q ++ n ++ q) ++ a ++ (q ++ m ++ q) ++ b ++ (q ++ k ++ q) ++ c ++ (q ++ o ++ q) ++ e)
+arrow_joined q n a m b k c o e = simp append_assoc
+
+pub box_parts : (name labels : List ℕ) → ((34 ∷ []) ++ name ++ (34 ∷ codes " [label=" ++ 34 ∷ []) ++ name ++ labels ++ (34 ∷ codes "];\n")) ≡ (quoted name ++ codes " [label=" ++ quoted (name ++ labels) ++ codes "];\n")
+box_parts name labels = box_joined (34 ∷ []) name (codes " [label=") labels (codes "];\n")
+
+pub arrow_parts : (first second kind colour : List ℕ) → ((34 ∷ []) ++ first ++ (34 ∷ codes " -> " ++ 34 ∷ []) ++ second ++ (34 ∷ codes " [label=" ++ 34 ∷ []) ++ kind ++ (34 ∷ codes " color=" ++ 34 ∷ []) ++ colour ++ (34 ∷ codes "];\n")) ≡ (quoted first ++ codes " -> " ++ quoted second ++ codes " [label=" ++ quoted kind ++ codes " color=" ++ quoted colour ++ codes "];\n")
+arrow_parts first second kind colour = arrow_joined (34 ∷ []) first (codes " -> ") second (codes " [label=") kind (codes " color=") colour (codes "];\n")
+
+pub on_ok : {T E : Type 0} (r : Result T E) (P Q : Type 0) → (P → Q) → OnOk r P → OnOk r Q
+on_ok (Ok x) P Q f p = f p
+on_ok (Err e) P Q f p = tt
+
+-- nothing is written yet
+pub begun : (old none : List ℕ) → none ≡ [] → old ≡ old ++ none
+begun old none e = sym (append-nil old) ∙ ap (λ l. old ++ l) (sym e)

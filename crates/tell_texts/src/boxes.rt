@@ -1,0 +1,179 @@
+//! The boxes of a graph: transactions, with those of their operations that the explanation names.
+
+ghost use Rattle.std.specs.Prelude.{◌≡◌, ◌<◌, ◌++◌, List, length, OnOk, if◌then◌else◌, []};
+ghost use Rattle.tell_steps.specs.declared.item.Item.{Item};
+ghost use Rattle.reason_laws.specs.Reasons.{IsNode};
+ghost use Rattle.log_definitions.specs.Numbers.{log_of};
+ghost use Rattle.log_definitions.specs.Serial.{ops_of};
+ghost use Rattle.tell_reasons.specs.Lines.{begin_at, AreLines};
+ghost use Rattle.tell_reasons.specs.Reasons.{op_at};
+ghost use Rattle.tell_texts.specs.Graphs as spec;
+ghost use Rattle.tell_texts.specs.Graphs.{AreMarks, names};
+ghost use Rattle.tell_texts.specs.Texts.{AreTellable};
+
+use crate::marks::marks_of;
+use serializability::numbers::node as node_of;
+use serializability::{Event, NodeIx};
+use session_history::History;
+use std::alloc::{AllocError, Global};
+use tell_reasons::{put_key_and_wid, put_named, put_op_in_line};
+use tell_steps::Item;
+
+/// The word with which the line of an operation begins.
+fn word_of(event: Event) -> &'static str
+    ensures word { result.now ≡ spec.event_word event }
+{
+    match event {
+        Event::Read { .. } => "r ",
+        Event::Write { .. } => "w ",
+    }
+}
+
+/// Appends an operation as its line has it.
+fn put_words(
+    out: &mut Vec<u8>,
+    history: &History,
+    node: NodeIx,
+    op: usize,
+) -> Result<(), AllocError>
+    requires op { op < length (ops_of history.now node) }
+    ensures text { OnOk result (out.new.items
+        ≡ out.old.items ++ spec.op_words (op_at history.now node op)) }
+{
+    out.extend_from_slice(word_of(history.events_of(node)[op]).as_bytes())?;
+    put_key_and_wid(out, history, node, op)
+}
+
+/// Appends a line break of a label, an operation, and its line.
+fn put_op_label(
+    out: &mut Vec<u8>,
+    history: &History,
+    begins: &[usize],
+    node: NodeIx,
+    op: usize,
+) -> Result<(), AllocError>
+    requires lines { AreLines history.now begins.now }
+    requires node { IsNode history.now node }
+    requires op { op < length (ops_of history.now node) }
+    ensures text { OnOk result (out.new.items
+        ≡ out.old.items ++ spec.op_label history.now (begin_at begins.now) node op) }
+{
+    out.extend_from_slice(b"\\n")?;
+    put_words(out, history, node, op)?;
+    put_op_in_line(out, begins, node, op)
+}
+
+/// Appends the label of an operation, where it is marked.
+fn put_where_marked(
+    out: &mut Vec<u8>,
+    history: &History,
+    begins: &[usize],
+    node: NodeIx,
+    op: usize,
+    marked: bool,
+) -> Result<(), AllocError>
+    requires lines { AreLines history.now begins.now }
+    requires node { IsNode history.now node }
+    requires op { op < length (ops_of history.now node) }
+    ensures text { OnOk result (out.new.items ≡ out.old.items
+        ++ (if marked then spec.op_label history.now (begin_at begins.now) node op else [])) }
+{
+    if marked {
+        put_op_label(out, history, begins, node, op)?;
+    }
+    Ok(())
+}
+
+/// Appends the labels of the marked operations of a node.
+fn put_op_labels(
+    out: &mut Vec<u8>,
+    history: &History,
+    begins: &[usize],
+    node: NodeIx,
+    marks: &[bool],
+) -> Result<(), AllocError>
+    requires lines { AreLines history.now begins.now }
+    requires node { IsNode history.now node }
+    requires marks { length marks.now ≡ length (ops_of history.now node) }
+    ensures text { OnOk result (out.new.items ≡ out.old.items
+        ++ spec.op_labels history.now (begin_at begins.now) node (spec.is_marked marks.now) (length marks.now)) }
+{
+    for (op, marked) in marks.iter().enumerate() {
+        put_where_marked(out, history, begins, node, op, *marked)?;
+    }
+    Ok(())
+}
+
+/// Appends the box of a node, of whose operations these are marked.
+fn put_box(
+    out: &mut Vec<u8>,
+    history: &History,
+    begins: &[usize],
+    node: NodeIx,
+    marks: &[bool],
+) -> Result<(), AllocError>
+    requires lines { AreLines history.now begins.now }
+    requires node { IsNode history.now node }
+    requires marks { length marks.now ≡ length (ops_of history.now node) }
+    ensures text { OnOk result ((items : List Item)
+        → AreMarks (length (ops_of history.now node)) (names items node) marks.now →
+        out.new.items ≡ out.old.items ++ spec.box history.now (begin_at begins.now) items node) }
+{
+    put_named(out, b"\"", history, node)?;
+    put_named(out, b"\" [label=\"", history, node)?;
+    put_op_labels(out, history, begins, node, marks)?;
+    out.extend_from_slice(b"\"];\n")?;
+    Ok(())
+}
+
+/// Appends the box of a node, where it takes part.
+fn put_where_part(
+    out: &mut Vec<u8>,
+    history: &History,
+    begins: &[usize],
+    node: NodeIx,
+    takes_part: bool,
+    marks: &[bool],
+) -> Result<(), AllocError>
+    requires lines { AreLines history.now begins.now }
+    requires node { IsNode history.now node }
+    requires marks { length marks.now ≡ length (ops_of history.now node) }
+    ensures text { OnOk result ((items : List Item)
+        → AreMarks (length (ops_of history.now node)) (names items node) marks.now →
+        out.new.items ≡ out.old.items ++ (if takes_part
+        then spec.box history.now (begin_at begins.now) items node else [])) }
+{
+    if takes_part {
+        put_box(out, history, begins, node, marks)?;
+    }
+    Ok(())
+}
+
+/// Appends the boxes of the nodes that take part.
+pub fn put_boxes(
+    alloc: Global,
+    out: &mut Vec<u8>,
+    history: &History,
+    begins: &[usize],
+    items: &[Item],
+) -> Result<(), AllocError>
+    requires lines { AreLines history.now begins.now }
+    requires items { AreTellable history.now items.now }
+    ensures text { OnOk result (out.new.items ≡ out.old.items
+        ++ spec.boxes history.now (begin_at begins.now) items.now (log_of history.now).nodes) }
+{
+    let marks = marks_of(alloc, history, items)?;
+    for number in 1..history.committed() + 1 {
+        let takes_part = marks.nodes[number];
+        let operations = &marks.operations[number];
+        put_where_part(
+            out,
+            history,
+            begins,
+            node_of(number),
+            takes_part,
+            operations,
+        )?;
+    }
+    Ok(())
+}

@@ -1,0 +1,13 @@
+//! Explanations as text and as graphs.
+//!
+//! Called by `tell_decision`. It knows not where its items come from.
+#![tactic(auto)]
+
+mod arrows;
+mod boxes;
+mod graph;
+mod marks;
+mod text;
+
+pub use graph::put_graph;
+pub use text::put_items;

@@ -1,0 +1,137 @@
+-- What is appended for visited nodes.
+use Rattle.std.proofs.Common.{◌≡◌, ℕ, ◌+◌, ◌-◌, ◌<◌, List, [], ◌∷◌, ◌++◌, length, map, get_or, Option, Some, None, refl, sym, ap, ◌∙◌, subst, append_assoc, arith}
+use Rattle.std.specs.Prelude.{slice_get, IfSome, option_and_then}
+use Rattle.branch_search.specs.declared.tree.Decision.{Decision}
+use Rattle.branch_search.specs.declared.tree.TreeNode.{TreeNode}
+use Rattle.std.specs.Option.{option_map}
+use Rattle.branch_search.proofs.Lists.{some_is, there}
+use Rattle.tell_reasons.specs.declared.why.ChainOrder.{ChainOrder}
+use Rattle.tell_steps.specs.View.{StepsView}
+use Rattle.tell_steps.specs.Lines.{TellsLine}
+use Rattle.tell_steps.specs.Steps as steps
+use Rattle.tell_steps.specs.Steps.{IsLineTold, IsCycleTold}
+use Rattle.tell_steps.specs.declared.item.Item.{Item}
+use Rattle.tell_steps.specs.declared.item.Item.TheVariants as item
+use Rattle.tell_trees.specs.declared.visits.Visit.{Visit}
+use Rattle.tell_trees.specs.Orders.{order_at}
+use Rattle.tell_trees.specs.Told.{IsRound, CanTell, decided_at, decision_items, AddsLeaf, AddsVisit, AddsVisits}
+use Rattle.tell_trees.specs.Visits.{IsTree, DecidesAmong, line_of}
+use Rattle.tell_trees.proofs.Facts.{up_cube, up_before, up_end}
+use Rattle.tell_trees.proofs.Tellings.{told_more}
+
+append_nil : {A : Type 0} (xs : List A) → xs ++ [] ≡ xs
+append_nil [] = refl
+append_nil (x ∷ xs) = ap (λ l. x ∷ l) (append_nil xs)
+
+length_append : {A : Type 0} (xs ys : List A) → length (xs ++ ys) ≡ length xs + length ys
+length_append [] ys = omega arith
+length_append (x ∷ xs) ys = let r = length_append xs ys in omega (arith, r)
+
+-- ---- a cycle
+round_length : (line : List ℕ) (r : IsRound line) → length line ≡ length r.inner + 1 + 1
+round_length line r =
+    let a = ap length r.shape in
+    let b = length_append r.inner (r.start ∷ []) in
+    omega (arith, a, b)
+
+pub round_long : (line : List ℕ) → IsRound line → 1 < length line
+round_long line r = let a = round_length line r in omega (arith, a)
+
+pub cycle_added : (s : StepsView) (decided : List ChainOrder) (line : List ℕ) (old mid now : List Item) (start : ℕ) → CanTell s decided line → start ≡ get_or line 0 start → mid ≡ old ++ item.Cycle start (length line - 1) ∷ []
+    → TellsLine s decided line mid now → AddsLeaf s decided (Some line) old now
+cycle_added s decided line old mid now start can start_is mid_is t =
+    let r = can.round in
+    let edges = length line - 1 in
+    let first : start ≡ r.start = start_is ∙ ap (λ (l : List ℕ). get_or l 0 start) r.shape in
+    let count = round_length line r in
+    let many : length line - 1 ≡ length r.inner + 1 = omega (arith, count) in
+    let told : IsCycleTold s.sessions s.orders decided (item.Cycle start edges ∷ t.edges) =
+    subst (λ (z : Item). IsCycleTold s.sessions s.orders decided (z ∷ t.edges)) (λ i. let a = sym first in let b = sym many in item.Cycle (a i) (b i))
+    (steps.closes r.start r.inner t.edges (subst (λ (l : List ℕ). IsLineTold s.sessions s.orders decided l t.edges) r.shape t.told)) in
+    record {
+      cycle = item.Cycle start edges ∷ t.edges;
+      added = t.added ∙ ap (λ l. l ++ t.edges) mid_is ∙ append_assoc old (item.Cycle start edges ∷ []) t.edges;
+      told = told;
+    }
+
+-- ---- a leaf
+pub line_can : (s : StepsView) (decided : List ChainOrder) (o : Option (List ℕ)) (line : List ℕ) → Some line ≡ o → IfSome o (CanTell s decided) → CanTell s decided line
+line_can s decided o line e c = subst (λ (z : Option (List ℕ)). IfSome z (CanTell s decided)) (sym e) c
+
+pub leaf_added : (s : StepsView) (decided same : List ChainOrder) (o : Option (List ℕ)) (line : List ℕ) (old now : List Item) → Some line ≡ o → decided ≡ same → AddsLeaf s decided (Some line) old now → AddsLeaf s same o old now
+leaf_added s decided same o line old now e f a = subst (λ (z : Option (List ℕ)). AddsLeaf s same z old now) e (subst (λ (d : List ChainOrder). AddsLeaf s d (Some line) old now) f a)
+
+pub no_leaf_added : (s : StepsView) (decided : List ChainOrder) (o : Option (List ℕ)) (old : List Item) → None ≡ o → AddsLeaf s decided o old old
+no_leaf_added s decided o old e =
+    let none : AddsLeaf s decided None old old = record { cycle = []; added = sym (append_nil old); told = refl } in
+    subst (λ (z : Option (List ℕ)). AddsLeaf s decided z old old) e none
+
+-- ---- a visited node
+pub visit_added : (s : StepsView) (orders : List ChainOrder) (nodes : List TreeNode) (v : Visit) (x : TreeNode) (old mid now : List Item) → slice_get nodes v.node ≡ Some x → mid ≡ old ++ decision_items orders v.depth x.decision
+    → AddsLeaf s (decided_at orders nodes v.node) (line_of nodes v) mid now → AddsVisit s orders nodes v old now
+visit_added s orders nodes v x old mid now at e a = record {
+  own = decision_items orders v.depth x.decision ++ a.cycle;
+  added = a.added ∙ ap (λ l. l ++ a.cycle) e ∙ append_assoc old (decision_items orders v.depth x.decision) a.cycle;
+  told = record { node = x; here = at; after = a.cycle; whole = refl; leaf = a.told };
+}
+
+decided_by : (nodes : List TreeNode) (i : ℕ) (o : Option Decision) → i < length nodes → o ≡ option_and_then (λ (x : TreeNode). x.decision) (slice_get nodes i) → (x : TreeNode) × ((slice_get nodes i ≡ Some x) × (x.decision ≡ o))
+decided_by nodes i o lt e =
+    let r = there nodes i lt in
+    (r.0, (r.1, sym (e ∙ ap (λ (z : Option TreeNode). option_and_then (λ (x : TreeNode). x.decision) z) r.1)))
+
+pub decides_below : (nodes : List TreeNode) (n i : ℕ) (o : Option Decision) → DecidesAmong n nodes → i < length nodes → o ≡ option_and_then (λ (x : TreeNode). x.decision) (slice_get nodes i) → IfSome o (λ d. d.choice < n)
+decides_below nodes n i None h lt e = tt
+decides_below nodes n i (Some d) h lt e = let r = decided_by nodes i (Some d) lt e in h.each i r.0 d r.1.0 r.1.1
+
+pub visit_put : (s : StepsView) (orders : List ChainOrder) (nodes : List TreeNode) (v : Visit) (o : Option Decision) (old mid now : List Item) → v.node < length nodes → o ≡ option_and_then (λ (x : TreeNode). x.decision) (slice_get nodes v.node) → mid ≡ old ++ decision_items orders v.depth o
+    → AddsLeaf s (decided_at orders nodes v.node) (line_of nodes v) mid now → AddsVisit s orders nodes v old now
+visit_put s orders nodes v o old mid now lt e mid_is a =
+    let r = decided_by nodes v.node o lt e in
+    visit_added s orders nodes v r.0 old mid now r.1.0 (mid_is ∙ ap (λ z. old ++ decision_items orders v.depth z) (sym r.1.1)) a
+
+-- ---- visited nodes
+pub none_added : (s : StepsView) (orders : List ChainOrder) (nodes : List TreeNode) (visits : List Visit) (old : List Item) → visits ≡ [] → AddsVisits s orders nodes visits old old
+none_added s orders nodes visits old e =
+    let none : AddsVisits s orders nodes [] old old = record { own = []; added = sym (append_nil old); told = refl } in
+    subst (λ (vs : List Visit). AddsVisits s orders nodes vs old old) (sym e) none
+
+pub more_added : (s : StepsView) (orders : List ChainOrder) (nodes : List TreeNode) (front more : List Visit) (v : Visit) (old mid now : List Item) → more ≡ front ++ v ∷ [] → AddsVisits s orders nodes front old mid → AddsVisit s orders nodes v mid now → AddsVisits s orders nodes more old now
+more_added s orders nodes front more v old mid now e a b =
+    let all : AddsVisits s orders nodes (front ++ v ∷ []) old now = record {
+      own = a.own ++ b.own;
+      added = b.added ∙ ap (λ l. l ++ b.own) a.added ∙ append_assoc old a.own b.own;
+      told = told_more s orders nodes front v a.own b.own a.told b.told;
+    } in
+    subst (λ (vs : List Visit). AddsVisits s orders nodes vs old now) (sym e) all
+
+-- ---- the orders of a cube
+module _ (orders : List ChainOrder) (nodes : List TreeNode) (t : IsTree nodes) (i : ℕ) (within_nodes : i < length nodes) where
+  module _ (d : Decision) (parent : ℕ) (made : Some d ≡ option_and_then (λ (x : TreeNode). x.decision) (slice_get nodes i)) (up : Some parent ≡ option_map (λ (x : TreeNode). x.parent) (slice_get nodes i)) where
+    here : (x : TreeNode) × ((slice_get nodes i ≡ Some x) × (x.decision ≡ Some d))
+    here = decided_by nodes i (Some d) within_nodes made
+
+    parent_is : parent ≡ here.0.parent
+    parent_is = some_is parent here.0.parent (up ∙ ap (λ (z : Option TreeNode). option_map (λ (x : TreeNode). x.parent) z) here.1.0)
+
+    pub parent_lower : parent < i
+    parent_lower = let before = up_before nodes t i here.0 d here.1.0 here.1.1 in let same = parent_is in omega (arith, before, same)
+
+    pub parent_within : parent < length nodes
+    parent_within = let lower = parent_lower in omega (arith, lower, within_nodes)
+
+    pub orders_up : (before after whole : List ChainOrder) (o : ChainOrder) → o ≡ order_at orders (d.choice, d.side) → after ≡ before ++ o ∷ [] → before ++ decided_at orders nodes i ≡ whole → after ++ decided_at orders nodes parent ≡ whole
+    orders_up before after whole o is after_is h =
+        let own = order_at orders (d.choice, d.side) in
+        let cube : decided_at orders nodes i ≡ own ∷ decided_at orders nodes parent =
+        ap (map (order_at orders)) (up_cube nodes t i here.0 d here.1.0 here.1.1) ∙ ap (λ z. own ∷ decided_at orders nodes z) (sym parent_is) in
+        (λ k. after_is k ++ decided_at orders nodes parent)
+        ∙ append_assoc before (o ∷ []) (decided_at orders nodes parent)
+        ∙ ap (λ z. before ++ z ∷ decided_at orders nodes parent) is
+        ∙ ap (λ l. before ++ l) (sym cube)
+        ∙ h
+
+  pub orders_end : (before whole : List ChainOrder) → None ≡ option_and_then (λ (x : TreeNode). x.decision) (slice_get nodes i) → before ++ decided_at orders nodes i ≡ whole → before ≡ whole
+  orders_end before whole e h =
+      let r = decided_by nodes i None within_nodes e in
+      sym (append_nil before) ∙ ap (λ l. before ++ l) (sym (ap (map (order_at orders)) (up_end nodes t i r.0 r.1.0 r.1.1))) ∙ h

@@ -1,4 +1,0 @@
-//! What the told lines rule out.
-#![tactic(auto)]
-
-pub mod laws;

@@ -1,7 +1,0 @@
-use Rattle.std.proofs.Common.{◌≡◌, ◌++◌}
-use Rattle.explanations.specs.Lines.{begin_at}
-use Rattle.told_texts.specs.Graphs.{op_labels, is_marked}
-use Rattle.told_texts.proofs.boxes.put_op_labels.Given as goal
-
-abbrev pub invariant-loop-op : goal.invariant-loop-op
-invariant-loop-op l = l.out.items ≡ l.initial.out.items ++ op_labels l.history (begin_at l.begins) l.node (is_marked l.marks) l.op

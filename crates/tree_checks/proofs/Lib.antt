@@ -1,0 +1,2 @@
+pub mod Inherited
+pub mod Checked

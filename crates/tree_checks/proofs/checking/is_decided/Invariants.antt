@@ -1,0 +1,10 @@
+use Rattle.std.proofs.Common.{◌≡◌}
+use Rattle.cube_laws.specs.Cubes.{is_decided}
+use Rattle.branch_search.specs.Trees.{cube_of}
+use Rattle.tree_checks.proofs.checking.is_decided.Given as goal
+
+abbrev pub invariant-loop-node : goal.invariant-loop-node
+invariant-loop-node l = is_decided (cube_of l.nodes l.at) l.choice ≡ is_decided (cube_of l.nodes l.number) l.choice
+
+abbrev pub decreases-loop-node : goal.decreases-loop-node
+decreases-loop-node l = l.at
