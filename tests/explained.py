@@ -26,13 +26,15 @@ EDGE = re.compile('%s before %s: (.+)' % (NODE, NODE))
 VERSION = r'[1-9][0-9]*, which %s wrote \(line [1-9][0-9]*\)' % NODE
 VERSIONS = '%s: %s, comes before %s' % (KEY, VERSION, VERSION)
 STEP = re.compile(r'\[%s\] %s:' % (NUMBER, VERSIONS))
-OTHERWISE = re.compile(r'    (?:%s read [0-9]+ \(line [1-9][0-9]*\)(?:, which goes back to [1-9][0-9]*)?, so )?otherwise %s would stand before %s, but'
-                       % (NODE, NODE, NODE))
+SINCE = re.compile(r'    since %s reads [0-9]+ \(line [1-9][0-9]*\)(?:, which goes back to [1-9][0-9]*,)? and comes after %s:' % (NODE, NODE))
 CYCLE = re.compile('cycle from %s:' % NODE)
 ORDER = re.compile('suppose %s:' % VERSIONS)
 LEAVES = re.compile('whichever of these versions came first, a cycle closes(?:, %s in all; the first 1000 of them)?:' % NUMBER)
 # What is said of an edge of a step or of a decided order: whose operation, its key, and what Q wrote, behind this.
-KEPT = '%s (?:reads|wrote) %s [1-9][0-9]* \\(line [1-9][0-9]*\\), which %%s before [1-9][0-9]*, which %s wrote \\(line [1-9][0-9]*\\)' % (NODE, KEY, NODE)
+KEPT = ('%s (?:reads|wrote) %s [1-9][0-9]* \\(line [1-9][0-9]*\\)(?:, which goes back to [1-9][0-9]*)?, which %%s before [1-9][0-9]*, '
+        'which %s wrote \\(line [1-9][0-9]*\\)' % (NODE, KEY, NODE))
+# By how many decisions the walk of a step is indented.
+WALK = 2
 BY_STEP, SUPPOSED = re.compile(KEPT % r'by \[([0-9]+)\] comes'), re.compile(KEPT % 'is supposed to come')
 GRAPHVIZ = shutil.which('dot')
 # An explanation of so many bytes is not spoilt.
@@ -52,6 +54,12 @@ WANTED += ['%s %s' % (code, kind) for code in ('A8', 'A9') for kind in ('session
 WANTED += ['A8 of 4 edges or more', 'steps 1', 'steps 2', 'steps 3', 'steps 4 or more', 'a walk of 4 edges or more', 'a cycle with 2 steps']
 WANTED += ['tree ' + kind for kind in ('session', 'read', 'anti-dependency', 'version order', 'moments', 'forced', 'decided',
                                        'of depth 2', 'of depth 3', 'of depth 4 or more', 'of more than 1000 leaves')]
+WANTED += ['a step by a read', 'a step by a read that goes back', 'a step by a walk alone', 'forced that goes back', 'decided that goes back']
+WANTED += ['A9 known as: ' + name for name in
+           ('a missed write in a circle (G-single)', 'writes and sessions in a circle (G0-process)',
+            'writes and moments in a circle (G0-realtime)', 'circular information flow (G1c)', 'read skew (G-single)',
+            'a session misses its own write (G-single-process)', 'write skew (G2-item)', 'missed writes in a circle (G2-item)',
+            'long fork (G-nonadjacent-item)')]
 WANTED += ['tree with steps', 'a cycle with 2 decided orders', 'a cycle with a step and a decided order', 'an order of 2 decided above', 'graph']
 
 Op = collections.namedtuple('Op', 'kind key wid line')
@@ -166,19 +174,31 @@ class Log:
 
     def known_as(self, names):
         """What a cycle is called, by the kinds of its edges."""
-        kinds = [self.reason(a, b)[0] for a, b in zip(names, names[1:])]
-        missed = kinds.count('anti-dependency') + kinds.count('version order')
+        return self.named_by([self.reason(a, b)[0] for a, b in zip(names, names[1:])])
+
+    def named_by(self, kinds):
+        """What a cycle of edges of these kinds is called."""
+        misses = [kind in ('anti-dependency', 'version order', 'missed write') for kind in kinds]
+        missed, are_apart = sum(misses), not any(one and two for one, two in zip(misses, misses[1:] + misses[:1]))
         by_order = lambda none, session, moments: moments if 'moments' in kinds else session if 'session' in kinds else none
-        if not missed and 'read' not in kinds:
-            return 'sessions and moments that contradict each other'
+        if not missed and 'read' in kinds:
+            return by_order('circular information flow (G1c)', *('a read from the future (G1c%s)' % end for end in ('-process', '-realtime')))
+        if not missed and 'order of writes' in kinds:
+            return 'writes' + by_order(' in a circle (G0)', ' and sessions in a circle (G0-process)', ' and moments in a circle (G0-realtime)')
         if not missed:
-            return by_order(*('circular information flow (G1c%s)' % end for end in ('', '-process', '-realtime')))
+            return 'sessions and moments that contradict each other'
+        if missed == 1 and 'order of writes' in kinds:
+            return 'a missed write' + by_order(' in a circle (G-single)', ' and sessions in a circle (G-single-process)',
+                                               ' and moments in a circle (G-single-realtime)')
         if missed == 1 and len(kinds) == 2 and 'read' not in kinds:
-            return by_order(None, 'stale read in a session (G-single-process)', 'stale read (G-single-realtime)')
+            return by_order(None, 'a session misses its own write (G-single-process)', 'stale read (G-single-realtime)')
         if missed == 1:
             return 'read skew' + by_order(' (G-single)', ' by way of sessions (G-single-process)', ' by way of moments (G-single-realtime)')
         if len(kinds) == 2:
             return 'write skew (G2-item)'
+        if are_apart:
+            return 'long fork' + by_order(' (G-nonadjacent-item)', ' by way of sessions (G-nonadjacent-item-process)',
+                                          ' by way of moments (G-nonadjacent-item-realtime)')
         return 'missed writes' + by_order(' in a circle (G2-item)', ' and sessions in a circle (G2-item-process)', ' and moments in a circle (G2-item-realtime)')
 
     # ---- an edge
@@ -243,23 +263,28 @@ class Log:
         left = [(name, self.named[name].writes(key)[-1]) for name in (first, second)]
         return '%s: %s, comes before %s' % (key, *('%d, which %s wrote (line %d)' % (op.wid, name, op.line) for name, op in left))
 
-    def said_of_kept(self, edge, key, which):
-        """What is said of an edge that an order of versions of this key has, where `which` says what the order rests on."""
+    def back(self, op, key, first):
+        """To which version what an operation names goes back, that of the first writer of a chain, where it is another."""
+        left = self.named[first].writes(key)[-1].wid
+        return '' if op.wid == left else ', which goes back to %d' % left
+
+    def said_of_kept(self, edge, key, first, which):
+        """What is said of an edge that an order of versions of this key has, in which the chain behind this one is the first, where `which`
+        says what the order rests on."""
         a, b = (self.named[name] for name in edge)
         op = (a.writes(key)[-1:] or [op for op in a.ops if (op.kind, op.key) == ('r', key)])[0]
         left, verb = b.writes(key)[-1], 'wrote' if op.kind == 'w' else 'reads'
-        said = (a.name, verb, key, op.wid, op.line, which, left.wid, b.name, left.line)
-        return '%s %s %s %d (line %d), which %s before %d, which %s wrote (line %d)' % said
+        said = (a.name, verb, key, op.wid, op.line, self.back(op, key, first), which, left.wid, b.name, left.line)
+        return '%s %s %s %d (line %d)%s, which %s before %d, which %s wrote (line %d)' % said
 
     def said_of_step(self, number, key, first, second, u, v):
-        """The two lines of a step: the order that it keeps, and whom the other order would let stand before whom, by its first read of the
-        key."""
-        left = self.named[second].writes(key)[-1]
-        said = 'otherwise'
-        for read in [op for op in self.named[u].ops if (op.kind, op.key) == ('r', key)][:1]:
-            back = '' if read.wid == left.wid else ', which goes back to %d' % left.wid
-            said = '%s read %d (line %d)%s, so otherwise' % (u, read.wid, read.line, back)
-        return ['[%s] %s:' % (number, self.said_of_order(key, first, second)), '    %s %s would stand before %s, but' % (said, u, v)]
+        """The lines of a step: the order that it keeps, and by which read of the key the one that ends the walk stands there, where it reads
+        the key."""
+        lines = ['[%s] %s:' % (number, self.said_of_order(key, first, second))]
+        for read in [op for op in self.named[u].ops if (op.kind, op.key) == ('r', key)][:u != second]:
+            back = self.back(read, key, second)
+            lines.append('    since %s reads %d (line %d)%s and comes after %s:' % (u, read.wid, read.line, back and back + ',', v))
+        return lines
 
     def side(self, key, first, second):
         """The edges of: the chain that begins with the first before the one that begins with the second."""
@@ -267,15 +292,23 @@ class Log:
             self.sides[key, first] = self.ends(key, first)
         return [(name, second) for name in self.sides[key, first]]
 
-    def ends(self, key, first):
-        """Who stands before each chain behind this one: the readers of its last writer, or where it has none this writer."""
+    def last_and_readers(self, key, first):
+        """The last writer of a chain, and who reads its version."""
         last = self.named[first]
         while True:
             readers = self.readers(key, last.writes(key)[-1].wid)
             behind = [it for it in readers if it.writes(key)]
             if not behind:
-                return [it.name for it in readers or [last]]
+                return last, readers
             last = behind[0]
+
+    def last_of(self, key, first):
+        return self.last_and_readers(key, first)[0].name
+
+    def ends(self, key, first):
+        """Who stands before each chain behind this one: the readers of its last writer, or where it has none this writer."""
+        last, readers = self.last_and_readers(key, first)
+        return [it.name for it in readers or [last]]
 
 
 # ---- what `explain` says
@@ -317,10 +350,10 @@ class Telling:
             step = self.next(STEP)
             if step is None:
                 break
-            self.judge_step(*step, *(self.next(OTHERWISE) or (None, None, None)))
+            self.judge_step(*step)
         count = len(self.steps)
         if self.what == 'A9':
-            self.cycle([])
+            self.known_as(self.cycle([]))
             self.met['steps %d' % count if count < 4 else 'steps 4 or more'] += 1
         else:
             self.tree()
@@ -328,23 +361,38 @@ class Telling:
         told(not self.rest(), 'more behind the end: %r' % self.rest())
         told(self.used == set(range(1, count + 1)), 'steps that nothing needs')
 
-    def judge_step(self, number, key, first, second, reader, other, v):
-        where, place, u = 'step %s' % number, self.at, other
-        told(v, '%s: nothing that stands otherwise at %r' % (where, self.rest()))
+    def judge_step(self, number, key, first, second):
+        where, place = 'step %s' % number, self.at - 1
         told(int(number) == len(self.steps) + 1, '%s stands at place %d' % (where, len(self.steps) + 1))
         self.two_chains(where, key, first, second)
-        told(u in self.log.named and reader in (None, u), '%s: no transaction %s' % (where, u))
+        since = self.next(SINCE)
+        lines = self.lines[place:self.at]
+        walk = self.edges(where, [], WALK)
+        u, v = walk[-1][1], walk[0][0]
         right = self.log.said_of_step(number, key, first, second, u, v)
-        told(self.lines[place - 2:place] == right, '%s: wanted %r' % (where, right))
-        told((u, v) in self.log.side(key, second, first), '%s: the other side has no such edge' % where)
-        walk = self.edges(where, [])
-        told((walk[0][0], walk[-1][1]) == (v, u), '%s: the walk leads from %s to %s' % (where, walk[0][0], walk[-1][1]))
+        told(lines == right, '%s: wanted %r' % (where, right))
+        follows = self.log.side(key, second, first) + [(self.log.last_of(key, second), first)]
+        told((u, v) in follows, '%s: the other side has no such edge' % where)
         self.no_way_around(where, walk)
         for a, _, _ in walk[:-1]:
             for w, _ in self.log.side(key, second, first):
                 told(w == u or not self.log.reason(a, w)[0], '%s: %s is nearer, behind %s' % (where, w, a))
-        self.steps.append((key, self.log.side(key, first, second)))
+        self.steps.append((key, first, self.log.side(key, first, second)))
         self.met['a walk of 4 edges or more'] += len(walk) > 3
+        self.met['a step by a walk alone' if since is None else 'a step by a read' + ' that goes back' * ('goes back' in lines[1])] += 1
+
+    def known_as(self, edges):
+        """The name of the cycle that these edges close, which is the last line."""
+        kinds = [self.log.reason(a, b)[0] or self.kind_of_step(a, ground) for a, b, ground in edges]
+        right = 'known as: ' + self.log.named_by(kinds)
+        told(self.rest() == [right], 'wanted %r' % right)
+        self.at += 1
+        self.met['A9 ' + right] += 1
+
+    def kind_of_step(self, name, number):
+        """The kind of an edge by the step of this number from this transaction."""
+        key, _, _ = self.steps[number - 1]
+        return 'order of writes' if self.log.named[name].writes(key) else 'missed write'
 
     def no_way_around(self, where, edges):
         """Of what these edges lead over, only neighbours are an edge that the log shows."""
@@ -409,12 +457,14 @@ class Telling:
         self.met['a cycle with 2 steps'] += len(steps) > 1
         self.met['a cycle with 2 decided orders'] += len(grounds - steps) > 1
         self.met['a cycle with a step and a decided order'] += steps not in (set(), grounds)
+        return edges
 
-    def edges(self, where, decided):
-        """The edges that stand next, each with what it rests on. Each has its line, and begins where the one before it ends."""
+    def edges(self, where, decided, depth=None):
+        """The edges that stand next, so deep, or as deep as these orders are decided, each with what it rests on. Each has its line, and
+        begins where the one before it ends."""
         found, before = [], None
         while True:
-            edge = self.next(EDGE, len(decided))
+            edge = self.next(EDGE, len(decided) if depth is None else depth)
             if edge is None:
                 break
             a, b, said = edge
@@ -429,6 +479,7 @@ class Telling:
             self.used |= {rights[said]} if kind == 'forced' else set()
             self.met['%s %s' % (self.what if decided or self.what == 'A9' else 'step', kind)] += 1
             self.met['an order of 2 decided above'] += len(rights) > 1
+            self.met['%s that goes back' % kind] += kind in ('forced', 'decided') and 'goes back' in said
             found.append((a, b, rights[said]))
         told(found, '%s: no edge at %r' % (where, self.rest()))
         return found
@@ -438,10 +489,10 @@ class Telling:
         kind, said = self.log.reason(*edge)
         if kind:
             return kind, {said: None}
-        for number, (key, kept) in enumerate(self.steps, 1):
+        for number, (key, first, kept) in enumerate(self.steps, 1):
             if edge in kept:
-                return 'forced', {self.log.said_of_kept(edge, key, 'by [%d] comes' % number): number}
-        return 'decided', {self.log.said_of_kept(edge, order[0], 'is supposed to come'): order for order in decided if edge in self.log.side(*order)}
+                return 'forced', {self.log.said_of_kept(edge, key, first, 'by [%d] comes' % number): number}
+        return 'decided', {self.log.said_of_kept(edge, *order[:2], 'is supposed to come'): order for order in decided if edge in self.log.side(*order)}
 
 
 def judge(text, checked, explained):
@@ -572,6 +623,9 @@ def spoilt(r, text, checked, explained):
             if it not in log.nodes and log.reason(a, it.name)[0] == log.reason(it.name, b)[0] == 'session':
                 way = ((a, it.name), (it.name, b))
                 yield 'a way by an aborted one', instead(n, *('%s before %s: session %s' % (*two, it.session) for two in way))
+    if lines[-1].startswith('known as: '):
+        yield 'a cycle without its name', lines[:-1]
+        yield 'another name of a cycle', lines[:-1] + [re.sub(r'\(G.*\)|each other', '(G2)', lines[-1])]
     if not cycles:
         return
     n = r.choice(cycles)
@@ -585,33 +639,57 @@ def spoilt(r, text, checked, explained):
             yield 'a step is named that is no earlier one', instead(n, bare[n].replace(named, '[%d]' % later))
         yield 'a step of number 0 is named', instead(n, bare[n].replace(named, '[0]'))
         yield 'a step is called a supposition', instead(n, bare[n].replace('by %s comes' % named, 'is supposed to come'))
+        yield from spoilt_back(bare, n, instead)
     if orders:
         yield from spoilt_tree(r, log, lines, bare, without, instead)
     if not steps:
         return
     n = r.choice(steps)
-    behind = next(m for m in range(n + 2, len(lines)) if m not in edges)
+    walk = next(m for m in range(n + 1, len(lines)) if m in edges)
+    behind = next(m for m in range(walk, len(lines)) if m not in edges)
     number, key, first, second = STEP.fullmatch(lines[n]).groups()
-    reader, other, v = OTHERWISE.fullmatch(lines[n + 1]).groups()
-    u, both = other, lines[n:n + 2]
+    u, v, both = EDGE.fullmatch(bare[behind - 1])[2], EDGE.fullmatch(bare[walk])[1], lines[n:walk]
 
     def stepped(*those):
-        return lines[:n] + list(those) + lines[n + 2:]
+        return lines[:n] + list(those) + lines[walk:]
 
     yield 'a step is missing', without(n, behind)
     yield 'a step is missing, and the others renamed', renamed(without(n, behind), -1, int(number) - 1)
     yield 'a step stands twice', renamed(lines[:behind], 0) + renamed(lines[n:], 1, int(number) - 1)
-    yield 'a step without its walk', without(n + 2, behind)
-    yield 'a step without its second line', without(n + 1)
+    yield 'a step without its walk', without(walk, behind)
     yield 'the versions are exchanged', stepped(*log.said_of_step(number, key, second, first, u, v))
-    yield 'what is refuted is turned round', stepped(*log.said_of_step(number, key, first, second, v, u))
     yield 'another number', stepped(*log.said_of_step(int(number) + 1, key, first, second, u, v))
-    yield 'another key', stepped(both[0].replace('] %s: ' % key, '] %s_: ' % key), both[1])
-    for place in (0, 1):
+    yield 'another key', stepped(both[0].replace('] %s: ' % key, '] %s_: ' % key), *both[1:])
+    if both[1:]:
+        yield 'a step without its second line', without(n + 1)
+        yield 'what is refuted is turned round', stepped(*log.said_of_step(number, key, first, second, v, u))
+        yield 'the walk is not said to end there', stepped(both[0], both[1].rsplit(' and comes after ', 1)[0] + ':')
+    else:
+        op = r.choice(log.named[u].ops)
+        yield 'a read is told where none is', stepped(both[0], '    since %s reads %d (line %d) and comes after %s:' % (u, op.wid, op.line, v))
+    n = r.randrange(walk, behind)
+    for moved in (bare[n], '  ' + bare[n], '   ' + bare[n], '     ' + bare[n], '      ' + bare[n]):
+        yield 'a walk is not indented so', lines[:n] + [moved] + lines[n + 1:]
+    n = cycles[0] + 1
+    if not orders:
+        yield 'a cycle behind steps is indented', lines[:n] + ['    ' + lines[n]] + lines[n + 1:]
+    n = steps[int(number) - 1]
+    for place in range(len(both)):
         for at in [found.start() for found in re.finditer(r'[0-9]+(?=, which|[)]|$| \(line)', both[place])]:
             spoilt_line = both[place][:at] + '9' + both[place][at:]
             yield 'another number in a step', stepped(*(both[:place] + [spoilt_line] + both[place + 1:]))
     yield 'all numbers one higher', renamed(lines, 1)
+
+
+def spoilt_back(bare, n, instead):
+    """The same of what an edge by an order says of the version to which another goes back."""
+    head, tail = re.fullmatch(r'(.*?\(line [0-9]+\))(.*)', bare[n]).groups()
+    back = re.match(r', which goes back to ([0-9]+)', tail)
+    if back:
+        yield 'it is not told to what a version goes back', instead(n, head + tail[back.end():])
+        yield 'a version goes back to another', instead(n, head + ', which goes back to %s9' % back[1] + tail[back.end():])
+    else:
+        yield 'a version goes back to itself', instead(n, head + ', which goes back to %s' % bare[n][:len(head)].split(' ')[-3] + tail)
 
 
 def spoilt_tree(r, log, lines, bare, without, instead):
@@ -647,11 +725,14 @@ def spoilt_tree(r, log, lines, bare, without, instead):
     chosen = [(n, *found.groups()) for n, found in ((n, EDGE.fullmatch(line)) for n, line in enumerate(bare)) if found and SUPPOSED.fullmatch(found[3])]
     for n, a, b, said in chosen[:3]:
         found = SUPPOSED.fullmatch(said)
+        yield from spoilt_back(bare, n, instead)
         yield 'an order of another key is named', instead(n, '%s before %s: %s' % (a, b, said[:found.end(2)] + '_' + said[found.end(2):]))
         yield 'a supposition is called a step', instead(n, '%s before %s: %s' % (a, b, said.replace('is supposed to come', 'by [1] comes')))
         for it in log.nodes:
             if it.name != b and it.writes(found[2]):
-                yield 'another version is named', instead(n, '%s before %s: %s' % (a, b, log.said_of_kept((a, it.name), found[2], 'is supposed to come')))
+                left, held = it.writes(found[2])[-1], said[:said.index(' before ')]
+                yield 'another version is named', instead(n, '%s before %s: %s before %d, which %s wrote (line %d)'
+                                                          % (a, b, held, left.wid, it.name, left.line))
         for op in [op for op in log.named[a].ops if op.key == found[2]][:1]:
             there = '%s %s %s %d (line %d),' % (a, 'reads' if ' wrote ' + found[2] in said[:found.end(2)] else 'wrote', op.key, op.wid, op.line)
             yield 'a read is called a write', instead(n, '%s before %s: %s' % (a, b, there + said.split(',', 1)[1]))
@@ -721,7 +802,7 @@ BY_HAND = [
     # session, over an aborted one, and read
     by_hand('session 1, begin, r x 1, commit, begin, w x 9, abort, begin, w x 1, commit', 'A8 cycle of known edges', 'cycle 1.1 1.3 1.1',
             '1.1 before 1.3: session 1', '1.3 before 1.1: 1.1 reads x 1 (line 3), which 1.3 wrote (line 9)',
-            'known as: circular information flow (G1c-process)'),
+            'known as: a read from the future (G1c-process)'),
     # anti-dependencies, of the least key, with the first operations
     by_hand('session 1, begin, w b 1, abort, session 2, begin, r a 0, r a 0, r b 0, w a 2, w a 3, w b 4, w b 8, r c 0, r c 0, commit, '
             'session 3, begin, r c 0, w c 5, w c 9, w d 7, r b 0, r b 0, r a 0, commit, session 4, begin, r a 0, w a 6, abort',
@@ -750,11 +831,11 @@ BY_HAND = [
     # moments
     by_hand('log 3, session 5, begin 7, r x 1, commit 8, session 6, begin 9, w x 1, commit 10', 'A8 cycle of known edges', 'cycle 5.1 6.1 5.1',
             '5.1 before 6.1: 5.1 ended at 8 (line 5), 6.1 began at 9 (line 7)', '6.1 before 5.1: 5.1 reads x 1 (line 4), which 6.1 wrote (line 8)',
-            'known as: circular information flow (G1c-realtime)'),
+            'known as: a read from the future (G1c-realtime)'),
     # the session of two comes before what one reads of the other
     by_hand('session 1, begin, w x 1, r y 2, commit, begin, r x 1, w y 2, commit', 'A8 cycle of known edges', 'cycle 1.1 1.2 1.1',
             '1.1 before 1.2: session 1', '1.2 before 1.1: 1.1 reads y 2 (line 4), which 1.2 wrote (line 8)',
-            'known as: circular information flow (G1c-process)'),
+            'known as: a read from the future (G1c-process)'),
 ]
 
 

@@ -221,7 +221,7 @@ def fault(page, text, said):
     if drawn[0] != wanted[0] and not set(drawn[0]) < set(wanted[0]):
         return 'the first picture has %r, wanted %r' % (drawn[0], wanted[0])
     otherwise = sum('otherwise' in looks for _, arrows in page.pictures for looks, *_ in arrows)
-    found = [name for form, at in ((explained.STEP, slice(2, 4)), (explained.OTHERWISE, slice(2))) for it in form.finditer(said) for name in it.groups()[at]]
+    found = [name for form, at in ((explained.STEP, slice(2, 4)), (explained.SINCE, slice(2))) for it in form.finditer(said) for name in it.groups()[at]]
     told = set(found) - {None} if steps <= picture.MOST_PICTURES else set()
     if otherwise != min(steps, picture.MOST_PICTURES) or not told <= set(marked):
         return '%d arrows say otherwise, of %d steps; no box of %r' % (otherwise, steps, told - set(marked))

@@ -30,8 +30,7 @@ STEP = re.compile(r'\[(\d+)\] %s:' % VERSIONS.pattern)
 ORDER = re.compile('suppose %s:' % VERSIONS.pattern)
 LEAVES = re.compile('whichever of these versions came first, a cycle closes(, [0-9]+ in all; the first 1000 of them)?:')
 KEPT = re.compile(r', which (?:by \[%s\] comes|is supposed to come) before %s, which %s wrote %s' % (NUMBER, NUMBER, NAME, LINE))
-OTHERWISE = re.compile('    (?:%s read %s %s%s(?:, which goes back to %s)?, so )?otherwise %s would stand before %s, but'
-                       % (NAME, NUMBER, LINE, WHERE, NUMBER, NAME, NAME))
+SINCE = re.compile('    since %s reads %s %s%s(?:, which goes back to %s)?(,)? and comes after %s:' % (NAME, NUMBER, LINE, WHERE, NUMBER, NAME))
 RANGE = re.compile(r'(\d+)\.(\d+)(?: to \d+\.(\d+))? \(lines (\d+) to (\d+)\)')
 
 Txn = collections.namedtuple('Txn', 'ops outcome begun ended')
@@ -251,16 +250,25 @@ class Checked:
             self.must((key, wid) not in self.log.writes and wid != '0', 'somebody wrote it')
             self.elsewhere(key, wid)
         elif self.word(', which goes back to the initial value'):
-            self.must(wid != '0', 'it is the initial value')
+            self.must(self.goes_back(key, wid, '0'), 'it does not go back to that')
         elif self.rest.startswith(', which goes back to '):
             back, = self.take(BACK)
-            self.must(back not in ('0', wid), 'it is that')
+            self.must(self.goes_back(key, wid, back), 'it does not go back to that')
             self.origin(key, back)
         else:
             found = self.take(WRITER)
             if found:
                 self.must((found[1] != 'wrote') == (found[0] == name and int(found[2]) > int(line)), 'written later or not')
                 self.writer(key, wid, *found)
+
+    def goes_back(self, key, wid, back):
+        """Whether who wrote a version read this other one, or one that goes back to it."""
+        found = []
+        while (key, wid) in self.log.writes and wid not in found:
+            found.append(wid)
+            read = [said for said in self.log.ops(self.log.names[self.log.writes[key, wid]]) if said.startswith('r %s ' % key)]
+            wid = read[0].split(' ')[2] if read else None
+        return back in found[1:] + [wid]
 
     def elsewhere(self, key, wid):
         """The write of the identity to another key, where there is one."""
@@ -301,6 +309,8 @@ class Checked:
         elif re.match('%s wrote %s %s %s' % (NAME, KEY, NUMBER, LINE), self.rest):
             name, key, wid, line = self.take(re.compile('%s wrote %s %s %s' % (NAME, KEY, NUMBER, LINE)))
             self.operation(name, 'w %s %s' % (key, wid), line)
+            back = self.take(BACK)
+            self.must(not back or self.goes_back(key, wid, back[0]), 'it does not go back to that')
             self.must(self.kept(first, second, name, key, steps), 'no order')
         elif re.match('%s ended at ' % NAME, self.rest):
             found = self.take(re.compile('%s ended at %s %s, %s began at %s %s' % (NAME, NUMBER, LINE, NAME, NUMBER, LINE)))
@@ -365,25 +375,38 @@ class Checked:
                 self.must(self.rest != told, 'it is not told who wrote that')
         return behind
 
+    def since(self, text, step):
+        """The read of the key of this step, by which the one that ends its walk stands there."""
+        late, wid, line, where, back, comma, target = SINCE.fullmatch(text).groups()
+        key, other, target_of_step = step
+        self.operation(late, 'r %s %s' % (key, wid), line, where)
+        self.must(target == target_of_step, 'another stands before it')
+        self.must(wid == other if back is None else back == other and self.goes_back(key, wid, back), 'it is another version')
+        self.must((comma is not None) == (where is not None or back is not None), 'a comma')
+        return late
+
     def all(self, lines, code):
         steps, behind, edges = 0, None, []
-        cycles, key = [], None
+        # of a step its key, the version that comes second, and who wrote the first; who ends its walk, and that
+        cycles, step, late, walk = [], None, None, []
         for text in lines:
             bare = text.lstrip(' ')
             self.rest = bare
             if text.startswith('known as: ') or LEAVES.fullmatch(text):
                 continue
+            if step and not EDGE.match(bare) and not SINCE.fullmatch(text):
+                self.must(walk and walk[0][0] == step[2] and late in (None, walk[-1][1]), 'a walk of others')
+                self.must(all(one[1] == other[0] for one, other in zip(walk, walk[1:])), 'edges that do not meet')
+                step, late, walk = None, None, []
             if STEP.fullmatch(text):
                 number, key, *both = STEP.fullmatch(text).groups()
                 steps += 1
                 self.must(int(number) == steps, 'number of a step')
                 self.versions(key, *both)
-            elif OTHERWISE.fullmatch(text):
-                late, wid, line, where, back, other, target = OTHERWISE.fullmatch(text).groups()
-                self.must(late in (None, other), 'another stands elsewhere')
-                if late:
-                    self.operation(late, 'r %s %s' % (key, wid), line, where)
-                self.placed(target, None)
+                step = key, both[3], both[1]
+            elif SINCE.fullmatch(text):
+                self.must(step and not late and not walk, 'no step')
+                late = self.since(text, step)
             elif re.fullmatch('cycle from %s:' % NAME, bare):
                 cycles.append((bare[11:-1], []))
             elif ORDER.fullmatch(bare):
@@ -391,7 +414,8 @@ class Checked:
             elif EDGE.match(bare):
                 edge = self.edge(steps)
                 self.must(self.rest == '', 'left: ' + self.rest)
-                (cycles[-1][1] if cycles else edges).append(edge)
+                self.must(code not in ('A8', 'A9') or len(text) - len(bare) == (4 if step else 0), 'indented')
+                (walk if step else cycles[-1][1] if cycles else edges).append(edge)
             else:
                 behind = self.line(text, behind, steps)
                 self.must(self.rest == '', 'left: ' + self.rest)

@@ -133,8 +133,8 @@ class Checks:
         answer = self.call(self.put('open.log', generate.stale_log(0, 0, 1, 1)), '--program', self.failing('unknown', 0, 'echo unknown: 1 closed; exit 3'))
         self.expect(answer[0] == 3 and 'unknown: 1 closed' in answer[2], 'unknown: %r' % (answer,))
         # what was found stays, where something goes wrong later
-        for name, calls, then, wanted in (('device', 5, 'echo device failed: output >&2; exit 5', 'device failed'), ('killed', 5, 'kill -9 $$', '-9'),
-                                          ('late', 9, 'exit 70', 'ended with 70'), ('first', 1, 'exit 70', 'ended with 70')):
+        for name, calls, then, wanted in (('device', 3, 'echo device failed: output >&2; exit 5', 'device failed'), ('killed', 3, 'kill -9 $$', '-9'),
+                                          ('late', 4, 'exit 70', 'ended with 70'), ('first', 1, 'exit 70', 'ended with 70')):
             answer = self.call(example('busy_store'), '-o', small, '--program', self.failing(name, calls, then))
             self.expect(answer[0] == AROUND and wanted in answer[2] and 'stopped' in answer[2], '%s: %r' % (name, answer))
             with open(small, 'rb') as file:

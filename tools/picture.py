@@ -365,7 +365,7 @@ class Page:
         words = STEP % tuple(element('b', escape(it)) for it in (step.key, step.second, step.first, step.late, step.first, step.first, step.late))
         drawing = self.pictures_of(scenes_of_step(self.history, step)) if draw else ''
         inner = element('div', element('p', words) + self.with_lines(drawing, self.edges(step.walk)), id='step-%d' % step.number)
-        return element('details', element('summary', escape(re.sub(', but$', '', step.said)), data_edge=step.line) + inner, class_='step')
+        return element('details', element('summary', escape(step.said.rstrip(':')), data_edge=step.line) + inner, class_='step')
 
     def steps_section(self):
         if not self.steps:

@@ -14,14 +14,15 @@ EDGE = re.compile('%s before %s: (.+)' % (NODE, NODE))
 VERSION = r'([0-9]+), which %s wrote \(line %s\)' % (NODE, NUMBER)
 VERSIONS = '%s: %s, comes before %s' % (KEY, VERSION, VERSION)
 STEP = re.compile(r'\[%s\] %s:' % (NUMBER, VERSIONS))
-OTHERWISE = re.compile(r'    (?:%s read [0-9]+ \(line %s\)(?:, which goes back to [0-9]+)?, so )?otherwise %s would stand before %s, but'
-                       % (NODE, NUMBER, NODE, NODE))
+SINCE = re.compile(r'    since %s reads [0-9]+ \(line %s\)(?:, which goes back to [0-9]+,)? and comes after %s:' % (NODE, NUMBER, NODE))
 CYCLE = re.compile('cycle from %s:' % NODE)
 ORDER = re.compile('suppose %s:' % VERSIONS)
 KNOWN = re.compile('known as: (.+)')
 LEAVES = re.compile('whichever of these versions came first, a cycle closes(?:, %s in all; the first 1000 of them)?:' % NUMBER)
 # What is said of an edge by an order of versions: what its first transaction has of the key, and what the second one wrote.
-KEPT = r'%s (?:reads|wrote) %s ([0-9]+) \(line %s\), which %%s before %s' % (NODE, KEY, NUMBER, VERSION)
+KEPT = r'%s (?:reads|wrote) %s ([0-9]+) \(line %s\)(?:, which goes back to [0-9]+)?, which %%s before %s' % (NODE, KEY, NUMBER, VERSION)
+# By how many decisions the walk of a step is indented.
+WALK = 2
 # Where a line of an anomaly names a transaction.
 TELLS = re.compile('(?:^|, which |; )%s (?=reads |read |wrote |writes |overwrites )' % NODE)
 # The kinds of what is said of an edge, by its form; the first that fits.
@@ -73,7 +74,8 @@ class Cycle:
 
 @dataclass
 class Step:
-    """Of a key, the version of `first` comes before that of `second`: the other way `late` would stand before `first`, against the walk."""
+    """Of a key, the version of `first` comes before that of `second`: the other way `late`, to which the walk leads from `first`, would stand
+    before `first`."""
     line: int
     number: int
     key: str
@@ -158,19 +160,24 @@ class Reader:
         start = self.next(CYCLE, depth)
         return start and Cycle(start[0], self.edges(depth))
 
+    def known_as(self):
+        known = self.next(KNOWN)
+        return known and known[1]
+
     def steps(self):
         found = []
         while True:
             step = self.next(STEP)
             if step is None:
                 return found
-            other = self.next(OTHERWISE)
-            if other is None:
-                self.at -= 1
-                return found
             line, number, key, _, first, _, _, second, _ = step
-            late = other[3]
-            found.append(Step(line, int(number), key, first, second, late, ' '.join(part.strip() for part in self.lines[line - 1:line + 1]), self.edges()))
+            self.next(SINCE)
+            said = ' '.join(part.strip(' ') for part in self.lines[line - 1:self.at])
+            walk = self.edges(WALK)
+            if not walk:
+                self.at = line - 1
+                return found
+            found.append(Step(line, int(number), key, first, second, walk[-1].second, said, walk))
 
     def leaves(self):
         """The cycles of a tree, each with the orders that are decided above it."""
@@ -213,12 +220,11 @@ def read(text):
     if it.code == 'A8':
         cycle = reader.next(ROUND)
         it.cycle = cycle and Cycle(cycle[0], reader.edges())
-        known = reader.next(KNOWN)
-        it.known_as = known and known[1]
+        it.known_as = reader.known_as()
     elif it.code in ('A9', TREE):
         it.steps = reader.steps()
         if it.code == 'A9':
-            it.cycle = reader.cycle()
+            it.cycle, it.known_as = reader.cycle(), reader.known_as()
         else:
             several = reader.next(LEAVES)
             it.count, it.leaves = several and several[1] and int(several[1]), reader.leaves()

@@ -12,8 +12,8 @@ use Rattle.auditing.specs.declared.judged.Finding.{Finding}
 use Rattle.auditing.specs.declared.judged.Finding.TheVariants as finding
 use Rattle.auditing.specs.declared.verdict.Verdict.{Verdict}
 use Rattle.auditing.specs.declared.verdict.Verdict.TheVariants as verdict
-use Rattle.audit_command.specs.declared.options.Form.{Form}
-use Rattle.audit_command.specs.declared.options.Form.TheVariants.{Text, Json}
+use Rattle.call_options.specs.declared.report_form.ReportForm.{ReportForm}
+use Rattle.call_options.specs.declared.report_form.ReportForm.TheVariants.{Text, Json}
 use Rattle.audit_command.specs.declared.totals.Totals.{Totals}
 
 -- how a command ends that tells a verdict
@@ -109,7 +109,7 @@ object_finding _ = codes ",\"code\":null,\"piece\":null"
 -- which nothing is said, then the counts.
 -- As an object: its verdict; and, where not that alone is asked for, code and piece, and then what
 -- nothing is said of.
-abbrev pub IsReport : Form → Bool → ℕ → Verdict → Totals → List ℕ → Type 0
+abbrev pub IsReport : ReportForm → Bool → ℕ → Verdict → Totals → List ℕ → Type 0
 IsReport Text true all v t text = text ≡ first_line all v
 IsReport Text false all v t text = (middle : List ℕ)
     × (text ≡ first_line all v ++ piece_line all v ++ middle ++ counts_text t)
@@ -118,7 +118,7 @@ IsReport Json false all v t text = (rest : List ℕ)
     × (text ≡ object_front v ++ object_finding v ++ rest)
 
 -- what is said of a refused log: nothing, or an object
-abbrev pub IsRefusal : Form → List ℕ → Type 0
+abbrev pub IsRefusal : ReportForm → List ℕ → Type 0
 IsRefusal Text text = text ≡ []
 IsRefusal Json text = (rest : List ℕ) × (text ≡ codes "{\"verdict\":\"refused\"" ++ rest)
 

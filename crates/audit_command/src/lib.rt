@@ -12,17 +12,17 @@
 
 mod command;
 mod counting;
-mod lying;
 mod objects;
 mod openings;
 mod options;
 mod refuted;
 mod reports;
+mod spans;
 mod told;
 mod totals;
 mod undecided;
 
 pub use command::audit;
 pub use openings::status_of;
-pub use options::{AuditOptions, Form};
+pub use options::AuditOptions;
 pub use totals::Totals;

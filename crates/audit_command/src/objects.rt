@@ -1,6 +1,6 @@
 //! What stands in an object behind its verdict.
 
-use crate::lying::Lines;
+use crate::spans::Lines;
 use crate::totals::Totals;
 use crate::undecided::why_text;
 use auditing::{Undecided, Verdict};

@@ -1,15 +1,7 @@
 //! What is asked of an audit.
 
 use auditing::AuditMeans;
-
-/// In what form an audit is told.
-#[derive(Clone, Copy, Debug, PartialEq, Eq)]
-pub enum Form {
-    /// Lines for people.
-    Text,
-    /// One object on one line.
-    Json,
-}
+use call_options::ReportForm;
 
 /// What is asked of an audit.
 #[derive(Clone, Copy)]
@@ -20,7 +12,7 @@ pub struct AuditOptions<'a> {
     pub size: Option<usize>,
     /// How many committed transactions the log must have.
     pub at_least: usize,
-    pub form: Form,
+    pub form: ReportForm,
     /// The first line alone, or of an object the verdict.
     pub quiet: bool,
     /// Whether to say why a piece is refuted.

@@ -1,8 +1,9 @@
 //! What is told of a refuted piece.
 
-use crate::lying::{Lines, Span};
 use crate::options::AuditOptions;
+use crate::spans::{Lines, Span};
 use auditing::Refuted;
+use call_options::AUDIT_DEFAULTS;
 use cutting::Part;
 use deciding::StrategyName;
 use held_pieces::Pieces;
@@ -10,9 +11,6 @@ use std::alloc::{AllocError, Global};
 
 /// Of how many sessions it is told where the piece lies.
 const LISTED: usize = 20;
-
-/// How many cubes the search of a piece may close, where no budget is stated.
-const DEFAULT_BUDGET: usize = 100_000;
 
 fn span_text(alloc: Global, span: Span) -> Result<String, AllocError> {
     let session = span.session;
@@ -27,7 +25,7 @@ fn span_text(alloc: Global, span: Span) -> Result<String, AllocError> {
 }
 
 /// Which transactions a piece of these parts has.
-fn lying_text(alloc: Global, lines: &Lines, parts: &[Part]) -> Result<String, AllocError> {
+fn spans_text(alloc: Global, lines: &Lines, parts: &[Part]) -> Result<String, AllocError> {
     let mut text = String::from_str(alloc, "transactions")?;
     for (i, part) in parts.iter().take(LISTED).enumerate() {
         if i > 0 {
@@ -92,17 +90,16 @@ fn size_words(alloc: Global, options: &AuditOptions<'_>) -> Result<String, Alloc
 /// The words of how pieces are judged, where that is another way than without them.
 fn means_words(alloc: Global, options: &AuditOptions<'_>) -> Result<String, AllocError> {
     let mut words = String::new(alloc);
-    match options.means.strategy {
-        StrategyName::Forced => {}
-        other => {
-            words.push_str(" --strategy ")?;
-            words.push_str(strategy_word(other))?;
-        }
+    let strategy = strategy_word(options.means.strategy);
+    if strategy != AUDIT_DEFAULTS.strategy {
+        words.push_str(" --strategy ")?;
+        words.push_str(strategy)?;
     }
     let budget = options.means.budget.get();
-    if budget != DEFAULT_BUDGET {
-        let stated = format!(in alloc; " --budget {budget}")?;
-        words.push_str(&stated)?;
+    let budget = format!(in alloc; "{budget}")?;
+    if budget.as_str() != AUDIT_DEFAULTS.budget {
+        words.push_str(" --budget ")?;
+        words.push_str(&budget)?;
     }
     Ok(words)
 }
@@ -168,7 +165,7 @@ pub fn refuted_text(
     if refuted.piece >= pieces.count() {
         return Ok(String::new(alloc));
     }
-    let mut text = lying_text(alloc, lines, pieces.parts(refuted.piece))?;
+    let mut text = spans_text(alloc, lines, pieces.parts(refuted.piece))?;
     text.push_str(why)?;
     Ok(text)
 }

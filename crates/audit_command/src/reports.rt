@@ -4,14 +4,15 @@ ghost use Rattle.std.specs.Prelude.{◌≡◌, length, IfOk};
 ghost use Rattle.std.specs.String.{string_bytes};
 ghost use Rattle.audit_command.specs.Report.{IsReport, IsRefusal, NamesOneOf};
 
-use crate::lying::Lines;
 use crate::objects::{object_rest, refusal_rest};
 use crate::openings::{counts_text, first_line, object_finding, object_front, piece_line};
-use crate::options::{AuditOptions, Form};
+use crate::options::AuditOptions;
 use crate::refuted::refuted_text;
+use crate::spans::Lines;
 use crate::totals::Totals;
 use crate::undecided::undecided_text;
 use auditing::{Judged, Verdict};
+use call_options::ReportForm;
 use held_pieces::Pieces;
 use session_log::{LogFault, Session, Version};
 use std::alloc::{AllocError, Global};
@@ -57,7 +58,7 @@ fn text_report(
     audited: &Audited<'_, '_>,
 ) -> Result<String, AllocError>
     requires named { NamesOneOf (length audited.now.pieces.now) audited.now.verdict }
-    ensures report { IfOk result (λ text. IsReport Form.Text options.now.quiet
+    ensures report { IfOk result (λ text. IsReport ReportForm.Text options.now.quiet
         (length audited.now.pieces.now) audited.now.verdict
         audited.now.totals.now (string_bytes text)) }
 {
@@ -82,7 +83,7 @@ fn object_report(
     audited: &Audited<'_, '_>,
 ) -> Result<String, AllocError>
     requires named { NamesOneOf (length audited.now.pieces.now) audited.now.verdict }
-    ensures report { IfOk result (λ text. IsReport Form.Json options.now.quiet
+    ensures report { IfOk result (λ text. IsReport ReportForm.Json options.now.quiet
         (length audited.now.pieces.now) audited.now.verdict
         audited.now.totals.now (string_bytes text)) }
 {
@@ -119,8 +120,8 @@ pub fn report(
         audited.now.totals.now (string_bytes text)) }
 {
     match options.form {
-        Form::Text => text_report(alloc, options, audited),
-        Form::Json => object_report(alloc, options, audited),
+        ReportForm::Text => text_report(alloc, options, audited),
+        ReportForm::Json => object_report(alloc, options, audited),
     }
 }
 
@@ -134,8 +135,8 @@ pub fn refusal(
     ensures refusal { IfOk result (λ text. IsRefusal options.now.form (string_bytes text)) }
 {
     match options.form {
-        Form::Text => Ok(String::new(alloc)),
-        Form::Json => refusal_object(alloc, options.quiet, log, fault),
+        ReportForm::Text => Ok(String::new(alloc)),
+        ReportForm::Json => refusal_object(alloc, options.quiet, log, fault),
     }
 }
 
@@ -145,7 +146,7 @@ fn refusal_object(
     log: &[u8],
     fault: LogFault,
 ) -> Result<String, AllocError>
-    ensures refusal { IfOk result (λ text. IsRefusal Form.Json (string_bytes text)) }
+    ensures refusal { IfOk result (λ text. IsRefusal ReportForm.Json (string_bytes text)) }
 {
     let mut text = String::from_str(alloc, "{\"verdict\":\"refused\"")?;
     if quiet {

@@ -3,9 +3,10 @@
 ghost use Rattle.std.specs.Prelude.{length};
 ghost use Rattle.auditing.specs.Audits.{ArePiecesOfLog};
 
-use crate::options::{AuditOptions, Form};
+use crate::options::AuditOptions;
 use crate::refuted::commands;
 use auditing::Verdict;
+use call_options::ReportForm;
 use held_pieces::Pieces;
 use session_log::{Session, Version};
 use std::alloc::{AllocError, Global};
@@ -17,8 +18,8 @@ use tell_pieces::explain_piece;
 /// Whether lines are told behind the first.
 fn has_lines(options: &AuditOptions<'_>) -> bool {
     match options.form {
-        Form::Text => !options.quiet,
-        Form::Json => false,
+        ReportForm::Text => !options.quiet,
+        ReportForm::Json => false,
     }
 }
 

@@ -1,7 +1,7 @@
 //! What is told of pieces that are not decided.
 
 use crate::counting::is_committed;
-use crate::lying::Lines;
+use crate::spans::Lines;
 use auditing::{Undecided, Why, count_log};
 use cutting::Part;
 use held_pieces::Pieces;

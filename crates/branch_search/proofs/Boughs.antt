@@ -9,7 +9,7 @@ use Rattle.cube_laws.specs.Cubes.{Cube, is_decided, edges_under}
 use Rattle.cube_laws.specs.Steps.{is_cycle}
 use Rattle.cube_laws.specs.declared.messages.CubeState.{CubeState}
 use Rattle.cube_laws.specs.declared.messages.CubeState.TheVariants.{Open, Held, Split as Divided, Refuted, Solved as Ended}
-use Rattle.branch_search.specs.declared.tree.Decision.{Decision}
+use Rattle.branch_search.specs.declared.tree.CubeDecision.{CubeDecision}
 use Rattle.branch_search.specs.declared.tree.Growth.{Growth}
 use Rattle.branch_search.specs.declared.tree.Growth.TheVariants.{Leaf, Inner}
 use Rattle.branch_search.specs.Growing.{bud}
@@ -39,12 +39,12 @@ pub record HasCycle (p : Polygraph) (cs : List Cube) (gs : List Growth) (i : ℕ
   pub here : slice_get gs i ≡ Some (Leaf line)
   pub cycle : is_cycle (edges_under p (slice_index_or cs i [])) line ≡ true
 
-pub record IsChildAt (ps : List ℕ) (ds : List (Option Decision)) (i c : ℕ) (side : Side) (j : ℕ) : Type 0 where
+pub record IsChildAt (ps : List ℕ) (ds : List (Option CubeDecision)) (i c : ℕ) (side : Side) (j : ℕ) : Type 0 where
   pub later : i < j
   pub parent : slice_get ps j ≡ Some i
   pub decision : slice_get ds j ≡ Some (Some (record { choice = c; side = side }))
 
-pub record HasChildren (p : Polygraph) (cs : List Cube) (ps : List ℕ) (ds : List (Option Decision)) (gs : List Growth) (i c : ℕ) : Type 0 where
+pub record HasChildren (p : Polygraph) (cs : List Cube) (ps : List ℕ) (ds : List (Option CubeDecision)) (gs : List Growth) (i c : ℕ) : Type 0 where
   pub choice : c < length p.choices
   pub undecided : is_decided (slice_index_or cs i []) c ≡ false
   pub first : ℕ
@@ -54,7 +54,7 @@ pub record HasChildren (p : Polygraph) (cs : List Cube) (ps : List ℕ) (ds : Li
   pub two : IsChildAt ps ds i c Two second
   pub only : (j : ℕ) → 0 < j → slice_get ps j ≡ Some i → (j ≡ first) ⊎ (j ≡ second)
 
-pub record IsGrown (p : Polygraph) (cs : List Cube) (ms : List CubeState) (ps : List ℕ) (ds : List (Option Decision)) (gs : List Growth) : Type 0 where
+pub record IsGrown (p : Polygraph) (cs : List Cube) (ms : List CubeState) (ps : List ℕ) (ds : List (Option CubeDecision)) (gs : List Growth) : Type 0 where
   pub cubes : length cs ≡ length ms
   pub parents : length ps ≡ length ms
   pub decisions : length ds ≡ length ms
@@ -87,7 +87,7 @@ grown_first p = record {
     open_is zero m e never = never (some_is Open m e)
     open_is (suc i) m e never = cc
 
-module _ (p : Polygraph) (cs : List Cube) (ms : List CubeState) (ps : List ℕ) (ds : List (Option Decision)) (gs : List Growth) (id : ℕ) (old : CubeState) (here : slice_get ms id ≡ Some old) (live : IsLive old) (g : IsGrown p cs ms ps ds gs) where
+module _ (p : Polygraph) (cs : List Cube) (ms : List CubeState) (ps : List ℕ) (ds : List (Option CubeDecision)) (gs : List Growth) (id : ℕ) (old : CubeState) (here : slice_get ms id ≡ Some old) (live : IsLive old) (g : IsGrown p cs ms ps ds gs) where
   -- a split node is not the one that is live
   apart : (i c : ℕ) → slice_get ms i ≡ Some (Divided c) → i ≡ id → ⊥
   apart i c e is = live.not_divided c (some_is old (Divided c) (sym here ∙ ap (λ k. slice_get ms k) (sym is) ∙ e))
@@ -150,10 +150,10 @@ module _ (p : Polygraph) (cs : List Cube) (ms : List CubeState) (ps : List ℕ) 
     abbrev new_ps : List ℕ
     new_ps = ps ++ id ∷ id ∷ []
 
-    abbrev by : Side → Option Decision
+    abbrev by : Side → Option CubeDecision
     by side = Some (record { choice = c; side = side })
 
-    abbrev new_ds : List (Option Decision)
+    abbrev new_ds : List (Option CubeDecision)
     new_ds = ds ++ by One ∷ by Two ∷ []
 
     abbrev grown_gs : List Growth

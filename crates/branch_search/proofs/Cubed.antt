@@ -4,7 +4,7 @@ use Rattle.std.specs.Prelude.{slice_get, slice_set, slice_index_or}
 use Rattle.std.specs.Option.{option_map_or}
 use Rattle.pruning_laws.specs.declared.side.Side.TheVariants.{One, Two}
 use Rattle.cube_laws.specs.Cubes.{Cube}
-use Rattle.branch_search.specs.declared.tree.Decision.{Decision}
+use Rattle.branch_search.specs.declared.tree.CubeDecision.{CubeDecision}
 use Rattle.branch_search.specs.declared.tree.Growth.{Growth}
 use Rattle.branch_search.specs.declared.tree.TreeNode.{TreeNode}
 use Rattle.branch_search.specs.Growing.{sprout, with_growth}
@@ -14,7 +14,7 @@ use Rattle.branch_search.proofs.Lists.{map_some, map_set, set_self, or_left}
 abbrev pub parents_of : List TreeNode → List ℕ
 parents_of nodes = map (λ n. n.parent) nodes
 
-abbrev pub decisions_of : List TreeNode → List (Option Decision)
+abbrev pub decisions_of : List TreeNode → List (Option CubeDecision)
 decisions_of nodes = map (λ n. n.decision) nodes
 
 abbrev pub growths_of : List TreeNode → List Growth
@@ -54,7 +54,7 @@ cubes_same before (x ∷ xs) (y ∷ ys) p d =
     let q = head_is x.parent y.parent (parents_of xs) (parents_of ys) p in
     let e = head_is x.decision y.decision (decisions_of xs) (decisions_of ys) d in
     cubes_same (before ++ cube_below (slice_index_or before x.parent []) x.decision ∷ []) xs ys (tail_is x.parent y.parent (parents_of xs) (parents_of ys) p) (tail_is x.decision y.decision (decisions_of xs) (decisions_of ys) d)
-    ∙ ap (λ (z : ℕ × Option Decision). cubes_after (before ++ cube_below (slice_index_or before z.0 []) z.1 ∷ []) ys) (λ i. (q i, e i))
+    ∙ ap (λ (z : ℕ × Option CubeDecision). cubes_after (before ++ cube_below (slice_index_or before z.0 []) z.1 ∷ []) ys) (λ i. (q i, e i))
 
 pub cubes_append : (before : List Cube) (xs ys : List TreeNode) → cubes_after before (xs ++ ys) ≡ cubes_after (cubes_after before xs) ys
 cubes_append before [] ys = refl

@@ -17,7 +17,7 @@ use Rattle.cube_laws.specs.declared.messages.CubeEvent.{CubeEvent}
 use Rattle.cube_laws.specs.declared.messages.CubeEvent.TheVariants.{Claim, TakeAny, Split, Refute, Solve, Release}
 use Rattle.cube_laws.specs.declared.messages.CubeReply.{CubeReply}
 use Rattle.cube_laws.specs.declared.messages.CubeReply.TheVariants.{Finished, HasCube, NotOpen, NoneNow, Cube as Given, NoCube, BadChoice, Children, BadCycle, Closed, BadOrder, Solved, Released}
-use Rattle.branch_search.specs.declared.tree.Decision.{Decision}
+use Rattle.branch_search.specs.declared.tree.CubeDecision.{CubeDecision}
 use Rattle.branch_search.specs.declared.tree.Growth.{Growth}
 use Rattle.branch_search.specs.declared.tree.Growth.TheVariants.{Leaf, Inner}
 use Rattle.branch_search.specs.declared.tree.TreeNode.{TreeNode}
@@ -142,7 +142,7 @@ module _ (p : Polygraph) (s : State) (nodes : List TreeNode) (h now : ℕ → Op
       record {
         poly = t.poly;
         cubes = cs ∙ t.cubes ∙ cubes_same [] nodes (with_growth nodes id (Leaf line)) (sym ps) (sym ds);
-        boughs = subst (λ (z : List Cube × List CubeState × List ℕ × List (Option Decision) × List Growth). IsGrown p z.0 z.1 z.2 z.3 z.4) (λ i. (sym cs i, sym ms i, sym ps i, sym ds i, sym gs i))
+        boughs = subst (λ (z : List Cube × List CubeState × List ℕ × List (Option CubeDecision) × List Growth). IsGrown p z.0 z.1 z.2 z.3 z.4) (λ i. (sym cs i, sym ms i, sym ps i, sym ds i, sym gs i))
             (grown_refuted p (cubes_in s.nodes) (marks_of s.nodes) (parents_of nodes) (decisions_of nodes) (growths_of nodes) id (Held seat) at (live_held seat) t.boughs line here);
         tied = subst (λ l. Tied l now) (sym ms) (tied_left (marks_of s.nodes) h now seat id Refuted low t.tied others held (not_held Refuted (inr (inr (inl refl)))) none);
       }
@@ -184,7 +184,7 @@ module _ (p : Polygraph) (s : State) (nodes : List TreeNode) (h now : ℕ → Op
       record {
         poly = t.poly;
         cubes = cs ∙ sym (cubes_append [] old sprouts ∙ ap (λ (l : List Cube). cubes_after l sprouts) after ∙ cubes_split (cubes_in s.nodes) id c (cube_at s id) (omega (arith, lt, many)) (sym (cube_is id)));
-        boughs = subst (λ (z : List Cube × List CubeState × List ℕ × List (Option Decision) × List Growth). IsGrown p z.0 z.1 z.2 z.3 z.4) (λ i. (sym cs i, sym ms i, sym ps i, sym ds i, sym gs i))
+        boughs = subst (λ (z : List Cube × List CubeState × List ℕ × List (Option CubeDecision) × List Growth). IsGrown p z.0 z.1 z.2 z.3 z.4) (λ i. (sym cs i, sym ms i, sym ps i, sym ds i, sym gs i))
             (grown_split p (cubes_in s.nodes) (marks_of s.nodes) (parents_of nodes) (decisions_of nodes) (growths_of nodes) id (Held seat) at (live_held seat) t.boughs c choice undecided one two (length nodes) (sym (map_length (λ (y : TreeNode). y.growth) nodes) ∙ t.boughs.growths));
         tied = subst (λ l. Tied l now) (sym ms)
             (tied_more (slice_set (marks_of s.nodes) id (Divided c)) now (tied_left (marks_of s.nodes) h now seat id (Divided c) low t.tied others held (not_held (Divided c) (inr (inr (inr (c, refl))))) none));

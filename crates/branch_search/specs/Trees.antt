@@ -6,12 +6,12 @@ use Rattle.pruning_laws.specs.declared.side.Side.{Side}
 use Rattle.pruning_laws.specs.declared.side.Side.TheVariants.{One, Two}
 use Rattle.cube_laws.specs.Cubes.{Cube, is_decided, edges_under}
 use Rattle.cube_laws.specs.Steps.{is_cycle}
-use Rattle.branch_search.specs.declared.tree.Decision.{Decision}
+use Rattle.branch_search.specs.declared.tree.CubeDecision.{CubeDecision}
 use Rattle.branch_search.specs.declared.tree.Growth.TheVariants.{Leaf, Inner}
 use Rattle.branch_search.specs.declared.tree.TreeNode.{TreeNode}
 
 -- a node's cube: what it decides itself, and then its parent's cube
-abbrev pub cube_below : Cube → Option Decision → Cube
+abbrev pub cube_below : Cube → Option CubeDecision → Cube
 cube_below cube None = cube
 cube_below cube (Some d) = (d.choice, d.side) ∷ cube
 

@@ -11,7 +11,7 @@ ghost use Rattle.branch_search.specs.Growing.{held_after, bud, sprout, with_grow
 ghost use Rattle.branch_search.specs.Growing.{grown};
 ghost use Rattle.branch_search.specs.Trees.{IsRefutationTree};
 
-use crate::tree::{Decision, Growth, Tree, TreeNode};
+use crate::tree::{CubeDecision, Growth, Tree, TreeNode};
 use cube_laws::{CubeEvent, CubeReply};
 use desk::history::Entry;
 use polygraph::ChoiceIx;
@@ -147,7 +147,7 @@ fn child(alloc: Global, parent: usize, choice: ChoiceIx, side: Side) -> TreeNode
 {
     TreeNode {
         parent,
-        decision: Some(Decision { choice, side }),
+        decision: Some(CubeDecision { choice, side }),
         growth: bud_of(alloc),
     }
 }

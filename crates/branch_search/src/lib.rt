@@ -1,7 +1,7 @@
 //! A search for a serial order: workers split, refute and solve the cubes of a polygraph.
 //!
-//! Called by `deciding`; `tree_checks` and the crates that tell read its trees. It knows no key, no
-//! text and no command.
+//! Called by `deciding`; `tree_checks`, `tell_trees` and `tell_decision` read its trees. It knows no
+//! key, no text and no command.
 //!
 //! The workers sit at a desk whose machine keeps the tree of cubes. A worker takes a cube, refutes
 //! it where its edges have a cycle, solves it where no choice is left, and else splits it by the
@@ -11,7 +11,6 @@
 mod answer;
 mod crew;
 mod growing;
-pub mod laws;
 mod reading;
 mod retrace;
 mod searching;
@@ -24,6 +23,6 @@ pub use branching::{
 };
 pub use cube_laws::{CubeEvent, CubeReply};
 pub use cube_machine::{Budget, CubeMachine};
-pub use searching::search;
+pub use searching::{Effort, search};
 pub use session_history::NodeLine;
-pub use tree::{Decision, Growth, Tree, TreeNode};
+pub use tree::{CubeDecision, Growth, Tree, TreeNode};

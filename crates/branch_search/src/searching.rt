@@ -23,8 +23,15 @@ use std::sync::Wait;
 use std::thread::Threads;
 use std::time::Clock;
 
-/// Searches a serial order of a history, whose polygraph was pruned to this one, with so many
-/// workers, each of which passes the gate before its turns, which count from 0.
+/// How many workers search, and how many cubes they may close.
+#[derive(Clone, Copy)]
+pub struct Effort {
+    pub workers: Workers,
+    pub budget: Budget,
+}
+
+/// Searches a serial order of a history, whose polygraph was pruned to this one. Each worker passes
+/// the gate before its turns, which count from 0.
 ///
 /// At `Err` memory was refused to the calling thread, or to each worker before the search was
 /// finished.
@@ -34,8 +41,7 @@ pub fn search<S: Strategy, G: Gate, R: Threads + Wait + Clock + Sync>(
     history: &History,
     reduced: &Reduced,
     strategy: &S,
-    workers: Workers,
-    budget: Budget,
+    effort: Effort,
     gate: &G,
 ) -> Result<Answer, AllocError>
     requires its { (order : List ℕ) →
@@ -43,14 +49,16 @@ pub fn search<S: Strategy, G: Gate, R: Threads + Wait + Clock + Sync>(
     ensures yes { IfOk result (SaysYes history.now) }
     ensures no { IfOk result (SaysNo history.now) }
     ensures tree { IfOk result (ShowsNo reduced.now.poly) }
-    ensures unknown { IfOk result (SaysUnknown budget) }
+    ensures unknown { IfOk result (SaysUnknown effort.budget) }
 
     // With m open choices a budget of 2^(m+1) - 1 is enough.
-    ensures bound { 2 ^ (length reduced.now.poly.choices + 1) - 1 ≤ budget → IfOk result IsSettled }
+    ensures bound { 2 ^ (length reduced.now.poly.choices + 1) - 1 ≤ effort.budget
+        → IfOk result IsSettled }
 
     // The answer says how the last state of a run of the machine stands.
-    ensures ran { IfOk result (EndsRun reduced.now.poly budget) }
+    ensures ran { IfOk result (EndsRun reduced.now.poly effort.budget) }
 {
+    let Effort { workers, budget } = effort;
     let row = OriginRow::new(alloc, budget)?;
     let machine = CubeMachine::opening(alloc, reduced.poly(), budget, &row)?;
     let opened = Opened::new(alloc, machine, workers)?;

@@ -9,7 +9,7 @@ use std::marker::Model;
 
 /// A choice and the side of it that a cube decides.
 #[derive(Clone, Copy)]
-pub struct Decision {
+pub struct CubeDecision {
     pub choice: ChoiceIx,
     pub side: Side,
 }
@@ -35,7 +35,7 @@ pub struct TreeNode {
     /// The number of its parent, which of node 0 is 0.
     pub parent: usize,
     /// What its cube decides beyond its parent's; nothing for node 0.
-    pub decision: Option<Decision>,
+    pub decision: Option<CubeDecision>,
     pub growth: Growth,
 }
 

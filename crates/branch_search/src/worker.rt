@@ -9,7 +9,7 @@ ghost use Rattle.branch_search.specs.Requests.{event_for, split_in, first_child,
 ghost use Rattle.branch_search.specs.Requests.{IsAskedAfter, IsViewFor};
 
 use crate::retrace::{Step, Trail, go_down, retrace};
-use branching::laws::turn;
+use branching::turns::turn;
 use branching::{CubeView, Strategy};
 use cube_laws::{CubeEvent, CubeReply};
 use cube_machine::{CubeMachine, OriginRow};

@@ -2,52 +2,41 @@
 use Rattle.std.proofs.Common.{◌≡◌, ◌≢◌, ◌⊎◌, ◌↔◌, ℕ, zero, suc, ◌+◌, ◌/◌, ◌<◌, ◌≤◌, true, not, eqb, ◌&&◌, List, [], ◌∷◌, ◌++◌, length, get_or, set, take, Option, Some, refl, sym, ap, ◌∙◌, subst, inl, inr, arith, Vec, Global}
 use Rattle.std.specs.Prelude.{slice_get}
 use Rattle.std.specs.Option.{option_map_or}
-use Rattle.std.specs.List.{Contains}
-use Rattle.std.proofs.lemmas.Bool.{cases_eq, cases_Bool, false≢true, and_parts, and_from}
+use Rattle.std.specs.List.{Contains, list_any}
+use Rattle.std.proofs.lemmas.Bool.{cases_eq, cases_Bool, false≢true, and_parts, and_from, or_cases, eqb-true, eq-eqb}
 use Rattle.std.proofs.lemmas.List.{take_more}
 use Rattle.std.proofs.Math.Seq.{take-append_seam}
-use Rattle.std.proofs.lemmas.Option.{slice_get_within}
 use Rattle.serializability.specs.Polygraph.{Edge, Choice, Polygraph}
 use Rattle.reach_laws.specs.Reach.{Graph, Reaches}
-use Rattle.reach_laws.proofs.Walks.{each_contained, reach_joined}
+use Rattle.reach_laws.proofs.Walks.{Contains-here, Contains-further, each_contained, reach_joined}
 use Rattle.pruning_laws.specs.declared.side.Side.{Side}
-use Rattle.pruning_laws.specs.declared.side.Side.TheVariants.{One, Two}
-use Rattle.pruning_laws.specs.Forced.{edges_of, IsRefuted}
+use Rattle.pruning_laws.specs.Forced.{edges_of, Sides, kept_from, IsRefuted}
+use Rattle.pruning_laws.specs.Ledger.{same_side}
+use Rattle.pruning_laws.proofs.Ledgers.{same_is, same_itself}
 use Rattle.known_graph.specs.Bits.{bit_of, row_len}
 use Rattle.known_graph.specs.Tests.{has_edge}
-use Rattle.known_graph.proofs.Tested.{edge_in, has_contained}
-use Rattle.known_graph.proofs.Listed.{In-from_Contains, Contains-from_In, In-append_left, In-append_right, In-append_cases}
+use Rattle.known_graph.proofs.Tested.{edge_in, has_in, has_contained}
+use Rattle.known_graph.proofs.Listed.{In, In-from_Contains, Contains-from_In, In-append_cases}
 use Rattle.reach_rows.specs.ReachRows.{AreRowsOf}
 use Rattle.reach_rows.proofs.Behind.{word_within}
 use Rattle.reach_rows.proofs.Walking.{grown_reach}
 use Rattle.prune_ledger.specs.Ledger.{side_of}
 use Rattle.prune_ledger.specs.Pruned.{IsReduced}
 use Rattle.prune_ledger.proofs.Marks.{contained_at}
-use Rattle.prune_ledger.proofs.Sides.{side_is, choice_of_edge}
+use Rattle.prune_ledger.proofs.Sides.{side_is, choice_of_edge, at_kept}
+use Rattle.side_edges.specs.Listed.{list_of, HasSides}
+use Rattle.side_edges.specs.declared.SideEdge.{SideEdge}
 use Rattle.branching.specs.Opens.{is_open_at}
-use Rattle.branching.specs.Marked.{list_of, AddsEntry, AddsSide, AreIncoming, Keeps, IsOrReaches, MarksBehind, MarksTarget, MarksAll, AreMarked}
-use Rattle.branching.specs.declared.marks.Incoming.{Incoming}
-use Rattle.branching.proofs.Opens.{slice_get-set_same, slice_get-set_other, open_within, open_set}
+use Rattle.branching.specs.Marked.{AreIncoming, Keeps, IsOrReaches, MarksBehind, MarksTarget, MarksAll, AreMarked}
+use Rattle.branching.proofs.Opens.{open_within, open_set}
 
 -- what was written over the whole of a list
 pub written_whole : {X : Type 0} (n : ℕ) (xs ys : List X) → n ≡ length xs → take n (xs ++ ys) ≡ xs
 written_whole n xs ys e = ap (λ m. take m (xs ++ ys)) e ∙ take-append_seam xs ys
 
 -- ---- lists by number
-list_same : (lists : List (Vec Incoming Global)) (k : ℕ) (new : Vec Incoming Global) → k < length lists → list_of (set lists k new) k ≡ new.items
-list_same lists k new lt = ap (λ o. option_map_or (λ (l : Vec Incoming Global). l.items) o []) (slice_get-set_same lists k new lt)
-
-list_other : (lists : List (Vec Incoming Global)) (k j : ℕ) (new : Vec Incoming Global) → j ≢ k → list_of (set lists k new) j ≡ list_of lists j
-list_other lists k j new ne = ap (λ o. option_map_or (λ (l : Vec Incoming Global). l.items) o []) (slice_get-set_other lists k j new ne)
-
-list_is : (lists : List (Vec Incoming Global)) (k : ℕ) (list : Vec Incoming Global) → slice_get lists k ≡ Some list → list_of lists k ≡ list.items
-list_is lists k list at = ap (λ o. option_map_or (λ (l : Vec Incoming Global). l.items) o []) at
-
-contains_left : {X : Type 0} (x : X) (xs ys : List X) → Contains xs x → Contains (xs ++ ys) x
-contains_left x xs ys c = Contains-from_In (xs ++ ys) x (In-append_left x xs ys (In-from_Contains xs x c))
-
-contains_last : {X : Type 0} (x : X) (xs : List X) → Contains (xs ++ x ∷ []) x
-contains_last x xs = Contains-from_In (xs ++ x ∷ []) x (In-append_right x xs (x ∷ []) (inl refl))
+list_is : (lists : List (Vec SideEdge Global)) (k : ℕ) (list : Vec SideEdge Global) → slice_get lists k ≡ Some list → list_of lists k ≡ list.items
+list_is lists k list at = ap (λ o. option_map_or (λ (l : Vec SideEdge Global). l.items) o []) at
 
 -- in a part with an item more
 pub last_or : {X : Type 0} (x y : X) (xs : List X) → Contains (xs ++ y ∷ []) x → Contains xs x ⊎ (y ≡ x)
@@ -56,64 +45,25 @@ last_or x y xs c = elim (In-append_cases x xs (y ∷ []) (In-from_Contains (xs +
   | inr b ↦ elim b [ inl e ↦ inr e | inr none ↦ absurd none ]
 ]
 
-pub entry_pushed : (lists : List (Vec Incoming Global)) (k : ℕ) (old new : Vec Incoming Global) (x : Incoming) → k < length lists → slice_get lists k ≡ Some old → new.items ≡ old.items ++ x ∷ [] → AddsEntry k x lists (set lists k new)
-entry_pushed lists k old new x lt at pushed = record {
-  keeps = record {
-    kept = λ t y c. elim (cases_eq t k) [
-      | inl e ↦
-          (let here : Contains old.items y = subst (λ l. Contains l y) (ap (list_of lists) e ∙ list_is lists k old at) c in
-          subst (λ l. Contains l y) (sym (ap (list_of (set lists k new)) e ∙ list_same lists k new lt ∙ pushed)) (contains_left y old.items (x ∷ []) here))
-      | inr ne ↦ subst (λ l. Contains l y) (sym (list_other lists k t new ne)) c
-    ];
-  };
-  added = subst (λ l. Contains l x) (sym (list_same lists k new lt ∙ pushed)) (contains_last x old.items);
-}
+-- ---- edges that are listed
+entry_in : (list : List SideEdge) (x : SideEdge) → list_any (λ y. eqb y.source x.source && (eqb x.choice y.choice && same_side x.side y.side)) list ≡ true → Contains list x
+entry_in [] x h = absurd (false≢true h)
+entry_in (y ∷ ys) x h = elim (or_cases (eqb y.source x.source && (eqb x.choice y.choice && same_side x.side y.side)) (list_any (λ z. eqb z.source x.source && (eqb x.choice z.choice && same_side x.side z.side)) ys) h) [
+  | inl t ↦
+      (let a = and_parts (eqb y.source x.source) (eqb x.choice y.choice && same_side x.side y.side) t in
+      let b = and_parts (eqb x.choice y.choice) (same_side x.side y.side) a.1 in
+      subst (Contains (y ∷ ys)) (λ i. record { source = eqb-true y.source x.source a.0 i; choice = sym (eqb-true x.choice y.choice b.0) i; side = sym (same_is x.side y.side b.1) i }) (Contains-here y ys))
+  | inr more ↦ Contains-further y x ys (entry_in ys x more)
+]
 
-pub side_none : (c : ℕ) (lists : List (Vec Incoming Global)) → AddsSide c [] lists lists
-side_none c lists = record { keeps = record { kept = λ t x k. k }; added = λ e k. absurd (In-from_Contains [] e k) }
-
-pub side_more : (c : ℕ) (old now next : List (Vec Incoming Global)) (side : List Edge) (k : ℕ) (d : Edge) (s t : ℕ) → k < length side → d ≡ get_or side k d → s ≡ d.0 → t ≡ d.1
-    → AddsSide c (take k side) old now → AddsEntry t (record { source = s; choice = c }) now next → AddsSide c (take (k + 1) side) old next
-side_more c old now next side k d s t lt is p q a m =
-    subst (λ (l : List Edge). AddsSide c l old next) (ap (λ (x : Edge). take k side ++ x ∷ []) is ∙ sym (take_more side k d lt)) (record {
-      keeps = record { kept = λ n x h. m.keeps.kept n x (a.keeps.kept n x h) };
-      added = λ e h. elim (last_or e d (take k side) h) [
-        | inl b ↦ m.keeps.kept e.1 (record { source = e.0; choice = c }) (a.added e b)
-        | inr same ↦
-            (let first : s ≡ e.0 = p ∙ ap (λ (x : Edge). x.0) same in
-            let second : t ≡ e.1 = q ∙ ap (λ (x : Edge). x.1) same in
-            subst (λ n. Contains (list_of next n) (record { source = e.0; choice = c })) second
-            (subst (λ n. Contains (list_of next t) (record { source = n; choice = c })) first m.added))
-      ];
-    })
-
--- the choices below a number are done
-pub record AreIncomingTo (choices : List Choice) (number : ℕ) (lists : List (Vec Incoming Global)) : Type 0 where
-  pub each : (c : ℕ) (side : Side) (e : Edge) → c < number → Contains (side_of choices c side) e → Contains (list_of lists e.1) (record { source = e.0; choice = c })
-
-pub incoming_more : (choices : List Choice) (k : ℕ) (h g : Choice) (old now next : List (Vec Incoming Global)) → slice_get choices k ≡ Some h → slice_get choices k ≡ Some g → AreIncomingTo choices k old → AddsSide k h.one old now → AddsSide k g.two now next
-    → AreIncomingTo choices (k + 1) next
-incoming_more choices k h g old now next at also a one two = record {
-  each = λ c side e lt i. elim (cases_eq c k) [
-    | inl same ↦ subst (λ n. Contains (list_of next e.1) (record { source = e.0; choice = n })) (sym same) (here side e (subst (λ n. Contains (side_of choices n side) e) same i))
-    | inr ne ↦
-        (let less : c < k = omega (arith, lt, ne) in
-        two.keeps.kept e.1 (record { source = e.0; choice = c }) (one.keeps.kept e.1 (record { source = e.0; choice = c }) (a.each c side e less i)))
-  ];
-}
-  where
-    here : (side : Side) (e : Edge) → Contains (side_of choices k side) e → Contains (list_of next e.1) (record { source = e.0; choice = k })
-    here One e i = two.keeps.kept e.1 (record { source = e.0; choice = k }) (one.added e (subst (λ l. Contains l e) (side_is choices k h One at) i))
-    here Two e i = two.added e (subst (λ l. Contains l e) (side_is choices k g Two also) i)
-
-pub incoming_all : (n : ℕ) (choices : List Choice) (k : ℕ) (lists : List (Vec Incoming Global)) → length lists ≡ n + 1 → length choices ≤ k → AreIncomingTo choices k lists → AreIncoming n choices lists
-incoming_all n choices k lists count past a = record {
-  count = count;
-  each = λ c side e i.
-      (let g = choice_of_edge choices c side e (In-from_Contains (side_of choices c side) e i) in
-      let lt = slice_get_within choices c g.choice g.at in
-      a.each c side e (omega (arith, lt, past)) i);
-}
+listed : (choices : List Choice) (lists : List (Vec SideEdge Global)) (c : ℕ) (side : Side) (e : Edge) → HasSides choices lists → Contains (side_of choices c side) e → Contains (list_of lists e.1) (record { source = e.0; choice = c; side = side })
+listed choices lists c side e has i =
+    let only : Sides = λ k s. eqb c k && same_side side s in
+    let own = In-from_Contains (side_of choices c side) e i in
+    let g = choice_of_edge choices c side e own in
+    let t : only (0 + c) side ≡ true = and_from (eqb c (0 + c)) (same_side side side) (eq-eqb c (0 + c) (omega arith)) (same_itself side) in
+    entry_in (list_of lists e.1) (record { source = e.0; choice = c; side = side })
+    (has.each only e ∙ has_in (kept_from only 0 choices) e (at_kept only 0 choices e c g.choice side g.at t (subst (In e) (side_is choices c g.choice side g.at) own)))
 
 -- ---- marks that are kept
 pub keeps_same : (marks : List ℕ) → Keeps marks marks
@@ -125,29 +75,29 @@ keeps_then a b c x y = record { kept = λ k t. y.kept k (x.kept k t); len = y.le
 pub behind_none : (rows : List Edge) (v : ℕ) (marks : List ℕ) → MarksBehind rows v [] marks
 behind_none rows v marks = record { each = λ x c. absurd (In-from_Contains [] x c) }
 
-pub behind_kept : (rows : List Edge) (v : ℕ) (list : List Incoming) (old new : List ℕ) → Keeps old new → MarksBehind rows v list old → MarksBehind rows v list new
+pub behind_kept : (rows : List Edge) (v : ℕ) (list : List SideEdge) (old new : List ℕ) → Keeps old new → MarksBehind rows v list old → MarksBehind rows v list new
 behind_kept rows v list old new k m = record { each = λ x c lt r. k.kept x.choice (m.each x c (subst (λ n. x.choice / 64 < n) k.len lt) r) }
 
-pub behind_more : (rows : List Edge) (v : ℕ) (list : List Incoming) (old new : List ℕ) (k : ℕ) (d : Incoming) → k < length list → d ≡ get_or list k d → MarksBehind rows v (take k list) old → Keeps old new
+pub behind_more : (rows : List Edge) (v : ℕ) (list : List SideEdge) (old new : List ℕ) (k : ℕ) (d : SideEdge) → k < length list → d ≡ get_or list k d → MarksBehind rows v (take k list) old → Keeps old new
     → (d.choice / 64 < length old → IsOrReaches rows v d.source → bit_of new d.choice ≡ true) → MarksBehind rows v (take (k + 1) list) new
 behind_more rows v list old new k d lt is m keeps marked =
-    subst (λ (l : List Incoming). MarksBehind rows v l new) (ap (λ (x : Incoming). take k list ++ x ∷ []) is ∙ sym (take_more list k d lt)) (record {
+    subst (λ (l : List SideEdge). MarksBehind rows v l new) (ap (λ (x : SideEdge). take k list ++ x ∷ []) is ∙ sym (take_more list k d lt)) (record {
       each = λ x c within r. elim (last_or x d (take k list) c) [
         | inl a ↦ (behind_kept rows v (take k list) old new keeps m).each x a within r
         | inr same ↦
-            subst (λ (y : Incoming). y.choice / 64 < length new → IsOrReaches rows v y.source → bit_of new y.choice ≡ true) same
+            subst (λ (y : SideEdge). y.choice / 64 < length new → IsOrReaches rows v y.source → bit_of new y.choice ≡ true) same
             (λ w q. marked (subst (λ n. d.choice / 64 < n) keeps.len w) q) within r
       ];
     })
 
 -- the lists of the nodes below a number are done
-pub record MarksBelow (rows : List Edge) (u v : ℕ) (lists : List (Vec Incoming Global)) (number : ℕ) (marks : List ℕ) : Type 0 where
+pub record MarksBelow (rows : List Edge) (u v : ℕ) (lists : List (Vec SideEdge Global)) (number : ℕ) (marks : List ℕ) : Type 0 where
   pub each : (t : ℕ) → t < number → MarksTarget rows t u v (list_of lists t) marks
 
-pub below_none : (rows : List Edge) (u v : ℕ) (lists : List (Vec Incoming Global)) (marks : List ℕ) → MarksBelow rows u v lists 0 marks
+pub below_none : (rows : List Edge) (u v : ℕ) (lists : List (Vec SideEdge Global)) (marks : List ℕ) → MarksBelow rows u v lists 0 marks
 below_none rows u v lists marks = record { each = λ t lt. absurd (omega (arith, lt)) }
 
-pub below_more : (rows : List Edge) (u v : ℕ) (lists : List (Vec Incoming Global)) (k : ℕ) (list : Vec Incoming Global) (old new : List ℕ) → slice_get lists k ≡ Some list → MarksBelow rows u v lists k old → Keeps old new
+pub below_more : (rows : List Edge) (u v : ℕ) (lists : List (Vec SideEdge Global)) (k : ℕ) (list : Vec SideEdge Global) (old new : List ℕ) → slice_get lists k ≡ Some list → MarksBelow rows u v lists k old → Keeps old new
     → MarksTarget rows k u v list.items new → MarksBelow rows u v lists (k + 1) new
 below_more rows u v lists k list old new at m keeps marked = record {
   each = λ t lt. elim (cases_eq t k) [
@@ -159,7 +109,7 @@ below_more rows u v lists k list old new at m keeps marked = record {
 }
 
 -- ---- what a mark is for
-no_list : (lists : List (Vec Incoming Global)) (t : ℕ) (x : Incoming) → Contains (list_of lists t) x → t < length lists
+no_list : (lists : List (Vec SideEdge Global)) (t : ℕ) (x : SideEdge) → Contains (list_of lists t) x → t < length lists
 no_list [] t x c = absurd (In-from_Contains [] x c)
 no_list (l ∷ ls) zero x c = omega arith
 no_list (l ∷ ls) (suc t) x c = let lt = no_list ls t x c in omega (arith, lt)
@@ -168,7 +118,7 @@ by_rows : (rows graph : Graph) (u w : ℕ) → AreRowsOf rows graph → (u ≡ w
 by_rows rows graph u w a (inl e) = inl e
 by_rows rows graph u w a (inr r) = inr ((a.reach u w).1 r)
 
-pub all_marked : (rows graph : Graph) (u v : ℕ) (lists : List (Vec Incoming Global)) (k : ℕ) (marks : List ℕ) → AreRowsOf rows graph → length lists ≤ k → MarksBelow rows.edges u v lists k marks → MarksAll graph.edges u v lists marks
+pub all_marked : (rows graph : Graph) (u v : ℕ) (lists : List (Vec SideEdge Global)) (k : ℕ) (marks : List ℕ) → AreRowsOf rows graph → length lists ≤ k → MarksBelow rows.edges u v lists k marks → MarksAll graph.edges u v lists marks
 all_marked rows graph u v lists k marks a past m = record {
   each = λ t x c within to not_yet from.
       (let lt = no_list lists t x c in
@@ -176,7 +126,7 @@ all_marked rows graph u v lists k marks a past m = record {
 }
 
 -- where u reached v already, no node comes to reach it
-pub none_to_mark : (graph : Graph) (u v : ℕ) (lists : List (Vec Incoming Global)) (marks : List ℕ) → Reaches graph.edges u v → MarksAll graph.edges u v lists marks
+pub none_to_mark : (graph : Graph) (u v : ℕ) (lists : List (Vec SideEdge Global)) (marks : List ℕ) → Reaches graph.edges u v → MarksAll graph.edges u v lists marks
 none_to_mark graph u v lists marks r = record { each = λ t x c within to not_yet from. absurd (not_yet (reached t to)) }
   where
     reached : (t : ℕ) → (t ≡ u) ⊎ Reaches graph.edges t u → Reaches graph.edges t v
@@ -200,7 +150,7 @@ contained_or edges e = elim (cases_Bool (has_edge edges e)) [
 ]
 
 -- one edge more
-marked_edge : (rows g new : Graph) (choices : List Choice) (n : ℕ) (lists : List (Vec Incoming Global)) (old marks : List ℕ) (u v c : ℕ) (e : Edge) (side : Side) → AreRowsOf rows g → AreIncoming n choices lists
+marked_edge : (rows g new : Graph) (choices : List Choice) (n : ℕ) (lists : List (Vec SideEdge Global)) (old marks : List ℕ) (u v c : ℕ) (e : Edge) (side : Side) → AreRowsOf rows g → AreIncoming n choices lists
     → ((x : Edge) → (Contains new.edges x ↔ (Contains g.edges x ⊎ (x ≡ (u, v))))) → Keeps old marks → MarksAll g.edges u v lists marks → (c / 64 < length marks)
     → (IsRefuted g.edges (side_of choices c side) → bit_of old c ≡ true) → Contains (side_of choices c side) e → Reaches new.edges e.1 e.0 → bit_of marks c ≡ true
 marked_edge rows g new choices n lists old marks u v c e side are incoming more keeps all within before i r =
@@ -208,7 +158,7 @@ marked_edge rows g new choices n lists old marks u v c e side are incoming more 
       | inl was ↦ keeps.kept c (before (e.0, (e.1, (i, was))))
       | inr via ↦ elim (contained_or (rows.edges) (e.1, v)) [
         | inl already ↦ keeps.kept c (before (e.0, (e.1, (i, on_from ((are.reach e.1 v).0 already) via.1))))
-        | inr not_yet ↦ all.each e.1 (record { source = e.0; choice = c }) (incoming.each c side e i) within via.0 (λ q. not_yet ((are.reach e.1 v).1 q)) (turned via.1)
+        | inr not_yet ↦ all.each e.1 (record { source = e.0; choice = c; side = side }) (listed choices lists c side e incoming.sides i) within via.0 (λ q. not_yet ((are.reach e.1 v).1 q)) (turned via.1)
       ]
     ]
   where
@@ -220,7 +170,7 @@ marked_edge rows g new choices n lists old marks u v c e side are incoming more 
     turned (inl same) = inl (sym same)
     turned (inr s) = inr s
 
-pub marked_more : (rows g new : Graph) (choices : List Choice) (sides : List (Option Side)) (n : ℕ) (lists : List (Vec Incoming Global)) (old marks : List ℕ) (u v a b : ℕ) → AreRowsOf rows g → AreIncoming n choices lists
+pub marked_more : (rows g new : Graph) (choices : List Choice) (sides : List (Option Side)) (n : ℕ) (lists : List (Vec SideEdge Global)) (old marks : List ℕ) (u v a b : ℕ) → AreRowsOf rows g → AreIncoming n choices lists
     → length sides ≡ length choices → u ≡ a → v ≡ b → ((x : Edge) → (Contains new.edges x ↔ (Contains g.edges x ⊎ (x ≡ (a, b))))) → Keeps old marks → MarksAll g.edges u v lists marks → AreMarked choices sides g.edges old → AreMarked choices sides new.edges marks
 marked_more rows g new choices sides n lists old marks u v a b are incoming count p q more keeps all m = record {
   len = keeps.len ∙ m.len;

@@ -7,6 +7,7 @@ use Rattle.std.proofs.lemmas.Bool.{cases_eq, cases_lt, false≢true, lt-ltb, le-
 use Rattle.std.proofs.lemmas.List.{drop-drop, length-set, length-replicate}
 use Rattle.pruning_laws.specs.declared.side.Side.{Side}
 use Rattle.known_graph.specs.Bits.{bit_of, row_len}
+use Rattle.side_edges.proofs.Lists.{slice_get-set_same, slice_get-set_other}
 use Rattle.branching.specs.Bits.{IsNext, NoneFrom}
 use Rattle.branching.specs.Picks.{open_from}
 use Rattle.branching.specs.Opens.{is_open_at, open_past, AreBits}
@@ -16,18 +17,6 @@ pub slice_get-drop : {A : Type 0} (xs : List A) (n i : ℕ) → slice_get (drop 
 slice_get-drop xs zero i = let e : i ≡ 0 + i = omega arith in ap (slice_get xs) e
 slice_get-drop [] (suc n) i = refl
 slice_get-drop (x ∷ xs) (suc n) i = let e : suc (n + i) ≡ suc n + i = omega arith in slice_get-drop xs n i ∙ ap (slice_get (x ∷ xs)) e
-
-pub slice_get-set_same : {A : Type 0} (xs : List A) (k : ℕ) (y : A) → k < length xs → slice_get (set xs k y) k ≡ Some y
-slice_get-set_same [] k y h = absurd (omega arith)
-slice_get-set_same (x ∷ xs) zero y h = refl
-slice_get-set_same (x ∷ xs) (suc k) y h = slice_get-set_same xs k y (omega arith)
-
-pub slice_get-set_other : {A : Type 0} (xs : List A) (k j : ℕ) (y : A) → j ≢ k → slice_get (set xs k y) j ≡ slice_get xs j
-slice_get-set_other [] k j y h = refl
-slice_get-set_other (x ∷ xs) zero zero y h = absurd (h refl)
-slice_get-set_other (x ∷ xs) zero (suc j) y h = refl
-slice_get-set_other (x ∷ xs) (suc k) zero y h = refl
-slice_get-set_other (x ∷ xs) (suc k) (suc j) y h = slice_get-set_other xs k j y (λ e. h (ap suc e))
 
 -- ---- an open choice
 pub open_within : (sides : List (Option Side)) (c : ℕ) → is_open_at sides c ≡ true → c < length sides

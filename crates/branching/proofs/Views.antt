@@ -21,10 +21,11 @@ use Rattle.prune_ledger.specs.Rounds.{AddsEdges}
 use Rattle.prune_ledger.proofs.Marks.{side_joins}
 use Rattle.prune_ledger.proofs.Sides.{side_is, known_with, side_with, choice_of_edge, with_cases}
 use Rattle.pruning_laws.proofs.Ledgers.{same_is, same_itself}
+use Rattle.side_edges.proofs.Lists.{slice_get-set_same, slice_get-set_other}
 use Rattle.branching.specs.View.{View, is_open_in, chosen, edges_in, graph_in, opened, decided}
 use Rattle.prune_ledger.specs.Runs.{IsWhole}
 use Rattle.branching.specs.Held.{IsView, AreEdgesOf}
-use Rattle.branching.proofs.Opens.{slice_get-set_same, slice_get-set_other, open_within, open_is_none}
+use Rattle.branching.proofs.Opens.{open_within, open_is_none}
 
 -- ---- the rows of a graph are those of each with the same edges
 pub rows_same : (rows g h : Graph) → AreRowsOf rows g → h.nodes ≡ g.nodes → ((e : Edge) → Contains g.edges e → Contains h.edges e) → ((e : Edge) → Contains h.edges e → Contains g.edges e) → AreRowsOf rows h

@@ -2,21 +2,19 @@
 
 ghost use Rattle.std.specs.Prelude.{◌≡◌, ℕ, ◌+◌, ◌^◌, ◌/◌, ◌<◌, ◌≤◌, ◌==◌, ◌&&◌, not, length, IfOk};
 ghost use Rattle.std.specs.Prelude.{IfSome, IfNone};
-ghost use Rattle.std.specs.List.{AllByRecursion};
 ghost use Rattle.known_graph.specs.Bits.{bit_of, row_len};
-ghost use Rattle.polygraph.specs.Polygraphs.{JoinsBoth};
 ghost use Rattle.polygraph.specs.declared.index.TheConstants.{MAX_CHOICES};
-ghost use Rattle.serializability.specs.declared.node.TheConstants.{MAX_NODES};
 ghost use Rattle.branching.specs.Markings.{AreBlank, HaveLists, HaveRoom, HasRoom, HasBits};
 ghost use Rattle.branching.specs.Markings.{ClearsMarks, SavesMarks, TakesSaved, AddsMarks};
 ghost use Rattle.branching.specs.Markings.{RemovesMark, IsUnmarked};
 
 use crate::bits::{clear_bit, next_set, set_below};
-use crate::marks::{Incoming, incoming_of, mark_refuted};
+use crate::marks::mark_refuted;
 use known_graph::bits::row_len;
-use polygraph::{Choice, ChoiceIx};
+use polygraph::{ChoiceIx, Polygraph};
 use reach_laws::Edge;
 use reach_rows::Rows;
+use side_edges::{SideEdge, side_edges};
 use std::alloc::{AllocError, Global};
 
 /// Marks of the open choices of which a side may be refuted.
@@ -31,21 +29,18 @@ pub enum Marks {
 /// Marks as bits, one for each choice, and the edges by which choices come to be marked.
 #[derive(Drop)]
 pub struct KeptMarks {
-    pub incoming: Vec<Vec<Incoming>>,
+    pub incoming: Vec<Vec<SideEdge>>,
     pub bits: Vec<u64>,
 }
 
 impl Marks {
-    /// Marks of these choices of a polygraph of so many nodes, with no choice marked.
-    pub fn blank(alloc: Global, nodes: usize, choices: &[Choice]) -> Result<Marks, AllocError>
-        requires nodes { nodes ≤ MAX_NODES }
-        requires few { length choices.now ≤ MAX_CHOICES }
-        requires joined { AllByRecursion (JoinsBoth nodes) choices.now }
-        ensures blank { IfOk result (AreBlank nodes choices.now) }
+    /// Marks of a polygraph's choices, with no choice marked.
+    pub fn blank(alloc: Global, polygraph: &Polygraph) -> Result<Marks, AllocError>
+        ensures blank { IfOk result (AreBlank polygraph.now.nodes polygraph.now.choices) }
     {
         Ok(Marks::Kept(KeptMarks {
-            incoming: incoming_of(alloc, nodes, choices)?,
-            bits: vec![in alloc; 0; row_len(choices.len())]?,
+            incoming: side_edges(alloc, polygraph)?,
+            bits: vec![in alloc; 0; row_len(polygraph.choices().len())]?,
         }))
     }
 

@@ -1,7 +1,7 @@
 //! Branching on the open choices of a polygraph: what a strategy sees of a cube, the strategies,
 //! and what a worker does with the cube that it holds.
 //!
-//! Called by the workers of `branch_search`. It knows no desk's history, no log and no budget.
+//! Called by `branch_search`. It knows no desk's history, no log and no budget.
 #![tactic(auto)]
 
 mod alternate;
@@ -17,6 +17,7 @@ mod marks;
 mod order;
 mod sides;
 mod strategy;
+pub mod turns;
 mod view;
 
 pub use alternate::Alternate;

@@ -22,7 +22,7 @@ use crate::kept_marks::Marks;
 use crate::sides::Sides;
 use known_graph::Known;
 use polygraph::{Choice, ChoiceIx};
-use prune_ledger::{Reduced, Verdict, judge};
+use prune_ledger::{Reduced, RefutedSides, judge};
 use pruning_laws::Side;
 use reach_laws::Edge;
 use reach_rows::Rows;
@@ -81,8 +81,7 @@ impl<'a> CubeView<'a> {
     pub fn new(alloc: Global, reduced: &'a Reduced) -> Result<CubeView<'a>, AllocError>
         ensures opened { IfOk result (λ view. view ≡ opened reduced.now.poly) }
     {
-        let poly = reduced.poly();
-        let marks = Marks::blank(alloc, poly.nodes(), poly.choices())?;
+        let marks = Marks::blank(alloc, reduced.poly())?;
         open_view(alloc, reduced, marks)
     }
 
@@ -222,7 +221,7 @@ impl<'a> CubeView<'a> {
     }
 
     /// What refutes the sides of a choice.
-    fn verdict(&self, choice: ChoiceIx) -> Verdict
+    fn verdict(&self, choice: ChoiceIx) -> RefutedSides
         requires choice { choice < length self.now.sides }
         ensures one { is_some result.one ≡ is_refuted_in self.now choice One }
         ensures two { is_some result.two ≡ is_refuted_in self.now choice Two }

@@ -18,7 +18,7 @@ use Rattle.dimacs.specs.Words.{Item}
 use Rattle.dimacs.specs.Text.{text_of}
 use Rattle.dimacs.specs.declared.status.Status as dimacs
 use Rattle.order_text.specs.Text.{order_text}
-use Rattle.tell_decision.specs.declared.format.Format.{Format}
+use Rattle.call_options.specs.declared.format.Format.{Format}
 use Rattle.cobra_answers.specs.Refusals.{poly_refusal}
 use Rattle.cobra_answers.specs.declared.reply.Reply.{Reply}
 use Rattle.cobra_answers.specs.declared.status.Status.{Status}

@@ -8,8 +8,8 @@ use Rattle.deciding.specs.declared.decision.Decision.{Decision}
 use Rattle.deciding.specs.declared.decision.Decision.TheVariants.{Serial, Anomalous, Cyclic, Dead}
 use Rattle.deciding.specs.declared.decision.Decision.TheVariants.{Refuted, Spent}
 use Rattle.tell_decision.specs.Explained.{IsExplained}
-use Rattle.tell_decision.specs.declared.format.Format.{Format}
-use Rattle.tell_decision.specs.declared.format.Format.TheVariants.{Text, Dot}
+use Rattle.call_options.specs.declared.format.Format.{Format}
+use Rattle.call_options.specs.declared.format.Format.TheVariants.{Text, Dot}
 use Rattle.cobra_answers.specs.declared.status.Status.{Status}
 use Rattle.cobra_cli.specs.Checked.{status_of, verdict_text}
 

@@ -13,7 +13,7 @@ ghost use Rattle.cobra_answers.specs.declared.fault.Fault.{Fault};
 ghost use Rattle.cobra_answers.specs.declared.status.Status.{Status};
 ghost use Rattle.cobra_answers.specs.declared.status.Status.TheVariants as status;
 ghost use Rattle.cobra_formulas.specs.Formulas.{IsFormulaOf};
-ghost use Rattle.tell_decision.specs.declared.format.Format.{Format};
+ghost use Rattle.call_options.specs.declared.format.Format.{Format};
 ghost use Rattle.cobra_cli.specs.Checked.{IsVerdict};
 ghost use Rattle.cobra_cli.specs.Commands.{IsEncoding, IsDecoding, IsCounting, IsVerified};
 ghost use Rattle.cobra_cli.specs.Commands.{IsNotVerified, is_memory};

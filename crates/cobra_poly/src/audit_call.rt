@@ -2,10 +2,10 @@
 
 use crate::ending::Ending;
 use crate::input::log_name;
-use audit_command::{AuditOptions, Form, audit};
+use audit_command::{AuditOptions, audit};
 use auditing::{AuditMeans, Deadline, Progress, SoFar};
 use cobra_cli::{Fault, Status};
-use cobra_words::{AuditWords, ReportWord, Request};
+use cobra_words::{AuditWords, Request};
 use dimacs::Counted;
 use std::alloc::Global;
 use std::io::{Eprint, Write};
@@ -56,14 +56,6 @@ impl Progress for EachSecond {
     }
 }
 
-/// The form of a word.
-fn form_of(word: ReportWord) -> Form {
-    match word {
-        ReportWord::Text => Form::Text,
-        ReportWord::Json => Form::Json,
-    }
-}
-
 /// What a call asks for that began then.
 fn options_of<'a>(
     request: &Request<'a>,
@@ -83,7 +75,7 @@ fn options_of<'a>(
         },
         size: words.size,
         at_least: words.at_least,
-        form: form_of(words.format),
+        form: words.format,
         quiet: words.quiet,
         explain: words.explain,
         file: request.log,

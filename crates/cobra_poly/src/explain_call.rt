@@ -3,7 +3,7 @@
 use crate::ending::Ending;
 use crate::input::log_name;
 use cobra_cli::{Fault, Format, Options, Status, Stop, explain};
-use cobra_words::{FormatWord, Request};
+use cobra_words::Request;
 use desk::gate::OpenGate;
 use dimacs::Counted;
 use fault_words::refusal as refusal_line;
@@ -13,14 +13,6 @@ use std::io::Write;
 use std::rt::Runtime;
 use std::sync::Wait;
 use std::thread::Threads;
-
-/// The form of a word.
-fn format_of(word: FormatWord) -> Format {
-    match word {
-        FormatWord::Text => Format::Text,
-        FormatWord::Dot => Format::Dot,
-    }
-}
 
 /// Writes in words why a log is refused.
 fn put_refusal<W: Write>(
@@ -47,10 +39,9 @@ pub fn explain_log<R: Runtime + Threads + Wait + Sync, W: Write>(
     log: &[u8],
     request: &Request<'_>,
     options: &Options,
-    format: FormatWord,
+    format: Format,
     sink: &mut Counted<W>,
 ) -> Result<Status, Ending> {
-    let format = format_of(format);
     match explain(rt, alloc, log, options, format, &OpenGate, sink) {
         Ok(status) => Ok(status),
         Err(Fault::Log(fault)) => {

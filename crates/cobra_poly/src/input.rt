@@ -57,8 +57,8 @@ pub fn read_file<R: Files>(rt: &R, alloc: Global, path: &str, limit: usize) -> R
     Ok(read_all(alloc, &mut source, limit)?)
 }
 
-/// Reads the log from its file, or from standard input.
-fn read_log_bytes<R: Files, I: Read + Drop>(
+/// Reads a log of limited length from its file, or from standard input.
+fn read_short_bytes<R: Files, I: Read + Drop>(
     rt: &R,
     alloc: Global,
     path: Option<&str>,
@@ -94,7 +94,7 @@ fn read_named<I: Read + Drop>(alloc: Global, name: &str, reader: I) -> Result<Ve
 }
 
 /// Reads a long log from its file, or from standard input.
-fn read_long_log_bytes<R: Files, I: Read + Drop>(
+fn read_long_bytes<R: Files, I: Read + Drop>(
     rt: &R,
     alloc: Global,
     path: Option<&str>,
@@ -110,7 +110,7 @@ fn read_long_log_bytes<R: Files, I: Read + Drop>(
 }
 
 /// Reads the log that a call asks for: a long one, where the command takes such.
-pub fn read_log<R: Files, I: Read + Drop>(
+pub fn read_log_bytes<R: Files, I: Read + Drop>(
     rt: &R,
     alloc: Global,
     request: &Request<'_>,
@@ -118,9 +118,9 @@ pub fn read_log<R: Files, I: Read + Drop>(
 ) -> Result<Vec<u8>, Ending> {
     match &request.command {
         Command::Audit(_) | Command::Pieces { .. } => {
-            read_long_log_bytes(rt, alloc, request.log, input)
+            read_long_bytes(rt, alloc, request.log, input)
         }
-        _ => Ok(read_log_bytes(rt, alloc, request.log, input)?),
+        _ => Ok(read_short_bytes(rt, alloc, request.log, input)?),
     }
 }
 

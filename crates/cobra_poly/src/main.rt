@@ -10,7 +10,7 @@ mod pieces_call;
 use crate::audit_call::audit_log;
 use crate::ending::{Ending, USAGE, report};
 use crate::explain_call::explain_log;
-use crate::input::{read_file, read_log};
+use crate::input::{read_file, read_log_bytes};
 use crate::pieces_call::cut_log;
 use cobra_cli::{Fault, Options, Status, Stop, check, decode, encode, stats, verify};
 use cobra_words::{Command, Request, Words, words_of};
@@ -80,7 +80,7 @@ fn run<R: Runtime + Threads + Wait + Sync, I: Read + Drop, W: Write + Drop>(
     input: I,
     output: W,
 ) -> Result<Status, Ending> {
-    let log = read_log(rt, alloc, request, input)?;
+    let log = read_log_bytes(rt, alloc, request, input)?;
     let mut sink = Counted::new(output);
     let status = run_on(rt, alloc, &log, request, start, &mut sink)?;
     match sink.writer.flush() {

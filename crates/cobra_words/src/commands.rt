@@ -5,26 +5,15 @@ use crate::answers::{
     ANSWERS_OF_PIECES, ANSWERS_OF_REFUTE, ANSWERS_OF_STATS, ANSWERS_OF_VERIFY,
 };
 use crate::options::{
-    SearchDefaults, at_least, budget, explain_option, format, into, log_file, piece, plain,
-    progress, quiet, report_format, required_file, seconds, size, strategy, workers,
+    at_least, budget, explain_option, format, into, log_file, piece, plain, progress, quiet,
+    report_format, required_file, seconds, size, strategy, workers,
 };
+use call_options::{AUDIT_DEFAULTS, CHECK_DEFAULTS, SearchDefaults};
 use std::alloc::{AllocError, Global};
 
 /// The version that `--version` prints. Where a built program is kept, its commit and whether it
 /// was proved are written over what stands in brackets here, in as many bytes (`tools/stamp.py`).
 const VERSION: &str = "1.0.0 (commit unknown, not stamped)";
-
-/// How `check` and `explain` search where the words do not say.
-const CHECK_DEFAULTS: SearchDefaults = SearchDefaults {
-    strategy: "first",
-    budget: "10000",
-};
-
-/// How `audit` searches in each piece where the words do not say.
-const AUDIT_DEFAULTS: SearchDefaults = SearchDefaults {
-    strategy: "forced",
-    budget: "100000",
-};
 
 /// A command that several workers take part in, with the log as its last word.
 fn with_workers<'a>(

@@ -9,6 +9,7 @@ mod options;
 mod reading;
 mod request;
 
+pub use call_options::Format;
 pub use cube_machine::StrategyName;
 pub use reading::words_of;
-pub use request::{AuditWords, Command, FormatWord, PiecesWord, ReportWord, Request, Words};
+pub use request::{AuditWords, Command, PiecesWord, Request, Words};

@@ -10,13 +10,6 @@ const DEFAULT_WORKERS: &str = "4";
 /// How many lines `commit` a log must have where the words do not say.
 const DEFAULT_AT_LEAST: &str = "1";
 
-/// How a search works where the words do not say: its strategy, and how many cubes it may close.
-#[derive(Clone, Copy)]
-pub struct SearchDefaults {
-    pub strategy: &'static str,
-    pub budget: &'static str,
-}
-
 /// The words for the forms of an explanation.
 const FORMATS: [&str; 2] = ["text", "dot"];
 

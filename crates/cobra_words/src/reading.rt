@@ -1,7 +1,8 @@
 //! From words to what they ask for.
 
 use crate::commands::program;
-use crate::request::{AuditWords, Command, FormatWord, PiecesWord, ReportWord, Request, Words};
+use crate::request::{AuditWords, Command, PiecesWord, Request, Words};
+use call_options::{Format, ReportForm};
 use clap::ArgMatches;
 use clap::error::ErrorKind;
 use cube_machine::{Budget, StrategyName};
@@ -30,18 +31,18 @@ fn strategy_of(word: &str) -> StrategyName {
 }
 
 /// The form of a word; any word but the other stands for the default.
-fn format_of(word: &str) -> FormatWord {
+fn format_of(word: &str) -> Format {
     match word {
-        "dot" => FormatWord::Dot,
-        _ => FormatWord::Text,
+        "dot" => Format::Dot,
+        _ => Format::Text,
     }
 }
 
 /// The form of a report of a word; any word but the other stands for the default.
-fn report_of(word: &str) -> ReportWord {
+fn report_of(word: &str) -> ReportForm {
     match word {
-        "json" => ReportWord::Json,
-        _ => ReportWord::Text,
+        "json" => ReportForm::Json,
+        _ => ReportForm::Text,
     }
 }
 

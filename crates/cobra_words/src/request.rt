@@ -1,5 +1,6 @@
 //! What the words of a call ask for.
 
+use call_options::{Format, ReportForm};
 use clap::Error;
 use cube_machine::{Budget, StrategyName};
 use desk::seat_no::Workers;
@@ -27,7 +28,7 @@ pub enum Command<'a> {
     Stats,
     /// Say why no serial order explains the log.
     Explain {
-        format: FormatWord,
+        format: Format,
     },
     /// Decide whether some serial order explains a log of any length, piece by piece.
     Audit(AuditWords),
@@ -49,18 +50,11 @@ pub struct AuditWords {
     pub seconds: Option<u32>,
     /// Why no serial order explains the log is to be said.
     pub explain: bool,
-    pub format: ReportWord,
+    pub format: ReportForm,
     /// The first line alone is asked for.
     pub quiet: bool,
     /// How far it is is to be told from time to time.
     pub progress: bool,
-}
-
-/// In what form a report is written.
-#[derive(Clone, Copy, Debug, PartialEq, Eq)]
-pub enum ReportWord {
-    Text,
-    Json,
 }
 
 /// What is asked of the pieces of a log.
@@ -72,13 +66,6 @@ pub enum PiecesWord<'a> {
     Piece(usize),
     /// The log of each in a file of this directory.
     Into(&'a str),
-}
-
-/// In what form an explanation is written.
-#[derive(Clone, Copy, Debug, PartialEq, Eq)]
-pub enum FormatWord {
-    Text,
-    Dot,
 }
 
 /// A call of the program.

@@ -4,6 +4,7 @@ use Rattle.std.specs.Prelude.{slice_get, slice_set}
 use Rattle.std.specs.Option.{option_map, option_map_or}
 use Rattle.std.specs.List.{list_any}
 use Rattle.std.proofs.lemmas.List.{get_or_append_left, get_or_push, length_push}
+use Rattle.std.proofs.lemmas.Option.{slice_get_within, slice_get-get_or, slice_get_past}
 use Rattle.pruning_laws.specs.declared.side.Side.{Side}
 use Rattle.cube_laws.specs.Cubes.{Cube}
 use Rattle.cube_laws.specs.State.{Node}
@@ -14,7 +15,6 @@ use Rattle.cube_laws.proofs.Nodes.{some-inj, none-some}
 use Rattle.cube_machine.specs.Ways.{cube_of, cubes_after, parent_of, nodes_with, nodes_of, cube_in, IsWay}
 use Rattle.cube_machine.specs.declared.origin.Origin.{Origin}
 use Rattle.cube_machine.specs.declared.node.TreeNode.{TreeNode}
-use Rattle.cube_machine.proofs.Lists.{get_within, get_some, get_past}
 
 -- ---- lengths
 length_after : (before : List Cube) (xs : List TreeNode) → length (cubes_after before xs) ≡ length before + length xs
@@ -57,7 +57,7 @@ unfolding nodes_of
 node_at xs k x at = with_at (cubes_after [] xs) xs k x (as_many xs) at
 
 pub none_at : (xs : List TreeNode) (k : ℕ) → length xs ≤ k → slice_get (nodes_of xs) k ≡ None
-none_at xs k le = let e = length_nodes xs in get_past (nodes_of xs) k (omega (arith, e))
+none_at xs k le = let e = length_nodes xs in slice_get_past (nodes_of xs) k (omega (arith, e))
 
 pub cube_is : (xs : List TreeNode) (k : ℕ) (x : TreeNode) → slice_get xs k ≡ Some x → cube_in (nodes_of xs) k ≡ get_or (cubes_after [] xs) k []
 cube_is xs k x at = ap (λ (o : Option Node). option_map_or (λ (y : Node). y.cube) o []) (node_at xs k x at)
@@ -125,8 +125,8 @@ led xs k x at lt =
 way_of : (xs : List TreeNode) (k : ℕ) (x : TreeNode) (o : Option Origin) → x.origin ≡ o → slice_get xs k ≡ Some x → ((p : Origin) → x.origin ≡ Some p → p.parent < k) → IsWay (nodes_of xs) k o
 way_of xs k x None e at lt = led xs k x at lt ∙ ap (cube_of (cubes_after [] xs)) e
 way_of xs k x (Some p) e at lt =
-    let l = lt p e in let w = get_within xs k x at in
-    let y = get_some xs p.parent x (omega (arith, l, w)) in
+    let l = lt p e in let w = slice_get_within xs k x at in
+    let y = slice_get-get_or xs p.parent x (omega (arith, l, w)) in
     record {
       earlier = l;
       from = ap (λ (o : Option Node). option_map_or (λ (n : Node). n.parent) o 0) (node_at xs k x at) ∙ ap parent_of e;
@@ -143,7 +143,7 @@ rooted nodes (Some o) w = let l = w.earlier in absurd (omega (arith, l))
 -- node 0 decides no choice
 pub root_way : (xs : List TreeNode) (d : TreeNode) → 0 < length xs → ((x : TreeNode) (p : Origin) → slice_get xs 0 ≡ Some x → x.origin ≡ Some p → p.parent < 0) → cube_in (nodes_of xs) 0 ≡ []
 root_way xs d lt ordered =
-    let at = get_some xs 0 d lt in
+    let at = slice_get-get_or xs 0 d lt in
     rooted (nodes_of xs) (get_or xs 0 d).origin (is_way xs 0 (get_or xs 0 d) at (λ p f. ordered (get_or xs 0 d) p at f))
 
 -- ---- a written mark
@@ -192,7 +192,7 @@ unfolding nodes_of
 leaf_pushed xs parent choice side lt =
     let y = leaf parent choice side in
     let cs = cubes_after [] xs in
-    let at = get_some xs parent y lt in
+    let at = slice_get-get_or xs parent y lt in
     ap (λ l. nodes_with l (xs ++ y ∷ [])) (cubes_pushed [] xs y)
     ∙ with_pushed cs xs (cube_of cs y.origin) y (as_many xs)
     ∙ ap (λ c. nodes_with cs xs ++ child parent c choice side ∷ []) (sym (ap (λ (o : Option Node). option_map_or (λ (n : Node). n.cube) o []) (with_at cs xs parent (get_or xs parent y) (as_many xs) at)))

@@ -1,11 +1,10 @@
 -- The edges of a cube.
-use Rattle.std.proofs.Common.{◌≡◌, ◌⊎◌, ◌↔◌, ℕ, zero, suc, ◌+◌, ◌<◌, Bool, true, false, cond, eqb, ◌&&◌, ◌||◌, List, [], ◌∷◌, ◌++◌, length, get_or, take, refl, sym, ap, ◌∙◌, subst, inl, inr, arith}
+use Rattle.std.proofs.Common.{◌≡◌, ◌⊎◌, ◌↔◌, ℕ, zero, suc, ◌+◌, ◌<◌, Bool, true, false, eqb, ◌&&◌, ◌||◌, List, [], ◌∷◌, ◌++◌, length, get_or, take, refl, sym, ap, ◌∙◌, subst, inl, inr, arith}
 use Rattle.std.specs.Prelude.{slice_get}
 use Rattle.std.specs.Option.{option_map_or}
 use Rattle.std.specs.List.{Contains}
 use Rattle.std.proofs.lemmas.Bool.{false≢true, or_cases, or_left, or_right, eq-eqb, ne_eqb}
 use Rattle.std.proofs.lemmas.List.{take_more}
-use Rattle.std.proofs.lemmas.List.Folds.{list_any-append}
 use Rattle.serializability.specs.Polygraph.{Edge, Choice, Polygraph}
 use Rattle.pruning_laws.specs.declared.side.Side.{Side}
 use Rattle.pruning_laws.specs.declared.side.Side.TheVariants.{One, Two}
@@ -14,15 +13,10 @@ use Rattle.pruning_laws.specs.Ledger.{same_side, sides_in}
 use Rattle.known_graph.specs.Tests.{has_edge}
 use Rattle.known_graph.proofs.Tested.{same_bool, edge_in, has_contained}
 use Rattle.cube_laws.specs.Cubes.{Cube, edges_under}
+use Rattle.side_edges.proofs.Lists.{or_false, or_swap}
+use Rattle.side_edges.proofs.Listed.{edge_append, kept_edge}
 use Rattle.cube_machine.specs.Sides.{side_in, cube_edges}
-use Rattle.cube_machine.proofs.Lists.{either_way, or_false}
-
-pub edge_append : (xs ys : List Edge) (e : Edge) → has_edge (xs ++ ys) e ≡ (has_edge xs e || has_edge ys e)
-edge_append xs ys e = list_any-append (λ (x : Edge). eqb x.0 e.0 && eqb x.1 e.1) xs ys
-
-or_assoc : (a b c : Bool) → ((a || b) || c) ≡ (a || (b || c))
-or_assoc true b c = refl
-or_assoc false b c = refl
+use Rattle.cube_machine.proofs.Lists.{either_way}
 
 -- ---- one edge more
 pub edge_added : (old now : List Edge) (d e : Edge) → ((x : Edge) → (Contains now x ↔ (Contains old x ⊎ (x ≡ d)))) → has_edge now e ≡ (has_edge old e || has_edge (d ∷ []) e)
@@ -52,7 +46,7 @@ edge_more old now next part k d u v lt is p q a f e =
     let same : ◌≡◌ {A = Edge} (u, v) (get_or part k d) = (λ i. (p i, q i)) ∙ is in
     edge_added now next (u, v) e f
     ∙ (λ i. a e i || has_edge (same i ∷ []) e)
-    ∙ or_assoc (has_edge old e) (has_edge (take k part) e) (has_edge (get_or part k d ∷ []) e)
+    ∙ sym (or_swap (has_edge old e) (has_edge (take k part) e) (has_edge (get_or part k d ∷ []) e))
     ∙ ap (λ b. has_edge old e || b) (sym (edge_append (take k part) (get_or part k d ∷ []) e) ∙ ap (λ l. has_edge l e) (sym (take_more part k d lt)))
 
 -- ---- the way up
@@ -63,7 +57,7 @@ pub side_more : (p : Polygraph) (now next whole : List Edge) (at above : Cube) (
 unfolding cube_edges
 side_more p now next whole at above c side shape a f e =
     ap (λ b. b || has_edge (cube_edges p above) e) (f e)
-    ∙ or_assoc (has_edge now e) (has_edge (side_in p c side) e) (has_edge (cube_edges p above) e)
+    ∙ sym (or_swap (has_edge now e) (has_edge (side_in p c side) e) (has_edge (cube_edges p above) e))
     ∙ ap (λ b. has_edge now e || b) (sym (edge_append (side_in p c side) (cube_edges p above) e) ∙ ap (λ l. has_edge (cube_edges p l) e) (sym shape))
     ∙ a e
 
@@ -72,17 +66,6 @@ unfolding cube_edges
 sides_all p now whole at none a e = or_false (has_edge now e) ∙ ap (λ l. has_edge now e || has_edge (cube_edges p l) e) (sym none) ∙ a e
 
 -- ---- the edges under a cube
-part_edge : (b : Bool) (xs : List Edge) (e : Edge) → has_edge (cond b xs []) e ≡ (b && has_edge xs e)
-part_edge true xs e = refl
-part_edge false xs e = refl
-
-pub kept_edge : (sides : Sides) (k : ℕ) (h : Choice) (hs : List Choice) (e : Edge) → has_edge (kept_from sides k (h ∷ hs)) e ≡ (((sides k One && has_edge h.one e) || (sides k Two && has_edge h.two e)) || has_edge (kept_from sides (k + 1) hs) e)
-kept_edge sides k h hs e =
-    edge_append (cond (sides k One) h.one [] ++ cond (sides k Two) h.two []) (kept_from sides (k + 1) hs) e
-    ∙ ap (λ b. b || has_edge (kept_from sides (k + 1) hs) e)
-    (edge_append (cond (sides k One) h.one []) (cond (sides k Two) h.two []) e
-    ∙ (λ i. part_edge (sides k One) h.one e i || part_edge (sides k Two) h.two e i))
-
 spread : (a b c : Bool) → ((a || b) && c) ≡ ((a && c) || (b && c))
 spread true true true = refl
 spread true true false = refl

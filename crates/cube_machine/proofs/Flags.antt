@@ -1,18 +1,18 @@
 -- Flags of the sides that a cube decides.
-use Rattle.std.proofs.Common.{◌≡◌, ℕ, zero, suc, ◌<◌, ◌≤◌, Bool, true, false, not, eqb, ◌&&◌, ◌||◌, List, [], ◌∷◌, length, replicate, Option, None, Some, refl, sym, ap, ◌∙◌, subst, inl, inr, arith}
+use Rattle.std.proofs.Common.{◌≡◌, ℕ, zero, suc, Bool, true, false, not, eqb, ◌&&◌, ◌||◌, List, [], ◌∷◌, replicate, Option, None, Some, refl, sym, ap, ◌∙◌, inl, inr}
 use Rattle.std.specs.Prelude.{slice_get, slice_set}
 use Rattle.std.specs.Option.{option_map_or}
-use Rattle.std.proofs.lemmas.Bool.{cases_eq, cases_Bool, ne_eqb, eq-eqb, eqb-true, or_parts, and_parts}
+use Rattle.std.proofs.lemmas.Bool.{cases_eq, ne_eqb, eq-eqb, eqb-true, or_parts, and_parts}
+use Rattle.std.proofs.lemmas.Option.{slice_get_within}
 use Rattle.pruning_laws.specs.declared.side.Side.{Side}
 use Rattle.pruning_laws.specs.declared.side.Side.TheVariants.{One, Two}
 use Rattle.pruning_laws.specs.Ledger.{same_side, sides_in}
 use Rattle.cube_laws.specs.Cubes.{Cube, is_decided}
-use Rattle.cube_laws.specs.State.{Node}
-use Rattle.cube_machine.specs.Ways.{cube_in}
+use Rattle.side_edges.proofs.Lists.{slice_get-set_same, slice_get-set_other}
 use Rattle.cube_machine.specs.Flags.{either, flag_of, flag_at, is_flagged, is_odd}
 use Rattle.cube_machine.specs.Noted.{IsOnce}
 use Rattle.cube_machine.specs.declared.decided.SideFlags.{SideFlags}
-use Rattle.cube_machine.proofs.Lists.{get_put, get_other, either_way}
+use Rattle.cube_machine.proofs.Lists.{either_way}
 
 -- ---- one of both
 first_up : (f a b t : Bool) → either (either f (either a b)) (either b t) ≡ either f (either a t)
@@ -96,10 +96,10 @@ pub flag_turned : (flags : List SideFlags) (k c : ℕ) (old new : SideFlags) (si
     → flag_at (slice_set flags k new) c s ≡ either (eqb k c && same_side side s) (flag_at flags c s)
 flag_turned flags k c old new side s at e = elim (cases_eq k c) [
   | inl same ↦
-      (let first : flag_at (slice_set flags k new) c s ≡ flag_of new s = ap (λ n. flag_at (slice_set flags k new) n s) (sym same) ∙ ap (λ (o : Option SideFlags). option_map_or (λ f. flag_of f s) o false) (get_put flags k old new at) in
+      (let first : flag_at (slice_set flags k new) c s ≡ flag_of new s = ap (λ n. flag_at (slice_set flags k new) n s) (sym same) ∙ ap (λ (o : Option SideFlags). option_map_or (λ f. flag_of f s) o false) (slice_get-set_same flags k new (slice_get_within flags k old at)) in
       let before : flag_at flags c s ≡ flag_of old s = ap (λ n. flag_at flags n s) (sym same) ∙ ap (λ (o : Option SideFlags). option_map_or (λ f. flag_of f s) o false) at in
       first ∙ e ∙ ap (λ b. either (same_side side s) b) (sym before) ∙ ap (λ b. either (b && same_side side s) (flag_at flags c s)) (sym (eq-eqb k c same)))
-  | inr ne ↦ ap (λ (o : Option SideFlags). option_map_or (λ f. flag_of f s) o false) (get_other flags k c new ne) ∙ ap (λ b. either (b && same_side side s) (flag_at flags c s)) (sym (ne_eqb k c ne))
+  | inr ne ↦ ap (λ (o : Option SideFlags). option_map_or (λ f. flag_of f s) o false) (slice_get-set_other flags k c new (λ s. ne (sym s))) ∙ ap (λ b. either (b && same_side side s) (flag_at flags c s)) (sym (ne_eqb k c ne))
 ]
 
 pub flag_kept : (flags : List SideFlags) (k c : ℕ) (side s : Side) → (k ≡ c → ⊥) → flag_at flags c s ≡ either (eqb k c && same_side side s) (flag_at flags c s)

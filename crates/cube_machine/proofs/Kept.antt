@@ -8,11 +8,11 @@ use Rattle.reach_laws.specs.Reach.{Graph}
 use Rattle.cube_laws.specs.State.{Node, State, root}
 use Rattle.cube_laws.specs.Steps.{with_mark, has_solved, has_live, is_finished}
 use Rattle.cube_laws.specs.declared.messages.CubeState.{CubeState}
+use Rattle.side_edges.specs.Listed.{HasSides}
+use Rattle.side_edges.specs.declared.SideEdge.{SideEdge}
 use Rattle.cube_machine.specs.Growth.{Growth}
 use Rattle.cube_machine.specs.Ways.{cube_in}
 use Rattle.cube_machine.specs.Noted.{IsOnce, AreOnce, IsNoted, AreNoted}
-use Rattle.cube_machine.specs.declared.side_edges.SideEdge.{SideEdge}
-use Rattle.cube_machine.specs.Listed.{HasSides}
 use Rattle.cube_machine.specs.Machines.{IsMachine}
 use Rattle.cube_machine.specs.declared.decided.Decided.{Decided}
 use Rattle.cube_machine.proofs.Splits.{length_marked}

@@ -1,59 +1,17 @@
 -- Elements by their numbers, and tests of lists.
-use Rattle.std.proofs.Common.{◌≡◌, ◌⊎◌, ℕ, zero, suc, ◌<◌, ◌≤◌, Bool, true, false, ◌||◌, List, [], ◌∷◌, ◌++◌, length, get_or, None, Some, refl, sym, ap, ◌∙◌, inl, inr, arith}
+use Rattle.std.proofs.Common.{◌≡◌, ◌⊎◌, ℕ, zero, suc, Bool, true, false, ◌||◌, List, [], ◌∷◌, ◌++◌, length, Some, refl, sym, ap, ◌∙◌, inl, inr}
 use Rattle.std.specs.Prelude.{slice_get, slice_set}
 use Rattle.std.specs.List.{list_any}
 use Rattle.std.proofs.lemmas.Bool.{false≢true, or_cases}
 use Rattle.cube_laws.proofs.Nodes.{some-inj, none-some}
+use Rattle.side_edges.proofs.Lists.{or_false, or_swap}
 
 -- ---- elements
--- what is read behind a write: what was written, or what was there
-pub get_written : {A : Type 0} (xs : List A) (k j : ℕ) (y x : A) → slice_get (slice_set xs k y) j ≡ Some x → ((j ≡ k) × (x ≡ y)) ⊎ ((j ≡ k → ⊥) × (slice_get xs j ≡ Some x))
-get_written [] k j y x e = absurd (none-some x e)
-get_written (z ∷ zs) zero zero y x e = inl (refl, sym (some-inj y x e))
-get_written (z ∷ zs) zero (suc j) y x e = inr (λ s. omega (arith, s), e)
-get_written (z ∷ zs) (suc k) zero y x e = inr (λ s. omega (arith, s), e)
-get_written (z ∷ zs) (suc k) (suc j) y x e = elim (get_written zs k j y x e) [
-  | inl p ↦ inl (ap suc p.0, p.1)
-  | inr q ↦ inr (λ s. (let t : j ≡ k = omega (arith, s) in q.0 t), q.1)
-]
-
 pub get_pushed : {A : Type 0} (xs : List A) (j : ℕ) (y x : A) → slice_get (xs ++ y ∷ []) j ≡ Some x → ((j ≡ length xs) × (x ≡ y)) ⊎ (slice_get xs j ≡ Some x)
 get_pushed [] zero y x e = inl (refl, sym (some-inj y x e))
 get_pushed [] (suc j) y x e = absurd (none-some x e)
 get_pushed (z ∷ zs) zero y x e = inr e
 get_pushed (z ∷ zs) (suc j) y x e = elim (get_pushed zs j y x e) [ inl p ↦ inl (ap suc p.0, p.1) | inr q ↦ inr q ]
-
-pub get_put : {A : Type 0} (xs : List A) (k : ℕ) (x y : A) → slice_get xs k ≡ Some x → slice_get (slice_set xs k y) k ≡ Some y
-get_put [] k x y e = absurd (none-some x e)
-get_put (z ∷ zs) zero x y e = refl
-get_put (z ∷ zs) (suc k) x y e = get_put zs k x y e
-
-pub get_other : {A : Type 0} (xs : List A) (k j : ℕ) (y : A) → (k ≡ j → ⊥) → slice_get (slice_set xs k y) j ≡ slice_get xs j
-get_other [] k j y ne = refl
-get_other (z ∷ zs) zero zero y ne = absurd (ne refl)
-get_other (z ∷ zs) zero (suc j) y ne = refl
-get_other (z ∷ zs) (suc k) zero y ne = refl
-get_other (z ∷ zs) (suc k) (suc j) y ne = get_other zs k j y (λ e. ne (ap suc e))
-
-pub get_within : {A : Type 0} (xs : List A) (k : ℕ) (x : A) → slice_get xs k ≡ Some x → k < length xs
-get_within [] k x e = absurd (none-some x e)
-get_within (z ∷ zs) zero x e = omega arith
-get_within (z ∷ zs) (suc k) x e = let r = get_within zs k x e in omega (arith, r)
-
-pub get_is : {A : Type 0} (xs : List A) (k : ℕ) (d x : A) → slice_get xs k ≡ Some x → get_or xs k d ≡ x
-get_is [] k d x e = absurd (none-some x e)
-get_is (z ∷ zs) zero d x e = some-inj z x e
-get_is (z ∷ zs) (suc k) d x e = get_is zs k d x e
-
-pub get_some : {A : Type 0} (xs : List A) (k : ℕ) (d : A) → k < length xs → slice_get xs k ≡ Some (get_or xs k d)
-get_some [] k d lt = absurd (omega arith)
-get_some (z ∷ zs) zero d lt = refl
-get_some (z ∷ zs) (suc k) d lt = get_some zs k d (omega arith)
-
-pub get_past : {A : Type 0} (xs : List A) (k : ℕ) → length xs ≤ k → slice_get xs k ≡ None
-get_past [] k le = refl
-get_past (z ∷ zs) zero le = absurd (omega arith)
-get_past (z ∷ zs) (suc k) le = get_past zs k (omega arith)
 
 -- ---- tests
 pub any_found : {A : Type 0} (t : A → Bool) (xs : List A) → list_any t xs ≡ true → (k : ℕ) × ((x : A) × ((slice_get xs k ≡ Some x) × (t x ≡ true)))
@@ -62,14 +20,6 @@ any_found t (z ∷ zs) h = elim (or_cases (t z) (list_any t zs) h) [
   | inl a ↦ (0, (z, (refl, a)))
   | inr b ↦ (let r = any_found t zs b in (suc r.0, r.1))
 ]
-
-pub or_false : (b : Bool) → b ≡ (b || false)
-or_false true = refl
-or_false false = refl
-
-pub or_swap : (a b c : Bool) → (a || (b || c)) ≡ ((a || b) || c)
-or_swap true b c = refl
-or_swap false b c = refl
 
 or_turn : (a b : Bool) → (a || b) ≡ (b || a)
 or_turn true true = refl

@@ -10,11 +10,12 @@ use Rattle.cube_laws.specs.Steps.{with_mark, child}
 use Rattle.cube_laws.specs.Cubes.{Cube, is_decided}
 use Rattle.cube_laws.specs.declared.messages.CubeState.{CubeState}
 use Rattle.cube_laws.proofs.Nodes.{some-inj}
+use Rattle.desk.proofs.Tied.{get_set}
 use Rattle.cube_machine.specs.Ways.{cube_in}
 use Rattle.cube_machine.specs.Flags.{flag_at, is_odd}
 use Rattle.cube_machine.specs.Noted.{IsOnce, AreOnce, IsNoted, AreNoted}
 use Rattle.cube_machine.specs.declared.decided.Decided.{Decided}
-use Rattle.cube_machine.proofs.Lists.{get_written, get_pushed}
+use Rattle.cube_machine.proofs.Lists.{get_pushed}
 use Rattle.cube_machine.proofs.Flags.{odd_none}
 use Rattle.cube_machine.proofs.Splits.{length_marked, cube_front}
 
@@ -80,11 +81,11 @@ noted_more nodes more count table t = record {
 -- ---- a seat goes to another node
 pub noted_went : (nodes : List Node) (count : ℕ) (table : List Decided) (k : ℕ) (old now : Decided) → AreNoted nodes count table → slice_get table k ≡ Some old → IsNoted nodes now → length now.flags.items ≡ length old.flags.items → AreNoted nodes count (slice_set table k now)
 noted_went nodes count table k old now t at n l = record {
-  noted = λ j d e. (elim (get_written table k j now d e) [
+  noted = λ j d e. (elim (get_set table k j now d e) [
     | inl p ↦ subst (IsNoted nodes) (sym p.1) n
     | inr q ↦ t.noted j d q.1
   ]);
-  wide = λ j d e. (elim (get_written table k j now d e) [
+  wide = λ j d e. (elim (get_set table k j now d e) [
     | inl p ↦ ap (λ (x : Decided). length x.flags.items) p.1 ∙ l ∙ t.wide k old at
     | inr q ↦ t.wide j d q.1
   ]);

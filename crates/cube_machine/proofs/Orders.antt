@@ -1,9 +1,10 @@
 -- Orders that keep edges.
-use Rattle.std.proofs.Common.{◌≡◌, ◌↔◌, ℕ, zero, suc, ◌+◌, ◌<◌, ◌≤◌, Bool, true, false, eqb, ◌&&◌, List, [], ◌∷◌, length, get_or, Some, refl, sym, ap, ◌∙◌, inl, inr, arith}
+use Rattle.std.proofs.Common.{◌≡◌, ◌↔◌, ℕ, zero, suc, ◌+◌, ◌<◌, ◌≤◌, Bool, true, false, eqb, ◌&&◌, List, [], ◌∷◌, length, Some, refl, sym, ap, ◌∙◌, inl, inr, arith}
 use Rattle.std.specs.Prelude.{nat_lt, slice_get}
 use Rattle.std.specs.Option.{option_map_or}
 use Rattle.std.specs.List.{Contains, list_any, list_all, range_with_len}
 use Rattle.std.proofs.lemmas.Bool.{cases_Bool, and_parts, and_from, eq-eqb, lt-ltb, ltb-true}
+use Rattle.std.proofs.lemmas.Option.{slice_get-get_or}
 use Rattle.serializability.specs.Replay.{place_of, ListsOnce}
 use Rattle.serializability.specs.Polygraph.{Edge}
 use Rattle.reach_laws.specs.Reach.{Graph}
@@ -17,7 +18,6 @@ use Rattle.cube_laws.specs.Steps.{lists_once, keeps_edges}
 use Rattle.cube_laws.proofs.Nodes.{any_at}
 use Rattle.cube_laws.proofs.Fits.{once_tested}
 use Rattle.cube_machine.specs.Sides.{HasEdges}
-use Rattle.cube_machine.proofs.Lists.{get_some}
 
 -- ---- tests of all
 pub all_from : {A : Type 0} (t : A → Bool) (xs : List A) → ((x : A) → Contains xs x → t x ≡ true) → list_all t xs ≡ true
@@ -47,7 +47,7 @@ once_listed n order o =
     (eq-eqb (length order) n (once_length n order o))
     (all_range (λ v. list_any (λ w. eqb w v) order) 1 n (λ v lo hi.
     (let c = o.each v (omega arith) (omega (arith, hi)) in
-    any_at (λ w. eqb w v) order c.0 v (get_some order c.0 v c.1 ∙ ap (λ w. Some w) c.2) (eq-eqb v v refl))))
+    any_at (λ w. eqb w v) order c.0 v (slice_get-get_or order c.0 v c.1 ∙ ap (λ w. Some w) c.2) (eq-eqb v v refl))))
 
 -- the edges of the graph are kept
 kept_listed : (g : Graph) (order places : List ℕ) → ArePlaces g.nodes order places → IsKnownGraph g → AreKept places g → keeps_edges order g.edges ≡ true

@@ -3,6 +3,7 @@ use Rattle.std.proofs.Common.{◌≡◌, ℕ, zero, suc, ◌+◌, ◌≤◌, Boo
 use Rattle.std.specs.Prelude.{slice_get, is_some}
 use Rattle.std.specs.List.{list_any}
 use Rattle.std.proofs.lemmas.Bool.{cases_Bool, false≢true, cond-true, cond-false, eqb-true, eq-eqb}
+use Rattle.std.proofs.lemmas.Option.{slice_get-get_or}
 use Rattle.known_graph.proofs.Tested.{same_bool}
 use Rattle.cube_laws.specs.Cubes.{Cube}
 use Rattle.cube_laws.specs.State.{Node}
@@ -13,7 +14,7 @@ use Rattle.cube_laws.proofs.Nodes.{some-inj, none-some, any_at}
 use Rattle.cube_machine.specs.Ways.{nodes_with, nodes_of, cubes_after}
 use Rattle.cube_machine.specs.Kept.{HasMark, IsTree}
 use Rattle.cube_machine.specs.declared.node.TreeNode.{TreeNode}
-use Rattle.cube_machine.proofs.Lists.{get_some, any_found, any_either}
+use Rattle.cube_machine.proofs.Lists.{any_found, any_either}
 use Rattle.cube_machine.proofs.Cubes.{as_many, any_mark}
 use Rattle.cube_machine.proofs.Places.{some_open}
 
@@ -77,13 +78,13 @@ slot_is xs numbers held solved seat (Some id) t at =
 
 pub slot_read : (xs : List TreeNode) (numbers : List ℕ) (held : List (Option ℕ)) (solved : Bool) (seat : ℕ) → IsTree xs numbers held solved → seat ≤ 16 → get_or held seat None ≡ held_from seat 0 (nodes_of xs)
 slot_read xs numbers held solved seat t le =
-    let s = t.seats in slot_is xs numbers held solved seat (get_or held seat None) t (get_some held seat None (omega (arith, s, le)))
+    let s = t.seats in slot_is xs numbers held solved seat (get_or held seat None) t (slice_get-get_or held seat None (omega (arith, s, le)))
 
 -- the slot of a seat that holds a node, and of one that holds none
 pub slot_at : (xs : List TreeNode) (numbers : List ℕ) (held : List (Option ℕ)) (solved : Bool) (seat : ℕ) (o : Option ℕ) → IsTree xs numbers held solved → seat ≤ 16 → held_from seat 0 (nodes_of xs) ≡ o → slice_get held seat ≡ Some o
 slot_at xs numbers held solved seat o t le e =
     let s = t.seats in
-    get_some held seat None (omega (arith, s, le)) ∙ ap (λ p. Some p) (slot_read xs numbers held solved seat t le ∙ e)
+    slice_get-get_or held seat None (omega (arith, s, le)) ∙ ap (λ p. Some p) (slot_read xs numbers held solved seat t le ∙ e)
 
 -- ---- whether a node is held
 is_some_is : (o : Option ℕ) → is_some o ≡ true → (k : ℕ) × (o ≡ Some k)

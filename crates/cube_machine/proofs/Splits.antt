@@ -3,17 +3,17 @@ use Rattle.std.proofs.Common.{◌≡◌, ℕ, ◌<◌, true, false, List, [], �
 use Rattle.std.specs.Prelude.{slice_get, slice_set}
 use Rattle.std.specs.Option.{option_map_or}
 use Rattle.std.proofs.lemmas.List.{length-set}
+use Rattle.std.proofs.lemmas.Option.{slice_get_within, slice_get-get_or}
 use Rattle.pruning_laws.specs.declared.side.Side.TheVariants.{One, Two}
 use Rattle.cube_laws.specs.State.{Node}
 use Rattle.cube_laws.specs.Steps.{is_open, is_held_by, held_from, last_open_from, with_mark, child}
 use Rattle.cube_laws.specs.declared.messages.CubeState.{CubeState}
 use Rattle.cube_laws.proofs.Nodes.{none-some, get_same, get_front, found_held, found_open, found_first}
 use Rattle.cube_machine.specs.Ways.{cube_in}
-use Rattle.cube_machine.proofs.Lists.{get_within, get_some}
 
 pub held_within : (nodes : List Node) (seat id : ℕ) → held_from seat 0 nodes ≡ Some id → id < length nodes
 held_within nodes seat id e =
-    let m = found_first (is_held_by seat) nodes id (found_held seat 0 id nodes e) in get_within nodes id m.node m.at
+    let m = found_first (is_held_by seat) nodes id (found_held seat 0 id nodes e) in slice_get_within nodes id m.node m.at
 
 pub last_ready : (nodes : List Node) (id : ℕ) → last_open_from 0 nodes ≡ Some id → option_map_or (λ (x : Node). is_open x.mark) (slice_get nodes id) false ≡ true
 last_ready nodes id e =
@@ -42,7 +42,7 @@ cube_front nodes more id lt = front nodes more id (slice_get nodes id) refl lt
     front nodes more id (Some x) e lt =
         ap (λ (o : Option Node). option_map_or (λ (y : Node). y.cube) o []) (get_front nodes more id x e ∙ sym e)
     front [] more id None e lt = absurd (omega (arith, lt))
-    front (y ∷ ys) more id None e lt = absurd (none-some (get_or (y ∷ ys) id y) (sym e ∙ get_some (y ∷ ys) id y lt))
+    front (y ∷ ys) more id None e lt = absurd (none-some (get_or (y ∷ ys) id y) (sym e ∙ slice_get-get_or (y ∷ ys) id y lt))
 
 -- ---- two children
 pub two_more : (nodes marked : List Node) (id c : ℕ) → id < length marked → cube_in marked id ≡ cube_in nodes id

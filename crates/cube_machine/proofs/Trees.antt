@@ -5,17 +5,19 @@ use Rattle.std.specs.Option.{option_map_or}
 use Rattle.std.specs.List.{insert, remove}
 use Rattle.std.proofs.lemmas.Bool.{cases_lt, false≢true}
 use Rattle.std.proofs.lemmas.List.{length-set}
+use Rattle.std.proofs.lemmas.Option.{slice_get_within}
 use Rattle.pruning_laws.specs.declared.side.Side.{Side}
 use Rattle.cube_laws.specs.State.{Node}
 use Rattle.cube_laws.specs.Steps.{is_open, is_solved, held_from}
 use Rattle.cube_laws.specs.declared.messages.CubeState.{CubeState}
 use Rattle.cube_laws.specs.declared.messages.CubeState.TheVariants.{Open, Held, Split as Divided, Refuted, Solved as Ended}
 use Rattle.cube_laws.proofs.Nodes.{some-inj, none-some, get_same, get_other, get_front}
+use Rattle.desk.proofs.Tied.{get_set}
 use Rattle.cube_machine.specs.Ways.{nodes_of}
 use Rattle.cube_machine.specs.Kept.{HasMark, IsAscending, IsTree, open_from, is_closed}
 use Rattle.cube_machine.specs.declared.origin.Origin.{Origin}
 use Rattle.cube_machine.specs.declared.node.TreeNode.{TreeNode}
-use Rattle.cube_machine.proofs.Lists.{get_written, get_pushed, get_within, any_written, any_unchanged, any_pushed}
+use Rattle.cube_machine.proofs.Lists.{get_pushed, any_written, any_unchanged, any_pushed}
 use Rattle.cube_machine.proofs.Cubes.{remark, leaf, mark_tested, mark_absent}
 use Rattle.cube_machine.proofs.Places.{IsPlace, place_is, opens, open_removed, open_inserted, open_unchanged, open_pushed, open_fewer, open_within, open_ascending}
 use Rattle.cube_machine.proofs.Seats.{slot_at}
@@ -53,7 +55,7 @@ closed_shut Ended t = refl
 -- ---- a written mark
 ordered_written : (xs : List TreeNode) → ((k : ℕ) (x : TreeNode) (o : Origin) → slice_get xs k ≡ Some x → x.origin ≡ Some o → o.parent < k) → (id : ℕ) (x : TreeNode) (m : CubeState) → slice_get xs id ≡ Some x
     → (k : ℕ) (y : TreeNode) (o : Origin) → slice_get (slice_set xs id (remark x m)) k ≡ Some y → y.origin ≡ Some o → o.parent < k
-ordered_written xs h id x m at k y o e f = elim (get_written xs id k (remark x m) y e) [
+ordered_written xs h id x m at k y o e f = elim (get_set xs id k (remark x m) y e) [
   | inl p ↦ h k x o (ap (slice_get xs) p.0 ∙ at) (sym (ap (λ (n : TreeNode). n.origin) p.1) ∙ f)
   | inr q ↦ h k y o q.1 f
 ]
@@ -62,14 +64,14 @@ pub tree_hold : (xs : List TreeNode) (numbers : List ℕ) (held : List (Option �
     → IsTree (slice_set xs id (remark x (Held seat))) (remove numbers p) (slice_set held seat (Some id)) solved
 tree_hold xs numbers held solved t seat id p x at o free w =
     let y = remark x (Held seat) in
-    let lt = get_within xs id x at in
+    let lt = slice_get_within xs id x at in
     let z : id ≡ 0 + id = omega arith in
     let place : p ≡ opens id xs = place_is 0 xs id p (omega (arith, lt)) (subst (λ l. IsPlace (0 + id) l p) t.listed (subst (λ n. IsPlace n numbers p) z w)) in
     record {
       ordered = ordered_written xs t.ordered id x (Held seat) at;
       listed = (λ i. remove (t.listed i) (place i)) ∙ sym (open_removed 0 xs id x y at o refl);
       seats = length-set held seat (Some id) ∙ t.seats;
-      holds = λ s k e. (elim (get_written held seat s (Some id) (Some k) e) [
+      holds = λ s k e. (elim (get_set held seat s (Some id) (Some k) e) [
         | inl q ↦ record {
           node = y;
           at = subst (λ n. slice_get (slice_set xs id y) n ≡ Some y) (sym (some-inj k id q.1)) (get_same xs id x y at);
@@ -81,7 +83,7 @@ tree_hold xs numbers held solved t seat id p x at o free w =
           marked = m.marked;
         })
       ]);
-      slotted = λ s k m. (elim (get_written xs id k y m.node m.at) [
+      slotted = λ s k m. (elim (get_set xs id k y m.node m.at) [
         | inl q ↦ (let same : s ≡ seat = sym (same_seat seat s (sym (ap (λ (n : TreeNode). n.mark) q.1) ∙ m.marked)) in
             subst (λ n. slice_get (slice_set held seat (Some id)) n ≡ Some (Some k)) (sym same)
             (subst (λ n. slice_get (slice_set held seat (Some id)) seat ≡ Some (Some n)) (sym q.0) (get_same held seat None (Some id) free)))
@@ -103,7 +105,7 @@ freed xs numbers held solved t seat id x m at mine none =
     let here = t.holds seat id mine in
     let own : x.mark ≡ Held seat = ap (λ (n : TreeNode). n.mark) (some-inj x here.node (sym at ∙ here.at)) ∙ here.marked in
     record {
-      holds = λ s k e. (elim (get_written held seat s None (Some k) e) [
+      holds = λ s k e. (elim (get_set held seat s None (Some k) e) [
         | inl q ↦ absurd (none-some k (sym q.1))
         | inr q ↦ (let g = t.holds s k q.1 in record {
           node = g.node;
@@ -111,7 +113,7 @@ freed xs numbers held solved t seat id x m at mine none =
           marked = g.marked;
         })
       ]);
-      slotted = λ s k g. (elim (get_written xs id k y g.node g.at) [
+      slotted = λ s k g. (elim (get_set xs id k y g.node g.at) [
         | inl q ↦ absurd (none s (sym (ap (λ (n : TreeNode). n.mark) q.1) ∙ g.marked))
         | inr q ↦ (let there = t.slotted s k (record { node = g.node; at = q.1; marked = g.marked }) in
             get_other held seat s (Some k) None (λ same. q.0 (some-inj k id (some-inj (Some k) (Some id) (sym there ∙ ap (slice_get held) same ∙ mine)))) there)
@@ -124,7 +126,7 @@ tree_reopen xs numbers held solved t seat id p x at mine w =
     let y = remark x Open in
     let here = t.holds seat id mine in
     let own : x.mark ≡ Held seat = ap (λ (n : TreeNode). n.mark) (some-inj x here.node (sym at ∙ here.at)) ∙ here.marked in
-    let lt = get_within xs id x at in
+    let lt = slice_get_within xs id x at in
     let z : id ≡ 0 + id = omega arith in
     let place : p ≡ opens id xs = place_is 0 xs id p (omega (arith, lt)) (subst (λ l. IsPlace (0 + id) l p) t.listed (subst (λ n. IsPlace n numbers p) z w)) in
     let f = freed xs numbers held solved t seat id x Open at mine (λ s e. open_free Open s refl e) in
@@ -211,7 +213,7 @@ open_marked xs id x at e = sym (mark_tested is_open false xs id x at) ∙ e
 
 pub open_placed : (xs : List TreeNode) (numbers : List ℕ) (held : List (Option ℕ)) (solved : Bool) → IsTree xs numbers held solved → (id p : ℕ) (x : TreeNode) → slice_get xs id ≡ Some x → is_open x.mark ≡ true → IsPlace id numbers p → p < length numbers
 open_placed xs numbers held solved t id p x at o w =
-    let lt = get_within xs id x at in
+    let lt = slice_get_within xs id x at in
     let z : id ≡ 0 + id = omega arith in
     let place : p ≡ opens id xs = place_is 0 xs id p (omega (arith, lt)) (subst (λ l. IsPlace (0 + id) l p) t.listed (subst (λ n. IsPlace n numbers p) z w)) in
     let r = open_within 0 xs id x at o in
@@ -219,7 +221,7 @@ open_placed xs numbers held solved t id p x at o w =
 
 pub held_below : (xs : List TreeNode) (numbers : List ℕ) (held : List (Option ℕ)) (solved : Bool) (seat id : ℕ) → IsTree xs numbers held solved → seat ≤ 16 → held_from seat 0 (nodes_of xs) ≡ Some id → id < length xs
 held_below xs numbers held solved seat id t le e =
-    let m = t.holds seat id (slot_at xs numbers held solved seat (Some id) t le e) in get_within xs id m.node m.at
+    let m = t.holds seat id (slot_at xs numbers held solved seat (Some id) t le e) in slice_get_within xs id m.node m.at
 
 pub fewer_listed : (xs : List TreeNode) (numbers : List ℕ) (held : List (Option ℕ)) (solved : Bool) (seat id : ℕ) → IsTree xs numbers held solved → seat ≤ 16 → held_from seat 0 (nodes_of xs) ≡ Some id → length numbers < length xs
 fewer_listed xs numbers held solved seat id t le e =

@@ -3,7 +3,7 @@ pub mod Ways
 pub mod Kept
 pub mod Sides
 pub mod Flags
-pub mod Listed
+pub mod Cycles
 pub mod Noted
 pub mod Machines
 pub mod Words

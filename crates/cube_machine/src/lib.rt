@@ -1,8 +1,9 @@
 //! The machine of the search for an order that fits a polygraph: the tree of cubes that workers
 //! claim, split, refute and solve, in memory that is taken when the search begins.
 //!
-//! Called by `branch_search`, through a desk. It knows no log and no thread, and of a strategy only
-//! the name.
+//! Called by `branch_search`, through a desk, and cited by `tree_checks` and `tell_trees`;
+//! `deciding`, `auditing`, `cobra_cli` and `cobra_words` hand on its budgets and its names of
+//! strategies. It knows no log and no thread, and of a strategy only the name.
 //!
 //! A cube is a list of decided choices, each with its side. Contracts see the machine as the state
 //! of the written step. The tree in memory keeps of each node its parent and the one choice that
@@ -12,6 +13,7 @@
 #![tactic(auto)]
 
 mod budget;
+mod cycles;
 mod decided;
 mod machine;
 mod node;
@@ -19,7 +21,6 @@ mod order;
 mod origin;
 mod row;
 mod rules;
-mod side_edges;
 mod sides;
 mod strategy_name;
 mod tree;

@@ -18,11 +18,11 @@ ghost use Rattle.cube_machine.specs.Ways.{IsWay};
 ghost use Rattle.cube_machine.specs.Noted.{AreNoted};
 
 use crate::budget::Budget;
+use crate::cycles::is_cycle;
 use crate::decided::Decided;
 use crate::order::fits_graph;
 use crate::origin::Origin;
 use crate::row::OriginRow;
-use crate::side_edges::{SideEdge, is_cycle, side_edges};
 use crate::sides::fill;
 use crate::tree::{SEAT_SLOTS, Tree};
 use cube_laws::{CubeReply, CubeState};
@@ -31,6 +31,7 @@ use known_graph::Known;
 use polygraph::{ChoiceIx, Polygraph};
 use pruning_laws::Side;
 use serializability::NodeIx;
+use side_edges::{SideEdge, side_edges};
 use std::alloc::{AllocError, Global};
 use std::marker::Model;
 

@@ -10,7 +10,7 @@ ghost use Rattle.deciding.specs.Decides.{Decides};
 
 use crate::decision::Decision;
 use crate::means::Means;
-use branch_search::{Answer, FirstOpen, Forced, LeastEdges, MostEdges, Tree, search};
+use branch_search::{Answer, Effort, FirstOpen, Forced, LeastEdges, MostEdges, Tree, search};
 use cube_machine::StrategyName;
 use desk::gate::Gate;
 use polygraph::PolyFault;
@@ -39,26 +39,15 @@ fn run_search<G: Gate, R: Threads + Wait + Clock + Sync>(
     ensures unknown { IfOk result (SaysUnknown means.now.budget) }
     ensures ran { IfOk result (EndsRun reduced.now.poly means.now.budget) }
 {
-    let workers = means.workers;
-    let budget = means.budget;
+    let effort = Effort {
+        workers: means.workers,
+        budget: means.budget,
+    };
     match means.strategy {
-        StrategyName::First => search(
-            rt, alloc, history, reduced, &FirstOpen, workers, budget, gate,
-        ),
-        StrategyName::Most => search(
-            rt, alloc, history, reduced, &MostEdges, workers, budget, gate,
-        ),
-        StrategyName::Least => search(
-            rt,
-            alloc,
-            history,
-            reduced,
-            &LeastEdges,
-            workers,
-            budget,
-            gate,
-        ),
-        StrategyName::Forced => search(rt, alloc, history, reduced, &Forced, workers, budget, gate),
+        StrategyName::First => search(rt, alloc, history, reduced, &FirstOpen, effort, gate),
+        StrategyName::Most => search(rt, alloc, history, reduced, &MostEdges, effort, gate),
+        StrategyName::Least => search(rt, alloc, history, reduced, &LeastEdges, effort, gate),
+        StrategyName::Forced => search(rt, alloc, history, reduced, &Forced, effort, gate),
     }
 }
 

@@ -107,17 +107,13 @@ each_node n ss (suc i) low high =
     let P : ℕ → Type 0 = λ j. NodeBeginsAt n ss (suc i) (get_or (begins_in (taken ss) n ss) j 0) in
     subst P less (at_node n ss (suc i) (get_or (begins_in (taken ss) n ss) i 0) found.0 found.1.0 found.1.1)
 
-begin_lines_are : (n : ℕ) (ss : List ClientSession) → AreBeginLines n ss (begins_in (taken ss) n ss)
-begin_lines_are n ss = record {
-  count = AllZip-long (IsOf n ss) (committed_in ss) (begins_in (taken ss) n ss) (of_nodes n ss);
-  each = λ v low high. each_node n ss v low high;
-}
+pub are_begin_lines : (n : ℕ) (ss : List ClientSession) (lines : List ℕ) → lines ≡ begins_in (taken ss) n ss → AreBeginLines n ss lines
+are_begin_lines n ss lines e =
+    subst (AreBeginLines n ss) (sym e) (record {
+      count = AllZip-long (IsOf n ss) (committed_in ss) (begins_in (taken ss) n ss) (of_nodes n ss);
+      each = λ v low high. each_node n ss v low high;
+    })
 
 -- where no session is left
-pub begin_lines_at_end : (n m i : ℕ) (ss : List ClientSession) (sessions : List Session) (lines : List ℕ) → length sessions ≤ i
-    → lines ++ begins_in (taken ss) m (map view (drop i sessions)) ≡ begins_in (taken ss) n ss → AreBeginLines n ss lines
-begin_lines_at_end n m i ss sessions lines past e =
-    let all : lines ≡ begins_in (taken ss) n ss =
-    sym (append-nil lines) ∙ ap (λ those. lines ++ begins_in (taken ss) m (map view those)) (sym (drop_all i sessions past)) ∙ e
-    in
-    subst (AreBeginLines n ss) (sym all) (begin_lines_are n ss)
+pub lines_at_end : (chosen : ℕ → Bool) (m i : ℕ) (sessions : List Session) (lines : List ℕ) → length sessions ≤ i → lines ++ begins_in chosen m (map view (drop i sessions)) ≡ lines
+lines_at_end chosen m i sessions lines past = ap (λ those. lines ++ begins_in chosen m (map view those)) (drop_all i sessions past) ∙ append-nil lines

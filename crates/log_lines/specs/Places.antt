@@ -49,8 +49,12 @@ pub record NodeBeginsAt (n : ℕ) (ss : List ClientSession) (v line : ℕ) : Typ
   pub ended : t.ended ≡ ended_of ss v
   pub begins : BeginsAt n ss (name_in ss v).0 (name_in ss v).1 t line
 
+-- the line at which node v begins, of a list from node 1 on
+abbrev pub begin_at : List ℕ → ℕ → ℕ
+begin_at begins v = slice_index begins (v - 1)
+
 -- the lines at which the nodes begin, in the order of the nodes from node 1 on
 pub record AreBeginLines (n : ℕ) (ss : List ClientSession) (lines : List ℕ) : Type 0 where
   pub count : length lines ≡ length (committed_in ss)
   pub each : (v : ℕ) → 0 < v → v ≤ length (committed_in ss)
-      → NodeBeginsAt n ss v (slice_index lines (v - 1))
+      → NodeBeginsAt n ss v (begin_at lines v)

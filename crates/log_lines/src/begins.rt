@@ -3,14 +3,13 @@
 ghost use Rattle.std.specs.Prelude.{◌≡◌, ◌+◌, ◌<◌, ◌^◌, ◌++◌, length, OnOk, IfOk};
 ghost use Rattle.std.specs.List.{flat_map};
 ghost use Rattle.session_log.specs.Text.{view, view_txn, txn_lines};
-ghost use Rattle.session_log.specs.Version.{first_line};
+ghost use Rattle.log_definitions.specs.Unknown.{taken};
 ghost use Rattle.log_definitions.specs.WellFormed.{log_lines};
-ghost use Rattle.log_lines.specs.Places.{AreBeginLines};
-ghost use Rattle.log_lines.specs.Computed.{begin_of, begins_from};
+ghost use Rattle.log_lines.specs.Computed.{begin_of, begins_from, begins_in};
 
 use crate::counts::{session_line_count, txn_line_count};
 use session_history::{History, is_node};
-use session_log::{Session, Txn, Version};
+use session_log::{Session, Txn};
 use std::alloc::{AllocError, Global};
 
 /// Appends the line at which a transaction begins, where it is a node.
@@ -49,19 +48,15 @@ fn add_begin_lines(
     Ok(())
 }
 
-/// The line of the log, from 1, at which each node begins, in the order of the nodes: that of node
-/// v is at v - 1. The history is that of a log of this version.
-pub fn begin_lines(
-    alloc: Global,
-    version: Version,
-    history: &History,
-) -> Result<Vec<usize>, AllocError>
-    requires room { length (log_lines history.now) < 2 ^ 63 }
-    ensures begins { IfOk result (λ lines.
-        AreBeginLines (first_line version) history.now lines.items) }
+/// The line at which each node begins, where the first session begins at line `first`. That of node
+/// v is at v - 1.
+pub fn begin_lines(alloc: Global, history: &History, first: usize) -> Result<Vec<usize>, AllocError>
+    requires room { first + length (log_lines history.now) < 2 ^ 63 }
+    ensures begins { IfOk result (λ lines. lines.items
+        ≡ begins_in (taken history.now) first history.now) }
 {
     let mut lines = Vec::with_capacity(alloc, history.committed())?;
-    let mut line = version.first_line();
+    let mut line = first;
     let sessions = history.sessions();
     for session in sessions {
         let is_taken = history.taken(usize::from(session.number));

@@ -6,6 +6,7 @@
 mod begins;
 mod counts;
 pub mod laws;
+mod placed;
 
-pub use begins::begin_lines;
 pub use counts::{session_line_count, txn_line_count};
+pub use placed::PlacedHistory;

@@ -2,8 +2,8 @@
 //! nodes: the plain formula of a history, the reduced formula of what pruning leaves, and a formula
 //! that nothing satisfies. A formula keeps no clause: each is made when it is asked for.
 //!
-//! Called by `cobra_formulas`; `dimacs` and `decode_order` read what it makes. It knows no text and
-//! no solver.
+//! Called by `cobra_formulas`; `dimacs`, `decode_order` and `refute_command` read what it makes, and
+//! `cobra_answers` names its faults. It knows no text and no solver.
 #![tactic(auto)]
 
 mod clause;

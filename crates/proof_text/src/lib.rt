@@ -2,8 +2,8 @@
 //! Kaufmann and Schneider-Kamp 2017) as text, and DRAT (Wetzler, Heule and Hunt 2014) as text and
 //! in its binary form.
 //!
-//! Called by `proof_checks` and `refute_command`. It knows no formula, and not whether a step
-//! follows.
+//! Called by `proof_checks`; `refute_command` and `cobra_poly` hand on its faults. It knows no
+//! formula, and not whether a step follows.
 //!
 //! Contracts say which steps a text has, each with its line. That a refuted formula has no solution
 //! does not rest on them: whatever steps come out, a checker takes only those that follow.

@@ -66,8 +66,8 @@ one_refused p kept s g c h at acyclic Two Two t r = g.marks c Two t
 acyclic_after : (p : Polygraph) (entries : List LedgerEntry) (graph : Graph) → IsGraphOf p (kept_by entries) graph → (IsCyclic graph.edges → ⊥) → IsCyclic (edges_after p (kept_by entries)) → ⊥
 acyclic_after p entries graph g acyclic c = acyclic (c.0, reaches_in (edges_after p (kept_by entries)) graph.edges g.to c.0 c.0 c.1)
 
-closed_at : (p : Polygraph) (entries : List LedgerEntry) (s : State) (graph rows : Graph) (flags : List Bool) → IsLast p entries s graph rows flags → (c : ℕ) (h : Choice) → slice_get p.choices c ≡ Some h → (w : Side) → IsRefuted (edges_after p (kept_by entries)) (edges_of h w) → sides_in (kept_by entries) c (other w) ≡ true
-closed_at p entries s graph rows flags l c h at w r =
+closed_at : (p : Polygraph) (entries : List LedgerEntry) (s : State) (graph : Graph) (flags : List Bool) → IsLast p entries s graph flags → (c : ℕ) (h : Choice) → slice_get p.choices c ≡ Some h → (w : Side) → IsRefuted (edges_after p (kept_by entries)) (edges_of h w) → sides_in (kept_by entries) c (other w) ≡ true
+closed_at p entries s graph flags l c h at w r =
     let g = l.progress.grown in
     let lt = slice_get_within p.choices c h at in
     let len : length s.marks ≡ length p.choices = g.marked ∙ ap length g.same in
@@ -83,10 +83,10 @@ closed_at p entries s graph rows flags l c h at w r =
       | inr t ↦ absurd (l.open_in.each c (f.1 ∙ ap Some t) h at w (refuted_in (edges_after p (kept_by entries)) graph.edges (edges_of h w) l.graph_of.to r))
     ]
 
-pub last_closed : (p : Polygraph) (entries : List LedgerEntry) (s : State) (graph rows : Graph) (flags : List Bool) → IsLast p entries s graph rows flags → IsClosed p (sides_in (kept_by entries))
-last_closed p entries s graph rows flags l = record {
+pub last_closed : (p : Polygraph) (entries : List LedgerEntry) (s : State) (graph : Graph) (flags : List Bool) → IsLast p entries s graph flags → IsClosed p (sides_in (kept_by entries))
+last_closed p entries s graph flags l = record {
   rule = numbered_and (IsAt p) (IsAt p) (λ c h. (w : Side) → IsRefuted (edges_after p (kept_by entries)) (edges_of h w) → sides_in (kept_by entries) c (other w) ≡ true) 0 p.choices
-      (λ c h at _. closed_at p entries s graph rows flags l c h at) (numbered p) (numbered p);
+      (λ c h at _. closed_at p entries s graph flags l c h at) (numbered p) (numbered p);
 }
 
 -- ---- the open choices
@@ -124,9 +124,9 @@ unrefused_where P (m ∷ ms) (h ∷ hs) f =
     let rest = unrefused_where P ms hs (λ k n g a b t. f (suc k) n g a b t) in
     elim (cases_Bool (m.one || m.two)) [ inl t ↦ rw t rest | inr e ↦ rw e (f 0 m h refl refl e, rest) ]
 
-pub left_unrefuted : (p : Polygraph) (entries : List LedgerEntry) (s : State) (graph rows : Graph) (flags : List Bool) → IsLast p entries s graph rows flags
+pub left_unrefuted : (p : Polygraph) (entries : List LedgerEntry) (s : State) (graph : Graph) (flags : List Bool) → IsLast p entries s graph flags
     → AllByRecursion (λ (h : Choice). (side : Side) → IsRefuted graph.edges (edges_of h side) → ⊥) (unrefused s.marks s.choices)
-left_unrefuted p entries s graph rows flags l =
+left_unrefuted p entries s graph flags l =
     unrefused_where (λ (h : Choice). (side : Side) → IsRefuted graph.edges (edges_of h side) → ⊥) s.marks s.choices
     (λ k m h a b t. (
     let g = l.progress.grown in
@@ -136,19 +136,21 @@ left_unrefuted p entries s graph rows flags l =
     let set : f.0 ≡ true = elim (or_cases (m.one || m.two) f.0 (l.settled.each k m f.0 a f.1)) [ inl u ↦ absurd (false≢true (sym t ∙ u)) | inr v ↦ v ] in
     l.open_in.each k (f.1 ∙ ap Some set) h at))
 
-pub reduced_last : (p : Polygraph) (entries : List LedgerEntry) (s : State) (graph rows : Graph) (flags : List Bool) (n : ℕ) → IsLast p entries s graph rows flags → IsReduced (record { nodes = n; known = graph.edges; choices = unrefused s.marks s.choices })
-reduced_last p entries s graph rows flags n l = record { acyclic = l.acyclic; unrefuted = left_unrefuted p entries s graph rows flags l }
+pub reduced_last : (p : Polygraph) (entries : List LedgerEntry) (s : State) (graph : Graph) (flags : List Bool) (n : ℕ) → IsLast p entries s graph flags → IsReduced (record { nodes = n; known = graph.edges; choices = unrefused s.marks s.choices })
+reduced_last p entries s graph flags n l = record { acyclic = l.acyclic; unrefuted = left_unrefuted p entries s graph flags l }
 
-pub poly_with : (g : Graph) (a b : List Choice) → a ≡ b → ◌≡◌ {A = Polygraph} (record { nodes = g.nodes; known = g.edges; choices = a }) (record { nodes = g.nodes; known = g.edges; choices = b })
-poly_with g a b e = ap (λ (hs : List Choice). (let p : Polygraph = record { nodes = g.nodes; known = g.edges; choices = hs } in p)) e
+pub poly_with : (g w : Graph) (a b : List Choice) → g ≡ w → a ≡ b → ◌≡◌ {A = Polygraph} (record { nodes = g.nodes; known = g.edges; choices = a }) (record { nodes = w.nodes; known = w.edges; choices = b })
+poly_with g w a b same e =
+    ap (λ (k : Graph). (let p : Polygraph = record { nodes = k.nodes; known = k.edges; choices = a } in p)) same
+    ∙ ap (λ (hs : List Choice). (let p : Polygraph = record { nodes = w.nodes; known = w.edges; choices = hs } in p)) e
 
-pub is_remainder : (p : Polygraph) (s : State) (graph rows : Graph) (flags : List Bool) (poly : Polygraph) (ledger : Ledger) → IsLast p ledger.entries.items s graph rows flags
+pub is_remainder : (p : Polygraph) (s : State) (graph rows : Graph) (flags : List Bool) (poly : Polygraph) (ledger : Ledger) → IsLast p ledger.entries.items s graph flags → AreRowsOf rows graph
     → poly ≡ record { nodes = graph.nodes; known = graph.edges; choices = unrefused s.marks s.choices }
     → IfSome ledger.cycle (λ line. IsCycle (edges_after p (kept_by ledger.entries.items)) line.items) → IsNone ledger.cycle
     → IsRemainder p (record { poly = poly; rows = rows; ledger = ledger })
-is_remainder p s graph rows flags poly ledger l is cycle none =
+is_remainder p s graph rows flags poly ledger l of is cycle none =
     let K = sides_in (kept_by ledger.entries.items) in
-    let closed = last_closed p ledger.entries.items s graph rows flags l in
+    let closed = last_closed p ledger.entries.items s graph flags l in
     let forced = ledger_forced p (kept_by ledger.entries.items) l.progress.grown.ledger closed in
     let nodes : poly.nodes ≡ p.nodes = ap (λ (q : Polygraph). q.nodes) is ∙ l.graph_of.nodes in
     let known : poly.known ≡ graph.edges = ap (λ (q : Polygraph). q.known) is in
@@ -160,8 +162,8 @@ is_remainder p s graph rows flags poly ledger l is cycle none =
       nodes = nodes;
       known = edges;
       choices = choices;
-      reduced = subst IsReduced (sym is) (reduced_last p ledger.entries.items s graph rows flags graph.nodes l);
-      rows = subst (λ (q : Polygraph). AreRowsOf rows (record { nodes = q.nodes; edges = q.known })) (sym is) l.rows_of;
+      reduced = subst IsReduced (sym is) (reduced_last p ledger.entries.items s graph flags graph.nodes l);
+      rows = subst (λ (q : Polygraph). AreRowsOf rows (record { nodes = q.nodes; edges = q.known })) (sym is) of;
       ledger = record { shown = l.progress.shown; cycle = cycle };
       rounds = record { last = s; rounds = l.progress.rounds };
       whole = none;

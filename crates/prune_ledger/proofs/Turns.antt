@@ -1,5 +1,5 @@
 -- Calls of a round, joined.
-use Rattle.std.proofs.Common.{◌≡◌, ◌⊎◌, ℕ, zero, suc, ◌<◌, ◌≤◌, List, [], ◌∷◌, ◌++◌, length, get_or, refl, sym, ap, ◌∙◌, subst, inl, inr, arith}
+use Rattle.std.proofs.Common.{◌≡◌, ◌⊎◌, ℕ, zero, suc, ◌<◌, List, [], ◌∷◌, ◌++◌, length, get_or, refl, sym, ap, ◌∙◌, subst, inl, inr, arith}
 use Rattle.std.specs.Prelude.{slice_index_or, slice_get, Option, Some, None, MatchOption}
 use Rattle.std.specs.List.{Contains, AllByRecursion}
 use Rattle.serializability.proofs.Places.{each_from_append}
@@ -12,9 +12,10 @@ use Rattle.reach_laws.proofs.Walks.{Contains-here, Contains-further, each_contai
 use Rattle.reach_laws.specs.Reach.{Graph}
 use Rattle.reach_rows.specs.ReachRows.{AreRowsOf}
 use Rattle.polygraph.specs.Polygraphs.{Joins, JoinsBoth, IsPolygraph}
+use Rattle.prune_ledger.proofs.Grown.{reaches_in}
+use Rattle.prune_ledger.proofs.KeptUp.{open_fewer}
 use Rattle.prune_ledger.proofs.Marks.{side_joins, contained_at}
-use Rattle.prune_ledger.specs.Posted.{Posted}
-use Rattle.prune_ledger.specs.Rounds.{Refutes, HasPost, EachHandled, Handled, PostedOf, Settled, Turned, IsOpenIn}
+use Rattle.prune_ledger.specs.Rounds.{Refutes, GoesAgainst, HasPost, EachHandled, Handled, PostedOf, Settled, Turned, IsOpenIn, Extends}
 use Rattle.prune_ledger.specs.declared.messages.PruneEvent.{PruneEvent}
 use Rattle.prune_ledger.specs.declared.messages.PruneEvent.TheVariants.{Take, Post, Pass, Release}
 use Rattle.prune_ledger.specs.declared.messages.PruneReply.{PruneReply}
@@ -107,19 +108,6 @@ settled_pass c passed listed b n r l e = record {
   longer = l;
 }
 
-pub posted_by : (c : ℕ) (b n : Calls) (q : Posted) (r : PruneReply) → q.choice ≡ c → n ≡ b ++ (Post q, r) ∷ [] → PostedOf c b n
-posted_by c b n q r is e = record { post = q; reply = r; same = e; its = is }
-
-pub settled_one : (c : ℕ) (passed : List ℕ) (b n : Calls) → PostedOf c b n → Settled c passed passed b n
-settled_one c passed b n p = record {
-  calls = (Post p.post, p.reply) ∷ [];
-  same = p.same;
-  each = ((λ d h. absurd h), tt);
-  its = inr (inl p.its);
-  more = [];
-  longer = nil_right passed;
-}
-
 pub settled_two : (c : ℕ) (passed : List ℕ) (b m n : Calls) → PostedOf c b m → PostedOf c m n → Settled c passed passed b n
 settled_two c passed b m n p q = record {
   calls = (Post p.post, p.reply) ∷ (Post q.post, q.reply) ∷ [];
@@ -130,16 +118,6 @@ settled_two c passed b m n p q = record {
   longer = nil_right passed;
 }
 
--- ---- no edge of the side goes against a walk
-abbrev pub Free : List Edge → Edge → Type 0
-Free edges e = Reaches edges e.1 e.0 → ⊥
-
-pub free_push : (edges : List Edge) (xs : List Edge) (e : Edge) → AllByRecursion (Free edges) xs → (Reaches edges e.1 e.0 → ⊥) → AllByRecursion (Free edges) (xs ++ e ∷ [])
-free_push edges xs e a f = each_from_append (Free edges) xs (e ∷ []) a (f, tt)
-
-pub not_refuted : (edges side : List Edge) → AllByRecursion (Free edges) side → IsRefuted edges side → ⊥
-not_refuted edges side a r = each_contained (Free edges) side (r.0, r.1.0) a r.1.1.0 r.1.1.1
-
 -- ---- the list of open choices
 pub open_pushed : (edges : List Edge) (choices : List Choice) (c : ℕ) (passed listed : List ℕ) → AllByRecursion (IsOpenIn edges choices) passed → IsOpenIn edges choices c
     → (listed ≡ passed) ⊎ (listed ≡ passed ++ c ∷ []) → AllByRecursion (IsOpenIn edges choices) listed
@@ -148,22 +126,9 @@ open_pushed edges choices c passed listed a f e = elim e [
   | inr longer ↦ subst (AllByRecursion (IsOpenIn edges choices)) (sym longer) (each_from_append (IsOpenIn edges choices) passed (c ∷ []) a (f, tt))
 ]
 
-pub open_none : (edges : List Edge) (choices : List Choice) (c : ℕ) → slice_get choices c ≡ None → IsOpenIn edges choices c
-open_none edges choices c none h at = absurd (let e : None ≡ Some h = sym none ∙ at in cc)
-
 pub open_here : (edges : List Edge) (choices : List Choice) (c : ℕ) (h : Choice) → slice_get choices c ≡ Some h → (IsRefuted edges h.one → ⊥) → (IsRefuted edges h.two → ⊥) → IsOpenIn edges choices c
 open_here edges choices c h at one two k here One r = one (subst (λ (g : Choice). IsRefuted edges g.one) (some-inj k h (sym here ∙ at)) r)
 open_here edges choices c h at one two k here Two r = two (subst (λ (g : Choice). IsRefuted edges g.two) (some-inj k h (sym here ∙ at)) r)
-
--- an edge of a side joins nodes of the graph
-pub edge_joins : (p : Polygraph) (n : ℕ) (c : ℕ) (h : Choice) (side : Side) (e : Edge) → IsPolygraph p → n ≡ p.nodes → slice_get p.choices c ≡ Some h → Contains (edges_of h side) e → (e.1 ≤ n) × (e.0 ≤ n)
-edge_joins p n c h side e whole same at within =
-    let j = each_contained (Joins p.nodes) (edges_of h side) e (side_joins p.nodes p.choices c h side whole.joined at) within in
-    let f = j.from in let t = j.to in (omega (arith, t, same), omega (arith, f, same))
-
--- each edge of a choice does
-pub choice_joins : (p : Polygraph) (n c : ℕ) (h : Choice) → IsPolygraph p → n ≡ p.nodes → slice_get p.choices c ≡ Some h → JoinsBoth n h
-choice_joins p n c h whole same at = subst (λ m. JoinsBoth m h) (sym same) (each_contained (JoinsBoth p.nodes) p.choices h whole.joined (contained_at p.choices c h at))
 
 -- ---- judging
 pub not_refuted_by : (rows graph : Graph) (side : List Edge) → AreRowsOf rows graph → AllByRecursion (λ (e : Edge). Contains rows.edges (e.1, e.0) → ⊥) side → IsRefuted graph.edges side → ⊥
@@ -175,8 +140,39 @@ refutes_by graph side k e u v lt is p q r = record {
   back = subst (λ (x : Edge). Reaches graph.edges x.1 x.0) (λ i. (q i, p i)) r;
 }
 
-pub judged_some : (edges side : List Edge) (o : Option Edge) (e : Edge) → o ≡ Some e → MatchOption o (¬ IsRefuted edges side) (Refutes edges side) → Refutes edges side e
+judged_some : (edges side : List Edge) (o : Option Edge) (e : Edge) → o ≡ Some e → MatchOption o (¬ IsRefuted edges side) (Refutes edges side) → Refutes edges side e
 judged_some edges side o e is m = subst (λ (x : Option Edge). MatchOption x (¬ IsRefuted edges side) (Refutes edges side)) is m
 
-pub judged_none : (edges side : List Edge) (o : Option Edge) → o ≡ None → MatchOption o (¬ IsRefuted edges side) (Refutes edges side) → ¬ IsRefuted edges side
+judged_none : (edges side : List Edge) (o : Option Edge) → o ≡ None → MatchOption o (¬ IsRefuted edges side) (Refutes edges side) → ¬ IsRefuted edges side
 judged_none edges side o is m = subst (λ (x : Option Edge). MatchOption x (¬ IsRefuted edges side) (Refutes edges side)) is m
+
+-- the edge by which a side of the choice was judged refuted goes against a walk
+pub goes_against : (p : Polygraph) (g : Graph) (c : ℕ) (h : Choice) (side : Side) (o : Option Edge) (e : Edge) → IsPolygraph p → g.nodes ≡ p.nodes → slice_get p.choices c ≡ Some h → o ≡ Some e
+    → MatchOption o (¬ IsRefuted g.edges (edges_of h side)) (Refutes g.edges (edges_of h side)) → GoesAgainst g h e
+goes_against p g c h side o e whole same at is m =
+    let r = judged_some g.edges (edges_of h side) o e is m in
+    let j = each_contained (Joins p.nodes) (edges_of h side) e (side_joins p.nodes p.choices c h side whole.joined at) r.within in
+    let f = j.from in let t = j.to in
+    record {
+      nodes = (omega (arith, t, same), omega (arith, f, same));
+      back = r.back;
+      joined = subst (λ m. JoinsBoth m h) (sym same) (each_contained (JoinsBoth p.nodes) p.choices h whole.joined (contained_at p.choices c h at));
+    }
+
+-- also in a graph with more edges
+pub goes_further : (old new : Graph) (h : Choice) (e : Edge) → Extends old new → GoesAgainst old h e → GoesAgainst new h e
+goes_further old new h e x a =
+    let f = a.nodes.0 in let t = a.nodes.1 in let same = x.nodes in
+    record {
+      nodes = (omega (arith, f, same), omega (arith, t, same));
+      back = reaches_in old.edges new.edges x.edges e.1 e.0 a.back;
+      joined = subst (λ m. JoinsBoth m h) (sym x.nodes) a.joined;
+    }
+
+-- where neither side was judged refuted, the choice may be listed as open
+pub open_passed : (given own : Graph) (choices : List Choice) (c : ℕ) (h : Choice) (one two : Option Edge) (passed listed : List ℕ) → Extends given own → slice_get choices c ≡ Some h
+    → one ≡ None → MatchOption one (¬ IsRefuted own.edges h.one) (Refutes own.edges h.one) → two ≡ None → MatchOption two (¬ IsRefuted own.edges h.two) (Refutes own.edges h.two)
+    → AllByRecursion (IsOpenIn given.edges choices) passed → (listed ≡ passed) ⊎ (listed ≡ passed ++ c ∷ []) → AllByRecursion (IsOpenIn given.edges choices) listed
+open_passed given own choices c h one two passed listed x at p a q b all =
+    open_pushed given.edges choices c passed listed all
+    (open_fewer given own choices c x (open_here own.edges choices c h at (judged_none own.edges h.one one p a) (judged_none own.edges h.two two q b)))

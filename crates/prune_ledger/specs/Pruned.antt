@@ -100,12 +100,11 @@ pub record AreSettled (marks : List ChoiceState) (flags : List Bool) : Type 0 wh
 
 -- nothing is left to refute: the graph has no cycle, and each choice has a refused side or was
 -- passed
-pub record IsLast (p : Polygraph) (entries : List LedgerEntry) (s : State) (graph rows : Graph)
+pub record IsLast (p : Polygraph) (entries : List LedgerEntry) (s : State) (graph : Graph)
     (flags : List Bool) : Type 0 where
   pub progress : IsProgress p entries s
   pub graph_of : IsGraphOf p (kept_by entries) graph
   pub acyclic : IsCyclic graph.edges → ⊥
-  pub rows_of : AreRowsOf rows graph
   pub flagged : length flags ≡ length p.choices
   pub open_in : AreOpen graph.edges p.choices flags
   pub settled : AreSettled s.marks flags

@@ -1,8 +1,9 @@
 -- What a worker's round does.
-use Rattle.std.specs.Prelude.{◌≡◌, ◌⊎◌, ◌↔◌, ℕ, List, [], ◌∷◌, ◌++◌, slice_get, Some}
+use Rattle.std.specs.Prelude.{◌≡◌, ◌⊎◌, ◌↔◌, ℕ, ◌≤◌, List, [], ◌∷◌, ◌++◌, slice_get, Some}
 use Rattle.std.specs.List.{Contains}
 use Rattle.serializability.specs.Polygraph.{Edge, Choice}
 use Rattle.reach_laws.specs.Reach.{Graph, Reaches}
+use Rattle.polygraph.specs.Polygraphs.{JoinsBoth}
 use Rattle.pruning_laws.specs.declared.side.Side.{Side}
 use Rattle.pruning_laws.specs.Forced.{IsRefuted, edges_of, other}
 use Rattle.prune_ledger.specs.Posted.{Posted}
@@ -15,6 +16,12 @@ use Rattle.prune_ledger.specs.declared.messages.PruneReply.TheVariants.{Judge, E
 pub record Refutes (edges side : List Edge) (e : Edge) : Type 0 where
   pub within : Contains side e
   pub back : Reaches edges e.1 e.0
+
+-- a walk leads against the edge, and it and each edge of the choice join nodes of the graph
+pub record GoesAgainst (graph : Graph) (h : Choice) (e : Edge) : Type 0 where
+  pub nodes : (e.1 ≤ graph.nodes) × (e.0 ≤ graph.nodes)
+  pub back : Reaches graph.edges e.1 e.0
+  pub joined : JoinsBoth graph.nodes h
 
 abbrev pub IsPostOf : ℕ → PruneEvent → Type 0
 IsPostOf c Take = ⊥

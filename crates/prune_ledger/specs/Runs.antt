@@ -1,5 +1,5 @@
 -- What holds of every list of steps of the machine.
-use Rattle.std.specs.Prelude.{◌≡◌, ℕ, List, [], ◌∷◌, ◌++◌, true, false, map, length, if◌then◌else◌}
+use Rattle.std.specs.Prelude.{◌≡◌, ℕ, List, [], ◌∷◌, ◌++◌, true, false, length, if◌then◌else◌}
 use Rattle.std.specs.List.{AllByRecursion, Contains}
 use Rattle.serializability.specs.Polygraph.{Edge, Polygraph}
 use Rattle.reach_laws.specs.Reach.{IsCyclic}

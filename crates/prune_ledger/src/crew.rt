@@ -4,7 +4,6 @@ ghost use Rattle.std.specs.Prelude.{◌≡◌, ◌⊎◌, ℕ, ◌+◌, ◌<◌,
 ghost use Rattle.std.specs.Prelude.{slice_get, slice_index_or, true};
 ghost use Rattle.std.specs.List.{AllByRecursion, Contains};
 ghost use Rattle.serializability.specs.Polygraph.{Edge, Choice};
-ghost use Rattle.reach_rows.specs.ReachRows.{AreRowsOf};
 ghost use Rattle.desk.specs.History.{IsReached};
 ghost use Rattle.desk.specs.Seats.{AreFresh};
 ghost use Rattle.prune_ledger.specs.Steps.{next_of, reply_of};
@@ -12,15 +11,14 @@ ghost use Rattle.prune_ledger.specs.Rounds.{IsOpenIn};
 ghost use Rattle.prune_ledger.specs.Pruned.{AreOpen};
 
 use crate::machine::PruneMachine;
-use crate::round::work;
+use crate::round::{Task, work};
+use crate::rowed::RowedGraph;
 use desk::desk::{Closed, Desk};
 use desk::gate::Gate;
 use desk::naming::Naming;
 use desk::opened::Opened;
 use desk::seat::{Left, Seat};
-use known_graph::Known;
 use polygraph::{ChoiceIx, Polygraph};
-use reach_rows::Rows;
 use std::alloc::{AllocError, Global};
 use std::sync::Wait;
 use std::thread;
@@ -29,34 +27,27 @@ use std::time::Clock;
 
 /// What each seat's round gave, in the order of the seats.
 fn all_work<J: Naming + Send + Sync, G: Gate, R: Threads + Wait + Clock + Sync>(
-    rt: &R,
-    alloc: Global,
-    desk: &Desk<PruneMachine, J>,
+    task: &Task<'_, J, G, R>,
     seats: Vec<Seat<PruneMachine, J>>,
-    polygraph: &Polygraph,
-    known: &Known,
-    rows: &Rows,
-    gate: &G,
 ) -> Result<Vec<(Left<PruneMachine, J>, Result<Vec<ChoiceIx>, AllocError>)>, AllocError>
-    requires nodes { known.now.nodes ≡ polygraph.now.nodes }
-    requires rows { AreRowsOf rows.now known.now }
+    requires nodes { task.now.start.now.nodes ≡ task.now.polygraph.now.nodes }
     requires fresh { AreFresh seats.items }
     ensures len { IfOk result (λ v. length v.items ≡ length seats.items) }
     ensures numbers { IfOk result (λ v. (i : ℕ) (d : _) → i < length seats.items →
         (slice_index_or v.items i d).0.number ≡ i + 1) }
     ensures each { IfOk result (λ v. (i : ℕ) (d : _) → i < length seats.items →
-        IfOk (slice_index_or v.items i d).1 (λ passed.
-        AllByRecursion (IsOpenIn known.now.edges polygraph.now.choices) passed.items)) }
+        IfOk (slice_index_or v.items i d).1 (λ passed. AllByRecursion
+        (IsOpenIn task.now.start.now.edges task.now.polygraph.now.choices) passed.items)) }
 {
     thread::map_vec(
-        rt,
+        task.rt,
         seats,
         &|seat| -> (Left<PruneMachine, J>, Result<Vec<ChoiceIx>, AllocError>)
-            requires { (known.now.nodes ≡ polygraph.now.nodes) × AreRowsOf rows.now known.now }
+            requires { task.now.start.now.nodes ≡ task.now.polygraph.now.nodes }
             ensures number { result.0.number ≡ seat.number }
-            ensures open { IfOk result.1 (λ passed.
-                AllByRecursion (IsOpenIn known.entry.now.edges polygraph.entry.now.choices) passed.items) }
-        { work(rt, alloc, desk, seat, polygraph, known, rows, gate) },
+            ensures open { IfOk result.1 (λ passed. AllByRecursion (IsOpenIn
+                task.entry.now.start.now.edges task.entry.now.polygraph.now.choices) passed.items) }
+        { work(task, seat) },
     )
 }
 
@@ -121,22 +112,28 @@ pub fn round_of<J: Naming + Send + Sync, G: Gate, R: Threads + Wait + Clock + Sy
     alloc: Global,
     opened: Opened<PruneMachine>,
     polygraph: &Polygraph,
-    known: &Known,
-    rows: &Rows,
+    start: &RowedGraph,
     gate: &G,
 ) -> Result<Round, AllocError>
     requires names { J.names ≡ opened.names }
     requires desk { J.desk ≡ opened.desk }
-    requires nodes { known.now.nodes ≡ polygraph.now.nodes }
-    requires rows { AreRowsOf rows.now known.now }
+    requires nodes { start.now.nodes ≡ polygraph.now.nodes }
     ensures legal { IfOk result (λ r.
         IsReached next_of reply_of (Some opened.machine) r.closed.history.items r.closed.machine) }
     ensures open { IfOk result (λ r.
-        AreOpen known.now.edges polygraph.now.choices r.passed.items) }
+        AreOpen start.now.edges polygraph.now.choices r.passed.items) }
     ensures len { IfOk result (λ r. length r.passed.items ≡ length polygraph.now.choices) }
 {
     let (desk, seats) = Desk::<PruneMachine, J>::open(alloc, opened)?;
-    let done = all_work(rt, alloc, &desk, seats, polygraph, known, rows, gate)?;
+    let task = Task {
+        rt,
+        alloc,
+        desk: &desk,
+        polygraph,
+        start,
+        gate,
+    };
+    let done = all_work(&task, seats)?;
     let (lefts, passed) = joined(alloc, done, polygraph.choices().len())?;
     match desk.close(lefts) {
         Ok(closed) => Ok(Round { closed, passed }),

@@ -13,19 +13,19 @@ use reach_rows::Rows;
 
 /// Of each side an edge that goes against a walk, where the side has one and so is refuted.
 #[derive(Clone, Copy, Debug, PartialEq, Eq)]
-pub struct Verdict {
+pub struct RefutedSides {
     pub one: Option<Edge>,
     pub two: Option<Edge>,
 }
 
 /// Judges both sides of a choice by the rows of a graph. It takes no memory.
-pub fn judge(rows: &Rows, choice: &Choice) -> Verdict
+pub fn judge(rows: &Rows, choice: &Choice) -> RefutedSides
     ensures one { (graph : Graph) → AreRowsOf rows.now graph → MatchOption result.one
         (¬ IsRefuted graph.edges choice.now.one) (Refutes graph.edges choice.now.one) }
     ensures two { (graph : Graph) → AreRowsOf rows.now graph → MatchOption result.two
         (¬ IsRefuted graph.edges choice.now.two) (Refutes graph.edges choice.now.two) }
 {
-    Verdict {
+    RefutedSides {
         one: refuting_edge(rows, choice.one()),
         two: refuting_edge(rows, choice.two()),
     }

@@ -15,7 +15,8 @@ ghost use Rattle.prune_ledger.specs.Runs.{IsWhole, IsOpening, EachKeepsForced, G
 ghost use Rattle.prune_ledger.specs.declared.messages.PruneEvent.{PruneEvent};
 ghost use Rattle.prune_ledger.specs.declared.messages.PruneReply.{PruneReply};
 
-pub use crate::round::work;
+pub use crate::round::{Task, work};
+pub use crate::rowed::RowedGraph;
 
 /// The machine's opening state is one of the polygraph.
 pub fn opening_state_is_opening()

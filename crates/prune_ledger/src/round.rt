@@ -1,14 +1,13 @@
 //! A worker's round: it takes, judges, and posts or passes. It judges by the rows with which the
 //! round began and the sides that its own posts have kept since.
 
-ghost use Rattle.std.specs.Prelude.{◌≡◌, ◌⊎◌, ℕ, ◌≤◌, IfOk, IfSome, IfNone, [], ◌++◌, ◌∷◌};
+ghost use Rattle.std.specs.Prelude.{◌≡◌, ◌⊎◌, ℕ, IfOk, IfSome, IfNone, [], ◌++◌, ◌∷◌};
 ghost use Rattle.std.specs.List.{AllByRecursion};
-ghost use Rattle.reach_laws.specs.Reach.{Graph, Reaches};
+ghost use Rattle.reach_laws.specs.Reach.{Graph};
 ghost use Rattle.polygraph.specs.Polygraphs.{JoinsBoth};
-ghost use Rattle.reach_rows.specs.ReachRows.{AreRowsOf};
 ghost use Rattle.prune_ledger.specs.declared.messages.PruneReply.TheVariants.{Judge};
 ghost use Rattle.prune_ledger.specs.Rounds.{Handled, PostedOf, Settled, Turned, IsOpenIn, Extends};
-ghost use Rattle.prune_ledger.specs.Rounds.{IsKeptUp, KeepsUp};
+ghost use Rattle.prune_ledger.specs.Rounds.{IsKeptUp, KeepsUp, GoesAgainst};
 
 use crate::entered::is_entered;
 use crate::judging::judge;
@@ -19,26 +18,35 @@ use desk::desk::Desk;
 use desk::gate::Gate;
 use desk::naming::Naming;
 use desk::seat::{Left, Seat};
-use known_graph::Known;
 use polygraph::{Choice, ChoiceIx, Polygraph};
 use pruning_laws::Side;
 use reach_laws::Edge;
-use reach_rows::Rows;
 use std::alloc::{AllocError, Global};
 use std::sync::Wait;
 use std::time::Clock;
 
+/// What each worker of a round is lent: the desk, the polygraph, the graph with which the round
+/// began, and the gate.
+#[derive(Drop)]
+pub struct Task<'a, J: Naming, G: Gate, R: Wait + Clock> {
+    pub rt: &'a R,
+    pub alloc: Global,
+    pub desk: &'a Desk<PruneMachine, J>,
+    pub polygraph: &'a Polygraph,
+    pub start: &'a RowedGraph,
+    pub gate: &'a G,
+}
+
 /// A call, of which at a refusal the event is let go.
-fn send<J: Naming, R: Wait>(
-    rt: &R,
-    desk: &Desk<PruneMachine, J>,
+fn send<J: Naming, G: Gate, R: Wait + Clock>(
+    task: &Task<'_, J, G, R>,
     seat: &mut Seat<PruneMachine, J>,
     event: PruneEvent,
 ) -> Result<PruneReply, AllocError>
     ensures number { seat.new.number ≡ seat.old.number }
     ensures ok { IfOk result (λ r. seat.new.calls ≡ seat.old.calls ++ (event, r) ∷ []) }
 {
-    match desk.call(rt, seat, event) {
+    match task.desk.call(task.rt, seat, event) {
         Ok(reply) => Ok(reply),
         Err((event, refused)) => {
             drop(event);
@@ -60,10 +68,8 @@ fn keep_up(own: &mut RowedGraph, sides: &Choice, refused: Side, reply: PruneRepl
 
 /// Posts a side with a walk against its edge, and keeps the worker's graph up with what the machine
 /// keeps.
-fn post_side<J: Naming, R: Wait>(
-    rt: &R,
-    alloc: Global,
-    desk: &Desk<PruneMachine, J>,
+fn post_side<J: Naming, G: Gate, R: Wait + Clock>(
+    task: &Task<'_, J, G, R>,
     seat: &mut Seat<PruneMachine, J>,
     own: &mut RowedGraph,
     choice: ChoiceIx,
@@ -71,16 +77,14 @@ fn post_side<J: Naming, R: Wait>(
     side: Side,
     edge: Edge,
 ) -> Result<(), AllocError>
-    requires nodes { (edge.1 ≤ own.old.nodes) × (edge.0 ≤ own.old.nodes) }
-    requires back { Reaches own.old.edges edge.1 edge.0 }
-    requires joined { JoinsBoth own.old.nodes sides.now }
+    requires against { GoesAgainst own.old sides.now edge }
     ensures number { seat.new.number ≡ seat.old.number }
     ensures posted { IfOk result (λ _. PostedOf choice seat.old.calls seat.new.calls) }
     ensures kept { IfOk result (λ _.
         KeepsUp sides.now side seat.old.calls seat.new.calls own.old own.new) }
     ensures more { IfOk result (λ _. Extends own.old own.new) }
 {
-    let Some(walk) = own.graph().walk(alloc, edge.target(), edge.source())? else {
+    let Some(walk) = own.graph().walk(task.alloc, edge.target(), edge.source())? else {
         unreachable!()
     };
     let post = PruneEvent::Post(Refutation {
@@ -89,15 +93,14 @@ fn post_side<J: Naming, R: Wait>(
         edge,
         walk,
     });
-    let reply = send(rt, desk, seat, post)?;
+    let reply = send(task, seat, post)?;
     keep_up(own, sides, side, reply);
     Ok(())
 }
 
 /// Notes a choice of which neither side is refuted.
-fn pass_on<J: Naming, R: Wait>(
-    rt: &R,
-    desk: &Desk<PruneMachine, J>,
+fn pass_on<J: Naming, G: Gate, R: Wait + Clock>(
+    task: &Task<'_, J, G, R>,
     seat: &mut Seat<PruneMachine, J>,
     choice: ChoiceIx,
     passed: &mut Vec<ChoiceIx>,
@@ -109,48 +112,45 @@ fn pass_on<J: Naming, R: Wait>(
         ⊎ (passed.new.items ≡ passed.old.items ++ choice ∷ []) }
 {
     passed.push(choice)?;
-    send(rt, desk, seat, PruneEvent::Pass(choice))?;
+    send(task, seat, PruneEvent::Pass(choice))?;
     Ok(())
 }
 
 /// Posts each side that is refuted, and passes the choice where none is.
-fn settle<J: Naming, R: Wait>(
-    rt: &R,
-    alloc: Global,
-    desk: &Desk<PruneMachine, J>,
+fn settle<J: Naming, G: Gate, R: Wait + Clock>(
+    task: &Task<'_, J, G, R>,
     seat: &mut Seat<PruneMachine, J>,
-    polygraph: &Polygraph,
     own: &mut RowedGraph,
     choice: ChoiceIx,
     passed: &mut Vec<ChoiceIx>,
 ) -> Result<(), AllocError>
-    requires nodes { own.old.nodes ≡ polygraph.now.nodes }
+    requires nodes { own.old.nodes ≡ task.now.polygraph.now.nodes }
     ensures number { seat.new.number ≡ seat.old.number }
     ensures settled { IfOk result (λ _.
         Settled choice passed.old.items passed.new.items seat.old.calls seat.new.calls) }
     ensures more { IfOk result (λ _. Extends own.old own.new) }
     ensures each { (given : Graph) → Extends given own.old →
-        AllByRecursion (IsOpenIn given.edges polygraph.now.choices) passed.old.items →
-        AllByRecursion (IsOpenIn given.edges polygraph.now.choices) passed.new.items }
+        AllByRecursion (IsOpenIn given.edges task.now.polygraph.now.choices) passed.old.items →
+        AllByRecursion (IsOpenIn given.edges task.now.polygraph.now.choices) passed.new.items }
 {
-    let _invariant = polygraph.nodes();
-    let Some(sides) = polygraph.choice(choice) else {
-        pass_on(rt, desk, seat, choice, passed)?;
+    let _invariant = task.polygraph.nodes();
+    let Some(sides) = task.polygraph.choice(choice) else {
+        pass_on(task, seat, choice, passed)?;
         return Ok(());
     };
     let verdict = judge(own.rows(), sides);
     if let Some(edge) = verdict.one {
-        post_side(rt, alloc, desk, seat, own, choice, sides, Side::One, edge)?;
+        post_side(task, seat, own, choice, sides, Side::One, edge)?;
         if let Some(other) = verdict.two {
-            post_side(rt, alloc, desk, seat, own, choice, sides, Side::Two, other)?;
+            post_side(task, seat, own, choice, sides, Side::Two, other)?;
         }
         return Ok(());
     }
     if let Some(edge) = verdict.two {
-        post_side(rt, alloc, desk, seat, own, choice, sides, Side::Two, edge)?;
+        post_side(task, seat, own, choice, sides, Side::Two, edge)?;
         return Ok(());
     }
-    pass_on(rt, desk, seat, choice, passed)?;
+    pass_on(task, seat, choice, passed)?;
     Ok(())
 }
 
@@ -172,56 +172,46 @@ fn handed(reply: PruneReply) -> Option<ChoiceIx>
 }
 
 /// Takes a choice and settles it. It answers whether there may be another.
-fn turn<J: Naming, R: Wait>(
-    rt: &R,
-    alloc: Global,
-    desk: &Desk<PruneMachine, J>,
+fn turn<J: Naming, G: Gate, R: Wait + Clock>(
+    task: &Task<'_, J, G, R>,
     seat: &mut Seat<PruneMachine, J>,
-    polygraph: &Polygraph,
     own: &mut RowedGraph,
     passed: &mut Vec<ChoiceIx>,
 ) -> Result<bool, AllocError>
-    requires nodes { own.old.nodes ≡ polygraph.now.nodes }
+    requires nodes { own.old.nodes ≡ task.now.polygraph.now.nodes }
     ensures number { seat.new.number ≡ seat.old.number }
     ensures turned { IfOk result (λ _.
         Turned passed.old.items passed.new.items seat.old.calls seat.new.calls) }
     ensures more { IfOk result (λ _. Extends own.old own.new) }
     ensures each { (given : Graph) → Extends given own.old →
-        AllByRecursion (IsOpenIn given.edges polygraph.now.choices) passed.old.items →
-        AllByRecursion (IsOpenIn given.edges polygraph.now.choices) passed.new.items }
+        AllByRecursion (IsOpenIn given.edges task.now.polygraph.now.choices) passed.old.items →
+        AllByRecursion (IsOpenIn given.edges task.now.polygraph.now.choices) passed.new.items }
 {
-    let reply = send(rt, desk, seat, PruneEvent::Take)?;
+    let reply = send(task, seat, PruneEvent::Take)?;
     let Some(choice) = handed(reply) else {
         return Ok(false);
     };
-    settle(rt, alloc, desk, seat, polygraph, own, choice, passed)?;
+    settle(task, seat, own, choice, passed)?;
     Ok(true)
 }
 
 /// Turns until no choice is left, by a copy of the graph and of its rows.
 fn turns<J: Naming, G: Gate, R: Wait + Clock>(
-    rt: &R,
-    alloc: Global,
-    desk: &Desk<PruneMachine, J>,
+    task: &Task<'_, J, G, R>,
     seat: &mut Seat<PruneMachine, J>,
-    polygraph: &Polygraph,
-    known: &Known,
-    rows: &Rows,
-    gate: &G,
     passed: &mut Vec<ChoiceIx>,
 ) -> Result<(), AllocError>
-    requires nodes { known.now.nodes ≡ polygraph.now.nodes }
-    requires rows { AreRowsOf rows.now known.now }
+    requires nodes { task.now.start.now.nodes ≡ task.now.polygraph.now.nodes }
     requires none { passed.old.items ≡ [] }
     ensures number { seat.new.number ≡ seat.old.number }
     ensures handled { IfOk result (λ _. Handled passed.new.items seat.old.calls seat.new.calls) }
-    ensures each { AllByRecursion (IsOpenIn known.now.edges polygraph.now.choices)
-        passed.new.items }
+    ensures each { AllByRecursion
+        (IsOpenIn task.now.start.now.edges task.now.polygraph.now.choices) passed.new.items }
 {
-    let mut own = RowedGraph::copy_of(alloc, known, rows)?;
+    let mut own = task.start.copy(task.alloc)?;
     for number in 0..u64::MAX {
-        gate.pass(rt, seat.number(), number);
-        if !turn(rt, alloc, desk, seat, polygraph, &mut own, passed)? {
+        task.gate.pass(task.rt, seat.number(), number);
+        if !turn(task, seat, &mut own, passed)? {
             return Ok(());
         }
     }
@@ -237,38 +227,21 @@ fn turns<J: Naming, G: Gate, R: Wait + Clock>(
 /// It answers with the choices that it passed. At `Err` memory was refused to it, and it has left
 /// too.
 pub fn work<J: Naming, G: Gate, R: Wait + Clock>(
-    rt: &R,
-    alloc: Global,
-    desk: &Desk<PruneMachine, J>,
+    task: &Task<'_, J, G, R>,
     seat: Seat<PruneMachine, J>,
-    polygraph: &Polygraph,
-    known: &Known,
-    rows: &Rows,
-    gate: &G,
 ) -> (Left<PruneMachine, J>, Result<Vec<ChoiceIx>, AllocError>)
-    requires nodes { known.now.nodes ≡ polygraph.now.nodes }
-    requires rows { AreRowsOf rows.now known.now }
+    requires nodes { task.now.start.now.nodes ≡ task.now.polygraph.now.nodes }
     ensures number { result.0.number ≡ seat.number }
 
     // Each choice that the seat was handed stands in the list, or in a later post of the seat.
     ensures handled { IfOk result.1 (λ passed. Handled passed.items seat.calls result.0.calls) }
-    ensures each { IfOk result.1 (λ passed.
-        AllByRecursion (IsOpenIn known.now.edges polygraph.now.choices) passed.items) }
+    ensures each { IfOk result.1 (λ passed. AllByRecursion
+        (IsOpenIn task.now.start.now.edges task.now.polygraph.now.choices) passed.items) }
 {
     let mut seat = seat;
-    let mut passed = Vec::new(alloc);
-    let done = turns(
-        rt,
-        alloc,
-        desk,
-        &mut seat,
-        polygraph,
-        known,
-        rows,
-        gate,
-        &mut passed,
-    );
-    let (_, left) = desk.leave(rt, seat, PruneEvent::Release);
+    let mut passed = Vec::new(task.alloc);
+    let done = turns(task, &mut seat, &mut passed);
+    let (_, left) = task.desk.leave(task.rt, seat, PruneEvent::Release);
     match done {
         Ok(()) => (left, Ok(passed)),
         Err(refused) => (left, Err(refused)),

@@ -21,7 +21,6 @@ use desk::desk::Closed;
 use desk::gate::{Gate, OpenGate};
 use desk::opened::Opened;
 use desk::seat_no::Workers;
-use known_graph::Known;
 use polygraph::Polygraph;
 use reach_rows::Rows;
 use std::alloc::{AllocError, Global};
@@ -143,13 +142,7 @@ fn one_round<G: Gate, R: Threads + Wait + Clock + Sync>(
     let before = entries.len();
     let opened = Opened::new(alloc, machine.reopened(), workers)?;
     let Round { closed, passed } = round_of::<Brand, _, _>(
-        rt,
-        alloc,
-        opened,
-        polygraph,
-        own.graph(),
-        own.rows(),
-        gate,
+        rt, alloc, opened, polygraph, &own, gate,
     )?;
     let Closed { machine, history } = closed;
     let entries = with_entered(entries, history)?;
@@ -190,8 +183,7 @@ fn stage_after(alloc: Global, polygraph: &Polygraph, ended: Ended) -> Result<Sta
             own,
         }));
     }
-    let (known, rows) = own.into_parts();
-    let reduced = remainder(alloc, polygraph, machine, known, rows, entries, &passed)?;
+    let reduced = remainder(alloc, polygraph, machine, own, entries, &passed)?;
     Ok(Stage::Done(Pruned::Open(reduced)))
 }
 
@@ -249,15 +241,15 @@ fn remainder(
     alloc: Global,
     polygraph: &Polygraph,
     machine: PruneMachine,
-    known: Known,
-    rows: Rows,
+    own: RowedGraph,
     entries: Vec<LedgerEntry>,
     passed: &[bool],
 ) -> Result<Reduced, AllocError>
     requires whole { IsWhole polygraph.now }
-    requires last { IsLast polygraph.now entries.items machine known rows passed.now }
+    requires last { IsLast polygraph.now entries.items machine own passed.now }
     ensures { IfOk result (IsRemainder polygraph.now) }
 {
+    let (known, rows) = own.into_parts();
     let choices = machine.into_open(alloc)?;
     let poly = Polygraph::new(known, choices);
     let ledger = Ledger {

@@ -39,14 +39,13 @@ impl RowedGraph {
         RowedGraph { graph, rows }
     }
 
-    /// A copy of a graph and of its rows.
-    pub fn copy_of(alloc: Global, graph: &Known, rows: &Rows) -> Result<RowedGraph, AllocError>
-        requires rows { AreRowsOf rows.now graph.now }
-        ensures graph { IfOk result (λ r. r ≡ graph.now) }
+    /// A copy of the graph and of its rows.
+    pub fn copy(&self, alloc: Global) -> Result<RowedGraph, AllocError>
+        ensures graph { IfOk result (λ r. r ≡ self.now) }
     {
         Ok(RowedGraph {
-            graph: graph.copy(alloc)?,
-            rows: rows.copy(alloc)?,
+            graph: self.graph.copy(alloc)?,
+            rows: self.rows.copy(alloc)?,
         })
     }
 

@@ -1,6 +1,5 @@
 ghost use Rattle.std.specs.Prelude.{◌≡◌};
 ghost use Rattle.polygraph.specs.Polygraphs.{JoinsBoth};
-ghost use Rattle.reach_rows.specs.ReachRows.{AreRowsOf};
 
 use desk::desk::Desk;
 use desk::gate::{Gate, OpenGate};
@@ -11,7 +10,7 @@ use desk::seat_no::{SeatNo, Workers};
 use known_graph::Known;
 use ledger_checks::check_ledger;
 use polygraph::{Choice, ChoiceIx, Edges, Polygraph};
-use prune_ledger::laws::work;
+use prune_ledger::laws::{RowedGraph, Task, work};
 use prune_ledger::machine::PruneMachine;
 use prune_ledger::messages::{PruneEvent, PruneReply, Refutation};
 use prune_ledger::{Ledger, Pruned, judge, prune};
@@ -323,34 +322,40 @@ fn two_threads_work_at_a_desk(rt: HostRuntime) -> Result<(), Fail> {
     let polygraph = polygraph(&rt, alloc, false);
     let known = polygraph.known().copy(alloc)?;
     let rows = Rows::plain(alloc, &known)?;
+    let start = RowedGraph::new(known, rows);
     let first = polygraph.choice(index(&rt, 0)).ok_or("a choice")?;
-    let verdict = judge(&rows, first);
+    let verdict = judge(start.rows(), first);
     assert!(rt; verdict.one.is_none() && verdict.two.is_some());
-    work_together::<Brand, _>(&rt, alloc, opened, &polygraph, &known, &rows);
+    work_together::<Brand, _>(&rt, alloc, opened, &polygraph, &start);
     Ok(())
 }
 
-fn work_together<J: Naming + Send + Sync, R: Threads + Wait + Clock + Abort + Sync>(
-    rt: &R,
+fn work_together<'x, J: Naming + Send + Sync, R: Threads + Wait + Clock + Abort + Sync>(
+    rt: &'x R,
     alloc: Global,
     opened: Opened<PruneMachine>,
-    polygraph: &Polygraph,
-    known: &Known,
-    rows: &Rows,
+    polygraph: &'x Polygraph,
+    start: &'x RowedGraph,
 )
     requires names { J.names ≡ opened.names }
     requires desk { J.desk ≡ opened.desk }
-    requires nodes { known.now.nodes ≡ polygraph.now.nodes }
-    requires rows { AreRowsOf rows.now known.now }
+    requires nodes { start.now.nodes ≡ polygraph.now.nodes }
 {
     let (desk, seats) = Desk::<PruneMachine, J>::open(alloc, opened).expect(rt, "memory");
-    let table = &desk;
+    let task = &Task {
+        rt,
+        alloc,
+        desk: &desk,
+        polygraph,
+        start,
+        gate: &OpenGate,
+    };
     let done = thread::map_vec(
         rt,
         seats,
         &|seat|
-            requires { (known.now.nodes ≡ polygraph.now.nodes) × AreRowsOf rows.now known.now }
-        { work(rt, alloc, table, seat, polygraph, known, rows, &OpenGate) },
+            requires { task.now.start.now.nodes ≡ task.now.polygraph.now.nodes }
+        { work(task, seat) },
     )
     .expect(rt, "memory");
     let mut passed: usize = 0;

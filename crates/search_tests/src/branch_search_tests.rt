@@ -1,8 +1,8 @@
 ghost use Rattle.reduction.specs.Chained.{HasItsOrders};
 
 use branch_search::{
-    Alternate, Answer, Budget, ByWords, CubeView, Decision, FirstOpen, Growth, MostEdges, NodeLine,
-    Strategy, Tree, TreeNode, search,
+    Alternate, Answer, Budget, ByWords, CubeDecision, CubeView, Effort, FirstOpen, Growth,
+    MostEdges, NodeLine, Strategy, Tree, TreeNode, search,
 };
 use decode_order::replay;
 use desk::gate::{Gate, OpenGate};
@@ -79,9 +79,8 @@ fn tree_of_eight<S: Strategy, G: Gate, R: Threads + Wait + Clock + Abort + Sync>
     let reduced = reduced_of(rt, alloc, &history);
     let workers = Workers::new(workers).expect(rt, "workers");
     let budget = Budget::new(7).expect(rt, "a budget");
-    match search(
-        rt, alloc, &history, &reduced, strategy, workers, budget, gate,
-    ) {
+    let effort = Effort { workers, budget };
+    match search(rt, alloc, &history, &reduced, strategy, effort, gate) {
         Ok(Answer::No(tree)) => tree,
         _ => panic!(rt; "not refuted"),
     }
@@ -131,9 +130,9 @@ fn with_another_cycle(rt: &impl Abort, alloc: Global, mut nodes: Vec<TreeNode>) 
 /// The last node by the side of the other.
 fn with_another_side(rt: &impl Abort, mut nodes: Vec<TreeNode>) -> Vec<TreeNode> {
     let mut last = nodes.pop().expect(rt, "a node");
-    let Decision { choice, side: _ } = last.decision.expect(rt, "a decision");
+    let CubeDecision { choice, side: _ } = last.decision.expect(rt, "a decision");
     let side = Side::One;
-    last.decision = Some(Decision { choice, side });
+    last.decision = Some(CubeDecision { choice, side });
     nodes.push(last).expect(rt, "memory");
     nodes
 }
@@ -179,9 +178,8 @@ fn orders_six<R: Threads + Wait + Clock + Abort + Sync>(
     let reduced = reduced_of(rt, alloc, &history);
     let workers = Workers::new(workers).expect(rt, "workers");
     let budget = Budget::new(10_000).expect(rt, "a budget");
-    match search(
-        rt, alloc, &history, &reduced, &FirstOpen, workers, budget, &OpenGate,
-    ) {
+    let effort = Effort { workers, budget };
+    match search(rt, alloc, &history, &reduced, &FirstOpen, effort, &OpenGate) {
         Ok(Answer::Yes(order)) => replay(alloc, &history, &order).is_ok(),
         _ => false,
     }

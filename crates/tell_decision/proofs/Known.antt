@@ -114,6 +114,13 @@ ordered_nodes log x a b u v ca cb c =
     (each_from_readers log x t (IsInside log) (λ r lo hi from. record { low = lo; high = hi })) two.low two.high)
     c
 
+pub followed_nodes : (log : Log) (x a b u v : ℕ) → Contains (heads log x) a → Contains (heads log x) b → ◌≡◌ {A = Edge} (u, v) (tail log x a, b) → AreNodes log u v
+followed_nodes log x a b u v ca cb e =
+    let one = head_inside log x a ca in
+    let two = head_inside log x b cb in
+    let t = tail_inside log x log.nodes a one.low one.high in
+    subst (λ (d : Edge). AreNodes log d.0 d.1) (sym e) (record { from_low = t.low; from_high = t.high; to_low = two.low; to_high = two.high })
+
 -- ---- reasons
 -- both are nodes, and there is a reason
 record HasReason (ss : List ClientSession) (a b : ℕ) : Type 0 where

@@ -1,27 +1,22 @@
 -- What is known of a history where its answer is to be explained.
-use Rattle.std.proofs.Common.{◌≡◌, ℕ, ◌+◌, ◌<◌, ◌≤◌, ◌^◌, List, [], ◌∷◌, ◌++◌, length, sym, ap, ◌∙◌, subst, inl, inr, arith}
+use Rattle.std.proofs.Common.{◌≡◌, ℕ, ◌+◌, List, [], ◌∷◌, ◌++◌, sym, ap, ◌∙◌, subst, inl, inr}
 use Rattle.session_log.specs.Text.{ClientSession}
-use Rattle.session_log.specs.Version.{first_line}
-use Rattle.session_log.specs.declared.version.Version.{Version}
-use Rattle.session_log.specs.declared.version.Version.TheVariants.{One, Two, Three}
 use Rattle.serializability.specs.Log.{Log}
 use Rattle.serializability.specs.Polygraph.{Polygraph}
 use Rattle.serializability.specs.Reads.{IsClean}
 use Rattle.headline.proofs.Answered.{clean_log}
 use Rattle.log_definitions.specs.Numbers.{log_of, IsWellFormedList}
-use Rattle.log_definitions.specs.WellFormed.{log_lines}
-use Rattle.log_lines.specs.Places.{AreBeginLines}
+use Rattle.log_lines.specs.declared.placed.PlacedHistory.{PlacedHistory}
 use Rattle.prune_ledger.specs.declared.ledger.Ledger.{Ledger}
 use Rattle.reduction.specs.Chained.{IsKnownCycle, IsUnpruned}
 use Rattle.reduction.specs.Outcome.{IsDeadHistory}
 use Rattle.tell_steps.specs.Ledgers.{IsDeadLedger}
-use Rattle.tell_steps.specs.Steps.{IsLineTold}
+use Rattle.tell_steps.specs.Steps.{IsLineTold, IsDeadTold}
 use Rattle.tell_steps.specs.declared.item.Item.{Item}
-use Rattle.tell_reasons.specs.Lines.{AreLines}
 use Rattle.tell_runs.specs.Runs.{joined_items}
 use Rattle.tell_runs.proofs.Lines.{between_joined}
-use Rattle.tell_decision.specs.Explained.{told_text, cycle_text, AreWritten, IsRoundTold, IsCycleWritten}
-use Rattle.tell_decision.specs.declared.format.Format.{Format}
+use Rattle.tell_decision.specs.Explained.{told_text, cycle_text, dead_text, AreWritten, IsRoundTold, IsCycleWritten, IsDeadWritten}
+use Rattle.call_options.specs.declared.format.Format.{Format}
 
 pub unpruned_clean : (ss : List ClientSession) (p : Polygraph) → IsWellFormedList ss → IsUnpruned (log_of ss) p → IsClean (log_of ss)
 unpruned_clean ss p well u = clean_log ss well u.coalesced.anomaly
@@ -35,21 +30,15 @@ dead_ledger ss ledger h = record {
   cycle = h.dead.cycle;
 }
 
--- ---- the lines of a log
-first_within : (v : Version) → first_line v ≤ 2
-first_within One = omega arith
-first_within Two = omega arith
-first_within Three = omega arith
-
-pub lines_of : (v : Version) (ss : List ClientSession) (begins : List ℕ) → length (log_lines ss) + 2 < 2 ^ 63 → AreBeginLines (first_line v) ss begins → AreLines ss begins
-lines_of v ss begins room h = record { from = first_line v; few = omega (arith, room, first_within v); lines = h }
-
 -- ---- what is written
-pub are_written : (Told : List Item → Type 0) (format : Format) (ss : List ClientSession) (begin : ℕ → ℕ) (items given : List Item) (text : List ℕ) → Told items → given ≡ items → text ≡ told_text format ss begin given → AreWritten Told format ss begin text
-are_written Told format ss begin items given text told same written = record { items = items; told = told; written = written ∙ ap (told_text format ss begin) same }
+pub are_written : (Told : List Item → Type 0) (format : Format) (log : PlacedHistory) (items given : List Item) (text : List ℕ) → Told items → given ≡ items → text ≡ told_text format log given → AreWritten Told format log text
+are_written Told format log items given text told same written = record { items = items; told = told; written = written ∙ ap (told_text format log) same }
 
-pub cycle_written : (line : List ℕ) (format : Format) (ss : List ClientSession) (begin : ℕ → ℕ) (items given : List Item) (text : List ℕ) → IsRoundTold ss line items → given ≡ items → text ≡ cycle_text format ss begin given → IsCycleWritten line format ss begin text
-cycle_written line format ss begin items given text told same written = record { items = items; told = told; written = written ∙ ap (cycle_text format ss begin) same }
+pub cycle_written : (line : List ℕ) (format : Format) (log : PlacedHistory) (items given : List Item) (text : List ℕ) → IsRoundTold log.history.now line items → given ≡ items → text ≡ cycle_text format log given → IsCycleWritten line format log text
+cycle_written line format log items given text told same written = record { items = items; told = told; written = written ∙ ap (cycle_text format log) same }
+
+pub dead_written : (format : Format) (log : PlacedHistory) (items given : List Item) (text : List ℕ) → IsDeadTold log.history.now items → given ≡ items → text ≡ dead_text format log given → IsDeadWritten format log text
+dead_written format log items given text told same written = record { items = items; told = told; written = written ∙ ap (dead_text format log) same }
 
 -- ---- a line that leads back to where it begins
 record Round (line : List ℕ) : Type 0 where

@@ -1,5 +1,5 @@
 -- What is told can be written: what it names is there, and its numbers fit.
-use Rattle.std.proofs.Common.{◌≡◌, ℕ, zero, suc, ◌+◌, ◌<◌, ◌≤◌, ◌*◌, ◌^◌, List, [], ◌∷◌, ◌++◌, length, Bool, true, false, cond, None, Some, refl, sym, ap, ◌∙◌, subst, arith, length-append}
+use Rattle.std.proofs.Common.{◌≡◌, ℕ, zero, suc, ◌+◌, ◌<◌, ◌≤◌, ◌*◌, ◌^◌, List, [], ◌∷◌, ◌++◌, length, Bool, true, false, cond, None, Some, refl, sym, ap, ◌∙◌, subst, inl, inr, arith, length-append}
 use Rattle.std.specs.Prelude.{slice_get, nat_lt}
 use Rattle.std.specs.List.{AllByRecursion, Contains}
 use Rattle.session_log.specs.Text.{ClientSession}
@@ -16,13 +16,13 @@ use Rattle.tell_reasons.specs.declared.why.ChainOrder.{ChainOrder}
 use Rattle.tell_reasons.specs.declared.why.Why.{Why}
 use Rattle.tell_reasons.specs.declared.why.Why.TheVariants.{Known, Forced, Chosen}
 use Rattle.tell_steps.specs.Steps as told
-use Rattle.tell_steps.specs.Steps.{turned, IsOrder, edges_in, IsWhy, IsLineTold, AreStepsTold, IsCycleTold, IsDeadTold}
+use Rattle.tell_steps.specs.Steps.{turned, IsOrder, edges_in, Follows, IsWhy, IsLineTold, AreStepsTold, IsCycleTold, IsDeadTold}
 use Rattle.tell_steps.specs.declared.item.Item.{Item}
 use Rattle.tell_steps.specs.declared.item.Item.TheVariants as item
 use Rattle.tell_trees.specs.Trees as trees
 use Rattle.tell_trees.specs.Trees.{IsCubeTold, leaves_items, IsTreeTold}
 use Rattle.tell_texts.specs.Texts.{IsOrderOf, IsTellable, AreTellable}
-use Rattle.tell_decision.proofs.Known.{head_inside, ordered_nodes}
+use Rattle.tell_decision.proofs.Known.{head_inside, ordered_nodes, followed_nodes}
 
 -- ---- orders of chains
 abbrev pub AreOrders : List ClientSession → List ChainOrder → Type 0
@@ -50,6 +50,15 @@ record BothNodes (ss : List ClientSession) (a b : ℕ) : Type 0 where
 order_nodes : (ss : List ClientSession) (o : ChainOrder) (a b : ℕ) → IsOrder (log_of ss) o → Contains (edges_in (log_of ss) o) (a, b) → BothNodes ss a b
 order_nodes ss o a b h c =
     let n = ordered_nodes (log_of ss) o.key o.first o.second a b h.one h.two c in
+    record {
+      first = node_from ss a n.from_low n.from_high;
+      second = node_from ss b n.to_low n.to_high;
+    }
+
+follow_nodes : (ss : List ClientSession) (o : ChainOrder) (a b : ℕ) → IsOrder (log_of ss) o → Follows (log_of ss) o (a, b) → BothNodes ss a b
+follow_nodes ss o a b h (inl c) = order_nodes ss o a b h c
+follow_nodes ss o a b h (inr e) =
+    let n = followed_nodes (log_of ss) o.key o.first o.second a b h.one h.two e in
     record {
       first = node_from ss a n.from_low n.from_high;
       second = node_from ss b n.to_low n.to_high;
@@ -139,7 +148,7 @@ steps_tellable ss steps items small (told.step before front h o order u v c inne
     let size = length-append front (item.Step (length before + 1) o u v ∷ against) in
     let count = length-append before (o ∷ []) in
     let can = steps_tellable ss before front (omega (arith, size, small)) h in
-    let n = order_nodes ss (turned o) u v (turned_order ss o order) c in
+    let n = follow_nodes ss (turned o) u v (turned_order ss o order) c in
     let one : IsTellable ss (item.Step (length before + 1) o u v) = (order_there ss o order, within ss u n.first, within ss v n.second) in
     let more = line_tellable ss before [] (v ∷ (inner ++ u ∷ [])) against (omega (arith, can.few, size, small)) can.orders tt line in
     record {

@@ -6,11 +6,10 @@
 mod anomaly;
 mod cycles;
 mod explained;
-mod format;
 mod names;
 mod steps;
 mod telling;
 mod written;
 
-pub use format::Format;
+pub use call_options::Format;
 pub use telling::explain;

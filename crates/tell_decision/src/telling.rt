@@ -3,16 +3,14 @@
 ghost use Rattle.std.specs.Prelude.{◌≡◌, ◌+◌, ◌<◌, ◌^◌, length, IfOk};
 ghost use Rattle.session_log.specs.Version.{first_line};
 ghost use Rattle.log_definitions.specs.WellFormed.{log_lines};
-ghost use Rattle.log_lines.specs.Places.{AreBeginLines};
 ghost use Rattle.deciding.specs.Decides.{IsDecided};
-ghost use Rattle.tell_reasons.specs.Lines.{begin_at, AreLines};
 ghost use Rattle.tell_decision.specs.Explained.{empty_text, IsWhy, IsExplained};
 
 use crate::anomaly::explain_anomaly;
 use crate::explained::{explain_cycle, explain_dead, explain_tree};
-use crate::format::Format;
+use call_options::Format;
 use deciding::Decision;
-use log_lines::begin_lines;
+use log_lines::PlacedHistory;
 use session_history::History;
 use session_log::Version;
 use std::alloc::{AllocError, Global};
@@ -30,31 +28,21 @@ fn empty(format: Format) -> &'static [u8]
     }
 }
 
-/// Why a decision stands. Of `begins`, element `v - 1` is the line at which node `v` begins.
+/// Why a decision stands.
 fn why(
     alloc: Global,
-    version: Version,
-    history: &History,
-    begins: &[usize],
+    log: &PlacedHistory<'_>,
     format: Format,
     decision: &Decision,
 ) -> Result<Vec<u8>, AllocError>
-    requires room { length (log_lines history.now) + 2 < 2 ^ 63 }
-    requires begins { AreBeginLines (first_line version) history.now begins.now }
-    requires lines { AreLines history.now begins.now }
-    requires decided { IsDecided history.now decision.now }
-    ensures why { IfOk result (λ text. IsWhy format (first_line version)
-        history.now (begin_at begins.now) decision.now text.items) }
+    requires decided { IsDecided log.now.history.now decision.now }
+    ensures why { IfOk result (λ text. IsWhy format log.now decision.now text.items) }
 {
     match decision {
-        Decision::Anomalous(anomaly) => {
-            explain_anomaly(alloc, version, history, begins, format, *anomaly)
-        }
-        Decision::Cyclic(line) => explain_cycle(alloc, history, begins, format, line),
-        Decision::Dead(ledger) => explain_dead(alloc, history, begins, format, ledger),
-        Decision::Refuted { reduced, tree } => {
-            explain_tree(alloc, history, begins, format, reduced, tree)
-        }
+        Decision::Anomalous(anomaly) => explain_anomaly(alloc, log, format, *anomaly),
+        Decision::Cyclic(line) => explain_cycle(alloc, log, format, line),
+        Decision::Dead(ledger) => explain_dead(alloc, log, format, ledger),
+        Decision::Refuted { reduced, tree } => explain_tree(alloc, log, format, reduced, tree),
         Decision::Serial(_) | Decision::Spent { .. } => Vec::from_slice(alloc, empty(format)),
     }
 }
@@ -75,6 +63,6 @@ pub fn explain(
     ensures explained { IfOk result (λ text. IsExplained format (first_line version)
         history.now decision.now text.items) }
 {
-    let begins = begin_lines(alloc, version, history)?;
-    why(alloc, version, history, &begins, format, decision)
+    let log = PlacedHistory::of(alloc, version, history)?;
+    why(alloc, &log, format, decision)
 }

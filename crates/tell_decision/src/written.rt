@@ -2,13 +2,13 @@
 
 ghost use Rattle.std.specs.Prelude.{◌≡◌, ◌++◌, IfOk, OnOk};
 ghost use Rattle.std.specs.List.{flat_map};
-ghost use Rattle.tell_reasons.specs.Lines.{begin_at, AreLines};
 ghost use Rattle.tell_texts.specs.Texts.{AreTellable};
-ghost use Rattle.tell_decision.specs.Explained.{told_text, known_as, cycle_text, lines_text};
-ghost use Rattle.tell_decision.specs.Explained.{label_byte, box_text};
+ghost use Rattle.tell_decision.specs.Explained.{told_text, known_as, cycle_text, dead_text};
+ghost use Rattle.tell_decision.specs.Explained.{lines_text, label_byte, box_text};
 
-use crate::format::Format;
-use crate::names::name_of;
+use crate::names::{behind_cycle, name_of};
+use call_options::Format;
+use log_lines::PlacedHistory;
 use session_history::History;
 use std::alloc::{AllocError, Global};
 use tell_steps::Item;
@@ -17,32 +17,35 @@ use tell_texts::{put_graph, put_items};
 /// Items as lines of text, or as a graph.
 pub fn written(
     alloc: Global,
-    history: &History,
-    begins: &[usize],
+    log: &PlacedHistory<'_>,
     format: Format,
     items: &[Item],
 ) -> Result<Vec<u8>, AllocError>
-    requires lines { AreLines history.now begins.now }
-    requires items { AreTellable history.now items.now }
-    ensures text { IfOk result (λ text.
-        text.items ≡ told_text format history.now (begin_at begins.now) items.now) }
+    requires items { AreTellable log.now.history.now items.now }
+    ensures text { IfOk result (λ text. text.items ≡ told_text format log.now items.now) }
 {
     let mut out = Vec::new(alloc);
     match format {
-        Format::Text => put_items(&mut out, history, begins, items)?,
-        Format::Dot => put_graph(alloc, &mut out, history, begins, items)?,
+        Format::Text => put_items(&mut out, log, items)?,
+        Format::Dot => put_graph(alloc, &mut out, log, items)?,
     }
     Ok(out)
 }
 
 /// Appends the name of the cycle that these tell, a line of a text.
-fn put_known_as(out: &mut Vec<u8>, format: Format, items: &[Item]) -> Result<(), AllocError>
-    ensures text { OnOk result (out.new.items ≡ out.old.items ++ known_as format items.now) }
+fn put_known_as(
+    out: &mut Vec<u8>,
+    history: &History,
+    format: Format,
+    items: &[Item],
+) -> Result<(), AllocError>
+    ensures text { OnOk result (out.new.items
+        ≡ out.old.items ++ known_as format history.now items.now) }
 {
     match format {
         Format::Text => {
             out.extend_from_slice(b"known as: ")?;
-            out.extend_from_slice(name_of(items).as_bytes())?;
+            out.extend_from_slice(name_of(history, items).as_bytes())?;
             out.extend_from_slice(b"\n")?;
             Ok(())
         }
@@ -53,18 +56,30 @@ fn put_known_as(out: &mut Vec<u8>, format: Format, items: &[Item]) -> Result<(),
 /// The edges of a cycle as lines of text and its name, or as a graph.
 pub fn written_cycle(
     alloc: Global,
-    history: &History,
-    begins: &[usize],
+    log: &PlacedHistory<'_>,
     format: Format,
     items: &[Item],
 ) -> Result<Vec<u8>, AllocError>
-    requires lines { AreLines history.now begins.now }
-    requires items { AreTellable history.now items.now }
-    ensures text { IfOk result (λ text.
-        text.items ≡ cycle_text format history.now (begin_at begins.now) items.now) }
+    requires items { AreTellable log.now.history.now items.now }
+    ensures text { IfOk result (λ text. text.items ≡ cycle_text format log.now items.now) }
 {
-    let mut out = written(alloc, history, begins, format, items)?;
-    put_known_as(&mut out, format, items)?;
+    let mut out = written(alloc, log, format, items)?;
+    put_known_as(&mut out, log.history, format, items)?;
+    Ok(out)
+}
+
+/// Steps and the cycle behind them as lines of text, and the cycle's name, or as a graph.
+pub fn written_dead(
+    alloc: Global,
+    log: &PlacedHistory<'_>,
+    format: Format,
+    items: &[Item],
+) -> Result<Vec<u8>, AllocError>
+    requires items { AreTellable log.now.history.now items.now }
+    ensures text { IfOk result (λ text. text.items ≡ dead_text format log.now items.now) }
+{
+    let mut out = written(alloc, log, format, items)?;
+    put_known_as(&mut out, log.history, format, behind_cycle(items))?;
     Ok(out)
 }
 

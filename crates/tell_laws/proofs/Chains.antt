@@ -1,17 +1,18 @@
 -- Of two chains of a key, a serial order has the one before the other.
-use Rattle.std.proofs.Common.{◌≢◌, ◌⊎◌, ℕ, ◌<◌, List, [], ◌∷◌, sym, ◌∙◌, subst, inl, inr, arith}
+use Rattle.std.proofs.Common.{◌≢◌, ◌⊎◌, ℕ, ◌<◌, ◌≤◌, List, [], ◌∷◌, Some, sym, ◌∙◌, subst, inl, inr, arith}
 use Rattle.std.specs.Prelude.{map}
 use Rattle.std.specs.List.{Contains, AllByRecursion}
 use Rattle.serializability.specs.Log.{Log}
-use Rattle.serializability.specs.Replay.{IsSerial}
+use Rattle.serializability.specs.Replay.{IsSerial, Before}
 use Rattle.serializability.specs.Reads.{IsClean}
 use Rattle.serializability.specs.Pairs.{pairs_of}
-use Rattle.serializability.specs.Polygraph.{Keeps, KeepsOne, all_keys}
+use Rattle.serializability.specs.Polygraph.{Keeps, KeepsOne, all_keys, source}
 use Rattle.serializability.proofs.Places.{Has, Has-from_Contains, Contains-from_Has, each_of_range, each_of_append, each_of_flat_map, each_of_map}
-use Rattle.serializability.proofs.Serial.{serial_fits}
+use Rattle.serializability.proofs.Serial.{serial_fits, arcs_kept, source_within, arc_from_read}
+use Rattle.serializability.proofs.Sources.{reads_from_source}
 use Rattle.reach_laws.proofs.Walks.{each_contained}
-use Rattle.chain_laws.specs.Chains.{heads, chain_first, chain_choice}
-use Rattle.chain_laws.proofs.Coalesced.{chains_fit}
+use Rattle.chain_laws.specs.Chains.{heads, tail, readers, edges_to, chain_first, chain_choice}
+use Rattle.chain_laws.proofs.Coalesced.{chains_fit, each_from_readers}
 
 -- what holds of each pair of a list holds of two of its elements, one way round
 either_pair : (P : (ℕ × ℕ) → Type 0) (xs : List ℕ) → AllByRecursion P (pairs_of xs) → (a b : ℕ) → Has a xs → Has b xs → a ≢ b → P (a, b) ⊎ P (b, a)
@@ -36,3 +37,15 @@ either_chain_first log clean order serial x a b key one two apart =
       | inl k ↦ k
       | inr k ↦ elim k [ inl back ↦ inr back | inr ahead ↦ inl ahead ]
     ]
+
+-- where a chain stands before another head, so does its last writer
+edges_last : (order : List ℕ) (t b : ℕ) (rs : List ℕ) → AllByRecursion (λ r. Before order t r) rs → Keeps order (edges_to t b rs) → Before order t b
+edges_last order t b [] behind k = k.0
+edges_last order t b (r ∷ rs) behind k = omega (arith, behind.0, k.0)
+
+pub tail_first : (log : Log) → IsClean log → (order : List ℕ) → IsSerial log order → (x a b : ℕ) → x < log.keys → Keeps order (chain_first log x a b) → Before order (tail log x a) b
+tail_first log clean order serial x a b key k =
+    let t = tail log x a in
+    let arcs = arcs_kept log order (serial_fits log clean order serial).known in
+    edges_last order t b (readers log x t)
+    (each_from_readers log x t (λ r. Before order t r) (λ r lo hi from. arcs t r (source_within log clean r x t lo hi from) hi (arc_from_read log r t lo (reads_from_source log r x t key from)))) k

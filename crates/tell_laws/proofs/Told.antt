@@ -24,12 +24,12 @@ use Rattle.tell_reasons.specs.declared.why.ChainOrder.{ChainOrder}
 use Rattle.tell_reasons.specs.declared.why.Why.{Why}
 use Rattle.tell_reasons.specs.declared.why.Why.TheVariants.{Known, Forced, Chosen}
 use Rattle.tell_steps.specs.Steps as told
-use Rattle.tell_steps.specs.Steps.{turned, IsOrder, edges_in, IsWhy, IsLineTold, AreStepsTold, IsCycleTold, IsDeadTold}
+use Rattle.tell_steps.specs.Steps.{turned, IsOrder, edges_in, Follows, IsWhy, IsLineTold, AreStepsTold, IsCycleTold, IsDeadTold}
 use Rattle.tell_steps.specs.declared.item.Item.{Item}
 use Rattle.tell_trees.specs.declared.TheConstants.{MAX_LEAVES}
 use Rattle.tell_trees.specs.Trees as trees
 use Rattle.tell_trees.specs.Trees.{IsCubeTold, IsTreeTold}
-use Rattle.tell_laws.proofs.Chains.{either_chain_first}
+use Rattle.tell_laws.proofs.Chains.{either_chain_first, tail_first}
 
 -- well-formed sessions, and a serial order of them
 record Setting (ss : List ClientSession) (order : List ℕ) : Type 0 where
@@ -94,11 +94,19 @@ line_before ss order s steps decided ks kd u v inner items h =
     first_before_last order u v inner (line_along ss order s steps decided ks kd (u ∷ (inner ++ v ∷ [])) items h)
 
 -- ---- steps
+-- what follows from an order that is kept
+followed : (ss : List ClientSession) (order : List ℕ) → Setting ss order → (o : ChainOrder) → o.key < (log_of ss).keys → (u v : ℕ) → Keeps order (edges_in (log_of ss) o) → Follows (log_of ss) o (u, v) → Before order u v
+followed ss order s o key u v k (inl c) = edge_of ss order o u v k c
+followed ss order s o key u v k (inr e) =
+    let log = log_of ss in
+    let at_tail = tail_first log (clean_where ss order s (anomaly_of log) refl) order (serial_numbered ss order s.serial) o.key o.first o.second key k in
+    subst (λ (d : Edge). Before order d.0 d.1) (sym e) at_tail
+
 -- the order goes against the other way round, so it has this one
-step_kept : (ss : List ClientSession) (order : List ℕ) → Setting ss order → (o : ChainOrder) → IsOrder (log_of ss) o → (u v : ℕ) → Contains (edges_in (log_of ss) (turned o)) (u, v) → Before order v u → Keeps order (edges_in (log_of ss) o)
+step_kept : (ss : List ClientSession) (order : List ℕ) → Setting ss order → (o : ChainOrder) → IsOrder (log_of ss) o → (u v : ℕ) → Follows (log_of ss) (turned o) (u, v) → Before order v u → Keeps order (edges_in (log_of ss) o)
 step_kept ss order s o h u v has against = elim (one_way ss order s o h) [
   | inl k ↦ k
-  | inr k ↦ absurd (omega (arith, against, edge_of ss order (turned o) u v k has))
+  | inr k ↦ absurd (omega (arith, against, followed ss order s (turned o) h.key_of u v k has))
 ]
 
 steps_kept : (ss : List ClientSession) (order : List ℕ) → Setting ss order → (steps : List ChainOrder) (items : List Item) → AreStepsTold ss steps items → AreKept ss order steps

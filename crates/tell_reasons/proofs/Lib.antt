@@ -7,5 +7,3 @@ pub mod Keyed
 pub mod Told
 pub mod Updates
 pub mod Reported
-pub mod EdgeTexts
-pub mod VersionPlaces

@@ -1,6 +1,6 @@
 -- Operations of nodes, and the events that a history keeps of them.
-use Rattle.std.proofs.Common.{◌≡◌, ℕ, zero, suc, ◌+◌, ◌<◌, Bool, true, false, List, [], ◌∷◌, length, Some, refl, sym, ap, ◌∙◌, arith, get_or}
-use Rattle.std.specs.Prelude.{slice_get, decimal}
+use Rattle.std.proofs.Common.{◌≡◌, ℕ, zero, suc, ◌+◌, ◌<◌, Bool, true, false, List, [], ◌∷◌, length, Option, Some, refl, sym, ap, ◌∙◌, subst, arith, get_or}
+use Rattle.std.specs.Prelude.{slice_get, decimal, IfSome}
 use Rattle.std.specs.Str.{bytes_eq}
 use Rattle.std.proofs.lemmas.Bool.{false≢true}
 use Rattle.std.proofs.lemmas.List.{length-map}
@@ -105,3 +105,7 @@ pub wid_told : (ss : List ClientSession) (v i : ℕ) (e : Event) → slice_get (
 wid_told ss v i e h =
     let o = op_of ss v i e h in
     ap wid_text o.stands ∙ text_of_wid (keys_in ss) o.op ∙ ap (λ d. decimal (event_wid d)) o.event
+
+-- a place among a node's events is one among its operations
+pub within_ops : (ss : List ClientSession) (v : ℕ) (es : List Event) (o : Option ℕ) → es ≡ (log_of ss).ops v → IfSome o (λ i. i < length es) → IfSome o (λ i. i < length (ops_of ss v))
+within_ops ss v es o own h = subst (λ n. IfSome o (λ i. i < n)) (ap (λ l. length l) own ∙ event_count ss v) h

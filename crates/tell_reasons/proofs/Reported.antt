@@ -10,8 +10,6 @@ use Rattle.serializability.specs.Anomalies.{anomaly_of}
 use Rattle.anomaly_laws.proofs.Meaning.{kind_holds}
 use Rattle.log_definitions.specs.Serial.{ops_of}
 use Rattle.log_definitions.specs.Numbers.{log_of}
-use Rattle.reason_laws.specs.Reasons.{IsNode}
-use Rattle.reason_laws.proofs.Numbers.{node_from}
 use Rattle.tell_reasons.specs.Reasons.{op_at}
 use Rattle.tell_reasons.specs.Anomalies.{IsRead}
 use Rattle.tell_reasons.proofs.Ops.{event_count}
@@ -24,7 +22,6 @@ item_behind (y ∷ front) x back = item_behind front x back
 -- operation k of node v, from 1, is a read
 pub record IsReadAt (ss : List ClientSession) (v k : ℕ) : Type 0 where
   pub low : 1 ≤ k
-  pub node : IsNode ss v
   pub below : k - 1 < length (ops_of ss v)
   pub read : IsRead (op_at ss v (k - 1))
 
@@ -41,7 +38,6 @@ read_at ss kind v k e =
     let count = event_count ss v in
     record {
       low = low;
-      node = node_from ss v r.low r.high;
       below = omega (arith, within, count);
       read = is_read ss v (k - 1) r.key r.identity item;
     }

@@ -9,6 +9,8 @@ use Rattle.session_log.specs.declared.session.Txn.{Txn}
 use Rattle.session_log.specs.declared.session.Session.{Session}
 use Rattle.log_definitions.specs.Unknown.{ops_in}
 use Rattle.log_definitions.specs.WellFormed.{log_lines}
+use Rattle.log_lines.specs.Placed.{begin_in}
+use Rattle.log_lines.specs.declared.placed.PlacedHistory.{PlacedHistory}
 use Rattle.tell_reasons.specs.declared.writes.Keys.{Keys}
 use Rattle.tell_reasons.specs.declared.writes.Keys.TheVariants.{This, Any}
 use Rattle.tell_reasons.specs.declared.writes.WriteAt.{WriteAt}
@@ -96,13 +98,13 @@ any_write n sessions key wid w s t f p q =
 
 -- ---- a read
 -- the rest of a read's line
-pub rest_told : (n : ℕ) (ss : List ClientSession) (begin : ℕ → ℕ) (v i line : ℕ) (old mid new key : List ℕ) (wid : ℕ) → IsRead (op_at ss v i) → line ≡ begin v + 1 + i → key ≡ key_text (op_at ss v i) → wid ≡ op_wid (op_at ss v i)
-    → Appends old mid (IsWriterTold n ss line key wid) → new ≡ mid ++ 10 ∷ [] → Appends old new (IsReadTold n ss begin v i [])
-rest_told n ss begin v i line old mid new key wid r l k w a q =
+pub rest_told : (log : PlacedHistory) (v i line : ℕ) (old mid new key : List ℕ) (wid : ℕ) → IsRead (op_at log.history.now v i) → line ≡ begin_in log v + 1 + i → key ≡ key_text (op_at log.history.now v i) → wid ≡ op_wid (op_at log.history.now v i)
+    → Appends old mid (IsWriterTold log.first log.history.now line key wid) → new ≡ mid ++ 10 ∷ [] → Appends old new (IsReadTold log v i [])
+rest_told log v i line old mid new key wid r l k w a q =
     let keys : key ≡ r.key = k ∙ ap key_text r.is in
     let wids : wid ≡ r.wid = w ∙ ap op_wid r.is in
-    let told : IsWriterTold n ss (begin v + 1 + i) r.key r.wid a.text =
-    subst (λ x. IsWriterTold n ss (begin v + 1 + i) r.key x a.text) wids (subst (λ x. IsWriterTold n ss (begin v + 1 + i) x wid a.text) keys (subst (λ x. IsWriterTold n ss x key wid a.text) l a.told)) in
+    let told : IsWriterTold log.first log.history.now (begin_in log v + 1 + i) r.key r.wid a.text =
+    subst (λ x. IsWriterTold log.first log.history.now (begin_in log v + 1 + i) r.key x a.text) wids (subst (λ x. IsWriterTold log.first log.history.now (begin_in log v + 1 + i) x wid a.text) keys (subst (λ x. IsWriterTold log.first log.history.now x key wid a.text) l a.told)) in
     record {
       text = a.text ++ 10 ∷ [];
       added = two old a.text (10 ∷ []) mid new a.added q;
@@ -110,8 +112,8 @@ rest_told n ss begin v i line old mid new key wid r l k w a q =
     }
 
 -- what is said in front of it
-pub said_told : (n : ℕ) (ss : List ClientSession) (begin : ℕ → ℕ) (v i : ℕ) (said old mid new : List ℕ) → mid ≡ old ++ said → Appends mid new (IsReadTold n ss begin v i []) → Appends old new (IsReadTold n ss begin v i said)
-said_told n ss begin v i said old mid new p a =
+pub said_told : (log : PlacedHistory) (v i : ℕ) (said old mid new : List ℕ) → mid ≡ old ++ said → Appends mid new (IsReadTold log v i []) → Appends old new (IsReadTold log v i said)
+said_told log v i said old mid new p a =
     let r = a.told in
     record {
       text = said ++ a.text;
@@ -119,14 +121,14 @@ said_told n ss begin v i said old mid new p a =
       told = record { key = r.key; wid = r.wid; writer = r.writer; reads = r.reads; told = r.told; whole = ap (λ t. said ++ t) r.whole ∙ sym (append_assoc said r.writer (10 ∷ [])) };
     }
 
-pub bad_read : (n : ℕ) (ss : List ClientSession) (begin : ℕ → ℕ) (v i : ℕ) (old mid new : List ℕ) → Appends old mid (IsReadTold n ss begin v i (reads_text ss begin v i))
-    → Appends mid new (IsBeforeTold n ss begin v i (key_text (op_at ss v i)) (op_wid (op_at ss v i))) → Appends old new (IsBadReadTold n ss begin v i)
-bad_read n ss begin v i old mid new a b =
+pub bad_read : (log : PlacedHistory) (v i : ℕ) (old mid new : List ℕ) → Appends old mid (IsReadTold log v i (reads_text log v i))
+    → Appends mid new (IsBeforeTold log v i (key_text (op_at log.history.now v i)) (op_wid (op_at log.history.now v i))) → Appends old new (IsBadReadTold log v i)
+bad_read log v i old mid new a b =
     let r = a.told in
-    let keys : key_text (op_at ss v i) ≡ r.key = ap key_text r.reads in
-    let wids : op_wid (op_at ss v i) ≡ r.wid = ap op_wid r.reads in
-    let done : IsBeforeTold n ss begin v i r.key r.wid b.text =
-    subst (λ x. IsBeforeTold n ss begin v i r.key x b.text) wids (subst (λ k. IsBeforeTold n ss begin v i k (op_wid (op_at ss v i)) b.text) keys b.told) in
+    let keys : key_text (op_at log.history.now v i) ≡ r.key = ap key_text r.reads in
+    let wids : op_wid (op_at log.history.now v i) ≡ r.wid = ap op_wid r.reads in
+    let done : IsBeforeTold log v i r.key r.wid b.text =
+    subst (λ x. IsBeforeTold log v i r.key x b.text) wids (subst (λ k. IsBeforeTold log v i k (op_wid (op_at log.history.now v i)) b.text) keys b.told) in
     record {
       text = a.text ++ b.text;
       added = two old a.text b.text mid new a.added b.added;
@@ -134,9 +136,9 @@ bad_read n ss begin v i old mid new a b =
     }
 
 -- ---- before it
-pub write_before : (n : ℕ) (ss : List ClientSession) (begin : ℕ → ℕ) (v i : ℕ) (other : Option ℕ) (old new : List ℕ) → new ≡ old ++ (did_text ss begin v (codes " wrote ") i ++ 10 ∷ [])
-    → Appends old new (IsDoneTold n ss begin v (Some i) other)
-write_before n ss begin v i other old new e = record { text = did_text ss begin v (codes " wrote ") i ++ 10 ∷ []; added = e; told = refl }
+pub write_before : (log : PlacedHistory) (v i : ℕ) (other : Option ℕ) (old new : List ℕ) → new ≡ old ++ (did_text log v (codes " wrote ") i ++ 10 ∷ [])
+    → Appends old new (IsDoneTold log v (Some i) other)
+write_before log v i other old new e = record { text = did_text log v (codes " wrote ") i ++ 10 ∷ []; added = e; told = refl }
 
-pub nothing_before : (n : ℕ) (ss : List ClientSession) (begin : ℕ → ℕ) (v : ℕ) (old : List ℕ) → Appends old old (IsDoneTold n ss begin v None None)
-nothing_before n ss begin v old = record { text = []; added = sym (append-nil old); told = refl }
+pub nothing_before : (log : PlacedHistory) (v : ℕ) (old : List ℕ) → Appends old old (IsDoneTold log v None None)
+nothing_before log v old = record { text = []; added = sym (append-nil old); told = refl }

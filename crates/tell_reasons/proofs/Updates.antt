@@ -16,6 +16,7 @@ use Rattle.anomaly_laws.specs.Meaning.{IsUpdate}
 use Rattle.log_definitions.specs.WellFormed.{keys_in}
 use Rattle.log_definitions.specs.Serial.{ops_of}
 use Rattle.log_definitions.specs.Numbers.{event_of, log_of}
+use Rattle.log_lines.specs.declared.placed.PlacedHistory.{PlacedHistory}
 use Rattle.tell_reasons.specs.Reasons.{op_at, key_text, key_bytes, named, wid_text, op_in_line, reads_text}
 use Rattle.tell_reasons.specs.Events.{is_write_in, is_read_in}
 use Rattle.tell_reasons.specs.Anomalies.{Appends, IsRead, IsReadTold, IsUpdateTold, AreUpdatesTold, is_read_of, is_write_of, last_position}
@@ -129,24 +130,25 @@ no_write ss x u v i n h at le e =
     last_there (is_write_in x) es (write_there x h.writes.0 es h.writes.1) none
 
 -- ---- an update
-pub update_told : (n : ℕ) (ss : List ClientSession) (begin : ℕ → ℕ) (x v read write : ℕ) (old mid new : List ℕ) → position (is_read_in x) ((log_of ss).ops v) ≡ Some read
-    → last_position (is_write_of (key_text (op_at ss v read))) (ops_of ss v) ≡ Some write → Appends old mid (IsReadTold n ss begin v read (reads_text ss begin v read))
-    → new ≡ mid ++ (named ss v ++ codes " overwrites it with " ++ wid_text (op_at ss v write) ++ op_in_line begin v write ++ 10 ∷ []) → Appends old new (IsUpdateTold n ss begin (key_bytes ss x) v)
-update_told n ss begin x v read write old mid new at last a e =
+pub update_told : (log : PlacedHistory) (x v read write : ℕ) (old mid new : List ℕ) → position (is_read_in x) ((log_of log.history.now).ops v) ≡ Some read
+    → last_position (is_write_of (key_text (op_at log.history.now v read))) (ops_of log.history.now v) ≡ Some write → Appends old mid (IsReadTold log v read (reads_text log v read))
+    → new ≡ mid ++ (named log v ++ codes " overwrites it with " ++ wid_text (op_at log.history.now v write) ++ op_in_line log v write ++ 10 ∷ []) → Appends old new (IsUpdateTold log (key_bytes log.history.now x) v)
+update_told log x v read write old mid new at last a e =
+    let ss = log.history.now in
     let r = first_read ss x v read at in
     let key : key_bytes ss x ≡ key_text (op_at ss v read) = ap (λ o. unwrap_or o []) (key_told ss v read (event.Read x r.wid) r.event) in
     let first = ap (λ k. position (is_read_of k) (ops_of ss v)) key ∙ sym (read_told ss v read (event.Read x r.wid) r.event) ∙ at in
     let lasts = ap (λ k. last_position (is_write_of k) (ops_of ss v)) key ∙ last in
-    let tail = named ss v ++ codes " overwrites it with " ++ wid_text (op_at ss v write) ++ op_in_line begin v write ++ 10 ∷ [] in
+    let tail = named log v ++ codes " overwrites it with " ++ wid_text (op_at ss v write) ++ op_in_line log v write ++ 10 ∷ [] in
     record {
       text = a.text ++ tail;
       added = two old a.text tail mid new a.added e;
       told = record { read = read; write = write; line = a.text; first = first; last = lasts; told = a.told; whole = refl };
     }
 
-pub updates_told : (n : ℕ) (ss : List ClientSession) (begin : ℕ → ℕ) (x a b : ℕ) (old mid new : List ℕ) → Appends old mid (IsUpdateTold n ss begin (key_bytes ss x) a) → Appends mid new (IsUpdateTold n ss begin (key_bytes ss x) b)
-    → Appends old new (AreUpdatesTold n ss begin x a b)
-updates_told n ss begin x a b old mid new p q = record {
+pub updates_told : (log : PlacedHistory) (x a b : ℕ) (old mid new : List ℕ) → Appends old mid (IsUpdateTold log (key_bytes log.history.now x) a) → Appends mid new (IsUpdateTold log (key_bytes log.history.now x) b)
+    → Appends old new (AreUpdatesTold log x a b)
+updates_told log x a b old mid new p q = record {
   text = p.text ++ q.text;
   added = two old p.text q.text mid new p.added q.added;
   told = record { one = p.text; two = q.text; first = p.told; second = q.told; whole = refl };

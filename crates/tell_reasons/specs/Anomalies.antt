@@ -1,6 +1,6 @@
 -- How an anomaly is told: the reads that show it, who wrote what they name, and what their
--- transactions did with the key besides.
--- `n` is the line of the first session; operations count from 0.
+-- transactions did with the key besides. `n` is the line of the first session; operations count
+-- from 0.
 use Rattle.std.specs.Prelude.{◌≡◌, ◌≢◌, ℕ, ◌+◌, ◌-◌, ◌&&◌, ◌==◌, not, Bool, false, List, [], ◌∷◌}
 use Rattle.std.specs.Prelude.{◌++◌, length, take, drop, reverse, position, codes, slice_get, Option}
 use Rattle.std.specs.Prelude.{None, Some, nat_lt, if◌then◌else◌}
@@ -18,6 +18,8 @@ use Rattle.log_definitions.specs.Unknown.{ops_in}
 use Rattle.log_definitions.specs.Serial.{ops_of}
 use Rattle.order_text.specs.Text.{name_text}
 use Rattle.log_lines.specs.Places.{BeginsAt}
+use Rattle.log_lines.specs.Placed.{begin_in}
+use Rattle.log_lines.specs.declared.placed.PlacedHistory.{PlacedHistory}
 use Rattle.tell_reasons.specs.Reasons.{key_bytes, named, in_line, op_at, op_in_line, key_and_wid}
 use Rattle.tell_reasons.specs.Reasons.{wid_text, reads_text}
 
@@ -131,72 +133,65 @@ pub data IsWriterTold (n : ℕ) (ss : List ClientSession) (read : ℕ) (key : Li
 
 -- ---- a read
 -- operation i of node v is a read; its line says this of it, and then who wrote what it read
-pub record IsReadTold (n : ℕ) (ss : List ClientSession) (begin : ℕ → ℕ) (v i : ℕ)
-    (said text : List ℕ) : Type 0 where
+pub record IsReadTold (log : PlacedHistory) (v i : ℕ) (said text : List ℕ) : Type 0 where
   pub key : List ℕ
   pub wid : ℕ
   pub writer : List ℕ
-  pub reads : op_at ss v i ≡ Some (Read key wid)
-  pub told : IsWriterTold n ss (begin v + 1 + i) key wid writer
+  pub reads : op_at log.history.now v i ≡ Some (Read key wid)
+  pub told : IsWriterTold log.first log.history.now (begin_in log v + 1 + i) key wid writer
   pub whole : text ≡ said ++ writer ++ 10 ∷ []
 
 -- what node v did before, by operation i
-abbrev pub did_text : List ClientSession → (ℕ → ℕ) → ℕ → List ℕ → ℕ → List ℕ
-did_text ss begin v did i = named ss v ++ did ++ key_and_wid (op_at ss v i) ++ codes " before"
-    ++ op_in_line begin v i
+abbrev pub did_text : PlacedHistory → ℕ → List ℕ → ℕ → List ℕ
+did_text log v did i = named log v ++ did ++ key_and_wid (op_at log.history.now v i)
+    ++ codes " before" ++ op_in_line log v i
 
 -- what the transaction did with the key before: this write, else this read and who wrote what it
 -- read, else nothing
-abbrev pub IsDoneTold : ℕ → List ClientSession → (ℕ → ℕ) → ℕ → Option ℕ → Option ℕ → List ℕ
-    → Type 0
-IsDoneTold n ss begin v (Some i) other text =
-    text ≡ did_text ss begin v (codes " wrote ") i ++ 10 ∷ []
-IsDoneTold n ss begin v None (Some i) text =
-    IsReadTold n ss begin v i (did_text ss begin v (codes " read ") i) text
-IsDoneTold n ss begin v None None text = text ≡ []
+abbrev pub IsDoneTold : PlacedHistory → ℕ → Option ℕ → Option ℕ → List ℕ → Type 0
+IsDoneTold log v (Some i) other text = text ≡ did_text log v (codes " wrote ") i ++ 10 ∷ []
+IsDoneTold log v None (Some i) text = IsReadTold log v i (did_text log v (codes " read ") i) text
+IsDoneTold log v None None text = text ≡ []
 
 -- before its read of the key at operation i, which named this identity: its latest write of the
 -- key, else its first read of another one
-abbrev pub IsBeforeTold : ℕ → List ClientSession → (ℕ → ℕ) → ℕ → ℕ → List ℕ → ℕ → List ℕ → Type 0
-IsBeforeTold n ss begin v i key wid text =
-    IsDoneTold n ss begin v (last_position (is_write_of key) (take i (ops_of ss v)))
-    (position (is_other_read key wid) (take i (ops_of ss v))) text
+abbrev pub IsBeforeTold : PlacedHistory → ℕ → ℕ → List ℕ → ℕ → List ℕ → Type 0
+IsBeforeTold log v i key wid text =
+    IsDoneTold log v (last_position (is_write_of key) (take i (ops_of log.history.now v)))
+    (position (is_other_read key wid) (take i (ops_of log.history.now v))) text
 
 -- a read that is an anomaly: operation i of node v
-pub record IsBadReadTold (n : ℕ) (ss : List ClientSession) (begin : ℕ → ℕ) (v i : ℕ)
-    (text : List ℕ) : Type 0 where
+pub record IsBadReadTold (log : PlacedHistory) (v i : ℕ) (text : List ℕ) : Type 0 where
   pub line : List ℕ
   pub before : List ℕ
-  pub read : IsReadTold n ss begin v i (reads_text ss begin v i) line
-  pub done : IsBeforeTold n ss begin v i read.key read.wid before
+  pub read : IsReadTold log v i (reads_text log v i) line
+  pub done : IsBeforeTold log v i read.key read.wid before
   pub whole : text ≡ line ++ before
 
 -- ---- a lost update
 -- node v reads the key first at operation `read`, and writes it last at operation `write`
-pub record IsUpdateTold (n : ℕ) (ss : List ClientSession) (begin : ℕ → ℕ) (key : List ℕ) (v : ℕ)
-    (text : List ℕ) : Type 0 where
+pub record IsUpdateTold (log : PlacedHistory) (key : List ℕ) (v : ℕ) (text : List ℕ) : Type 0 where
   pub read : ℕ
   pub write : ℕ
   pub line : List ℕ
-  pub first : position (is_read_of key) (ops_of ss v) ≡ Some read
-  pub last : last_position (is_write_of key) (ops_of ss v) ≡ Some write
-  pub told : IsReadTold n ss begin v read (reads_text ss begin v read) line
-  pub whole : text ≡ line ++ (named ss v ++ codes " overwrites it with " ++ wid_text
-      (op_at ss v write) ++ op_in_line begin v write ++ 10 ∷ [])
+  pub first : position (is_read_of key) (ops_of log.history.now v) ≡ Some read
+  pub last : last_position (is_write_of key) (ops_of log.history.now v) ≡ Some write
+  pub told : IsReadTold log v read (reads_text log v read) line
+  pub whole : text ≡ line ++ (named log v ++ codes " overwrites it with " ++ wid_text
+      (op_at log.history.now v write) ++ op_in_line log v write ++ 10 ∷ [])
 
 -- two nodes read the key of number x first and write it last
-pub record AreUpdatesTold (n : ℕ) (ss : List ClientSession) (begin : ℕ → ℕ) (x a b : ℕ)
-    (text : List ℕ) : Type 0 where
+pub record AreUpdatesTold (log : PlacedHistory) (x a b : ℕ) (text : List ℕ) : Type 0 where
   pub one : List ℕ
   pub two : List ℕ
-  pub first : IsUpdateTold n ss begin (key_bytes ss x) a one
-  pub second : IsUpdateTold n ss begin (key_bytes ss x) b two
+  pub first : IsUpdateTold log (key_bytes log.history.now x) a one
+  pub second : IsUpdateTold log (key_bytes log.history.now x) b two
   pub whole : text ≡ one ++ two
 
 -- ---- an anomaly, whose operations count from 1
-abbrev pub IsAnomalyTold : ℕ → List ClientSession → (ℕ → ℕ) → Anomaly → List ℕ → Type 0
-IsAnomalyTold n ss begin (anomaly.Read kind v op) text = IsBadReadTold n ss begin v (op - 1) text
-IsAnomalyTold n ss begin (anomaly.LostUpdate x u a b) text = AreUpdatesTold n ss begin x a b text
+abbrev pub IsAnomalyTold : PlacedHistory → Anomaly → List ℕ → Type 0
+IsAnomalyTold log (anomaly.Read kind v op) text = IsBadReadTold log v (op - 1) text
+IsAnomalyTold log (anomaly.LostUpdate x u a b) text = AreUpdatesTold log x a b text
 
 -- a told text was appended
 pub record Appends (old new : List ℕ) (IsTold : List ℕ → Type 0) : Type 0 where

@@ -1,7 +1,6 @@
 pub mod Anomalies
 pub mod Edges
 pub mod Events
-pub mod Lines
 pub mod Reasons
 pub mod Writes
 pub mod Versions

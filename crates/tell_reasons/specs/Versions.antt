@@ -8,6 +8,7 @@ use Rattle.tell_reasons.specs.Reasons.{named, key_bytes, op_at, op_wid, wid_text
 use Rattle.tell_reasons.specs.Reasons.{key_and_wid, reads_text}
 use Rattle.tell_reasons.specs.Anomalies.{last_position}
 use Rattle.tell_reasons.specs.declared.why.ChainOrder.{ChainOrder}
+use Rattle.log_lines.specs.declared.placed.PlacedHistory.{PlacedHistory}
 
 -- the place of a node's last write of key number x, which is the version that it leaves; of its
 -- first read
@@ -22,54 +23,67 @@ abbrev pub wid_of_place : List ClientSession → ℕ → Option ℕ → ℕ
 wid_of_place ss v None = 0
 wid_of_place ss v (Some i) = op_wid (op_at ss v i)
 
--- the version of the key that a node leaves: `25, which 11.1 wrote (line 54)`
-abbrev pub version_at : List ClientSession → (ℕ → ℕ) → ℕ → Option ℕ → List ℕ
-version_at ss begin v None = named ss v
-version_at ss begin v (Some i) = wid_text (op_at ss v i) ++ codes ", which " ++ named ss v
-    ++ codes " wrote" ++ op_in_line begin v i
+-- the identity of the version of the key that a node leaves
+abbrev pub version_of : List ClientSession → ℕ → ℕ → ℕ
+version_of ss x v = wid_of_place ss v (left_at ss x v)
 
-abbrev pub version_text : List ClientSession → (ℕ → ℕ) → ℕ → ℕ → List ℕ
-version_text ss begin x v = version_at ss begin v (left_at ss x v)
+-- the version of the key that a node leaves: `25, which 11.1 wrote (line 54)`
+abbrev pub version_at : PlacedHistory → ℕ → Option ℕ → List ℕ
+version_at log v None = named log v
+version_at log v (Some i) = wid_text (op_at log.history.now v i) ++ codes ", which " ++ named log v
+    ++ codes " wrote" ++ op_in_line log v i
+
+abbrev pub version_text : PlacedHistory → ℕ → ℕ → List ℕ
+version_text log x v = version_at log v (left_at log.history.now x v)
 
 -- that a node wrote this: `1.7 wrote k27 9001 (line 32)`
-abbrev pub write_text : List ClientSession → (ℕ → ℕ) → ℕ → ℕ → List ℕ
-write_text ss begin v i =
-    named ss v ++ codes " wrote " ++ key_and_wid (op_at ss v i) ++ op_in_line begin v i
-
--- the version of a key that a node has, by its last write of it, or else by its first read:
--- `9.16 reads k1 16013 (line 1193)`
-abbrev pub had_at : List ClientSession → (ℕ → ℕ) → ℕ → Option ℕ → List ℕ
-had_at ss begin v None = named ss v
-had_at ss begin v (Some i) = reads_text ss begin v i
-
-abbrev pub held_at : List ClientSession → (ℕ → ℕ) → ℕ → Option ℕ → Option ℕ → List ℕ
-held_at ss begin v None read = had_at ss begin v read
-held_at ss begin v (Some i) read = write_text ss begin v i
-
-abbrev pub held_text : List ClientSession → (ℕ → ℕ) → ℕ → ℕ → List ℕ
-held_text ss begin x v = held_at ss begin v (left_at ss x v) (read_at ss x v)
-
--- which of two versions of a key comes first: `x: 25, which 11.1 wrote (line 54), comes before 20,
--- which 6.1 wrote (line 28)`
-abbrev pub versions_text : List ClientSession → (ℕ → ℕ) → ChainOrder → List ℕ
-versions_text ss begin o =
-    key_bytes ss o.key ++ codes ": " ++ version_text ss begin o.key o.first
-    ++ codes ", comes before " ++ version_text ss begin o.key o.second
+abbrev pub write_text : PlacedHistory → ℕ → ℕ → List ℕ
+write_text log v i =
+    named log v ++ codes " wrote " ++ key_and_wid (op_at log.history.now v i) ++ op_in_line log v i
 
 abbrev pub back_text : ℕ → List ℕ
 back_text version = codes ", which goes back to " ++ decimal version
 
--- that a read names what stands behind this version, where it is another
+-- that an operation names what stands behind this version, where it is another
 abbrev pub behind_text : ℕ → ℕ → List ℕ
 behind_text wid version = if wid == version then [] else back_text version
 
--- what lets a node stand elsewhere, were the version of `head` earlier: its first read of the key
-abbrev pub otherwise_at : List ClientSession → (ℕ → ℕ) → ℕ → ℕ → Option ℕ → List ℕ
-otherwise_at ss begin version v None = codes "otherwise " ++ named ss v
-otherwise_at ss begin version v (Some i) =
-    named ss v ++ codes " read " ++ wid_text (op_at ss v i) ++ op_in_line begin v i ++ behind_text
-    (op_wid (op_at ss v i)) version ++ codes ", so otherwise " ++ named ss v
+-- the version of a key that a node has, by its last write of it, or else by its first read, and
+-- that it goes back to that of `head`: `9.16 reads k1 16013 (line 1193), which goes back to 16009`
+abbrev pub had_at : PlacedHistory → ℕ → ℕ → Option ℕ → List ℕ
+had_at log version v None = named log v
+had_at log version v (Some i) =
+    reads_text log v i ++ behind_text (op_wid (op_at log.history.now v i)) version
 
-abbrev pub otherwise_text : List ClientSession → (ℕ → ℕ) → ℕ → ℕ → ℕ → List ℕ
-otherwise_text ss begin x head v = otherwise_at ss begin
-    (wid_of_place ss head (left_at ss x head)) v (read_at ss x v)
+abbrev pub held_at : PlacedHistory → ℕ → ℕ → Option ℕ → Option ℕ → List ℕ
+held_at log version v None read = had_at log version v read
+held_at log version v (Some i) read =
+    write_text log v i ++ behind_text (op_wid (op_at log.history.now v i)) version
+
+abbrev pub held_text : PlacedHistory → ℕ → ℕ → ℕ → List ℕ
+held_text log x head v = held_at log (version_of log.history.now x head) v
+    (left_at log.history.now x v) (read_at log.history.now x v)
+
+-- which of two versions of a key comes first: `x: 25, which 11.1 wrote (line 54), comes before 20,
+-- which 6.1 wrote (line 28)`
+abbrev pub versions_text : PlacedHistory → ChainOrder → List ℕ
+versions_text log o =
+    key_bytes log.history.now o.key ++ codes ": " ++ version_text log o.key o.first
+    ++ codes ", comes before " ++ version_text log o.key o.second
+
+-- the same between two commas
+abbrev pub aside_text : ℕ → ℕ → List ℕ
+aside_text wid version = if wid == version then [] else back_text version ++ codes ","
+
+-- why one of two versions of a key comes first: u reads the other one, and comes after v. Nothing,
+-- where u reads neither: `    since 14.1 reads 20 (line 68) and comes after 11.1:`
+abbrev pub since_at : PlacedHistory → ℕ → ℕ → ℕ → Option ℕ → List ℕ
+since_at log version u v None = []
+since_at log version u v (Some i) =
+    codes "    since " ++ named log u ++ codes " reads " ++ wid_text (op_at log.history.now u i)
+    ++ op_in_line log u i ++ aside_text (op_wid (op_at log.history.now u i)) version
+    ++ codes " and comes after " ++ named log v ++ codes ":\n"
+
+abbrev pub since_text : PlacedHistory → ChainOrder → ℕ → ℕ → List ℕ
+since_text log o u v = since_at log (version_of log.history.now o.key o.second) u v
+    (read_at log.history.now o.key u)

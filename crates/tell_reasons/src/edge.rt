@@ -1,6 +1,6 @@
 //! Why one node stands before another, in a line.
 
-ghost use Rattle.std.specs.Prelude.{◌≡◌, ℕ, ◌+◌, ◌<◌, ◌≤◌, ◌^◌, ◌++◌, length, decimal, codes, OnOk};
+ghost use Rattle.std.specs.Prelude.{◌≡◌, ◌+◌, ◌<◌, ◌≤◌, ◌^◌, ◌++◌, length, decimal, codes, OnOk};
 ghost use Rattle.std.specs.Prelude.{unwrap_or};
 ghost use Rattle.reason_laws.specs.Reasons.{IsNode, IsReadBy, IsOverwrittenBy, IsOfInitialBefore};
 ghost use Rattle.reason_laws.specs.Reasons.{EndsBefore};
@@ -8,30 +8,36 @@ ghost use Rattle.reasons.specs.Given.{IsReason};
 ghost use Rattle.reasons.specs.declared.reason.Reason.TheVariants as kind;
 ghost use Rattle.log_definitions.specs.Serial.{session_of, ops_of, begun_of, ended_of};
 ghost use Rattle.log_definitions.specs.Numbers.{log_of};
-ghost use Rattle.tell_reasons.specs.Lines.{begin_at, AreLines};
+ghost use Rattle.log_lines.specs.Placed.{begin_in};
 ghost use Rattle.tell_reasons.specs.Reasons.{before_text, reason_text, origin_text, CanTell};
 ghost use Rattle.tell_reasons.specs.Reasons.{end_in_line, in_line, op_at};
 ghost use Rattle.tell_reasons.specs.Edges.{why_text, comes_text, by_step, supposed};
 
 use crate::pieces::{
-    op_count, put_in_line, put_key_and_wid, put_named, put_number, put_op_in_line, put_reads,
-    put_wid, wid_at,
+    begin_of, end_of, put_in_line, put_key_and_wid, put_named, put_number, put_op_in_line,
+    put_reads, put_wid, wid_at,
 };
 use crate::versions::{put_held, put_version};
-use crate::why::Why;
+use crate::why::{ChainOrder, Why};
+use log_lines::PlacedHistory;
 use reasons::Reason;
 use serializability::NodeIx;
 use session_history::History;
 use std::alloc::AllocError;
 
 /// Appends that a node stands before another, as `1.2 before 2.1: `.
-fn put_before(out: &mut Vec<u8>, history: &History, a: NodeIx, b: NodeIx) -> Result<(), AllocError>
-    requires first { a ≤ (log_of history.now).nodes }
-    requires second { b ≤ (log_of history.now).nodes }
-    ensures text { OnOk result (out.new.items ≡ out.old.items ++ before_text history.now a b) }
+fn put_before(
+    out: &mut Vec<u8>,
+    log: &PlacedHistory<'_>,
+    a: NodeIx,
+    b: NodeIx,
+) -> Result<(), AllocError>
+    requires first { a ≤ (log_of log.now.history.now).nodes }
+    requires second { b ≤ (log_of log.now.history.now).nodes }
+    ensures text { OnOk result (out.new.items ≡ out.old.items ++ before_text log.now a b) }
 {
-    put_named(out, b"", history, a)?;
-    put_named(out, b" before ", history, b)?;
+    put_named(out, b"", log, a)?;
+    put_named(out, b" before ", log, b)?;
     out.extend_from_slice(b": ")?;
     Ok(())
 }
@@ -49,44 +55,40 @@ fn put_session(out: &mut Vec<u8>, history: &History, a: NodeIx) -> Result<(), Al
 /// Appends that `b` reads what `a` wrote.
 fn put_read(
     out: &mut Vec<u8>,
-    history: &History,
-    begins: &[usize],
+    log: &PlacedHistory<'_>,
     a: NodeIx,
     b: NodeIx,
     written: usize,
     read: usize,
 ) -> Result<(), AllocError>
-    requires lines { AreLines history.now begins.now }
-    requires reason { IsReadBy history.now a written b read }
+    requires reason { IsReadBy log.now.history.now a written b read }
     ensures text { OnOk result (out.new.items ≡ out.old.items
-        ++ reason_text history.now (begin_at begins.now) a b (kind.Read written read)) }
+        ++ reason_text log.now a b (kind.Read written read)) }
 {
-    put_reads(out, history, begins, b, read)?;
-    put_named(out, b", which ", history, a)?;
+    put_reads(out, log, b, read)?;
+    put_named(out, b", which ", log, a)?;
     out.extend_from_slice(b" wrote")?;
-    put_op_in_line(out, begins, a, written)
+    put_op_in_line(out, log, a, written)
 }
 
 /// Appends that `b` overwrites what both read.
 fn put_overwritten(
     out: &mut Vec<u8>,
-    history: &History,
-    begins: &[usize],
+    log: &PlacedHistory<'_>,
     a: NodeIx,
     b: NodeIx,
     read: usize,
     overwrites: usize,
 ) -> Result<(), AllocError>
-    requires lines { AreLines history.now begins.now }
-    requires reason { IsOverwrittenBy history.now a read b overwrites }
+    requires reason { IsOverwrittenBy log.now.history.now a read b overwrites }
     ensures text { OnOk result (out.new.items ≡ out.old.items
-        ++ reason_text history.now (begin_at begins.now) a b (kind.Overwritten read overwrites)) }
+        ++ reason_text log.now a b (kind.Overwritten read overwrites)) }
 {
-    put_reads(out, history, begins, a, read)?;
-    put_named(out, b", and ", history, b)?;
+    put_reads(out, log, a, read)?;
+    put_named(out, b", and ", log, b)?;
     out.extend_from_slice(b" overwrites it with ")?;
-    put_wid(out, history, b, overwrites)?;
-    put_op_in_line(out, begins, b, overwrites)
+    put_wid(out, log.history, b, overwrites)?;
+    put_op_in_line(out, log, b, overwrites)
 }
 
 /// Appends whether an operation names the initial value itself, or what stands behind it.
@@ -111,106 +113,86 @@ fn put_origin(
 /// Appends that `a` reads a key's initial value, or what stands behind it, and `b` wrote the key.
 fn put_initial(
     out: &mut Vec<u8>,
-    history: &History,
-    begins: &[usize],
+    log: &PlacedHistory<'_>,
     a: NodeIx,
     b: NodeIx,
     read: usize,
     write: usize,
 ) -> Result<(), AllocError>
-    requires lines { AreLines history.now begins.now }
-    requires reason { IsOfInitialBefore history.now a read b write }
+    requires reason { IsOfInitialBefore log.now.history.now a read b write }
     ensures text { OnOk result (out.new.items ≡ out.old.items
-        ++ reason_text history.now (begin_at begins.now) a b (kind.Initial read write)) }
+        ++ reason_text log.now a b (kind.Initial read write)) }
 {
-    put_reads(out, history, begins, a, read)?;
-    put_origin(out, history, a, read)?;
-    put_named(out, b", and ", history, b)?;
+    put_reads(out, log, a, read)?;
+    put_origin(out, log.history, a, read)?;
+    put_named(out, b", and ", log, b)?;
     out.extend_from_slice(b" wrote ")?;
-    put_key_and_wid(out, history, b, write)?;
-    put_op_in_line(out, begins, b, write)
+    put_key_and_wid(out, log.history, b, write)?;
+    put_op_in_line(out, log, b, write)
 }
 
 /// Appends when `a` ended.
-fn put_ended(
-    out: &mut Vec<u8>,
-    history: &History,
-    begins: &[usize],
-    a: NodeIx,
-) -> Result<(), AllocError>
-    requires node { IsNode history.now a }
-    requires lines { AreLines history.now begins.now }
+fn put_ended(out: &mut Vec<u8>, log: &PlacedHistory<'_>, a: NodeIx) -> Result<(), AllocError>
+    requires node { IsNode log.now.history.now a }
     ensures text { OnOk result (out.new.items ≡ out.old.items
-        ++ (decimal (unwrap_or (ended_of history.now a) 0)
-        ++ end_in_line history.now (begin_at begins.now) a)) }
+        ++ (decimal (unwrap_or (ended_of log.now.history.now a) 0) ++ end_in_line log.now a)) }
 {
-    put_number(out, history.ended_of(a).unwrap_or(0))?;
-    put_op_in_line(out, begins, a, op_count(history, a))
+    put_number(out, log.history.ended_of(a).unwrap_or(0))?;
+    put_in_line(out, end_of(log, a))
 }
 
 /// Appends when `b` began.
-fn put_begun(
-    out: &mut Vec<u8>,
-    history: &History,
-    begins: &[usize],
-    b: NodeIx,
-) -> Result<(), AllocError>
-    requires node { IsNode history.now b }
-    requires lines { AreLines history.now begins.now }
+fn put_begun(out: &mut Vec<u8>, log: &PlacedHistory<'_>, b: NodeIx) -> Result<(), AllocError>
+    requires node { IsNode log.now.history.now b }
     ensures text { OnOk result (out.new.items ≡ out.old.items
-        ++ (decimal (unwrap_or (begun_of history.now b) 0)
-        ++ in_line (begin_at begins.now b))) }
+        ++ (decimal (unwrap_or (begun_of log.now.history.now b) 0)
+        ++ in_line (begin_in log.now b))) }
 {
-    put_number(out, history.begun_of(b).unwrap_or(0))?;
-    put_in_line(out, begins[b.get() - 1])
+    put_number(out, log.history.begun_of(b).unwrap_or(0))?;
+    put_in_line(out, begin_of(log, b))
 }
 
 /// Appends that `a` ended before `b` began.
 fn put_moments(
     out: &mut Vec<u8>,
-    history: &History,
-    begins: &[usize],
+    log: &PlacedHistory<'_>,
     a: NodeIx,
     b: NodeIx,
 ) -> Result<(), AllocError>
-    requires lines { AreLines history.now begins.now }
-    requires reason { EndsBefore history.now a b }
+    requires reason { EndsBefore log.now.history.now a b }
     ensures text { OnOk result (out.new.items ≡ out.old.items
-        ++ reason_text history.now (begin_at begins.now) a b kind.Moments) }
+        ++ reason_text log.now a b kind.Moments) }
 {
-    put_named(out, b"", history, a)?;
+    put_named(out, b"", log, a)?;
     out.extend_from_slice(b" ended at ")?;
-    put_ended(out, history, begins, a)?;
-    put_named(out, b", ", history, b)?;
+    put_ended(out, log, a)?;
+    put_named(out, b", ", log, b)?;
     out.extend_from_slice(b" began at ")?;
-    put_begun(out, history, begins, b)
+    put_begun(out, log, b)
 }
 
 /// Appends why the log shows that `a` stands before `b`.
 fn put_reason(
     out: &mut Vec<u8>,
-    history: &History,
-    begins: &[usize],
+    log: &PlacedHistory<'_>,
     a: NodeIx,
     b: NodeIx,
     reason: Reason,
 ) -> Result<(), AllocError>
-    requires lines { AreLines history.now begins.now }
-    requires reason { IsReason history.now a b reason }
-    ensures text { OnOk result (out.new.items ≡ out.old.items
-        ++ reason_text history.now (begin_at begins.now) a b reason) }
+    requires reason { IsReason log.now.history.now a b reason }
+    ensures text { OnOk result (out.new.items ≡ out.old.items ++ reason_text log.now a b reason) }
 {
     match reason {
-        Reason::Session => put_session(out, history, a),
-        Reason::Read { written, read } => put_read(out, history, begins, a, b, written, read),
+        Reason::Session => put_session(out, log.history, a),
+        Reason::Read { written, read } => put_read(out, log, a, b, written, read),
         Reason::Overwritten { read, overwrites } => {
-            put_overwritten(out, history, begins, a, b, read, overwrites)
+            put_overwritten(out, log, a, b, read, overwrites)
         }
         Reason::Initial {
             read,
             begins: write,
-        } => put_initial(out, history, begins, a, b, read, write),
-        Reason::Moments => put_moments(out, history, begins, a, b),
+        } => put_initial(out, log, a, b, read, write),
+        Reason::Moments => put_moments(out, log, a, b),
     }
 }
 
@@ -229,23 +211,21 @@ fn put_by_step(out: &mut Vec<u8>, step: usize) -> Result<(), AllocError>
 /// ends the line.
 fn put_forced(
     out: &mut Vec<u8>,
-    history: &History,
-    begins: &[usize],
-    key: usize,
+    log: &PlacedHistory<'_>,
+    order: ChainOrder,
     a: NodeIx,
     b: NodeIx,
     step: usize,
 ) -> Result<(), AllocError>
-    requires lines { AreLines history.now begins.now }
-    requires first { IsNode history.now a }
-    requires second { IsNode history.now b }
+    requires first { IsNode log.now.history.now a }
+    requires second { IsNode log.now.history.now b }
     requires step { step + 1 < 2 ^ 64 }
     ensures text { OnOk result (out.new.items ≡ out.old.items
-        ++ comes_text history.now (begin_at begins.now) key a b (by_step step)) }
+        ++ comes_text log.now order a b (by_step step)) }
 {
-    put_held(out, history, begins, key, a)?;
+    put_held(out, log, order.key, order.first, a)?;
     put_by_step(out, step)?;
-    put_version(out, history, begins, key, b)?;
+    put_version(out, log, order.key, b)?;
     out.extend_from_slice(b"\n")?;
     Ok(())
 }
@@ -254,51 +234,46 @@ fn put_forced(
 /// ends the line.
 fn put_chosen(
     out: &mut Vec<u8>,
-    history: &History,
-    begins: &[usize],
-    key: usize,
+    log: &PlacedHistory<'_>,
+    order: ChainOrder,
     a: NodeIx,
     b: NodeIx,
 ) -> Result<(), AllocError>
-    requires lines { AreLines history.now begins.now }
-    requires first { IsNode history.now a }
-    requires second { IsNode history.now b }
+    requires first { IsNode log.now.history.now a }
+    requires second { IsNode log.now.history.now b }
     ensures text { OnOk result (out.new.items ≡ out.old.items
-        ++ comes_text history.now (begin_at begins.now) key a b supposed) }
+        ++ comes_text log.now order a b supposed) }
 {
-    put_held(out, history, begins, key, a)?;
+    put_held(out, log, order.key, order.first, a)?;
     out.extend_from_slice(b", which is supposed to come before ")?;
-    put_version(out, history, begins, key, b)?;
+    put_version(out, log, order.key, b)?;
     out.extend_from_slice(b"\n")?;
     Ok(())
 }
 
-/// Appends the line that says why `a` stands before `b`. Of `begins`, element `v - 1` is the line
-/// at which node `v` begins. Where memory runs out, a part of the line may have been appended.
+/// Appends the line that says why `a` stands before `b`. Where memory runs out, a part of the line
+/// may have been appended.
 #[tactic(auto, using(reason_laws::proofs::Numbers::within))]
 pub fn put_edge(
     out: &mut Vec<u8>,
-    history: &History,
-    begins: &[usize],
+    log: &PlacedHistory<'_>,
     a: NodeIx,
     b: NodeIx,
     why: Why,
 ) -> Result<(), AllocError>
-    requires lines { AreLines history.now begins.now }
-    requires first { IsNode history.now a }
-    requires second { IsNode history.now b }
-    requires why { CanTell history.now a b why }
-    ensures text { OnOk result (out.new.items
-        ≡ out.old.items ++ why_text history.now (begin_at begins.now) a b why) }
+    requires first { IsNode log.now.history.now a }
+    requires second { IsNode log.now.history.now b }
+    requires why { CanTell log.now.history.now a b why }
+    ensures text { OnOk result (out.new.items ≡ out.old.items ++ why_text log.now a b why) }
 {
-    put_before(out, history, a, b)?;
+    put_before(out, log, a, b)?;
     match why {
         Why::Known(reason) => {
-            put_reason(out, history, begins, a, b, reason)?;
+            put_reason(out, log, a, b, reason)?;
             out.push(b'\n')?;
             Ok(())
         }
-        Why::Forced { step, order } => put_forced(out, history, begins, order.key, a, b, step),
-        Why::Chosen(order) => put_chosen(out, history, begins, order.key, a, b),
+        Why::Forced { step, order } => put_forced(out, log, order, a, b, step),
+        Why::Chosen(order) => put_chosen(out, log, order, a, b),
     }
 }

@@ -15,5 +15,5 @@ mod writes;
 pub use anomalies::put_anomaly;
 pub use edge::put_edge;
 pub use pieces::{put_key, put_key_and_wid, put_named, put_number, put_op_in_line};
-pub use versions::{put_otherwise, put_versions};
+pub use versions::{left_at, put_since, put_versions};
 pub use why::{ChainOrder, Why};

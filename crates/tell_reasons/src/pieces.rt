@@ -1,11 +1,11 @@
 //! Pieces of lines: places in the log, operations and their keys.
 
-ghost use Rattle.std.specs.Prelude.{◌≡◌, ℕ, ◌+◌, ◌<◌, ◌≤◌, ◌++◌, Some, length, slice_get, decimal};
-ghost use Rattle.std.specs.Prelude.{codes, OnOk};
+ghost use Rattle.std.specs.Prelude.{◌≡◌, ◌+◌, ◌<◌, ◌≤◌, ◌++◌, Some, length, slice_get, decimal};
+ghost use Rattle.std.specs.Prelude.{OnOk};
 ghost use Rattle.reason_laws.specs.Reasons.{IsNode};
 ghost use Rattle.log_definitions.specs.Serial.{ops_of};
 ghost use Rattle.log_definitions.specs.Numbers.{log_of};
-ghost use Rattle.tell_reasons.specs.Lines.{begin_at, AreLines, HasLine};
+ghost use Rattle.log_lines.specs.Placed.{begin_in};
 ghost use Rattle.session_history.specs.Rows.{event_key};
 ghost use Rattle.tell_reasons.specs.Events.{event_wid};
 ghost use Rattle.tell_reasons.specs.Reasons as spec;
@@ -13,6 +13,7 @@ ghost use Rattle.tell_reasons.specs.Reasons.{named, in_line, op_at, op_in_line, 
 ghost use Rattle.tell_reasons.specs.Reasons.{key_and_wid, reads_text};
 
 use itoa::Buffer;
+use log_lines::PlacedHistory;
 use order_text::put_name;
 use serializability::{Event, NodeIx};
 use session_history::History;
@@ -31,15 +32,14 @@ pub fn put_number(out: &mut Vec<u8>, number: u64) -> Result<(), AllocError>
 pub fn put_named(
     out: &mut Vec<u8>,
     word: &[u8],
-    history: &History,
+    log: &PlacedHistory<'_>,
     node: NodeIx,
 ) -> Result<(), AllocError>
-    requires known { node ≤ (log_of history.now).nodes }
-    ensures text { OnOk result (out.new.items ≡ out.old.items ++
-        (word.now ++ named history.now node)) }
+    requires known { node ≤ (log_of log.now.history.now).nodes }
+    ensures text { OnOk result (out.new.items ≡ out.old.items ++ (word.now ++ named log.now node)) }
 {
     out.extend_from_slice(word)?;
-    put_name(out, history, node)
+    put_name(out, log.history, node)
 }
 
 /// Appends a line of the log, as ` (line 12)`.
@@ -52,26 +52,33 @@ pub fn put_in_line(out: &mut Vec<u8>, line: usize) -> Result<(), AllocError>
     Ok(())
 }
 
-/// The line of an operation of a node, or where its operations are over, of its end.
-pub fn line_of(begins: &[usize], node: NodeIx, op: usize) -> usize
-    requires line { HasLine begins.now node op }
-    ensures line { result ≡ begin_at begins.now node + 1 + op }
+/// The line at which a node begins.
+pub fn begin_of(log: &PlacedHistory<'_>, node: NodeIx) -> usize
+    requires node { IsNode log.now.history.now node }
+    ensures line { result ≡ begin_in log.now node }
 {
-    begins[node.get() - 1] + 1 + op
+    log.begins[node.get() - 1]
 }
 
-/// Appends the line of an operation of a node, or where its operations are over, of its end.
+/// The line of an operation of a node.
+pub fn line_of(log: &PlacedHistory<'_>, node: NodeIx, op: usize) -> usize
+    requires op { op < length (ops_of log.now.history.now node) }
+    ensures line { result ≡ begin_in log.now node + 1 + op }
+{
+    begin_of(log, node) + 1 + op
+}
+
+/// Appends the line of an operation of a node.
 pub fn put_op_in_line(
     out: &mut Vec<u8>,
-    begins: &[usize],
+    log: &PlacedHistory<'_>,
     node: NodeIx,
     op: usize,
 ) -> Result<(), AllocError>
-    requires line { HasLine begins.now node op }
-    ensures text { OnOk result (out.new.items
-        ≡ out.old.items ++ op_in_line (begin_at begins.now) node op) }
+    requires op { op < length (ops_of log.now.history.now node) }
+    ensures text { OnOk result (out.new.items ≡ out.old.items ++ op_in_line log.now node op) }
 {
-    put_in_line(out, line_of(begins, node, op))
+    put_in_line(out, line_of(log, node, op))
 }
 
 /// The number of the key of an event.
@@ -97,6 +104,15 @@ pub fn op_count(history: &History, node: NodeIx) -> usize
     ensures count { result ≡ length (ops_of history.now node) }
 {
     history.events_of(node).len()
+}
+
+/// The line that ends a node.
+pub fn end_of(log: &PlacedHistory<'_>, node: NodeIx) -> usize
+    requires node { IsNode log.now.history.now node }
+    ensures line { result ≡ begin_in log.now node + 1 + length (ops_of log.now.history.now node) }
+{
+    let count = op_count(log.history, node);
+    begin_of(log, node) + 1 + count
 }
 
 /// An operation of a node.
@@ -168,19 +184,15 @@ pub fn put_key_and_wid(
 /// Appends what a node reads, as `2.1 reads x 7 (line 12)`.
 pub fn put_reads(
     out: &mut Vec<u8>,
-    history: &History,
-    begins: &[usize],
+    log: &PlacedHistory<'_>,
     node: NodeIx,
     op: usize,
 ) -> Result<(), AllocError>
-    requires node { IsNode history.now node }
-    requires lines { AreLines history.now begins.now }
-    requires op { op < length (ops_of history.now node) }
-    ensures text { OnOk result (out.new.items
-        ≡ out.old.items ++ reads_text history.now (begin_at begins.now) node op) }
+    requires op { op < length (ops_of log.now.history.now node) }
+    ensures text { OnOk result (out.new.items ≡ out.old.items ++ reads_text log.now node op) }
 {
-    put_named(out, b"", history, node)?;
+    put_named(out, b"", log, node)?;
     out.extend_from_slice(b" reads ")?;
-    put_key_and_wid(out, history, node, op)?;
-    put_op_in_line(out, begins, node, op)
+    put_key_and_wid(out, log.history, node, op)?;
+    put_op_in_line(out, log, node, op)
 }

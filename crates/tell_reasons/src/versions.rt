@@ -1,13 +1,12 @@
 //! Versions of a key, by their writers.
 
-ghost use Rattle.std.specs.Prelude.{◌≡◌, ℕ, ◌<◌, ◌≤◌, ◌++◌, length, codes, IfSome, OnOk};
+ghost use Rattle.std.specs.Prelude.{◌≡◌, ◌<◌, ◌≤◌, ◌++◌, length, IfSome, OnOk};
 ghost use Rattle.reason_laws.specs.Reasons.{IsNode};
 ghost use Rattle.log_definitions.specs.Serial.{ops_of};
 ghost use Rattle.log_definitions.specs.Numbers.{log_of};
-ghost use Rattle.tell_reasons.specs.Lines.{begin_at, AreLines};
 ghost use Rattle.tell_reasons.specs.Versions as spec;
 ghost use Rattle.tell_reasons.specs.Versions.{version_at, version_text, versions_text, back_text};
-ghost use Rattle.tell_reasons.specs.Versions.{behind_text, otherwise_at, otherwise_text};
+ghost use Rattle.tell_reasons.specs.Versions.{behind_text, aside_text, since_at, since_text};
 ghost use Rattle.tell_reasons.specs.Versions.{write_text, had_at, held_text};
 
 use crate::pieces::{
@@ -15,12 +14,13 @@ use crate::pieces::{
 };
 use crate::places::{first_read_among, last_among};
 use crate::why::ChainOrder;
+use log_lines::PlacedHistory;
 use serializability::NodeIx;
 use session_history::History;
 use std::alloc::AllocError;
 
 /// The last write of a key in a node.
-fn left_at(history: &History, key: usize, node: NodeIx) -> Option<usize>
+pub fn left_at(history: &History, key: usize, node: NodeIx) -> Option<usize>
     ensures place { result ≡ spec.left_at history.now key node }
     ensures within { IfSome result (λ i. i < length (ops_of history.now node)) }
 {
@@ -38,126 +38,55 @@ fn read_at(history: &History, key: usize, node: NodeIx) -> Option<usize>
 /// Appends the identity of a write, and who wrote it.
 fn put_version_at(
     out: &mut Vec<u8>,
-    history: &History,
-    begins: &[usize],
+    log: &PlacedHistory<'_>,
     node: NodeIx,
     op: usize,
 ) -> Result<(), AllocError>
-    requires lines { AreLines history.now begins.now }
-    requires node { node ≤ (log_of history.now).nodes }
-    requires op { op < length (ops_of history.now node) }
+    requires op { op < length (ops_of log.now.history.now node) }
     ensures text { OnOk result (out.new.items
-        ≡ out.old.items ++ version_at history.now (begin_at begins.now) node (Some op)) }
+        ≡ out.old.items ++ version_at log.now node (Some op)) }
 {
-    put_wid(out, history, node, op)?;
-    put_named(out, b", which ", history, node)?;
+    put_wid(out, log.history, node, op)?;
+    put_named(out, b", which ", log, node)?;
     out.extend_from_slice(b" wrote")?;
-    put_op_in_line(out, begins, node, op)
+    put_op_in_line(out, log, node, op)
 }
 
 /// Appends the version of a key that a node leaves, as `25, which 11.1 wrote (line 54)`.
 pub fn put_version(
     out: &mut Vec<u8>,
-    history: &History,
-    begins: &[usize],
+    log: &PlacedHistory<'_>,
     key: usize,
     node: NodeIx,
 ) -> Result<(), AllocError>
-    requires lines { AreLines history.now begins.now }
-    requires node { node ≤ (log_of history.now).nodes }
-    ensures text { OnOk result (out.new.items
-        ≡ out.old.items ++ version_text history.now (begin_at begins.now) key node) }
+    requires node { node ≤ (log_of log.now.history.now).nodes }
+    ensures text { OnOk result (out.new.items ≡ out.old.items ++ version_text log.now key node) }
 {
-    match left_at(history, key, node) {
-        Some(op) => put_version_at(out, history, begins, node, op),
-        None => put_named(out, b"", history, node),
+    match left_at(log.history, key, node) {
+        Some(op) => put_version_at(out, log, node, op),
+        None => put_named(out, b"", log, node),
     }
 }
 
 /// Appends what a node wrote, as `1.7 wrote k27 9001 (line 32)`.
 fn put_write(
     out: &mut Vec<u8>,
-    history: &History,
-    begins: &[usize],
+    log: &PlacedHistory<'_>,
     node: NodeIx,
     op: usize,
 ) -> Result<(), AllocError>
-    requires lines { AreLines history.now begins.now }
-    requires node { IsNode history.now node }
-    requires op { op < length (ops_of history.now node) }
-    ensures text { OnOk result (out.new.items
-        ≡ out.old.items ++ write_text history.now (begin_at begins.now) node op) }
+    requires op { op < length (ops_of log.now.history.now node) }
+    ensures text { OnOk result (out.new.items ≡ out.old.items ++ write_text log.now node op) }
 {
-    put_named(out, b"", history, node)?;
+    put_named(out, b"", log, node)?;
     out.extend_from_slice(b" wrote ")?;
-    put_key_and_wid(out, history, node, op)?;
-    put_op_in_line(out, begins, node, op)
-}
-
-/// Appends a node's first read of a key, as `9.16 reads k1 16013 (line 1193)`.
-fn put_had(
-    out: &mut Vec<u8>,
-    history: &History,
-    begins: &[usize],
-    key: usize,
-    node: NodeIx,
-) -> Result<(), AllocError>
-    requires lines { AreLines history.now begins.now }
-    requires node { IsNode history.now node }
-    ensures text { OnOk result (out.new.items ≡ out.old.items
-        ++ had_at history.now (begin_at begins.now) node (spec.read_at history.now key node)) }
-{
-    match read_at(history, key, node) {
-        Some(op) => put_reads(out, history, begins, node, op),
-        None => put_named(out, b"", history, node),
-    }
-}
-
-/// Appends the version of a key that a node has, by its last write of it, or else by its first
-/// read.
-pub fn put_held(
-    out: &mut Vec<u8>,
-    history: &History,
-    begins: &[usize],
-    key: usize,
-    node: NodeIx,
-) -> Result<(), AllocError>
-    requires lines { AreLines history.now begins.now }
-    requires node { IsNode history.now node }
-    ensures text { OnOk result (out.new.items
-        ≡ out.old.items ++ held_text history.now (begin_at begins.now) key node) }
-{
-    match left_at(history, key, node) {
-        Some(op) => put_write(out, history, begins, node, op),
-        None => put_had(out, history, begins, key, node),
-    }
-}
-
-/// Appends which of two versions of a key comes first, as `x: 25, which 11.1 wrote (line 54), comes
-/// before 20, which 6.1 wrote (line 28)`.
-pub fn put_versions(
-    out: &mut Vec<u8>,
-    history: &History,
-    begins: &[usize],
-    order: ChainOrder,
-) -> Result<(), AllocError>
-    requires lines { AreLines history.now begins.now }
-    requires key { order.key < (log_of history.now).keys }
-    requires first { order.first ≤ (log_of history.now).nodes }
-    requires second { order.second ≤ (log_of history.now).nodes }
-    ensures text { OnOk result (out.new.items
-        ≡ out.old.items ++ versions_text history.now (begin_at begins.now) order) }
-{
-    put_key(out, history, order.key)?;
-    out.extend_from_slice(b": ")?;
-    put_version(out, history, begins, order.key, order.first)?;
-    out.extend_from_slice(b", comes before ")?;
-    put_version(out, history, begins, order.key, order.second)
+    put_key_and_wid(out, log.history, node, op)?;
+    put_op_in_line(out, log, node, op)
 }
 
 /// The identity of the version of a key that a node leaves.
 fn version_of(history: &History, key: usize, node: NodeIx) -> u64
-    ensures { result ≡ spec.wid_of_place history.now node (spec.left_at history.now key node) }
+    ensures { result ≡ spec.version_of history.now key node }
 {
     match left_at(history, key, node) {
         Some(op) => wid_at(history, node, op),
@@ -173,7 +102,7 @@ fn put_back(out: &mut Vec<u8>, version: u64) -> Result<(), AllocError>
     put_number(out, version)
 }
 
-/// Appends that a read names what stands behind this version, where it is another.
+/// Appends that an operation names what stands behind this version, where it is another.
 fn put_behind(out: &mut Vec<u8>, wid: u64, version: u64) -> Result<(), AllocError>
     ensures text { OnOk result (out.new.items ≡ out.old.items ++ behind_text wid version) }
 {
@@ -184,49 +113,125 @@ fn put_behind(out: &mut Vec<u8>, wid: u64, version: u64) -> Result<(), AllocErro
     }
 }
 
-/// Appends what a node read, as `14.1 read 20 (line 68), so otherwise 14.1`.
-fn put_otherwise_at(
+/// Appends a node's first read of a key, and to which version that goes back, as `9.16 reads k1
+/// 16013 (line 1193), which goes back to 16009`.
+fn put_had(
     out: &mut Vec<u8>,
-    history: &History,
-    begins: &[usize],
+    log: &PlacedHistory<'_>,
     version: u64,
+    key: usize,
     node: NodeIx,
-    op: usize,
 ) -> Result<(), AllocError>
-    requires lines { AreLines history.now begins.now }
-    requires node { node ≤ (log_of history.now).nodes }
-    requires op { op < length (ops_of history.now node) }
-    ensures text { OnOk result (out.new.items
-        ≡ out.old.items ++ otherwise_at history.now (begin_at begins.now) version node (Some op)) }
+    requires node { IsNode log.now.history.now node }
+    ensures text { OnOk result (out.new.items ≡ out.old.items
+        ++ had_at log.now version node (spec.read_at log.now.history.now key node)) }
 {
-    put_named(out, b"", history, node)?;
-    out.extend_from_slice(b" read ")?;
-    put_wid(out, history, node, op)?;
-    put_op_in_line(out, begins, node, op)?;
-    put_behind(out, wid_at(history, node, op), version)?;
-    put_named(out, b", so otherwise ", history, node)
+    match read_at(log.history, key, node) {
+        Some(op) => {
+            put_reads(out, log, node, op)?;
+            put_behind(out, wid_at(log.history, node, op), version)
+        }
+        None => put_named(out, b"", log, node),
+    }
 }
 
-/// Appends what lets a node stand elsewhere, were the version of `head` earlier: its first read of
-/// the key.
-pub fn put_otherwise(
+/// Appends the version of a key that a node has, by its last write of it, or else by its first
+/// read, and that it goes back to that of `head`.
+pub fn put_held(
     out: &mut Vec<u8>,
-    history: &History,
-    begins: &[usize],
+    log: &PlacedHistory<'_>,
     key: usize,
     head: NodeIx,
     node: NodeIx,
 ) -> Result<(), AllocError>
-    requires lines { AreLines history.now begins.now }
-    requires node { node ≤ (log_of history.now).nodes }
-    ensures text { OnOk result (out.new.items
-        ≡ out.old.items ++ otherwise_text history.now (begin_at begins.now) key head node) }
+    requires node { IsNode log.now.history.now node }
+    ensures text { OnOk result (out.new.items ≡ out.old.items ++ held_text log.now key head node) }
 {
-    match read_at(history, key, node) {
+    let version = version_of(log.history, key, head);
+    match left_at(log.history, key, node) {
         Some(op) => {
-            let version = version_of(history, key, head);
-            put_otherwise_at(out, history, begins, version, node, op)
+            put_write(out, log, node, op)?;
+            put_behind(out, wid_at(log.history, node, op), version)
         }
-        None => put_named(out, b"otherwise ", history, node),
+        None => put_had(out, log, version, key, node),
+    }
+}
+
+/// Appends which of two versions of a key comes first, as `x: 25, which 11.1 wrote (line 54), comes
+/// before 20, which 6.1 wrote (line 28)`.
+pub fn put_versions(
+    out: &mut Vec<u8>,
+    log: &PlacedHistory<'_>,
+    order: ChainOrder,
+) -> Result<(), AllocError>
+    requires key { order.key < (log_of log.now.history.now).keys }
+    requires first { order.first ≤ (log_of log.now.history.now).nodes }
+    requires second { order.second ≤ (log_of log.now.history.now).nodes }
+    ensures text { OnOk result (out.new.items ≡ out.old.items ++ versions_text log.now order) }
+{
+    put_key(out, log.history, order.key)?;
+    out.extend_from_slice(b": ")?;
+    put_version(out, log, order.key, order.first)?;
+    out.extend_from_slice(b", comes before ")?;
+    put_version(out, log, order.key, order.second)
+}
+
+/// Appends to which version another goes back, between two commas.
+fn put_aside(out: &mut Vec<u8>, wid: u64, version: u64) -> Result<(), AllocError>
+    ensures text { OnOk result (out.new.items ≡ out.old.items ++ aside_text wid version) }
+{
+    if wid == version {
+        Ok(())
+    } else {
+        put_back(out, version)?;
+        out.extend_from_slice(b",")
+    }
+}
+
+/// Appends that a node reads this, and behind whom it comes, as `    since 14.1 reads 20 (line 68)
+/// and comes after 11.1:`.
+fn put_since_at(
+    out: &mut Vec<u8>,
+    log: &PlacedHistory<'_>,
+    version: u64,
+    source: NodeIx,
+    target: NodeIx,
+    op: usize,
+) -> Result<(), AllocError>
+    requires target { target ≤ (log_of log.now.history.now).nodes }
+    requires op { op < length (ops_of log.now.history.now source) }
+    ensures text { OnOk result (out.new.items ≡ out.old.items
+        ++ since_at log.now version source target (Some op)) }
+{
+    put_named(out, b"    since ", log, source)?;
+    out.extend_from_slice(b" reads ")?;
+    put_wid(out, log.history, source, op)?;
+    put_op_in_line(out, log, source, op)?;
+    put_aside(out, wid_at(log.history, source, op), version)?;
+    put_named(out, b" and comes after ", log, target)?;
+    out.extend_from_slice(b":\n")?;
+    Ok(())
+}
+
+/// Appends why the first of two versions of a key comes first: `source` reads the other one, and
+/// comes after `target`. Nothing, where `source` does not read the key.
+pub fn put_since(
+    out: &mut Vec<u8>,
+    log: &PlacedHistory<'_>,
+    order: ChainOrder,
+    source: NodeIx,
+    target: NodeIx,
+) -> Result<(), AllocError>
+    requires source { source ≤ (log_of log.now.history.now).nodes }
+    requires target { target ≤ (log_of log.now.history.now).nodes }
+    ensures text { OnOk result (out.new.items
+        ≡ out.old.items ++ since_text log.now order source target) }
+{
+    match read_at(log.history, order.key, source) {
+        Some(op) => {
+            let version = version_of(log.history, order.key, order.second);
+            put_since_at(out, log, version, source, target, op)
+        }
+        None => Ok(()),
     }
 }

@@ -1,6 +1,6 @@
 //! Who wrote what a read names, in the log's own lines.
 
-ghost use Rattle.std.specs.Prelude.{◌≡◌, ◌≢◌, ℕ, ◌+◌, ◌<◌, ◌^◌, ◌++◌, Some};
+ghost use Rattle.std.specs.Prelude.{◌≡◌, ◌≢◌, ◌+◌, ◌<◌, ◌^◌, ◌++◌, Some};
 ghost use Rattle.std.specs.Prelude.{length, map, slice_get, codes, OnOk, IfSome};
 ghost use Rattle.session_log.specs.Text.{view, view_txn};
 ghost use Rattle.log_definitions.specs.Unknown.{ops_in};

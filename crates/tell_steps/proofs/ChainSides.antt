@@ -1,6 +1,6 @@
 -- Chains by their heads, and how far their nodes go.
-use Rattle.std.proofs.Common.{◌≡◌, ◌≢◌, ℕ, zero, suc, ◌<◌, ◌≤◌, List, [], ◌∷◌, length, get_or, refl, sym, ap, ◌∙◌, subst, inl, inr, arith}
-use Rattle.std.specs.Prelude.{map}
+use Rattle.std.proofs.Common.{◌≡◌, ◌≢◌, ℕ, zero, suc, ◌<◌, ◌≤◌, true, Option, None, Some, List, [], ◌∷◌, length, get_or, refl, sym, ap, ◌∙◌, subst, inl, inr, arith}
+use Rattle.std.specs.Prelude.{map, is_some, IfSome}
 use Rattle.std.specs.List.{All, AllByRecursion, Contains}
 use Rattle.std.proofs.lemmas.List.Elements.{All-from_recursion, recursion_from_All}
 use Rattle.session_log.specs.Text.{ClientSession}
@@ -8,7 +8,7 @@ use Rattle.serializability.specs.Log.{Log}
 use Rattle.serializability.specs.Polygraph.{Edge}
 use Rattle.serializability.proofs.Serial.{some_cases}
 use Rattle.reach_laws.proofs.Walks.{each_contained}
-use Rattle.known_graph.proofs.Listed.{In, In-from_Contains}
+use Rattle.known_graph.proofs.Listed.{In, In-from_Contains, Contains-from_In}
 use Rattle.chain_laws.specs.Chains.{heads, next, readers, tail_from, tail, edges_to}
 use Rattle.chain_laws.proofs.Walks.{next_is, step_some, step_none}
 use Rattle.chain_laws.proofs.Coalesced.{each_from_readers}
@@ -49,6 +49,21 @@ none_there log x h (g ∷ hs) (c ∷ chains) e none (inr i) =
 
 pub no_chain : (log : Log) (x h : ℕ) (chains : List Chain) → map chain_view chains ≡ chains_in log x → All (λ (c : Chain). c.head ≢ h) chains → Contains (heads log x) h → ⊥
 no_chain log x h chains e none c = none_there log x h (heads log x) chains e (recursion_from_All (λ (d : Chain). d.head ≢ h) chains none) (In-from_Contains (heads log x) h c)
+
+-- a chain with this head is there
+head_in : (log : Log) (x h : ℕ) (hs : List ℕ) (chains : List Chain) (k : ℕ) → map chain_view chains ≡ map (chain_from log x) hs → k < length chains → ((d : Chain) → (get_or chains k d).head ≡ h) → In h hs
+head_in log x h hs [] k e lt is = absurd (omega (arith, lt))
+head_in log x h [] (c ∷ chains) k e lt is = absurd (cc)
+head_in log x h (g ∷ hs) (c ∷ chains) zero e lt is =
+    let here : chain_view c ≡ chain_from log x g = cc in
+    inl (sym (ap (λ (v : ChainView). v.head) here) ∙ is c)
+head_in log x h (g ∷ hs) (c ∷ chains) (suc k) e lt is =
+    let rest : map chain_view chains ≡ map (chain_from log x) hs = cc in
+    inr (head_in log x h hs chains k rest (omega (arith, lt)) is)
+
+pub head_there : (log : Log) (x h : ℕ) (chains : List Chain) (o : Option ℕ) → map chain_view chains ≡ chains_in log x → IfSome o (λ k. k < length chains) → IfSome o (λ k. (d : Chain) → (get_or chains k d).head ≡ h) → is_some o ≡ true → Contains (heads log x) h
+head_there log x h chains None e lt is t = absurd (cc)
+head_there log x h chains (Some k) e lt is t = Contains-from_In (heads log x) h (head_in log x h (heads log x) chains k e lt is)
 
 -- ---- its nodes
 tail_within : (log : Log) (x f w : ℕ) → w ≤ log.nodes → tail_from log x f w ≤ log.nodes

@@ -9,3 +9,4 @@ pub mod ChainSides
 pub mod Telling
 pub mod Leading
 pub mod Covering
+pub mod Proposals

@@ -4,6 +4,7 @@ use Rattle.std.specs.Prelude.{reverse, slice_get, map}
 use Rattle.std.specs.List.{Contains}
 use Rattle.std.proofs.lemmas.List.{reverse-append, map-append, length-map}
 use Rattle.session_log.specs.Text.{ClientSession}
+use Rattle.serializability.specs.Log.{Log}
 use Rattle.serializability.specs.Polygraph.{Edge}
 use Rattle.log_definitions.specs.Numbers.{log_of}
 use Rattle.reasons.specs.Given.{IsReason, HaveNone}
@@ -13,7 +14,7 @@ use Rattle.tell_reasons.specs.declared.why.ChainOrder.{ChainOrder}
 use Rattle.prune_ledger.specs.Posted.{Posted}
 use Rattle.prune_ledger.specs.Pruned.{posts_in}
 use Rattle.prune_ledger.specs.declared.ledger.LedgerEntry.{LedgerEntry}
-use Rattle.tell_steps.specs.Steps.{turned, edges_in, IsOrder}
+use Rattle.tell_steps.specs.Steps.{turned, edges_in, IsOrder, Follows}
 use Rattle.tell_steps.specs.Lines.{sides_of, IsBetween, IsLineOfNodes, Rests, LineRests}
 use Rattle.tell_steps.specs.Ledgers.{IsStep, AreSteps, IsClosed}
 use Rattle.tell_steps.specs.Shorter.{Leads, HasEnds, KeepsEnds, LeadsTo, IsNear, IsNearOf, IsWalkOf, KeepsPost, last_of, IsShort}
@@ -163,20 +164,24 @@ same_post ss order post made w e = subst (KeepsPost ss order post) (sym e) (reco
 
 pub shorter_post : (ss : List ClientSession) (order : ChainOrder) (post made : Posted) (line : List ℕ) → IsWalkOf ss order post → KeepsEnds ss post.walk line → made.edge ≡ post.edge → made.walk ≡ line → KeepsPost ss order post made
 shorter_post ss order post made line w keeps edge walk = record {
-  edge = subst (Contains (edges_in (log_of ss) order)) (sym edge) w.edge;
+  edge = subst (Follows (log_of ss) order) (sym edge) w.edge;
   rests = λ sides bound r. subst (LineRests ss sides bound) (sym walk) (keeps.rests sides bound r);
   ends = λ inner shape.
       let e = keeps.ends post.edge.1 post.edge.0 inner shape in
       subst (λ (x : Edge). HasEnds x.1 x.0 made.walk) (sym edge) (record { inner = e.inner; is = walk ∙ e.is });
 }
 
+follows_target : (log : Log) (o : ChainOrder) (e : Edge) → Follows log o e → e.1 ≡ o.second
+follows_target log o e (inl c) = order_target log o e c
+follows_target log o e (inr t) = ap (λ (d : Edge). d.1) t
+
 pub nearer_post : (ss : List ClientSession) (order : ChainOrder) (post made : Posted) (line walk : List ℕ) (near : Near) → IsWalkOf ss order post → KeepsEnds ss post.walk line → IsNearOf ss order line near → LeadsTo ss line near.source walk
     → made.edge ≡ (near.source, post.edge.1) → made.walk ≡ walk → KeepsPost ss order post made
 nearer_post ss order post made line walk near w keeps close leads edge is =
-    let target : post.edge.1 ≡ order.second = order_target (log_of ss) order post.edge w.edge in
+    let target : post.edge.1 ≡ order.second = follows_target (log_of ss) order post.edge w.edge in
     let here : made.edge ≡ (near.source, order.second) = edge ∙ ap (λ (v : ℕ). (near.source, v)) target in
     record {
-      edge = subst (Contains (edges_in (log_of ss) order)) (sym here) close.edge;
+      edge = inl (subst (Contains (edges_in (log_of ss) order)) (sym here) close.edge);
       rests = λ sides bound r. subst (LineRests ss sides bound) (sym is) (leads.rests sides bound (keeps.rests sides bound r));
       ends = λ inner shape.
           let e = keeps.ends post.edge.1 post.edge.0 inner shape in
@@ -192,7 +197,7 @@ same_order kept k o x a b = let e : Some o ≡ Some x = sym a ∙ b in cc
 pub step_walk : (ss : List ClientSession) (kept : List ChainOrder) (k : ℕ) (x order : ChainOrder) (q : Posted) → slice_get kept k ≡ Some x → order ≡ turned x → IsStep ss kept k q → IsWalkOf ss order q
 step_walk ss kept k x order q at is s =
     let e : turned s.order ≡ order = ap turned (same_order kept k s.order x s.at at) ∙ sym is in
-    record { sides = sides_of ss kept; bound = k; rests = s.rests; edge = subst (λ o. Contains (edges_in (log_of ss) o) q.edge) e s.refuted }
+    record { sides = sides_of ss kept; bound = k; rests = s.rests; edge = subst (λ o. Follows (log_of ss) o q.edge) e s.refuted }
 
 pub step_order : (ss : List ClientSession) (kept : List ChainOrder) (k : ℕ) (x order : ChainOrder) (q : Posted) → slice_get kept k ≡ Some x → order ≡ turned x → IsStep ss kept k q → IsOrder (log_of ss) order
 step_order ss kept k x order q at is s =
@@ -207,7 +212,7 @@ step_kept ss kept k x order q made at is h s =
       order = s.order;
       at = s.at;
       two_chains = s.two_chains;
-      refuted = subst (λ o. Contains (edges_in (log_of ss) o) made.edge) (sym e) h.edge;
+      refuted = subst (λ o. Follows (log_of ss) o made.edge) (sym e) h.edge;
       inner = f.inner;
       shape = f.is;
       rests = h.rests (sides_of ss kept) k s.rests;

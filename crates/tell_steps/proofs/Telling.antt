@@ -19,7 +19,7 @@ use Rattle.tell_reasons.specs.declared.why.Why.{Why}
 use Rattle.tell_reasons.specs.declared.why.Why.TheVariants.{Known, Forced, Chosen}
 use Rattle.tell_steps.specs.declared.item.Item.{Item}
 use Rattle.tell_steps.specs.declared.item.Item.TheVariants as item
-use Rattle.tell_steps.specs.Steps.{turned, edges_in, IsOrder, IsFirstWith, IsWhy, IsLineTold, ends, goes, AreStepsTold, none, step, closes, IsNamed, IsDeadTold}
+use Rattle.tell_steps.specs.Steps.{turned, edges_in, IsOrder, Follows, IsFirstWith, IsWhy, IsLineTold, ends, goes, AreStepsTold, none, step, closes, IsNamed, IsDeadTold}
 use Rattle.tell_steps.specs.Firsts.{IsFirstIn}
 use Rattle.tell_steps.specs.Lines.{sides_of, IsUnshown, LineRests}
 use Rattle.tell_steps.specs.Marks.{is_set, IsCovered, IsNeededBy, IsNeededByWalk}
@@ -252,7 +252,7 @@ told_step ss kept posts marks numbers steps i number o q items new is room at he
     let own : IsLineNamed ss sides (set numbers i count) (i + 1) q.walk new =
     named_next ss sides numbers i count q.walk new (named_among ss sides numbers i q.walk h.against new back (line_named ss kept numbers steps i q.walk h.against s.rests numbered h.line)) in
     let two_chains : IsOrder (log_of ss) o = subst (IsOrder (log_of ss)) same s.two_chains in
-    let Refuted : ChainOrder → Type 0 = λ z. Contains (edges_in (log_of ss) (turned z)) (q.edge.0, q.edge.1) in
+    let Refuted : ChainOrder → Type 0 = λ z. Follows (log_of ss) (turned z) (q.edge.0, q.edge.1) in
     let refuted : Refuted o = subst Refuted same s.refuted in
     let told_next : AreStepsTold ss next (items ++ (item.Step (count + 1) o q.edge.0 q.edge.1 ∷ h.against)) =
     step steps items t.told o two_chains q.edge.0 q.edge.1 refuted s.inner h.against (subst (λ l. IsLineTold ss steps [] l h.against) s.shape h.line) in

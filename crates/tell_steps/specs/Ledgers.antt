@@ -11,7 +11,7 @@ use Rattle.prune_ledger.specs.Pruned.{posts_in, IsLedgerOf}
 use Rattle.prune_ledger.specs.declared.ledger.LedgerEntry.{LedgerEntry}
 use Rattle.prune_ledger.specs.declared.ledger.Ledger.{Ledger}
 use Rattle.tell_reasons.specs.declared.why.ChainOrder.{ChainOrder}
-use Rattle.tell_steps.specs.Steps.{IsOrder, turned, edges_in}
+use Rattle.tell_steps.specs.Steps.{IsOrder, turned, Follows}
 use Rattle.tell_steps.specs.Orders.{orders_in, kept_order}
 use Rattle.tell_steps.specs.Lines.{sides_of, LineRests}
 
@@ -35,14 +35,14 @@ pub record AreEntries (ss : List ClientSession) (entries : List LedgerEntry) : T
 abbrev pub kept_by : List ClientSession → List LedgerEntry → List ChainOrder
 kept_by ss entries = map (kept_order (orders_in (log_of ss))) (posts_in entries)
 
--- the other way round has the edge, and the walk leads against it and rests on what earlier entries
+-- the edge follows from the other way round, and the walk leads against it and rests on what earlier entries
 -- keep
 pub record IsStep (ss : List ClientSession) (kept : List ChainOrder) (k : ℕ)
     (q : Posted) : Type 0 where
   pub order : ChainOrder
   pub at : slice_get kept k ≡ Some order
   pub two_chains : IsOrder (log_of ss) order
-  pub refuted : Contains (edges_in (log_of ss) (turned order)) q.edge
+  pub refuted : Follows (log_of ss) (turned order) q.edge
   pub inner : List ℕ
   pub shape : q.walk ≡ q.edge.1 ∷ (inner ++ q.edge.0 ∷ [])
   pub rests : LineRests ss (sides_of ss kept) k q.walk

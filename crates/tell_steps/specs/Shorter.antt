@@ -7,7 +7,7 @@ use Rattle.log_definitions.specs.Numbers.{log_of}
 use Rattle.reasons.specs.Given.{HaveNone}
 use Rattle.tell_reasons.specs.declared.why.ChainOrder.{ChainOrder}
 use Rattle.prune_ledger.specs.Posted.{Posted}
-use Rattle.tell_steps.specs.Steps.{edges_in}
+use Rattle.tell_steps.specs.Steps.{edges_in, Follows}
 use Rattle.tell_steps.specs.Lines.{IsBetween, Rests, LineRests}
 use Rattle.tell_steps.specs.declared.near.Near.{Near}
 
@@ -54,17 +54,17 @@ pub record IsNearOf (ss : List ClientSession) (order : ChainOrder) (line : List 
   pub on : IsNearOn ss line near
   pub edge : Contains (edges_in (log_of ss) order) (near.source, order.second)
 
--- a post against an edge of the order, of which the walk rests on something
+-- a post against an edge that follows from the order, of which the walk rests on something
 pub record IsWalkOf (ss : List ClientSession) (order : ChainOrder) (post : Posted) : Type 0 where
   pub sides : List (List Edge)
   pub bound : ℕ
   pub rests : LineRests ss sides bound post.walk
-  pub edge : Contains (edges_in (log_of ss) order) post.edge
+  pub edge : Follows (log_of ss) order post.edge
 
--- another post against an edge of the order, with what that rests on
+-- another post against such an edge, with what that rests on
 pub record KeepsPost (ss : List ClientSession) (order : ChainOrder)
     (post made : Posted) : Type 0 where
-  pub edge : Contains (edges_in (log_of ss) order) made.edge
+  pub edge : Follows (log_of ss) order made.edge
   pub rests : (sides : List (List Edge)) (bound : ℕ) → LineRests ss sides bound post.walk
       → LineRests ss sides bound made.walk
   pub ends : (inner : List ℕ) → post.walk ≡ post.edge.1 ∷ (inner ++ post.edge.0 ∷ [])

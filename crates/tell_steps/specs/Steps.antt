@@ -1,11 +1,12 @@
 -- How the ledger of pruning is told: forced steps, each of which rests on the log and on earlier
 -- steps alone, and the cycle that they end in.
-use Rattle.std.specs.Prelude.{◌≡◌, ◌≢◌, ℕ, ◌+◌, ◌<◌, List, [], ◌∷◌, ◌++◌, length, slice_get, Some}
+use Rattle.std.specs.Prelude.{◌≡◌, ◌≢◌, ◌⊎◌, ℕ, ◌+◌, ◌<◌, List, [], ◌∷◌, ◌++◌, length}
+use Rattle.std.specs.Prelude.{slice_get, Some}
 use Rattle.std.specs.List.{Contains}
 use Rattle.session_log.specs.Text.{ClientSession}
 use Rattle.serializability.specs.Log.{Log}
 use Rattle.serializability.specs.Polygraph.{Edge}
-use Rattle.chain_laws.specs.Chains.{heads, chain_first}
+use Rattle.chain_laws.specs.Chains.{heads, tail, chain_first}
 use Rattle.log_definitions.specs.Numbers.{log_of}
 use Rattle.reasons.specs.Given.{IsReason, IsOfFirstKind, IsLeast, HaveNone}
 use Rattle.tell_reasons.specs.declared.why.ChainOrder.{ChainOrder}
@@ -28,6 +29,11 @@ pub record IsOrder (log : Log) (o : ChainOrder) : Type 0 where
 -- the edges of the first chain before the second
 abbrev pub edges_in : Log → ChainOrder → List Edge
 edges_in log o = chain_first log o.key o.first o.second
+
+-- where the chains stand in this order, so does the edge: it is one of them, or leads from the last
+-- writer of the first chain
+abbrev pub Follows : Log → ChainOrder → Edge → Type 0
+Follows log o e = Contains (edges_in log o) e ⊎ (e ≡ (tail log o.key o.first, o.second))
 
 -- step k, from 0, is this order, which has the edge, and no step before it has
 pub record IsFirstWith (log : Log) (steps : List ChainOrder) (k : ℕ) (step : ChainOrder)
@@ -58,14 +64,14 @@ pub data IsLineTold (ss : List ClientSession) (steps decided : List ChainOrder) 
       → IsLineTold ss steps decided (b ∷ rest) items →
       IsLineTold ss steps decided (a ∷ b ∷ rest) (item.Edge a b why ∷ items)
 
--- Steps, told one behind the other, and the orders of chains that they establish: the other way
--- round has an edge (u, v), against which a
--- walk leads from v to u, each edge of which has a reason of its own or stands in an earlier step.
+-- Steps, told one behind the other, and the orders of chains that they establish: from the other way
+-- round an edge (u, v) follows, against which a walk leads from v to u, each edge of which has a
+-- reason of its own or stands in an earlier step.
 pub data AreStepsTold (ss : List ClientSession) : List ChainOrder → List Item → Type 0 where
   none : AreStepsTold ss [] []
   step : (steps : List ChainOrder) (items : List Item) → AreStepsTold ss steps items
       → (o : ChainOrder) → IsOrder (log_of ss) o →
-      (u v : ℕ) → Contains (edges_in (log_of ss) (turned o)) (u, v)
+      (u v : ℕ) → Follows (log_of ss) (turned o) (u, v)
       → (inner : List ℕ) (against : List Item)
       → IsLineTold ss steps [] (v ∷ (inner ++ u ∷ [])) against →
       AreStepsTold ss (steps ++ o ∷ []) (items ++ (item.Step (length steps + 1) o u v ∷ against))

@@ -13,6 +13,7 @@ use crate::item::Item;
 use crate::lines::put_edges;
 use crate::marks::needed_entries;
 use crate::orders::{choice_orders, kept_orders};
+use crate::proposed::tell_proposed;
 use crate::shorter::{shortened, shorter_line};
 use crate::steps::told_steps;
 use prune_ledger::{Ledger, LedgerEntry};
@@ -41,7 +42,7 @@ pub fn grounds_in(
 }
 
 /// The steps that this cycle needs, which tell entries of a ledger, and the cycle.
-fn tell_steps(
+pub fn tell_steps(
     basis: &LogAndGrounds<'_>,
     answers: &mut [Option<Option<Reason>>],
     entries: &[LedgerEntry],
@@ -94,6 +95,7 @@ fn tell_with(
 
 /// A dead ledger, told as forced steps, and the cycle that they end in: only the steps that the
 /// cycle needs, numbered from 1, each of which rests on what the log shows and on earlier steps.
+/// They are those of a proposal, where one is right, and else those of the ledger.
 pub fn tell_dead(
     alloc: Global,
     history: &History,
@@ -106,7 +108,10 @@ pub fn tell_dead(
     ensures told { IfOk result (λ items. IsDeadTold history.now items.items) }
 {
     match &ledger.cycle {
-        Some(cycle) => tell_with(alloc, history, chains, &ledger.entries, cycle),
+        Some(cycle) => match tell_proposed(alloc, history, chains)? {
+            Some(items) => Ok(items),
+            None => tell_with(alloc, history, chains, &ledger.entries, cycle),
+        },
         None => Ok(Vec::new(alloc)),
     }
 }

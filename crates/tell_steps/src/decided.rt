@@ -2,9 +2,9 @@
 
 ghost use Rattle.std.specs.Prelude.{◌≡◌, ◌<◌, ℕ, IsTrue, not, IfSome, IfNone};
 ghost use Rattle.std.specs.List.{All, Contains};
-ghost use Rattle.chain_laws.specs.Chains.{edges_to};
+ghost use Rattle.chain_laws.specs.Chains.{tail, edges_to};
 ghost use Rattle.log_definitions.specs.Numbers.{log_of};
-ghost use Rattle.tell_steps.specs.Steps.{IsOrder, edges_in};
+ghost use Rattle.tell_steps.specs.Steps.{IsOrder, edges_in, Follows};
 
 use crate::firsts::place_of;
 use serializability::NodeIx;
@@ -39,6 +39,33 @@ pub fn has_edge(chains: &Chains<'_>, order: ChainOrder, a: NodeIx, b: NodeIx) ->
         Some(place) => leads_from(&others[place], a),
         None => unreachable!(),
     }
+}
+
+/// Whether an edge leads from the last writer of the order's first chain to the other chain.
+fn is_from_tail(chains: &Chains<'_>, order: &ChainOrder, a: NodeIx, b: NodeIx) -> bool
+    requires order { IsOrder (log_of chains.now) order.now }
+    ensures tail { IsTrue result → a ≡ tail (log_of chains.now) order.now.key order.now.first }
+    ensures head { IsTrue result → b ≡ order.now.second }
+{
+    if b.get() != order.second.get() {
+        return false;
+    }
+    let others = chains.chains_of(order.key);
+    match place_of(others, order.first) {
+        Some(place) => others[place].tail.get() == a.get(),
+        None => false,
+    }
+}
+
+/// Whether the edge follows from the order.
+pub fn follows(chains: &Chains<'_>, order: &ChainOrder, a: NodeIx, b: NodeIx) -> bool
+    requires order { IsOrder (log_of chains.now) order.now }
+    ensures follows { IsTrue result → Follows (log_of chains.now) order.now (a, b) }
+{
+    if has_edge(chains, *order, a, b) {
+        return true;
+    }
+    is_from_tail(chains, order, a, b)
 }
 
 /// The first of the orders that has the edge.

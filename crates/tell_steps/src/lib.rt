@@ -15,6 +15,7 @@ mod lines;
 mod marks;
 mod near;
 mod orders;
+mod proposed;
 mod shorter;
 mod steps;
 

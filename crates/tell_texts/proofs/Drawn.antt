@@ -10,6 +10,7 @@ use Rattle.serializability.specs.declared.event.Event.{Event}
 use Rattle.log_definitions.specs.WellFormed.{keys_in}
 use Rattle.log_definitions.specs.Serial.{ops_of}
 use Rattle.log_definitions.specs.Numbers.{event_of, events_of, log_of}
+use Rattle.log_lines.specs.declared.placed.PlacedHistory.{PlacedHistory}
 use Rattle.reason_laws.proofs.Numbers.{ops_is}
 use Rattle.tell_reasons.specs.Reasons.{op_at, key_and_wid}
 use Rattle.tell_steps.specs.declared.item.Item.{Item}
@@ -17,32 +18,32 @@ use Rattle.tell_texts.specs.Graphs.{AreMarks, is_marked, names, takes_part, op_w
 use Rattle.tell_texts.proofs.Pieces.{passed_more, filter_range_same, mapped_more}
 
 -- ---- labels
-pub labels_none : (ss : List ClientSession) (begin : ℕ → ℕ) (v : ℕ) (test : ℕ → Bool) → op_labels ss begin v test 0 ≡ []
+pub labels_none : (log : PlacedHistory) (v : ℕ) (test : ℕ → Bool) → op_labels log v test 0 ≡ []
 unfolding op_labels
-labels_none ss begin v test = refl
+labels_none log v test = refl
 
-pub labels_more : (ss : List ClientSession) (begin : ℕ → ℕ) (v : ℕ) (test : ℕ → Bool) (k : ℕ) → op_labels ss begin v test (k + 1) ≡ op_labels ss begin v test k ++ (if test k then op_label ss begin v k else [])
+pub labels_more : (log : PlacedHistory) (v : ℕ) (test : ℕ → Bool) (k : ℕ) → op_labels log v test (k + 1) ≡ op_labels log v test k ++ (if test k then op_label log v k else [])
 unfolding op_labels
-labels_more ss begin v test k = passed_more (op_label ss begin v) test 0 k k (omega arith)
+labels_more log v test k = passed_more (op_label log v) test 0 k k (omega arith)
 
 -- the marked operations are those that items name
-pub labels_marked : (ss : List ClientSession) (begin : ℕ → ℕ) (items : List Item) (v : ℕ) (marks : List Bool) → AreMarks (length (ops_of ss v)) (names items v) marks → op_labels ss begin v (is_marked marks) (length marks) ≡ op_labels ss begin v (names items v) (length (ops_of ss v))
+pub labels_marked : (log : PlacedHistory) (items : List Item) (v : ℕ) (marks : List Bool) → AreMarks (length (ops_of log.history.now v)) (names items v) marks → op_labels log v (is_marked marks) (length marks) ≡ op_labels log v (names items v) (length (ops_of log.history.now v))
 unfolding op_labels
-labels_marked ss begin items v marks h =
-    let same = filter_range_same (is_marked marks) (names items v) 0 (length (ops_of ss v)) (λ i lo hi. h.each i (omega arith)) in
-    ap (λ n. flat_map (op_label ss begin v) (filter (is_marked marks) (range_with_len 0 n))) h.long ∙ ap (flat_map (op_label ss begin v)) same
+labels_marked log items v marks h =
+    let same = filter_range_same (is_marked marks) (names items v) 0 (length (ops_of log.history.now v)) (λ i lo hi. h.each i (omega arith)) in
+    ap (λ n. flat_map (op_label log v) (filter (is_marked marks) (range_with_len 0 n))) h.long ∙ ap (flat_map (op_label log v)) same
 
 -- ---- boxes
-pub boxes_none : (ss : List ClientSession) (begin : ℕ → ℕ) (items : List Item) → boxes ss begin items 0 ≡ []
+pub boxes_none : (log : PlacedHistory) (items : List Item) → boxes log items 0 ≡ []
 unfolding boxes
-boxes_none ss begin items = refl
+boxes_none log items = refl
 
-pub boxes_more : (ss : List ClientSession) (begin : ℕ → ℕ) (items : List Item) (v : ℕ) → 0 < v → boxes ss begin items v ≡ boxes ss begin items (v - 1) ++ (if takes_part items v then box ss begin items v else [])
+pub boxes_more : (log : PlacedHistory) (items : List Item) (v : ℕ) → 0 < v → boxes log items v ≡ boxes log items (v - 1) ++ (if takes_part items v then box log items v else [])
 unfolding boxes
-boxes_more ss begin items v lo =
+boxes_more log items v lo =
     let e : v ≡ (v - 1) + 1 = omega arith in
-    ap (λ n. flat_map (box ss begin items) (filter (takes_part items) (range_with_len 1 n))) e
-    ∙ passed_more (box ss begin items) (takes_part items) 1 (v - 1) v (omega arith)
+    ap (λ n. flat_map (box log items) (filter (takes_part items) (range_with_len 1 n))) e
+    ∙ passed_more (box log items) (takes_part items) 1 (v - 1) v (omega arith)
 
 -- ---- the word of an operation
 pub event_count : (ss : List ClientSession) (v : ℕ) → length ((log_of ss).ops v) ≡ length (ops_of ss v)
@@ -63,10 +64,10 @@ words_told ss v i d lt =
     subst (λ es. op_words (op_at ss v i) ≡ event_word (get_or es i d) ++ key_and_wid (op_at ss v i)) (sym (ops_is ss v)) (words_in (keys_in ss) (ops_of ss v) i d (omega (arith, count, lt)))
 
 -- ---- arrows
-pub arrows_more : (ss : List ClientSession) (begin : ℕ → ℕ) (items : List Item) (i : ℕ) (d : Item) → i < length items → arrows ss begin (take (i + 1) items) ≡ arrows ss begin (take i items) ++ arrow ss begin (get_or items i d)
+pub arrows_more : (log : PlacedHistory) (items : List Item) (i : ℕ) (d : Item) → i < length items → arrows log (take (i + 1) items) ≡ arrows log (take i items) ++ arrow log (get_or items i d)
 unfolding arrows
-arrows_more ss begin items i d lt = mapped_more (arrow ss begin) items i d lt
+arrows_more log items i d lt = mapped_more (arrow log) items i d lt
 
-pub arrows_none : (ss : List ClientSession) (begin : ℕ → ℕ) (items : List Item) → arrows ss begin (take 0 items) ≡ []
+pub arrows_none : (log : PlacedHistory) (items : List Item) → arrows log (take 0 items) ≡ []
 unfolding arrows
-arrows_none ss begin items = refl
+arrows_none log items = refl

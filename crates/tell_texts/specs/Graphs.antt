@@ -13,11 +13,11 @@ use Rattle.serializability.specs.declared.event.Event.{Event}
 use Rattle.serializability.specs.declared.event.Event.TheVariants as event
 use Rattle.log_definitions.specs.Serial.{ops_of}
 use Rattle.log_definitions.specs.Numbers.{log_of}
+use Rattle.log_lines.specs.declared.placed.PlacedHistory.{PlacedHistory}
 use Rattle.reasons.specs.declared.reason.Reason.{Reason}
 use Rattle.reasons.specs.declared.reason.Reason.TheVariants as reason
 use Rattle.tell_reasons.specs.Reasons.{named, key_and_wid, op_in_line, op_at}
 use Rattle.tell_reasons.specs.Versions.{versions_text}
-use Rattle.tell_reasons.specs.declared.why.ChainOrder.{ChainOrder}
 use Rattle.tell_reasons.specs.declared.why.Why.{Why}
 use Rattle.tell_reasons.specs.declared.why.Why.TheVariants as why
 use Rattle.tell_steps.specs.declared.item.Item.{Item}
@@ -109,23 +109,23 @@ event_word (event.Read key wid) = codes "r "
 event_word (event.Write key wid) = codes "w "
 
 -- behind the line break of a label: a backslash and n
-abbrev pub op_label : List ClientSession → (ℕ → ℕ) → ℕ → ℕ → List ℕ
-op_label ss begin v i = 92 ∷ 110 ∷ op_words (op_at ss v i) ++ op_in_line begin v i
+abbrev pub op_label : PlacedHistory → ℕ → ℕ → List ℕ
+op_label log v i = 92 ∷ 110 ∷ op_words (op_at log.history.now v i) ++ op_in_line log v i
 
 -- the first so many operations of the node, without those that fail the test
-unfoldable pub op_labels : List ClientSession → (ℕ → ℕ) → ℕ → (ℕ → Bool) → ℕ → List ℕ
-op_labels ss begin v test count = flat_map (op_label ss begin v)
-    (filter test (range_with_len 0 count))
+unfoldable pub op_labels : PlacedHistory → ℕ → (ℕ → Bool) → ℕ → List ℕ
+op_labels log v test count = flat_map (op_label log v) (filter test (range_with_len 0 count))
 
-abbrev pub box : List ClientSession → (ℕ → ℕ) → List Item → ℕ → List ℕ
-box ss begin items v =
-    quoted (named ss v) ++ codes " [label=" ++ quoted
-    (named ss v ++ op_labels ss begin v (names items v) (length (ops_of ss v))) ++ codes "];\n"
+abbrev pub box : PlacedHistory → List Item → ℕ → List ℕ
+box log items v =
+    quoted (named log v) ++ codes " [label="
+    ++ quoted (named log v ++ op_labels log v (names items v) (length (ops_of log.history.now v)))
+    ++ codes "];\n"
 
 -- the boxes of the first so many nodes, without those that take no part
-unfoldable pub boxes : List ClientSession → (ℕ → ℕ) → List Item → ℕ → List ℕ
-boxes ss begin items count = flat_map (box ss begin items)
-    (filter (takes_part items) (range_with_len 1 count))
+unfoldable pub boxes : PlacedHistory → List Item → ℕ → List ℕ
+boxes log items count =
+    flat_map (box log items) (filter (takes_part items) (range_with_len 1 count))
 
 -- ---- arrows
 abbrev pub reason_kind : Reason → List ℕ
@@ -142,31 +142,30 @@ reason_colour (reason.Overwritten read overwrites) = codes "red"
 reason_colour (reason.Initial read begins) = codes "darkgreen"
 reason_colour reason.Moments = codes "purple"
 
-abbrev pub why_kind : List ClientSession → (ℕ → ℕ) → Why → List ℕ
-why_kind ss begin (why.Known r) = reason_kind r
-why_kind ss begin (why.Forced k o) = codes "forced [" ++ decimal (k + 1) ++ codes "]"
-why_kind ss begin (why.Chosen o) = versions_text ss begin o
+abbrev pub why_kind : PlacedHistory → Why → List ℕ
+why_kind log (why.Known r) = reason_kind r
+why_kind log (why.Forced k o) = codes "forced [" ++ decimal (k + 1) ++ codes "]"
+why_kind log (why.Chosen o) = versions_text log o
 
 abbrev pub why_colour : Why → List ℕ
 why_colour (why.Known r) = reason_colour r
 why_colour (why.Forced k o) = codes "orange"
 why_colour (why.Chosen o) = codes "gray"
 
-abbrev pub arrow_text : List ClientSession → (ℕ → ℕ) → ℕ → ℕ → Why → List ℕ
-arrow_text ss begin a b w =
-    quoted (named ss a) ++ codes " -> " ++ quoted
-    (named ss b) ++ codes " [label=" ++ quoted
-    (why_kind ss begin w) ++ codes " color=" ++ quoted (why_colour w) ++ codes "];\n"
+abbrev pub arrow_text : PlacedHistory → ℕ → ℕ → Why → List ℕ
+arrow_text log a b w =
+    quoted (named log a) ++ codes " -> " ++ quoted (named log b) ++ codes " [label="
+    ++ quoted (why_kind log w) ++ codes " color=" ++ quoted (why_colour w) ++ codes "];\n"
 
-abbrev pub arrow : List ClientSession → (ℕ → ℕ) → Item → List ℕ
-arrow ss begin (Edge a b w) = arrow_text ss begin a b w
-arrow ss begin _ = []
+abbrev pub arrow : PlacedHistory → Item → List ℕ
+arrow log (Edge a b w) = arrow_text log a b w
+arrow log _ = []
 
-unfoldable pub arrows : List ClientSession → (ℕ → ℕ) → List Item → List ℕ
-arrows ss begin items = flat_map (arrow ss begin) items
+unfoldable pub arrows : PlacedHistory → List Item → List ℕ
+arrows log items = flat_map (arrow log) items
 
 -- two arrows between the same boxes are drawn as one
-abbrev pub graph_text : List ClientSession → (ℕ → ℕ) → List Item → List ℕ
-graph_text ss begin items =
-    codes "strict digraph explanation {\nnode [shape=box];\n" ++ boxes ss begin items
-    (log_of ss).nodes ++ arrows ss begin items ++ codes "}\n"
+abbrev pub graph_text : PlacedHistory → List Item → List ℕ
+graph_text log items =
+    codes "strict digraph explanation {\nnode [shape=box];\n" ++ boxes log items
+    (log_of log.history.now).nodes ++ arrows log items ++ codes "}\n"

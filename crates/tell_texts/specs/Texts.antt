@@ -1,38 +1,38 @@
--- How an explanation is written as text, a line for each thing that it says, and two for a step.
--- `begin v` is the line at which node v begins.
+-- How an explanation is written as text, a line for each thing that it says, and up to two for a
+-- step.
 use Rattle.std.specs.Prelude.{◌≤◌, ◌<◌, ◌^◌, ℕ, ◌+◌, ◌*◌, List, [], ◌∷◌, ◌++◌, codes, decimal}
-use Rattle.std.specs.Prelude.{replicate, nat_lt, if◌then◌else◌}
+use Rattle.std.specs.Prelude.{Bool, true, false, replicate, nat_lt, ◌==◌, if◌then◌else◌}
 use Rattle.std.specs.List.{AllByRecursion}
 use Rattle.session_log.specs.Text.{ClientSession}
 use Rattle.log_definitions.specs.Numbers.{log_of}
 use Rattle.reason_laws.specs.Reasons.{IsNode}
 use Rattle.tell_reasons.specs.Reasons.{named, CanTell}
 use Rattle.tell_reasons.specs.Edges.{why_text}
-use Rattle.tell_reasons.specs.Versions.{versions_text, otherwise_text}
+use Rattle.tell_reasons.specs.Versions.{versions_text, since_text}
 use Rattle.tell_reasons.specs.declared.why.ChainOrder.{ChainOrder}
 use Rattle.tell_steps.specs.declared.item.Item.{Item}
 use Rattle.tell_steps.specs.declared.item.Item.TheVariants.{Step, Edge, Cycle, Decided, Leaves}
+use Rattle.log_lines.specs.declared.placed.PlacedHistory.{PlacedHistory}
 
 -- two blanks for each choice that is decided
 abbrev pub indent : ℕ → List ℕ
 indent depth = replicate (2 * depth) 32
 
 -- `[1] x: 25, which 2.1 wrote (line 9), comes before 20, which 1.1 wrote (line 4):`
-abbrev pub versions_line : List ClientSession → (ℕ → ℕ) → ℕ → ChainOrder → List ℕ
-versions_line ss begin number o = codes "[" ++ decimal number ++ codes "] "
-    ++ versions_text ss begin o ++ codes ":\n"
+abbrev pub versions_line : PlacedHistory → ℕ → ChainOrder → List ℕ
+versions_line log number o = codes "[" ++ decimal number ++ codes "] "
+    ++ versions_text log o ++ codes ":\n"
 
--- `    4.1 read 20 (line 15), so otherwise 4.1 would stand before 2.1, but`
-abbrev pub otherwise_line : List ClientSession → (ℕ → ℕ) → ChainOrder → ℕ → ℕ → List ℕ
-otherwise_line ss begin o u v = codes "    " ++ otherwise_text ss begin o.key o.second u
-    ++ codes " would stand before " ++ named ss v ++ codes ", but\n"
+-- by which read a walk from v ends at u, where that is not the writer of the second version itself
+abbrev pub reader_text : PlacedHistory → ChainOrder → ℕ → ℕ → List ℕ
+reader_text log o u v = if u == o.second then [] else since_text log o u v
 
-abbrev pub step_lines : List ClientSession → (ℕ → ℕ) → ℕ → ChainOrder → ℕ → ℕ → List ℕ
-step_lines ss begin number o u v = versions_line ss begin number o ++ otherwise_line ss begin o u v
+abbrev pub step_lines : PlacedHistory → ℕ → ChainOrder → ℕ → ℕ → List ℕ
+step_lines log number o u v = versions_line log number o ++ reader_text log o u v
 
 -- `suppose x: 25, which 2.1 wrote (line 9), comes before 20, which 1.1 wrote (line 4):`
-abbrev pub order_line : List ClientSession → (ℕ → ℕ) → ChainOrder → List ℕ
-order_line ss begin o = codes "suppose " ++ versions_text ss begin o ++ codes ":\n"
+abbrev pub order_line : PlacedHistory → ChainOrder → List ℕ
+order_line log o = codes "suppose " ++ versions_text log o ++ codes ":\n"
 
 abbrev pub many_leaves : ℕ → List ℕ
 many_leaves count = codes ", " ++ decimal count ++ codes " in all; the first 1000 of them:\n"
@@ -42,27 +42,41 @@ abbrev pub leaves_line : ℕ → List ℕ
 leaves_line count = codes "whichever of these versions came first, a cycle closes"
     ++ (if nat_lt 1000 count then many_leaves count else codes ":\n")
 
-abbrev pub item_line : List ClientSession → (ℕ → ℕ) → Item → List ℕ
-item_line ss begin (Step number o u v) = step_lines ss begin number o u v
-item_line ss begin (Edge a b why) = why_text ss begin a b why
-item_line ss begin (Cycle start edges) = codes "cycle from " ++ named ss start ++ codes ":\n"
-item_line ss begin (Decided depth o) = order_line ss begin o
-item_line ss begin (Leaves count) = leaves_line count
+abbrev pub item_line : PlacedHistory → Item → List ℕ
+item_line log (Step number o u v) = step_lines log number o u v
+item_line log (Edge a b why) = why_text log a b why
+item_line log (Cycle start edges) = codes "cycle from " ++ named log start ++ codes ":\n"
+item_line log (Decided depth o) = order_line log o
+item_line log (Leaves count) = leaves_line count
 
--- how many choices are decided above an item, where so many were before it; and behind it
-abbrev pub depth_at : ℕ → Item → ℕ
-depth_at before (Decided depth o) = depth
-depth_at before _ = before
+-- whether an edge behind an item is of a step's walk, where one in its place is or is not
+abbrev pub walks_behind : Bool → Item → Bool
+walks_behind walks (Step number o u v) = true
+walks_behind walks (Edge a b why) = walks
+walks_behind walks _ = false
+
+-- how deep an edge stands, where so many choices are decided above it
+abbrev pub edge_depth : ℕ → Bool → ℕ
+edge_depth before walks = if walks then 2 else before
+
+-- how deep an item stands, where so many choices are decided before it; and how many are decided
+-- behind it
+abbrev pub depth_at : ℕ → Bool → Item → ℕ
+depth_at before walks (Decided depth o) = depth
+depth_at before walks (Edge a b why) = edge_depth before walks
+depth_at before walks _ = before
 
 abbrev pub depth_behind : ℕ → Item → ℕ
 depth_behind before (Decided depth o) = depth + 1
 depth_behind before _ = before
 
--- the lines of these, where so many choices are decided before the first
-abbrev pub items_text : List ClientSession → (ℕ → ℕ) → ℕ → List Item → List ℕ
-items_text ss begin depth [] = []
-items_text ss begin depth (i ∷ rest) = (indent (depth_at depth i) ++ item_line ss begin i)
-    ++ items_text ss begin (depth_behind depth i) rest
+-- the lines of these, where so many choices are decided before the first, and an edge in its place
+-- is or is not of a step's walk
+abbrev pub items_text : PlacedHistory → ℕ → Bool → List Item → List ℕ
+items_text log depth walks [] = []
+items_text log depth walks (i ∷ rest) =
+    (indent (depth_at depth walks i) ++ item_line log i)
+    ++ items_text log (depth_behind depth i) (walks_behind walks i) rest
 
 -- an order of two chains of a key of the log
 abbrev pub IsOrderOf : List ClientSession → ChainOrder → Type 0

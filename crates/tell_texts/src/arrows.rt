@@ -2,14 +2,13 @@
 
 ghost use Rattle.std.specs.Prelude.{◌≡◌, ◌+◌, ◌<◌, ◌^◌, ◌++◌, codes, decimal, OnOk};
 ghost use Rattle.reason_laws.specs.Reasons.{IsNode};
-ghost use Rattle.tell_reasons.specs.Lines.{begin_at, AreLines};
 ghost use Rattle.tell_reasons.specs.Reasons.{CanTell};
 ghost use Rattle.tell_texts.specs.Graphs as spec;
 ghost use Rattle.tell_texts.specs.Texts.{IsTellable, AreTellable};
 
+use log_lines::PlacedHistory;
 use reasons::Reason;
 use serializability::NodeIx;
-use session_history::History;
 use std::alloc::AllocError;
 use tell_reasons::{Why, put_named, put_number, put_versions};
 use tell_steps::Item;
@@ -66,16 +65,13 @@ fn put_forced(out: &mut Vec<u8>, step: usize) -> Result<(), AllocError>
 /// Appends the kind of an edge.
 fn put_kind(
     out: &mut Vec<u8>,
-    history: &History,
-    begins: &[usize],
+    log: &PlacedHistory<'_>,
     first: NodeIx,
     second: NodeIx,
     why: Why,
 ) -> Result<(), AllocError>
-    requires lines { AreLines history.now begins.now }
-    requires why { CanTell history.now first second why }
-    ensures text { OnOk result (out.new.items
-        ≡ out.old.items ++ spec.why_kind history.now (begin_at begins.now) why) }
+    requires why { CanTell log.now.history.now first second why }
+    ensures text { OnOk result (out.new.items ≡ out.old.items ++ spec.why_kind log.now why) }
 {
     match why {
         Why::Known(reason) => {
@@ -83,30 +79,28 @@ fn put_kind(
             Ok(())
         }
         Why::Forced { step, order: _ } => put_forced(out, step),
-        Why::Chosen(order) => put_versions(out, history, begins, order),
+        Why::Chosen(order) => put_versions(out, log, order),
     }
 }
 
 /// Appends the arrow of an edge.
 fn put_arrow(
     out: &mut Vec<u8>,
-    history: &History,
-    begins: &[usize],
+    log: &PlacedHistory<'_>,
     first: NodeIx,
     second: NodeIx,
     why: Why,
 ) -> Result<(), AllocError>
-    requires lines { AreLines history.now begins.now }
-    requires first { IsNode history.now first }
-    requires second { IsNode history.now second }
-    requires why { CanTell history.now first second why }
+    requires first { IsNode log.now.history.now first }
+    requires second { IsNode log.now.history.now second }
+    requires why { CanTell log.now.history.now first second why }
     ensures text { OnOk result (out.new.items
-        ≡ out.old.items ++ spec.arrow_text history.now (begin_at begins.now) first second why) }
+        ≡ out.old.items ++ spec.arrow_text log.now first second why) }
 {
-    put_named(out, b"\"", history, first)?;
-    put_named(out, b"\" -> \"", history, second)?;
+    put_named(out, b"\"", log, first)?;
+    put_named(out, b"\" -> \"", log, second)?;
     out.extend_from_slice(b"\" [label=\"")?;
-    put_kind(out, history, begins, first, second, why)?;
+    put_kind(out, log, first, second, why)?;
     out.extend_from_slice(b"\" color=\"")?;
     out.extend_from_slice(why_colour(&why).as_bytes())?;
     out.extend_from_slice(b"\"];\n")?;
@@ -114,19 +108,12 @@ fn put_arrow(
 }
 
 /// Appends the arrow of an item, where it is an edge.
-fn put_where_edge(
-    out: &mut Vec<u8>,
-    history: &History,
-    begins: &[usize],
-    item: Item,
-) -> Result<(), AllocError>
-    requires lines { AreLines history.now begins.now }
-    requires item { IsTellable history.now item }
-    ensures text { OnOk result (out.new.items
-        ≡ out.old.items ++ spec.arrow history.now (begin_at begins.now) item) }
+fn put_where_edge(out: &mut Vec<u8>, log: &PlacedHistory<'_>, item: Item) -> Result<(), AllocError>
+    requires item { IsTellable log.now.history.now item }
+    ensures text { OnOk result (out.new.items ≡ out.old.items ++ spec.arrow log.now item) }
 {
     match item {
-        Item::Edge { first, second, why } => put_arrow(out, history, begins, first, second, why),
+        Item::Edge { first, second, why } => put_arrow(out, log, first, second, why),
         _ => Ok(()),
     }
 }
@@ -134,17 +121,14 @@ fn put_where_edge(
 /// Appends the arrows of the edges.
 pub fn put_arrows(
     out: &mut Vec<u8>,
-    history: &History,
-    begins: &[usize],
+    log: &PlacedHistory<'_>,
     items: &[Item],
 ) -> Result<(), AllocError>
-    requires lines { AreLines history.now begins.now }
-    requires items { AreTellable history.now items.now }
-    ensures text { OnOk result (out.new.items
-        ≡ out.old.items ++ spec.arrows history.now (begin_at begins.now) items.now) }
+    requires items { AreTellable log.now.history.now items.now }
+    ensures text { OnOk result (out.new.items ≡ out.old.items ++ spec.arrows log.now items.now) }
 {
     for item in items {
-        put_where_edge(out, history, begins, *item)?;
+        put_where_edge(out, log, *item)?;
     }
     Ok(())
 }

@@ -5,13 +5,13 @@ ghost use Rattle.tell_steps.specs.declared.item.Item.{Item};
 ghost use Rattle.reason_laws.specs.Reasons.{IsNode};
 ghost use Rattle.log_definitions.specs.Numbers.{log_of};
 ghost use Rattle.log_definitions.specs.Serial.{ops_of};
-ghost use Rattle.tell_reasons.specs.Lines.{begin_at, AreLines};
 ghost use Rattle.tell_reasons.specs.Reasons.{op_at};
 ghost use Rattle.tell_texts.specs.Graphs as spec;
 ghost use Rattle.tell_texts.specs.Graphs.{AreMarks, names};
 ghost use Rattle.tell_texts.specs.Texts.{AreTellable};
 
 use crate::marks::marks_of;
+use log_lines::PlacedHistory;
 use serializability::numbers::node as node_of;
 use serializability::{Event, NodeIx};
 use session_history::History;
@@ -47,39 +47,32 @@ fn put_words(
 /// Appends a line break of a label, an operation, and its line.
 fn put_op_label(
     out: &mut Vec<u8>,
-    history: &History,
-    begins: &[usize],
+    log: &PlacedHistory<'_>,
     node: NodeIx,
     op: usize,
 ) -> Result<(), AllocError>
-    requires lines { AreLines history.now begins.now }
-    requires node { IsNode history.now node }
-    requires op { op < length (ops_of history.now node) }
-    ensures text { OnOk result (out.new.items
-        ≡ out.old.items ++ spec.op_label history.now (begin_at begins.now) node op) }
+    requires op { op < length (ops_of log.now.history.now node) }
+    ensures text { OnOk result (out.new.items ≡ out.old.items ++ spec.op_label log.now node op) }
 {
     out.extend_from_slice(b"\\n")?;
-    put_words(out, history, node, op)?;
-    put_op_in_line(out, begins, node, op)
+    put_words(out, log.history, node, op)?;
+    put_op_in_line(out, log, node, op)
 }
 
 /// Appends the label of an operation, where it is marked.
 fn put_where_marked(
     out: &mut Vec<u8>,
-    history: &History,
-    begins: &[usize],
+    log: &PlacedHistory<'_>,
     node: NodeIx,
     op: usize,
     marked: bool,
 ) -> Result<(), AllocError>
-    requires lines { AreLines history.now begins.now }
-    requires node { IsNode history.now node }
-    requires op { op < length (ops_of history.now node) }
+    requires op { op < length (ops_of log.now.history.now node) }
     ensures text { OnOk result (out.new.items ≡ out.old.items
-        ++ (if marked then spec.op_label history.now (begin_at begins.now) node op else [])) }
+        ++ (if marked then spec.op_label log.now node op else [])) }
 {
     if marked {
-        put_op_label(out, history, begins, node, op)?;
+        put_op_label(out, log, node, op)?;
     }
     Ok(())
 }
@@ -87,19 +80,16 @@ fn put_where_marked(
 /// Appends the labels of the marked operations of a node.
 fn put_op_labels(
     out: &mut Vec<u8>,
-    history: &History,
-    begins: &[usize],
+    log: &PlacedHistory<'_>,
     node: NodeIx,
     marks: &[bool],
 ) -> Result<(), AllocError>
-    requires lines { AreLines history.now begins.now }
-    requires node { IsNode history.now node }
-    requires marks { length marks.now ≡ length (ops_of history.now node) }
+    requires marks { length marks.now ≡ length (ops_of log.now.history.now node) }
     ensures text { OnOk result (out.new.items ≡ out.old.items
-        ++ spec.op_labels history.now (begin_at begins.now) node (spec.is_marked marks.now) (length marks.now)) }
+        ++ spec.op_labels log.now node (spec.is_marked marks.now) (length marks.now)) }
 {
     for (op, marked) in marks.iter().enumerate() {
-        put_where_marked(out, history, begins, node, op, *marked)?;
+        put_where_marked(out, log, node, op, *marked)?;
     }
     Ok(())
 }
@@ -107,21 +97,19 @@ fn put_op_labels(
 /// Appends the box of a node, of whose operations these are marked.
 fn put_box(
     out: &mut Vec<u8>,
-    history: &History,
-    begins: &[usize],
+    log: &PlacedHistory<'_>,
     node: NodeIx,
     marks: &[bool],
 ) -> Result<(), AllocError>
-    requires lines { AreLines history.now begins.now }
-    requires node { IsNode history.now node }
-    requires marks { length marks.now ≡ length (ops_of history.now node) }
+    requires node { IsNode log.now.history.now node }
+    requires marks { length marks.now ≡ length (ops_of log.now.history.now node) }
     ensures text { OnOk result ((items : List Item)
-        → AreMarks (length (ops_of history.now node)) (names items node) marks.now →
-        out.new.items ≡ out.old.items ++ spec.box history.now (begin_at begins.now) items node) }
+        → AreMarks (length (ops_of log.now.history.now node)) (names items node) marks.now →
+        out.new.items ≡ out.old.items ++ spec.box log.now items node) }
 {
-    put_named(out, b"\"", history, node)?;
-    put_named(out, b"\" [label=\"", history, node)?;
-    put_op_labels(out, history, begins, node, marks)?;
+    put_named(out, b"\"", log, node)?;
+    put_named(out, b"\" [label=\"", log, node)?;
+    put_op_labels(out, log, node, marks)?;
     out.extend_from_slice(b"\"];\n")?;
     Ok(())
 }
@@ -129,22 +117,20 @@ fn put_box(
 /// Appends the box of a node, where it takes part.
 fn put_where_part(
     out: &mut Vec<u8>,
-    history: &History,
-    begins: &[usize],
+    log: &PlacedHistory<'_>,
     node: NodeIx,
     takes_part: bool,
     marks: &[bool],
 ) -> Result<(), AllocError>
-    requires lines { AreLines history.now begins.now }
-    requires node { IsNode history.now node }
-    requires marks { length marks.now ≡ length (ops_of history.now node) }
+    requires node { IsNode log.now.history.now node }
+    requires marks { length marks.now ≡ length (ops_of log.now.history.now node) }
     ensures text { OnOk result ((items : List Item)
-        → AreMarks (length (ops_of history.now node)) (names items node) marks.now →
+        → AreMarks (length (ops_of log.now.history.now node)) (names items node) marks.now →
         out.new.items ≡ out.old.items ++ (if takes_part
-        then spec.box history.now (begin_at begins.now) items node else [])) }
+        then spec.box log.now items node else [])) }
 {
     if takes_part {
-        put_box(out, history, begins, node, marks)?;
+        put_box(out, log, node, marks)?;
     }
     Ok(())
 }
@@ -153,27 +139,18 @@ fn put_where_part(
 pub fn put_boxes(
     alloc: Global,
     out: &mut Vec<u8>,
-    history: &History,
-    begins: &[usize],
+    log: &PlacedHistory<'_>,
     items: &[Item],
 ) -> Result<(), AllocError>
-    requires lines { AreLines history.now begins.now }
-    requires items { AreTellable history.now items.now }
+    requires items { AreTellable log.now.history.now items.now }
     ensures text { OnOk result (out.new.items ≡ out.old.items
-        ++ spec.boxes history.now (begin_at begins.now) items.now (log_of history.now).nodes) }
+        ++ spec.boxes log.now items.now (log_of log.now.history.now).nodes) }
 {
-    let marks = marks_of(alloc, history, items)?;
-    for number in 1..history.committed() + 1 {
+    let marks = marks_of(alloc, log.history, items)?;
+    for number in 1..log.history.committed() + 1 {
         let takes_part = marks.nodes[number];
         let operations = &marks.operations[number];
-        put_where_part(
-            out,
-            history,
-            begins,
-            node_of(number),
-            takes_part,
-            operations,
-        )?;
+        put_where_part(out, log, node_of(number), takes_part, operations)?;
     }
     Ok(())
 }

@@ -1,35 +1,30 @@
 //! Explanations as graphs in the language of Graphviz.
 
 ghost use Rattle.std.specs.Prelude.{◌≡◌, ◌++◌, OnOk};
-ghost use Rattle.tell_reasons.specs.Lines.{begin_at, AreLines};
 ghost use Rattle.tell_texts.specs.Graphs.{graph_text};
 ghost use Rattle.tell_texts.specs.Texts.{AreTellable};
 
 use crate::arrows::put_arrows;
 use crate::boxes::put_boxes;
-use session_history::History;
+use log_lines::PlacedHistory;
 use std::alloc::{AllocError, Global};
 use tell_steps::Item;
 
 /// Appends an explanation as a graph: a box for each transaction that takes part, with those of its
-/// operations that reasons name, and an arrow for each edge. Of `begins`, element `v - 1` is the
-/// line at which node `v` begins. Where memory runs out, a part of the graph may have been
-/// appended.
+/// operations that reasons name, and an arrow for each edge. Where memory runs out, a part of the
+/// graph may have been appended.
 pub fn put_graph(
     alloc: Global,
     out: &mut Vec<u8>,
-    history: &History,
-    begins: &[usize],
+    log: &PlacedHistory<'_>,
     items: &[Item],
 ) -> Result<(), AllocError>
-    requires lines { AreLines history.now begins.now }
-    requires items { AreTellable history.now items.now }
-    ensures text { OnOk result (out.new.items
-        ≡ out.old.items ++ graph_text history.now (begin_at begins.now) items.now) }
+    requires items { AreTellable log.now.history.now items.now }
+    ensures text { OnOk result (out.new.items ≡ out.old.items ++ graph_text log.now items.now) }
 {
     out.extend_from_slice(b"strict digraph explanation {\nnode [shape=box];\n")?;
-    put_boxes(alloc, out, history, begins, items)?;
-    put_arrows(out, history, begins, items)?;
+    put_boxes(alloc, out, log, items)?;
+    put_arrows(out, log, items)?;
     out.extend_from_slice(b"}\n")?;
     Ok(())
 }

@@ -1,6 +1,6 @@
 //! Which transactions take part in an explanation, and which of their operations it names.
 
-ghost use Rattle.std.specs.Prelude.{◌≡◌, ◌<◌, ◌+◌, ◌==◌, ℕ, [], ◌∷◌, false, length, All, IfOk};
+ghost use Rattle.std.specs.Prelude.{◌<◌, ◌+◌, ◌==◌, [], ◌∷◌, false, length, All, IfOk};
 ghost use Rattle.std.specs.List.{flat_map};
 ghost use Rattle.log_definitions.specs.Numbers.{log_of};
 ghost use Rattle.tell_texts.specs.Graphs as spec;

@@ -1,16 +1,15 @@
 //! Explanations as text.
 
 ghost use Rattle.std.specs.Prelude.{◌≡◌, ◌<◌, ◌≤◌, ◌^◌, ◌*◌, ◌++◌, nat_lt, if◌then◌else◌};
-ghost use Rattle.std.specs.Prelude.{codes, replicate, OnOk};
+ghost use Rattle.std.specs.Prelude.{codes, false, OnOk};
 ghost use Rattle.log_definitions.specs.Numbers.{log_of};
-ghost use Rattle.tell_reasons.specs.Lines.{begin_at, AreLines};
 ghost use Rattle.tell_texts.specs.Texts as spec;
 ghost use Rattle.tell_texts.specs.Texts.{IsOrderOf, IsTellable, AreTellable};
 
+use log_lines::PlacedHistory;
 use serializability::NodeIx;
-use session_history::History;
 use std::alloc::AllocError;
-use tell_reasons::{ChainOrder, put_edge, put_named, put_number, put_otherwise, put_versions};
+use tell_reasons::{ChainOrder, put_edge, put_named, put_number, put_since, put_versions};
 use tell_steps::Item;
 
 /// Appends two blanks for each choice that is decided.
@@ -26,94 +25,84 @@ fn put_indent(out: &mut Vec<u8>, depth: usize) -> Result<(), AllocError>
 /// Appends the line that says which of two versions of a key comes first by a forced step.
 fn put_forced(
     out: &mut Vec<u8>,
-    history: &History,
-    begins: &[usize],
+    log: &PlacedHistory<'_>,
     number: usize,
     order: ChainOrder,
 ) -> Result<(), AllocError>
-    requires lines { AreLines history.now begins.now }
-    requires order { IsOrderOf history.now order }
+    requires order { IsOrderOf log.now.history.now order }
     ensures text { OnOk result (out.new.items
-        ≡ out.old.items ++ spec.versions_line history.now (begin_at begins.now) number order) }
+        ≡ out.old.items ++ spec.versions_line log.now number order) }
 {
     out.extend_from_slice(b"[")?;
     put_number(out, number as u64)?;
     out.extend_from_slice(b"] ")?;
-    put_versions(out, history, begins, order)?;
+    put_versions(out, log, order)?;
     out.extend_from_slice(b":\n")?;
     Ok(())
 }
 
-/// Appends who would stand before whom otherwise, and by which read.
-fn put_other_way(
+/// Appends by which read a step's walk ends at this node, where that is not the writer of the
+/// second version itself.
+fn put_reader(
     out: &mut Vec<u8>,
-    history: &History,
-    begins: &[usize],
+    log: &PlacedHistory<'_>,
     order: &ChainOrder,
     source: NodeIx,
     target: NodeIx,
 ) -> Result<(), AllocError>
-    requires lines { AreLines history.now begins.now }
-    requires source { source ≤ (log_of history.now).nodes }
-    requires target { target ≤ (log_of history.now).nodes }
+    requires source { source ≤ (log_of log.now.history.now).nodes }
+    requires target { target ≤ (log_of log.now.history.now).nodes }
     ensures text { OnOk result (out.new.items
-        ≡ out.old.items ++ spec.otherwise_line history.now
-        (begin_at begins.now) order.now source target) }
+        ≡ out.old.items ++ spec.reader_text log.now order.now source target) }
 {
-    out.extend_from_slice(b"    ")?;
-    put_otherwise(out, history, begins, order.key, order.second, source)?;
-    put_named(out, b" would stand before ", history, target)?;
-    out.extend_from_slice(b", but\n")?;
-    Ok(())
+    if source.get() == order.second.get() {
+        Ok(())
+    } else {
+        put_since(out, log, *order, source, target)
+    }
 }
 
-/// Appends the two lines of a forced step.
+/// Appends the lines of a forced step, behind which its walk stands.
 fn put_step(
     out: &mut Vec<u8>,
-    history: &History,
-    begins: &[usize],
+    log: &PlacedHistory<'_>,
     number: usize,
     order: ChainOrder,
     source: NodeIx,
     target: NodeIx,
 ) -> Result<(), AllocError>
-    requires lines { AreLines history.now begins.now }
-    requires order { IsOrderOf history.now order }
-    requires source { source ≤ (log_of history.now).nodes }
-    requires target { target ≤ (log_of history.now).nodes }
+    requires order { IsOrderOf log.now.history.now order }
+    requires source { source ≤ (log_of log.now.history.now).nodes }
+    requires target { target ≤ (log_of log.now.history.now).nodes }
     ensures text { OnOk result (out.new.items
-        ≡ out.old.items ++ spec.step_lines history.now
-        (begin_at begins.now) number order source target) }
+        ≡ out.old.items ++ spec.step_lines log.now number order source target) }
 {
-    put_forced(out, history, begins, number, order)?;
-    put_other_way(out, history, begins, &order, source, target)
+    put_forced(out, log, number, order)?;
+    put_reader(out, log, &order, source, target)
 }
 
 /// Appends the line that says which of two versions of a key is supposed to come first.
 fn put_order(
     out: &mut Vec<u8>,
-    history: &History,
-    begins: &[usize],
+    log: &PlacedHistory<'_>,
     order: ChainOrder,
 ) -> Result<(), AllocError>
-    requires lines { AreLines history.now begins.now }
-    requires order { IsOrderOf history.now order }
-    ensures text { OnOk result (out.new.items
-        ≡ out.old.items ++ spec.order_line history.now (begin_at begins.now) order) }
+    requires order { IsOrderOf log.now.history.now order }
+    ensures text { OnOk result (out.new.items ≡ out.old.items ++ spec.order_line log.now order) }
 {
     out.extend_from_slice(b"suppose ")?;
-    put_versions(out, history, begins, order)?;
+    put_versions(out, log, order)?;
     out.extend_from_slice(b":\n")?;
     Ok(())
 }
 
 /// Appends that a cycle begins at a node.
-fn put_start(out: &mut Vec<u8>, history: &History, start: NodeIx) -> Result<(), AllocError>
-    requires start { start ≤ (log_of history.now).nodes }
+fn put_start(out: &mut Vec<u8>, log: &PlacedHistory<'_>, start: NodeIx) -> Result<(), AllocError>
+    requires start { start ≤ (log_of log.now.history.now).nodes }
     ensures text { OnOk result (out.new.items
-        ≡ out.old.items ++ spec.item_line history.now (λ v. 0) (Item.Cycle start 0)) }
+        ≡ out.old.items ++ spec.item_line log.now (Item.Cycle start 0)) }
 {
-    put_named(out, b"cycle from ", history, start)?;
+    put_named(out, b"cycle from ", log, start)?;
     out.extend_from_slice(b":\n")?;
     Ok(())
 }
@@ -150,16 +139,9 @@ fn put_leaves(out: &mut Vec<u8>, count: usize) -> Result<(), AllocError>
 }
 
 /// Appends the lines of an item.
-fn put_item(
-    out: &mut Vec<u8>,
-    history: &History,
-    begins: &[usize],
-    item: Item,
-) -> Result<(), AllocError>
-    requires lines { AreLines history.now begins.now }
-    requires item { IsTellable history.now item }
-    ensures text { OnOk result (out.new.items
-        ≡ out.old.items ++ spec.item_line history.now (begin_at begins.now) item) }
+fn put_item(out: &mut Vec<u8>, log: &PlacedHistory<'_>, item: Item) -> Result<(), AllocError>
+    requires item { IsTellable log.now.history.now item }
+    ensures text { OnOk result (out.new.items ≡ out.old.items ++ spec.item_line log.now item) }
 {
     match item {
         Item::Step {
@@ -167,20 +149,39 @@ fn put_item(
             order,
             source,
             target,
-        } => put_step(out, history, begins, number, order, source, target),
-        Item::Edge { first, second, why } => put_edge(out, history, begins, first, second, why),
-        Item::Cycle { start, edges: _ } => put_start(out, history, start),
-        Item::Decided { depth: _, order } => put_order(out, history, begins, order),
+        } => put_step(out, log, number, order, source, target),
+        Item::Edge { first, second, why } => put_edge(out, log, first, second, why),
+        Item::Cycle { start, edges: _ } => put_start(out, log, start),
+        Item::Decided { depth: _, order } => put_order(out, log, order),
         Item::Leaves { count } => put_leaves(out, count),
     }
 }
 
-/// How many choices are decided above an item, where so many were before it.
-fn depth_at(before: usize, item: Item) -> usize
-    ensures { result ≡ spec.depth_at before item }
+/// Whether an edge behind an item is of a step's walk, where one in its place is or is not.
+fn walks_behind(walks: bool, item: Item) -> bool
+    ensures { result ≡ spec.walks_behind walks item }
+{
+    match item {
+        Item::Step { .. } => true,
+        Item::Edge { .. } => walks,
+        _ => false,
+    }
+}
+
+/// How deep an edge stands, where so many choices are decided above it.
+fn edge_depth(before: usize, walks: bool) -> usize
+    ensures { result ≡ spec.edge_depth before walks }
+{
+    if walks { 2 } else { before }
+}
+
+/// How deep an item stands, where so many choices are decided before it.
+fn depth_at(before: usize, walks: bool, item: Item) -> usize
+    ensures { result ≡ spec.depth_at before walks item }
 {
     match item {
         Item::Decided { depth, order: _ } => depth,
+        Item::Edge { .. } => edge_depth(before, walks),
         _ => before,
     }
 }
@@ -196,25 +197,25 @@ fn depth_behind(before: usize, item: Item) -> usize
     }
 }
 
-/// Appends the lines of an explanation, indented by how many choices a cube decides. Of `begins`,
-/// element `v - 1` is the line at which node `v` begins. Where memory runs out, a part of them may
-/// have been appended.
+/// Appends the lines of an explanation, indented by how many choices a cube decides, and the walks
+/// of steps by as much as two choices. Where memory runs out, a part of them may have been
+/// appended.
 pub fn put_items(
     out: &mut Vec<u8>,
-    history: &History,
-    begins: &[usize],
+    log: &PlacedHistory<'_>,
     items: &[Item],
 ) -> Result<(), AllocError>
-    requires lines { AreLines history.now begins.now }
-    requires items { AreTellable history.now items.now }
+    requires items { AreTellable log.now.history.now items.now }
     ensures text { OnOk result (out.new.items
-        ≡ out.old.items ++ spec.items_text history.now (begin_at begins.now) 0 items.now) }
+        ≡ out.old.items ++ spec.items_text log.now 0 false items.now) }
 {
     let mut depth = 0;
+    let mut walks = false;
     for item in items {
-        put_indent(out, depth_at(depth, *item))?;
-        put_item(out, history, begins, *item)?;
+        put_indent(out, depth_at(depth, walks, *item))?;
+        put_item(out, log, *item)?;
         depth = depth_behind(depth, *item);
+        walks = walks_behind(walks, *item);
     }
     Ok(())
 }

@@ -4,7 +4,7 @@ use Rattle.std.specs.Prelude.{slice_get, is_some, count_by}
 use Rattle.std.proofs.lemmas.Bool.{cases_eq, cases_lt, cases_order, lt-ltb, le-ltb, eq-eqb, ne_eqb}
 use Rattle.std.proofs.lemmas.List.Sums.{sum_by-cons}
 use Rattle.serializability.specs.Polygraph.{Polygraph}
-use Rattle.branch_search.specs.declared.tree.Decision.{Decision}
+use Rattle.branch_search.specs.declared.tree.CubeDecision.{CubeDecision}
 use Rattle.branch_search.specs.declared.tree.Growth.{Growth}
 use Rattle.branch_search.specs.declared.tree.Growth.TheVariants.{Leaf, Inner}
 use Rattle.branch_search.specs.declared.tree.TreeNode.{TreeNode}
@@ -221,7 +221,7 @@ module _ (p : Polygraph) (nodes : List TreeNode) (t : IsRefutationTree p nodes) 
         let apart : first ≡ second → ⊥ = λ e. (
         let same = some_is s.one.node s.two.node (sym s.one.here ∙ ap (slice_get nodes) e ∙ s.two.here) in
         let sides = sym s.one.decision ∙ ap (λ (z : TreeNode). z.decision) same ∙ s.two.decision in
-        let one : One ≡ Two = ap (λ (d : Decision). d.side) (some_is (record { choice = c; side = One }) (record { choice = c; side = Two }) sides) in
+        let one : One ≡ Two = ap (λ (d : CubeDecision). d.side) (some_is (record { choice = c; side = One }) (record { choice = c; side = Two }) sides) in
         absurd (cc)) in
         let la = within nodes first s.one.node s.one.here in let lb = within nodes second s.two.node s.two.here in
         let two = two_of f i first second (suc i) xs apart (omega (arith, la, size)) (omega (arith, lb, size))

@@ -24,7 +24,8 @@ use Rattle.prune_ledger.specs.declared.ledger.LedgerEntry.{LedgerEntry}
 use Rattle.cube_laws.specs.Cubes.{Cube, edges_under}
 use Rattle.cube_laws.specs.Steps.{is_cycle}
 use Rattle.cube_machine.specs.Sides.{side_in, cube_edges}
-use Rattle.cube_machine.proofs.Edges.{edge_append, under_is}
+use Rattle.side_edges.proofs.Listed.{edge_append}
+use Rattle.cube_machine.proofs.Edges.{under_is}
 use Rattle.branch_search.specs.declared.tree.Growth.{Growth}
 use Rattle.branch_search.specs.declared.tree.Growth.TheVariants.{Leaf, Inner}
 use Rattle.branch_search.specs.declared.tree.TreeNode.{TreeNode}

@@ -7,7 +7,7 @@ use Rattle.serializability.specs.Polygraph.{Polygraph}
 use Rattle.pruning_laws.specs.declared.side.Side.{Side}
 use Rattle.pruning_laws.specs.declared.side.Side.TheVariants.{One, Two}
 use Rattle.pruning_laws.specs.Ledger.{Entry}
-use Rattle.branch_search.specs.declared.tree.Decision.{Decision}
+use Rattle.branch_search.specs.declared.tree.CubeDecision.{CubeDecision}
 use Rattle.branch_search.specs.declared.tree.TreeNode.{TreeNode}
 use Rattle.branch_search.specs.Trees.{cube_below, cube_of, IsChild, IsRefutationTree}
 use Rattle.branch_search.proofs.Lists.{some_is, within}
@@ -17,7 +17,7 @@ use Rattle.tell_trees.specs.Visits.{IsTree, DecidesAmong}
 -- a node that decides a choice beyond its parent's cube
 pub record IsMade (choices : ℕ) (x : TreeNode) (i : ℕ) : Type 0 where
   pub before : x.parent < i
-  pub made : Decision
+  pub made : CubeDecision
   pub is : x.decision ≡ Some made
   pub among : made.choice < choices
 
@@ -94,24 +94,24 @@ module _ (p : Polygraph) (nodes : List TreeNode) (t : IsRefutationTree p nodes) 
   pub decides_among : DecidesAmong (length p.choices) nodes
   decides_among = record { each = at_node }
     where
-      at_node : (i : ℕ) (x : TreeNode) (d : Decision) → slice_get nodes i ≡ Some x → x.decision ≡ Some d → d.choice < length p.choices
+      at_node : (i : ℕ) (x : TreeNode) (d : CubeDecision) → slice_get nodes i ≡ Some x → x.decision ≡ Some d → d.choice < length p.choices
       at_node zero x d at e = absurd (let none = root_decides x at in cc)
       at_node (suc i) x d at e =
           let m = made_at (suc i) x (omega arith) at in
           let same : m.made ≡ d = some_is m.made d (sym m.is ∙ e) in
-          subst (λ (z : Decision). z.choice < length p.choices) same m.among
+          subst (λ (z : CubeDecision). z.choice < length p.choices) same m.among
 
 -- ---- the way up
-up_from : (nodes : List TreeNode) (t : IsTree nodes) (i : ℕ) (x : TreeNode) (d : Decision) → slice_get nodes i ≡ Some x → x.decision ≡ Some d → (x.parent < i) × (cube_of nodes i ≡ (d.choice, d.side) ∷ cube_of nodes x.parent)
+up_from : (nodes : List TreeNode) (t : IsTree nodes) (i : ℕ) (x : TreeNode) (d : CubeDecision) → slice_get nodes i ≡ Some x → x.decision ≡ Some d → (x.parent < i) × (cube_of nodes i ≡ (d.choice, d.side) ∷ cube_of nodes x.parent)
 up_from nodes t zero x d at e = absurd (let none = root_decides t.poly nodes t.shown x at in cc)
 up_from nodes t (suc i) x d at e =
     let b = t.shown.below (suc i) x (omega arith) at in
     (b.before, cube_under nodes (suc i) x at b.before ∙ ap (cube_below (cube_of nodes x.parent)) e)
 
-pub up_before : (nodes : List TreeNode) (t : IsTree nodes) (i : ℕ) (x : TreeNode) (d : Decision) → slice_get nodes i ≡ Some x → x.decision ≡ Some d → x.parent < i
+pub up_before : (nodes : List TreeNode) (t : IsTree nodes) (i : ℕ) (x : TreeNode) (d : CubeDecision) → slice_get nodes i ≡ Some x → x.decision ≡ Some d → x.parent < i
 up_before nodes t i x d at e = (up_from nodes t i x d at e).0
 
-pub up_cube : (nodes : List TreeNode) (t : IsTree nodes) (i : ℕ) (x : TreeNode) (d : Decision) → slice_get nodes i ≡ Some x → x.decision ≡ Some d → cube_of nodes i ≡ (d.choice, d.side) ∷ cube_of nodes x.parent
+pub up_cube : (nodes : List TreeNode) (t : IsTree nodes) (i : ℕ) (x : TreeNode) (d : CubeDecision) → slice_get nodes i ≡ Some x → x.decision ≡ Some d → cube_of nodes i ≡ (d.choice, d.side) ∷ cube_of nodes x.parent
 up_cube nodes t i x d at e = (up_from nodes t i x d at e).1
 
 pub up_end : (nodes : List TreeNode) (t : IsTree nodes) (i : ℕ) (x : TreeNode) → slice_get nodes i ≡ Some x → x.decision ≡ None → cube_of nodes i ≡ []

@@ -1,7 +1,7 @@
 -- What is appended for visited nodes.
 use Rattle.std.proofs.Common.{◌≡◌, ℕ, ◌+◌, ◌-◌, ◌<◌, List, [], ◌∷◌, ◌++◌, length, map, get_or, Option, Some, None, refl, sym, ap, ◌∙◌, subst, append_assoc, arith}
 use Rattle.std.specs.Prelude.{slice_get, IfSome, option_and_then}
-use Rattle.branch_search.specs.declared.tree.Decision.{Decision}
+use Rattle.branch_search.specs.declared.tree.CubeDecision.{CubeDecision}
 use Rattle.branch_search.specs.declared.tree.TreeNode.{TreeNode}
 use Rattle.std.specs.Option.{option_map}
 use Rattle.branch_search.proofs.Lists.{some_is, there}
@@ -75,16 +75,16 @@ visit_added s orders nodes v x old mid now at e a = record {
   told = record { node = x; here = at; after = a.cycle; whole = refl; leaf = a.told };
 }
 
-decided_by : (nodes : List TreeNode) (i : ℕ) (o : Option Decision) → i < length nodes → o ≡ option_and_then (λ (x : TreeNode). x.decision) (slice_get nodes i) → (x : TreeNode) × ((slice_get nodes i ≡ Some x) × (x.decision ≡ o))
+decided_by : (nodes : List TreeNode) (i : ℕ) (o : Option CubeDecision) → i < length nodes → o ≡ option_and_then (λ (x : TreeNode). x.decision) (slice_get nodes i) → (x : TreeNode) × ((slice_get nodes i ≡ Some x) × (x.decision ≡ o))
 decided_by nodes i o lt e =
     let r = there nodes i lt in
     (r.0, (r.1, sym (e ∙ ap (λ (z : Option TreeNode). option_and_then (λ (x : TreeNode). x.decision) z) r.1)))
 
-pub decides_below : (nodes : List TreeNode) (n i : ℕ) (o : Option Decision) → DecidesAmong n nodes → i < length nodes → o ≡ option_and_then (λ (x : TreeNode). x.decision) (slice_get nodes i) → IfSome o (λ d. d.choice < n)
+pub decides_below : (nodes : List TreeNode) (n i : ℕ) (o : Option CubeDecision) → DecidesAmong n nodes → i < length nodes → o ≡ option_and_then (λ (x : TreeNode). x.decision) (slice_get nodes i) → IfSome o (λ d. d.choice < n)
 decides_below nodes n i None h lt e = tt
 decides_below nodes n i (Some d) h lt e = let r = decided_by nodes i (Some d) lt e in h.each i r.0 d r.1.0 r.1.1
 
-pub visit_put : (s : StepsView) (orders : List ChainOrder) (nodes : List TreeNode) (v : Visit) (o : Option Decision) (old mid now : List Item) → v.node < length nodes → o ≡ option_and_then (λ (x : TreeNode). x.decision) (slice_get nodes v.node) → mid ≡ old ++ decision_items orders v.depth o
+pub visit_put : (s : StepsView) (orders : List ChainOrder) (nodes : List TreeNode) (v : Visit) (o : Option CubeDecision) (old mid now : List Item) → v.node < length nodes → o ≡ option_and_then (λ (x : TreeNode). x.decision) (slice_get nodes v.node) → mid ≡ old ++ decision_items orders v.depth o
     → AddsLeaf s (decided_at orders nodes v.node) (line_of nodes v) mid now → AddsVisit s orders nodes v old now
 visit_put s orders nodes v o old mid now lt e mid_is a =
     let r = decided_by nodes v.node o lt e in
@@ -107,7 +107,7 @@ more_added s orders nodes front more v old mid now e a b =
 
 -- ---- the orders of a cube
 module _ (orders : List ChainOrder) (nodes : List TreeNode) (t : IsTree nodes) (i : ℕ) (within_nodes : i < length nodes) where
-  module _ (d : Decision) (parent : ℕ) (made : Some d ≡ option_and_then (λ (x : TreeNode). x.decision) (slice_get nodes i)) (up : Some parent ≡ option_map (λ (x : TreeNode). x.parent) (slice_get nodes i)) where
+  module _ (d : CubeDecision) (parent : ℕ) (made : Some d ≡ option_and_then (λ (x : TreeNode). x.decision) (slice_get nodes i)) (up : Some parent ≡ option_map (λ (x : TreeNode). x.parent) (slice_get nodes i)) where
     here : (x : TreeNode) × ((slice_get nodes i ≡ Some x) × (x.decision ≡ Some d))
     here = decided_by nodes i (Some d) within_nodes made
 

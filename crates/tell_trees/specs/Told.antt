@@ -2,7 +2,7 @@
 use Rattle.std.specs.Prelude.{◌≡◌, ℕ, ◌-◌, List, [], ◌∷◌, ◌++◌, Option, None, Some, map, slice_get}
 use Rattle.std.specs.List.{All}
 use Rattle.log_definitions.specs.Numbers.{log_of}
-use Rattle.branch_search.specs.declared.tree.Decision.{Decision}
+use Rattle.branch_search.specs.declared.tree.CubeDecision.{CubeDecision}
 use Rattle.branch_search.specs.declared.tree.TreeNode.{TreeNode}
 use Rattle.branch_search.specs.Trees.{cube_of}
 use Rattle.tell_reasons.specs.declared.why.ChainOrder.{ChainOrder}
@@ -34,7 +34,7 @@ abbrev pub decided_at : List ChainOrder → List TreeNode → ℕ → List Chain
 decided_at orders nodes i = map (order_at orders) (cube_of nodes i)
 
 -- what a node at this depth decides itself
-abbrev pub decision_items : List ChainOrder → ℕ → Option Decision → List Item
+abbrev pub decision_items : List ChainOrder → ℕ → Option CubeDecision → List Item
 decision_items orders depth None = []
 decision_items orders depth (Some d) = item.Decided (depth - 1)
     (order_at orders (d.choice, d.side)) ∷ []

@@ -3,7 +3,7 @@ use Rattle.std.specs.Prelude.{◌≡◌, ℕ, ◌+◌, ◌<◌, if◌then◌else
 use Rattle.std.specs.Prelude.{false, Option, None, Some, is_some, length, count_by, slice_get}
 use Rattle.std.specs.Prelude.{option_and_then}
 use Rattle.serializability.specs.Polygraph.{Polygraph}
-use Rattle.branch_search.specs.declared.tree.Decision.{Decision}
+use Rattle.branch_search.specs.declared.tree.CubeDecision.{CubeDecision}
 use Rattle.branch_search.specs.declared.tree.Growth.{Growth}
 use Rattle.branch_search.specs.declared.tree.Growth.TheVariants.{Leaf, Inner}
 use Rattle.branch_search.specs.declared.tree.TreeNode.{TreeNode}
@@ -19,7 +19,7 @@ pub record IsTree (nodes : List TreeNode) : Type 0 where
 
 -- each choice that a node decides is one of so many
 pub record DecidesAmong (choices : ℕ) (nodes : List TreeNode) : Type 0 where
-  pub each : (i : ℕ) (x : TreeNode) (d : Decision) → slice_get nodes i ≡ Some x
+  pub each : (i : ℕ) (x : TreeNode) (d : CubeDecision) → slice_get nodes i ≡ Some x
       → x.decision ≡ Some d → d.choice < choices
 
 -- the cycle of a leaf

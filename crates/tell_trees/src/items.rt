@@ -14,7 +14,7 @@ ghost use Rattle.tell_trees.specs.Trees.{leaves_items};
 ghost use Rattle.tell_trees.specs.Visits.{IsTree, DecidesAmong, line_of};
 
 use crate::visits::{Visit, told_line};
-use branch_search::{Decision, TreeNode};
+use branch_search::{CubeDecision, TreeNode};
 use pruning_laws::Side;
 use serializability::NodeIx;
 use std::alloc::{AllocError, Global};
@@ -32,7 +32,7 @@ pub fn put_leaves(items: &mut Vec<Item>, count: usize) -> Result<(), AllocError>
 }
 
 /// The order that a decision makes; of each choice the order that is its side one is given.
-fn order_of(orders: &[ChainOrder], decision: Decision) -> ChainOrder
+fn order_of(orders: &[ChainOrder], decision: CubeDecision) -> ChainOrder
     requires choice { decision.choice < length orders.now }
     ensures order { result ≡ order_at orders.now (decision.choice, decision.side) }
 {
@@ -51,7 +51,7 @@ fn order_of(orders: &[ChainOrder], decision: Decision) -> ChainOrder
 fn put_decision(
     items: &mut Vec<Item>,
     orders: &[ChainOrder],
-    decision: Option<Decision>,
+    decision: Option<CubeDecision>,
     depth: usize,
 ) -> Result<(), AllocError>
     requires choice { IfSome decision (λ d. d.choice < length orders.now) }
@@ -68,7 +68,7 @@ fn put_decision(
 }
 
 /// What a node decides beyond its parent's cube.
-fn decision_at(nodes: &[TreeNode], node: usize) -> Option<Decision>
+fn decision_at(nodes: &[TreeNode], node: usize) -> Option<CubeDecision>
     requires node { node < length nodes.now }
     ensures decision { result ≡ option_and_then (λ x. x.decision) (slice_get nodes.now node) }
 {

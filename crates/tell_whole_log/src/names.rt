@@ -39,11 +39,11 @@ fn key_from<'t>(line: &Line<'t>, name: Name) -> Option<&'t str> {
     }
 }
 
-/// The key that a transaction is told to have read that would stand elsewhere, as `    3.1 read 5
-/// (line 7), so otherwise 3.1 ..`: that of the step, which the line before begins.
-fn key_of_late_read<'t>(lines: &[Line<'t>], at: usize, name: Name) -> Option<&'t str> {
+/// The key that a transaction is told to read by a step, as `    since 3.1 reads 5 (line 7) and
+/// ..`: that of the step, which the line before begins.
+fn key_of_since<'t>(lines: &[Line<'t>], at: usize, name: Name) -> Option<&'t str> {
     let line = lines.get(at)?;
-    if line.word(1) == "read" && name_of(line.word(0)) == Some(name) {
+    if line.word(0) == "since" && name_of(line.word(1)) == Some(name) {
         step_key(lines.get(at.checked_sub(1)?)?)
     } else {
         None
@@ -54,7 +54,7 @@ fn key_of_late_read<'t>(lines: &[Line<'t>], at: usize, name: Name) -> Option<&'t
 fn key_here<'t>(lines: &[Line<'t>], at: usize, name: Name) -> Option<&'t str> {
     match key_from(lines.get(at)?, name) {
         Some(key) => Some(key),
-        None => key_of_late_read(lines, at, name),
+        None => key_of_since(lines, at, name),
     }
 }
 

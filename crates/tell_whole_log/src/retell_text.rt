@@ -187,7 +187,7 @@ impl<'c, 'a> Retelling<'c, 'a> {
         out.put(&text)
     }
 
-    /// The read of a clause `N.T reads KEY WID (line L)` or `N.T read WID (line L)`, the line of
+    /// The read of a clause `N.T reads KEY WID (line L)` or `N.T reads WID (line L)`, the line of
     /// which is the word at this place.
     fn read_in(&self, line: &Line<'c>, at: usize, behind: usize) -> Option<ToldRead<'c>> {
         let name = name_of(line.word(at))?;
@@ -213,10 +213,10 @@ impl<'c, 'a> Retelling<'c, 'a> {
             self.put_unwritten(out, version)?;
             return Ok(line.words.len());
         }
-        if line.behind(at, 1) == "goes" && line.behind(at, 4) == "initial" {
+        if line.behind(at, 1) == "goes" && line.behind(at, 5) == "initial" {
             out.join(", which goes back to")?;
             self.put_beginning(out, version)?;
-            return Ok(at.saturating_add(6));
+            return Ok(at.saturating_add(7));
         }
         Ok(at)
     }
@@ -276,9 +276,9 @@ impl<'c, 'a> Retelling<'c, 'a> {
         self.put_source(out, line, at.saturating_add(6), line.behind(at, 3), read)
     }
 
-    /// Appends a clause `N.T read WID (line L)`, which begins at this word; gives the place of the
+    /// Appends a clause `N.T reads WID (line L)`, which begins at this word; gives the place of the
     /// next word.
-    fn put_late_read(
+    fn put_since(
         &self,
         out: &mut Words,
         line: &Line<'c>,
@@ -286,10 +286,13 @@ impl<'c, 'a> Retelling<'c, 'a> {
         read: ToldRead<'c>,
     ) -> Result<usize, AllocError> {
         put_transaction(self.alloc, out, read.at)?;
-        out.put("read")?;
+        out.put("reads")?;
         put_number(self.alloc, out, read.version.wid)?;
         self.put_spot(out, read.at)?;
-        self.put_end(out, line, at.saturating_add(5))
+        if read.is_end || line.behind(at, 4).ends_with(',') {
+            out.join(",")?;
+        }
+        Ok(at.saturating_add(5))
     }
 
     /// Appends a clause `N.T read KEY WID before (line L)`, which begins at this word, and who
@@ -319,14 +322,14 @@ impl<'c, 'a> Retelling<'c, 'a> {
         at: usize,
     ) -> Result<Option<usize>, AllocError> {
         let verb = line.behind(at, 1);
+        if verb == "reads" && line.behind(at, 3) == "(line" {
+            if let Some(read) = self.read_in(line, at, 4) {
+                return Ok(Some(self.put_since(out, line, at, read)?));
+            }
+        }
         if verb == "reads" {
             if let Some(read) = self.read_in(line, at, 5) {
                 return Ok(Some(self.put_reads(out, line, at, read)?));
-            }
-        }
-        if verb == "read" && line.behind(at, 3) == "(line" {
-            if let Some(read) = self.read_in(line, at, 4) {
-                return Ok(Some(self.put_late_read(out, line, at, read)?));
             }
         }
         if verb == "read" && line.behind(at, 4) == "before" {
@@ -483,10 +486,11 @@ impl<'c, 'a> Retelling<'c, 'a> {
         out.end_line()
     }
 
-    /// Whether an edge leads to or from reads at the end of a session.
+    /// Whether an edge of the cycle that has a name leads to or from reads at the end of a session.
+    /// The walks of steps are indented.
     fn has_end(&self) -> bool {
         self.lines.iter().any(|line| match edge_of(line) {
-            Some((first, _)) => self.context.place(first).is_none(),
+            Some((first, _)) => line.indent == 0 && self.context.place(first).is_none(),
             None => false,
         })
     }

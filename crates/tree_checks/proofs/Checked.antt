@@ -12,7 +12,7 @@ use Rattle.cube_laws.proofs.Nodes.{get_below, each_at}
 use Rattle.cube_laws.proofs.Alive.{no_cycle}
 use Rattle.cube_laws.proofs.Fits.{KeepsCube, cube_opening, cube_split}
 use Rattle.pruning_laws.proofs.Ledgers.{same_is, same_itself}
-use Rattle.branch_search.specs.declared.tree.Decision.{Decision}
+use Rattle.branch_search.specs.declared.tree.CubeDecision.{CubeDecision}
 use Rattle.branch_search.specs.declared.tree.Growth.{Growth}
 use Rattle.branch_search.specs.declared.tree.Growth.TheVariants.{Leaf, Inner}
 use Rattle.branch_search.specs.declared.tree.TreeNode.{TreeNode}
@@ -29,13 +29,13 @@ not_from : (b : Bool) → b ≡ false → not b ≡ true
 not_from b e = ap not e
 
 -- ---- decisions
-decision_is : (d : Option Decision) (c : ℕ) (side : Side) → decides_side d c side ≡ true → d ≡ Some (record { choice = c; side = side })
+decision_is : (d : Option CubeDecision) (c : ℕ) (side : Side) → decides_side d c side ≡ true → d ≡ Some (record { choice = c; side = side })
 decision_is None c side t = absurd (false≢true t)
 decision_is (Some d) c side t =
     let a = and_parts (eqb d.choice c) (same_side d.side side) t in
     λ i. Some (record { choice = eqb-true d.choice c a.0 i; side = same_is d.side side a.1 i })
 
-decision_tested : (d : Option Decision) (c : ℕ) (side : Side) → d ≡ Some (record { choice = c; side = side }) → decides_side d c side ≡ true
+decision_tested : (d : Option CubeDecision) (c : ℕ) (side : Side) → d ≡ Some (record { choice = c; side = side }) → decides_side d c side ≡ true
 decision_tested d c side e = ap (λ o. decides_side o c side) e ∙ and_from (eqb c c) (same_side side side) (eq-eqb c c refl) (same_itself side)
 
 -- ---- children
@@ -101,7 +101,7 @@ root_is nodes x e t =
     let a = and_parts (eqb x.parent 0) (is_none x.decision) t in
     record { node = x; here = e; parent = eqb-true x.parent 0 a.0; decision = none x.decision a.1 }
   where
-    none : (o : Option Decision) → is_none o ≡ true → o ≡ None
+    none : (o : Option CubeDecision) → is_none o ≡ true → o ≡ None
     none None u = refl
     none (Some d) u = absurd (false≢true u)
 

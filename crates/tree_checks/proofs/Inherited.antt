@@ -5,15 +5,16 @@ use Rattle.serializability.specs.Polygraph.{Edge, Polygraph}
 use Rattle.known_graph.specs.Tests.{has_edge}
 use Rattle.cube_laws.specs.Cubes.{Cube, is_decided, edges_under}
 use Rattle.cube_machine.specs.Sides.{side_in, cube_edges}
-use Rattle.cube_machine.proofs.Edges.{edge_append, under_is}
-use Rattle.branch_search.specs.declared.tree.Decision.{Decision}
+use Rattle.side_edges.proofs.Listed.{edge_append}
+use Rattle.cube_machine.proofs.Edges.{under_is}
+use Rattle.branch_search.specs.declared.tree.CubeDecision.{CubeDecision}
 use Rattle.branch_search.specs.declared.tree.TreeNode.{TreeNode}
 use Rattle.branch_search.specs.Trees.{cube_below, cube_of}
 use Rattle.branch_search.proofs.Upward.{cube_under, cube_top, cube_past}
 use Rattle.tree_checks.specs.Checks.{decides, adds}
 
 -- ---- what a cube decides, on the way up
-decided_below : (cube : Cube) (d : Option Decision) (c : ℕ) → is_decided (cube_below cube d) c ≡ (decides d c || is_decided cube c)
+decided_below : (cube : Cube) (d : Option CubeDecision) (c : ℕ) → is_decided (cube_below cube d) c ≡ (decides d c || is_decided cube c)
 decided_below cube None c = refl
 decided_below cube (Some d) c = refl
 
@@ -40,7 +41,7 @@ pub decided_past : (nodes : List TreeNode) (i c : ℕ) → slice_get nodes i ≡
 decided_past nodes i c e = ap (λ (k : Cube). is_decided k c) (cube_past nodes i e)
 
 -- ---- the edges of its sides, on the way up
-edge_below : (p : Polygraph) (cube : Cube) (d : Option Decision) (e : Edge) → has_edge (cube_edges p (cube_below cube d)) e ≡ (adds p d e || has_edge (cube_edges p cube) e)
+edge_below : (p : Polygraph) (cube : Cube) (d : Option CubeDecision) (e : Edge) → has_edge (cube_edges p (cube_below cube d)) e ≡ (adds p d e || has_edge (cube_edges p cube) e)
 unfolding cube_edges
 edge_below p cube None e = refl
 edge_below p cube (Some d) e = edge_append (side_in p d.choice d.side) (cube_edges p cube) e

@@ -10,24 +10,24 @@ use Rattle.known_graph.specs.Tests.{has_edge}
 use Rattle.cube_laws.specs.Cubes.{is_decided, edges_under}
 use Rattle.cube_laws.specs.Steps.{is_cycle}
 use Rattle.cube_machine.specs.Sides.{side_in}
-use Rattle.branch_search.specs.declared.tree.Decision.{Decision}
+use Rattle.branch_search.specs.declared.tree.CubeDecision.{CubeDecision}
 use Rattle.branch_search.specs.declared.tree.Growth.{Growth}
 use Rattle.branch_search.specs.declared.tree.Growth.TheVariants.{Leaf, Inner}
 use Rattle.branch_search.specs.declared.tree.TreeNode.{TreeNode}
 use Rattle.branch_search.specs.Trees.{cube_of}
 
 -- whether a node decides the choice itself, by any side
-abbrev pub decides : Option Decision → ℕ → Bool
+abbrev pub decides : Option CubeDecision → ℕ → Bool
 decides None c = false
 decides (Some d) c = d.choice == c
 
 -- whether a node decides this side of the choice itself
-abbrev pub decides_side : Option Decision → ℕ → Side → Bool
+abbrev pub decides_side : Option CubeDecision → ℕ → Side → Bool
 decides_side None c side = false
 decides_side (Some d) c side = (d.choice == c) && same_side d.side side
 
 -- whether the edge is one of the side that a node decides itself
-abbrev pub adds : Polygraph → Option Decision → Edge → Bool
+abbrev pub adds : Polygraph → Option CubeDecision → Edge → Bool
 adds p None e = false
 adds p (Some d) e = has_edge (side_in p d.choice d.side) e
 

@@ -14,7 +14,7 @@ ghost use Rattle.branch_search.specs.Trees.{cube_of, IsRefutationTree};
 ghost use Rattle.tree_checks.specs.Checks.{decides, decides_side, adds, is_child, has_child};
 ghost use Rattle.tree_checks.specs.Checks.{is_below, is_root, is_split, is_grown, is_sound};
 
-use branch_search::{Decision, Growth, Tree, TreeNode};
+use branch_search::{CubeDecision, Growth, Tree, TreeNode};
 use polygraph::{ChoiceIx, Polygraph};
 use pruning_laws::Side;
 use reach_laws::Edge;
@@ -146,7 +146,7 @@ fn is_child(nodes: &[TreeNode], parent: usize, choice: ChoiceIx, side: Side, chi
 }
 
 /// Whether a decision is this side of this choice.
-fn decides_side(decision: Option<Decision>, choice: ChoiceIx, side: Side) -> bool
+fn decides_side(decision: Option<CubeDecision>, choice: ChoiceIx, side: Side) -> bool
     ensures { result ≡ decides_side decision choice side }
 {
     match decision {
@@ -172,7 +172,7 @@ fn is_side(side: Side, wanted: Side) -> bool
 }
 
 /// Whether a decision is one of this choice.
-fn decides(decision: Option<Decision>, choice: ChoiceIx) -> bool
+fn decides(decision: Option<CubeDecision>, choice: ChoiceIx) -> bool
     ensures { result ≡ decides decision choice }
 {
     match decision {
@@ -258,7 +258,7 @@ fn is_added(polygraph: &Polygraph, nodes: &[TreeNode], number: usize, u: NodeIx,
 }
 
 /// Whether an edge is one of the side that a node decides itself.
-fn adds(polygraph: &Polygraph, decision: Option<Decision>, u: NodeIx, v: NodeIx) -> bool
+fn adds(polygraph: &Polygraph, decision: Option<CubeDecision>, u: NodeIx, v: NodeIx) -> bool
     ensures { result ≡ adds polygraph.now decision (u, v) }
 {
     let Some(decision) = decision else {

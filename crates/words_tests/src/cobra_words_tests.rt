@@ -1,5 +1,5 @@
 use clap::Error;
-use cobra_words::{Command, FormatWord, PiecesWord, Request, StrategyName, Words, words_of};
+use cobra_words::{Command, Format, PiecesWord, Request, StrategyName, Words, words_of};
 use std::alloc::Global;
 use std::process::Abort;
 
@@ -215,7 +215,7 @@ fn words_of_check(rt: HostRuntime) {
 }
 
 /// The form that a call asks for, where it is one of `explain`.
-fn form_asked(request: &Request<'_>) -> Option<FormatWord> {
+fn form_asked(request: &Request<'_>) -> Option<Format> {
     match &request.command {
         Command::Explain { format } => Some(*format),
         _ => None,
@@ -223,7 +223,7 @@ fn form_asked(request: &Request<'_>) -> Option<FormatWord> {
 }
 
 /// Words are a call of `explain` in this form.
-fn see_form(rt: &impl Abort, alloc: Global, line: &str, form: FormatWord) {
+fn see_form(rt: &impl Abort, alloc: Global, line: &str, form: Format) {
     let words = words(rt, alloc, line);
     assert!(rt;
         form_asked(&request(rt, alloc, &words)) == Some(form),
@@ -234,12 +234,9 @@ fn see_form(rt: &impl Abort, alloc: Global, line: &str, form: FormatWord) {
 #[test]
 fn words_of_explain(rt: HostRuntime) {
     for (line, form) in [
-        ("cobra_poly explain log", FormatWord::Text),
-        ("cobra_poly explain --format text", FormatWord::Text),
-        (
-            "cobra_poly explain --format dot --budget 3",
-            FormatWord::Dot,
-        ),
+        ("cobra_poly explain log", Format::Text),
+        ("cobra_poly explain --format text", Format::Text),
+        ("cobra_poly explain --format dot --budget 3", Format::Dot),
     ] {
         see_form(&rt, rt.alloc(), line, form);
     }

@@ -1,7 +1,7 @@
 use Rattle.std.proofs.Common.{◌<◌, length, refl, subst, arith, List}
 use Rattle.std.proofs.lemmas.Option.{slice_get_read}
+use Rattle.side_edges.specs.declared.SideEdge.{SideEdge}
 use Rattle.branching.specs.Marked.{MarksTarget}
-use Rattle.branching.specs.declared.marks.Incoming.{Incoming}
 use Rattle.branching.proofs.Marked.{keeps_then, below_more, all_marked, none_to_mark}
 use Rattle.branching.proofs.marks.mark_refuted.Goals as goal
 
@@ -19,7 +19,7 @@ loop-number-preserved c =
       marked = below_more edges c.args.u c.args.v c.args.incoming.now k c.index-incoming-number.result c.loop-number.marks c.mark_target.new.marks
           (slice_get_read c.args.incoming.now (length c.args.incoming.now) k c.index-incoming-number.result refl within c.index-incoming-number.is)
           c.loop-number.invariant.marked c.mark_target.ensures.keeps
-          (subst (λ (l : List Incoming). MarksTarget edges k c.args.u c.args.v l c.mark_target.new.marks) c.deref.ensures.value marked);
+          (subst (λ (l : List SideEdge). MarksTarget edges k c.args.u c.args.v l c.mark_target.new.marks) c.deref.ensures.value marked);
     }
 
 pub returns-clause-marked : goal.returns-clause-marked

@@ -9,8 +9,8 @@ use Rattle.prune_ledger.proofs.crew.round_of.Goals as goal
 
 pub returns-clause-open : goal.returns-clause-open
 returns-clause-open g c =
-    c.in_ok-lefts.ensures.open c.args.known.now.edges c.args.polygraph.now.choices
-    (all_from_index (λ d. IfOk d.1 (λ passed. AllByRecursion (IsOpenIn c.args.known.now.edges c.args.polygraph.now.choices) passed.items)) c.in_ok-done.done.items (length c.in_ok-desk.seats.items) c.in_ok-done.ensures.len c.in_ok-done.ensures.each)
+    c.in_ok-lefts.ensures.open c.args.start.now.edges c.args.polygraph.now.choices
+    (all_from_index (λ d. IfOk d.1 (λ passed. AllByRecursion (IsOpenIn c.args.start.now.edges c.args.polygraph.now.choices) passed.items)) c.in_ok-done.done.items (length c.in_ok-desk.seats.items) c.in_ok-done.ensures.len c.in_ok-done.ensures.each)
 
 pub unreachable-requires : goal.unreachable-requires
 unreachable-requires g c =

@@ -1,6 +1,4 @@
-use Rattle.std.proofs.Common.{◌∙◌, subst, arith}
-use Rattle.reach_laws.specs.Reach.{Graph}
-use Rattle.prune_ledger.specs.Pruned.{AreOpen}
+use Rattle.std.proofs.Common.{◌∙◌, arith}
 use Rattle.prune_ledger.proofs.Finals.{progress_more, posts_more, no_fewer}
 use Rattle.prune_ledger.proofs.KeptUp.{graph_ahead}
 use Rattle.prune_ledger.proofs.rounds.one_round.Goals as goal
@@ -17,5 +15,5 @@ returns g c =
       graph = graph_ahead p entries next _ c.len-before.result start.own (omega (arith, a, d)) posts c.requires.graph;
       acyclic = c.requires.acyclic;
       flagged = c.in_ok-closed.ensures.len;
-      open_in = subst (λ (g : Graph). AreOpen g.edges p.choices c.in_ok-closed.field-0.passed.items) c.graph.ensures.graph c.in_ok-closed.ensures.open;
+      open_in = c.in_ok-closed.ensures.open;
     }

@@ -1,8 +1,6 @@
 use Rattle.std.proofs.Common.{◌≤◌, ◌∙◌, List, length, take, drop, sym, ap, subst, refl, arith}
 use Rattle.std.proofs.lemmas.List.{take_all}
 use Rattle.pruning_laws.specs.Ledger.{Entry as Kept}
-use Rattle.reach_laws.specs.Reach.{Graph, IsCyclic}
-use Rattle.reach_rows.specs.ReachRows.{AreRowsOf}
 use Rattle.prune_ledger.specs.Ledger.{kept_after}
 use Rattle.prune_ledger.specs.Pruned.{IsGraphOf, AreOpen, AreSettled, kept_by, posts_in}
 use Rattle.prune_ledger.proofs.KeptUp.{kept_rest}
@@ -20,15 +18,13 @@ returns-then-len-before c =
 pub remainder-requires-clause-last : goal.remainder-requires-clause-last
 remainder-requires-clause-last c =
     let p = c.args.polygraph.now in let e = c.args.ended in let entries = e.progress.entries.items in
-    let own = c.into_parts-known.ensures.graph in
     let flags = c.deref-2.ensures.value in
     let few : length entries ≤ e.before = let a = c.len.ensures in let d = e.progress.entries.ok.0 in let f = c.if-len-before.false in omega (arith, a, d, f) in
     record {
       progress = c.requires.ended.progress;
-      graph_of = subst (IsGraphOf p (kept_by entries)) (sym own) (subst (λ (l : List _). IsGraphOf p (kept_by l) e.progress.own) (take_all e.before entries few) c.requires.ended.graph);
-      acyclic = subst (λ (g : Graph). IsCyclic g.edges → ⊥) (sym own) c.requires.ended.acyclic;
-      rows_of = subst (λ g. AreRowsOf c.into_parts-known.result.1 g) (sym own) c.into_parts-known.ensures.rows;
+      graph_of = subst (λ (l : List _). IsGraphOf p (kept_by l) e.progress.own) (take_all e.before entries few) c.requires.ended.graph;
+      acyclic = c.requires.ended.acyclic;
       flagged = ap length flags ∙ c.requires.ended.flagged;
-      open_in = subst (λ (g : Graph). AreOpen g.edges p.choices c.deref-2.result.now) (sym own) (subst (AreOpen e.progress.own.edges p.choices) (sym flags) c.requires.ended.open_in);
+      open_in = subst (AreOpen e.progress.own.edges p.choices) (sym flags) c.requires.ended.open_in;
       settled = subst (AreSettled e.progress.machine.marks) (c.deref.ensures.value ∙ sym flags) (c.if-not-is_settled.ensures refl);
     }

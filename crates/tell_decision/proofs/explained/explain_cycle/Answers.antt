@@ -1,24 +1,23 @@
 use Rattle.std.proofs.Common.{[], ◌∷◌, ◌++◌, subst, sym, lit<}
 use Rattle.std.proofs.lemmas.Result.{IfOk-weaker}
 use Rattle.headline.proofs.Answered.{clean_log}
-use Rattle.tell_reasons.specs.Lines.{begin_at}
 use Rattle.tell_texts.specs.Texts.{AreTellable}
 use Rattle.tell_decision.proofs.Premises.{cycle_written}
 use Rattle.tell_decision.proofs.Tellable.{line_tellable}
 use Rattle.tell_decision.proofs.explained.explain_cycle.Goals as goal
 
 pub cycle_items-requires-clause-clean : goal.cycle_items-requires-clause-clean
-cycle_items-requires-clause-clean c = clean_log c.args.history.now c.committed-invariant.ensures.well_formed c.requires.none
+cycle_items-requires-clause-clean c = clean_log c.args.log.now.history.now c.committed-invariant.ensures.well_formed c.requires.none
 
-pub written_cycle-requires-clause-items : goal.written_cycle-requires-clause-items
-written_cycle-requires-clause-items c =
-    let ss = c.args.history.now in
+pub written_cycle-requires : goal.written_cycle-requires
+written_cycle-requires c =
+    let ss = c.args.log.now.history.now in
     let items = c.in_ok-items.items.items in
-    subst (AreTellable ss) (sym c.deref.ensures.value) (let r = c.in_ok-items.ensures.told in line_tellable ss [] [] (r.start ∷ (r.inner ++ r.start ∷ [])) items (lit< tt) tt tt r.told)
+    record { items = subst (AreTellable ss) (sym c.deref.ensures.value) (let r = c.in_ok-items.ensures.told in line_tellable ss [] [] (r.start ∷ (r.inner ++ r.start ∷ [])) items (lit< tt) tt tt r.told) }
 
 pub returns : goal.returns
 returns c = record {
   written = IfOk-weaker c.written_cycle.result _ _
-      (λ made e. cycle_written c.args.line.now c.args.format c.args.history.now (begin_at c.args.begins.now) c.in_ok-items.items.items c.deref.result.now made.items c.in_ok-items.ensures.told c.deref.ensures.value e)
+      (λ made e. cycle_written c.args.line.now c.args.format c.args.log.now c.in_ok-items.items.items c.deref.result.now made.items c.in_ok-items.ensures.told c.deref.ensures.value e)
       c.written_cycle.ensures.text;
 }

@@ -1,35 +1,33 @@
 use Rattle.std.proofs.Common.{◌<◌, ◌^◌, length, subst, sym, arith}
 use Rattle.std.proofs.lemmas.Result.{IfOk-weaker}
-use Rattle.tell_reasons.specs.Lines.{begin_at}
-use Rattle.tell_steps.specs.Steps.{IsDeadTold}
 use Rattle.tell_texts.specs.Texts.{AreTellable}
-use Rattle.tell_decision.proofs.Premises.{unpruned_clean, dead_ledger, are_written}
+use Rattle.tell_decision.proofs.Premises.{unpruned_clean, dead_ledger, dead_written}
 use Rattle.tell_decision.proofs.Tellable.{dead_tellable}
 use Rattle.tell_decision.proofs.explained.explain_dead.Goals as goal
 
 pub open_chains-requires-clause-clean : goal.open_chains-requires-clause-clean
-open_chains-requires-clause-clean c = unpruned_clean c.args.history.now c.requires.dead.poly c.committed-invariant.ensures.well_formed c.requires.dead.unpruned
+open_chains-requires-clause-clean c = unpruned_clean c.args.log.now.history.now c.requires.dead.poly c.committed-invariant.ensures.well_formed c.requires.dead.unpruned
 
 pub dead_items-requires-clause-clean : goal.dead_items-requires-clause-clean
-dead_items-requires-clause-clean c = unpruned_clean c.args.history.now c.requires.dead.poly c.committed-invariant.ensures.well_formed c.requires.dead.unpruned
+dead_items-requires-clause-clean c = unpruned_clean c.args.log.now.history.now c.requires.dead.poly c.committed-invariant.ensures.well_formed c.requires.dead.unpruned
 
 pub dead_items-requires-clause-ledger : goal.dead_items-requires-clause-ledger
-dead_items-requires-clause-ledger c = dead_ledger c.args.history.now c.args.ledger.now c.requires.dead
+dead_items-requires-clause-ledger c = dead_ledger c.args.log.now.history.now c.args.ledger.now c.requires.dead
 
-pub written-requires-clause-items : goal.written-requires-clause-items
-written-requires-clause-items c =
-    let ss = c.args.history.now in
+pub written_dead-requires : goal.written_dead-requires
+written_dead-requires c =
+    let ss = c.args.log.now.history.now in
     let items = c.in_ok-items.items.items in
     let made = c.in_ok-items.items in
     let count = made.ok.0 in
     let room = made.ok.1 in
     let bound = made.small in
     let small : length items < 2 ^ 63 = omega (arith, count, room, bound) in
-    subst (AreTellable ss) (sym c.deref.ensures.value) (dead_tellable ss items small c.in_ok-items.ensures.told)
+    record { items = subst (AreTellable ss) (sym c.deref.ensures.value) (dead_tellable ss items small c.in_ok-items.ensures.told) }
 
 pub returns : goal.returns
 returns c = record {
-  written = IfOk-weaker c.written.result _ _
-      (λ made e. are_written (IsDeadTold c.args.history.now) c.args.format c.args.history.now (begin_at c.args.begins.now) c.in_ok-items.items.items c.deref.result.now made.items c.in_ok-items.ensures.told c.deref.ensures.value e)
-      c.written.ensures.text;
+  written = IfOk-weaker c.written_dead.result _ _
+      (λ made e. dead_written c.args.format c.args.log.now c.in_ok-items.items.items c.deref.result.now made.items c.in_ok-items.ensures.told c.deref.ensures.value e)
+      c.written_dead.ensures.text;
 }

@@ -1,6 +1,5 @@
 use Rattle.std.proofs.Common.{◌<◌, ◌^◌, length, subst, sym, arith}
 use Rattle.std.proofs.lemmas.Result.{IfOk-weaker}
-use Rattle.tell_reasons.specs.Lines.{begin_at}
 use Rattle.tell_trees.specs.Trees.{IsTreeTold}
 use Rattle.tell_trees.specs.Visits.{leaf_count}
 use Rattle.tell_texts.specs.Texts.{AreTellable}
@@ -9,25 +8,25 @@ use Rattle.tell_decision.proofs.Tellable.{tree_tellable}
 use Rattle.tell_decision.proofs.explained.explain_tree.Goals as goal
 
 pub open_chains-requires-clause-clean : goal.open_chains-requires-clause-clean
-open_chains-requires-clause-clean c = unpruned_clean c.args.history.now c.requires.left.poly c.committed-invariant.ensures.well_formed c.requires.left.unpruned
+open_chains-requires-clause-clean c = unpruned_clean c.args.log.now.history.now c.requires.left.poly c.committed-invariant.ensures.well_formed c.requires.left.unpruned
 
 pub tree_items-requires-clause-clean : goal.tree_items-requires-clause-clean
-tree_items-requires-clause-clean c = unpruned_clean c.args.history.now c.requires.left.poly c.committed-invariant.ensures.well_formed c.requires.left.unpruned
+tree_items-requires-clause-clean c = unpruned_clean c.args.log.now.history.now c.requires.left.poly c.committed-invariant.ensures.well_formed c.requires.left.unpruned
 
-pub written-requires-clause-items : goal.written-requires-clause-items
-written-requires-clause-items c =
-    let ss = c.args.history.now in
+pub written-requires : goal.written-requires
+written-requires c =
+    let ss = c.args.log.now.history.now in
     let items = c.in_ok-items.items.items in
     let made = c.in_ok-items.items in
     let count = made.ok.0 in
     let room = made.ok.1 in
     let bound = made.small in
     let small : length items < 2 ^ 63 = omega (arith, count, room, bound) in
-    subst (AreTellable ss) (sym c.deref.ensures.value) (tree_tellable ss (leaf_count c.args.tree.now) items small c.in_ok-items.ensures.told)
+    record { items = subst (AreTellable ss) (sym c.deref.ensures.value) (tree_tellable ss (leaf_count c.args.tree.now) items small c.in_ok-items.ensures.told) }
 
 pub returns : goal.returns
 returns c = record {
   written = IfOk-weaker c.written.result _ _
-      (λ made e. are_written (IsTreeTold c.args.history.now (leaf_count c.args.tree.now)) c.args.format c.args.history.now (begin_at c.args.begins.now) c.in_ok-items.items.items c.deref.result.now made.items c.in_ok-items.ensures.told c.deref.ensures.value e)
+      (λ made e. are_written (IsTreeTold c.args.log.now.history.now (leaf_count c.args.tree.now)) c.args.format c.args.log.now c.in_ok-items.items.items c.deref.result.now made.items c.in_ok-items.ensures.told c.deref.ensures.value e)
       c.written.ensures.text;
 }

@@ -5,6 +5,7 @@ use Rattle.tell_decision.proofs.names.kinds_of.Goals as goal
 
 pub loop-item-preserved : goal.loop-item-preserved
 loop-item-preserved c =
+    let ss = c.args.history.now in
     let items = c.args.items.now in
     let i = c.loop-item.item-index in
     let d = c.item-item.result in
@@ -12,11 +13,11 @@ loop-item-preserved c =
     let next : suc i ≡ i + 1 = omega arith in
     let here : drop i items ≡ d ∷ drop (i + 1) items =
     drop-cons items i d c.loop-item-test.true ∙ ap (λ x. x ∷ drop (suc i) items) (sym c.item-item.is) ∙ ap (λ (n : ℕ). d ∷ drop n items) next in
-    ap (λ k. kinds_after k (drop (i + 1) items)) c.with_item-kinds.ensures ∙ sym (ap (kinds_after kinds) here) ∙ c.loop-item.invariant
+    ap (λ k. kinds_after ss k (drop (i + 1) items)) c.with_item-kinds.ensures ∙ sym (ap (kinds_after ss kinds) here) ∙ c.loop-item.invariant
 
 pub returns : goal.returns
 returns c =
     let items = c.args.items.now in
     let i = c.loop-item.item-index in
     let none = none_left items i c.loop-item-test.false in
-    sym (ap (kinds_after c.loop-item.kinds) none) ∙ c.loop-item.invariant
+    sym (ap (kinds_after c.args.history.now c.loop-item.kinds) none) ∙ c.loop-item.invariant

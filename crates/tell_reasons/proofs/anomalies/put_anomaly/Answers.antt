@@ -5,23 +5,19 @@ use Rattle.tell_reasons.proofs.Reported.{read_at}
 use Rattle.tell_reasons.proofs.anomalies.put_anomaly.Goals as goal
 
 pub overflow_sub-op : goal.overflow_sub-op
-overflow_sub-op c = (read_at c.args.history.now c.in-Read.kind c.in-Read.node c.in-Read.op (c.requires.reported ∙ ap (λ a. Some a) c.in-Read.is)).low
+overflow_sub-op c = (read_at c.args.log.now.history.now c.in-Read.kind c.in-Read.node c.in-Read.op (c.requires.reported ∙ ap (λ a. Some a) c.in-Read.is)).low
 
-pub put_bad_read-requires-clause-node : goal.put_bad_read-requires-clause-node
-put_bad_read-requires-clause-node c = (read_at c.args.history.now c.in-Read.kind c.in-Read.node c.in-Read.op (c.requires.reported ∙ ap (λ a. Some a) c.in-Read.is)).node
-
-pub put_bad_read-requires-clause-op : goal.put_bad_read-requires-clause-op
-put_bad_read-requires-clause-op c = (read_at c.args.history.now c.in-Read.kind c.in-Read.node c.in-Read.op (c.requires.reported ∙ ap (λ a. Some a) c.in-Read.is)).below
-
-pub put_bad_read-requires-clause-read : goal.put_bad_read-requires-clause-read
-put_bad_read-requires-clause-read c = (read_at c.args.history.now c.in-Read.kind c.in-Read.node c.in-Read.op (c.requires.reported ∙ ap (λ a. Some a) c.in-Read.is)).read
+pub put_bad_read-requires : goal.put_bad_read-requires
+put_bad_read-requires c =
+    let r = read_at c.args.log.now.history.now c.in-Read.kind c.in-Read.node c.in-Read.op (c.requires.reported ∙ ap (λ a. Some a) c.in-Read.is) in
+    record { op = r.below; read = r.read }
 
 pub put_updates-requires-clause-first : goal.put_updates-requires-clause-first
 put_updates-requires-clause-first c =
     let l = c.in-LostUpdate in
-    (l.source, (both_update (log_of c.args.history.now) l.key l.source l.first l.second (c.requires.reported ∙ ap (λ a. Some a) l.is)).1)
+    (l.source, (both_update (log_of c.args.log.now.history.now) l.key l.source l.first l.second (c.requires.reported ∙ ap (λ a. Some a) l.is)).1)
 
 pub put_updates-requires-clause-second : goal.put_updates-requires-clause-second
 put_updates-requires-clause-second c =
     let l = c.in-LostUpdate in
-    (l.source, (both_update (log_of c.args.history.now) l.key l.source l.first l.second (c.requires.reported ∙ ap (λ a. Some a) l.is)).2)
+    (l.source, (both_update (log_of c.args.log.now.history.now) l.key l.source l.first l.second (c.requires.reported ∙ ap (λ a. Some a) l.is)).2)

@@ -1,5 +1,5 @@
-use Rattle.reason_laws.proofs.Numbers.{within}
+use Rattle.tell_reasons.proofs.Begun.{op_within}
 use Rattle.tell_reasons.proofs.anomalies.put_did.Goals as goal
 
 pub put_named-requires : goal.put_named-requires
-put_named-requires c = record { known = within c.args.history.now c.args.node c.requires.node }
+put_named-requires c = record { known = op_within c.args.log.now.history.now c.args.node c.args.op c.requires.op }

@@ -1,16 +1,13 @@
 use Rattle.std.specs.Prelude.{codes}
-use Rattle.tell_reasons.specs.Lines.{begin_at}
 use Rattle.tell_reasons.specs.Anomalies.{did_text}
 use Rattle.tell_reasons.proofs.Told.{said_told}
 use Rattle.tell_reasons.proofs.anomalies.put_earlier_read.Goals as goal
 
 pub returns : goal.returns
 returns c =
-    let ss = c.args.history.now in
-    let begin = begin_at c.args.begins.now in
-    let said = did_text ss begin c.args.node (codes " read ") c.args.op in
+    let said = did_text c.args.log.now c.args.node (codes " read ") c.args.op in
     record {
       told =
-          said_told c.args.first ss begin c.args.node c.args.op said c.args.out.now.items c.put_done.new.out.items c.put_source.new.out.items
+          said_told c.args.log.now c.args.node c.args.op said c.args.out.now.items c.put_done.new.out.items c.put_source.new.out.items
           c.in_ok-put_done.ensures.text c.in_ok-put_source.ensures.told;
     }

@@ -1,20 +1,17 @@
 use Rattle.std.specs.Prelude.{codes}
 use Rattle.reason_laws.proofs.Numbers.{within}
-use Rattle.tell_reasons.specs.Lines.{begin_at}
 use Rattle.tell_reasons.specs.Edges.{supposed}
 use Rattle.tell_reasons.specs.Versions.{held_text, version_text}
 use Rattle.tell_reasons.proofs.Texts.{four_joined}
 use Rattle.tell_reasons.proofs.edge.put_chosen.Goals as goal
 
-pub put_version-requires-clause-node : goal.put_version-requires-clause-node
-put_version-requires-clause-node c = within c.args.history.now c.args.b c.requires.second
+pub put_version-requires : goal.put_version-requires
+put_version-requires c = record { node = within c.args.log.now.history.now c.args.b c.requires.second }
 
 pub returns : goal.returns
 returns c =
-    let ss = c.args.history.now in
-    let begin = begin_at c.args.begins.now in
-    let held = held_text ss begin c.args.key c.args.a in
-    let version = version_text ss begin c.args.key c.args.b in
+    let held = held_text c.args.log.now c.args.order.key c.args.order.first c.args.a in
+    let version = version_text c.args.log.now c.args.order.key c.args.b in
     record {
       text =
           four_joined c.args.out.now.items held supposed version (codes "\n") c.put_held.new.out.items c.extend_from_slice.new.self.items c.put_version.new.out.items c.extend_from_slice-2.new.self.items

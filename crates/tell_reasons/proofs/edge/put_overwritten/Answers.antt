@@ -1,18 +1,17 @@
 use Rattle.session_log.specs.declared.session.Op.TheVariants.{Write}
 use Rattle.reason_laws.proofs.Numbers.{within}
-use Rattle.tell_reasons.proofs.Begun.{op_line}
 use Rattle.tell_reasons.proofs.Ops.{op_below}
 use Rattle.tell_reasons.proofs.edge.put_overwritten.Goals as goal
 
 pub put_named-requires : goal.put_named-requires
-put_named-requires c = record { known = within c.args.history.now c.args.b c.requires.reason.second }
+put_named-requires c = record { known = within c.args.log.now.history.now c.args.b c.requires.reason.second }
 
 pub put_wid-requires : goal.put_wid-requires
 put_wid-requires c =
     let r = c.requires.reason in
-    record { op = op_below c.args.history.now c.args.b c.args.overwrites (Write r.key r.next) r.writes }
+    record { op = op_below c.args.log.now.history.now c.args.b c.args.overwrites (Write r.key r.next) r.writes }
 
 pub put_op_in_line-requires : goal.put_op_in_line-requires
 put_op_in_line-requires c =
     let r = c.requires.reason in
-    record { line = op_line c.args.history.now c.args.begins.now c.args.b c.args.overwrites (Write r.key r.next) c.requires.lines r.second r.writes }
+    record { op = op_below c.args.log.now.history.now c.args.b c.args.overwrites (Write r.key r.next) r.writes }

@@ -1,6 +1,5 @@
 use Rattle.std.proofs.Common.{◌≡◌, ◌++◌}
 use Rattle.std.specs.Prelude.{codes}
-use Rattle.tell_reasons.specs.Lines.{begin_at}
 use Rattle.tell_reasons.specs.Reasons.{key_bytes}
 use Rattle.tell_reasons.specs.Versions.{version_text, versions_text}
 use Rattle.tell_reasons.proofs.Texts.{five_joined}
@@ -9,15 +8,14 @@ use Rattle.tell_reasons.proofs.versions.put_versions.Goals as goal
 
 pub returns : goal.returns
 returns c =
-    let ss = c.args.history.now in
-    let begin = begin_at c.args.begins.now in
+    let log = c.args.log.now in
     let old = c.args.out.now.items in
     let order = c.args.order in
-    let key = key_bytes ss order.key in
+    let key = key_bytes log.history.now order.key in
     let colon = codes ": " in
-    let first = version_text ss begin order.key order.first in
+    let first = version_text log order.key order.first in
     let before = codes ", comes before " in
-    let second = version_text ss begin order.key order.second in
+    let second = version_text log order.key order.second in
     let one = c.put_key.new.out.items in
     let two = c.extend_from_slice.new.self.items in
     let three = c.put_version.new.out.items in
@@ -25,7 +23,7 @@ returns c =
     let new = c.put_version-2.new.out.items in
     record {
       text =
-          on_ok (new ≡ four ++ second) (new ≡ old ++ versions_text ss begin order) c.put_version-2.result
+          on_ok (new ≡ four ++ second) (new ≡ old ++ versions_text log order) c.put_version-2.result
           (λ e. five_joined old key colon first before second one two three four new c.in_ok-put_key.ensures.text
           c.in_ok-extend_from_slice.ensures.items c.in_ok-put_version.ensures.text c.in_ok-extend_from_slice-2.ensures.items e)
           c.put_version-2.ensures.text;

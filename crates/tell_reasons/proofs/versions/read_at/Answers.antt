@@ -1,7 +1,7 @@
 use Rattle.std.proofs.Common.{ap, ◌∙◌}
 use Rattle.std.specs.Prelude.{position}
 use Rattle.tell_reasons.specs.Events.{is_read_in}
-use Rattle.tell_reasons.proofs.VersionPlaces.{within_ops}
+use Rattle.tell_reasons.proofs.Ops.{within_ops}
 use Rattle.tell_reasons.proofs.versions.read_at.Goals as goal
 
 pub returns-clause-place : goal.returns-clause-place

@@ -20,5 +20,5 @@ tell_with-requires-clause-closed c =
     let Closes : Option (Vec ℕ Global) → Type 0 = λ o. IfSome o (λ line. IsCycle (edges_after d.poly (pruned.kept_by ledger.entries.items)) line.items) in
     let cycle : Closes (Some c.in-Some.cycle) = subst Closes c.in-Some.is d.valid.cycle in
     let closed : IsClosed ss (kept_by ss ledger.entries.items) c.in-Some.cycle.items = dead_closed ss ledger c.requires.clean d c.in-Some.cycle.items cycle in
-    let P : List LedgerEntry → Type 0 = λ es. IsClosed ss (kept_by ss es) c.deref-in-Some.result.now in
-    subst P (sym c.deref.ensures.value) (subst (IsClosed ss (kept_by ss ledger.entries.items)) (sym c.deref-in-Some.ensures.value) closed)
+    let P : List LedgerEntry → Type 0 = λ es. IsClosed ss (kept_by ss es) c.deref-in-None-2.result.now in
+    subst P (sym c.deref.ensures.value) (subst (IsClosed ss (kept_by ss ledger.entries.items)) (sym c.deref-in-None-2.ensures.value) closed)

@@ -1,25 +1,24 @@
 use Rattle.std.proofs.Common.{◌++◌, [], ◌∷◌, ap, ◌∙◌}
 use Rattle.std.specs.Prelude.{codes}
 use Rattle.reason_laws.proofs.Numbers.{within}
-use Rattle.tell_reasons.specs.Lines.{begin_at}
 use Rattle.tell_reasons.specs.Reasons.{named}
 use Rattle.tell_texts.specs.Graphs.{why_kind, why_colour}
 use Rattle.tell_texts.proofs.Pieces.{add_piece, add_named, arrow_parts}
 use Rattle.tell_texts.proofs.arrows.put_arrow.Goals as goal
 
 pub put_named-requires : goal.put_named-requires
-put_named-requires c = record { known = within c.args.history.now c.args.first c.requires.first }
+put_named-requires c = record { known = within c.args.log.now.history.now c.args.first c.requires.first }
 
 pub put_named-requires-2 : goal.put_named-requires-2
-put_named-requires-2 c = record { known = within c.args.history.now c.args.second c.requires.second }
+put_named-requires-2 c = record { known = within c.args.log.now.history.now c.args.second c.requires.second }
 
 pub returns : goal.returns
 returns c =
-    let ss = c.args.history.now in
+    let log = c.args.log.now in
     let old = c.args.out.now.items in
-    let first = named ss c.args.first in
-    let second = named ss c.args.second in
-    let kind = why_kind ss (begin_at c.args.begins.now) c.args.why in
+    let first = named log c.args.first in
+    let second = named log c.args.second in
+    let kind = why_kind log c.args.why in
     let colour = why_colour c.args.why in
     let quote = 34 ∷ [] in
     let to = 34 ∷ codes " -> " ++ 34 ∷ [] in

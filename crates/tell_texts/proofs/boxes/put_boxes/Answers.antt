@@ -3,7 +3,6 @@ use Rattle.std.specs.Prelude.{if◌then◌else◌}
 use Rattle.log_definitions.specs.Numbers.{log_of}
 use Rattle.log_definitions.specs.Serial.{ops_of}
 use Rattle.reason_laws.proofs.Numbers.{node_from}
-use Rattle.tell_reasons.specs.Lines.{begin_at}
 use Rattle.tell_texts.specs.Graphs.{AreMarks, box, boxes, names, takes_part}
 use Rattle.tell_texts.proofs.Pieces.{appended, begun}
 use Rattle.tell_texts.proofs.Marking.{mark_at, marks_at}
@@ -12,20 +11,19 @@ use Rattle.tell_texts.proofs.boxes.put_boxes.Goals as goal
 
 pub loop-number-init : goal.loop-number-init
 loop-number-init c =
-    let ss = c.args.history.now in
-    let begin = begin_at c.args.begins.now in
-    begun c.args.out.now.items (boxes ss begin c.args.items.now 0) (boxes_none ss begin c.args.items.now)
+    let log = c.args.log.now in
+    begun c.args.out.now.items (boxes log c.args.items.now 0) (boxes_none log c.args.items.now)
 
 pub put_where_part-requires-clause-node : goal.put_where_part-requires-clause-node
 put_where_part-requires-clause-node c =
     let low : 0 < c.node.result = omega (arith, c.node.ensures.value, c.loop-number.auto.number) in
-    let high : c.node.result ≤ (log_of c.args.history.now).nodes = omega (arith, c.node.ensures.value, c.loop-number-test.true, c.committed-number-end.ensures.count) in
-    node_from c.args.history.now c.node.result low high
+    let high : c.node.result ≤ (log_of c.args.log.now.history.now).nodes = omega (arith, c.node.ensures.value, c.loop-number-test.true, c.committed-number-end.ensures.count) in
+    node_from c.args.log.now.history.now c.node.result low high
 
 pub loop-number-preserved : goal.loop-number-preserved
 loop-number-preserved c =
-    let ss = c.args.history.now in
-    let begin = begin_at c.args.begins.now in
+    let log = c.args.log.now in
+    let ss = log.history.now in
     let items = c.args.items.now in
     let number = c.loop-number.number in
     let v = c.node.result in
@@ -33,8 +31,8 @@ loop-number-preserved c =
     let table = c.in_ok-marks.marks.operations.items in
     let marks = c.deref.result.now in
     let old = c.loop-number.out.items in
-    let all = boxes ss begin items (number - 1) in
-    let piece = if takes_part items v then box ss begin items v else [] in
+    let all = boxes log items (number - 1) in
+    let piece = if takes_part items v then box log items v else [] in
     let is = c.node.ensures.value in
     let low : 0 < v = omega (arith, is, c.loop-number.auto.number) in
     let within : number < (log_of ss).nodes + 1 = omega (arith, c.loop-number-test.true, c.committed-number-end.ensures.count) in
@@ -43,8 +41,8 @@ loop-number-preserved c =
     (marks_at ss ((log_of ss).nodes + 1) (names items) table number c.index-operations.result.now marks within c.index-operations.ensures c.deref.ensures.value c.in_ok-marks.ensures.operations) in
     let part : c.index-takes_part.result.now ≡ takes_part items v =
     mark_at ((log_of ss).nodes + 1) (takes_part items) nodes number c.index-takes_part.result.now within c.index-takes_part.ensures c.in_ok-marks.ensures.nodes ∙ ap (takes_part items) (sym is) in
-    let put = c.in_ok-put_where_part.ensures.text items known ∙ ap (λ t. old ++ (if t then box ss begin items v else [])) part in
+    let put = c.in_ok-put_where_part.ensures.text items known ∙ ap (λ t. old ++ (if t then box log items v else [])) part in
     let here : number + 1 - 1 ≡ v = omega (arith, is) in
     let before : v - 1 ≡ number - 1 = omega (arith, is) in
-    let next = ap (λ n. boxes ss begin items n) here ∙ boxes_more ss begin items v low ∙ ap (λ n. boxes ss begin items n ++ piece) before in
-    appended c.args.out.now.items old c.put_where_part.new.out.items piece (boxes ss begin items (number + 1 - 1)) all c.loop-number.invariant put next
+    let next = ap (λ n. boxes log items n) here ∙ boxes_more log items v low ∙ ap (λ n. boxes log items n ++ piece) before in
+    appended c.args.out.now.items old c.put_where_part.new.out.items piece (boxes log items (number + 1 - 1)) all c.loop-number.invariant put next

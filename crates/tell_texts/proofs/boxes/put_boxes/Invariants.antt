@@ -1,7 +1,6 @@
 use Rattle.std.proofs.Common.{◌≡◌, ◌++◌, ◌-◌}
-use Rattle.tell_reasons.specs.Lines.{begin_at}
 use Rattle.tell_texts.specs.Graphs.{boxes}
 use Rattle.tell_texts.proofs.boxes.put_boxes.Given as goal
 
 abbrev pub invariant-loop-number : goal.invariant-loop-number
-invariant-loop-number l = l.out.items ≡ l.initial.out.items ++ boxes l.history (begin_at l.begins) l.items (l.number - 1)
+invariant-loop-number l = l.out.items ≡ l.initial.out.items ++ boxes l.log l.items (l.number - 1)

@@ -1,6 +1,5 @@
 use Rattle.std.proofs.Common.{◌++◌}
 use Rattle.std.specs.Prelude.{codes, decimal}
-use Rattle.tell_reasons.specs.Lines.{begin_at}
 use Rattle.tell_reasons.specs.Versions.{versions_text}
 use Rattle.tell_texts.proofs.Pieces.{add_piece}
 use Rattle.tell_texts.proofs.text.put_forced.Goals as goal
@@ -11,7 +10,7 @@ returns c =
     let left = codes "[" in
     let number = decimal c.args.number in
     let right = codes "] " in
-    let versions = versions_text c.args.history.now (begin_at c.args.begins.now) c.args.order in
+    let versions = versions_text c.args.log.now c.args.order in
     let last = codes ":\n" in
     let a = c.extend_from_slice.new.self.items in
     let b = c.put_number.new.out.items in

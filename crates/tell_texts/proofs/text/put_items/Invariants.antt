@@ -1,5 +1,4 @@
-use Rattle.std.proofs.Common.{◌≡◌, ◌++◌, ◌≤◌, ◌^◌, ℕ, List, drop}
-use Rattle.tell_reasons.specs.Lines.{begin_at}
+use Rattle.std.proofs.Common.{◌≡◌, ◌++◌, ◌≤◌, ◌^◌, ℕ, List, false, drop}
 use Rattle.tell_texts.specs.Texts.{items_text}
 use Rattle.tell_texts.proofs.text.put_items.Given as goal
 
@@ -9,4 +8,4 @@ pub record Tells (old new rest all : List ℕ) (depth : ℕ) : Type 0 where
   pub fits : depth ≤ 2 ^ 62
 
 abbrev pub invariant-loop-item : goal.invariant-loop-item
-invariant-loop-item l = Tells l.initial.out.items l.out.items (items_text l.history (begin_at l.begins) l.depth (drop l.item-index l.items)) (items_text l.history (begin_at l.begins) 0 l.items) l.depth
+invariant-loop-item l = Tells l.initial.out.items l.out.items (items_text l.log l.depth l.walks (drop l.item-index l.items)) (items_text l.log 0 false l.items) l.depth

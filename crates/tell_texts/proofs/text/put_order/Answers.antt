@@ -1,5 +1,4 @@
 use Rattle.std.specs.Prelude.{codes}
-use Rattle.tell_reasons.specs.Lines.{begin_at}
 use Rattle.tell_reasons.specs.Versions.{versions_text}
 use Rattle.tell_texts.proofs.Pieces.{add_piece}
 use Rattle.std.proofs.Common.{◌++◌}
@@ -9,7 +8,7 @@ pub returns : goal.returns
 returns c =
     let old = c.args.out.now.items in
     let word = codes "suppose " in
-    let versions = versions_text c.args.history.now (begin_at c.args.begins.now) c.args.order in
+    let versions = versions_text c.args.log.now c.args.order in
     let last = codes ":\n" in
     let a = c.extend_from_slice.new.self.items in
     let b = c.put_versions.new.out.items in

@@ -1,8 +1,8 @@
 use Rattle.std.proofs.Common.{ℕ, List, subst, Vec, Global}
 use Rattle.reach_laws.specs.Reach.{Graph}
 use Rattle.reach_rows.specs.ReachRows.{AreRowsOf}
+use Rattle.side_edges.specs.declared.SideEdge.{SideEdge}
 use Rattle.branching.specs.Marked.{Keeps, MarksAll}
-use Rattle.branching.specs.declared.marks.Incoming.{Incoming}
 use Rattle.branching.proofs.Markings.{edge_marked}
 use Rattle.branching.proofs.kept_marks.Marks.add_edge.Goals as goal
 
@@ -11,4 +11,4 @@ returns-in-Kept-clause-adds c =
     let words = c.mark_refuted.new.marks in
     edge_marked c.args.rows.now c.args.edge c.args.self.now c.in-Kept.kept words c.source.result c.target.result c.in-Kept.is c.source.ensures c.target.ensures
     (subst (λ (l : List ℕ). Keeps l words) c.as_mut_slice-marks.ensures.value c.mark_refuted.ensures.keeps)
-    (subst (λ (l : List (Vec Incoming Global)). (graph : Graph) → AreRowsOf c.args.rows.now graph → MarksAll graph.edges c.source.result c.target.result l words) c.deref.ensures.value c.mark_refuted.ensures.marked)
+    (subst (λ (l : List (Vec SideEdge Global)). (graph : Graph) → AreRowsOf c.args.rows.now graph → MarksAll graph.edges c.source.result c.target.result l words) c.deref.ensures.value c.mark_refuted.ensures.marked)

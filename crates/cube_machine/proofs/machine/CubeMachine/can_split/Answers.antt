@@ -1,10 +1,9 @@
-use Rattle.std.proofs.Common.{◌≡◌, ◌<◌, not, ◌&&◌, length, Some, ◌∙◌, sym, ap, subst, arith}
-use Rattle.std.specs.Prelude.{nat_lt}
+use Rattle.std.proofs.Common.{◌<◌, not, ◌&&◌, length, Some, ◌∙◌, sym, ap, arith}
 use Rattle.std.proofs.lemmas.Bool.{lt-ltb}
+use Rattle.std.proofs.lemmas.Option.{slice_get-get_or}
 use Rattle.cube_laws.specs.Cubes.{is_decided}
 use Rattle.cube_machine.specs.Ways.{cube_in}
 use Rattle.cube_machine.specs.Flags.{is_flagged, is_odd}
-use Rattle.cube_machine.proofs.Lists.{get_some}
 use Rattle.cube_machine.proofs.Flags.{flagged_is}
 use Rattle.cube_machine.proofs.machine.CubeMachine.can_split.Goals as goal
 
@@ -14,7 +13,7 @@ returns-clause-split c =
     let k = c.from.result in let old = c.index_mut-decided.result.now in let now = c.go_to.new.self in
     let choice = c.args.choice in let cube = cube_in nodes c.args.id in let choices = i.polygraph.now.choices in
     let seats = c.self.invariant.seats in let r = c.get.ensures.range in let f = c.from.ensures in
-    let at = get_some table k old (omega (arith, seats, r, f)) ∙ ap (λ d. Some d) (sym c.index_mut-decided.ensures.value) in
+    let at = slice_get-get_or table k old (omega (arith, seats, r, f)) ∙ ap (λ d. Some d) (sym c.index_mut-decided.ensures.value) in
     let n = c.go_to.ensures.count ∙ c.self.invariant.noted.wide k old at in
     let few = ap length c.choices.ensures.choices in let number = c.get-number.ensures.value in
     let within : choice < length choices = omega (arith, few, number, c.if-number-choices.false) in

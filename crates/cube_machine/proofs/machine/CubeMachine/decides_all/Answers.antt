@@ -1,12 +1,12 @@
 use Rattle.std.proofs.Common.{◌≡◌, ℕ, ◌+◌, ◌<◌, ◌||◌, length, Some, ◌∙◌, sym, ap, arith}
 use Rattle.std.specs.List.{list_all, range_with_len}
+use Rattle.std.proofs.lemmas.Option.{slice_get-get_or}
 use Rattle.pruning_laws.specs.declared.side.Side.{Side}
 use Rattle.cube_laws.specs.Cubes.{is_decided}
 use Rattle.cube_machine.specs.Flags.{is_odd}
 use Rattle.cube_machine.specs.declared.decided.SideFlags.{SideFlags}
 use Rattle.cube_machine.proofs.Flags.{flagged_is}
 use Rattle.cube_machine.specs.Ways.{cube_in}
-use Rattle.cube_machine.proofs.Lists.{get_some}
 use Rattle.cube_machine.proofs.Orders.{all_noted}
 use Rattle.cube_machine.proofs.machine.CubeMachine.decides_all.Goals as goal
 
@@ -16,7 +16,7 @@ returns-clause-all c =
     let k = c.from.result in let old = c.index_mut-decided.result.now in let now = c.go_to.new.self in
     let t = is_decided (cube_in nodes c.args.id) in
     let seats = c.self.invariant.seats in let r = c.get.ensures.range in let f = c.from.ensures in
-    let at = get_some table k old (omega (arith, seats, r, f)) ∙ ap (λ d. Some d) (sym c.index_mut-decided.ensures.value) in
+    let at = slice_get-get_or table k old (omega (arith, seats, r, f)) ∙ ap (λ d. Some d) (sym c.index_mut-decided.ensures.value) in
     let n = c.go_to.ensures.count ∙ c.self.invariant.noted.wide k old at in
     let each = λ (v : ℕ) (side : Side) (lt : v < length now.flags.items). c.go_to.ensures.noted.each v side lt ∙ ap (λ id. is_odd (cube_in nodes id) v side) c.go_to.ensures.node in
     rw (← c.self.view_is)

@@ -1,10 +1,9 @@
-use Rattle.std.proofs.Common.{◌≡◌, ◌<◌, length, List, Some, refl, ◌∙◌, sym, ap, arith}
-use Rattle.serializability.specs.Polygraph.{Edge}
+use Rattle.std.proofs.Common.{◌≡◌, Some, refl, ◌∙◌, sym, ap, arith}
+use Rattle.std.proofs.lemmas.Option.{slice_get-get_or}
 use Rattle.reach_laws.specs.Reach.{Graph}
 use Rattle.cube_machine.specs.Ways.{cube_in}
 use Rattle.cube_machine.specs.Flags.{is_odd}
-use Rattle.cube_machine.specs.Listed.{is_among, is_cycle_by}
-use Rattle.cube_machine.proofs.Lists.{get_some}
+use Rattle.cube_machine.specs.Cycles.{is_among, is_cycle_by}
 use Rattle.cube_machine.proofs.Flags.{odd_once}
 use Rattle.cube_machine.proofs.Listed.{cycle_under}
 use Rattle.cube_machine.proofs.Kept.{kept_went}
@@ -15,7 +14,7 @@ invariant_of-self c =
     let i = c.self.inside in let table = i.decided.items in
     let k = c.from.result in let old = c.index_mut-decided.result.now in
     let seats = c.self.invariant.seats in let r = c.get.ensures.range in let f = c.from.ensures in
-    let at = get_some table k old (omega (arith, seats, r, f)) ∙ ap (λ d. Some d) (sym c.index_mut-decided.ensures.value) in
+    let at = slice_get-get_or table k old (omega (arith, seats, r, f)) ∙ ap (λ d. Some d) (sym c.index_mut-decided.ensures.value) in
     kept_went i.polygraph.now i.tree i.closed i.budget i.graph i.sides.items table k old c.go_to.new.self c.self.invariant at c.go_to.ensures.noted c.go_to.ensures.count
 
 pub returns-clause-cycle : goal.returns-clause-cycle
@@ -24,7 +23,7 @@ returns-clause-cycle c =
     let k = c.from.result in let old = c.index_mut-decided.result.now in let now = c.go_to.new.self in
     let cube = cube_in nodes c.args.id in
     let seats = c.self.invariant.seats in let r = c.get.ensures.range in let f = c.from.ensures in
-    let at = get_some table k old (omega (arith, seats, r, f)) ∙ ap (λ d. Some d) (sym c.index_mut-decided.ensures.value) in
+    let at = slice_get-get_or table k old (omega (arith, seats, r, f)) ∙ ap (λ d. Some d) (sym c.index_mut-decided.ensures.value) in
     let n = c.go_to.ensures.count ∙ c.self.invariant.noted.wide k old at in
     let known : c.known.result.now.edges ≡ p.known = ap (λ (g : Graph). g.edges) c.known.ensures in
     rw (← c.self.view_is)

@@ -1,3 +1,0 @@
-//! A worker's decision.
-
-pub use branching::laws::turn;

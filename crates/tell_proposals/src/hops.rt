@@ -1,0 +1,246 @@
+//! The hops that a walk may take, and what they cost.
+
+use serializability::NodeIx;
+use session_history::History;
+use std::alloc::{AllocError, Global};
+use write_chains::Chains;
+
+/// What a hop costs that a session or moments show. Two hops cost more than one of any kind that
+/// leads to a reader, so no walk goes around what the log shows.
+const BY_ORDER: usize = 4;
+
+/// What a hop costs that reads and writes show.
+const BY_READS: usize = 5;
+
+/// What a hop says of its two transactions.
+#[derive(Clone, Copy, PartialEq, Eq)]
+pub enum Kind {
+    /// Nothing: it leads on inside a session, a time or a key.
+    On,
+    Session,
+    Moments,
+    Read,
+    /// The first misses a write of the second.
+    Missed,
+    /// The first wrote a version before the second did.
+    Written,
+}
+
+/// A hop to a place, what it costs, and the number of the kept order that gives it; none where the
+/// log shows it.
+#[derive(Clone, Copy)]
+pub struct Hop {
+    pub to: usize,
+    pub kind: Kind,
+    pub cost: usize,
+    pub kept: Option<usize>,
+}
+
+/// The hops from each place. A node's place is its number. Behind the nodes stands for each node
+/// one place of its session, from which each later node of the session is reached for nothing; then
+/// as many places in the order in which nodes began, and one for each key.
+#[derive(Drop)]
+pub struct Hops {
+    pub nodes: usize,
+    lists: Vec<Vec<Hop>>,
+}
+
+/// A node that began at a moment.
+#[derive(Clone, Copy)]
+struct Begun {
+    moment: u64,
+    node: NodeIx,
+}
+
+/// What a hop costs that the log shows.
+fn cost_of(kind: Kind) -> usize {
+    match kind {
+        Kind::On => 0,
+        Kind::Session | Kind::Moments => BY_ORDER,
+        Kind::Read | Kind::Missed | Kind::Written => BY_READS,
+    }
+}
+
+/// The node of this number, and node 0 where there is none.
+pub fn node_at(number: usize) -> NodeIx {
+    NodeIx::new(number).unwrap_or(NodeIx::INITIAL)
+}
+
+/// Which of the nodes that read a version of the key writes it: the next of the chain.
+fn next_writer(history: &History, key: usize, readers: &[NodeIx]) -> Option<NodeIx> {
+    if history.keys() <= key {
+        return None;
+    }
+    let writers = history.writers_of(key);
+    for reader in readers {
+        if writers.contains(reader) {
+            return Some(*reader);
+        }
+    }
+    None
+}
+
+/// The nodes of which it is stated when they began, in the order of these moments.
+fn begun_nodes(alloc: Global, history: &History) -> Result<Vec<Begun>, AllocError> {
+    let mut begun = Vec::new(alloc);
+    for number in 1..history.committed().saturating_add(1) {
+        let node = node_at(number);
+        if let Some(moment) = history.begun_of(node) {
+            begun.push(Begun { moment, node })?;
+        }
+    }
+    begun.sort_by_key(|entry| entry.moment)?;
+    Ok(begun)
+}
+
+impl Hops {
+    /// None, of so many nodes and keys.
+    fn none(alloc: Global, nodes: usize, keys: usize) -> Result<Hops, AllocError> {
+        let mut lists = Vec::new(alloc);
+        let rails = nodes.saturating_add(1).saturating_mul(3);
+        for _ in 0..rails.saturating_add(keys) {
+            lists.push(Vec::new(alloc))?;
+        }
+        Ok(Hops { nodes, lists })
+    }
+
+    /// What the log shows.
+    pub fn of(alloc: Global, chains: &Chains<'_>) -> Result<Hops, AllocError> {
+        let history = chains.history();
+        let mut hops = Hops::none(alloc, history.committed(), history.keys())?;
+        hops.add_sessions(history)?;
+        hops.add_moments(alloc, history)?;
+        hops.add_reads(history)?;
+        for edge in chains.inner_edges() {
+            hops.add_shown(edge.source().get(), edge.target().get(), Kind::Missed)?;
+        }
+        for key in 0..history.keys() {
+            hops.add_initial(chains, key)?;
+        }
+        Ok(hops)
+    }
+
+    /// How many places there are.
+    pub fn places(&self) -> usize {
+        self.lists.len()
+    }
+
+    /// The hops from a place.
+    pub fn from(&self, place: usize) -> &[Hop] {
+        match self.lists.get(place) {
+            Some(hops) => hops,
+            None => &[],
+        }
+    }
+
+    /// Adds a hop.
+    pub fn add(&mut self, from: usize, hop: Hop) -> Result<(), AllocError> {
+        if let Some(hops) = self.lists.get_mut(from) {
+            hops.push(hop)?;
+        }
+        Ok(())
+    }
+
+    /// Adds a hop that the log shows.
+    fn add_shown(&mut self, from: usize, to: usize, kind: Kind) -> Result<(), AllocError> {
+        let (cost, kept) = (cost_of(kind), None);
+        let hop = Hop {
+            to,
+            kind,
+            cost,
+            kept,
+        };
+        self.add(from, hop)
+    }
+
+    /// The place of a node in its session.
+    fn in_session(&self, node: usize) -> usize {
+        self.nodes.saturating_add(1).saturating_add(node)
+    }
+
+    /// The place behind this many nodes in the order in which they began.
+    fn in_time(&self, count: usize) -> usize {
+        self.nodes
+            .saturating_add(1)
+            .saturating_mul(2)
+            .saturating_add(count)
+    }
+
+    /// The place of a key.
+    fn of_key(&self, key: usize) -> usize {
+        self.nodes
+            .saturating_add(1)
+            .saturating_mul(3)
+            .saturating_add(key)
+    }
+
+    /// From each node to those behind it in its session.
+    fn add_sessions(&mut self, history: &History) -> Result<(), AllocError> {
+        for next in 2..self.nodes.saturating_add(1) {
+            let node = next.saturating_sub(1);
+            let rail = self.in_session(next);
+            self.add_shown(rail, next, Kind::On)?;
+            if history.session_of(node_at(node)) == history.session_of(node_at(next)) {
+                self.add_shown(node, rail, Kind::Session)?;
+                self.add_shown(self.in_session(node), rail, Kind::On)?;
+            }
+        }
+        Ok(())
+    }
+
+    /// From each node to those that began behind its end.
+    fn add_moments(&mut self, alloc: Global, history: &History) -> Result<(), AllocError> {
+        let begun = begun_nodes(alloc, history)?;
+        for (count, entry) in begun.iter().enumerate() {
+            let rail = self.in_time(count);
+            self.add_shown(rail, entry.node.get(), Kind::On)?;
+            self.add_shown(rail, self.in_time(count.saturating_add(1)), Kind::On)?;
+        }
+        for number in 1..self.nodes.saturating_add(1) {
+            if let Some(end) = history.ended_of(node_at(number)) {
+                let count = begun.partition_point(|entry| entry.moment <= end);
+                if count < begun.len() {
+                    self.add_shown(number, self.in_time(count), Kind::Moments)?;
+                }
+            }
+        }
+        Ok(())
+    }
+
+    /// From each node to those that read from it.
+    fn add_reads(&mut self, history: &History) -> Result<(), AllocError> {
+        for number in 1..self.nodes.saturating_add(1) {
+            for read in history.reads_of(node_at(number)) {
+                self.add_shown(read.source.get(), number, Kind::Read)?;
+            }
+        }
+        Ok(())
+    }
+
+    /// From those that read the key's initial value, or what goes back to it, to who writes the key
+    /// and does not read it.
+    fn add_initial(&mut self, chains: &Chains<'_>, key: usize) -> Result<(), AllocError> {
+        if chains.history().keys() <= key {
+            return Ok(());
+        }
+        let place = self.of_key(key);
+        let mut writer = NodeIx::INITIAL;
+        for _ in 0..self.nodes.saturating_add(1) {
+            if chains.history().committed() < writer.get() {
+                break;
+            }
+            let readers = chains.readers(key, writer);
+            for reader in readers {
+                self.add_shown(reader.get(), place, Kind::Missed)?;
+            }
+            match next_writer(chains.history(), key, readers) {
+                Some(next) => writer = next,
+                None => break,
+            }
+        }
+        for chain in chains.chains_of(key) {
+            self.add_shown(place, chain.head.get(), Kind::On)?;
+        }
+        Ok(())
+    }
+}

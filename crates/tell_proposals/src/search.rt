@@ -1,0 +1,175 @@
+//! The cheapest walks from a node.
+
+use crate::claim::Claim;
+use crate::hops::{Hops, Kind};
+use serializability::NodeIx;
+use std::alloc::{AllocError, Global};
+
+/// No walk that is proposed costs so much.
+pub const FAR: usize = 1_000;
+/// No search takes so many turns at one cost.
+const MAX_TURNS: usize = 1_000_000;
+
+/// The hop by which a place was reached.
+#[derive(Clone, Copy)]
+struct Reached {
+    cost: usize,
+    from: usize,
+    kind: Kind,
+    kept: Option<usize>,
+}
+
+/// A walk: its nodes, the numbers of the kept orders that it rests on, and what it claims.
+#[derive(Drop)]
+pub struct Walk {
+    pub nodes: Vec<NodeIx>,
+    pub kept: Vec<usize>,
+    pub claim: Claim,
+}
+
+/// The cheapest walks from one node, and the places that are still to be looked at, by cost.
+#[derive(Drop)]
+pub struct Search {
+    reached: Vec<Reached>,
+    open: Vec<Vec<usize>>,
+}
+
+/// What is known of a place that was not reached.
+fn unreached() -> Reached {
+    Reached {
+        cost: FAR,
+        from: 0,
+        kind: Kind::On,
+        kept: None,
+    }
+}
+
+impl Search {
+    /// One among so many places.
+    pub fn new(alloc: Global, places: usize) -> Result<Search, AllocError> {
+        let mut open = Vec::new(alloc);
+        for _ in 0..FAR {
+            open.push(Vec::new(alloc))?;
+        }
+        Ok(Search {
+            reached: vec![in alloc; unreached(); places]?,
+            open,
+        })
+    }
+
+    /// What the cheapest walk to a place costs.
+    pub fn cost(&self, place: usize) -> usize {
+        match self.reached.get(place) {
+            Some(reached) => reached.cost,
+            None => FAR,
+        }
+    }
+
+    /// Notes that a place was reached, where that is cheaper than before.
+    fn reach(&mut self, place: usize, reached: Reached) -> Result<(), AllocError> {
+        let Some(known) = self.reached.get_mut(place) else {
+            return Ok(());
+        };
+        if known.cost <= reached.cost {
+            return Ok(());
+        }
+        *known = reached;
+        if let Some(places) = self.open.get_mut(reached.cost) {
+            places.push(place)?;
+        }
+        Ok(())
+    }
+
+    /// Looks at a place that was reached at this cost, if it was not reached for less.
+    fn look_at(
+        &mut self,
+        hops: &Hops,
+        place: usize,
+        cost: usize,
+        limit: usize,
+    ) -> Result<(), AllocError> {
+        if self.cost(place) != cost {
+            return Ok(());
+        }
+        for hop in hops.from(place) {
+            if hop.kept.is_none_or(|kept| kept < limit) {
+                let cost = cost.saturating_add(hop.cost);
+                let reached = Reached {
+                    cost,
+                    from: place,
+                    kind: hop.kind,
+                    kept: hop.kept,
+                };
+                self.reach(hop.to, reached)?;
+            }
+        }
+        Ok(())
+    }
+
+    /// A place that is still to be looked at, of this cost.
+    fn next(&mut self, cost: usize) -> Option<usize> {
+        self.open.get_mut(cost)?.pop()
+    }
+
+    /// Finds the cheapest walks from a node by what the log shows and the first `limit` kept
+    /// orders.
+    pub fn run(&mut self, hops: &Hops, start: NodeIx, limit: usize) -> Result<(), AllocError> {
+        for place in 0..self.reached.len() {
+            if let Some(reached) = self.reached.get_mut(place) {
+                *reached = unreached();
+            }
+        }
+        let reached = Reached {
+            cost: 0,
+            from: start.get(),
+            kind: Kind::On,
+            kept: None,
+        };
+        self.reach(start.get(), reached)?;
+        for cost in 0..FAR {
+            for _ in 0..MAX_TURNS {
+                let Some(place) = self.next(cost) else {
+                    break;
+                };
+                self.look_at(hops, place, cost, limit)?;
+            }
+        }
+        Ok(())
+    }
+
+    /// The cheapest walk to a node, which was reached.
+    pub fn walk_to(
+        &self,
+        alloc: Global,
+        hops: &Hops,
+        start: NodeIx,
+        end: NodeIx,
+    ) -> Result<Walk, AllocError> {
+        let mut nodes = Vec::new(alloc);
+        let mut kept = Vec::new(alloc);
+        let mut claim = Claim::none();
+        let mut place = end.get();
+        nodes.push(end)?;
+        for _ in 0..self.reached.len() {
+            let Some(reached) = self.reached.get(place) else {
+                break;
+            };
+            claim.add(reached.kind);
+            if let Some(number) = reached.kept {
+                kept.push(number)?;
+            }
+            place = reached.from;
+            if place == start.get() {
+                break;
+            }
+            if place <= hops.nodes {
+                if let Some(node) = NodeIx::new(place) {
+                    nodes.push(node)?;
+                }
+            }
+        }
+        nodes.push(start)?;
+        nodes.reverse();
+        Ok(Walk { nodes, kept, claim })
+    }
+}

@@ -1,6 +1,0 @@
-use Rattle.std.proofs.Common.{arith}
-use Rattle.tell_reasons.proofs.Begun.{has_line}
-use Rattle.tell_texts.proofs.boxes.put_op_label.Goals as goal
-
-pub put_op_in_line-requires : goal.put_op_in_line-requires
-put_op_in_line-requires c = record { line = has_line c.args.history.now c.args.begins.now c.args.node c.args.op c.requires.lines c.requires.node (omega (arith, c.requires.op)) }
