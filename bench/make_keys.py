@@ -2,7 +2,7 @@
 """make_keys.py FOLDER: logs of 200,000 operations whose keys were chosen to be slow to number, beside a harmless one. Takes about 10 s.
 
 `indexmap` hashes a key by its length and then byte by byte, each by a folded multiplication; 11 bits of the hash say where the
-search of 10,000 keys begins, and 8 bits are the tag by which a key is compared at all. `history` marks a key by the same hasher,
+search of 10,000 keys begins, and 8 bits are the tag by which a key is compared at all. `session_history` marks a key by the same hasher,
 fed with all bytes at once: there a state that is written out again as the next 8 bytes makes the hash 0, whatever 8 bytes follow."""
 import itertools, os, sys
 

@@ -13,7 +13,7 @@ many ways, and each has to be seen; so the test is tested too. The graph of one 
 byte; where Graphviz is there, it draws those of the examples. Where SEEDS is not said, each form of line has to be met among the logs.
 Last line:
 'explained: N passed, M failed'."""
-import collections, concurrent.futures, os, random, re, shutil, subprocess, sys
+import collections, concurrent.futures, itertools, os, random, re, shutil, subprocess, sys
 
 HERE = os.path.dirname(os.path.abspath(__file__))
 sys.path.insert(0, HERE)
@@ -26,10 +26,14 @@ EDGE = re.compile('%s before %s: (.+)' % (NODE, NODE))
 VERSION = r'[1-9][0-9]*, which %s wrote \(line [1-9][0-9]*\)' % NODE
 VERSIONS = '%s: %s, comes before %s' % (KEY, VERSION, VERSION)
 STEP = re.compile(r'\[%s\] %s:' % (NUMBER, VERSIONS))
-SINCE = re.compile(r'    since %s reads [0-9]+ \(line [1-9][0-9]*\)(?:, which goes back to [1-9][0-9]*,)? and comes after %s:' % (NODE, NODE))
+SINCE = re.compile(r'    if [1-9][0-9]* came first, %s, which reads [0-9]+ \(line [1-9][0-9]*\)(?:, which goes back to [1-9][0-9]*)?, '
+                   'would come before %s, but %s comes before %s:' % (NODE, NODE, NODE, NODE))
 CYCLE = re.compile('cycle from %s:' % NODE)
 ORDER = re.compile('suppose %s:' % VERSIONS)
 LEAVES = re.compile('whichever of these versions came first, a cycle closes(?:, %s in all; the first 1000 of them)?:' % NUMBER)
+CROSSED = 'no serial order allows all four reads: in any, one of these pairs is never current:'
+PAIR = re.compile(r'    %s reads %s %s \(line %s\) and %s %s \(line %s\)' % (NODE, KEY, NUMBER, NUMBER, KEY, NUMBER, NUMBER))
+LONG_FORK = 'known as: long fork (G-nonadjacent-item)'
 # What is said of an edge of a step or of a decided order: whose operation, its key, and what Q wrote, behind this.
 KEPT = ('%s (?:reads|wrote) %s [1-9][0-9]* \\(line [1-9][0-9]*\\)(?:, which goes back to [1-9][0-9]*)?, which %%s before [1-9][0-9]*, '
         'which %s wrote \\(line [1-9][0-9]*\\)' % (NODE, KEY, NODE))
@@ -56,10 +60,12 @@ WANTED += ['tree ' + kind for kind in ('session', 'read', 'anti-dependency', 've
                                        'of depth 2', 'of depth 3', 'of depth 4 or more', 'of more than 1000 leaves')]
 WANTED += ['a step by a read', 'a step by a read that goes back', 'a step by a walk alone', 'forced that goes back', 'decided that goes back']
 WANTED += ['A9 known as: ' + name for name in
-           ('a missed write in a circle (G-single)', 'writes and sessions in a circle (G0-process)',
-            'writes and moments in a circle (G0-realtime)', 'circular information flow (G1c)', 'read skew (G-single)',
-            'a session misses its own write (G-single-process)', 'write skew (G2-item)', 'missed writes in a circle (G2-item)',
-            'long fork (G-nonadjacent-item)')]
+           ('a missed write in a circle (G-single)', 'a missed write and sessions in a circle (G-single-process)',
+            'writes and moments in a circle (G0-realtime)', 'a read from the future (G1c-process)', 'read skew (G-single)',
+            'read skew by way of sessions (G-single-process)', 'a session misses its own write (G-single-process)',
+            'write skew (G2-item)', 'write skew by way of sessions (G2-item-process)', 'missed writes in a circle (G2-item)',
+            'long fork by way of sessions (G-nonadjacent-item-process)')]
+WANTED += ['%s with%s crossed reads' % (what, out) for what in ('tree', 'A9') for out in ('', 'out')]
 WANTED += ['tree with steps', 'a cycle with 2 decided orders', 'a cycle with a step and a decided order', 'an order of 2 decided above', 'graph']
 
 Op = collections.namedtuple('Op', 'kind key wid line')
@@ -176,11 +182,12 @@ class Log:
         """What a cycle is called, by the kinds of its edges."""
         return self.named_by([self.reason(a, b)[0] for a, b in zip(names, names[1:])])
 
-    def named_by(self, kinds):
-        """What a cycle of edges of these kinds is called."""
+    def named_by(self, kinds, below=()):
+        """What a cycle of edges of these kinds is called, where the steps below it take edges of these."""
         misses = [kind in ('anti-dependency', 'version order', 'missed write') for kind in kinds]
         missed, are_apart = sum(misses), not any(one and two for one, two in zip(misses, misses[1:] + misses[:1]))
-        by_order = lambda none, session, moments: moments if 'moments' in kinds else session if 'session' in kinds else none
+        every = {*kinds, *below}
+        by_order = lambda none, session, moments: moments if 'moments' in every else session if 'session' in every else none
         if not missed and 'read' in kinds:
             return by_order('circular information flow (G1c)', *('a read from the future (G1c%s)' % end for end in ('-process', '-realtime')))
         if not missed and 'order of writes' in kinds:
@@ -195,7 +202,7 @@ class Log:
         if missed == 1:
             return 'read skew' + by_order(' (G-single)', ' by way of sessions (G-single-process)', ' by way of moments (G-single-realtime)')
         if len(kinds) == 2:
-            return 'write skew (G2-item)'
+            return 'write skew' + by_order(' (G2-item)', ' by way of sessions (G2-item-process)', ' by way of moments (G2-item-realtime)')
         if are_apart:
             return 'long fork' + by_order(' (G-nonadjacent-item)', ' by way of sessions (G-nonadjacent-item-process)',
                                           ' by way of moments (G-nonadjacent-item-realtime)')
@@ -255,6 +262,15 @@ class Log:
             left += [it.writes(key)[-1].wid for it in self.readers(key, wid) if it.writes(key)]
         return left
 
+    def has_crossed(self):
+        """Whether all four pairs of two versions of a key and two of another were read; initial values do not count."""
+        beside = {}
+        for it in self.nodes:
+            read = {op.key: op.wid for op in it.ops if op.kind == 'r' and op.wid and it.reads(op.key)[:1] == [op]}
+            for key, other in itertools.permutations(read, 2):
+                beside.setdefault((key, other), {}).setdefault(read[key], set()).add(read[other])
+        return any(len(one & two) > 1 for seen in beside.values() for one, two in itertools.combinations(seen.values(), 2))
+
     def begins_chain(self, it, key):
         return it in self.nodes and it.writes(key) and not it.reads(key)
 
@@ -282,8 +298,8 @@ class Log:
         the key."""
         lines = ['[%s] %s:' % (number, self.said_of_order(key, first, second))]
         for read in [op for op in self.named[u].ops if (op.kind, op.key) == ('r', key)][:u != second]:
-            back = self.back(read, key, second)
-            lines.append('    since %s reads %d (line %d)%s and comes after %s:' % (u, read.wid, read.line, back and back + ',', v))
+            said = (self.named[second].writes(key)[-1].wid, u, read.wid, read.line, self.back(read, key, second), v, v, u)
+            lines.append('    if %d came first, %s, which reads %d (line %d)%s, would come before %s, but %s comes before %s:' % said)
         return lines
 
     def side(self, key, first, second):
@@ -329,6 +345,7 @@ class Telling:
     def __init__(self, log, lines, what):
         self.log, self.lines, self.what, self.at = log, lines, what, 0
         self.steps, self.used, self.leaves, self.left_out, self.met = [], set(), 0, 0, collections.Counter()
+        self.taken = set()
 
     def line_at(self, place, form, depth):
         """What the line at this place says, if it has this form, behind two blanks for each decision above."""
@@ -346,6 +363,7 @@ class Telling:
         return self.lines[self.at:self.at + 1]
 
     def judge(self):
+        self.crossed()
         while True:
             step = self.next(STEP)
             if step is None:
@@ -361,6 +379,29 @@ class Telling:
         told(not self.rest(), 'more behind the end: %r' % self.rest())
         told(self.used == set(range(1, count + 1)), 'steps that nothing needs')
 
+    def crossed(self):
+        """Four transactions that read all four pairs of two versions of a key and two of another, where the log has such."""
+        has = self.log.has_crossed()
+        self.met['%s with%s crossed reads' % (self.what, '' if has else 'out')] += 1
+        told((self.rest() == [CROSSED]) == has, 'crossed reads: %r, wanted %s' % (self.rest(), has))
+        if not has:
+            return
+        self.at += 1
+        versions = []
+        for place in range(4):
+            pair = self.next(PAIR)
+            told(pair, 'no pair at %r' % self.rest())
+            name, *reads = pair
+            told(self.log.named.get(name) in self.log.nodes, 'no committed or taken transaction %s' % name)
+            for key, wid, line in (reads[:3], reads[3:]):
+                told(self.log.named[name].reads(key)[:1] == [Op('r', key, int(wid), int(line))], '%s does not first read %s so' % (name, key))
+            versions.append((tuple(reads[:2]), tuple(reads[3:5])))
+        first, second = ([pair[place] for pair in versions] for place in (0, 1))
+        told(first[0] == first[1] != first[2] == first[3] and first[0][0] == first[2][0], 'the first key: %r' % first)
+        told(second[0] == second[2] != second[1] == second[3] and second[0][0] == second[1][0] != first[0][0], 'the second key: %r' % second)
+        told(self.rest() == [LONG_FORK], 'wanted %r' % LONG_FORK)
+        self.at += 1
+
     def judge_step(self, number, key, first, second):
         where, place = 'step %s' % number, self.at - 1
         told(int(number) == len(self.steps) + 1, '%s stands at place %d' % (where, len(self.steps) + 1))
@@ -374,6 +415,7 @@ class Telling:
         follows = self.log.side(key, second, first) + [(self.log.last_of(key, second), first)]
         told((u, v) in follows, '%s: the other side has no such edge' % where)
         self.no_way_around(where, walk)
+        self.taken |= {self.log.reason(a, b)[0] for a, b, _ in walk}
         for a, _, _ in walk[:-1]:
             for w, _ in self.log.side(key, second, first):
                 told(w == u or not self.log.reason(a, w)[0], '%s: %s is nearer, behind %s' % (where, w, a))
@@ -384,7 +426,7 @@ class Telling:
     def known_as(self, edges):
         """The name of the cycle that these edges close, which is the last line."""
         kinds = [self.log.reason(a, b)[0] or self.kind_of_step(a, ground) for a, b, ground in edges]
-        right = 'known as: ' + self.log.named_by(kinds)
+        right = 'known as: ' + self.log.named_by(kinds, self.taken)
         told(self.rest() == [right], 'wanted %r' % right)
         self.at += 1
         self.met['A9 ' + right] += 1
@@ -626,6 +668,8 @@ def spoilt(r, text, checked, explained):
     if lines[-1].startswith('known as: '):
         yield 'a cycle without its name', lines[:-1]
         yield 'another name of a cycle', lines[:-1] + [re.sub(r'\(G.*\)|each other', '(G2)', lines[-1])]
+    if lines[0] == CROSSED:
+        yield from spoilt_crossed(r, lines)
     if not cycles:
         return
     n = r.choice(cycles)
@@ -663,10 +707,11 @@ def spoilt(r, text, checked, explained):
     if both[1:]:
         yield 'a step without its second line', without(n + 1)
         yield 'what is refuted is turned round', stepped(*log.said_of_step(number, key, first, second, v, u))
-        yield 'the walk is not said to end there', stepped(both[0], both[1].rsplit(' and comes after ', 1)[0] + ':')
+        yield 'the walk is not said to end there', stepped(both[0], both[1].rsplit(', but ', 1)[0] + ':')
     else:
         op = r.choice(log.named[u].ops)
-        yield 'a read is told where none is', stepped(both[0], '    since %s reads %d (line %d) and comes after %s:' % (u, op.wid, op.line, v))
+        yield 'a read is told where none is', stepped(both[0], '    if %d came first, %s, which reads %d (line %d), would come before %s, but %s comes before %s:'
+                                                    % (op.wid, u, op.wid, op.line, v, v, u))
     n = r.randrange(walk, behind)
     for moved in (bare[n], '  ' + bare[n], '   ' + bare[n], '     ' + bare[n], '      ' + bare[n]):
         yield 'a walk is not indented so', lines[:n] + [moved] + lines[n + 1:]
@@ -679,6 +724,21 @@ def spoilt(r, text, checked, explained):
             spoilt_line = both[place][:at] + '9' + both[place][at:]
             yield 'another number in a step', stepped(*(both[:place] + [spoilt_line] + both[place + 1:]))
     yield 'all numbers one higher', renamed(lines, 1)
+
+
+def spoilt_crossed(r, lines):
+    """The same of four reads before a tree."""
+    yield 'the reads are not told', lines[6:]
+    yield 'the reads have no name', lines[:5] + lines[6:]
+    yield 'the reads have another name', lines[:5] + ['known as: write skew (G2-item)'] + lines[6:]
+    yield 'the reads are told twice', lines[:6] + lines
+    n = r.randrange(1, 5)
+    yield 'three reads are told', lines[:n] + lines[n + 1:]
+    yield 'a read stands twice', lines[:n] + [lines[n - 1 if n > 1 else n + 1]] + lines[n + 1:]
+    yield 'two reads are exchanged', lines[:1] + [lines[2], lines[1]] + lines[3:]
+    for at in [found.start() for found in re.finditer(r'[0-9]+(?= \(line|\))', lines[n])]:
+        yield 'another number in a read', lines[:n] + [lines[n][:at] + '9' + lines[n][at:]] + lines[n + 1:]
+    yield 'a read is indented otherwise', lines[:n] + [lines[n][2:]] + lines[n + 1:]
 
 
 def spoilt_back(bare, n, instead):

@@ -30,7 +30,10 @@ STEP = re.compile(r'\[(\d+)\] %s:' % VERSIONS.pattern)
 ORDER = re.compile('suppose %s:' % VERSIONS.pattern)
 LEAVES = re.compile('whichever of these versions came first, a cycle closes(, [0-9]+ in all; the first 1000 of them)?:')
 KEPT = re.compile(r', which (?:by \[%s\] comes|is supposed to come) before %s, which %s wrote %s' % (NUMBER, NUMBER, NAME, LINE))
-SINCE = re.compile('    since %s reads %s %s%s(?:, which goes back to %s)?(,)? and comes after %s:' % (NAME, NUMBER, LINE, WHERE, NUMBER, NAME))
+SINCE = re.compile('    if %s came first, %s, which reads %s %s%s(?:, which goes back to %s)?, would come before %s, but %s comes before %s:'
+                   % (NUMBER, NAME, NUMBER, LINE, WHERE, NUMBER, NAME, NAME, NAME))
+CROSSED = 'no serial order allows all four reads: in any, one of these pairs is never current:'
+PAIR = re.compile('    %s reads %s %s %s%s(?:,? and %s reads | and )%s %s %s%s' % (NAME, KEY, NUMBER, LINE, WHERE, NAME, KEY, NUMBER, LINE, WHERE))
 RANGE = re.compile(r'(\d+)\.(\d+)(?: to \d+\.(\d+))? \(lines (\d+) to (\d+)\)')
 
 Txn = collections.namedtuple('Txn', 'ops outcome begun ended')
@@ -377,22 +380,39 @@ class Checked:
 
     def since(self, text, step):
         """The read of the key of this step, by which the one that ends its walk stands there."""
-        late, wid, line, where, back, comma, target = SINCE.fullmatch(text).groups()
+        first, late, wid, line, where, back, *names = SINCE.fullmatch(text).groups()
         key, other, target_of_step = step
         self.operation(late, 'r %s %s' % (key, wid), line, where)
-        self.must(target == target_of_step, 'another stands before it')
+        self.must(names == [target_of_step, target_of_step, late], 'another stands before it')
+        self.must(first == other, 'another version does not come first')
         self.must(wid == other if back is None else back == other and self.goes_back(key, wid, back), 'it is another version')
-        self.must((comma is not None) == (where is not None or back is not None), 'a comma')
         return late
+
+    def pair(self, text):
+        """A transaction that reads a version of one key and one of another. Two transactions stand there only behind the piece."""
+        name, key, wid, line, where, other, beside, another, other_line, other_where = PAIR.fullmatch(text).groups()
+        self.operation(name, 'r %s %s' % (key, wid), line, where)
+        self.operation(other or name, 'r %s %s' % (beside, another), other_line, other_where)
+        self.must((other is None) == (where is None) == (other_where is None), 'two transactions')
+        return (key, wid), (beside, another)
+
+    def crossed(self, pairs):
+        """Four reads are of all four pairs of two versions of a key and two of another."""
+        first, second = ([pair[place] for pair in pairs] for place in (0, 1))
+        self.must(len(pairs) == 4 and first[0] == first[1] != first[2] == first[3] and first[0][0] == first[2][0], 'the first key')
+        self.must(second[0] == second[2] != second[1] == second[3] and second[0][0] == second[1][0] != first[0][0], 'the second key')
 
     def all(self, lines, code):
         steps, behind, edges = 0, None, []
         # of a step its key, the version that comes second, and who wrote the first; who ends its walk, and that
-        cycles, step, late, walk = [], None, None, []
+        cycles, step, late, walk, pairs = [], None, None, [], []
         for text in lines:
             bare = text.lstrip(' ')
             self.rest = bare
-            if text.startswith('known as: ') or LEAVES.fullmatch(text):
+            if text == CROSSED or text.startswith('known as: ') or LEAVES.fullmatch(text):
+                continue
+            if PAIR.fullmatch(text):
+                pairs.append(self.pair(text))
                 continue
             if step and not EDGE.match(bare) and not SINCE.fullmatch(text):
                 self.must(walk and walk[0][0] == step[2] and late in (None, walk[-1][1]), 'a walk of others')
@@ -419,6 +439,8 @@ class Checked:
             else:
                 behind = self.line(text, behind, steps)
                 self.must(self.rest == '', 'left: ' + self.rest)
+        if pairs or CROSSED in lines:
+            self.crossed(pairs)
         if code == 'A8':
             cycles = [(edges[0][0], edges)]
         for start, edges in cycles:

@@ -451,6 +451,9 @@ class Page:
         head = element('p', escape(facts), class_='facts') + element('h1', escape(it.verdict)) + element('p', MEANINGS[it.code], class_='meaning')
         if it.known_as:
             head += element('p', escape('Known as: ' + it.known_as))
+        if it.pairs:
+            lines = ''.join(self.line(pair.line) for pair in it.pairs)
+            head += element('p', escape(it.lines[it.pairs[0].line - 2])) + element('ul', lines, class_='lines')
         if self.keys:
             its = [element('button', escape(key), type='button', class_='key', data_key=key) for key in list(self.keys)[:MOST_KEYS]]
             head += element('p', 'keys: ' + ''.join(its), class_='keys')

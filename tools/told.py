@@ -14,11 +14,14 @@ EDGE = re.compile('%s before %s: (.+)' % (NODE, NODE))
 VERSION = r'([0-9]+), which %s wrote \(line %s\)' % (NODE, NUMBER)
 VERSIONS = '%s: %s, comes before %s' % (KEY, VERSION, VERSION)
 STEP = re.compile(r'\[%s\] %s:' % (NUMBER, VERSIONS))
-SINCE = re.compile(r'    since %s reads [0-9]+ \(line %s\)(?:, which goes back to [0-9]+,)? and comes after %s:' % (NODE, NUMBER, NODE))
+SINCE = re.compile(r'    if [0-9]+ came first, %s, which reads [0-9]+ \(line %s\)(?:, which goes back to [0-9]+)?, would come before %s, but %s comes before %s:'
+                   % (NODE, NUMBER, NODE, NODE, NODE))
 CYCLE = re.compile('cycle from %s:' % NODE)
 ORDER = re.compile('suppose %s:' % VERSIONS)
 KNOWN = re.compile('known as: (.+)')
 LEAVES = re.compile('whichever of these versions came first, a cycle closes(?:, %s in all; the first 1000 of them)?:' % NUMBER)
+CROSSED = re.compile('no serial order allows all four reads: in any, one of these pairs is never current:')
+PAIR = re.compile(r'    %s reads %s ([0-9]+) \(line %s\) and %s ([0-9]+) \(line %s\)' % (NODE, KEY, NUMBER, KEY, NUMBER))
 # What is said of an edge by an order of versions: what its first transaction has of the key, and what the second one wrote.
 KEPT = r'%s (?:reads|wrote) %s ([0-9]+) \(line %s\)(?:, which goes back to [0-9]+)?, which %%s before %s' % (NODE, KEY, NUMBER, VERSION)
 # By how many decisions the walk of a step is indented.
@@ -96,16 +99,25 @@ class Order:
 
 
 @dataclass
+class Pair:
+    """A transaction that reads a version of one key and one of another, in these lines of the log."""
+    line: int
+    name: str
+    lines: Tuple[int, int]
+
+
+@dataclass
 class Explanation:
     """The verdict, and what stands behind it. `code` is A1 to A9 or TREE, and None where the log is not refuted; `behind` is the number of the
     first line of an anomaly behind that. A tree is told by its leaves: each cycle with the orders that are decided above it; `count` says
-    how many there are where not all are told."""
+    how many there are where not all are told. `pairs` are four reads that rule out every order, where the text has them before steps or a tree."""
     lines: List[str]
     code: Optional[str] = None
     behind: int = 2
     steps: List[Step] = field(default_factory=list)
     cycle: Optional[Cycle] = None
     known_as: Optional[str] = None
+    pairs: List[Pair] = field(default_factory=list)
     leaves: List[Tuple[List[Order], Cycle]] = field(default_factory=list)
     count: Optional[int] = None
 
@@ -122,6 +134,7 @@ class Explanation:
             found += said.groups()[:1] if said and form is READ else said.groups()[1:] if said else ()
         if not cycles:
             found += [name for line in self.lines[1:] for name in TELLS.findall(line)]
+        found += [pair.name for pair in self.pairs]
         for step in self.steps:
             found += [step.first, step.second, step.late] + [name for edge in step.walk for name in (edge.first, edge.second)]
         for cycle in cycles:
@@ -179,6 +192,11 @@ class Reader:
                 return found
             found.append(Step(line, int(number), key, first, second, walk[-1].second, said, walk))
 
+    def pairs(self):
+        """The four reads before steps or a tree, behind the line that says what they are."""
+        pairs = [self.next(PAIR) for _ in range(4)] if self.next(CROSSED) else []
+        return [Pair(line, name, (int(first), int(second))) for line, name, _, _, first, _, _, second in filter(None, pairs)]
+
     def leaves(self):
         """The cycles of a tree, each with the orders that are decided above it."""
         found, decided = [], []
@@ -222,6 +240,8 @@ def read(text):
         it.cycle = cycle and Cycle(cycle[0], reader.edges())
         it.known_as = reader.known_as()
     elif it.code in ('A9', TREE):
+        it.pairs = reader.pairs()
+        it.known_as = reader.known_as() if it.pairs else None
         it.steps = reader.steps()
         if it.code == 'A9':
             it.cycle, it.known_as = reader.cycle(), reader.known_as()

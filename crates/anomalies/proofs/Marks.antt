@@ -1,5 +1,5 @@
 -- The marks of a node's operations, one operation further.
-use Rattle.std.proofs.Common.{◌≡◌, ℕ, ◌+◌, ◌<◌, eqb, List, [], ◌∷◌, ◌++◌, length, get_or, set, Option, None, Some, refl, sym, ap, ◌∙◌, subst, arith, eq-eqb, ne_eqb, inl, inr}
+use Rattle.std.proofs.Common.{◌≡◌, ℕ, ◌+◌, ◌<◌, eqb, List, [], ◌∷◌, ◌++◌, length, get_or, set, Option, None, Some, refl, sym, ap, ◌∙◌, subst, arith, eq-eqb, inl, inr}
 use Rattle.std.specs.Option.{IfSome}
 use Rattle.std.proofs.lemmas.Bool.{cases_eq, cond-true, cond-false}
 use Rattle.std.proofs.lemmas.List.{get_or-set_same, get_or-set_other, length-set}
@@ -13,8 +13,7 @@ use Rattle.anomalies.proofs.Usages.{usage_more, usage_other}
 
 -- ---- before the first operation
 none_used : (v : ℕ) (o : Option LastUse) → IfSome o (λ mark. mark.node < v) → used_by v o ≡ None
-none_used v None h = refl
-none_used v (Some mark) h = cond-false (eqb mark.node v) (Some mark.used) None (ne_eqb mark.node v (λ e. omega (arith, h, e)))
+none_used v v1 h = grind (arith, cond-false)
 
 still_below : (v : ℕ) (o : Option LastUse) → IfSome o (λ mark. mark.node < v) → IfSome o (λ mark. mark.node < v + 1)
 still_below v None h = h
@@ -24,10 +23,7 @@ nothing_done : (x : ℕ) → IsUsage x [] None
 nothing_done x = record { own = refl; reads = λ _ w. refl }
 
 pub marked_none : (v : ℕ) (marks : List (Option LastUse)) → AreBelow v marks → AreMarked v [] marks
-marked_none v marks h = record {
-  usages = λ x lt. subst (IsUsage x []) (sym (none_used v (get_or marks x None) (h x))) (nothing_done x);
-  below = λ x. still_below v (get_or marks x None) (h x);
-}
+marked_none v marks h = grind (arith, none_used, nothing_done, still_below)
 
 -- ---- one operation further
 abbrev pub mark_of : ℕ → List (Option LastUse) → Event → LastUse
@@ -63,6 +59,4 @@ marked_more log v before behind e marks h lt none =
 
 -- the marks of a node, which is the one with this number
 pub below_next : (u v : ℕ) (old new : List (Option LastUse)) → u ≡ v → old ≡ new → AreBelow (u + 1) new → AreBelow (v + 1) old
-below_next u v old new same is h =
-    let P : ℕ → List (Option LastUse) → Type 0 = λ n l. AreBelow (n + 1) l in
-    subst (λ n. P n old) same (subst (P u) (sym is) h)
+below_next u v old new same is h = grind arith

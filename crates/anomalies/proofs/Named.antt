@@ -79,22 +79,16 @@ intermediate log v u x w before a ne unlike =
     (Has-from_range u 1 log.nodes (omega (arith, a.0)) (omega (arith, a.1)))
 
 unknown : (log : Log) (x w : ℕ) → w ≢ 0 → nodes_write log x w ≡ false → is_aborted log x w ≡ false → is_unknown log x w ≡ true
-unknown log x w ne n a =
-    and_from (not (eqb w 0)) (not (nodes_write log x w) && not (is_aborted log x w)) (not_from_false (eqb w 0) (ne_eqb w 0 ne))
-    (and_from (not (nodes_write log x w)) (not (is_aborted log x w)) (not_from_false (nodes_write log x w) n) (not_from_false (is_aborted log x w) a))
+unknown log x w ne n a = grind (arith, and_from, not_from_false)
 
 known_zero : (log : Log) (x w : ℕ) → w ≡ 0 → is_unknown log x w ≡ false
 known_zero log x w e = and_left (not (eqb w 0)) (not (nodes_write log x w) && not (is_aborted log x w)) (not_from_true (eqb w 0) (eq-eqb w 0 e))
 
 known_node : (log : Log) (x w : ℕ) → nodes_write log x w ≡ true → is_unknown log x w ≡ false
-known_node log x w n =
-    and_right (not (eqb w 0)) (not (nodes_write log x w) && not (is_aborted log x w))
-    (and_left (not (nodes_write log x w)) (not (is_aborted log x w)) (not_from_true (nodes_write log x w) n))
+known_node log x w n = grind (arith, and_right, and_left, not_from_true)
 
 known_aborted : (log : Log) (x w : ℕ) → is_aborted log x w ≡ true → is_unknown log x w ≡ false
-known_aborted log x w a =
-    and_right (not (eqb w 0)) (not (nodes_write log x w) && not (is_aborted log x w))
-    (and_right (not (nodes_write log x w)) (not (is_aborted log x w)) (not_from_true (is_aborted log x w) a))
+known_aborted log x w a = grind (arith, and_right, not_from_true)
 
 -- ---- a read of x as w in node v
 behind_read : (log : Log) (v x w : ℕ) (before behind front back : List Event) → StandsAt log v before (Read x w) behind → behind ≡ front ++ Write x w ∷ back → WritesAfter log v (before ++ Read x w ∷ front) x w
@@ -140,10 +134,7 @@ other_key_read log sound v x w y u last before behind ne (inr h) other =
     (not_aborted log x w (λ a. sound.numbered.aborted u y x w here.0 a.0 here.1 a.1 a.2)))
 
 pub aborted_read : (log : Log) (v x w u : ℕ) (last : Bool) (before behind : List Event) → IsWrite log w x u last → u ≡ 0 → external_anomaly log v before x w behind ≡ Some Aborted
-aborted_read log v x w u last before behind (inl h) z =
-    let a = aborted log x w h.1 in
-    pick_aborted (is_unknown log x w) (is_aborted log x w) _ (known_aborted log x w a) a
-aborted_read log v x w u last before behind (inr h) z = absurd (omega (arith, h.node.0, z))
+aborted_read log v x w u last before behind v8 z = grind (arith, aborted, pick_aborted, known_aborted)
 
 nodes_own : (log : Log) (x w u : ℕ) (last : Bool) → IsWrite log w x u last → u ≢ 0 → IsNodesWrite log u x w last
 nodes_own log x w u last (inl h) ne = absurd (ne h.0)

@@ -1,5 +1,5 @@
 -- The first of the results over a range of nodes or keys, and over the operations of a node.
-use Rattle.std.proofs.Common.{◌≡◌, ℕ, suc, ◌+◌, ◌-◌, ◌<◌, ◌≤◌, List, [], ◌∷◌, ◌++◌, length, get_or, take, drop, Option, None, Some, refl, sym, ap, ◌∙◌, arith}
+use Rattle.std.proofs.Common.{◌≡◌, ℕ, ◌+◌, ◌-◌, ◌<◌, ◌≤◌, List, [], ◌∷◌, ◌++◌, length, get_or, take, drop, Option, None, Some, refl, sym, ap, ◌∙◌, arith}
 use Rattle.std.specs.Prelude.{map}
 use Rattle.std.specs.List.{flat_map, range_with_len}
 use Rattle.std.specs.Option.{option_or}
@@ -21,24 +21,14 @@ abbrev pub first_from : {X : Type 0} → (X → Option Anomaly) → (ℕ → Lis
 first_from f G v end = first_some (map f (flat_map G (range_with_len v (end - v))))
 
 pub first_from-more : {X : Type 0} (f : X → Option Anomaly) (G : ℕ → List X) (v end : ℕ) → v < end → first_from f G v end ≡ option_or (first_some (map f (G v))) (first_from f G (v + 1) end)
-first_from-more f G v end lt =
-    let count : end - v ≡ suc (end - (v + 1)) = omega arith in
-    ap (λ n. first_some (map f (flat_map G (range_with_len v n)))) count
-    ∙ first-append f (G v) (flat_map G (range_with_len (v + 1) (end - (v + 1))))
-
-pub first_from-all : {X : Type 0} (f : X → Option Anomaly) (G : ℕ → List X) (v end : ℕ) → end ≤ v → first_from f G v end ≡ None
-first_from-all f G v end le =
-    let count : end - v ≡ 0 = omega arith in
-    ap (λ n. first_some (map f (flat_map G (range_with_len v n)))) count
+first_from-more f v1 v end lt = grind (arith, first-append)
 
 -- where the turn of v, here u, gives nothing, the rest decides
 pub passed : {X : Type 0} (f : X → Option Anomaly) (G : ℕ → List X) (u v end : ℕ) → u ≡ v → v < end → None ≡ first_some (map f (G u)) → first_from f G v end ≡ first_from f G (v + 1) end
-passed f G u v end same lt none =
-    first_from-more f G v end lt ∙ ap (λ o. option_or o (first_from f G (v + 1) end)) (sym (none ∙ ap (λ k. first_some (map f (G k))) same))
+passed f v1 u v end same lt none = grind (arith, first_from-more)
 
 pub stopped : {X : Type 0} (f : X → Option Anomaly) (G : ℕ → List X) (u v end : ℕ) (a : Anomaly) → u ≡ v → v < end → Some a ≡ first_some (map f (G u)) → first_from f G v end ≡ Some a
-stopped f G u v end a same lt some =
-    first_from-more f G v end lt ∙ ap (λ o. option_or o (first_from f G (v + 1) end)) (sym (some ∙ ap (λ k. first_some (map f (G k))) same))
+stopped f v1 u v end a same lt some = grind (arith, first_from-more)
 
 pub first_from-one : {X : Type 0} (f : X → Option Anomaly) (G : ℕ → List X) (n : ℕ) → first_from f G 1 (n + 1) ≡ first_some (map f (flat_map G (range_with_len 1 n)))
 first_from-one f G n = let count : n + 1 - 1 ≡ n = omega arith in ap (λ k. first_some (map f (flat_map G (range_with_len 1 k)))) count

@@ -6,7 +6,6 @@ use Rattle.std.specs.List.{filter, AllByRecursion, Contains}
 use Rattle.std.proofs.lemmas.List.{append_cancel_left}
 use Rattle.session_log.specs.Text.{ClientSession, Transaction}
 use Rattle.session_log.specs.declared.session.Op.{Op}
-use Rattle.session_log.specs.declared.session.Op.TheVariants as op
 use Rattle.serializability.specs.declared.event.Event.{Event}
 use Rattle.serializability.specs.declared.event.Event.TheVariants.{Write}
 use Rattle.serializability.specs.Log.{Log}
@@ -38,9 +37,8 @@ same_key x y w h = cc
 
 -- ---- keys
 events_below : (keys : List (List ℕ)) (ops : List Op) → AllByRecursion (λ o. Listed keys (op_key o)) ops → AllByRecursion (λ e. key_of e < length keys) (events_of keys ops)
-events_below keys [] h = tt
-events_below keys (op.Read key w ∷ ops) h = (number_below keys key h.0, events_below keys ops h.1)
-events_below keys (op.Write key w ∷ ops) h = (number_below keys key h.0, events_below keys ops h.1)
+events_below keys [] h = grind (arith, number_below)
+events_below keys (x ∷ ops) h = grind (arith, number_below, events_below keys ops h.1)
 
 -- ---- aborted transactions
 split_at : (es : List Event) (e : Event) (k : ℕ) → k < length es → get_or es k e ≡ e → (before : List Event) × ((behind : List Event) × (es ≡ before ++ e ∷ behind))

@@ -1,5 +1,5 @@
 -- One turn of the loop over a node's operations.
-use Rattle.std.proofs.Common.{◌≡◌, ℕ, zero, suc, ◌+◌, ◌<◌, ◌≤◌, List, [], ◌∷◌, ◌++◌, length, get_or, set, take, drop, Option, None, Some, sym, ap, ◌∙◌, subst, arith}
+use Rattle.std.proofs.Common.{◌≡◌, ℕ, zero, suc, ◌+◌, ◌<◌, ◌≤◌, List, [], ◌∷◌, length, get_or, set, take, drop, Option, None, Some, sym, ap, ◌∙◌, subst, arith}
 use Rattle.std.specs.List.{AllByRecursion}
 use Rattle.std.specs.Option.{option_map, option_or}
 use Rattle.std.proofs.lemmas.List.{take-append-drop, drop_more, take_more, length-take-le, get_or_default}
@@ -28,15 +28,10 @@ holds_at P (e ∷ ops) zero d h lt = h.0
 holds_at P (e ∷ ops) (suc i) d h lt = holds_at P ops i d h.1 (omega arith)
 
 pub key_within : (log : Log) (v : ℕ) (ops : List Event) (i : ℕ) (d : Event) → IsSound log → Turn log v ops i → key_of (get_or ops i d) < log.keys
-key_within log v ops i d sound t =
-    holds_at (λ e. key_of e < log.keys) ops i d (subst (AllByRecursion (λ e. key_of e < log.keys)) (sym t.own) (sound.below v)) t.within
+key_within log v ops i d sound t = grind (arith, holds_at)
 
 pub stands_at : (log : Log) (v : ℕ) (ops : List Event) (i : ℕ) (d : Event) → Turn log v ops i → StandsAt log v (take i ops) (get_or ops i d) (drop (i + 1) ops)
-stands_at log v ops i d t = record {
-  low = t.low;
-  high = t.high;
-  stands = sym t.own ∙ sym (take-append-drop i ops) ∙ ap (λ l. take i ops ++ l) (drop_more ops i d t.within);
-}
+stands_at log v ops i d t = grind (arith, take-append-drop, drop_more)
 
 -- what is read of the marks for it, at any default
 pub record Looked (log : Log) (v : ℕ) (ops : List Event) (i : ℕ) (d : Event) (marks : List (Option LastUse)) (key : ℕ) (mark : Option LastUse) (used : Option Usage) : Type 0 where
@@ -51,10 +46,7 @@ in_marks : (log : Log) (v : ℕ) (ops : List Event) (i : ℕ) (d : Event) (marks
 in_marks log v ops i d marks key mark used l = omega (arith, key_within log v ops i d l.sound l.turn, l.keys)
 
 used_here : (log : Log) (v : ℕ) (ops : List Event) (i : ℕ) (d : Event) (marks : List (Option LastUse)) (key : ℕ) (mark : Option LastUse) (used : Option Usage) → Looked log v ops i d marks key mark used → used ≡ used_by v (get_or marks (key_of (get_or ops i d)) None)
-used_here log v ops i d marks key mark used l =
-    l.used_is
-    ∙ ap (λ k. used_by v (get_or marks k mark)) l.key_is
-    ∙ ap (used_by v) (get_or_default marks (key_of (get_or ops i d)) mark None (in_marks log v ops i d marks key mark used l))
+used_here log v ops i d marks key mark used l = grind (arith, get_or_default, in_marks)
 
 pub scanned : (log : Log) (v : ℕ) (ops : List Event) (i : ℕ) (d : Event) (marks : List (Option LastUse)) (key : ℕ) (mark : Option LastUse) (used : Option Usage) (result : Option ReadAnomaly) → Looked log v ops i d marks key mark used → ((before behind : List Event) → StandsAt log v before (get_or ops i d) behind → IsUsage (key_of (get_or ops i d)) before used → result ≡ event_anomaly log v before (get_or ops i d) behind) → result ≡ event_anomaly log v (take i ops) (get_or ops i d) (drop (i + 1) ops)
 scanned log v ops i d marks key mark used result l h =

@@ -1,5 +1,5 @@
 -- What a transaction's operations did to a key, one operation further.
-use Rattle.std.proofs.Common.{◌≡◌, ℕ, Bool, true, false, eqb, cond, not, ◌&&◌, ◌||◌, List, [], ◌∷◌, ◌++◌, Option, None, Some, refl, sym, ap, ◌∙◌, eq-eqb, ne_eqb}
+use Rattle.std.proofs.Common.{◌≡◌, ℕ, Bool, true, false, eqb, cond, not, ◌&&◌, ◌||◌, List, [], ◌∷◌, ◌++◌, Option, None, Some, refl, sym, ap, ◌∙◌, eq-eqb, arith}
 use Rattle.std.specs.Bool.{then_some}
 use Rattle.std.specs.List.{list_any}
 use Rattle.std.specs.Option.{option_or}
@@ -10,8 +10,8 @@ use Rattle.serializability.specs.declared.event.Event.TheVariants.{Read, Write}
 use Rattle.serializability.specs.declared.anomaly.ReadAnomaly.{ReadAnomaly}
 use Rattle.serializability.specs.declared.anomaly.ReadAnomaly.TheVariants.{Split}
 use Rattle.serializability.specs.Log.{Log}
-use Rattle.serializability.specs.Reads.{later, last_write}
-use Rattle.serializability.specs.Anomalies.{is_other_read, external_anomaly, internal_anomaly, read_anomaly, event_anomaly, is_unknown, is_aborted, writes_as, is_intermediate}
+use Rattle.serializability.specs.Reads.{last_write}
+use Rattle.serializability.specs.Anomalies.{is_other_read, external_anomaly, read_anomaly, event_anomaly}
 use Rattle.serializability.proofs.Replays.{last_write-append}
 use Rattle.anomalies.specs.declared.reads.Usage.{Usage}
 use Rattle.anomalies.specs.declared.reads.Usage.TheVariants as usage
@@ -34,11 +34,7 @@ first_read log v x w before behind r h e =
     sym (ap (read_anomaly log v before x w behind) h.own ∙ e h.own ∙ ap (option_or r) (split_is x w before None h refl) ∙ or_none r)
 
 pub further_read : (log : Log) (v x w first : ℕ) (before behind : List Event) (r : Option ReadAnomaly) → IsUsage x before (Some (usage.Read first)) → (last_write x before ≡ None → external_anomaly log v before x w behind ≡ option_or r (split_anomaly x w before)) → option_or r (then_some (not (eqb first w)) Split) ≡ read_anomaly log v before x w behind (last_write x before)
-further_read log v x w first before behind r h e =
-    sym (ap (read_anomaly log v before x w behind) h.own ∙ e h.own ∙ ap (option_or r) (split_is x w before (Some (usage.Read first)) h refl ∙ some_where (not (eqb first w))))
-
-pub own_read : (log : Log) (v x w own : ℕ) (before behind : List Event) → IsUsage x before (Some (usage.Wrote own)) → internal_anomaly own w ≡ read_anomaly log v before x w behind (last_write x before)
-own_read log v x w own before behind h = sym (ap (read_anomaly log v before x w behind) h.own)
+further_read log v x w first before behind r h e = grind (arith, split_is, some_where)
 
 -- ---- one operation on the key further
 some_is_none : {X : Type 0} (x : X) {P : Type 0} → Some x ≡ None → P
@@ -49,17 +45,10 @@ test_false true kind o e = cc
 test_false false kind o e = (refl, e)
 
 not_split : (log : Log) (v x w : ℕ) (before behind : List Event) → external_anomaly log v before x w behind ≡ None → list_any (is_other_read x w) before ≡ false
-not_split log v x w before behind e =
-    let p = test_false (is_unknown log x w) _ _ e in
-    let q = test_false (is_aborted log x w) _ _ p.1 in
-    let r = test_false (writes_as x w behind) _ _ q.1 in
-    let s = test_false (is_intermediate log v x w) _ _ r.1 in
-    (test_false (list_any (is_other_read x w) before) Split None s.1).0
+not_split log v x w before behind e = grind (arith, test_false)
 
 after_write : (x w : ℕ) (before : List Event) → last_write x (before ++ Write x w ∷ []) ≡ Some w
-after_write x w before =
-    last_write-append x before (Write x w ∷ [])
-    ∙ ap (λ o. later (last_write x before) (later o None)) (cond-true (eqb x x) (Some w) None (eq-eqb x x refl))
+after_write x w before = grind (arith, last_write-append, cond-true, eq-eqb)
 
 after_read : (x k w : ℕ) (before : List Event) → last_write x (before ++ Read k w ∷ []) ≡ last_write x before
 after_read x k w before = last_write-append x before (Read k w ∷ [])
@@ -76,13 +65,7 @@ here_other : (x w y : ℕ) → is_other_read x y (Read x w) ≡ not (eqb w y)
 here_other x w y = ap (λ t. t && not (eqb w y)) (eq-eqb x x refl)
 
 usage_read : (x w : ℕ) (before : List Event) → last_write x before ≡ None → ((y : ℕ) → (list_any (is_other_read x y) before || (not (eqb w y) || false)) ≡ not (eqb w y)) → IsUsage x (before ++ Read x w ∷ []) (Some (usage.Read w))
-usage_read x w before none same = record {
-  own = after_read x x w before ∙ none;
-  reads = λ _ y.
-      list_any-append (is_other_read x y) before (Read x w ∷ [])
-      ∙ ap (λ b. list_any (is_other_read x y) before || (b || false)) (here_other x w y)
-      ∙ same y;
-}
+usage_read x w before none same = grind (arith, after_read, list_any-append, here_other)
 
 pub usage_more : (log : Log) (v : ℕ) (before behind : List Event) (e : Event) (used : Option Usage) → IsUsage (key_of e) before used → event_anomaly log v before e behind ≡ None → IsUsage (key_of e) (before ++ e ∷ []) (Some (used_after used e))
 usage_more log v before behind (Write x w) used h none = record {
@@ -103,10 +86,7 @@ usage_more log v before behind (Read x w) (Some (usage.Wrote own)) h none = reco
 
 -- ---- one operation on another key further
 other_write : (x : ℕ) (before : List Event) (e : Event) → eqb (key_of e) x ≡ false → last_write x (before ++ e ∷ []) ≡ last_write x before
-other_write x before (Read k w) ne = after_read x k w before
-other_write x before (Write k w) ne =
-    last_write-append x before (Write k w ∷ [])
-    ∙ ap (λ o. later (last_write x before) (later o None)) (cond-false (eqb k x) (Some w) None ne)
+other_write x before v2 ne = grind (arith, after_read, last_write-append, cond-false)
 
 other_event : (x y : ℕ) (e : Event) → eqb (key_of e) x ≡ false → is_other_read x y e ≡ false
 other_event x y (Read k w) ne = and_left (eqb k x) (not (eqb w y)) ne
@@ -117,13 +97,4 @@ or_neither true = refl
 or_neither false = refl
 
 pub usage_other : (x : ℕ) (before : List Event) (e : Event) (used : Option Usage) → (key_of e ≡ x → ⊥) → IsUsage x before used → IsUsage x (before ++ e ∷ []) used
-usage_other x before e used ne h =
-    let apart = ne_eqb (key_of e) x ne in
-    record {
-      own = other_write x before e apart ∙ h.own;
-      reads = λ none y.
-          list_any-append (is_other_read x y) before (e ∷ [])
-          ∙ ap (λ b. list_any (is_other_read x y) before || (b || false)) (other_event x y e apart)
-          ∙ or_neither (list_any (is_other_read x y) before)
-          ∙ h.reads none y;
-    }
+usage_other x before e used ne h = grind (arith, other_write, list_any-append, other_event, or_neither)

@@ -35,11 +35,8 @@ fn spans(alloc: Global, lines: &Lines, parts: &[Part]) -> Result<String, AllocEr
     let mut separator = "";
     for part in parts {
         let span = lines.span_of(part);
-        let session = span.session;
-        let first = span.first;
-        let last = span.last;
-        let begin = span.begin;
-        let end = span.end;
+        let (session, first, last) = (span.session, span.first, span.last);
+        let (begin, end) = (span.begin, span.end);
         let object = format!(in alloc;
             "{separator}{{\"first\":\"{session}.{first}\",\"last\":\"{session}.{last}\",\"lines\":[{begin},{end}]}}"
         )?;

@@ -13,11 +13,8 @@ use std::alloc::{AllocError, Global};
 const LISTED: usize = 20;
 
 fn span_text(alloc: Global, span: Span) -> Result<String, AllocError> {
-    let session = span.session;
-    let first = span.first;
-    let last = span.last;
-    let begin = span.begin;
-    let end = span.end;
+    let (session, first, last) = (span.session, span.first, span.last);
+    let (begin, end) = (span.begin, span.end);
     if first == last {
         return format!(in alloc; "{session}.{first} (lines {begin} to {end})");
     }
@@ -31,9 +28,8 @@ fn spans_text(alloc: Global, lines: &Lines, parts: &[Part]) -> Result<String, Al
         if i > 0 {
             text.push_str(",")?;
         }
-        let span = span_text(alloc, lines.span_of(part))?;
         text.push_str(" ")?;
-        text.push_str(&span)?;
+        text.push_str(&span_text(alloc, lines.span_of(part))?)?;
     }
     let more = parts.len().saturating_sub(LISTED);
     if more > 0 {
@@ -112,34 +108,8 @@ fn file_word(alloc: Global, options: &AuditOptions<'_>) -> Result<String, AllocE
     }
 }
 
-/// The command that tells why the piece has no order, in the words of the whole log.
-fn whole_command(alloc: Global, options: &AuditOptions<'_>) -> Result<String, AllocError> {
-    let size = size_words(alloc, options)?;
-    let means = means_words(alloc, options)?;
-    let file = file_word(alloc, options)?;
-    format!(in alloc; "cobra_poly audit --explain{size}{means} {file}\n")
-}
-
-/// The two commands that tell it of the piece's own log.
-fn own_commands(
-    alloc: Global,
-    options: &AuditOptions<'_>,
-    refuted: Refuted,
-) -> Result<String, AllocError> {
-    let size = size_words(alloc, options)?;
-    let number = refuted.piece.saturating_add(1);
-    let file = file_word(alloc, options)?;
-    let strategy = strategy_word(options.means.strategy);
-    let budget = options.means.budget.get();
-    let pieces = format!(in alloc;
-        "cobra_poly pieces{size} --piece {number} {file} > piece.log\n"
-    )?;
-    format!(in alloc;
-        "{pieces}cobra_poly explain --strategy {strategy} --budget {budget} piece.log\n"
-    )
-}
-
-/// The commands that tell why the piece has no order.
+/// The commands that tell why the piece has no order: the one in the words of the whole log, then
+/// the two that tell it of the piece's own log.
 pub fn commands(
     alloc: Global,
     options: &AuditOptions<'_>,
@@ -149,9 +119,18 @@ pub fn commands(
         Some(_) => "",
         None => "keep the log in a file, then:\n",
     };
-    let whole = whole_command(alloc, options)?;
-    let own = own_commands(alloc, options, refuted)?;
-    format!(in alloc; "{front}{whole}or, as a log of its own:\n{own}")
+    let size = size_words(alloc, options)?;
+    let means = means_words(alloc, options)?;
+    let file = file_word(alloc, options)?;
+    let number = refuted.piece.saturating_add(1);
+    let strategy = strategy_word(options.means.strategy);
+    let budget = options.means.budget.get();
+    format!(in alloc;
+        "{front}cobra_poly audit --explain{size}{means} {file}\n\
+        or, as a log of its own:\n\
+        cobra_poly pieces{size} --piece {number} {file} > piece.log\n\
+        cobra_poly explain --strategy {strategy} --budget {budget} piece.log\n"
+    )
 }
 
 /// The lines behind that of the finding: where the piece lies, and why it has no order.

@@ -52,17 +52,14 @@ impl<'a> Lines<'a> {
 
     /// The line at which a transaction begins before which so many stand in this session.
     pub fn begin_of(&self, session: usize, before: usize) -> usize {
-        let earlier = match self.sessions.get(session) {
-            Some(of) => match of.txns.get(..before) {
-                Some(earlier) => line_count(earlier),
-                None => 0,
-            },
-            None => 0,
-        };
-        match self.begins.get(session) {
-            Some(begin) => begin.saturating_add(1).saturating_add(earlier),
-            None => 0,
-        }
+        let earlier = self
+            .sessions
+            .get(session)
+            .and_then(|it| it.txns.get(..before))
+            .map_or(0, |earlier| line_count(earlier));
+        self.begins
+            .get(session)
+            .map_or(0, |begin| begin.saturating_add(1).saturating_add(earlier))
     }
 
     /// Where a part lies.

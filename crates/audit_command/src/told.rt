@@ -17,10 +17,7 @@ use tell_pieces::explain_piece;
 
 /// Whether lines are told behind the first.
 fn has_lines(options: &AuditOptions<'_>) -> bool {
-    match options.form {
-        ReportForm::Text => !options.quiet,
-        ReportForm::Json => false,
-    }
+    matches!(options.form, ReportForm::Text) && !options.quiet
 }
 
 /// Why the refuted piece has no order, in lines, or how to learn it; nothing where there is none,

@@ -6,6 +6,7 @@ use auditing::{Undecided, Why, count_log};
 use cutting::Part;
 use held_pieces::Pieces;
 use serializability::MAX_NODES;
+use session_history::Tally;
 use session_log::{
     Limit, MAX_KEYS, MAX_LOG_BYTES, MAX_OPERATIONS, MAX_SESSIONS, Session, Txn, print_log,
 };
@@ -14,56 +15,20 @@ use std::alloc::{AllocError, Global};
 /// Of how many pieces it is told why they are not decided.
 const LISTED: usize = 10;
 
-fn node_count(sessions: &[Session]) -> usize {
-    let mut count: usize = 0;
-    for session in sessions {
-        for txn in &session.txns {
-            if is_committed(txn) {
-                count = count.saturating_add(1);
-            }
-        }
-    }
-    count
-}
-
-fn operation_count(sessions: &[Session]) -> usize {
-    let mut count: usize = 0;
-    for session in sessions {
-        for txn in &session.txns {
-            count = count.saturating_add(txn.ops.len());
-        }
-    }
-    count
-}
-
 /// How much a log has of this, what it is, and how much it may have.
 fn excess(
     alloc: Global,
     log: &[Session],
     which: Limit,
 ) -> Result<(usize, &'static str, usize), AllocError> {
+    let tally = Tally::of(log);
     Ok(match which {
         Limit::LogBytes => (print_log(alloc, log)?.len(), "bytes", MAX_LOG_BYTES),
         Limit::Sessions => (log.len(), "sessions", MAX_SESSIONS),
-        Limit::Operations => (operation_count(log), "operations", MAX_OPERATIONS),
-        Limit::Committed => (node_count(log), "transactions", MAX_NODES),
+        Limit::Operations => (tally.operations, "operations", MAX_OPERATIONS),
+        Limit::Committed => (tally.committed, "transactions", MAX_NODES),
         Limit::Keys => (count_log(alloc, log)?.keys, "keys", MAX_KEYS),
     })
-}
-
-/// What the log of a piece has too many of.
-fn excess_text(
-    alloc: Global,
-    pieces: &Pieces,
-    piece: usize,
-    which: Limit,
-) -> Result<String, AllocError> {
-    if piece >= pieces.count() {
-        return String::from_str(alloc, "too large");
-    }
-    let log = pieces.log(alloc, piece)?;
-    let (count, what, most) = excess(alloc, &log, which)?;
-    format!(in alloc; "{count} {what}, at most {most}")
 }
 
 fn states_moment(txns: &[Txn]) -> bool {
@@ -103,6 +68,7 @@ fn uncut_text(alloc: Global, lines: &Lines, parts: &[Part]) -> Result<String, Al
     Ok(String::new(alloc))
 }
 
+/// What the log of a piece has too many of, and why the piece was not cut.
 fn too_large_text(
     alloc: Global,
     lines: &Lines,
@@ -110,21 +76,18 @@ fn too_large_text(
     piece: usize,
     which: Limit,
 ) -> Result<String, AllocError> {
-    let mut text = excess_text(alloc, pieces, piece, which)?;
-    if piece < pieces.count() {
-        let uncut = uncut_text(alloc, lines, pieces.parts(piece))?;
-        text.push_str(&uncut)?;
+    if piece >= pieces.count() {
+        return String::from_str(alloc, "too large");
     }
-    Ok(text)
+    let log = pieces.log(alloc, piece)?;
+    let (count, what, most) = excess(alloc, &log, which)?;
+    let uncut = uncut_text(alloc, lines, pieces.parts(piece))?;
+    format!(in alloc; "{count} {what}, at most {most}{uncut}")
 }
 
 /// Whether a smaller size may cut a piece into smaller ones, where this size is stated or none.
 fn can_be_smaller(pieces: &Pieces, piece: usize, size: Option<usize>) -> bool {
-    let is_least = match size {
-        Some(size) => size <= 1,
-        None => false,
-    };
-    !is_least
+    size.is_none_or(|size| size > 1)
         && piece < pieces.count()
         && pieces
             .parts(piece)
@@ -139,11 +102,12 @@ fn too_many_choices_text(
     piece: usize,
     size: Option<usize>,
 ) -> Result<String, AllocError> {
-    let mut text = String::from_str(alloc, "more than 100000 choices")?;
-    if can_be_smaller(pieces, piece, size) {
-        text.push_str("; try a smaller --size")?;
-    }
-    Ok(text)
+    let advice = if can_be_smaller(pieces, piece, size) {
+        "; try a smaller --size"
+    } else {
+        ""
+    };
+    format!(in alloc; "more than 100000 choices{advice}")
 }
 
 /// Why a piece is not decided, where this size of pieces is stated or none.

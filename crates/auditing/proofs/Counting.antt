@@ -5,10 +5,9 @@ use Rattle.std.specs.Str.{bytes_eq}
 use Rattle.std.specs.Cmp.Lexicographic.{slice_cmp, texts_ties}
 use Rattle.std.specs.BTreeMap.{is_at}
 use Rattle.std.specs.BTreeSet.{BTreeSet, contains, btree_set_len}
-use Rattle.std.proofs.lemmas.Bool.{cond-false, both_ways}
+use Rattle.std.proofs.lemmas.Bool.{cond-false}
 use Rattle.std.proofs.lemmas.List.{map-append}
 use Rattle.std.proofs.lemmas.List.Folds.{list_any-append}
-use Rattle.std.proofs.lemmas.Slice.Eq.{bytes_eq-Decides}
 use Rattle.std.proofs.lemmas.Grind.{flat_map-append}
 use Rattle.session_log.specs.Text.{ClientSession, Transaction, view}
 use Rattle.session_log.specs.declared.session.Op.{Op}
@@ -17,6 +16,7 @@ use Rattle.log_definitions.specs.Unknown.{ops_in, txns_in}
 use Rattle.log_definitions.specs.WellFormed.{first_seen, key_of}
 use Rattle.session_history.proofs.Seen.{seen_append, first_seen_known}
 use Rattle.session_history.proofs.Stepping.{step_itself, step_in}
+use Rattle.held_pieces.proofs.Steps.{bytes_flip}
 use Rattle.auditing.specs.Counts.{HasKeys}
 
 abbrev keys_of : List Op → List (List ℕ)
@@ -39,20 +39,8 @@ known ops op keys h has =
       count = h.count ∙ ap length same;
     }
 
-same_either_way : (k q : List ℕ) → bytes_eq k q ≡ bytes_eq q k
-same_either_way k q = go (bytes_eq k q) refl (bytes_eq q k) refl
-  where
-    go : (a : Bool) → bytes_eq k q ≡ a → (b : Bool) → bytes_eq q k ≡ b → bytes_eq k q ≡ bytes_eq q k
-    go true e true f = e ∙ sym f
-    go false e false f = e ∙ sym f
-    go true e false f = absurd (both_ways (bytes_eq q k) f ((bytes_eq-Decides q k).1 (sym ((bytes_eq-Decides k q).0 e))))
-    go false e true f = absurd (both_ways (bytes_eq k q) e ((bytes_eq-Decides k q).1 (sym ((bytes_eq-Decides q k).0 f))))
-
 or_swapped : (a b : Bool) → cond b true a ≡ (a || (b || false))
-or_swapped true true = refl
-or_swapped true false = refl
-or_swapped false true = refl
-or_swapped false false = refl
+or_swapped a b = grind arith
 
 pub new : (ops : List Op) (op : Op) (old keys : BTreeSet (List ℕ)) (own : List ℕ) (added : Bool) → HasKeys ops old → contains (slice_cmp nat_cmp) old (key_of op) ≡ false → own ≡ key_of op
     → ((q : List ℕ) → contains (slice_cmp nat_cmp) keys q ≡ cond (is_at (slice_cmp nat_cmp own) q) true (contains (slice_cmp nat_cmp) old q))
@@ -61,7 +49,7 @@ new ops op old keys own added h lacks is updates len =
     let k = key_of op in
     let fresh = sym (h.found k) ∙ lacks in
     let grown : keys_of (ops ++ op ∷ []) ≡ keys_of ops ++ k ∷ [] = one_more ops op ∙ cond-false (list_any (bytes_eq k) (keys_of ops)) (keys_of ops) (keys_of ops ++ k ∷ []) fresh in
-    let at : (q : List ℕ) → is_at (slice_cmp nat_cmp own) q ≡ bytes_eq q k = λ q. ap (λ x. is_at (slice_cmp nat_cmp x) q) is ∙ sym (texts_ties k q) ∙ same_either_way k q in
+    let at : (q : List ℕ) → is_at (slice_cmp nat_cmp own) q ≡ bytes_eq q k = λ q. ap (λ x. is_at (slice_cmp nat_cmp x) q) is ∙ sym (texts_ties k q) ∙ bytes_flip k q in
     record {
       found = λ q. updates q ∙ ap (λ b. cond b true (contains (slice_cmp nat_cmp) old q)) (at q) ∙ ap (cond (bytes_eq q k) true) (h.found q)
           ∙ or_swapped (list_any (bytes_eq q) (keys_of ops)) (bytes_eq q k) ∙ sym (list_any-append (bytes_eq q) (keys_of ops) (k ∷ [])) ∙ sym (ap (list_any (bytes_eq q)) grown);

@@ -1,5 +1,5 @@
 -- What was found of the pieces so far, with one piece more.
-use Rattle.std.proofs.Common.{◌≡◌, ◌≢◌, ◌⊎◌, inl, inr, ℕ, zero, suc, ◌+◌, ◌<◌, false, List, [], ◌∷◌, ◌++◌, length, map, slice_get, Option, Some, None, is_none, refl, sym, ap, ◌∙◌, subst, arith}
+use Rattle.std.proofs.Common.{◌≡◌, ◌≢◌, ◌⊎◌, inl, inr, ℕ, ◌+◌, ◌<◌, false, List, [], ◌∷◌, ◌++◌, length, map, slice_get, Option, Some, None, is_none, refl, sym, ap, ◌∙◌, subst, arith}
 use Rattle.std.specs.Prelude.{Result, Ok, Err, IfOk}
 use Rattle.std.specs.declared.alloc.AllocError.{AllocError}
 use Rattle.std.specs.List.{AllByRecursion, Contains}
@@ -12,6 +12,8 @@ use Rattle.serializability.proofs.Places.{each_from_append}
 use Rattle.log_definitions.proofs.Nodes.{each_at}
 use Rattle.log_definitions.proofs.Members.{each_weaker}
 use Rattle.piece_laws.specs.Logs.{HasOrder}
+use Rattle.cube_machine.proofs.Lists.{get_pushed}
+use Rattle.branch_search.proofs.Lists.{there}
 use Rattle.held_pieces.specs.Pieces.{HeldPiece, log_of as log_of_piece}
 use Rattle.auditing.specs.declared.found.Found.{Found}
 use Rattle.auditing.specs.declared.found.PieceFound.{PieceFound}
@@ -24,29 +26,6 @@ use Rattle.auditing.specs.declared.judged.Why.TheVariants as whys
 use Rattle.auditing.specs.declared.means.AuditMeans.{AuditMeans}
 use Rattle.auditing.specs.Audits.{IsUndecidedBy, AreBegun, IsRefutedLog, IsRefutedAt, judged_pieces, AreJudged}
 use Rattle.auditing.specs.Findings.{IsReason, IsFound, IsFoundAt, AreFound, IsUndecidedAt, AreJudgedTo}
-
--- ---- lists
-
-pub some_at : {X : Type 0} (xs : List X) (i : ℕ) → i < length xs → (x : X) × (slice_get xs i ≡ Some x)
-some_at [] i h = absurd (omega arith)
-some_at (x ∷ xs) zero h = (x, refl)
-some_at (x ∷ xs) (suc i) h = some_at xs i (omega arith)
-
-pub one_at : {X : Type 0} (xs : List X) (i j : ℕ) (x y : X) → slice_get xs i ≡ Some x → slice_get xs j ≡ Some y → i ≡ j → x ≡ y
-one_at xs i j x y a b e = some_is (sym a ∙ ap (slice_get xs) e ∙ b)
-  where
-    some_is : Some x ≡ Some y → x ≡ y
-    some_is f = cc
-
-at_push : {X : Type 0} (xs : List X) (x : X) (k : ℕ) (y : X) → slice_get (xs ++ x ∷ []) k ≡ Some y → (slice_get xs k ≡ Some y) ⊎ ((k ≡ length xs) × (x ≡ y))
-at_push [] x zero y e = inr (refl, cc)
-at_push [] x (suc k) y e = cc
-at_push (z ∷ xs) x zero y e = inl e
-at_push (z ∷ xs) x (suc k) y e = go (at_push xs x k y e)
-  where
-    go : (slice_get xs k ≡ Some y) ⊎ ((k ≡ length xs) × (x ≡ y)) → (slice_get xs k ≡ Some y) ⊎ ((suc k ≡ suc (length xs)) × (x ≡ y))
-    go (inl p) = inl p
-    go (inr p) = inr (ap suc p.0, p.1)
 
 -- ---- what a worker finds
 
@@ -61,28 +40,22 @@ found_none m ps fs e = record { each = subst (AllByRecursion (IsFoundAt m ps)) (
 pub found_more : (m : AuditMeans) (ps : List HeldPiece) (fs gs : List PieceFound) (f : PieceFound) → AreFound m ps fs → gs ≡ fs ++ f ∷ [] → f.piece < length ps
     → ((p : HeldPiece) → slice_get ps f.piece ≡ Some p → IsFound m (log_of_piece p) f.found) → AreFound m ps gs
 found_more m ps fs gs f h e lt own =
-    let here = some_at ps f.piece lt in
+    let here = there ps f.piece lt in
     let one : IsFoundAt m ps f = record { piece = here.0; at = here.1; found = own here.0 here.1 } in
     record { each = subst (AllByRecursion (IsFoundAt m ps)) (sym e) (each_from_append (IsFoundAt m ps) fs (f ∷ []) h.each (one, tt)) }
 
 pub found_own : (m : AuditMeans) (ps : List HeldPiece) (f : PieceFound) (piece : ℕ) (p : HeldPiece) → IsFoundAt m ps f → f.piece ≡ piece → slice_get ps piece ≡ Some p → IsFound m (log_of_piece p) f.found
-found_own m ps f piece p h e at = subst (λ q. IsFound m (log_of_piece q) f.found) (one_at ps f.piece piece h.piece p h.at at e) h.found
+found_own m ps f piece p h e at = let same : h.piece ≡ p = cc in subst (λ q. IsFound m (log_of_piece q) f.found) same h.found
 
 -- ---- the pieces so far
 
-no_place : (k : ℕ) (u : UndecidedPiece) → slice_get [] k ≡ Some u → ⊥
-no_place k u a = cc
-
 pub judged_none : (m : AuditMeans) (ps : List HeldPiece) (us : List UndecidedPiece) → us ≡ [] → AreJudgedTo m ps 0 us
-judged_none m ps us e = subst (AreJudgedTo m ps 0) (sym e) none
-  where
-    none : AreJudgedTo m ps 0 []
-    none = record {
-      decided = λ i p at lt. absurd (omega arith);
-      undecided = tt;
-      within = tt;
-      ascending = λ k l u v lt a b. absurd (no_place k u a);
-    }
+judged_none m ps us e = subst (AreJudgedTo m ps 0) (sym e) (record {
+  decided = λ i p at lt. absurd (omega arith);
+  undecided = tt;
+  within = tt;
+  ascending = λ k l u v lt a b. absurd (cc);
+})
 
 abbrev piece_of : UndecidedPiece → ℕ
 piece_of u = u.piece
@@ -104,7 +77,7 @@ undecided_more m ps n us vs u h e own why = subst (AreJudgedTo m ps (n + 1)) (sy
   decided = λ i p at lt. decided i p at lt (cases_eq i n);
   undecided = each_from_append (IsUndecidedAt m ps) us (u ∷ []) h.undecided (why, tt);
   within = each_from_append (λ (v : UndecidedPiece). v.piece < n + 1) us (u ∷ []) (each_weaker (λ (v : UndecidedPiece). v.piece < n) (λ v. v.piece < n + 1) (λ v lt. omega (arith, lt)) us h.within) (omega (arith, own), tt);
-  ascending = λ k l v w lt a b. ascending k l v w lt (at_push us u k v a) (at_push us u l w b);
+  ascending = λ k l v w lt a b. ascending k l v w lt (get_pushed us k u v a) (get_pushed us l u w b);
 })
   where
     grown : map piece_of (us ++ u ∷ []) ≡ map piece_of us ++ u.piece ∷ []
@@ -119,40 +92,36 @@ undecided_more m ps n us vs u h e own why = subst (AreJudgedTo m ps (n + 1)) (sy
         earlier (inl o) = inl o
         earlier (inr c) = inr (subst (λ l. Contains l i) (sym grown) (Contains-append_left (map piece_of us) (u.piece ∷ []) i c))
 
-    ascending : (k l : ℕ) (v w : UndecidedPiece) → k < l → (slice_get us k ≡ Some v) ⊎ ((k ≡ length us) × (u ≡ v)) → (slice_get us l ≡ Some w) ⊎ ((l ≡ length us) × (u ≡ w)) → v.piece < w.piece
-    ascending k l v w lt (inl a) (inl b) = h.ascending k l v w lt a b
-    ascending k l v w lt (inl a) (inr b) =
+    ascending : (k l : ℕ) (v w : UndecidedPiece) → k < l → ((k ≡ length us) × (v ≡ u)) ⊎ (slice_get us k ≡ Some v) → ((l ≡ length us) × (w ≡ u)) ⊎ (slice_get us l ≡ Some w) → v.piece < w.piece
+    ascending k l v w lt (inr a) (inr b) = h.ascending k l v w lt a b
+    ascending k l v w lt (inr a) (inl b) =
         let below = each_at (λ (x : UndecidedPiece). x.piece < n) us k v h.within a in
         let last = ap piece_of b.1 in
         omega (arith, below, last, own)
-    ascending k l v w lt (inr a) (inl b) =
+    ascending k l v w lt (inl a) (inr b) =
         let place = slice_get_within us l w b in
         absurd (omega (arith, place, a.0, lt))
-    ascending k l v w lt (inr a) (inr b) = absurd (omega (arith, a.0, b.0, lt))
+    ascending k l v w lt (inl a) (inl b) = absurd (omega (arith, a.0, b.0, lt))
 
 pub undecided_at : (m : AuditMeans) (ps : List HeldPiece) (piece : ℕ) (why : Why) → piece < length ps → ((p : HeldPiece) → slice_get ps piece ≡ Some p → IsReason m (log_of_piece p) why) → IsUndecidedAt m ps (record { piece = piece; why = why })
 undecided_at m ps piece why lt own =
-    let here = some_at ps piece lt in
+    let here = there ps piece lt in
     record { piece = here.0; at = here.1; why = own here.0 here.1 }
 
 pub refuted_at : (ps : List HeldPiece) (piece : ℕ) (finding : Finding) → piece < length ps → ((p : HeldPiece) → slice_get ps piece ≡ Some p → IsRefutedLog (log_of_piece p) finding) → IsRefutedAt ps (Some (record { piece = piece; finding = finding }))
 refuted_at ps piece finding lt own =
-    let here = some_at ps piece lt in
+    let here = there ps piece lt in
     (here.0, here.1, own here.0 here.1)
 
 -- ---- all of them
 
 reason : (m : AuditMeans) (ss : List ClientSession) (why : Why) → IsReason m ss why → IsUndecidedBy m.budget ss why
-reason m ss (whys.Spent closed) h = h
-reason m ss (whys.TooLarge which) h = h
-reason m ss whys.TooManyChoices h = h
 reason m ss whys.NotBegun h = tt
+reason m ss why h = h
 
 begun_without : (m : AuditMeans) (ss : List ClientSession) (why : Why) → IsReason m ss why → m.deadline ≡ None → why ≢ whys.NotBegun
-begun_without m ss (whys.Spent closed) h e same = cc
-begun_without m ss (whys.TooLarge which) h e same = cc
-begun_without m ss whys.TooManyChoices h e same = cc
 begun_without m ss whys.NotBegun h e same = h e
+begun_without m ss why h e same = cc
 
 pub all_begun : (m : AuditMeans) (ps : List HeldPiece) (n : ℕ) (j : Judged) → AreJudgedTo m ps n j.undecided.items → m.deadline ≡ None → AreBegun j
 all_begun m ps n j h e k u at = let one = each_at (IsUndecidedAt m ps) j.undecided.items k u h.undecided at in begun_without m (log_of_piece one.piece) u.why one.why e

@@ -1,5 +1,5 @@
 -- A log whose session numbers and identities are its own has no fault but a limit.
-use Rattle.std.proofs.Common.{◌≡◌, ℕ, ◌<◌, Bool, true, false, not, cond, List, ◌∷◌, length, count_by, subst, nat_lt, Option, Some, None, refl, sym, ap, ◌∙◌}
+use Rattle.std.proofs.Common.{◌≡◌, ℕ, ◌<◌, Bool, true, false, not, cond, List, ◌∷◌, length, count_by, subst, nat_lt, Option, Some, None, refl, sym, ap, ◌∙◌, arith}
 use Rattle.std.specs.Option.{option_or}
 use Rattle.std.proofs.lemmas.Bool.{ltb-true}
 use Rattle.session_log.specs.Text.{ClientSession}
@@ -38,9 +38,6 @@ passed ss most n which rest f over others e = go (nat_lt most n) refl e
     go true h e = record { which = which; fault = sym cc; over = over (ltb-true most n h) }
     go false h e = others e
 
-none_left : (ss : List ClientSession) (f : LogFault) → None ≡ Some f → IsPassed ss f
-none_left ss f e = cc
-
 only_limits : (n : ℕ) (ss : List ClientSession) → HasOwnNumbers ss → list_fault n ss ≡ limit_fault ss
 unfolding list_fault long.list_fault
 only_limits n ss h =
@@ -48,14 +45,13 @@ only_limits n ss h =
     ap (λ o. option_or o (option_or (limit_fault ss) (write_fault (write_twice n (log_lines ss))))) none.0 ∙ ap (option_or (limit_fault ss)) none.1 ∙ own (limit_fault ss)
   where
     own : (o : Option LogFault) → option_or o None ≡ o
-    own None = refl
-    own (Some f) = refl
+    own o = grind arith
 
 pub limit_passed : (n : ℕ) (ss : List ClientSession) (f : LogFault) → HasOwnNumbers ss → list_fault n ss ≡ Some f → IsPassed ss f
 limit_passed n ss f h e =
     passed ss 200000 (length (ops_in ss)) limit.Operations _ f (λ lt. lt)
     (passed ss 1000 (count_by (λ t. not (is_aborted t)) (txns_in ss)) limit.Committed _ f (λ lt. lt)
-    (passed ss 10000 (length (keys_in ss)) limit.Keys None f (λ lt. lt) (none_left ss f)))
+    (passed ss 10000 (length (keys_in ss)) limit.Keys None f (λ lt. lt) (λ s. cc)))
     (sym (only_limits n ss h) ∙ e)
 
 own_numbers : (ss : List ClientSession) → IsLog ss → HasOwnNumbers ss
@@ -69,20 +65,11 @@ not_passed ss f h e other = let p = limit_passed 1 ss f (own_numbers ss h) e in 
 pub limit_or_memory : (ss : List ClientSession) (f : LogFault) → IsLog ss → IsFault f (list_fault 1 ss) → IsLimitOrMemory f
 limit_or_memory ss faults.Memory h e = tt
 limit_or_memory ss (faults.OverLimit which) h e = tt
-limit_or_memory ss (faults.BadLine n) h e = not_passed ss (faults.BadLine n) h e (λ which s. cc)
-limit_or_memory ss (faults.SessionTwice n) h e = not_passed ss (faults.SessionTwice n) h e (λ which s. cc)
-limit_or_memory ss (faults.OutsideTransaction n) h e = not_passed ss (faults.OutsideTransaction n) h e (λ which s. cc)
-limit_or_memory ss (faults.OpenTransaction n) h e = not_passed ss (faults.OpenTransaction n) h e (λ which s. cc)
-limit_or_memory ss (faults.WriteZero n) h e = not_passed ss (faults.WriteZero n) h e (λ which s. cc)
-limit_or_memory ss (faults.WriteTwice n) h e = not_passed ss (faults.WriteTwice n) h e (λ which s. cc)
-limit_or_memory ss (faults.UnknownNotLast n) h e = not_passed ss (faults.UnknownNotLast n) h e (λ which s. cc)
-limit_or_memory ss (faults.EndsBeforeBegin n) h e = not_passed ss (faults.EndsBeforeBegin n) h e (λ which s. cc)
+limit_or_memory ss f h e = not_passed ss f h e (λ which s. cc)
 
 pub over_limit : (ss : List ClientSession) (f : LogFault) (which : Limit) → IsLog ss → IsFault f (list_fault 1 ss) → f ≡ OverLimit which → IsOver ss which
 over_limit ss f which h e is =
     let P : LogFault → Type 0 = λ g. IsFault g (list_fault 1 ss) in
     let p = limit_passed 1 ss (OverLimit which) (own_numbers ss h) (subst P is e) in
-    subst (IsOver ss) (same p.which p.fault) p.over
-  where
-    same : (w : Limit) → OverLimit which ≡ OverLimit w → w ≡ which
-    same w s = cc
+    let same : p.which ≡ which = cc in
+    subst (IsOver ss) same p.over

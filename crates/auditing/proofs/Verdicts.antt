@@ -25,16 +25,9 @@ each_by_place : {X : Type 0} (P : X → Type 0) (xs : List X) → ((i : ℕ) (x 
 each_by_place P [] h = tt
 each_by_place P (x ∷ xs) h = (h 0 x refl, each_by_place P xs (λ i y at. h (suc i) y at))
 
-pub empty_where_none : {X : Type 0} (xs : List X) → length xs ≡ 0 → xs ≡ []
-empty_where_none [] e = refl
-empty_where_none (x ∷ xs) e = absurd (omega (arith, e))
-
-none_in : (i : ℕ) → Contains [] i → ⊥
-none_in i c = let lt = c.1 in omega (arith, lt)
-
 order_here : (us : List ℕ) (i : ℕ) (p : HeldPiece) → us ≡ [] → HasOrder (log_of_piece p) ⊎ Contains us i → HasOrder (log_of_piece p)
 order_here us i p e (inl o) = o
-order_here us i p e (inr c) = absurd (none_in i (subst (λ l. Contains l i) e c))
+order_here us i p e (inr c) = absurd (let lt = (subst (λ l. Contains l i) e c).1 in omega (arith, lt))
 
 pub order_of_all : (ss : List ClientSession) (ps : List HeldPiece) (budget : ℕ) (j : Judged) → AllByRecursion IsLegal ss → IsSoundLog ss → ArePieces (resolved ss) ps → AreJudged budget ps j → j.refuted ≡ None → j.undecided.items ≡ [] → HasOrder ss
 order_of_all ss ps budget j legal sound pieces h none empty =

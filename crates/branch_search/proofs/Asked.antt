@@ -4,9 +4,9 @@ use Rattle.std.specs.Prelude.{slice_get, is_none}
 use Rattle.std.specs.Option.{option_map_or}
 use Rattle.pruning_laws.specs.declared.side.Side.{Side}
 use Rattle.cube_laws.specs.declared.messages.CubeEvent.{CubeEvent}
-use Rattle.cube_laws.specs.declared.messages.CubeEvent.TheVariants.{Claim, TakeAny, Split, Refute, Solve, Release}
+use Rattle.cube_laws.specs.declared.messages.CubeEvent.TheVariants.{Split, Release}
 use Rattle.cube_laws.specs.declared.messages.CubeReply.{CubeReply}
-use Rattle.cube_laws.specs.declared.messages.CubeReply.TheVariants.{Finished, HasCube, NotOpen, NoneNow, Cube as Given, NoCube, BadChoice, Children, BadCycle, Closed, BadOrder, Solved, Released}
+use Rattle.cube_laws.specs.declared.messages.CubeReply.TheVariants.{Children}
 use Rattle.branching.specs.View.{View, is_open_in}
 use Rattle.branching.specs.Turns.{IsDecision}
 use Rattle.branch_search.specs.declared.worker.Request.{Request}
@@ -19,30 +19,15 @@ open_within (x ∷ sides) zero e = omega arith
 open_within (x ∷ sides) (suc c) e = let r = open_within sides c e in omega (arith, r)
 
 pub split_within : (v : View) (pick : Option ℕ) (e : CubeEvent) → ((c : ℕ) → pick ≡ Some c → is_open_in v c ≡ true) → IsDecision v pick e → IfSome (split_in e) (λ c. c < length v.sides)
-split_within v pick (Claim id) opens d = tt
-split_within v pick TakeAny opens d = tt
 split_within v pick (Split c) opens d = open_within v.sides c (opens c d.1)
-split_within v pick (Refute line) opens d = tt
-split_within v pick (Solve order) opens d = tt
-split_within v pick Release opens d = tt
+split_within v pick _ opens d = tt
 
 pub asked_after : (first : ℕ → Side) (earlier calls : List (CubeEvent × CubeReply)) (e : CubeEvent) (r : CubeReply) (request : Request) → calls ≡ earlier ++ (e, r) ∷ [] → request ≡ request_after first e r → IsAskedAfter first calls request
 asked_after first earlier calls e r request last asked = record { earlier = earlier; event = e; reply = r; last = last; asked = asked }
 
 released : (first : ℕ → Side) (r : CubeReply) → Any ≡ request_after first Release r
-released first Finished = refl
-released first HasCube = refl
-released first NotOpen = refl
-released first NoneNow = refl
-released first (Given id) = refl
-released first NoCube = refl
-released first BadChoice = refl
 released first (Children one two) = refl
-released first BadCycle = refl
-released first Closed = refl
-released first BadOrder = refl
-released first Solved = refl
-released first Released = refl
+released first _ = refl
 
 pub after_release : (first : ℕ → Side) (earlier calls : List (CubeEvent × CubeReply)) (r : CubeReply) → calls ≡ earlier ++ (Release, r) ∷ [] → IsAskedAfter first calls Any
 after_release first earlier calls r last = asked_after first earlier calls Release r Any last (released first r)

@@ -1,6 +1,7 @@
 -- What holds of a tree while it grows, by the marks of the search: of its nodes' parents, decisions and growths, each a list.
-use Rattle.std.proofs.Common.{◌≡◌, ◌⊎◌, ℕ, zero, suc, ◌+◌, ◌<◌, true, false, List, [], ◌∷◌, ◌++◌, length, Option, Some, None, refl, sym, ap, ◌∙◌, subst, inl, inr, arith}
+use Rattle.std.proofs.Common.{◌≡◌, ◌⊎◌, ℕ, zero, suc, ◌+◌, ◌<◌, true, false, List, [], ◌∷◌, ◌++◌, length, Option, Some, None, refl, sym, ap, ◌∙◌, subst, inl, inr, arith, length-set, length-append}
 use Rattle.std.specs.Prelude.{slice_get, slice_set, slice_index_or}
+use Rattle.std.proofs.lemmas.List.{get_or_append_left}
 use Rattle.serializability.specs.Polygraph.{Polygraph}
 use Rattle.pruning_laws.specs.declared.side.Side.{Side}
 use Rattle.pruning_laws.specs.declared.side.Side.TheVariants.{One, Two}
@@ -13,7 +14,7 @@ use Rattle.branch_search.specs.declared.tree.CubeDecision.{CubeDecision}
 use Rattle.branch_search.specs.declared.tree.Growth.{Growth}
 use Rattle.branch_search.specs.declared.tree.Growth.TheVariants.{Leaf, Inner}
 use Rattle.branch_search.specs.Growing.{bud}
-use Rattle.branch_search.proofs.Lists.{some_is, within, set_here, set_apart, set_length, append_left, append_cases, append_at, length_append, or_left}
+use Rattle.branch_search.proofs.Lists.{some_is, within, set_here, set_apart, append_left, append_cases, append_at}
 
 -- a mark of a node that is neither split nor refuted
 pub record IsLive (m : CubeState) : Type 0 where
@@ -65,28 +66,6 @@ pub record IsGrown (p : Polygraph) (cs : List Cube) (ms : List CubeState) (ps : 
   pub leaves : (i : ℕ) → slice_get ms i ≡ Some Refuted → HasCycle p cs gs i
   pub inner : (i c : ℕ) → slice_get ms i ≡ Some (Divided c) → HasChildren p cs ps ds gs i c
 
--- ---- at first
-pub grown_first : (p : Polygraph) → IsGrown p ([] ∷ []) (Open ∷ []) (0 ∷ []) (None ∷ []) (bud ∷ [])
-grown_first p = record {
-  cubes = refl;
-  parents = refl;
-  decisions = refl;
-  growths = refl;
-  root_parent = refl;
-  root_decision = refl;
-  below = λ i q lt e. absurd (past i q lt e);
-  leaves = λ i e. absurd (open_is i Refuted e live_open.not_refuted);
-  inner = λ i c e. absurd (open_is i (Divided c) e (live_open.not_divided c));
-}
-  where
-    past : (i q : ℕ) → 0 < i → slice_get (0 ∷ []) i ≡ Some q → ⊥
-    past zero q lt e = omega (arith, lt)
-    past (suc i) q lt e = cc
-
-    open_is : (i : ℕ) (m : CubeState) → slice_get (Open ∷ []) i ≡ Some m → (Open ≡ m → ⊥) → ⊥
-    open_is zero m e never = never (some_is Open m e)
-    open_is (suc i) m e never = cc
-
 module _ (p : Polygraph) (cs : List Cube) (ms : List CubeState) (ps : List ℕ) (ds : List (Option CubeDecision)) (gs : List Growth) (id : ℕ) (old : CubeState) (here : slice_get ms id ≡ Some old) (live : IsLive old) (g : IsGrown p cs ms ps ds gs) where
   -- a split node is not the one that is live
   apart : (i c : ℕ) → slice_get ms i ≡ Some (Divided c) → i ≡ id → ⊥
@@ -98,10 +77,10 @@ module _ (p : Polygraph) (cs : List Cube) (ms : List CubeState) (ps : List ℕ) 
   -- ---- another mark
   pub grown_marked : (new : CubeState) → IsLive new → IsGrown p cs (slice_set ms id new) ps ds gs
   grown_marked new fresh = record {
-    cubes = g.cubes ∙ sym (set_length ms id new);
-    parents = g.parents ∙ sym (set_length ms id new);
-    decisions = g.decisions ∙ sym (set_length ms id new);
-    growths = g.growths ∙ sym (set_length ms id new);
+    cubes = g.cubes ∙ sym (length-set ms id new);
+    parents = g.parents ∙ sym (length-set ms id new);
+    decisions = g.decisions ∙ sym (length-set ms id new);
+    growths = g.growths ∙ sym (length-set ms id new);
     root_parent = g.root_parent;
     root_decision = g.root_decision;
     below = λ i q lt e. under new i q (g.below i q lt e);
@@ -128,10 +107,10 @@ module _ (p : Polygraph) (cs : List Cube) (ms : List CubeState) (ps : List ℕ) 
 
     pub grown_refuted : IsGrown p cs (slice_set ms id Refuted) ps ds (slice_set gs id (Leaf line))
     grown_refuted = record {
-      cubes = g.cubes ∙ sym (set_length ms id Refuted);
-      parents = g.parents ∙ sym (set_length ms id Refuted);
-      decisions = g.decisions ∙ sym (set_length ms id Refuted);
-      growths = set_length gs id (Leaf line) ∙ g.growths ∙ sym (set_length ms id Refuted);
+      cubes = g.cubes ∙ sym (length-set ms id Refuted);
+      parents = g.parents ∙ sym (length-set ms id Refuted);
+      decisions = g.decisions ∙ sym (length-set ms id Refuted);
+      growths = length-set gs id (Leaf line) ∙ g.growths ∙ sym (length-set ms id Refuted);
       root_parent = g.root_parent;
       root_decision = g.root_decision;
       below = λ i q lt e. under Refuted i q (g.below i q lt e);
@@ -185,7 +164,7 @@ module _ (p : Polygraph) (cs : List Cube) (ms : List CubeState) (ps : List ℕ) 
     ]
 
     same_cube : (i : ℕ) → i < length ms → slice_index_or new_cs i [] ≡ slice_index_or cs i []
-    same_cube i lt = or_left cs (one ∷ two ∷ []) i [] (let n = g.cubes in omega (arith, lt, n))
+    same_cube i lt = get_or_append_left cs (one ∷ two ∷ []) [] i (let n = g.cubes in omega (arith, lt, n))
 
     growth_there : (i : ℕ) (x : Growth) → (i ≡ id → ⊥) → slice_get gs i ≡ Some x → slice_get grown_gs i ≡ Some x
     growth_there i x ne e = append_left (slice_set gs id (Inner c n (n + 1))) (bud ∷ bud ∷ []) i x (set_apart gs id i (Inner c n (n + 1)) x ne e)
@@ -256,14 +235,14 @@ module _ (p : Polygraph) (cs : List Cube) (ms : List CubeState) (ps : List ℕ) 
     ]
 
     length_new : (k : ℕ) → k ≡ length ms → k + 2 ≡ length new_ms
-    length_new k e = let a = length_append (slice_set ms id (Divided c)) (Open ∷ Open ∷ []) in let b = set_length ms id (Divided c) in omega (arith, a, b, e)
+    length_new k e = let a = length-append (slice_set ms id (Divided c)) (Open ∷ Open ∷ []) in let b = length-set ms id (Divided c) in omega (arith, a, b, e)
 
     pub grown_split : IsGrown p new_cs new_ms new_ps new_ds grown_gs
     grown_split = record {
-      cubes = length_append cs (one ∷ two ∷ []) ∙ length_new (length cs) g.cubes;
-      parents = length_append ps (id ∷ id ∷ []) ∙ length_new (length ps) g.parents;
-      decisions = length_append ds (by One ∷ by Two ∷ []) ∙ length_new (length ds) g.decisions;
-      growths = length_append (slice_set gs id (Inner c n (n + 1))) (bud ∷ bud ∷ []) ∙ length_new (length (slice_set gs id (Inner c n (n + 1)))) (set_length gs id (Inner c n (n + 1)) ∙ g.growths);
+      cubes = length-append cs (one ∷ two ∷ []) ∙ length_new (length cs) g.cubes;
+      parents = length-append ps (id ∷ id ∷ []) ∙ length_new (length ps) g.parents;
+      decisions = length-append ds (by One ∷ by Two ∷ []) ∙ length_new (length ds) g.decisions;
+      growths = length-append (slice_set gs id (Inner c n (n + 1))) (bud ∷ bud ∷ []) ∙ length_new (length (slice_set gs id (Inner c n (n + 1)))) (length-set gs id (Inner c n (n + 1)) ∙ g.growths);
       root_parent = append_left ps (id ∷ id ∷ []) 0 0 g.root_parent;
       root_decision = append_left ds (by One ∷ by Two ∷ []) 0 None g.root_decision;
       below = new_below;

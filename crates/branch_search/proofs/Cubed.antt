@@ -2,6 +2,7 @@
 use Rattle.std.proofs.Common.{◌≡◌, ℕ, ◌<◌, List, [], ◌∷◌, ◌++◌, length, map, Option, Some, refl, ap, ◌∙◌, append_assoc}
 use Rattle.std.specs.Prelude.{slice_get, slice_set, slice_index_or}
 use Rattle.std.specs.Option.{option_map_or}
+use Rattle.std.proofs.lemmas.List.{map-set, get_or_append_left}
 use Rattle.pruning_laws.specs.declared.side.Side.TheVariants.{One, Two}
 use Rattle.cube_laws.specs.Cubes.{Cube}
 use Rattle.branch_search.specs.declared.tree.CubeDecision.{CubeDecision}
@@ -9,7 +10,7 @@ use Rattle.branch_search.specs.declared.tree.Growth.{Growth}
 use Rattle.branch_search.specs.declared.tree.TreeNode.{TreeNode}
 use Rattle.branch_search.specs.Growing.{sprout, with_growth}
 use Rattle.branch_search.specs.Trees.{cube_below, cubes_after}
-use Rattle.branch_search.proofs.Lists.{map_some, map_set, set_self, or_left}
+use Rattle.branch_search.proofs.Lists.{map_some, set_self}
 
 abbrev pub parents_of : List TreeNode → List ℕ
 parents_of nodes = map (λ n. n.parent) nodes
@@ -25,18 +26,18 @@ with_growth_is : (nodes : List TreeNode) (id : ℕ) (g : Growth) (n : TreeNode) 
 with_growth_is nodes id g n e = ap (λ o. option_map_or (λ (x : TreeNode). slice_set nodes id (record x { growth = g })) o nodes) e
 
 pub growths_with : (nodes : List TreeNode) (id : ℕ) (g : Growth) (n : TreeNode) → slice_get nodes id ≡ Some n → growths_of (with_growth nodes id g) ≡ slice_set (growths_of nodes) id g
-growths_with nodes id g n e = ap growths_of (with_growth_is nodes id g n e) ∙ map_set (λ (x : TreeNode). x.growth) nodes id (record n { growth = g })
+growths_with nodes id g n e = ap growths_of (with_growth_is nodes id g n e) ∙ map-set (λ (x : TreeNode). x.growth) nodes id (record n { growth = g })
 
 pub parents_with : (nodes : List TreeNode) (id : ℕ) (g : Growth) (n : TreeNode) → slice_get nodes id ≡ Some n → parents_of (with_growth nodes id g) ≡ parents_of nodes
 parents_with nodes id g n e =
     ap parents_of (with_growth_is nodes id g n e)
-    ∙ map_set (λ (x : TreeNode). x.parent) nodes id (record n { growth = g })
+    ∙ map-set (λ (x : TreeNode). x.parent) nodes id (record n { growth = g })
     ∙ set_self (parents_of nodes) id n.parent (map_some (λ (x : TreeNode). x.parent) nodes id n e)
 
 pub decisions_with : (nodes : List TreeNode) (id : ℕ) (g : Growth) (n : TreeNode) → slice_get nodes id ≡ Some n → decisions_of (with_growth nodes id g) ≡ decisions_of nodes
 decisions_with nodes id g n e =
     ap decisions_of (with_growth_is nodes id g n e)
-    ∙ map_set (λ (x : TreeNode). x.decision) nodes id (record n { growth = g })
+    ∙ map-set (λ (x : TreeNode). x.decision) nodes id (record n { growth = g })
     ∙ set_self (decisions_of nodes) id n.decision (map_some (λ (x : TreeNode). x.decision) nodes id n e)
 
 -- ---- cubes rest on parents and decisions alone
@@ -64,5 +65,5 @@ cubes_append before (x ∷ xs) ys = cubes_append (before ++ cube_below (slice_in
 pub cubes_split : (cs : List Cube) (id c : ℕ) (cube : Cube) → id < length cs → slice_index_or cs id [] ≡ cube → cubes_after cs (sprout id c One ∷ sprout id c Two ∷ []) ≡ cs ++ ((c, One) ∷ cube) ∷ ((c, Two) ∷ cube) ∷ []
 cubes_split cs id c cube lt is =
     ap (λ (k : Cube). (cs ++ ((c, One) ∷ k) ∷ []) ++ ((c, Two) ∷ slice_index_or (cs ++ ((c, One) ∷ k) ∷ []) id []) ∷ []) is
-    ∙ ap (λ (k : Cube). (cs ++ ((c, One) ∷ cube) ∷ []) ++ ((c, Two) ∷ k) ∷ []) (or_left cs (((c, One) ∷ cube) ∷ []) id [] lt ∙ is)
+    ∙ ap (λ (k : Cube). (cs ++ ((c, One) ∷ cube) ∷ []) ++ ((c, Two) ∷ k) ∷ []) (get_or_append_left cs (((c, One) ∷ cube) ∷ []) [] id lt ∙ is)
     ∙ append_assoc cs (((c, One) ∷ cube) ∷ []) (((c, Two) ∷ cube) ∷ [])

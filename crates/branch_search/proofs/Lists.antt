@@ -1,15 +1,12 @@
 -- Elements of lists.
-use Rattle.std.proofs.Common.{◌≡◌, ◌⊎◌, ℕ, zero, suc, ◌+◌, ◌<◌, Bool, true, false, ◌||◌, List, [], ◌∷◌, ◌++◌, length, map, Some, refl, sym, ap, ◌∙◌, inl, inr, arith}
-use Rattle.std.specs.Prelude.{slice_get, slice_set, slice_index_or, replicate}
+use Rattle.std.proofs.Common.{◌≡◌, ◌⊎◌, ℕ, zero, suc, ◌+◌, ◌<◌, Bool, false, List, [], ◌∷◌, ◌++◌, length, map, Some, refl, sym, ap, ◌∙◌, inl, inr, arith}
+use Rattle.std.specs.Prelude.{slice_get, slice_set, slice_index_or}
 use Rattle.std.specs.Option.{option_map_or}
 use Rattle.std.specs.List.{list_any}
+use Rattle.std.proofs.lemmas.Bool.{or_parts}
 
 pub some_is : {A : Type 0} (x y : A) → Some x ≡ Some y → x ≡ y
 some_is x y e = cc
-
-pub both_false : (a b : Bool) → (a || b) ≡ false → (a ≡ false) × (b ≡ false)
-both_false true b e = absurd (cc)
-both_false false b e = (refl, e)
 
 module _ {A : Type 0} where
   pub within : (xs : List A) (k : ℕ) (x : A) → slice_get xs k ≡ Some x → k < length xs
@@ -39,11 +36,6 @@ module _ {A : Type 0} where
   set_self (z ∷ zs) zero y e = ap (λ w. w ∷ zs) (some_is y z (sym e))
   set_self (z ∷ zs) (suc k) y e = ap (λ l. z ∷ l) (set_self zs k y e)
 
-  pub set_length : (xs : List A) (k : ℕ) (y : A) → length (slice_set xs k y) ≡ length xs
-  set_length [] k y = refl
-  set_length (z ∷ zs) zero y = refl
-  set_length (z ∷ zs) (suc k) y = ap suc (set_length zs k y)
-
   pub append_left : (xs ys : List A) (k : ℕ) (x : A) → slice_get xs k ≡ Some x → slice_get (xs ++ ys) k ≡ Some x
   append_left [] ys k x e = absurd (cc)
   append_left (z ∷ zs) ys zero x e = e
@@ -59,36 +51,10 @@ module _ {A : Type 0} where
   append_at (z ∷ zs) ys zero j e = absurd (omega (arith, e))
   append_at (z ∷ zs) ys (suc n) j e = append_at zs ys n j (omega (arith, e))
 
-  pub length_append : (xs ys : List A) → length (xs ++ ys) ≡ length xs + length ys
-  length_append [] ys = omega arith
-  length_append (x ∷ xs) ys = let r = length_append xs ys in omega (arith, r)
-
-  pub or_left : (xs ys : List A) (k : ℕ) (d : A) → k < length xs → slice_index_or (xs ++ ys) k d ≡ slice_index_or xs k d
-  or_left [] ys k d lt = absurd (omega (arith, lt))
-  or_left (z ∷ zs) ys zero d lt = refl
-  or_left (z ∷ zs) ys (suc k) d lt = or_left zs ys k d (omega (arith, lt))
-
-  pub or_set_here : (xs : List A) (k : ℕ) (y d : A) → k < length xs → slice_index_or (slice_set xs k y) k d ≡ y
-  or_set_here [] k y d lt = absurd (omega (arith, lt))
-  or_set_here (z ∷ zs) zero y d lt = refl
-  or_set_here (z ∷ zs) (suc k) y d lt = or_set_here zs k y d (omega (arith, lt))
-
-  pub or_set_apart : (xs : List A) (k j : ℕ) (y d : A) → (j ≡ k → ⊥) → slice_index_or (slice_set xs k y) j d ≡ slice_index_or xs j d
-  or_set_apart [] k j y d ne = refl
-  or_set_apart (z ∷ zs) zero zero y d ne = absurd (ne refl)
-  or_set_apart (z ∷ zs) zero (suc j) y d ne = refl
-  or_set_apart (z ∷ zs) (suc k) zero y d ne = refl
-  or_set_apart (z ∷ zs) (suc k) (suc j) y d ne = or_set_apart zs k j y d (λ f. ne (ap suc f))
-
-  pub or_replicate : (n k : ℕ) (d : A) → slice_index_or (replicate n d) k d ≡ d
-  or_replicate zero k d = refl
-  or_replicate (suc n) zero d = refl
-  or_replicate (suc n) (suc k) d = or_replicate n k d
-
   pub any_false : (f : A → Bool) (xs : List A) (k : ℕ) (x : A) → list_any f xs ≡ false → slice_get xs k ≡ Some x → f x ≡ false
   any_false f [] k x n e = absurd (cc)
-  any_false f (y ∷ ys) zero x n e = ap f (some_is x y (sym e)) ∙ (both_false (f y) (list_any f ys) n).0
-  any_false f (y ∷ ys) (suc k) x n e = any_false f ys k x (both_false (f y) (list_any f ys) n).1 e
+  any_false f (y ∷ ys) zero x n e = ap f (some_is x y (sym e)) ∙ (or_parts (f y) (list_any f ys) n).0
+  any_false f (y ∷ ys) (suc k) x n e = any_false f ys k x (or_parts (f y) (list_any f ys) n).1 e
 
 module _ {A B : Type 0} (f : A → B) where
   pub map_some : (xs : List A) (k : ℕ) (x : A) → slice_get xs k ≡ Some x → slice_get (map f xs) k ≡ Some (f x)
@@ -100,11 +66,6 @@ module _ {A B : Type 0} (f : A → B) where
   some_map [] k y e = absurd (cc)
   some_map (x ∷ xs) zero y e = (x, refl, some_is (f x) y e)
   some_map (x ∷ xs) (suc k) y e = some_map xs k y e
-
-  pub map_set : (xs : List A) (k : ℕ) (x : A) → map f (slice_set xs k x) ≡ slice_set (map f xs) k (f x)
-  map_set [] k x = refl
-  map_set (y ∷ ys) zero x = refl
-  map_set (y ∷ ys) (suc k) x = ap (λ l. f y ∷ l) (map_set ys k x)
 
   pub map_length : (xs : List A) → length (map f xs) ≡ length xs
   map_length [] = refl

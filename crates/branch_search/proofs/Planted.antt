@@ -1,14 +1,15 @@
 -- The tree that a history grows, step by step.
-use Rattle.std.proofs.Common.{◌≡◌, ◌⊎◌, ℕ, zero, suc, ◌+◌, ◌<◌, Bool, true, false, not, ◌||◌, List, [], ◌∷◌, ◌++◌, length, Option, Some, None, refl, sym, ap, ◌∙◌, subst, inl, inr, arith}
-use Rattle.std.specs.Prelude.{slice_get, slice_set, slice_index_or, replicate, if◌then◌else◌}
+use Rattle.std.proofs.Common.{◌≡◌, ◌⊎◌, ℕ, ◌+◌, ◌<◌, Bool, true, false, not, ◌||◌, List, [], ◌∷◌, ◌++◌, length, Option, Some, None, refl, sym, ap, ◌∙◌, subst, inl, inr, arith}
+use Rattle.std.specs.Prelude.{slice_get, slice_set, slice_index_or, if◌then◌else◌}
 use Rattle.std.proofs.lemmas.Bool.{and_parts, not-true, ltb-true}
+use Rattle.std.proofs.lemmas.List.{get_or-set_same, get_or-set_other}
 use Rattle.serializability.specs.Polygraph.{Polygraph}
 use Rattle.pruning_laws.specs.declared.side.Side.{Side}
 use Rattle.pruning_laws.specs.declared.side.Side.TheVariants.{One, Two}
 use Rattle.desk.specs.declared.history.Entry.{Entry}
 use Rattle.desk.specs.History.{IsLegal, replay}
 use Rattle.cube_laws.specs.Cubes.{Cube, is_decided, edges_under}
-use Rattle.cube_laws.specs.State.{Node, State, opening_state}
+use Rattle.cube_laws.specs.State.{Node, State}
 use Rattle.cube_laws.specs.Steps.{is_open, is_held, is_solved, is_cycle, is_solution, is_finished, is_exhausted, is_open_at, is_choice, can_split, node_held, last_open, has_solved, has_live, cube_at, with_mark, claim_reply, any_reply, split_reply, refute_reply, solve_reply, reply_of, next_of, claimed, taken, held_where, split_where, refuted_where, solved_where, opened_at, held_at, closed_by, split_at}
 use Rattle.cube_laws.specs.Runs.{is_closing}
 use Rattle.cube_laws.specs.declared.messages.CubeState.{CubeState}
@@ -23,9 +24,9 @@ use Rattle.branch_search.specs.declared.tree.Growth.TheVariants.{Leaf, Inner}
 use Rattle.branch_search.specs.declared.tree.TreeNode.{TreeNode}
 use Rattle.branch_search.specs.Growing.{held_after, bud, sprout, with_growth, grown}
 use Rattle.branch_search.specs.Trees.{cubes_after, cube_of, IsChild, IsSplit, IsBelow, IsRoot, IsRefutationTree}
-use Rattle.branch_search.proofs.Lists.{some_is, within, there, map_some, some_map, map_length, map_append, or_map, any_false, or_set_here, or_set_apart, or_replicate}
+use Rattle.branch_search.proofs.Lists.{some_is, within, there, map_some, some_map, map_length, map_append, or_map, any_false}
 use Rattle.branch_search.proofs.Growths.{leaf_is, choice_is, first_is, second_is, leaf_or_inner}
-use Rattle.branch_search.proofs.Boughs.{IsLive, live_open, live_held, live_ended, IsChildAt, HasChildren, IsGrown, grown_first, grown_marked, grown_refuted, grown_split}
+use Rattle.branch_search.proofs.Boughs.{IsLive, live_open, live_held, live_ended, IsChildAt, HasChildren, IsGrown, grown_marked, grown_refuted, grown_split}
 use Rattle.branch_search.proofs.Seated.{marks_of, cubes_in, marks_with, cubes_with, held_is, last_is_open, claimed_is_open, Tied, Others, tied_same, tied_given, tied_left, tied_more}
 use Rattle.branch_search.proofs.Cubed.{parents_of, decisions_of, growths_of, growths_with, parents_with, decisions_with, cubes_same, cubes_append, cubes_split}
 use Rattle.branch_search.proofs.Grown.{grown_open, grown_closed}
@@ -220,22 +221,6 @@ pub record Standing (p : Polygraph) (last : State) (nodes : List TreeNode) (held
   pub legal : IsLegal next_of reply_of now rest
   pub ends : replay next_of now rest ≡ last
 
-pub standing_first : (p : Polygraph) (budget : ℕ) (history : List (Entry CubeEvent CubeReply)) (held : List (Option ℕ)) → held ≡ replicate 17 None → IsLegal next_of reply_of (opening_state p budget) history
-    → Standing p (replay next_of (opening_state p budget) history) (record { parent = 0; decision = None; growth = bud } ∷ []) held history
-standing_first p budget history held is legal = record {
-  now = opening_state p budget;
-  tree = record { poly = refl; cubes = refl; boughs = grown_first p; tied = λ k i lt. record { to = λ e. absurd (free k i e); from = λ e. absurd (fresh i k e) } };
-  legal = legal;
-  ends = refl;
-}
-  where
-    free : (k i : ℕ) → table held k ≡ Some i → ⊥
-    free k i e = let f : ◌≡◌ {A = Option ℕ} None (Some i) = sym (ap (λ l. table l k) is ∙ or_replicate 17 k None) ∙ e in cc
-
-    fresh : (i k : ℕ) → slice_get (Open ∷ []) i ≡ Some (Held k) → ⊥
-    fresh zero k e = let f : Open ≡ Held k = some_is Open (Held k) e in cc
-    fresh (suc i) k e = cc
-
 pub standing_step : (p : Polygraph) (last : State) (nodes after : List TreeNode) (held moved : List (Option ℕ)) (x : Entry CubeEvent CubeReply) (rest : List (Entry CubeEvent CubeReply)) → length held ≡ 17 → x.seat < 17
     → after ≡ grown nodes (table held x.seat) x.event x.reply → moved ≡ slice_set held x.seat (held_after (table held x.seat) x.reply)
     → Standing p last nodes held (x ∷ rest) → Standing p last after moved rest
@@ -243,9 +228,9 @@ standing_step p last nodes after held moved x rest size low made put st = record
   now = next_of st.now x.seat x.event;
   tree = subst (λ ns. IsTree p (next_of st.now x.seat x.event) ns (table moved)) (sym made)
       (stepped p st.now nodes (table held) (table moved) x.seat low st.tree
-      (λ k ne. ap (λ l. table l k) put ∙ or_set_apart held x.seat k (held_after (table held x.seat) x.reply) None ne)
+      (λ k ne. ap (λ l. table l k) put ∙ get_or-set_other held x.seat k (held_after (table held x.seat) x.reply) None ne)
       x.event x.reply st.legal.0
-      (ap (λ l. table l x.seat) put ∙ or_set_here held x.seat (held_after (table held x.seat) x.reply) None (omega (arith, low, size))));
+      (ap (λ l. table l x.seat) put ∙ get_or-set_same held x.seat (held_after (table held x.seat) x.reply) None (omega (arith, low, size))));
   legal = st.legal.1;
   ends = st.ends;
 }
@@ -255,11 +240,9 @@ abbrev IsDone : CubeState → Type 0
 IsDone m = (m ≡ Refuted) ⊎ ((c : ℕ) × (m ≡ Divided c))
 
 done_by : (m : CubeState) → is_solved m ≡ false → (is_open m || is_held m) ≡ false → IsDone m
-done_by Open a b = absurd (cc)
-done_by (Held seat) a b = absurd (cc)
 done_by (Divided c) a b = inr (c, refl)
 done_by Refuted a b = inl refl
-done_by Ended a b = absurd (cc)
+done_by _ a b = absurd (cc)
 
 all_done : (s : State) → is_exhausted s ≡ true → (i : ℕ) (m : CubeState) → slice_get (marks_of s.nodes) i ≡ Some m → IsDone m
 all_done s ex i m at =

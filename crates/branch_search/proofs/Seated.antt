@@ -3,13 +3,14 @@ use Rattle.std.proofs.Common.{◌≡◌, ◌⊎◌, ℕ, zero, suc, ◌+◌, ◌
 use Rattle.std.specs.Prelude.{slice_get, slice_set, if◌then◌else◌}
 use Rattle.std.specs.Option.{option_map_or}
 use Rattle.std.proofs.lemmas.Bool.{cases_eq, eqb-true, eq-eqb, false≢true}
+use Rattle.std.proofs.lemmas.List.{map-set}
 use Rattle.desk.proofs.Tied.{get_set}
 use Rattle.cube_laws.specs.Cubes.{Cube}
 use Rattle.cube_laws.specs.State.{Node, State}
 use Rattle.cube_laws.specs.Steps.{is_open, is_held_by, held_from, last_open_from, or_else, with_mark, is_open_at}
 use Rattle.cube_laws.specs.declared.messages.CubeState.{CubeState}
-use Rattle.cube_laws.specs.declared.messages.CubeState.TheVariants.{Open, Held, Split as Divided, Refuted, Solved as Ended}
-use Rattle.branch_search.proofs.Lists.{some_is, within, set_here, set_apart, set_self, append_left, append_cases, map_some, map_set}
+use Rattle.cube_laws.specs.declared.messages.CubeState.TheVariants.{Open, Held}
+use Rattle.branch_search.proofs.Lists.{some_is, within, set_here, set_apart, set_self, append_left, append_cases, map_some}
 
 abbrev pub marks_of : List Node → List CubeState
 marks_of nodes = map (λ n. n.mark) nodes
@@ -22,12 +23,12 @@ with_mark_is : (nodes : List Node) (id : ℕ) (m : CubeState) (n : Node) → sli
 with_mark_is nodes id m n e = ap (λ o. option_map_or (λ (x : Node). slice_set nodes id (record x { mark = m })) o nodes) e
 
 pub marks_with : (nodes : List Node) (id : ℕ) (m : CubeState) (n : Node) → slice_get nodes id ≡ Some n → marks_of (with_mark nodes id m) ≡ slice_set (marks_of nodes) id m
-marks_with nodes id m n e = ap marks_of (with_mark_is nodes id m n e) ∙ map_set (λ (x : Node). x.mark) nodes id (record n { mark = m })
+marks_with nodes id m n e = ap marks_of (with_mark_is nodes id m n e) ∙ map-set (λ (x : Node). x.mark) nodes id (record n { mark = m })
 
 pub cubes_with : (nodes : List Node) (id : ℕ) (m : CubeState) (n : Node) → slice_get nodes id ≡ Some n → cubes_in (with_mark nodes id m) ≡ cubes_in nodes
 cubes_with nodes id m n e =
     ap cubes_in (with_mark_is nodes id m n e)
-    ∙ map_set (λ (x : Node). x.cube) nodes id (record n { mark = m })
+    ∙ map-set (λ (x : Node). x.cube) nodes id (record n { mark = m })
     ∙ set_self (cubes_in nodes) id n.cube (map_some (λ (x : Node). x.cube) nodes id n e)
 
 -- ---- the node that a seat holds
@@ -36,11 +37,8 @@ by_test true x y o e = inl (refl, some_is x y e)
 by_test false x y o e = inr e
 
 held_mark : (seat : ℕ) (m : CubeState) → is_held_by seat m ≡ true → m ≡ Held seat
-held_mark seat Open e = absurd (cc)
 held_mark seat (Held other) e = ap (λ k. Held k) (eqb-true other seat e)
-held_mark seat (Divided c) e = absurd (cc)
-held_mark seat Refuted e = absurd (cc)
-held_mark seat Ended e = absurd (cc)
+held_mark seat _ e = absurd (cc)
 
 found_held : (seat k : ℕ) (nodes : List Node) (i : ℕ) → held_from seat k nodes ≡ Some i → (j : ℕ) × (i ≡ k + j) × (slice_get (marks_of nodes) j ≡ Some (Held seat))
 found_held seat k [] i e = absurd (cc)
@@ -84,10 +82,7 @@ held_is nodes h seat lt t = go (held_from seat 0 nodes) (h seat) refl refl
 -- ---- the last open node
 pub open_mark : (m : CubeState) → is_open m ≡ true → m ≡ Open
 open_mark Open e = refl
-open_mark (Held seat) e = absurd (cc)
-open_mark (Divided c) e = absurd (cc)
-open_mark Refuted e = absurd (cc)
-open_mark Ended e = absurd (cc)
+open_mark _ e = absurd (cc)
 
 either : (o q : Option ℕ) (i : ℕ) → or_else o q ≡ Some i → (o ≡ Some i) ⊎ (q ≡ Some i)
 either None q i e = inr e

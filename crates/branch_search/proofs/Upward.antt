@@ -1,22 +1,13 @@
 -- The cube of a node: what it decides itself, and its parent's cube.
-use Rattle.std.proofs.Common.{◌≡◌, ℕ, zero, suc, ◌+◌, ◌<◌, ◌≤◌, List, [], ◌∷◌, ◌++◌, length, Some, None, refl, sym, ap, ◌∙◌, arith}
+use Rattle.std.proofs.Common.{◌≡◌, ℕ, zero, suc, ◌+◌, ◌<◌, ◌≤◌, List, [], ◌∷◌, ◌++◌, length, Some, None, refl, sym, ap, ◌∙◌, arith, length-append}
 use Rattle.std.specs.Prelude.{slice_get, slice_index_or}
+use Rattle.std.proofs.lemmas.List.{get_or_append_left, get_or_at, get_or_past}
 use Rattle.cube_laws.specs.Cubes.{Cube}
 use Rattle.branch_search.specs.declared.tree.TreeNode.{TreeNode}
 use Rattle.branch_search.specs.Trees.{cube_below, cubes_after, cube_of}
-use Rattle.branch_search.proofs.Lists.{some_is, or_left, length_append}
+use Rattle.branch_search.proofs.Lists.{some_is}
 
 -- ---- elements past the end
-or_past : {A : Type 0} (xs : List A) (k : ℕ) (d : A) → length xs ≤ k → slice_index_or xs k d ≡ d
-or_past [] k d le = refl
-or_past (x ∷ xs) zero d le = absurd (omega (arith, le))
-or_past (x ∷ xs) (suc k) d le = or_past xs k d (omega (arith, le))
-
-or_last : {A : Type 0} (xs : List A) (x : A) (k : ℕ) (d : A) → k ≡ length xs → slice_index_or (xs ++ x ∷ []) k d ≡ x
-or_last [] x zero d e = refl
-or_last [] x (suc k) d e = absurd (omega (arith, e))
-or_last (y ∷ ys) x zero d e = absurd (omega (arith, e))
-or_last (y ∷ ys) x (suc k) d e = or_last ys x k d (omega (arith, e))
 
 none_past : {A : Type 0} (xs : List A) (k : ℕ) → slice_get xs k ≡ None → length xs ≤ k
 none_past [] k e = omega arith
@@ -28,13 +19,13 @@ abbrev with_next : List Cube → TreeNode → List Cube
 with_next before x = before ++ cube_below (slice_index_or before x.parent []) x.decision ∷ []
 
 next_length : (before : List Cube) (x : TreeNode) → length (with_next before x) ≡ length before + 1
-next_length before x = length_append before (cube_below (slice_index_or before x.parent []) x.decision ∷ [])
+next_length before x = length-append before (cube_below (slice_index_or before x.parent []) x.decision ∷ [])
 
 kept : (before : List Cube) (xs : List TreeNode) (k : ℕ) → k < length before → slice_index_or (cubes_after before xs) k [] ≡ slice_index_or before k []
 kept before [] k lt = refl
 kept before (x ∷ xs) k lt =
     let l = next_length before x in
-    kept (with_next before x) xs k (omega (arith, lt, l)) ∙ or_left before (cube_below (slice_index_or before x.parent []) x.decision ∷ []) k [] lt
+    kept (with_next before x) xs k (omega (arith, lt, l)) ∙ get_or_append_left before (cube_below (slice_index_or before x.parent []) x.decision ∷ []) [] k lt
 
 cubes_length : (before : List Cube) (xs : List TreeNode) → length (cubes_after before xs) ≡ length before + length xs
 cubes_length before [] = omega arith
@@ -44,7 +35,7 @@ cubes_length before (x ∷ xs) = let r = cubes_length (with_next before x) xs in
 next_cube : (before : List Cube) (x : TreeNode) (xs : List TreeNode) → slice_index_or (cubes_after before (x ∷ xs)) (length before) [] ≡ cube_below (slice_index_or before x.parent []) x.decision
 next_cube before x xs =
     let l = next_length before x in
-    kept (with_next before x) xs (length before) (omega (arith, l)) ∙ or_last before (cube_below (slice_index_or before x.parent []) x.decision) (length before) [] refl
+    kept (with_next before x) xs (length before) (omega (arith, l)) ∙ get_or_at before (cube_below (slice_index_or before x.parent []) x.decision) [] [] (length before) refl
 
 under_from : (before : List Cube) (xs : List TreeNode) (j i : ℕ) (x : TreeNode) → i ≡ length before + j → slice_get xs j ≡ Some x → x.parent < i → slice_index_or (cubes_after before xs) i [] ≡ cube_below (slice_index_or (cubes_after before xs) x.parent []) x.decision
 under_from before [] j i x at e lt = absurd (cc)
@@ -69,7 +60,7 @@ top_from before (y ∷ ys) zero i x at e le =
     ap (λ k. slice_index_or (cubes_after before (y ∷ ys)) k []) here
     ∙ next_cube before y ys
     ∙ ap (λ (z : TreeNode). cube_below (slice_index_or before z.parent []) z.decision) same
-    ∙ ap (λ (c : Cube). cube_below c x.decision) (or_past before x.parent [] high)
+    ∙ ap (λ (c : Cube). cube_below c x.decision) (get_or_past before x.parent [] high)
 top_from before (y ∷ ys) (suc j) i x at e le =
     let l = next_length before y in
     top_from (with_next before y) ys j i x (omega (arith, at, l)) e le
@@ -84,4 +75,4 @@ cube_top nodes i x e le = top_from [] nodes i i x (omega arith) e le
 pub cube_past : (nodes : List TreeNode) (i : ℕ) → slice_get nodes i ≡ None → cube_of nodes i ≡ []
 cube_past nodes i e =
     let le = none_past nodes i e in let l = cubes_length [] nodes in
-    or_past (cubes_after [] nodes) i [] (omega (arith, le, l))
+    get_or_past (cubes_after [] nodes) i [] (omega (arith, le, l))

@@ -16,32 +16,27 @@ use Rattle.branch_search.specs.declared.answer.Answer.TheVariants.{Yes, No, Unkn
 -- the order of a yes is serial
 abbrev pub SaysYes : List ClientSession → Answer → Type 0
 SaysYes ss (Yes order) = IsSerialOrder ss order
-SaysYes ss (No tree) = Unit {0}
-SaysYes ss (Unknown closed) = Unit {0}
+SaysYes ss _ = Unit {0}
 
 -- where the answer is no, there is no serial order
 abbrev pub SaysNo : List ClientSession → Answer → Type 0
-SaysNo ss (Yes order) = Unit {0}
 SaysNo ss (No tree) = (order : List ℕ) → IsSerialOrder ss order → ⊥
-SaysNo ss (Unknown closed) = Unit {0}
+SaysNo ss _ = Unit {0}
 
 -- the tree of a no shows that every cube is refuted
 abbrev pub ShowsNo : Polygraph → Answer → Type 0
-ShowsNo p (Yes order) = Unit {0}
 ShowsNo p (No tree) = IsRefutationTree p tree
-ShowsNo p (Unknown closed) = Unit {0}
+ShowsNo p _ = Unit {0}
 
 -- where the answer is unknown, the budget was spent
 abbrev pub SaysUnknown : ℕ → Answer → Type 0
-SaysUnknown budget (Yes order) = Unit {0}
-SaysUnknown budget (No tree) = Unit {0}
 SaysUnknown budget (Unknown closed) = closed ≡ budget
+SaysUnknown budget _ = Unit {0}
 
 -- the answer is yes or no
 abbrev pub IsSettled : Answer → Type 0
-IsSettled (Yes order) = Unit {0}
-IsSettled (No tree) = Unit {0}
 IsSettled (Unknown closed) = ⊥
+IsSettled _ = Unit {0}
 
 -- as many nodes are closed as may be, none is solved, and one is open or held
 pub record IsSpent (s : State) (closed : ℕ) : Type 0 where

@@ -5,14 +5,10 @@ use Rattle.std.specs.Option.{option_map_or}
 use Rattle.pruning_laws.specs.declared.side.Side.{Side}
 use Rattle.pruning_laws.specs.declared.side.Side.TheVariants.{One, Two}
 use Rattle.cube_laws.specs.declared.messages.CubeEvent.{CubeEvent}
-use Rattle.cube_laws.specs.declared.messages.CubeEvent.TheVariants.{Claim, TakeAny, Split, Refute}
-use Rattle.cube_laws.specs.declared.messages.CubeEvent.TheVariants.{Solve, Release}
+use Rattle.cube_laws.specs.declared.messages.CubeEvent.TheVariants.{Split, Refute}
 use Rattle.cube_laws.specs.declared.messages.CubeReply.{CubeReply}
-use Rattle.cube_laws.specs.declared.messages.CubeReply.TheVariants.{Finished, HasCube, NotOpen}
-use Rattle.cube_laws.specs.declared.messages.CubeReply.TheVariants.{NoneNow, Cube as Given, NoCube}
-use Rattle.cube_laws.specs.declared.messages.CubeReply.TheVariants.{BadChoice, Children, BadCycle}
-use Rattle.cube_laws.specs.declared.messages.CubeReply.TheVariants.{Closed, BadOrder, Solved}
-use Rattle.cube_laws.specs.declared.messages.CubeReply.TheVariants.{Released}
+use Rattle.cube_laws.specs.declared.messages.CubeReply.TheVariants.{Cube as Given, Children}
+use Rattle.cube_laws.specs.declared.messages.CubeReply.TheVariants.{Closed, Solved, Released}
 use Rattle.cube_laws.specs.Runs.{is_closing}
 use Rattle.branch_search.specs.declared.tree.Growth.{Growth}
 use Rattle.branch_search.specs.declared.tree.Growth.TheVariants.{Leaf, Inner}
@@ -20,19 +16,12 @@ use Rattle.branch_search.specs.declared.tree.TreeNode.{TreeNode}
 
 -- the node that a seat holds after a reply, where it held this one before
 abbrev pub held_after : Option ℕ → CubeReply → Option ℕ
-held_after id Finished = id
-held_after id HasCube = id
-held_after id NotOpen = id
-held_after id NoneNow = id
 held_after old (Given id) = Some id
-held_after id NoCube = id
-held_after id BadChoice = id
-held_after id (Children a b) = None
-held_after id BadCycle = id
-held_after id Closed = None
-held_after id BadOrder = id
-held_after id Solved = None
-held_after id Released = None
+held_after old (Children a b) = None
+held_after old Closed = None
+held_after old Solved = None
+held_after old Released = None
+held_after old _ = old
 
 -- a leaf that holds no cycle yet
 abbrev pub bud : Growth
@@ -52,13 +41,10 @@ with_growth nodes id growth = option_map_or (λ x. slice_set nodes id (record x 
 
 -- the nodes after an event that closed this node
 abbrev pub closed_with : List TreeNode → ℕ → CubeEvent → List TreeNode
-closed_with nodes id (Claim other) = nodes
-closed_with nodes id TakeAny = nodes
 closed_with nodes id (Split c) = with_growth nodes id
     (Inner c (length nodes) (length nodes + 1)) ++ sprout id c One ∷ sprout id c Two ∷ []
 closed_with nodes id (Refute line) = with_growth nodes id (Leaf line)
-closed_with nodes id (Solve order) = nodes
-closed_with nodes id Release = nodes
+closed_with nodes id _ = nodes
 
 abbrev pub closed_where : List TreeNode → CubeEvent → Option ℕ → List TreeNode
 closed_where nodes e None = nodes

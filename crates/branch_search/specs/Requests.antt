@@ -3,8 +3,7 @@ use Rattle.std.specs.Prelude.{◌≡◌, ℕ, List, [], ◌∷◌, ◌++◌, Opt
 use Rattle.pruning_laws.specs.declared.side.Side.{Side}
 use Rattle.pruning_laws.specs.declared.side.Side.TheVariants.{One, Two}
 use Rattle.cube_laws.specs.declared.messages.CubeEvent.{CubeEvent}
-use Rattle.cube_laws.specs.declared.messages.CubeEvent.TheVariants.{Claim, TakeAny, Split, Refute}
-use Rattle.cube_laws.specs.declared.messages.CubeEvent.TheVariants.{Solve, Release}
+use Rattle.cube_laws.specs.declared.messages.CubeEvent.TheVariants.{Claim, TakeAny, Split}
 use Rattle.cube_laws.specs.declared.messages.CubeReply.{CubeReply}
 use Rattle.cube_laws.specs.declared.messages.CubeReply.TheVariants.{Children}
 use Rattle.branching.specs.View.{View, decided}
@@ -19,12 +18,8 @@ event_for (Own step) = Claim step.node
 
 -- the choice by which an event splits a cube
 abbrev pub split_in : CubeEvent → Option ℕ
-split_in (Claim id) = None
-split_in TakeAny = None
 split_in (Split c) = Some c
-split_in (Refute line) = None
-split_in (Solve order) = None
-split_in Release = None
+split_in _ = None
 
 -- of the two children of a split the one that decides this side
 abbrev pub child_by : Side → ℕ → ℕ → ℕ

@@ -1,13 +1,13 @@
 -- Bounds of the numbers of edges, and searches that end at them.
 use Rattle.std.proofs.Common.{◌≡◌, ℕ, zero, suc, ◌<◌, ◌≤◌, List, [], ◌∷◌, length, map, drop, Option, Some, None, refl, arith}
-use Rattle.std.specs.Prelude.{nat_lt, slice_index}
+use Rattle.std.specs.Prelude.{slice_index}
 use Rattle.std.proofs.lemmas.Bool.{le-ltb, cond-false}
 use Rattle.std.proofs.lemmas.List.{length-drop}
 use Rattle.serializability.specs.Polygraph.{Choice}
 use Rattle.pruning_laws.specs.declared.side.Side.{Side}
-use Rattle.branching.specs.Picks.{size_of, edge_count, or_fewer, first_least}
+use Rattle.branching.specs.Picks.{size_of, edge_count, has_fewer, or_better, first_best}
 use Rattle.branching.specs.Opens.{open_past}
-use Rattle.branching.specs.Picked.{Listed, least_listed, found_listed}
+use Rattle.branching.specs.Picked.{Listed, best_listed, found_listed}
 use Rattle.branching.proofs.Opens.{open_within}
 
 -- the number of edges in the list of these numbers
@@ -24,10 +24,12 @@ listed_within sides from c l =
     omega (arith, w, lt, n)
 
 -- ---- none is below
-least_of : (count : ℕ → ℕ) (b : ℕ) (o : Option ℕ) → ((d : ℕ) → o ≡ Some d → count b ≤ count d) → or_fewer count b o ≡ Some b
-least_of count b None h = refl
-least_of count b (Some d) h = cond-false {A = Option ℕ} (nat_lt (count d) (count b)) (Some d) (Some b) (le-ltb (count d) (count b) (h d refl))
+least_of : (choices : List Choice) (b : ℕ) (o : Option ℕ) → ((d : ℕ) → o ≡ Some d → edge_count choices b ≤ edge_count choices d) → or_better (has_fewer choices) b o ≡ Some b
+least_of choices b None h = refl
+least_of choices b (Some d) h = cond-false {A = Option ℕ} (has_fewer choices d b) (Some d) (Some b) (le-ltb (edge_count choices d) (edge_count choices b) (h d refl))
 
-pub least_found : (count : ℕ → ℕ) (b n : ℕ) (sides : List (Option Side)) (from : ℕ) → length sides ≡ n → ((d : ℕ) → d < n → count b ≤ count d) → or_fewer count b (first_least count (open_past sides from)) ≡ Some b
-least_found count b n sides from e h =
-    least_of count b (first_least count (open_past sides from)) (λ d is. (let lt = listed_within sides from d (least_listed count (open_past sides from) d is) in h d (omega (arith, lt, e))))
+pub least_found : (choices : List Choice) (b n : ℕ) (sides : List (Option Side)) (from : ℕ) → length sides ≡ n → ((d : ℕ) → d < n → edge_count choices b ≤ edge_count choices d)
+    → or_better (has_fewer choices) b (first_best (has_fewer choices) (open_past sides from)) ≡ Some b
+least_found choices b n sides from e h =
+    least_of choices b (first_best (has_fewer choices) (open_past sides from))
+    (λ d is. (let lt = listed_within sides from d (best_listed (has_fewer choices) (open_past sides from) d is) in h d (omega (arith, lt, e))))

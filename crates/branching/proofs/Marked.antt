@@ -1,5 +1,5 @@
 -- Marks of the choices of which a side is refuted.
-use Rattle.std.proofs.Common.{◌≡◌, ◌≢◌, ◌⊎◌, ◌↔◌, ℕ, zero, suc, ◌+◌, ◌/◌, ◌<◌, ◌≤◌, true, not, eqb, ◌&&◌, List, [], ◌∷◌, ◌++◌, length, get_or, set, take, Option, Some, refl, sym, ap, ◌∙◌, subst, inl, inr, arith, Vec, Global}
+use Rattle.std.proofs.Common.{◌≡◌, ◌≢◌, ◌⊎◌, ◌↔◌, ℕ, zero, suc, ◌+◌, ◌/◌, ◌<◌, ◌≤◌, true, not, eqb, ◌&&◌, List, [], ◌∷◌, ◌++◌, length, get_or, set, take, Option, Some, sym, ap, ◌∙◌, subst, inl, inr, arith, Vec, Global}
 use Rattle.std.specs.Prelude.{slice_get}
 use Rattle.std.specs.Option.{option_map_or}
 use Rattle.std.specs.List.{Contains, list_any}
@@ -66,14 +66,8 @@ listed choices lists c side e has i =
     (has.each only e ∙ has_in (kept_from only 0 choices) e (at_kept only 0 choices e c g.choice side g.at t (subst (In e) (side_is choices c g.choice side g.at) own)))
 
 -- ---- marks that are kept
-pub keeps_same : (marks : List ℕ) → Keeps marks marks
-keeps_same marks = record { kept = λ k t. t; len = refl }
-
 pub keeps_then : (a b c : List ℕ) → Keeps a b → Keeps b c → Keeps a c
 keeps_then a b c x y = record { kept = λ k t. y.kept k (x.kept k t); len = y.len ∙ x.len }
-
-pub behind_none : (rows : List Edge) (v : ℕ) (marks : List ℕ) → MarksBehind rows v [] marks
-behind_none rows v marks = record { each = λ x c. absurd (In-from_Contains [] x c) }
 
 pub behind_kept : (rows : List Edge) (v : ℕ) (list : List SideEdge) (old new : List ℕ) → Keeps old new → MarksBehind rows v list old → MarksBehind rows v list new
 behind_kept rows v list old new k m = record { each = λ x c lt r. k.kept x.choice (m.each x c (subst (λ n. x.choice / 64 < n) k.len lt) r) }
@@ -93,9 +87,6 @@ behind_more rows v list old new k d lt is m keeps marked =
 -- the lists of the nodes below a number are done
 pub record MarksBelow (rows : List Edge) (u v : ℕ) (lists : List (Vec SideEdge Global)) (number : ℕ) (marks : List ℕ) : Type 0 where
   pub each : (t : ℕ) → t < number → MarksTarget rows t u v (list_of lists t) marks
-
-pub below_none : (rows : List Edge) (u v : ℕ) (lists : List (Vec SideEdge Global)) (marks : List ℕ) → MarksBelow rows u v lists 0 marks
-below_none rows u v lists marks = record { each = λ t lt. absurd (omega (arith, lt)) }
 
 pub below_more : (rows : List Edge) (u v : ℕ) (lists : List (Vec SideEdge Global)) (k : ℕ) (list : Vec SideEdge Global) (old new : List ℕ) → slice_get lists k ≡ Some list → MarksBelow rows u v lists k old → Keeps old new
     → MarksTarget rows k u v list.items new → MarksBelow rows u v lists (k + 1) new

@@ -1,5 +1,5 @@
 -- Marks that a view keeps, or does not.
-use Rattle.std.proofs.Common.{◌≡◌, ◌≢◌, ◌⊎◌, ◌↔◌, ℕ, ◌+◌, ◌<◌, not, eqb, ◌&&◌, List, length, set, drop, Option, Some, None, refl, sym, ap, ◌∙◌, subst, arith, Vec, Global}
+use Rattle.std.proofs.Common.{◌≡◌, ◌≢◌, ◌⊎◌, ◌↔◌, ℕ, ◌<◌, not, eqb, ◌&&◌, List, length, set, drop, Option, Some, None, refl, sym, ap, ◌∙◌, subst, arith, Vec, Global}
 use Rattle.std.specs.Vec.{with_items}
 use Rattle.std.specs.List.{Contains}
 use Rattle.std.proofs.lemmas.Bool.{lt-ltb}
@@ -10,7 +10,7 @@ use Rattle.known_graph.specs.Bits.{bit_of, row_len}
 use Rattle.reach_rows.specs.ReachRows.{AreRowsOf}
 use Rattle.prune_ledger.specs.Pruned.{IsReduced}
 use Rattle.branching.specs.Marked.{Keeps, MarksAll, AreMarked}
-use Rattle.branching.specs.Markings.{AreKept, AreMarks, AreBlank, AreSaved, HaveLists, HaveRoom, HasRoom, HasBits, TakesSaved, AddsMarks, RemovesMark}
+use Rattle.branching.specs.Markings.{AreKept, AreMarks, AreBlank, AreSaved, HaveRoom, HasBits, TakesSaved, AddsMarks, RemovesMark}
 use Rattle.branching.specs.declared.kept_marks.KeptMarks.{KeptMarks}
 use Rattle.branching.specs.declared.kept_marks.Marks.{Marks}
 use Rattle.branching.specs.declared.kept_marks.Marks.TheVariants.{Unkept, Kept}
@@ -21,18 +21,6 @@ use Rattle.branching.proofs.Marked.{written_whole, marked_none, marked_more, mar
 pub blank_is_right : (p : Polygraph) (sides : List (Option Side)) (edges : List Edge) (m : Marks) → IsReduced p → edges ≡ p.known → AreBlank p.nodes p.choices m → AreMarks p.nodes p.choices sides edges m
 blank_is_right p sides edges Unkept reduced same b = tt
 blank_is_right p sides edges (Kept k) reduced same b = record { incoming = b.incoming; marked = marked_none p sides edges k.bits.items reduced same b.len }
-
-pub lists_kept : (n count : ℕ) (choices : List Choice) (sides : List (Option Side)) (edges : List Edge) (m : Marks) → count ≡ n + 1 → AreMarks n choices sides edges m → HaveLists count m
-lists_kept n count choices sides edges Unkept e a = tt
-lists_kept n count choices sides edges (Kept k) e a = a.incoming.count ∙ sym e
-
-pub room_kept : (n count : ℕ) (choices : List Choice) (sides : List (Option Side)) (edges : List Edge) (m : Marks) → length choices ≡ count → AreMarks n choices sides edges m → HaveRoom count m
-room_kept n count choices sides edges Unkept e a = tt
-room_kept n count choices sides edges (Kept k) e a = a.marked.len ∙ ap row_len e
-
-pub room_saved : (count : ℕ) (choices : List Choice) (sides : List (Option Side)) (edges : List Edge) (saved : Option (Vec ℕ Global)) → length choices ≡ count → AreSaved choices sides edges saved → HasRoom count saved
-room_saved count choices sides edges None e a = tt
-room_saved count choices sides edges (Some bits) e a = a.len ∙ ap row_len e
 
 -- ---- bits that were written over others
 abbrev pub rewritten : KeptMarks → List ℕ → Marks

@@ -1,13 +1,14 @@
 -- The picks by number of edges are the best of the open choices.
 use Rattle.std.proofs.Common.{◌≡◌, ℕ, zero, suc, ◌+◌, ◌<◌, ◌≤◌, Bool, true, false, cond, List, [], ◌∷◌, Option, Some, None, refl, sym, ap, ◌∙◌, subst, inl, inr, arith}
 use Rattle.std.specs.Prelude.{nat_lt}
-use Rattle.std.proofs.lemmas.Bool.{cases_lt, false≢true, lt-ltb, le-ltb, cond-true, cond-false}
+use Rattle.std.proofs.lemmas.Bool.{cases_Bool, false≢true, ltb-true, ltb-false, le-ltb}
+use Rattle.serializability.specs.Polygraph.{Choice}
 use Rattle.serializability.proofs.Places.{Has}
 use Rattle.pruning_laws.specs.declared.side.Side.{Side}
 use Rattle.prune_ledger.proofs.Marks.{some-inj}
 use Rattle.branching.specs.View.{View, is_open_in}
-use Rattle.branching.specs.Picks.{open_from, open_choices, edge_count, or_more, first_greatest, or_fewer, first_least, most_edges, least_edges}
-use Rattle.branching.specs.Picked.{most_is_open, least_is_open}
+use Rattle.branching.specs.Picks.{open_from, open_choices, edge_count, has_more, has_fewer, or_better, first_best, most_edges, least_edges}
+use Rattle.branching.specs.Picked.{better_is_some, most_is_open, least_is_open}
 use Rattle.branching.specs.Opens.{is_open_at}
 use Rattle.branching.specs.Meant.{HasMost, HasFewest}
 
@@ -28,115 +29,92 @@ open_above (None ∷ xs) k d (inl e) = omega (arith, e)
 open_above (None ∷ xs) k d (inr h) = omega (arith, open_above xs (k + 1) d h)
 open_above (Some s ∷ xs) k d h = omega (arith, open_above xs (k + 1) d h)
 
-not_some : {A : Type 0} (x : A) → Some x ≡ None → ⊥
-not_some x e = absurd (cc)
+-- ---- the best
+-- what is better is not worse, and what is no better than one that is no better than a third is no better than that
+record IsOrder (better : ℕ → ℕ → Bool) : Type 0 where
+  apart : (b c : ℕ) → better b c ≡ true → better c b ≡ false
+  through : (b c d : ℕ) → better b c ≡ false → better c d ≡ false → better b d ≡ false
 
-one_is_some : (x d : ℕ) (b : Bool) → cond b (Some d) (Some x) ≡ None → ⊥
-one_is_some x d true e = not_some d e
-one_is_some x d false e = not_some x e
+lt_apart : (m n : ℕ) → nat_lt m n ≡ true → nat_lt n m ≡ false
+lt_apart m n t = let lt = ltb-true m n t in le-ltb n m (omega (arith, lt))
 
-never : (count : ℕ → ℕ) (x : ℕ) (o : Option ℕ) → or_more count x o ≡ None → ⊥
-never count x None e = not_some x e
-never count x (Some d) e = one_is_some x d (nat_lt (count x) (count d)) e
+le_through : (m n o : ℕ) → nat_lt m n ≡ false → nat_lt n o ≡ false → nat_lt m o ≡ false
+le_through m n o f g = let a = ltb-false m n f in let b = ltb-false n o g in le-ltb m o (omega (arith, a, b))
 
-never_least : (count : ℕ → ℕ) (x : ℕ) (o : Option ℕ) → or_fewer count x o ≡ None → ⊥
-never_least count x None e = not_some x e
-never_least count x (Some d) e = one_is_some x d (nat_lt (count d) (count x)) e
-
--- ---- the most
-record IsBest (count : ℕ → ℕ) (cs : List ℕ) (c : ℕ) : Type 0 where
-  most : (d : ℕ) → Has d cs → count d ≤ count c
-  first : (d : ℕ) → Has d cs → d < c → count d < count c
-
-best_alone : (count : ℕ → ℕ) (k : ℕ) → IsBest count (k ∷ []) k
-best_alone count k = record {
-  most = λ d h. elim h [ inl e ↦ (let f = ap count e in omega (arith, f)) | inr none ↦ absurd none ];
-  first = λ d h lt. elim h [ inl e ↦ absurd (omega (arith, e, lt)) | inr none ↦ absurd none ];
+more_order : (choices : List Choice) → IsOrder (has_more choices)
+more_order choices = record {
+  apart = λ b c t. lt_apart (edge_count choices c) (edge_count choices b) t;
+  through = λ b c d f g. le_through (edge_count choices d) (edge_count choices c) (edge_count choices b) g f;
 }
 
-best_later : (count : ℕ → ℕ) (k b : ℕ) (rest : List ℕ) → count k < count b → IsBest count rest b → IsBest count (k ∷ rest) b
-best_later count k b rest more best = record {
-  most = λ d h. elim h [ inl e ↦ (let f = ap count e in omega (arith, f, more)) | inr r ↦ best.most d r ];
-  first = λ d h lt. elim h [ inl e ↦ (let f = ap count e in omega (arith, f, more)) | inr r ↦ best.first d r lt ];
+fewer_order : (choices : List Choice) → IsOrder (has_fewer choices)
+fewer_order choices = record {
+  apart = λ b c t. lt_apart (edge_count choices b) (edge_count choices c) t;
+  through = λ b c d f g. le_through (edge_count choices b) (edge_count choices c) (edge_count choices d) f g;
 }
 
-best_here : (count : ℕ → ℕ) (k b : ℕ) (rest : List ℕ) → count b ≤ count k → ((d : ℕ) → Has d rest → k + 1 ≤ d) → IsBest count rest b → IsBest count (k ∷ rest) k
-best_here count k b rest less above best = record {
-  most = λ d h. elim h [ inl e ↦ (let f = ap count e in omega (arith, f)) | inr r ↦ (let m = best.most d r in omega (arith, m, less)) ];
-  first = λ d h lt. elim h [ inl e ↦ absurd (omega (arith, e, lt)) | inr r ↦ (let a = above d r in absurd (omega (arith, a, lt))) ];
-}
+record IsBest (better : ℕ → ℕ → Bool) (cs : List ℕ) (c : ℕ) : Type 0 where
+  best : (d : ℕ) → Has d cs → better d c ≡ false
+  first : (d : ℕ) → Has d cs → d < c → better c d ≡ true
 
-none_left : (count : ℕ → ℕ) (cs : List ℕ) → first_greatest count cs ≡ None → cs ≡ []
-none_left count [] e = refl
-none_left count (x ∷ xs) e = absurd (never count x (first_greatest count xs) e)
-
-best_of : (count : ℕ → ℕ) (k c : ℕ) (rest : List ℕ) (o : Option ℕ) → first_greatest count rest ≡ o → ((d : ℕ) → Has d rest → k + 1 ≤ d) → ((b : ℕ) → o ≡ Some b → IsBest count rest b) → or_more count k o ≡ Some c → IsBest count (k ∷ rest) c
-best_of count k c rest None e above best t =
-    subst (IsBest count (k ∷ rest)) (some-inj k c t) (subst (λ l. IsBest count (k ∷ l) k) (sym (none_left count rest e)) (best_alone count k))
-best_of count k c rest (Some b) e above best t = elim (cases_lt (count k) (count b)) [
-  | inl lt ↦
-      (let is : b ≡ c = some-inj b c (sym (cond-true {A = Option ℕ} (nat_lt (count k) (count b)) (Some b) (Some k) (lt-ltb (count k) (count b) lt)) ∙ t) in
-      subst (IsBest count (k ∷ rest)) is (best_later count k b rest lt (best b refl)))
-  | inr ge ↦
-      (let is : k ≡ c = some-inj k c (sym (cond-false {A = Option ℕ} (nat_lt (count k) (count b)) (Some b) (Some k) (le-ltb (count k) (count b) ge)) ∙ t) in
-      subst (IsBest count (k ∷ rest)) is (best_here count k b rest ge above (best b refl)))
+-- nothing is better than itself
+not_itself : (better : ℕ → ℕ → Bool) → IsOrder better → (k d : ℕ) → d ≡ k → better d k ≡ false
+not_itself better o k d e = elim (cases_Bool (better d k)) [
+  | inl t ↦ ap (λ n. better n k) e ∙ o.apart k k (ap (λ n. better n k) (sym e) ∙ t)
+  | inr f ↦ f
 ]
 
-greatest_best : (count : ℕ → ℕ) (sides : List (Option Side)) (k c : ℕ) → first_greatest count (open_from k sides) ≡ Some c → IsBest count (open_from k sides) c
-greatest_best count [] k c e = absurd (cc)
-greatest_best count (None ∷ xs) k c e = best_of count k c (open_from (k + 1) xs) (first_greatest count (open_from (k + 1) xs)) refl (open_above xs (k + 1)) (λ b s. greatest_best count xs (k + 1) b s) e
-greatest_best count (Some s ∷ xs) k c e = greatest_best count xs (k + 1) c e
+best_later : (better : ℕ → ℕ → Bool) → IsOrder better → (k b : ℕ) (rest : List ℕ) → better b k ≡ true → IsBest better rest b → IsBest better (k ∷ rest) b
+best_later better o k b rest more best = record {
+  best = λ d h. elim h [ inl e ↦ ap (λ n. better n b) (sym e) ∙ o.apart b k more | inr r ↦ best.best d r ];
+  first = λ d h lt. elim h [ inl e ↦ ap (better b) (sym e) ∙ more | inr r ↦ best.first d r lt ];
+}
 
+-- the first of a list is the best one, where none of the rest is better
+best_here : (better : ℕ → ℕ → Bool) → IsOrder better → (k : ℕ) (rest : List ℕ) → ((d : ℕ) → Has d rest → (k + 1 ≤ d) × (better d k ≡ false)) → IsBest better (k ∷ rest) k
+best_here better o k rest above = record {
+  best = λ d h. elim h [ inl e ↦ not_itself better o k d (sym e) | inr r ↦ (above d r).1 ];
+  first = λ d h lt. elim h [ inl e ↦ absurd (omega (arith, e, lt)) | inr r ↦ (let a = (above d r).0 in absurd (omega (arith, a, lt))) ];
+}
+
+none_left : (better : ℕ → ℕ → Bool) (cs : List ℕ) → first_best better cs ≡ None → cs ≡ []
+none_left better [] e = refl
+none_left better (x ∷ xs) e = absurd (better_is_some better x (first_best better xs) e)
+
+best_of : (better : ℕ → ℕ → Bool) → IsOrder better → (k c : ℕ) (rest : List ℕ) (o : Option ℕ) → first_best better rest ≡ o → ((d : ℕ) → Has d rest → k + 1 ≤ d) → ((b : ℕ) → o ≡ Some b → IsBest better rest b) → or_better better k o ≡ Some c → IsBest better (k ∷ rest) c
+best_of better order k c rest None e above best t =
+    subst (IsBest better (k ∷ rest)) (some-inj k c t) (best_here better order k rest (λ d h. absurd (subst (Has d) (none_left better rest e) h)))
+best_of better order k c rest (Some b) e above best t = elim (cases_Bool (better b k)) [
+  | inl more ↦
+      (let is : b ≡ c = some-inj b c (sym (ap (λ x. cond x (Some b) (Some k)) more) ∙ t) in
+      subst (IsBest better (k ∷ rest)) is (best_later better order k b rest more (best b refl)))
+  | inr less ↦
+      (let is : k ≡ c = some-inj k c (sym (ap (λ x. cond x (Some b) (Some k)) less) ∙ t) in
+      subst (IsBest better (k ∷ rest)) is (best_here better order k rest (λ d h. (above d h, order.through d b k ((best b refl).best d h) less))))
+]
+
+first_is_best : (better : ℕ → ℕ → Bool) → IsOrder better → (sides : List (Option Side)) (k c : ℕ) → first_best better (open_from k sides) ≡ Some c → IsBest better (open_from k sides) c
+first_is_best better o [] k c e = absurd (cc)
+first_is_best better o (None ∷ xs) k c e = best_of better o k c (open_from (k + 1) xs) (first_best better (open_from (k + 1) xs)) refl (open_above xs (k + 1)) (λ b s. first_is_best better o xs (k + 1) b s) e
+first_is_best better o (Some s ∷ xs) k c e = first_is_best better o xs (k + 1) c e
+
+-- ---- the most, and the fewest
 pub most_has_most : (v : View) (c : ℕ) → most_edges v ≡ Some c → HasMost v c
 most_has_most v c e =
-    let best = greatest_best (edge_count v.polygraph.choices) v.sides 0 c e in
-    record { free = most_is_open v c e; most = λ d t. best.most d (listed_in v d t); first = λ d t lt. best.first d (listed_in v d t) lt }
-
--- ---- the fewest
-record IsFewest (count : ℕ → ℕ) (cs : List ℕ) (c : ℕ) : Type 0 where
-  fewest : (d : ℕ) → Has d cs → count c ≤ count d
-  first : (d : ℕ) → Has d cs → d < c → count c < count d
-
-fewest_alone : (count : ℕ → ℕ) (k : ℕ) → IsFewest count (k ∷ []) k
-fewest_alone count k = record {
-  fewest = λ d h. elim h [ inl e ↦ (let f = ap count e in omega (arith, f)) | inr none ↦ absurd none ];
-  first = λ d h lt. elim h [ inl e ↦ absurd (omega (arith, e, lt)) | inr none ↦ absurd none ];
-}
-
-fewest_later : (count : ℕ → ℕ) (k b : ℕ) (rest : List ℕ) → count b < count k → IsFewest count rest b → IsFewest count (k ∷ rest) b
-fewest_later count k b rest more best = record {
-  fewest = λ d h. elim h [ inl e ↦ (let f = ap count e in omega (arith, f, more)) | inr r ↦ best.fewest d r ];
-  first = λ d h lt. elim h [ inl e ↦ (let f = ap count e in omega (arith, f, more)) | inr r ↦ best.first d r lt ];
-}
-
-fewest_here : (count : ℕ → ℕ) (k b : ℕ) (rest : List ℕ) → count k ≤ count b → ((d : ℕ) → Has d rest → k + 1 ≤ d) → IsFewest count rest b → IsFewest count (k ∷ rest) k
-fewest_here count k b rest less above best = record {
-  fewest = λ d h. elim h [ inl e ↦ (let f = ap count e in omega (arith, f)) | inr r ↦ (let m = best.fewest d r in omega (arith, m, less)) ];
-  first = λ d h lt. elim h [ inl e ↦ absurd (omega (arith, e, lt)) | inr r ↦ (let a = above d r in absurd (omega (arith, a, lt))) ];
-}
-
-none_left_over : (count : ℕ → ℕ) (cs : List ℕ) → first_least count cs ≡ None → cs ≡ []
-none_left_over count [] e = refl
-none_left_over count (x ∷ xs) e = absurd (never_least count x (first_least count xs) e)
-
-fewest_of : (count : ℕ → ℕ) (k c : ℕ) (rest : List ℕ) (o : Option ℕ) → first_least count rest ≡ o → ((d : ℕ) → Has d rest → k + 1 ≤ d) → ((b : ℕ) → o ≡ Some b → IsFewest count rest b) → or_fewer count k o ≡ Some c → IsFewest count (k ∷ rest) c
-fewest_of count k c rest None e above best t =
-    subst (IsFewest count (k ∷ rest)) (some-inj k c t) (subst (λ l. IsFewest count (k ∷ l) k) (sym (none_left_over count rest e)) (fewest_alone count k))
-fewest_of count k c rest (Some b) e above best t = elim (cases_lt (count b) (count k)) [
-  | inl lt ↦
-      (let is : b ≡ c = some-inj b c (sym (cond-true {A = Option ℕ} (nat_lt (count b) (count k)) (Some b) (Some k) (lt-ltb (count b) (count k) lt)) ∙ t) in
-      subst (IsFewest count (k ∷ rest)) is (fewest_later count k b rest lt (best b refl)))
-  | inr ge ↦
-      (let is : k ≡ c = some-inj k c (sym (cond-false {A = Option ℕ} (nat_lt (count b) (count k)) (Some b) (Some k) (le-ltb (count b) (count k) ge)) ∙ t) in
-      subst (IsFewest count (k ∷ rest)) is (fewest_here count k b rest ge above (best b refl)))
-]
-
-least_fewest : (count : ℕ → ℕ) (sides : List (Option Side)) (k c : ℕ) → first_least count (open_from k sides) ≡ Some c → IsFewest count (open_from k sides) c
-least_fewest count [] k c e = absurd (cc)
-least_fewest count (None ∷ xs) k c e = fewest_of count k c (open_from (k + 1) xs) (first_least count (open_from (k + 1) xs)) refl (open_above xs (k + 1)) (λ b s. least_fewest count xs (k + 1) b s) e
-least_fewest count (Some s ∷ xs) k c e = least_fewest count xs (k + 1) c e
+    let choices = v.polygraph.choices in
+    let best = first_is_best (has_more choices) (more_order choices) v.sides 0 c e in
+    record {
+      free = most_is_open v c e;
+      most = λ d t. ltb-false (edge_count choices c) (edge_count choices d) (best.best d (listed_in v d t));
+      first = λ d t lt. ltb-true (edge_count choices d) (edge_count choices c) (best.first d (listed_in v d t) lt);
+    }
 
 pub least_has_fewest : (v : View) (c : ℕ) → least_edges v ≡ Some c → HasFewest v c
 least_has_fewest v c e =
-    let best = least_fewest (edge_count v.polygraph.choices) v.sides 0 c e in
-    record { free = least_is_open v c e; fewest = λ d t. best.fewest d (listed_in v d t); first = λ d t lt. best.first d (listed_in v d t) lt }
+    let choices = v.polygraph.choices in
+    let best = first_is_best (has_fewer choices) (fewer_order choices) v.sides 0 c e in
+    record {
+      free = least_is_open v c e;
+      fewest = λ d t. ltb-false (edge_count choices d) (edge_count choices c) (best.best d (listed_in v d t));
+      first = λ d t lt. ltb-true (edge_count choices c) (edge_count choices d) (best.first d (listed_in v d t) lt);
+    }

@@ -178,9 +178,6 @@ bit_of-clear words n within k =
 pub record AreFull (words : List ℕ) (k : ℕ) : Type 0 where
   pub each : (i : ℕ) → i < k → get_or words i 0 ≡ 18446744073709551615
 
-pub full_none : (words : List ℕ) → AreFull words 0
-full_none words = record { each = λ i h. absurd (omega arith) }
-
 pub full_more : (words : List ℕ) (k : ℕ) → k < length words → AreFull words k → AreFull (set words k 18446744073709551615) (k + 1)
 full_more words k within full = record {
   each = λ i h. elim (cases_eq i k) [

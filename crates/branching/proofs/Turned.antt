@@ -2,7 +2,7 @@
 use Rattle.std.proofs.Common.{◌≡◌, ℕ, zero, suc, ◌+◌, ◌<◌, ◌≤◌, Bool, true, false, not, eqb, cond, ◌&&◌, List, [], ◌∷◌, length, drop, Option, Some, None, refl, sym, ap, ◌∙◌, subst, inl, inr, arith, eq-eqb}
 use Rattle.std.specs.Prelude.{nat_lt, slice_get, slice_index, ◌==◌}
 use Rattle.std.specs.List.{Contains, list_any, list_all, range_with_len}
-use Rattle.std.proofs.lemmas.Bool.{cases_lt, cases_Bool, false≢true, and_parts, and_from, or_cases, or_left, or_right, lt-ltb, cond-true}
+use Rattle.std.proofs.lemmas.Bool.{cases_lt, cases_Bool, false≢true, and_parts, and_from, or_cases, or_left, or_right, lt-ltb, cond-true, false_from_ne_true}
 use Rattle.std.proofs.lemmas.List.{nil_from_length}
 use Rattle.serializability.specs.Polygraph.{Edge, Polygraph}
 use Rattle.serializability.specs.Replay.{place_of}
@@ -124,21 +124,17 @@ test_reach g rows u v r w = has_contained rows.edges (u, v) ((r.reach u v).1 w)
 edge_reaches : (edges : List Edge) (u v : ℕ) → Contains edges (u, v) → Reaches edges u v
 edge_reaches edges u v c = ([], c)
 
-not_true : (b : Bool) → (b ≡ true → ⊥) → b ≡ false
-not_true true h = absurd (h refl)
-not_true false h = refl
-
 -- a node reaches more than each that it reaches
 reaches_more : (g rows : Graph) (u v : ℕ) → IsLast g rows → v ≤ g.nodes → Reaches g.edges u v → unreached rows u < unreached rows v
 reaches_more g rows u v l hv w =
     let r = l.rows_of in
     let n = r.nodes in
     count-lt (λ x. not (has_edge rows.edges (u, x))) (λ x. not (has_edge rows.edges (v, x))) (range_with_len 0 (rows.nodes + 1))
-    (λ x h t. ap not (not_true (has_edge rows.edges (v, x)) (λ k.
+    (λ x h t. ap not (false_from_ne_true (has_edge rows.edges (v, x)) (λ k.
     false≢true (sym (ap not (test_reach g rows u x r (reach_joined g.edges u v x w (reach_test g rows v x r k)))) ∙ t))))
     v (Has-from_range v 0 (rows.nodes + 1) (omega arith) (omega (arith, hv, n)))
     (ap not (test_reach g rows u v r w))
-    (ap not (not_true (has_edge rows.edges (v, v)) (λ k. l.acyclic (v, reach_test g rows v v r k))))
+    (ap not (false_from_ne_true (has_edge rows.edges (v, v)) (λ k. l.acyclic (v, reach_test g rows v v r k))))
 
 -- no edge leads to node 0
 no_edge_back : (g rows : Graph) (u : ℕ) → IsLast g rows → Contains g.edges (u, 0) → ⊥

@@ -1,18 +1,17 @@
 -- What the strategies pick is open, and they pick where some choice is open.
-use Rattle.std.proofs.Common.{◌≡◌, ◌⊎◌, ℕ, zero, suc, ◌+◌, ◌<◌, ◌≤◌, ◌%◌, Bool, true, false, cond}
+use Rattle.std.proofs.Common.{◌≡◌, ◌⊎◌, ℕ, zero, suc, ◌+◌, ◌<◌, ◌%◌, Bool, true, false, cond}
 use Rattle.std.proofs.Common.{List, [], ◌∷◌, length, get_or, Option, Some, None, refl, sym, ap, ◌∙◌}
 use Rattle.std.proofs.Common.{inl, inr, arith}
-use Rattle.std.specs.Prelude.{nat_lt, slice_get, if◌then◌else◌}
+use Rattle.std.specs.Prelude.{slice_get, if◌then◌else◌}
 use Rattle.std.specs.Option.{option_or}
 use Rattle.std.specs.List.{filter}
-use Rattle.std.proofs.lemmas.Bool.{cases_lt, lt-ltb, le-ltb, cond-true, cond-false}
 use Rattle.std.proofs.lemmas.Nat.{mod_below}
 use Rattle.std.proofs.lemmas.Option.{slice_get-get_or}
 use Rattle.pruning_laws.specs.declared.side.Side.{Side}
 use Rattle.prune_ledger.proofs.Marks.{some-inj}
 use Rattle.branching.specs.View.{View, is_open_in}
-use Rattle.branching.specs.Picks.{open_from, open_choices, first_open, edge_count, or_more}
-use Rattle.branching.specs.Picks.{first_greatest, or_fewer, first_least, most_edges, least_edges}
+use Rattle.branching.specs.Picks.{open_from, open_choices, first_open, has_more, has_fewer}
+use Rattle.branching.specs.Picks.{or_better, first_best, most_edges, least_edges}
 use Rattle.branching.specs.Picks.{word_at, by_words, is_even_depth}
 use Rattle.branching.specs.Opens.{is_open_at}
 use Rattle.branching.specs.Refuted.{is_forced_in, first_forced, forced_or_most}
@@ -67,64 +66,46 @@ one_of : (x d c : ℕ) (b : Bool) (xs : List ℕ) → cond b (Some d) (Some x) �
 one_of x d c true xs e l = (suc l.0, l.1 ∙ e)
 one_of x d c false xs e l = (0, e)
 
-greatest_from : (count : ℕ → ℕ) (x c : ℕ) (xs : List ℕ) (o : Option ℕ) → or_more count x o ≡ Some c
-    → ((d : ℕ) → o ≡ Some d → Listed xs d) → Listed (x ∷ xs) c
-greatest_from count x c xs None e h = (0, e)
-greatest_from count x c xs (Some d) e h = one_of x d c (nat_lt (count x) (count d)) xs e (h d refl)
+best_from : (better : ℕ → ℕ → Bool) (x c : ℕ) (xs : List ℕ) (o : Option ℕ)
+    → or_better better x o ≡ Some c → ((d : ℕ) → o ≡ Some d → Listed xs d) → Listed (x ∷ xs) c
+best_from better x c xs None e h = (0, e)
+best_from better x c xs (Some d) e h = one_of x d c (better d x) xs e (h d refl)
 
-pub greatest_listed : (count : ℕ → ℕ) (cs : List ℕ) (c : ℕ) → first_greatest count cs ≡ Some c
+pub best_listed : (better : ℕ → ℕ → Bool) (cs : List ℕ) (c : ℕ) → first_best better cs ≡ Some c
     → Listed cs c
-greatest_listed count [] c e = absurd (cc)
-greatest_listed count (x ∷ xs) c e = greatest_from count x c xs (first_greatest count xs) e
-    (greatest_listed count xs)
-
-least_from : (count : ℕ → ℕ) (x c : ℕ) (xs : List ℕ) (o : Option ℕ) → or_fewer count x o ≡ Some c
-    → ((d : ℕ) → o ≡ Some d → Listed xs d) → Listed (x ∷ xs) c
-least_from count x c xs None e h = (0, e)
-least_from count x c xs (Some d) e h = one_of x d c (nat_lt (count d) (count x)) xs e (h d refl)
-
-pub least_listed : (count : ℕ → ℕ) (cs : List ℕ) (c : ℕ) → first_least count cs ≡ Some c
-    → Listed cs c
-least_listed count [] c e = absurd (cc)
-least_listed count (x ∷ xs) c e = least_from count x c xs (first_least count xs) e
-    (least_listed count xs)
+best_listed better [] c e = absurd (cc)
+best_listed better (x ∷ xs) c e = best_from better x c xs (first_best better xs) e
+    (best_listed better xs)
 
 one_is_some : (x d : ℕ) (b : Bool) → cond b (Some d) (Some x) ≡ None → ⊥
 one_is_some x d true e = not_some d e
 one_is_some x d false e = not_some x e
 
-more_is_some : (count : ℕ → ℕ) (x : ℕ) (o : Option ℕ) → or_more count x o ≡ None → ⊥
-more_is_some count x None e = not_some x e
-more_is_some count x (Some d) e = one_is_some x d (nat_lt (count x) (count d)) e
+pub better_is_some : (better : ℕ → ℕ → Bool) (x : ℕ) (o : Option ℕ) → or_better better x o ≡ None
+    → ⊥
+better_is_some better x None e = not_some x e
+better_is_some better x (Some d) e = one_is_some x d (better d x) e
 
-fewer_is_some : (count : ℕ → ℕ) (x : ℕ) (o : Option ℕ) → or_fewer count x o ≡ None → ⊥
-fewer_is_some count x None e = not_some x e
-fewer_is_some count x (Some d) e = one_is_some x d (nat_lt (count d) (count x)) e
-
-greatest_none : (count : ℕ → ℕ) (cs : List ℕ) → first_greatest count cs ≡ None
+best_none : (better : ℕ → ℕ → Bool) (cs : List ℕ) → first_best better cs ≡ None
     → slice_get cs 0 ≡ None
-greatest_none count [] e = refl
-greatest_none count (x ∷ xs) e = absurd (more_is_some count x (first_greatest count xs) e)
-
-least_none : (count : ℕ → ℕ) (cs : List ℕ) → first_least count cs ≡ None → slice_get cs 0 ≡ None
-least_none count [] e = refl
-least_none count (x ∷ xs) e = absurd (fewer_is_some count x (first_least count xs) e)
+best_none better [] e = refl
+best_none better (x ∷ xs) e = absurd (better_is_some better x (first_best better xs) e)
 
 pub most_is_open : (v : View) (c : ℕ) → most_edges v ≡ Some c → is_open_in v c ≡ true
-most_is_open v c e = listed_open v c (greatest_listed (edge_count v.polygraph.choices)
+most_is_open v c e = listed_open v c (best_listed (has_more v.polygraph.choices)
     (open_choices v) c e)
 
 pub most_where_open : (v : View) → most_edges v ≡ None → (c : ℕ) → is_open_in v c ≡ false
-most_where_open v e c = none_listed v.sides 0 (greatest_none (edge_count v.polygraph.choices)
+most_where_open v e c = none_listed v.sides 0 (best_none (has_more v.polygraph.choices)
     (open_choices v) e) c
 
 pub least_is_open : (v : View) (c : ℕ) → least_edges v ≡ Some c → is_open_in v c ≡ true
-least_is_open v c e = listed_open v c (least_listed (edge_count v.polygraph.choices)
+least_is_open v c e = listed_open v c (best_listed (has_fewer v.polygraph.choices)
     (open_choices v) c e)
 
 pub least_where_open : (v : View) → least_edges v ≡ None → (c : ℕ) → is_open_in v c ≡ false
 least_where_open v e c = none_listed v.sides 0
-    (least_none (edge_count v.polygraph.choices) (open_choices v) e) c
+    (best_none (has_fewer v.polygraph.choices) (open_choices v) e) c
 
 -- ---- the first that passes a test
 head_of : (x c : ℕ) (b : Bool) (rest cs : List ℕ) → slice_get (cond b (x ∷ rest) rest) 0 ≡ Some c
@@ -190,72 +171,3 @@ pub either_where_open : (f g : View → Option ℕ)
     → (v : View) → (if is_even_depth v then f v else g v) ≡ None → (c : ℕ) → is_open_in v c ≡ false
 either_where_open f g h k v e c = elim (one_or (λ o. o ≡ None) (is_even_depth v) (f v) (g v) e)
     [ inl a ↦ h v a c | inr b ↦ k v b c ]
-
--- ---- one step of a search for the best
-pub more_better : (count : ℕ → ℕ) (b c : ℕ) (o : Option ℕ) → count b < count c
-    → or_more count b (or_more count c o) ≡ or_more count c o
-more_better count b c None h = cond-true {A = Option ℕ} (nat_lt (count b) (count c)) (Some c)
-    (Some b) (lt-ltb (count b) (count c) h)
-more_better count b c (Some d) h = elim (cases_lt (count c) (count d)) [
-  | inl lt ↦
-      (let e : or_more count c (Some d) ≡ Some d = cond-true {A = Option ℕ}
-      (nat_lt (count c) (count d)) (Some d) (Some c) (lt-ltb (count c) (count d) lt) in
-      ap (or_more count b) e ∙ cond-true {A = Option ℕ} (nat_lt (count b) (count d)) (Some d)
-      (Some b) (lt-ltb (count b) (count d) (omega arith)) ∙ sym e)
-  | inr ge ↦
-      (let e : or_more count c (Some d) ≡ Some c = cond-false {A = Option ℕ}
-      (nat_lt (count c) (count d)) (Some d) (Some c) (le-ltb (count c) (count d) ge) in
-      ap (or_more count b) e ∙ cond-true {A = Option ℕ} (nat_lt (count b) (count c)) (Some c)
-      (Some b) (lt-ltb (count b) (count c) h) ∙ sym e)
-]
-
-pub more_worse : (count : ℕ → ℕ) (b c : ℕ) (o : Option ℕ) → count c ≤ count b
-    → or_more count b (or_more count c o) ≡ or_more count b o
-more_worse count b c None h = cond-false {A = Option ℕ} (nat_lt (count b) (count c)) (Some c)
-    (Some b) (le-ltb (count b) (count c) h)
-more_worse count b c (Some d) h = elim (cases_lt (count c) (count d)) [
-  | inl lt ↦ ap (or_more count b) (cond-true {A = Option ℕ} (nat_lt (count c) (count d)) (Some d)
-      (Some c) (lt-ltb (count c) (count d) lt))
-  | inr ge ↦
-      (let e : or_more count c (Some d) ≡ Some c = cond-false {A = Option ℕ}
-      (nat_lt (count c) (count d)) (Some d) (Some c) (le-ltb (count c) (count d) ge) in
-      ap (or_more count b) e
-      ∙ cond-false {A = Option ℕ} (nat_lt (count b) (count c)) (Some c) (Some b)
-      (le-ltb (count b) (count c) h)
-      ∙ sym (cond-false {A = Option ℕ} (nat_lt (count b) (count d)) (Some d) (Some b)
-      (le-ltb (count b) (count d) (omega arith))))
-]
-
-pub fewer_better : (count : ℕ → ℕ) (b c : ℕ) (o : Option ℕ) → count c < count b
-    → or_fewer count b (or_fewer count c o) ≡ or_fewer count c o
-fewer_better count b c None h = cond-true {A = Option ℕ} (nat_lt (count c) (count b)) (Some c)
-    (Some b) (lt-ltb (count c) (count b) h)
-fewer_better count b c (Some d) h = elim (cases_lt (count d) (count c)) [
-  | inl lt ↦
-      (let e : or_fewer count c (Some d) ≡ Some d = cond-true {A = Option ℕ}
-      (nat_lt (count d) (count c)) (Some d) (Some c) (lt-ltb (count d) (count c) lt) in
-      ap (or_fewer count b) e ∙ cond-true {A = Option ℕ} (nat_lt (count d) (count b)) (Some d)
-      (Some b) (lt-ltb (count d) (count b) (omega arith)) ∙ sym e)
-  | inr ge ↦
-      (let e : or_fewer count c (Some d) ≡ Some c = cond-false {A = Option ℕ}
-      (nat_lt (count d) (count c)) (Some d) (Some c) (le-ltb (count d) (count c) ge) in
-      ap (or_fewer count b) e ∙ cond-true {A = Option ℕ} (nat_lt (count c) (count b)) (Some c)
-      (Some b) (lt-ltb (count c) (count b) h) ∙ sym e)
-]
-
-pub fewer_worse : (count : ℕ → ℕ) (b c : ℕ) (o : Option ℕ) → count b ≤ count c
-    → or_fewer count b (or_fewer count c o) ≡ or_fewer count b o
-fewer_worse count b c None h = cond-false {A = Option ℕ} (nat_lt (count c) (count b)) (Some c)
-    (Some b) (le-ltb (count c) (count b) h)
-fewer_worse count b c (Some d) h = elim (cases_lt (count d) (count c)) [
-  | inl lt ↦ ap (or_fewer count b) (cond-true {A = Option ℕ} (nat_lt (count d) (count c)) (Some d)
-      (Some c) (lt-ltb (count d) (count c) lt))
-  | inr ge ↦
-      (let e : or_fewer count c (Some d) ≡ Some c = cond-false {A = Option ℕ}
-      (nat_lt (count d) (count c)) (Some d) (Some c) (le-ltb (count d) (count c) ge) in
-      ap (or_fewer count b) e
-      ∙ cond-false {A = Option ℕ} (nat_lt (count c) (count b)) (Some c) (Some b)
-      (le-ltb (count c) (count b) h)
-      ∙ sym (cond-false {A = Option ℕ} (nat_lt (count d) (count b)) (Some d) (Some b)
-      (le-ltb (count d) (count b) (omega arith))))
-]

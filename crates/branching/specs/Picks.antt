@@ -28,33 +28,30 @@ size_of h = length h.one + length h.two
 abbrev pub edge_count : List Choice → ℕ → ℕ
 edge_count choices c = option_map_or size_of (slice_get choices c) 0
 
--- a later one in place of this, where it has more
-abbrev pub or_more : (ℕ → ℕ) → ℕ → Option ℕ → Option ℕ
-or_more count c None = Some c
-or_more count c (Some d) = if nat_lt (count c) (count d) then Some d else Some c
+-- whether a choice has more edges than another, and whether it has fewer
+abbrev pub has_more : List Choice → ℕ → ℕ → Bool
+has_more choices d c = nat_lt (edge_count choices c) (edge_count choices d)
 
--- of these, the first one that has as many as any other, by this count
-abbrev pub first_greatest : (ℕ → ℕ) → List ℕ → Option ℕ
-first_greatest count [] = None
-first_greatest count (c ∷ cs) = or_more count c (first_greatest count cs)
+abbrev pub has_fewer : List Choice → ℕ → ℕ → Bool
+has_fewer choices d c = nat_lt (edge_count choices d) (edge_count choices c)
 
--- a later one in place of this, where it has fewer
-abbrev pub or_fewer : (ℕ → ℕ) → ℕ → Option ℕ → Option ℕ
-or_fewer count c None = Some c
-or_fewer count c (Some d) = if nat_lt (count d) (count c) then Some d else Some c
+-- a later one in place of this, where it is better
+abbrev pub or_better : (ℕ → ℕ → Bool) → ℕ → Option ℕ → Option ℕ
+or_better better c None = Some c
+or_better better c (Some d) = if better d c then Some d else Some c
 
--- of these, the first one that has as few as any other
-abbrev pub first_least : (ℕ → ℕ) → List ℕ → Option ℕ
-first_least count [] = None
-first_least count (c ∷ cs) = or_fewer count c (first_least count cs)
+-- of these, the first one that no other is better than
+abbrev pub first_best : (ℕ → ℕ → Bool) → List ℕ → Option ℕ
+first_best better [] = None
+first_best better (c ∷ cs) = or_better better c (first_best better cs)
 
 -- the open choice with the most edges on both sides together, and of such the least number
 abbrev pub most_edges : View → Option ℕ
-most_edges v = first_greatest (edge_count v.polygraph.choices) (open_choices v)
+most_edges v = first_best (has_more v.polygraph.choices) (open_choices v)
 
 -- the one with the fewest, and of such the least number
 abbrev pub least_edges : View → Option ℕ
-least_edges v = first_least (edge_count v.polygraph.choices) (open_choices v)
+least_edges v = first_best (has_fewer v.polygraph.choices) (open_choices v)
 
 -- the word at the depth, modulo the number of words
 abbrev pub word_at : List ℕ → View → ℕ

@@ -7,8 +7,8 @@ use Rattle.cube_laws.specs.State.{State}
 use Rattle.cube_laws.specs.Steps.{is_finished, node_held, cube_at, reply_of}
 use Rattle.cube_laws.specs.Runs.{TakesOn}
 use Rattle.cube_laws.specs.declared.messages.CubeEvent.{CubeEvent}
-use Rattle.cube_laws.specs.declared.messages.CubeEvent.TheVariants.{Claim, TakeAny, Split, Refute}
-use Rattle.cube_laws.specs.declared.messages.CubeEvent.TheVariants.{Solve, Release}
+use Rattle.cube_laws.specs.declared.messages.CubeEvent.TheVariants.{Split, Refute}
+use Rattle.cube_laws.specs.declared.messages.CubeEvent.TheVariants.{Solve}
 use Rattle.branching.specs.View.{View, is_open_in, chosen, edges_in}
 
 -- the search goes on over this polygraph, and the seat holds a node whose cube decides what the
@@ -27,9 +27,7 @@ IsAnswered v e = (s : State) (seat : ℕ) → IsTurnOf s seat v → TakesOn (rep
 -- the cube is refuted where its edges have a cycle, else solved where no choice is open, else split
 -- by this pick
 abbrev pub IsDecision : View → Option ℕ → CubeEvent → Type 0
-IsDecision v pick (Claim id) = ⊥
-IsDecision v pick TakeAny = ⊥
 IsDecision v pick (Split c) = (IsCyclic (edges_in v) → ⊥) × (pick ≡ Some c)
 IsDecision v pick (Refute line) = IsCyclic (edges_in v)
 IsDecision v pick (Solve order) = (IsCyclic (edges_in v) → ⊥) × ((c : ℕ) → is_open_in v c ≡ false)
-IsDecision v pick Release = ⊥
+IsDecision v pick _ = ⊥

@@ -98,27 +98,11 @@ stop_line Input = input_line
 stop_line Output = output_line
 
 -- ---- exit statuses: 2 for refused input, 4 for want of memory, 5 for a failed device
-abbrev pub log_status : LogFault → ℕ
-log_status log.Memory = 4
-log_status _ = 2
-
-abbrev pub formula_status : CnfFault → ℕ
-formula_status cnf.Memory = 4
-formula_status _ = 2
-
-abbrev pub answer_status : AnswerFault → ℕ
-answer_status answer.Memory = 4
-answer_status _ = 2
-
-abbrev pub order_status : OrderFault → ℕ
-order_status order.Memory = 4
-order_status _ = 2
-
 abbrev pub refusal_status : Fault → ℕ
-refusal_status (fault.Log f) = log_status f
-refusal_status (fault.Formula f) = formula_status f
-refusal_status (fault.Answer f) = answer_status f
-refusal_status (fault.Order f) = order_status f
+refusal_status (fault.Log log.Memory) = 4
+refusal_status (fault.Formula cnf.Memory) = 4
+refusal_status (fault.Answer answer.Memory) = 4
+refusal_status (fault.Order order.Memory) = 4
 refusal_status (fault.Device written) = 5
 refusal_status fault.Memory = 4
 refusal_status _ = 2

@@ -4,8 +4,7 @@
 ghost use Rattle.std.specs.Prelude.{◌≡◌};
 ghost use Rattle.std.specs.Fmt.{WritesOnOk};
 ghost use Rattle.cobra_answers.specs.Refusals.{limit_name, log_refusal, formula_refusal};
-ghost use Rattle.cobra_answers.specs.Refusals.{answer_refusal, order_refusal, refusal, log_status};
-ghost use Rattle.cobra_answers.specs.Refusals.{formula_status, answer_status, order_status};
+ghost use Rattle.cobra_answers.specs.Refusals.{answer_refusal, order_refusal, refusal};
 ghost use Rattle.cobra_answers.specs.Refusals.{refusal_status, stop_status};
 
 use crate::fault::Fault;
@@ -86,51 +85,15 @@ impl From<ReadFault> for Stop {
     }
 }
 
-fn log_status(fault: LogFault) -> u8
-    ensures status { result ≡ log_status fault }
-{
-    match fault {
-        LogFault::Memory => OUT_OF_MEMORY,
-        _ => REFUSED,
-    }
-}
-
-fn formula_status(fault: CnfFault) -> u8
-    ensures status { result ≡ formula_status fault }
-{
-    match fault {
-        CnfFault::Memory => OUT_OF_MEMORY,
-        _ => REFUSED,
-    }
-}
-
-fn answer_status(fault: AnswerFault) -> u8
-    ensures status { result ≡ answer_status fault }
-{
-    match fault {
-        AnswerFault::Memory => OUT_OF_MEMORY,
-        _ => REFUSED,
-    }
-}
-
-fn order_status(fault: OrderFault) -> u8
-    ensures status { result ≡ order_status fault }
-{
-    match fault {
-        OrderFault::Memory => OUT_OF_MEMORY,
-        _ => REFUSED,
-    }
-}
-
 /// The exit status of a refused command.
 fn refusal_status(fault: Fault) -> u8
     ensures status { result ≡ refusal_status fault }
 {
     match fault {
-        Fault::Log(fault) => log_status(fault),
-        Fault::Formula(fault) => formula_status(fault),
-        Fault::Answer(fault) => answer_status(fault),
-        Fault::Order(fault) => order_status(fault),
+        Fault::Log(LogFault::Memory) => OUT_OF_MEMORY,
+        Fault::Formula(CnfFault::Memory) => OUT_OF_MEMORY,
+        Fault::Answer(AnswerFault::Memory) => OUT_OF_MEMORY,
+        Fault::Order(OrderFault::Memory) => OUT_OF_MEMORY,
         Fault::Device { .. } => DEVICE_FAILED,
         Fault::Memory => OUT_OF_MEMORY,
         _ => REFUSED,

@@ -172,10 +172,5 @@ pub fn serial_text(
 pub fn spent_text(alloc: Global, closed: usize) -> Result<Vec<u8>, AllocError>
     ensures text { IfOk result (λ text. text.items ≡ spent_text closed) }
 {
-    let mut digits = Buffer::new();
-    let mut out = Vec::new(alloc);
-    out.extend_from_slice(b"unknown: ")?;
-    out.extend_from_slice(digits.format(closed).as_bytes())?;
-    out.extend_from_slice(b" closed\n")?;
-    Ok(out)
+    Ok(format!(in alloc; "unknown: {closed} closed\n")?.into_bytes())
 }

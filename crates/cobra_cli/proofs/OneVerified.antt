@@ -17,7 +17,7 @@ use Rattle.order_text.proofs.Printing.{IsLog, order_text-injective}
 use Rattle.decode_order.specs.Replaying.{replay_fault}
 use Rattle.decode_order.specs.declared.fault.ReplayFault.{ReplayFault}
 use Rattle.decode_order.specs.declared.fault.ReplayFault.TheVariants as replay
-use Rattle.decode_order.proofs.Whole.{fault-serial}
+use Rattle.decode_order.proofs.Whole.{fault_serial}
 use Rattle.cobra_answers.specs.declared.status.Status.{Status}
 use Rattle.cobra_answers.specs.declared.fault.Fault.{Fault}
 use Rattle.cobra_answers.specs.declared.fault.Fault.TheVariants as fault
@@ -104,7 +104,7 @@ never_both : (log given : List ℕ) (ss : List ClientSession) (s : Status) (text
 never_both log given ss s text f w h (inl k) m = fault_and_none (listing.order_fault ss given) k.0 k.1.1 h.listed.accepted
 never_both log given ss s text f w h (inr k) m =
     let same = one_listed log given ss k.order h.order w k.listed h.listed in
-    let none : replay_fault (log_of ss) k.order ≡ None = ap (replay_fault (log_of ss)) same ∙ fault-serial (log_of ss) h.order (serial_numbered ss h.order h.serial) in
+    let none : replay_fault (log_of ss) k.order ≡ None = ap (replay_fault (log_of ss)) same ∙ fault_serial (log_of ss) h.order (serial_numbered ss h.order h.serial) in
     let memory = never_told f ss (is_told ss k.order f k.refused m ∙ ap (told ss) none) in
     false≢true (sym m ∙ memory)
 

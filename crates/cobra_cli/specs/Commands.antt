@@ -1,4 +1,4 @@
--- What each command says of sessions, and why it is refused.
+-- What `encode`, `decode`, `verify` and `stats` say of sessions, and why they refuse.
 use Rattle.std.specs.Prelude.{◌≡◌, ℕ, List, codes, None, Some, Bool, true, false}
 use Rattle.session_log.specs.Text.{ClientSession}
 use Rattle.session_log.specs.declared.version.Version.{Version}

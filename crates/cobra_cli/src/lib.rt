@@ -1,4 +1,5 @@
-//! The commands of the program, over bytes and sinks.
+//! The commands `check`, `explain`, `encode`, `decode`, `verify` and `stats`, over bytes and sinks;
+//! the others have crates of their own.
 //!
 //! Called by `cobra_poly`. It opens no file, reads no word of the command line, and knows no piece.
 #![tactic(auto)]

@@ -17,15 +17,7 @@ use Rattle.log_definitions.specs.WellFormed.{list_fault, IsLogFault, memory, siz
 -- a fault, where memory is one apart
 named : {P : LogFault → Type 0} (whole : Option LogFault) (f : LogFault) → P faults.Memory → ((g : LogFault) → whole ≡ Some g → P g) → IsFault f whole → P f
 named whole faults.Memory m to h = m
-named whole (faults.BadLine k) m to h = to (faults.BadLine k) h
-named whole (faults.SessionTwice k) m to h = to (faults.SessionTwice k) h
-named whole (faults.OutsideTransaction k) m to h = to (faults.OutsideTransaction k) h
-named whole (faults.OpenTransaction k) m to h = to (faults.OpenTransaction k) h
-named whole (faults.WriteZero k) m to h = to (faults.WriteZero k) h
-named whole (faults.WriteTwice k) m to h = to (faults.WriteTwice k) h
-named whole (faults.UnknownNotLast k) m to h = to (faults.UnknownNotLast k) h
-named whole (faults.EndsBeforeBegin k) m to h = to (faults.EndsBeforeBegin k) h
-named whole (faults.OverLimit k) m to h = to (faults.OverLimit k) h
+named whole f m to h = to f h
 
 pub from_size : (text : List ℕ) (f : LogFault) → IsFault f (size_fault text) → IsLogFault text f
 from_size text f h = named {P = IsLogFault text} (size_fault text) f memory (λ g e. size g e) h

@@ -1,25 +1,23 @@
 -- The reduced formula of what the steps before the search leave.
-use Rattle.std.proofs.Common.{◌≡◌, ℕ, Bool, true, false, ◌==◌, ◌&&◌, cond, List, [], ◌∷◌, length, Option, None, Some, Result, Ok, Err, IfOk, refl, sym, ap, ◌∙◌, subst, inl, inr}
+use Rattle.std.proofs.Common.{◌≡◌, ℕ, List, length, Option, None, Some, Result, Ok, Err, IfOk, refl, sym, ap, ◌∙◌, subst, inl, inr}
 use Rattle.std.specs.Prelude.{nat_lt}
-use Rattle.std.specs.List.{Contains}
-use Rattle.std.proofs.lemmas.Bool.{false≢true, or_cases, and_parts, and_from, eqb-true, eq-eqb}
-use Rattle.std.proofs.lemmas.List.Folds.{list_any-from_Any}
+use Rattle.std.proofs.lemmas.Option.{cond_some}
 use Rattle.session_log.specs.Text.{ClientSession}
 use Rattle.serializability.specs.declared.anomaly.Anomaly.{Anomaly}
-use Rattle.serializability.specs.Polygraph.{Edge, Choice, Polygraph}
+use Rattle.serializability.specs.Polygraph.{Choice, Polygraph}
 use Rattle.serializability.specs.Formula.{Cnf}
 use Rattle.serializability.specs.Decoded.{before, IsDecoded}
 use Rattle.serializability.specs.Pairs.{Known}
 use Rattle.serializability.specs.Plain.{plain, contradiction}
 use Rattle.serializability.specs.Anomalies.{anomaly_of}
 use Rattle.reach_laws.specs.Reach.{Graph}
-use Rattle.reach_laws.proofs.Walks.{Contains-here, Contains-further}
 use Rattle.chain_laws.specs.Chains.{chain_polygraph, chain_choices}
 use Rattle.pruning_laws.specs.Forced.{Sides, edges_with, open_from, pruned}
 use Rattle.pruning_laws.specs.Ledger.{sides_in}
 use Rattle.log_definitions.specs.Numbers.{log_of, formula_where, plain_answer, IsWellFormedList}
 use Rattle.log_definitions.proofs.OnlyTaken.{serial_where_some}
 use Rattle.known_graph.specs.Graphs.{IsKnownGraph}
+use Rattle.known_graph.proofs.Tested.{edge_in, has_contained}
 use Rattle.polygraph.specs.Polygraphs.{IsPolygraph}
 use Rattle.reach_rows.specs.ReachRows.{AreRowsOf}
 use Rattle.prune_ledger.specs.declared.ledger.Ledger.{Ledger}
@@ -43,27 +41,12 @@ use Rattle.cobra_formulas.specs.declared.formula.Belonging.{Belonging}
 use Rattle.cobra_formulas.specs.Formulas.{anomaly_number, IsReducedWithin, IsReducedFault, IsReducedFormula, by_anomaly, by_cycle, by_pruning, by_choices, IsFaithful}
 use Rattle.cobra_formulas.proofs.SameEdges.{Among, cycle_among, with_among, forced_among, dead_among}
 
--- ---- pairs that are listed
-listed_from : (pairs : List Edge) (u v : ℕ) → Contains pairs (u, v) → is_listed pairs u v ≡ true
-listed_from pairs u v c = list_any-from_Any (λ p. (p.0 == u) && (p.1 == v)) pairs
-    (c.0, (u, v), c.1, c.2, and_from (u == u) (v == v) (eq-eqb u u refl) (eq-eqb v v refl))
-
-contained_from : (pairs : List Edge) (u v : ℕ) → is_listed pairs u v ≡ true → Contains pairs (u, v)
-contained_from [] u v t = absurd (false≢true t)
-contained_from (p ∷ pairs) u v t = elim (or_cases ((p.0 == u) && (p.1 == v)) (is_listed pairs u v) t) [
-  | inl here ↦
-      let both = and_parts (p.0 == u) (p.1 == v) here in
-      subst (λ (x : ℕ). Contains (p ∷ pairs) (x, v)) (eqb-true p.0 u both.0)
-      (subst (λ (y : ℕ). Contains (p ∷ pairs) (p.0, y)) (eqb-true p.1 v both.1) (Contains-here p pairs))
-  | inr further ↦ Contains-further p (u, v) pairs (contained_from pairs u v further)
-]
-
 -- the pairs of rows are what reaches what
 pub listed_reach : (rows graph : Graph) → AreRowsOf rows graph → IsReach graph.edges (is_listed rows.edges)
 listed_reach rows graph r = record {
   each = λ u v. (
-    λ t. (r.reach u v).0 (contained_from rows.edges u v t),
-    λ way. listed_from rows.edges u v ((r.reach u v).1 way),
+    λ t. (r.reach u v).0 (edge_in rows.edges (u, v) t),
+    λ way. has_contained rows.edges (u, v) ((r.reach u v).1 way),
   );
 }
 
@@ -158,13 +141,9 @@ left_made ss choices left r f h count e fits = record {
   formula = made_as ss (Chains choices left) (Chains choices (length r.poly.choices)) f (formula_of_rest r) (ap (λ (k : ℕ). Chains choices k) count) e (made_from_choices ss choices r h);
 }
 
-size_is : (b : Bool) (e : CnfFault) → cond b (Some cnf.FormulaTooLarge) None ≡ Some e → e ≡ cnf.FormulaTooLarge
-size_is true e h = cc
-size_is false e h = cc
-
 large : (ss : List ClientSession) (basis : Basis) (f : Cnf) (e : CnfFault) → IsReducedFormula ss basis f → size_fault f ≡ Some e → IsReducedFault ss e
 large ss basis f e h same =
-    let is : e ≡ cnf.FormulaTooLarge = size_is (nat_lt 20000000 (length f.clauses)) e same in
+    let is : e ≡ cnf.FormulaTooLarge = sym (cond_some (nat_lt 20000000 (length f.clauses)) cnf.FormulaTooLarge e same).1 in
     subst (λ (x : CnfFault). IsReducedFault ss x) (sym is) (record { basis = basis; formula = f; reduced = h; large = same ∙ ap (λ (x : CnfFault). Some x) is })
 
 pub left_fault : (ss : List ClientSession) (choices : ℕ) (r : Remainder) (e : CnfFault) → IsCountedHistory ss choices r → IsFault e (size_fault (formula_of_rest r)) → IsReducedFault ss e

@@ -1,7 +1,7 @@
 //! What each command answers, by exit status, as its help has it.
 
 /// What `encode` answers, by exit status.
-pub const ANSWERS_OF_ENCODE: &str = "\
+pub const ENCODE: &str = "\
 Answers, by exit status:
   0  the formula; the contradiction, p cnf 1 2, where an anomaly stands
   2  refused: and the fault of the log, L1 to L7, L9 or L10, or of its formula, G1 to G3; or usage
@@ -9,7 +9,7 @@ Answers, by exit status:
   5  device failed: input or output";
 
 /// What `decode` answers, by exit status.
-pub const ANSWERS_OF_DECODE: &str = "\
+pub const DECODE: &str = "\
 Answers, by exit status:
   0  the order, a line SESSION PLACE for each transaction
   2  refused: and a fault as of encode, or of the answer, M1 to M8, or E1 and the first clause
@@ -19,7 +19,7 @@ Answers, by exit status:
   5  device failed: input or output";
 
 /// What `refute` answers, by exit status.
-pub const ANSWERS_OF_REFUTE: &str = "\
+pub const REFUTE: &str = "\
 Answers, by exit status:
   1  not serializable: the formula is refuted
   2  refused: and a fault as of encode, or of the proof: R1 and a line of no form, R2 and one whose
@@ -28,7 +28,7 @@ Answers, by exit status:
   5  device failed: input or output";
 
 /// What `check` answers, by exit status.
-pub const ANSWERS_OF_CHECK: &str = "\
+pub const CHECK: &str = "\
 Answers, by exit status:
   0  serializable, then the order, a line SESSION PLACE for each transaction
   1  not serializable: and why, with a code A1 to A9 where it has one
@@ -38,7 +38,7 @@ Answers, by exit status:
   5  device failed: input or output";
 
 /// What `verify` answers, by exit status.
-pub const ANSWERS_OF_VERIFY: &str = "\
+pub const VERIFY: &str = "\
 Answers, by exit status:
   0  accepted
   2  refused: and the fault of the log, L1 to L7, L9 or L10, or of the order, O1 to O3, P1 to P3 and P5; or usage
@@ -46,7 +46,7 @@ Answers, by exit status:
   5  device failed: input or output";
 
 /// What `stats` answers, by exit status.
-pub const ANSWERS_OF_STATS: &str = "\
+pub const STATS: &str = "\
 Answers, by exit status:
   0  a line each of a word and a number: sessions, committed, aborted, in versions 2 and 3 unknown
      and taken, keys, operations; choices, those of the formula, or the anomaly; variables, clauses
@@ -55,7 +55,7 @@ Answers, by exit status:
   5  device failed: input or output";
 
 /// What `explain` answers, by exit status.
-pub const ANSWERS_OF_EXPLAIN: &str = "\
+pub const EXPLAIN: &str = "\
 Answers, by exit status:
   0  as check
   1  what check says, and why: the reason of each edge, in the log's own lines
@@ -65,7 +65,7 @@ Answers, by exit status:
   5  device failed: input or output";
 
 /// What `audit` answers, by exit status.
-pub const ANSWERS_OF_AUDIT: &str = "\
+pub const AUDIT: &str = "\
 Answers, by exit status:
   0  serializable, then a line each of a word and a number: what the log and its pieces hold
   1  not serializable: then the piece that has no serial order, its code where it has one, and its
@@ -76,7 +76,7 @@ Answers, by exit status:
   5  device failed: a file and the reason, or output";
 
 /// What `pieces` answers, by exit status.
-pub const ANSWERS_OF_PIECES: &str = "\
+pub const PIECES: &str = "\
 Answers, by exit status:
   0  a line K TRANSACTIONS OPERATIONS for each piece; or the log of one; or nothing, where they are
      written into a directory, each as K.log, and as K.map the line of the log for each of its lines

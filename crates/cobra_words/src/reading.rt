@@ -14,34 +14,33 @@ const STANDARD_INPUT: &str = "-";
 
 /// The file that holds the log, and nothing for standard input.
 fn log_of<'a>(matches: &ArgMatches<'a>) -> Option<&'a str> {
-    match matches.get_str("FILE") {
-        Some(STANDARD_INPUT) => None,
-        file => file,
-    }
+    matches
+        .get_str("FILE")
+        .filter(|name| *name != STANDARD_INPUT)
 }
 
-/// The strategy of a word; any word but the other three stands for the default.
-fn strategy_of(word: &str) -> StrategyName {
-    match word {
-        "most" => StrategyName::Most,
-        "least" => StrategyName::Least,
-        "forced" => StrategyName::Forced,
+/// The strategy; any word but these three stands for the default, and so does none.
+fn strategy_of(matches: &ArgMatches<'_>) -> StrategyName {
+    match matches.get_str("strategy") {
+        Some("most") => StrategyName::Most,
+        Some("least") => StrategyName::Least,
+        Some("forced") => StrategyName::Forced,
         _ => StrategyName::First,
     }
 }
 
-/// The form of a word; any word but the other stands for the default.
-fn format_of(word: &str) -> Format {
-    match word {
-        "dot" => Format::Dot,
+/// The form of an explanation; any word but this stands for the default, and so does none.
+fn format_of(matches: &ArgMatches<'_>) -> Format {
+    match matches.get_str("format") {
+        Some("dot") => Format::Dot,
         _ => Format::Text,
     }
 }
 
-/// The form of a report of a word; any word but the other stands for the default.
-fn report_of(word: &str) -> ReportForm {
-    match word {
-        "json" => ReportForm::Json,
+/// The form of a report; any word but this stands for the default, and so does none.
+fn report_of(matches: &ArgMatches<'_>) -> ReportForm {
+    match matches.get_str("format") {
+        Some("json") => ReportForm::Json,
         _ => ReportForm::Text,
     }
 }
@@ -57,19 +56,17 @@ fn audit_of(matches: &ArgMatches<'_>) -> AuditWords {
         at_least: matches.get_one::<u32>("at-least").unwrap_or(1) as usize,
         seconds: matches.get_one::<u32>("seconds"),
         explain: matches.get_flag("explain"),
-        format: report_of(matches.get_str("format").unwrap_or("text")),
+        format: report_of(matches),
         quiet: matches.get_flag("quiet"),
         progress: matches.get_flag("progress"),
     }
 }
 
 fn wanted_of<'a>(matches: &ArgMatches<'a>) -> PiecesWord<'a> {
-    if let Some(piece) = matches.get_one::<u32>("piece") {
-        return PiecesWord::Piece(piece as usize);
-    }
-    match matches.get_str("into") {
-        Some(directory) => PiecesWord::Into(directory),
-        None => PiecesWord::List,
+    match (matches.get_one::<u32>("piece"), matches.get_str("into")) {
+        (Some(piece), _) => PiecesWord::Piece(piece as usize),
+        (None, Some(directory)) => PiecesWord::Into(directory),
+        (None, None) => PiecesWord::List,
     }
 }
 
@@ -88,7 +85,7 @@ fn command_of<'a>(name: &str, matches: &ArgMatches<'a>) -> Option<Command<'a>> {
         }),
         "stats" => Some(Command::Stats),
         "explain" => Some(Command::Explain {
-            format: format_of(matches.get_str("format").unwrap_or("text")),
+            format: format_of(matches),
         }),
         "audit" => Some(Command::Audit(audit_of(matches))),
         "pieces" => Some(Command::Pieces {
@@ -99,16 +96,16 @@ fn command_of<'a>(name: &str, matches: &ArgMatches<'a>) -> Option<Command<'a>> {
     }
 }
 
-fn request_of<'a>(name: &str, matches: &ArgMatches<'a>) -> Option<Request<'a>> {
+fn request_of<'a>(program: &ArgMatches<'a>) -> Option<Request<'a>> {
+    let (name, matches) = program.subcommand()?;
     let command = command_of(name, matches)?;
     let number = matches.get_one::<u8>("workers").unwrap_or(4);
     let budget = matches.get_one::<u32>("budget").unwrap_or(10_000);
-    let strategy = matches.get_str("strategy").unwrap_or("first");
     Some(Request {
         command,
         plain: matches.get_flag("plain"),
         workers: Workers::new(number)?,
-        strategy: strategy_of(strategy),
+        strategy: strategy_of(matches),
         budget: Budget::new(budget as usize)?,
         log: log_of(matches),
     })
@@ -123,11 +120,8 @@ pub fn words_of<'a>(alloc: Global, words: &'a [String]) -> Result<Option<Words<'
             ErrorKind::OutOfMemory => Err(AllocError),
             _ => Ok(Some(Words::Shown(error))),
         },
-        Ok(matches) => match matches.subcommand() {
-            Some((name, of_command)) => match request_of(name, of_command) {
-                Some(request) => Ok(Some(Words::Request(request))),
-                None => Ok(None),
-            },
+        Ok(matches) => match request_of(&matches) {
+            Some(request) => Ok(Some(Words::Request(request))),
             None => Ok(None),
         },
     }

@@ -5,6 +5,7 @@ use Rattle.std.specs.Option.{option_map_or}
 use Rattle.std.specs.List.{Contains}
 use Rattle.std.proofs.lemmas.Bool.{false≢true, or_cases, or_left, or_right, eq-eqb, ne_eqb}
 use Rattle.std.proofs.lemmas.List.{take_more}
+use Rattle.std.proofs.Math.Bool.{or-false, or_assoc, and-or_distrib_right}
 use Rattle.serializability.specs.Polygraph.{Edge, Choice, Polygraph}
 use Rattle.pruning_laws.specs.declared.side.Side.{Side}
 use Rattle.pruning_laws.specs.declared.side.Side.TheVariants.{One, Two}
@@ -13,7 +14,6 @@ use Rattle.pruning_laws.specs.Ledger.{same_side, sides_in}
 use Rattle.known_graph.specs.Tests.{has_edge}
 use Rattle.known_graph.proofs.Tested.{same_bool, edge_in, has_contained}
 use Rattle.cube_laws.specs.Cubes.{Cube, edges_under}
-use Rattle.side_edges.proofs.Lists.{or_false, or_swap}
 use Rattle.side_edges.proofs.Listed.{edge_append, kept_edge}
 use Rattle.cube_machine.specs.Sides.{side_in, cube_edges}
 use Rattle.cube_machine.proofs.Lists.{either_way}
@@ -46,7 +46,7 @@ edge_more old now next part k d u v lt is p q a f e =
     let same : ◌≡◌ {A = Edge} (u, v) (get_or part k d) = (λ i. (p i, q i)) ∙ is in
     edge_added now next (u, v) e f
     ∙ (λ i. a e i || has_edge (same i ∷ []) e)
-    ∙ sym (or_swap (has_edge old e) (has_edge (take k part) e) (has_edge (get_or part k d ∷ []) e))
+    ∙ or_assoc (has_edge old e) (has_edge (take k part) e) (has_edge (get_or part k d ∷ []) e)
     ∙ ap (λ b. has_edge old e || b) (sym (edge_append (take k part) (get_or part k d ∷ []) e) ∙ ap (λ l. has_edge l e) (sym (take_more part k d lt)))
 
 -- ---- the way up
@@ -57,25 +57,15 @@ pub side_more : (p : Polygraph) (now next whole : List Edge) (at above : Cube) (
 unfolding cube_edges
 side_more p now next whole at above c side shape a f e =
     ap (λ b. b || has_edge (cube_edges p above) e) (f e)
-    ∙ sym (or_swap (has_edge now e) (has_edge (side_in p c side) e) (has_edge (cube_edges p above) e))
+    ∙ or_assoc (has_edge now e) (has_edge (side_in p c side) e) (has_edge (cube_edges p above) e)
     ∙ ap (λ b. has_edge now e || b) (sym (edge_append (side_in p c side) (cube_edges p above) e) ∙ ap (λ l. has_edge (cube_edges p l) e) (sym shape))
     ∙ a e
 
 pub sides_all : (p : Polygraph) (now whole : List Edge) (at : Cube) → at ≡ [] → ((e : Edge) → (has_edge now e || has_edge (cube_edges p at) e) ≡ has_edge whole e) → (e : Edge) → has_edge now e ≡ has_edge whole e
 unfolding cube_edges
-sides_all p now whole at none a e = or_false (has_edge now e) ∙ ap (λ l. has_edge now e || has_edge (cube_edges p l) e) (sym none) ∙ a e
+sides_all p now whole at none a e = sym (or-false (has_edge now e)) ∙ ap (λ l. has_edge now e || has_edge (cube_edges p l) e) (sym none) ∙ a e
 
 -- ---- the edges under a cube
-spread : (a b c : Bool) → ((a || b) && c) ≡ ((a && c) || (b && c))
-spread true true true = refl
-spread true true false = refl
-spread true false true = refl
-spread true false false = refl
-spread false true c = refl
-spread false false c = refl
-
-either : Sides → Sides → Sides
-either f g c s = f c s || g c s
 
 kept_either : (f g : Sides) (k : ℕ) (hs : List Choice) (e : Edge) → has_edge (kept_from (λ c s. f c s || g c s) k hs) e ≡ (has_edge (kept_from f k hs) e || has_edge (kept_from g k hs) e)
 kept_either f g k [] e = refl
@@ -83,7 +73,7 @@ kept_either f g k (h ∷ hs) e =
     let x = has_edge h.one e in let y = has_edge h.two e in
     let F = has_edge (kept_from f (k + 1) hs) e in let G = has_edge (kept_from g (k + 1) hs) e in
     kept_edge (λ c s. f c s || g c s) k h hs e
-    ∙ (λ i. (spread (f k One) (g k One) x i || spread (f k Two) (g k Two) y i) || kept_either f g (k + 1) hs e i)
+    ∙ (λ i. (and-or_distrib_right (f k One) (g k One) x i || and-or_distrib_right (f k Two) (g k Two) y i) || kept_either f g (k + 1) hs e i)
     ∙ ap (λ b. b || (F || G)) (either_way (f k One && x) (g k One && x) (f k Two && y) (g k Two && y))
     ∙ either_way ((f k One && x) || (f k Two && y)) ((g k One && x) || (g k Two && y)) F G
     ∙ (λ i. (let a = sym (kept_edge f k h hs e) in a i) || (let b = sym (kept_edge g k h hs e) in b i))
@@ -104,7 +94,7 @@ alone_past a k b (h ∷ hs) e lt =
     ∙ (λ i. (and_off (eqb a k) (same_side b One) (has_edge h.one e) n i || and_off (eqb a k) (same_side b Two) (has_edge h.two e) n i) || alone_past a (k + 1) b hs e (omega arith) i)
 
 here_edge : (t : Bool) (b : Side) (h : Choice) (e : Edge) → t ≡ true → (((t && same_side b One) && has_edge h.one e) || ((t && same_side b Two) && has_edge h.two e)) ≡ has_edge (edges_of h b) e
-here_edge true One h e t = sym (or_false (has_edge h.one e))
+here_edge true One h e t = or-false (has_edge h.one e)
 here_edge true Two h e t = refl
 here_edge false b h e t = absurd (false≢true t)
 
@@ -116,7 +106,7 @@ alone_here k i b [] e = refl
 alone_here k zero b (h ∷ hs) e =
     kept_edge (alone (k + 0) b) k h hs e
     ∙ (λ j. here_edge (eqb (k + 0) k) b h e (eq-eqb (k + 0) k (omega arith)) j || alone_past (k + 0) (k + 1) b hs e (omega arith) j)
-    ∙ sym (or_false (has_edge (edges_of h b) e))
+    ∙ or-false (has_edge (edges_of h b) e)
 alone_here k (suc i) b (h ∷ hs) e =
     let n : eqb (k + suc i) k ≡ false = ne_eqb (k + suc i) k (omega arith) in
     let z : k + suc i ≡ k + 1 + i = omega arith in

@@ -3,8 +3,8 @@ use Rattle.std.proofs.Common.{◌≡◌, ◌⊎◌, ℕ, zero, suc, Bool, true, 
 use Rattle.std.specs.Prelude.{slice_get, slice_set}
 use Rattle.std.specs.List.{list_any}
 use Rattle.std.proofs.lemmas.Bool.{false≢true, or_cases}
+use Rattle.std.proofs.Math.Bool.{or_comm, or-false, or_assoc}
 use Rattle.cube_laws.proofs.Nodes.{some-inj, none-some}
-use Rattle.side_edges.proofs.Lists.{or_false, or_swap}
 
 -- ---- elements
 pub get_pushed : {A : Type 0} (xs : List A) (j : ℕ) (y x : A) → slice_get (xs ++ y ∷ []) j ≡ Some x → ((j ≡ length xs) × (x ≡ y)) ⊎ (slice_get xs j ≡ Some x)
@@ -21,22 +21,16 @@ any_found t (z ∷ zs) h = elim (or_cases (t z) (list_any t zs) h) [
   | inr b ↦ (let r = any_found t zs b in (suc r.0, r.1))
 ]
 
-or_turn : (a b : Bool) → (a || b) ≡ (b || a)
-or_turn true true = refl
-or_turn true false = refl
-or_turn false true = refl
-or_turn false false = refl
-
 -- a test after a write over an element that failed it
 pub any_written : {A : Type 0} (t : A → Bool) (xs : List A) (k : ℕ) (x y : A) → slice_get xs k ≡ Some x → t x ≡ false → list_any t (slice_set xs k y) ≡ (list_any t xs || t y)
 any_written t [] k x y e f = absurd (none-some x e)
 any_written t (z ∷ zs) zero x y e f =
     let g : t z ≡ false = ap t (some-inj z x e) ∙ f in
-    or_turn (t y) (list_any t zs) ∙ ap (λ b. (b || list_any t zs) || t y) (sym g)
-any_written t (z ∷ zs) (suc k) x y e f = ap (λ b. t z || b) (any_written t zs k x y e f) ∙ or_swap (t z) (list_any t zs) (t y)
+    or_comm (t y) (list_any t zs) ∙ ap (λ b. (b || list_any t zs) || t y) (sym g)
+any_written t (z ∷ zs) (suc k) x y e f = ap (λ b. t z || b) (any_written t zs k x y e f) ∙ sym (or_assoc (t z) (list_any t zs) (t y))
 
 pub any_unchanged : {A : Type 0} (t : A → Bool) (xs : List A) (k : ℕ) (x y : A) → slice_get xs k ≡ Some x → t x ≡ false → t y ≡ false → list_any t (slice_set xs k y) ≡ list_any t xs
-any_unchanged t xs k x y e f g = any_written t xs k x y e f ∙ ap (λ b. list_any t xs || b) g ∙ sym (or_false (list_any t xs))
+any_unchanged t xs k x y e f g = any_written t xs k x y e f ∙ ap (λ b. list_any t xs || b) g ∙ or-false (list_any t xs)
 
 pub any_pushed : {A : Type 0} (t : A → Bool) (xs : List A) (y : A) → t y ≡ false → list_any t (xs ++ y ∷ []) ≡ list_any t xs
 any_pushed t [] y f = ap (λ b. b || false) f

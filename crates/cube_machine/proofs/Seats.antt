@@ -9,7 +9,7 @@ use Rattle.cube_laws.specs.Cubes.{Cube}
 use Rattle.cube_laws.specs.State.{Node}
 use Rattle.cube_laws.specs.Steps.{is_open, is_held, is_held_by, held_from, has_live}
 use Rattle.cube_laws.specs.declared.messages.CubeState.{CubeState}
-use Rattle.cube_laws.specs.declared.messages.CubeState.TheVariants.{Open, Held, Split as Divided, Refuted, Solved as Ended}
+use Rattle.cube_laws.specs.declared.messages.CubeState.TheVariants.{Held}
 use Rattle.cube_laws.proofs.Nodes.{some-inj, none-some, any_at}
 use Rattle.cube_machine.specs.Ways.{nodes_with, nodes_of, cubes_after}
 use Rattle.cube_machine.specs.Kept.{HasMark, IsTree}
@@ -20,21 +20,15 @@ use Rattle.cube_machine.proofs.Places.{some_open}
 
 -- ---- marks
 pub held_mark : (seat : ℕ) (m : CubeState) → is_held_by seat m ≡ true → m ≡ Held seat
-held_mark seat Open t = absurd (false≢true t)
 held_mark seat (Held s) t = ap (λ n. Held n) (eqb-true s seat t)
-held_mark seat (Divided c) t = absurd (false≢true t)
-held_mark seat Refuted t = absurd (false≢true t)
-held_mark seat Ended t = absurd (false≢true t)
+held_mark seat _ t = absurd (false≢true t)
 
 pub mark_held : (seat : ℕ) (m : CubeState) → m ≡ Held seat → is_held_by seat m ≡ true
 mark_held seat m e = ap (is_held_by seat) e ∙ eq-eqb seat seat refl
 
 some_seat : (m : CubeState) → is_held m ≡ true → (seat : ℕ) × (m ≡ Held seat)
-some_seat Open t = absurd (false≢true t)
 some_seat (Held s) t = (s, refl)
-some_seat (Divided c) t = absurd (false≢true t)
-some_seat Refuted t = absurd (false≢true t)
-some_seat Ended t = absurd (false≢true t)
+some_seat _ t = absurd (false≢true t)
 
 pub head_mark : (x : TreeNode) (xs : List TreeNode) (m : CubeState) → x.mark ≡ m → HasMark (x ∷ xs) 0 m
 head_mark x xs m e = record { node = x; at = refl; marked = e }

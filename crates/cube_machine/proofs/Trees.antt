@@ -10,7 +10,7 @@ use Rattle.pruning_laws.specs.declared.side.Side.{Side}
 use Rattle.cube_laws.specs.State.{Node}
 use Rattle.cube_laws.specs.Steps.{is_open, is_solved, held_from}
 use Rattle.cube_laws.specs.declared.messages.CubeState.{CubeState}
-use Rattle.cube_laws.specs.declared.messages.CubeState.TheVariants.{Open, Held, Split as Divided, Refuted, Solved as Ended}
+use Rattle.cube_laws.specs.declared.messages.CubeState.TheVariants.{Open, Held, Solved as Ended}
 use Rattle.cube_laws.proofs.Nodes.{some-inj, none-some, get_same, get_other, get_front}
 use Rattle.desk.proofs.Tied.{get_set}
 use Rattle.cube_machine.specs.Ways.{nodes_of}
@@ -33,11 +33,8 @@ held_going : (m : CubeState) (seat : ℕ) → m ≡ Held seat → is_solved m �
 held_going m seat e = ap is_solved e
 
 open_going : (m : CubeState) → is_open m ≡ true → is_solved m ≡ false
-open_going Open t = refl
-open_going (Held s) t = refl
-open_going (Divided c) t = refl
-open_going Refuted t = refl
 open_going Ended t = absurd (false≢true t)
+open_going _ t = refl
 
 same_seat : (a b : ℕ) → Held a ≡ Held b → a ≡ b
 same_seat a b e = cc
@@ -47,10 +44,7 @@ closed_free m seat t e = false≢true (sym (ap is_closed e) ∙ t)
 
 pub closed_shut : (m : CubeState) → is_closed m ≡ true → is_open m ≡ false
 closed_shut Open t = absurd (false≢true t)
-closed_shut (Held s) t = refl
-closed_shut (Divided c) t = refl
-closed_shut Refuted t = refl
-closed_shut Ended t = refl
+closed_shut _ t = refl
 
 -- ---- a written mark
 ordered_written : (xs : List TreeNode) → ((k : ℕ) (x : TreeNode) (o : Origin) → slice_get xs k ≡ Some x → x.origin ≡ Some o → o.parent < k) → (id : ℕ) (x : TreeNode) (m : CubeState) → slice_get xs id ≡ Some x

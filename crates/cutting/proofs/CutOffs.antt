@@ -1,33 +1,24 @@
 -- What was split and lies apart is cut.
-use Rattle.std.proofs.Common.{◌≡◌, ℕ, ◌≤◌, ◌<◌, Bool, true, false, not, List, [], ◌∷◌, ◌++◌, map, Some, refl, sym, ap, ◌∙◌, subst, inl, inr, arith}
-use Rattle.std.specs.Prelude.{nat_eq}
+use Rattle.std.proofs.Common.{◌≡◌, ℕ, ◌≤◌, not, List, [], ◌∷◌, map, refl, sym, ap, ◌∙◌, subst, inl, inr, arith}
 use Rattle.std.specs.List.{filter, AllByRecursion, Contains}
 use Rattle.std.proofs.lemmas.Bool.{cases_Bool}
 use Rattle.session_log.specs.Text.{ClientSession}
 use Rattle.serializability.proofs.Places.{each_from_map}
-use Rattle.log_definitions.specs.Serial.{Committed, committed_in}
+use Rattle.log_definitions.specs.Serial.{Committed}
 use Rattle.log_definitions.proofs.Members.{member, each_weaker, each_member}
 use Rattle.piece_laws.specs.Cut.{Cut, first_part, rest_of, IsOver, IsSince, by_begin, by_earlier, IsCut}
-use Rattle.piece_laws.specs.Logs.{IsLearntLog, has_txns, present}
+use Rattle.piece_laws.specs.Logs.{IsLearntLog, present}
 use Rattle.piece_laws.specs.Pieces.{AreCutPoints}
 use Rattle.piece_laws.proofs.Lists.{of_kept, kept}
 use Rattle.piece_laws.proofs.Sessions.{early, late, unshift, first_nodes, rest_nodes, nodes_from}
 use Rattle.piece_laws.proofs.Shifted.{since_unshifted, nodes_are}
 use Rattle.piece_laws.proofs.Left.{IsLearnt, AreLearnt, first_learnt, rest_learnt, split}
 use Rattle.cutting.specs.Parts.{CutOff}
-use Rattle.cutting.specs.Splits.{counts_of, TakesFirst, IsSplit, nodes_of, AllOver, AllSince, behind, IsNoLater, IsApart, AreApart, points_of}
+use Rattle.cutting.specs.Splits.{counts_of, TakesFirst, IsSplit, nodes_of, AllSince, behind, IsNoLater, AreApart, points_of}
 
 -- ---- sessions without transactions have no nodes
 one_more : (s : ClientSession) (ss : List ClientSession) → nodes_of (present ss) ≡ nodes_of ss → nodes_of (present (s ∷ ss)) ≡ nodes_of (s ∷ ss)
-one_more s ss e = go s.txns refl
-  where
-    go : (ts : List _) → s.txns ≡ ts → nodes_of (present (s ∷ ss)) ≡ nodes_of (s ∷ ss)
-    go [] is =
-        let none : has_txns s.txns ≡ false = ap has_txns is in
-        rw none (e ∙ ap (λ l. l ++ nodes_of ss) (sym (ap (nodes_from s.number 1) is)))
-    go (t ∷ ts) is =
-        let some : has_txns s.txns ≡ true = ap has_txns is in
-        rw some (ap (λ l. nodes_from s.number 1 s.txns ++ l) e)
+one_more s ss e = grind (arith, nodes_from)
 
 pub present_nodes : (ss : List ClientSession) → nodes_of (present ss) ≡ nodes_of ss
 present_nodes [] = refl

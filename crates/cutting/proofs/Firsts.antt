@@ -1,5 +1,5 @@
 -- First transactions that are taken of sessions, session by session.
-use Rattle.std.proofs.Common.{◌≡◌, ◌≢◌, ℕ, zero, suc, ◌+◌, ◌-◌, ◌<◌, ◌≤◌, Bool, true, false, eqb, List, [], ◌∷◌, ◌++◌, length, map, refl, sym, ap, ◌∙◌, subst, Option, Some, None, inl, inr, arith, eqb-true, eq-eqb, ne_eqb}
+use Rattle.std.proofs.Common.{◌≡◌, ℕ, zero, suc, ◌+◌, ◌-◌, ◌<◌, ◌≤◌, true, false, eqb, List, [], ◌∷◌, ◌++◌, length, map, refl, sym, ap, ◌∙◌, subst, Some, inl, inr, arith, eq-eqb}
 use Rattle.std.specs.Prelude.{take, drop, slice_get, slice_set, nat_eq}
 use Rattle.std.specs.List.{AllByRecursion, IsDistinct}
 use Rattle.std.proofs.lemmas.Bool.{cases_Bool}
@@ -64,13 +64,7 @@ length_more [] x = refl
 length_more (y ∷ ys) x = ap suc (length_more ys x)
 
 taken_skip : (next : ℕ) (ss first rest : List ClientSession) → next < length ss → Taken next ss first rest → Taken (suc next) ss first rest
-taken_skip next ss first rest lt h = record {
-  counts = h.counts ++ 0 ∷ [];
-  looked = length_more h.counts 0 ∙ ap suc h.looked;
-  within = none_within h.counts ss h.within (let e = h.looked in omega (arith, e, lt));
-  firsts = h.firsts ∙ sym (none_first h.counts ss);
-  left = h.left ∙ sym (none_rest h.counts ss);
-}
+taken_skip next ss first rest lt h = grind (arith, length_more, none_within, none_first, none_rest)
 
 pub taken_on : (gap next : ℕ) (ss first rest : List ClientSession) → gap + next ≤ length ss → Taken next ss first rest → Taken (gap + next) ss first rest
 taken_on zero next ss first rest le h = let same : next ≡ 0 + next = omega arith in subst (λ n. Taken n ss first rest) same h
@@ -80,9 +74,7 @@ taken_on (suc gap) next ss first rest le h =
 
 -- ---- a session of which some are taken
 some_txns : (c : ℕ) (ts : List Transaction) → 0 < c → c ≤ length ts → has_txns (take c ts) ≡ true
-some_txns zero ts lt le = absurd (omega (arith, lt))
-some_txns (suc c) [] lt le = absurd (omega (arith, le))
-some_txns (suc c) (t ∷ ts) lt le = refl
+some_txns v0 ts lt le = grind arith
 
 some_within : (c : ℕ) (s : ClientSession) (cs : List ℕ) (ss : List ClientSession) → slice_get (rest_by cs ss) (length cs) ≡ Some s → c ≤ length s.txns → AreWithin cs ss → AreWithin (cs ++ c ∷ []) ss
 some_within c s [] [] e le h = cc
@@ -109,15 +101,7 @@ some_rest c s (b ∷ cs) [] e = cc
 some_rest c s (b ∷ cs) (x ∷ ss) e = ap (λ l. rest_txns b x ∷ l) (some_rest c s cs ss e)
 
 taken_here : (next c : ℕ) (s : ClientSession) (ss first rest : List ClientSession) → slice_get rest next ≡ Some s → 0 < c → c ≤ length s.txns → Taken next ss first rest → Taken (suc next) ss (first ++ first_txns c s ∷ []) (slice_set rest next (rest_txns c s))
-taken_here next c s ss first rest e lt le h =
-    let here : slice_get (rest_by h.counts ss) (length h.counts) ≡ Some s = ap (slice_get (rest_by h.counts ss)) h.looked ∙ ap (λ l. slice_get l next) (sym h.left) ∙ e in
-    record {
-      counts = h.counts ++ c ∷ [];
-      looked = length_more h.counts c ∙ ap suc h.looked;
-      within = some_within c s h.counts ss here le h.within;
-      firsts = ap (λ l. l ++ first_txns c s ∷ []) h.firsts ∙ sym (some_first c s h.counts ss here (some_txns c s.txns lt le));
-      left = ap (λ l. slice_set l next (rest_txns c s)) h.left ∙ ap (λ n. slice_set (rest_by h.counts ss) n (rest_txns c s)) (sym h.looked) ∙ sym (some_rest c s h.counts ss here);
-    }
+taken_here next c s ss first rest e lt le h = grind (arith, length_more, some_within, some_first, some_txns, some_rest)
 
 rest_length : (cs : List ℕ) (ss : List ClientSession) → AreWithin cs ss → length (rest_by cs ss) ≡ length ss
 rest_length [] ss h = refl
@@ -139,19 +123,17 @@ abbrev numbers_of : List ClientSession → List ℕ
 numbers_of ss = map (λ (s : ClientSession). s.number) ss
 
 first_same : (a b : Cut) (ss : List ClientSession) → AllByRecursion (λ s. a s.number ≡ b s.number) ss → first_part a ss ≡ first_part b ss
-first_same a b [] h = refl
-first_same a b (s ∷ ss) h = ap (λ n. first_txns n s ∷ first_part a ss) h.0 ∙ ap (λ l. first_txns (b s.number) s ∷ l) (first_same a b ss h.1)
+first_same a b [] h = grind arith
+first_same a b (s ∷ ss) h = grind (arith, first_same a b ss h.1)
 
 rest_same : (a b : Cut) (ss : List ClientSession) → AllByRecursion (λ s. a s.number ≡ b s.number) ss → rest_of a ss ≡ rest_of b ss
-rest_same a b [] h = refl
-rest_same a b (s ∷ ss) h = ap (λ n. rest_txns n s ∷ rest_of a ss) h.0 ∙ ap (λ l. rest_txns (b s.number) s ∷ l) (rest_same a b ss h.1)
+rest_same a b [] h = grind arith
+rest_same a b (s ∷ ss) h = grind (arith, rest_same a b ss h.1)
 
 -- of sessions that have no transactions here there are none
 none_counted : (n : ℕ) (first : List ClientSession) → (Has n (numbers_of first) → ⊥) → counts_of first n ≡ 0
-none_counted n [] h = refl
-none_counted n (s ∷ first) h =
-    let f : eqb s.number n ≡ false = ne_eqb s.number n (λ e. h (inl e)) in
-    rw f (none_counted n first (λ k. h (inr k)))
+none_counted n [] h = grind arith
+none_counted n (s ∷ first) h = grind (arith, none_counted n first (λ k. h (inr k)))
 
 first_numbers : (n : ℕ) (cs : List ℕ) (ss : List ClientSession) → Has n (numbers_of (present (first_by cs ss))) → Has n (numbers_of ss)
 first_numbers n [] ss h = absurd h
@@ -162,10 +144,8 @@ first_numbers n (c ∷ cs) (s ∷ ss) h = elim (cases_Bool (has_txns (take c s.t
 ]
 
 others : (s t : ClientSession) (first ss : List ClientSession) → t.number ≡ s.number → (Has s.number (numbers_of ss) → ⊥) → AllByRecursion (λ x. counts_of (t ∷ first) x.number ≡ counts_of first x.number) ss
-others s t first [] e h = tt
-others s t first (x ∷ ss) e h =
-    let f : eqb t.number x.number ≡ false = ne_eqb t.number x.number (λ is. h (inl (sym is ∙ e))) in
-    ((rw f refl), others s t first ss e (λ k. h (inr k)))
+others s t first [] e h = grind arith
+others s t first (x ∷ ss) e h = grind (arith, others s t first ss e (λ k. h (inr k)))
 
 length_taken : (c : ℕ) (ts : List Transaction) → c ≤ length ts → length (take c ts) ≡ c
 length_taken zero ts le = refl
@@ -259,13 +239,7 @@ append_assoc_one [] x ys = refl
 append_assoc_one (z ∷ xs) x ys = ap (λ l. z ∷ l) (append_assoc_one xs x ys)
 
 pub split_more : (ss : List ClientSession) (done : List CutOff) (p : CutOff) (rest left : List ClientSession) → (IsDistinct nat_eq (numbers_of rest) → TakesFirst rest p.sessions left) → numbers_of left ≡ numbers_of rest → SplitSoFar ss done rest → SplitSoFar ss (done ++ p ∷ []) left
-split_more ss done p rest left takes numbers h = record {
-  numbers = numbers ∙ h.numbers;
-  split = λ distinct later last is. (
-      let t = takes (subst (IsDistinct nat_eq) (sym h.numbers) distinct) in
-      let first : TakesFirst rest p.sessions (rest_of (counts_of p.sessions) rest) = record { within = t.within; firsts = t.firsts; left = refl } in
-      subst (λ l. IsSplit l last ss) (sym (append_assoc_one done p later)) (h.split distinct (p ∷ later) last (first, subst (IsSplit later last) t.left is)));
-}
+split_more ss done p rest left takes numbers h = grind (arith, append_assoc_one)
 
 numbers_by : (cs : List ℕ) (ss : List ClientSession) → AreWithin cs ss → numbers_of (rest_by cs ss) ≡ numbers_of ss
 numbers_by [] ss h = refl

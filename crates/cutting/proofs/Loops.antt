@@ -1,8 +1,7 @@
 -- Steps of the loops.
-use Rattle.std.proofs.Common.{◌≡◌, ℕ, inl, inr, zero, suc, ◌+◌, ◌<◌, ◌≤◌, Bool, true, false, eqb, not, List, [], ◌∷◌, ◌++◌, length, map, Option, Some, None, refl, sym, ap, ◌∙◌, subst, arith, get_or, filter}
-use Rattle.std.specs.Prelude.{take, drop, slice_get, slice_set, nat_lt, nat_le}
+use Rattle.std.proofs.Common.{◌≡◌, ℕ, zero, suc, ◌+◌, ◌<◌, ◌≤◌, true, false, List, [], ◌∷◌, ◌++◌, length, map, Some, refl, sym, ap, ◌∙◌, subst, arith, get_or}
+use Rattle.std.specs.Prelude.{take, drop, slice_get, slice_set}
 use Rattle.std.specs.List.{AllByRecursion}
-use Rattle.std.proofs.lemmas.Bool.{cases_Bool, false≢true}
 use Rattle.std.proofs.lemmas.List.Elements.{filter-append}
 use Rattle.session_log.specs.Text.{ClientSession, Transaction, view_txn}
 use Rattle.session_log.specs.declared.session.Txn.{Txn}
@@ -11,7 +10,7 @@ use Rattle.log_definitions.specs.Unknown.{is_committed}
 use Rattle.piece_laws.specs.Logs.{has_txns, present}
 use Rattle.cutting.specs.declared.part.Part.{Part}
 use Rattle.cutting.specs.Parts.{CutOff, part_view, parts_view}
-use Rattle.cutting.specs.Splits.{first_txns, rest_txns, behind, IsNoLater, IsApart, AreApart}
+use Rattle.cutting.specs.Splits.{first_txns, rest_txns, IsApart, AreApart}
 use Rattle.cutting.specs.Ends.{is_since, begins_since}
 use Rattle.cutting.proofs.Views.{item, get_map, get_drop, map_set, map_more, front_more, length_mapped, last_or_before}
 use Rattle.cutting.proofs.Firsts.{Taken, taken_at}
@@ -94,10 +93,4 @@ each_more P parts i p e one h = subst (AllByRecursion P) (sym (front_more part_v
 -- ---- no node stands from a place on
 pub covered_more : (txns : List Txn) (over i : ℕ) (x : Txn) → slice_get txns i ≡ Some x → (over ≤ i → is_committed (view_txn x) ≡ false) → ((k : ℕ) (txn : Transaction) → k < i → slice_get (map view_txn txns) k ≡ Some txn → over ≤ k → is_committed txn ≡ false)
     → (k : ℕ) (txn : Transaction) → k < i + 1 → slice_get (map view_txn txns) k ≡ Some txn → over ≤ k → is_committed txn ≡ false
-covered_more txns over i x at one before k txn lt e le = elim (last_or_before k i lt) [
-  | inl less ↦ before k txn less e le
-  | inr same ↦
-      let both : Some (view_txn x) ≡ Some txn = sym (get_map view_txn txns i x at) ∙ ap (slice_get (map view_txn txns)) (sym same) ∙ e in
-      let is : view_txn x ≡ txn = cc in
-      subst (λ t. is_committed t ≡ false) is (one (omega (arith, same, le)))
-]
+covered_more txns over i x at one before k txn lt e le = grind (arith, last_or_before, get_map)

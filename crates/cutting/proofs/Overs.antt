@@ -1,6 +1,6 @@
 -- Nodes that are known to be over, part by part.
-use Rattle.std.proofs.Common.{◌≡◌, ◌⊎◌, ℕ, zero, suc, ◌+◌, ◌-◌, ◌<◌, ◌≤◌, Bool, true, false, ◌&&◌, eqb, List, [], ◌∷◌, ◌++◌, length, map, Option, Some, None, refl, sym, ap, ◌∙◌, subst, inl, inr, arith, eqb-true, eq-eqb}
-use Rattle.std.specs.Prelude.{slice_get, slice_index, slice_set, nat_lt, nat_le}
+use Rattle.std.proofs.Common.{◌≡◌, ◌⊎◌, ℕ, zero, suc, ◌+◌, ◌-◌, ◌<◌, ◌≤◌, true, false, eqb, List, [], ◌∷◌, ◌++◌, length, Option, Some, refl, sym, ap, ◌∙◌, subst, inl, inr, arith, eqb-true, eq-eqb}
+use Rattle.std.specs.Prelude.{slice_get, slice_index, nat_lt}
 use Rattle.std.specs.List.{AllByRecursion, Contains}
 use Rattle.std.proofs.lemmas.Bool.{cases_Bool, false≢true, and_parts}
 use Rattle.std.proofs.lemmas.List.{get_or-set_same, get_or-set_other}
@@ -14,9 +14,9 @@ use Rattle.log_definitions.specs.Serial.{Committed, committed_of}
 use Rattle.log_definitions.proofs.Members.{member, each_member}
 use Rattle.piece_laws.specs.Cut.{IsOver, by_end, by_session, by_reader, IsSince, by_begin, by_earlier}
 use Rattle.piece_laws.proofs.Lists.{of_flat, in_flat}
-use Rattle.piece_laws.proofs.Sessions.{node_at, nodes_from, each_node}
+use Rattle.piece_laws.proofs.Sessions.{node_at, nodes_from}
 use Rattle.cutting.specs.Splits.{nodes_of, AllOver, AllSince}
-use Rattle.cutting.specs.Ends.{is_before, ended_before, IsEnded, IsKnownOver, raised, is_since, begins_since}
+use Rattle.cutting.specs.Ends.{is_before, IsEnded, IsKnownOver, raised, is_since, begins_since}
 use Rattle.cutting.proofs.Views.{got}
 
 -- ---- a node of a session is one of its transactions, at its place
@@ -99,24 +99,7 @@ same_index i j = elim (cases_Bool (eqb i j)) [ inl e ↦ inl (eqb-true i j e) | 
 
 pub raised_known : (ss : List ClientSession) (t i k : ℕ) (s : ClientSession) (txn : Transaction) (over : List ℕ) → slice_get ss i ≡ Some s → slice_get s.txns k ≡ Some txn → is_committed txn ≡ true → IsOver (nodes_of ss) t (node_at s.number (1 + k) txn)
     → IsKnownOver ss t over → IsKnownOver ss t (raised over i (k + 1))
-raised_known ss t i k s txn over e f c is h = elim (cases_Bool (nat_lt i (length over) && nat_lt (slice_index over i) (k + 1))) [
-  | inl up ↦ rw up (record { each = raised_each up })
-  | inr stays ↦ rw stays h
-]
-  where
-    lt_true : (a b : ℕ) → nat_lt a b ≡ true → a < b
-    lt_true a b g = grind arith
-
-    raised_each : (nat_lt i (length over) && nat_lt (slice_index over i) (k + 1)) ≡ true → (j : ℕ) (r : ClientSession) (node : Committed) → slice_get ss j ≡ Some r → Contains (committed_of r) node → node.place ≤ slice_index (slice_set over i (k + 1)) j → IsOver (nodes_of ss) t node
-    raised_each up j r node at d le =
-        let within = lt_true i (length over) (and_parts (nat_lt i (length over)) (nat_lt (slice_index over i) (k + 1)) up).0 in
-        elim (same_index j i) [
-          | inl here ↦
-              let one : s ≡ r = some_same (slice_get ss i) s r e (ap (slice_get ss) (sym here) ∙ at) in
-              let count : slice_index (slice_set over i (k + 1)) j ≡ k + 1 = ap (slice_index (slice_set over i (k + 1))) here ∙ get_or-set_same over i (k + 1) 0 within in
-              up_to ss t i k s txn e f c is node (subst (λ (x : ClientSession). Contains (committed_of x) node) (sym one) d) (omega (arith, count, le))
-          | inr other ↦ h.each j r node at d (subst (λ n. node.place ≤ n) (get_or-set_other over i j (k + 1) 0 other) le)
-        ]
+raised_known ss t i k s txn over e f c is h = grind (arith, cases_Bool, and_parts, same_index, some_same, get_or-set_same, up_to, get_or-set_other)
 
 -- ---- by an end
 pub record AreEnded (ss : List ClientSession) (t : ℕ) (over : List ℕ) : Type 0 where
@@ -141,17 +124,7 @@ length_more [] x = refl
 length_more (y ∷ ys) x = let e = length_more ys x in omega (arith, e)
 
 pub ended_more : (ss : List ClientSession) (t n : ℕ) (s : ClientSession) (over : List ℕ) → slice_get ss (length over) ≡ Some s → IsEnded t s.txns n → AreEnded ss t over → AreEnded ss t (over ++ n ∷ [])
-ended_more ss t n s over e one h = record { each = each }
-  where
-    each : (i : ℕ) (r : ClientSession) → slice_get ss i ≡ Some r → i < length (over ++ n ∷ []) → IsEnded t r.txns (slice_index (over ++ n ∷ []) i)
-    each i r at lt =
-        let more = length_more over n in
-        elim (same_index i (length over)) [
-          | inl here ↦
-              let same : s ≡ r = some_same (slice_get ss (length over)) s r e (ap (slice_get ss) (sym here) ∙ at) in
-              subst (λ m. IsEnded t r.txns m) (sym (index_last over n i here)) (subst (λ (x : ClientSession). IsEnded t x.txns n) same one)
-          | inr other ↦ (let le : i < length over = omega (arith, lt, more, other) in subst (λ m. IsEnded t r.txns m) (sym (index_front over n i le)) (h.each i r at le))
-        ]
+ended_more ss t n s over e one h = grind (arith, length_more, same_index, some_same, index_last, index_front)
 
 past : (xs : List ℕ) (i : ℕ) → length xs ≤ i → slice_index xs i ≡ 0
 past [] i le = refl
@@ -159,11 +132,7 @@ past (x ∷ xs) zero le = absurd (omega (arith, le))
 past (x ∷ xs) (suc i) le = past xs i (omega (arith, le))
 
 stated : (t : ℕ) (o : Option ℕ) → is_before t o ≡ true → (m : ℕ) × (o ≡ Some m) × (m < t)
-stated t None e = absurd (false≢true e)
-stated t (Some m) e = (m, refl, lt_true m t e)
-  where
-    lt_true : (a b : ℕ) → nat_lt a b ≡ true → a < b
-    lt_true a b g = grind arith
+stated t v1 e = grind (arith, false≢true)
 
 pub over_where_ended : (ss : List ClientSession) (t : ℕ) (over : List ℕ) → AreEnded ss t over → IsKnownOver ss t over
 over_where_ended ss t over h = record { each = each }
@@ -243,11 +212,7 @@ covered_part s n none node d =
 
 -- ---- since a moment
 since_stated : (t : ℕ) (o : Option ℕ) → is_since t o ≡ true → (m : ℕ) × (o ≡ Some m) × (t ≤ m)
-since_stated t None e = absurd (false≢true e)
-since_stated t (Some m) e = (m, refl, le_true t m e)
-  where
-    le_true : (a b : ℕ) → nat_le a b ≡ true → a ≤ b
-    le_true a b g = grind arith
+since_stated t v1 e = grind (arith, false≢true)
 
 -- the first node of a part, and each behind it
 first_since : (all : List Committed) (t number n : ℕ) (ts : List Transaction) → begins_since t ts ≡ true → ((node : Committed) → Contains (nodes_from number n ts) node → Contains all node) → AllByRecursion (IsSince all t) (nodes_from number n ts)

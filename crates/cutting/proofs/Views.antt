@@ -1,5 +1,5 @@
 -- Views of slices and of vectors.
-use Rattle.std.proofs.Common.{◌≡◌, ◌⊎◌, ℕ, zero, suc, ◌+◌, ◌<◌, Bool, true, false, eqb, eqb-true, inl, inr, IsTrue, ◌≤◌, List, [], ◌∷◌, ◌++◌, length, map, refl, sym, ap, ◌∙◌, subst, Option, Some, None, arith, get_or}
+use Rattle.std.proofs.Common.{◌≡◌, ◌⊎◌, ℕ, zero, suc, ◌+◌, ◌<◌, Bool, true, false, eqb, eqb-true, IsTrue, ◌≤◌, List, [], ◌∷◌, ◌++◌, length, map, refl, sym, ap, ◌∙◌, Some, arith, get_or}
 use Rattle.std.specs.Prelude.{take, drop, slice_get, slice_set, nat_lt, nat_le}
 use Rattle.std.proofs.lemmas.Bool.{cases_Bool}
 use Rattle.std.proofs.lemmas.List.{take_all}
@@ -7,16 +7,6 @@ use Rattle.std.specs.List.{Contains}
 use Rattle.std.proofs.lemmas.Option.{slice_get_within, get_or_from_slice_get, slice_get-get_or}
 
 -- ---- lists
-
-pub map_take : {X Y : Type 0} (f : X → Y) (n : ℕ) (xs : List X) → map f (take n xs) ≡ take n (map f xs)
-map_take f zero xs = refl
-map_take f (suc n) [] = refl
-map_take f (suc n) (x ∷ xs) = ap (λ l. f x ∷ l) (map_take f n xs)
-
-pub map_drop : {X Y : Type 0} (f : X → Y) (n : ℕ) (xs : List X) → map f (drop n xs) ≡ drop n (map f xs)
-map_drop f zero xs = refl
-map_drop f (suc n) [] = refl
-map_drop f (suc n) (x ∷ xs) = map_drop f n xs
 
 pub map_set : {X Y : Type 0} (f : X → Y) (xs : List X) (n : ℕ) (v : X) → map f (slice_set xs n v) ≡ slice_set (map f xs) n (f v)
 map_set f [] n v = refl
@@ -28,21 +18,10 @@ get_map f [] n x e = cc
 get_map f (y ∷ ys) zero x e = let same : y ≡ x = cc in ap (λ z. Some (f z)) same
 get_map f (y ∷ ys) (suc n) x e = get_map f ys n x e
 
-pub of_get_map : {X Y : Type 0} (f : X → Y) (xs : List X) (n : ℕ) (y : Y) → slice_get (map f xs) n ≡ Some y → (x : X) × (slice_get xs n ≡ Some x) × (f x ≡ y)
-of_get_map f [] n y e = cc
-of_get_map f (x ∷ xs) zero y e = let same : f x ≡ y = cc in (x, refl, same)
-of_get_map f (x ∷ xs) (suc n) y e = of_get_map f xs n y e
-
 pub get_drop : {X : Type 0} (xs : List X) (n : ℕ) (x : X) → slice_get xs n ≡ Some x → drop n xs ≡ x ∷ drop (suc n) xs
 get_drop [] n x e = cc
 get_drop (y ∷ ys) zero x e = let same : y ≡ x = cc in ap (λ z. z ∷ ys) same
 get_drop (y ∷ ys) (suc n) x e = get_drop ys n x e
-
-pub none_drop : {X : Type 0} (xs : List X) (n : ℕ) → slice_get xs n ≡ None → drop n xs ≡ []
-none_drop [] zero e = refl
-none_drop [] (suc n) e = refl
-none_drop (y ∷ ys) zero e = cc
-none_drop (y ∷ ys) (suc n) e = none_drop ys n e
 
 pub got : {X : Type 0} (xs : List X) (n : ℕ) (x : X) → slice_get xs n ≡ Some x → Contains xs x
 got xs n x e = (n, slice_get_within xs n x e, get_or_from_slice_get xs n x x e)
@@ -93,7 +72,4 @@ pub empty : (b : Bool) (n : ℕ) → b ≡ eqb n 0 → b ≡ true → n ≡ 0
 empty b n e t = eqb-true n 0 (sym e ∙ t)
 
 pub last_or_before : (k i : ℕ) → k < i + 1 → (k < i) ⊎ (k ≡ i)
-last_or_before k i lt = elim (cases_Bool (nat_lt k i)) [ inl t ↦ inl (lt_true k i t) | inr f ↦ inr (last k i f lt) ]
-  where
-    last : (a b : ℕ) → nat_lt a b ≡ false → a < b + 1 → a ≡ b
-    last a b f l = grind arith
+last_or_before k i lt = grind (arith, cases_Bool, lt_true)

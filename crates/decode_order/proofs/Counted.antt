@@ -2,7 +2,7 @@
 use Rattle.std.proofs.Common.{◌≡◌, ℕ, ◌+◌, ◌<◌, ◌≤◌, Bool, true, eqb, cond, List, [], ◌∷◌, get_or, refl, sym, ◌∙◌, subst, inl, inr, arith, eqb-true, eq-eqb, ne_eqb}
 use Rattle.std.specs.Prelude.{nat_eq, nat_lt, nat_le, ◌&&◌}
 use Rattle.std.specs.List.{list_any, list_all, count_by, range_with_len}
-use Rattle.std.proofs.lemmas.Bool.{cases_eq, cases_Bool, cond-true, cond-false, false≢true, and_from, and_parts, ltb-true, leb-true, lt-ltb, le-leb}
+use Rattle.std.proofs.lemmas.Bool.{cases_Bool, cond-true, cond-false, false≢true, and_from, and_parts, ltb-true, leb-true, lt-ltb, le-leb}
 use Rattle.std.proofs.lemmas.List.Sums.{sum_by-cons}
 use Rattle.serializability.specs.Replay.{ListsOnce}
 use Rattle.serializability.proofs.Places.{Has, Apart, Has-from_Contains, Contains-from_Has}
@@ -36,13 +36,8 @@ count_absent v (x ∷ xs) absent = count_further v x xs (λ e. absent (inl (sym 
 
 count_once : (v : ℕ) (xs : List ℕ) → Apart xs → Has v xs → count_by (nat_eq v) xs ≡ 1
 count_once v [] a h = absurd h
-count_once v (x ∷ xs) a h = elim (cases_eq v x) [
-  | inl e ↦ omega (arith, count_here v x xs e, count_absent v xs (λ k. a.0 (subst (λ u. Has u xs) e k)))
-  | inr ne ↦ elim h [
-    | inl e ↦ absurd (ne (sym e))
-    | inr k ↦ count_further v x xs ne ∙ count_once v xs a.1 k
-  ]
-]
+count_once v (x ∷ xs) a (inl e) = omega (arith, count_here v x xs (sym e), count_absent v xs (λ k. a.0 (subst (λ u. Has u xs) (sym e) k)))
+count_once v (x ∷ xs) a (inr k) = count_further v x xs (λ e. a.0 (subst (λ u. Has u xs) e k)) ∙ count_once v xs a.1 k
 
 Has-from_count : (v : ℕ) (xs : List ℕ) → 0 < count_by (nat_eq v) xs → Has v xs
 Has-from_count v xs h = elim (cases_Bool (list_any (nat_eq v) xs)) [
@@ -50,18 +45,13 @@ Has-from_count v xs h = elim (cases_Bool (list_any (nat_eq v) xs)) [
   | inr f ↦ absurd (omega (arith, h, count_absent v xs (λ k. false≢true (sym f ∙ any-from_Has v xs k))))
 ]
 
-count_pos : (v : ℕ) (xs : List ℕ) → Has v xs → 0 < count_by (nat_eq v) xs
-count_pos v [] h = absurd h
-count_pos v (x ∷ xs) h = elim (cases_eq v x) [
-  | inl e ↦ omega (arith, count_here v x xs e)
-  | inr ne ↦ elim h [
-    | inl e ↦ absurd (ne (sym e))
-    | inr k ↦ omega (arith, count_further v x xs ne, count_pos v xs k)
-  ]
-]
-
 count_grows : (v x : ℕ) (xs : List ℕ) → count_by (nat_eq v) xs ≤ count_by (nat_eq v) (x ∷ xs)
 count_grows v x xs = omega (arith, count_more v x xs)
+
+count_pos : (v : ℕ) (xs : List ℕ) → Has v xs → 0 < count_by (nat_eq v) xs
+count_pos v [] h = absurd h
+count_pos v (x ∷ xs) (inl e) = omega (arith, count_here v x xs (sym e))
+count_pos v (x ∷ xs) (inr h) = omega (arith, count_pos v xs h, count_grows v x xs)
 
 apart_from_counts : (xs : List ℕ) → ((v : ℕ) → Has v xs → count_by (nat_eq v) xs ≤ 1) → Apart xs
 apart_from_counts [] h = tt

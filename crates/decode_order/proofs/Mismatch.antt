@@ -3,8 +3,8 @@ use Rattle.std.proofs.Common.{◌≡◌, ℕ, ◌+◌, ◌<◌, Bool, true, fals
 use Rattle.std.specs.Prelude.{map}
 use Rattle.std.specs.List.{flat_map}
 use Rattle.std.specs.Option.{option_or}
-use Rattle.std.proofs.lemmas.Bool.{cases_Bool, cond-true, cond-false}
-use Rattle.std.proofs.lemmas.List.{at_drop_more, take_more}
+use Rattle.std.proofs.lemmas.Bool.{cases_Bool, cond-true}
+use Rattle.std.proofs.lemmas.List.{at_drop_more, map-append, take_more}
 use Rattle.serializability.specs.declared.event.Event.{Event}
 use Rattle.serializability.specs.declared.event.Event.TheVariants.{Read, Write}
 use Rattle.serializability.specs.Replay.{Store, empty, after, Meets}
@@ -45,14 +45,10 @@ ops-placed : (v k : ℕ) (ops : List Event) → ops_of (placed_from v k ops) ≡
 ops-placed v k [] = refl
 ops-placed v k (op ∷ ops) = ap (λ l. op ∷ l) (ops-placed v (k + 1) ops)
 
-ops-append : (a b : List PlacedOp) → ops_of (a ++ b) ≡ ops_of a ++ ops_of b
-ops-append [] b = refl
-ops-append (p ∷ a) b = ap (λ l. p.op ∷ l) (ops-append a b)
-
 pub ops-in_replay : (ops : ℕ → List Event) (order : List ℕ) → ops_of (in_replay ops order) ≡ flat_map ops order
 ops-in_replay ops [] = refl
 ops-in_replay ops (v ∷ order) =
-    ops-append (placed_from v 1 (ops v)) (in_replay ops order)
+    map-append (λ (p : PlacedOp). p.op) (placed_from v 1 (ops v)) (in_replay ops order)
     ∙ ap (λ l. l ++ ops_of (in_replay ops order)) (ops-placed v 1 (ops v))
     ∙ ap (λ l. ops v ++ l) (ops-in_replay ops order)
 
@@ -60,19 +56,11 @@ ops-in_replay ops (v ∷ order) =
 mismatch-met : (store : Store) (p : PlacedOp) (ps : List PlacedOp) → meets store p.op ≡ true → first_mismatch store (p ∷ ps) ≡ first_mismatch (after store (p.op ∷ [])) ps
 mismatch-met store p ps t = cond-true (meets store p.op) (first_mismatch (after store (p.op ∷ [])) ps) (Some (p.node, p.number)) t
 
-mismatch-here : (store : Store) (p : PlacedOp) (ps : List PlacedOp) → meets store p.op ≡ false → first_mismatch store (p ∷ ps) ≡ Some (p.node, p.number)
-mismatch-here store p ps f = cond-false (meets store p.op) (first_mismatch (after store (p.op ∷ [])) ps) (Some (p.node, p.number)) f
-
 mismatch-append : (store : Store) (a b : List PlacedOp) → first_mismatch store (a ++ b) ≡ option_or (first_mismatch store a) (first_mismatch (after store (ops_of a)) b)
 mismatch-append store [] b = refl
 mismatch-append store (p ∷ a) b = elim (cases_Bool (meets store p.op)) [
-  | inl t ↦
-      mismatch-met store p (a ++ b) t ∙ mismatch-append (after store (p.op ∷ [])) a b
-      ∙ ap (λ s. option_or (first_mismatch (after store (p.op ∷ [])) a) (first_mismatch s b)) (sym (after-append store (p.op ∷ []) (ops_of a)))
-      ∙ ap (λ o. option_or o (first_mismatch (after store (ops_of (p ∷ a))) b)) (sym (mismatch-met store p a t))
-  | inr f ↦
-      mismatch-here store p (a ++ b) f
-      ∙ ap (λ o. option_or o (first_mismatch (after store (ops_of (p ∷ a))) b)) (sym (mismatch-here store p a f))
+  | inl t ↦ rw (t, after-append store (p.op ∷ []) (ops_of a)) (mismatch-append (after store (p.op ∷ [])) a b)
+  | inr f ↦ rw f refl
 ]
 
 -- the operations of one node so far
@@ -82,9 +70,6 @@ pub record ReplayedSoFar (old : List ℕ) (events : List Event) (i : ℕ) (store
   pub rest : (v : ℕ) → first_mismatch (held old) (placed_from v 1 events) ≡ first_mismatch (held store) (placed_from v (i + 1) (drop i events))
 
 -- one operation more
-rest_here : (events : List Event) (i : ℕ) (d : Event) (v : ℕ) → i < length events → placed_from v (i + 1) (drop i events) ≡ record { node = v; number = i + 1; op = get_or events i d } ∷ placed_from v (i + 1 + 1) (drop (i + 1) events)
-rest_here events i d v lt = at_drop_more (placed_from v (i + 1)) events i d lt
-
 pub replayed_more : (old : List ℕ) (events : List Event) (i : ℕ) (store new : List ℕ) (d : Event) → i < length events → length new ≡ length store → meets (held store) (get_or events i d) ≡ true → held new ≡ after (held store) (get_or events i d ∷ []) → ReplayedSoFar old events i store → ReplayedSoFar old events (i + 1) new
 replayed_more old events i store new d lt long t h r =
     let op = get_or events i d in
@@ -92,7 +77,7 @@ replayed_more old events i store new d lt long t h r =
       room = long ∙ r.room;
       holds = h ∙ ap (λ s. after s (op ∷ [])) r.holds ∙ sym (after-append (held old) (take i events) (op ∷ []))
           ∙ ap (after (held old)) (sym (take_more events i d lt));
-      rest = λ v. r.rest v ∙ ap (first_mismatch (held store)) (rest_here events i d v lt)
+      rest = λ v. r.rest v ∙ ap (first_mismatch (held store)) (at_drop_more (placed_from v (i + 1)) events i d lt)
           ∙ mismatch-met (held store) (record { node = v; number = i + 1; op = op }) (placed_from v (i + 1 + 1) (drop (i + 1) events)) t
           ∙ ap (λ s. first_mismatch s (placed_from v (i + 1 + 1) (drop (i + 1) events))) (sym h);
     }

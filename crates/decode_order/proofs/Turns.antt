@@ -7,10 +7,11 @@ use Rattle.serializability.specs.Log.{Log}
 use Rattle.serializability.specs.Reads.{IsNumbered}
 use Rattle.serializability.specs.Replay.{ListsOnce}
 use Rattle.serializability.proofs.Places.{Has, Apart, Has-from_Contains, Has-append_front, Has-append_back, Has-append_cases, Apart-not_both}
+use Rattle.serializability.proofs.Sources.{any_from}
 use Rattle.serializability.proofs.Serial.{node_of}
 use Rattle.decode_order.specs.Replaying.{first_early}
 use Rattle.serializability.proofs.Listed.{Has_get, once_apart}
-use Rattle.decode_order.proofs.Early.{is_earlier, earlier_from, early_further}
+use Rattle.decode_order.proofs.Early.{is_earlier, earlier_both, early_further}
 use Rattle.decode_order.proofs.Marks.{Marked, marked_more}
 use Rattle.serializability.proofs.Fronts.{front_more, rest_from, around}
 
@@ -91,5 +92,5 @@ early_here log order i v marks t s lo same new =
       | inr k ↦ elim k [ inl e ↦ absurd (omega (arith, e, lo)) | inr b ↦ b ]
     ] in
     s.rest ∙ ap (first_early log.session) (rest_from order i v t.there t.here)
-    ∙ cond-true (list_any (is_earlier log.session v) (drop (i + 1) order)) (Some v) (first_early log.session (drop (i + 1) order))
-    (earlier_from log.session v (v - 1) (drop (i + 1) order) behind (omega arith) same)
+    ∙ cond-true (list_any (λ u. is_earlier log.session u v) (drop (i + 1) order)) (Some v) (first_early log.session (drop (i + 1) order))
+    (any_from (λ u. is_earlier log.session u v) (drop (i + 1) order) (v - 1) (earlier_both log.session (v - 1) v (omega arith) same) behind)

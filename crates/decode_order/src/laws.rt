@@ -13,6 +13,7 @@ pub fn no_fault_exactly_where_serial()
 {}
 
 /// A satisfying assignment stands for no two orders.
+#[tactic(auto, using(crate::proofs::Placing::decoded_once))]
 pub fn one_order_where_satisfied()
     ensures { (f : Cnf) → IsFormula f → (values : List Bool) → Satisfies values f → (a b : List ℕ) →
         IsDecoded f.nodes (before f values) a → IsDecoded f.nodes (before f values) b → a ≡ b }

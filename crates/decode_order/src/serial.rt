@@ -32,6 +32,7 @@ pub fn replay(alloc: Global, history: &History, order: &NodeLine) -> Result<(), 
 }
 
 /// What is wrong with an order.
+#[tactic(auto, using(crate::proofs::Whole::fault_once, crate::proofs::Whole::fault_not_once))]
 fn first_fault(
     alloc: Global,
     history: &History,

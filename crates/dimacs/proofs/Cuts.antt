@@ -31,7 +31,7 @@ onto_parts : (x : List ℕ) (parts : List (List ℕ)) → 0 < length parts → l
 onto_parts x [] h = absurd (omega arith)
 onto_parts x (y ∷ more) h = refl
 
-abbrev is_lf : ℕ → Bool
+abbrev pub is_lf : ℕ → Bool
 is_lf b = b == 10
 
 pub lines_some : (text : List ℕ) (i : ℕ) → Some i ≡ position is_lf text → lines_of text ≡ strip_carriage_return (take i text) ∷ lines_of (drop (i + 1) text)

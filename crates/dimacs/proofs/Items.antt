@@ -1,7 +1,7 @@
 -- What is known after one more item, and the fault of an item.
 use Rattle.std.proofs.Common.{◌≡◌, ℕ, zero, suc, ◌+◌, ◌-◌, ◌^◌, ◌<◌, ◌≤◌, nat_lt, Bool, true, false, not, cond, List, [], ◌∷◌, ◌++◌, length, get_or, Option, Some, None, Ok, Err, refl, sym, ap, ◌∙◌, arith, append-nil, set, length-set, ⊎_elim, replicate}
 use Rattle.std.specs.Str.{bytes_eq}
-use Rattle.std.specs.Prelude.{codes, map, filter_map, slice_get, is_some, ◌==◌, ◌||◌, ◌&&◌}
+use Rattle.std.specs.Prelude.{codes, map, filter_map, slice_get, is_some, ◌==◌, ◌||◌}
 use Rattle.std.specs.List.{range_with_len, cons_option}
 use Rattle.std.specs.Option.{option_or}
 use Rattle.std.proofs.lemmas.Bool.{eq-eqb, ne_eqb, lt-ltb, le-ltb, ltb-false, cases_eq}
@@ -15,6 +15,7 @@ use Rattle.dimacs.specs.declared.answer.AnswerFault.{AnswerFault}
 use Rattle.dimacs.specs.declared.answer.AnswerFault.TheVariants.{BadLine, TwoStatus, OutOfRange, BothSigns}
 use Rattle.dimacs.specs.declared.reading.Reading.{Reading}
 use Rattle.std.specs.Str.Parse.{digits_value}
+use Rattle.std.proofs.Math.Bool.{and-false}
 use Rattle.dimacs.specs.Words.{Item, Claim, Given, Zero, Broken, is_blank, words, is_number, signed_item, line_items}
 use Rattle.dimacs.specs.Answer.{claim_of, status, is_given, mentions, number_of, is_closed, item_fault, line_fault}
 use Rattle.dimacs.specs.Reading.{signs, marks, Knows, Takes}
@@ -75,13 +76,9 @@ same_sign : (p : Bool) (v : ℕ) → is_given (literal p v) (Given (literal p v)
 same_sign true v = rw (eq-eqb v v refl) refl
 same_sign false v = rw (eq-eqb v v refl) refl
 
-pub and_false : (b : Bool) → (b && false) ≡ false
-and_false true = refl
-and_false false = refl
-
 other_sign : (p : Bool) (w v : ℕ) → is_given (literal (not p) w) (Given (literal p v)) ≡ false
-other_sign true w v = and_false (w == v)
-other_sign false w v = and_false (w == v)
+other_sign true w v = and-false (w == v)
+other_sign false w v = and-false (w == v)
 
 pub other_variable : (p q : Bool) (w v : ℕ) → (w ≡ v → ⊥) → is_given (literal p w) (Given (literal q v)) ≡ false
 other_variable p q w v ne = rw (ne_eqb w v ne) refl

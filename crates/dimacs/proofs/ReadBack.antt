@@ -1,5 +1,6 @@
 -- The answer that lists an assignment is read back.
 use Rattle.std.proofs.Common.{◌≡◌, ℕ, zero, suc, ◌+◌, ◌-◌, ◌^◌, ◌<◌, ◌≤◌, Bool, true, false, not, cond, List, [], ◌∷◌, ◌++◌, length, get_or, Some, None, refl, ap, ◌∙◌, arith, append-nil, length-append}
+use Rattle.order_cnf.specs.Clauses.{IsWithin}
 use Rattle.std.specs.Prelude.{codes, decimal, filter, map, nat_lt, ◌==◌, ◌||◌}
 use Rattle.std.specs.Bool.{beq}
 use Rattle.std.specs.List.{All, AllByRecursion, flat_map, range_with_len, slice_split}
@@ -10,6 +11,7 @@ use Rattle.std.proofs.lemmas.Fmt.{decimal_nonempty, first_decimal, digits_decima
 use Rattle.std.proofs.lemmas.List.{get_or_at, same_lists}
 use Rattle.std.proofs.lemmas.List.FromFn.{length-map-range_with_len, get_or-map-range_with_len}
 use Rattle.std.proofs.lemmas.List.Splits.{slice_split_at}
+use Rattle.std.proofs.Math.Bool.{and-false}
 use Rattle.serializability.specs.declared.literal.Literal.{Literal}
 use Rattle.dimacs.specs.declared.status.Status.TheVariants.{Satisfiable}
 use Rattle.dimacs.specs.declared.answer.AnswerFault.TheVariants.{Unclosed}
@@ -18,9 +20,10 @@ use Rattle.dimacs.specs.Words.{Item, Claim, Given, Zero, is_blank, is_number, si
 use Rattle.dimacs.specs.Answer.{items_of, status, mentions, is_closed, item_fault, line_fault, first_fault, answer_fault, assignment, assignment_of, status_of}
 use Rattle.dimacs.specs.Models.{literals_of, model_text}
 use Rattle.session_log.proofs.Digits.{own}
-use Rattle.dimacs.proofs.Items.{literal, and_false, pushed_mention, other_variable, numbered_closed}
+use Rattle.dimacs.proofs.Items.{literal, pushed_mention, other_variable, numbered_closed}
 use Rattle.dimacs.proofs.Takings.{late_fault}
-use Rattle.dimacs.proofs.Texts.{Avoids, IsIn, body, word, literal_avoids, zero_avoids, body_avoids_lf, words_of_body, clause_text-body}
+use Rattle.dimacs.proofs.Texts.{Avoids, body, word, literal_avoids, zero_avoids, body_avoids_lf, words_of_body, clause_text-body}
+use Rattle.dimacs.proofs.Cuts.{is_lf}
 
 -- ---- words
 digits_item : (p : Bool) (n : ℕ) → 0 < n → n < 2 ^ 64 → signed_item p (decimal n) ≡ Given (literal p n)
@@ -52,13 +55,13 @@ has_bytes w = nat_lt 0 (length w)
 abbrev said : List Literal → List Item
 said c = map (λ l. Given l) c ++ Zero ∷ []
 
-kept_words : (v : ℕ) (c : List Literal) → v < 2 ^ 64 → AllByRecursion (IsIn v) c → filter has_bytes (map literal_text c ++ (48 ∷ []) ∷ []) ≡ map literal_text c ++ (48 ∷ []) ∷ []
+kept_words : (v : ℕ) (c : List Literal) → v < 2 ^ 64 → AllByRecursion (IsWithin v) c → filter has_bytes (map literal_text c ++ (48 ∷ []) ∷ []) ≡ map literal_text c ++ (48 ∷ []) ∷ []
 kept_words v [] small h = refl
 kept_words v (l ∷ c) small h =
     let here = word_has_bytes l.positive l.variable (omega (arith, h.0.1)) in
     rw here (ap (λ ws. literal_text l ∷ ws) (kept_words v c small h.1))
 
-said_words : (v : ℕ) (c : List Literal) → v < 2 ^ 64 → AllByRecursion (IsIn v) c → map number_item (map literal_text c ++ (48 ∷ []) ∷ []) ≡ said c
+said_words : (v : ℕ) (c : List Literal) → v < 2 ^ 64 → AllByRecursion (IsWithin v) c → map number_item (map literal_text c ++ (48 ∷ []) ∷ []) ≡ said c
 said_words v [] small h = ap (λ i. i ∷ []) zero_word
 said_words v (l ∷ c) small h =
     let here : number_item (literal_text l) ≡ Given l = signed_word l.positive l.variable h.0.0 (omega (arith, h.0.1)) in
@@ -74,7 +77,7 @@ value_words c =
     (λ l. blankless (literal_text l) (literal_avoids 32 l (omega arith)) (literal_avoids 9 l (omega arith)))
     (blankless (48 ∷ []) (zero_avoids 32 (omega arith)) (zero_avoids 9 (omega arith))) c
 
-value_items : (v : ℕ) (c : List Literal) → v < 2 ^ 64 → AllByRecursion (IsIn v) c → line_items (118 ∷ 32 ∷ body c) ≡ said c
+value_items : (v : ℕ) (c : List Literal) → v < 2 ^ 64 → AllByRecursion (IsWithin v) c → line_items (118 ∷ 32 ∷ body c) ≡ said c
 unfolding line_items words
 value_items v c small h =
     ap (λ ws. map number_item (filter has_bytes ws)) (value_words c) ∙ ap (map number_item) (kept_words v c small h) ∙ said_words v c small h
@@ -92,9 +95,6 @@ no_return c =
     let plain : (get_or (front ++ 48 ∷ []) (length (front ++ 48 ∷ []) - 1) 0 == 13) ≡ false = ap (λ b. b == 13) last in
     rw plain refl
 
-abbrev is_lf : ℕ → Bool
-is_lf b = b == 10
-
 model_lines : (values : List Bool) → lines_of (model_text values) ≡ codes "s SATISFIABLE" ∷ (118 ∷ 32 ∷ body (literals_of 1 values)) ∷ []
 unfolding lines_of model_text
 model_lines values =
@@ -103,7 +103,7 @@ model_lines values =
     rw last (ap (λ l. codes "s SATISFIABLE" ∷ l ∷ []) (no_return c))
 
 -- ---- the literals of an assignment
-literals_in : (v n : ℕ) (values : List Bool) → 0 < n → n + length values ≤ v + 1 → AllByRecursion (IsIn v) (literals_of n values)
+literals_in : (v n : ℕ) (values : List Bool) → 0 < n → n + length values ≤ v + 1 → AllByRecursion (IsWithin v) (literals_of n values)
 literals_in v n [] some h = tt
 literals_in v n (b ∷ values) some h = ((some, omega arith), literals_in v (n + 1) values (omega arith) (omega arith))
 
@@ -178,7 +178,7 @@ pub model_fault : (values : List Bool) → length (model_text values) ≤ 2 ^ 26
 model_fault values h =
     let small = short_model values h in
     late_fault (length values) (model_text values) h (lines_fault values small)
-    ∙ rw (model_closed values small, model_status values small) (ap (λ b. cond b (Some Unclosed) None) (and_false (nat_lt 0 (length values))))
+    ∙ rw (model_closed values small, model_status values small) (ap (λ b. cond b (Some Unclosed) None) (and-false (nat_lt 0 (length values))))
 
 pub model_claims : (values : List Bool) → length (model_text values) ≤ 2 ^ 26 → status_of (model_text values) ≡ Some Satisfiable
 model_claims values h = model_status values (short_model values h)

@@ -1,8 +1,9 @@
 -- A whole text, as its bytes go out piece by piece.
-use Rattle.std.proofs.Common.{◌≡◌, ℕ, ◌+◌, ◌-◌, ◌≤◌, List, [], ◌∷◌, ◌++◌, length, take, drop, Option, None, Some, Ok, Err, refl, sym, ap, ◌∙◌, subst, arith, take-add, drop-drop, take_all, append_assoc, append-nil, length-append, length-drop}
+use Rattle.std.proofs.Common.{◌≡◌, ℕ, ◌+◌, ◌-◌, ◌≤◌, List, [], ◌∷◌, ◌++◌, length, take, drop, Option, Ok, Err, refl, sym, ap, ◌∙◌, subst, arith, take-add, drop-drop, take_all, append_assoc, length-append, length-drop}
 use Rattle.std.specs.Io.KnownBytes.{Appends}
 use Rattle.std.proofs.lemmas.List.{drop_at, take-append-le}
 use Rattle.std.specs.List.{flat_map}
+use Rattle.std.proofs.KnownBytes.{Appends-trans, Appends-nil}
 use Rattle.serializability.specs.declared.literal.Literal.{Literal}
 use Rattle.serializability.specs.Formula.{Cnf}
 use Rattle.dimacs.specs.Text.{header, clause_text, text_of}
@@ -10,14 +11,9 @@ use Rattle.dimacs.proofs.Texts.{text-parts}
 use Rattle.dimacs.specs.declared.fault.WriteFault.{WriteFault}
 use Rattle.dimacs.specs.Sinks.{WritesFrom}
 use Rattle.dimacs.specs.Sending.{IsUnderWay, IsCutOff}
-use Rattle.dimacs.proofs.Pieces.{appends_more}
-
-appends_none : (b : Option (List ℕ)) → Appends b b []
-appends_none None = tt
-appends_none (Some xs) = sym (append-nil xs)
 
 at_start : (b : Option (List ℕ)) (piece rest whole : List ℕ) → whole ≡ piece ++ rest → IsUnderWay b b 0 piece rest whole
-at_start b piece rest whole e = record { within = omega arith; out = appends_none b; waits = e }
+at_start b piece rest whole e = record { within = omega arith; out = Appends-nil b; waits = e }
 
 with_more : (a b : Option (List ℕ)) (written : ℕ) (piece more rest whole : List ℕ) → IsUnderWay a b written piece (more ++ rest) whole → IsUnderWay a b written (piece ++ more) rest whole
 with_more a b written piece more rest whole h =
@@ -41,7 +37,7 @@ flushed a b d written piece rest whole n h w =
     ap (λ k. drop k whole) (sym count) ∙ sym (drop-drop (length piece) written whole) ∙ ap (drop (length piece)) h.waits ∙ drop_at piece rest (length piece) refl in
     record {
       within = omega (arith, room_left written piece rest whole h.within h.waits, w.ok.0);
-      out = subst (Appends a d) went (appends_more a b d (take written whole) piece h.out w.ok.1);
+      out = subst (Appends a d) went (Appends-trans a b d (take written whole) piece h.out w.ok.1);
       waits = left;
     }
 
@@ -53,7 +49,7 @@ cut_off a b d written piece rest whole e h w =
     let went : take written whole ++ take k piece ≡ take e.written whole = next_bytes written k piece rest whole h.waits small ∙ ap (λ j. take j whole) count in
     record {
       within = omega (arith, room_left written piece rest whole h.within h.waits, w.err.1);
-      out = subst (Appends a d) went (appends_more a b d (take written whole) (take k piece) h.out w.err.2);
+      out = subst (Appends a d) went (Appends-trans a b d (take written whole) (take k piece) h.out w.err.2);
     }
 
 pub all_out : (a b : Option (List ℕ)) (n : ℕ) (piece whole : List ℕ) → piece ≡ [] → IsUnderWay a b n piece [] whole → Appends a b whole

@@ -10,7 +10,7 @@ use Rattle.std.proofs.lemmas.List.Sums.{count_by-le-length}
 use Rattle.dimacs.specs.declared.answer.AnswerFault.{AnswerFault}
 use Rattle.dimacs.specs.declared.reading.Reading.{Reading}
 use Rattle.dimacs.specs.Words.{Item, number_item, lines_of, line_items}
-use Rattle.dimacs.specs.declared.answer.AnswerFault.TheVariants.{BadLine, TwoStatus, NoStatus, OutOfRange, BothSigns, Unclosed, Memory, TooLong}
+use Rattle.dimacs.specs.declared.answer.AnswerFault.TheVariants.{Memory, TooLong}
 use Rattle.dimacs.specs.declared.answer.SolverAnswer.{SolverAnswer}
 use Rattle.dimacs.specs.Answer.{line_fault, first_fault, items_of, item_fault, end_fault, is_closed, status, answer_fault, StandsFor, IsAnswer, IsFault}
 use Rattle.dimacs.specs.Reading.{Knows, Takes}
@@ -33,9 +33,6 @@ pub record IsAmid (vars : ℕ) (before : List Item) (line : ℕ) (all rest : Lis
   pub split : all ≡ taken ++ rest
   pub sound : line_fault vars before line taken ≡ None
   pub known : Knows vars (before ++ taken) reading
-
-pub amid_none : (vars : ℕ) (before : List Item) (line : ℕ) (all : List Item) (r : Reading) → Knows vars before r → IsAmid vars before line all all r
-amid_none vars before line all r k = record { taken = []; split = refl; sound = refl; known = subst (λ l. Knows vars l r) (sym (append-nil before)) k }
 
 -- one more of the words
 pub amid_more : (vars : ℕ) (before : List Item) (line : ℕ) (all : List Item) (left : List (List ℕ)) (word : List ℕ) (others : List (List ℕ)) (old new : Reading) → left ≡ word ∷ others → (h : IsAmid vars before line all (map number_item left) old) → Takes vars (before ++ h.taken) line (number_item word ∷ []) (Ok tt) new → IsAmid vars before line all (map number_item others) new
@@ -119,14 +116,8 @@ lines_bound text =
 
 -- ---- a whole text
 is_fault : (f : AnswerFault) (found : Option AnswerFault) → found ≡ Some f → IsFault f found
-is_fault (BadLine n) found e = e
-is_fault (TwoStatus n) found e = e
-is_fault NoStatus found e = e
-is_fault (OutOfRange n) found e = e
-is_fault (BothSigns n) found e = e
-is_fault Unclosed found e = e
 is_fault Memory found e = tt
-is_fault TooLong found e = e
+is_fault _ found e = e
 
 -- the fault of a text that is not too long, where its lines have none
 pub late_fault : (vars : ℕ) (text : List ℕ) → length text ≤ 2 ^ 26 → first_fault vars [] 1 (lines_of text) ≡ None → answer_fault vars text ≡ end_fault vars (is_closed (items_of text)) (status (items_of text))

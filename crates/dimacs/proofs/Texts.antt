@@ -1,5 +1,6 @@
 -- What a text says of its formula: its bytes are cut at spaces and line feeds.
-use Rattle.std.proofs.Common.{◌≡◌, ℕ, zero, suc, ◌+◌, ◌/◌, ◌%◌, ◌^◌, ◌<◌, ◌≤◌, Bool, true, false, cond, get_or, List, [], ◌∷◌, ◌++◌, length, refl, sym, ap, ◌∙◌, subst, arith, append_assoc}
+use Rattle.std.proofs.Common.{◌≡◌, ℕ, zero, suc, ◌+◌, ◌/◌, ◌%◌, ◌^◌, ◌<◌, Bool, true, false, cond, get_or, List, [], ◌∷◌, ◌++◌, length, refl, sym, ap, ◌∙◌, subst, arith, append_assoc}
+use Rattle.order_cnf.specs.Clauses.{IsWithin}
 use Rattle.std.specs.Prelude.{decimal, map, codes, ◌==◌}
 use Rattle.std.specs.Fmt.{digits, digits_onto, digit_glyph}
 use Rattle.std.specs.List.{All, AllByRecursion, flat_map, slice_split}
@@ -11,6 +12,7 @@ use Rattle.std.proofs.lemmas.Fmt.{decimal_injective, first_decimal}
 use Rattle.serializability.specs.declared.literal.Literal.{Literal}
 use Rattle.serializability.specs.Formula.{Cnf, IsInRange}
 use Rattle.dimacs.specs.Text.{literal_text, clause_text, header, text_of}
+use Rattle.dimacs.proofs.Cuts.{is_lf}
 
 -- ---- bytes that a list has not
 abbrev pub Avoids : ℕ → List ℕ → Type 0
@@ -56,11 +58,7 @@ signed_apart true false m n a b c d e = absurd (no_minus n m a b (sym e))
 signed_apart false true m n a b c d e = absurd (no_minus m n c d e)
 signed_apart false false m n a b c d e = (let digits : decimal m ≡ decimal n = cc in decimal_injective m n b d digits, refl)
 
--- a literal of a formula of this many variables
-abbrev pub IsIn : ℕ → Literal → Type 0
-IsIn variables l = (0 < l.variable) × (l.variable ≤ variables)
-
-literal_apart : (v w : ℕ) (l m : Literal) → v < 2 ^ 64 → w < 2 ^ 64 → IsIn v l → IsIn w m → literal_text l ≡ literal_text m → l ≡ m
+literal_apart : (v w : ℕ) (l m : Literal) → v < 2 ^ 64 → w < 2 ^ 64 → IsWithin v l → IsWithin w m → literal_text l ≡ literal_text m → l ≡ m
 literal_apart v w l m a b h k e =
     let parts = signed_apart l.positive m.positive l.variable m.variable h.0 (omega arith) k.0 (omega arith) e in
     same_literal l m parts.0 parts.1
@@ -101,9 +99,6 @@ body_avoids_lf (l ∷ c) =
 abbrev is_space : ℕ → Bool
 is_space b = b == 32
 
-abbrev is_lf : ℕ → Bool
-is_lf b = b == 10
-
 -- the words, where a space parts them, and no byte of theirs does
 pub words_of_body : (parts : ℕ → Bool) → parts 32 ≡ true → ((l : Literal) → All (λ b. parts b ≡ false) (literal_text l)) → All (λ b. parts b ≡ false) (48 ∷ []) → (c : List Literal) → slice_split parts (body c) ≡ map literal_text c ++ (48 ∷ []) ∷ []
 words_of_body parts space literals none [] = slice_split_none parts (48 ∷ []) none
@@ -115,10 +110,10 @@ words_of_body parts space literals none (l ∷ c) =
 spaced : (c : List Literal) → slice_split is_space (body c) ≡ map literal_text c ++ (48 ∷ []) ∷ []
 spaced c = words_of_body is_space refl (λ l. literal_avoids 32 l (omega arith)) (zero_avoids 32 (omega arith)) c
 
-body_apart : (v w : ℕ) → v < 2 ^ 64 → w < 2 ^ 64 → (c d : List Literal) → AllByRecursion (IsIn v) c → AllByRecursion (IsIn w) d → body c ≡ body d → c ≡ d
+body_apart : (v w : ℕ) → v < 2 ^ 64 → w < 2 ^ 64 → (c d : List Literal) → AllByRecursion (IsWithin v) c → AllByRecursion (IsWithin w) d → body c ≡ body d → c ≡ d
 body_apart v w a b c d h k e =
     let words = sym (spaced c) ∙ ap (slice_split is_space) e ∙ spaced d in
-    map_apart literal_text (IsIn v) (IsIn w) (λ l m p q t. literal_apart v w l m a b p q t) c d h k
+    map_apart literal_text (IsWithin v) (IsWithin w) (λ l m p q t. literal_apart v w l m a b p q t) c d h k
     (append_cancel_right (map literal_text c) (map literal_text d) ((48 ∷ []) ∷ []) words)
 
 -- ---- all clauses
@@ -136,10 +131,10 @@ bodies_of_lines (c ∷ cs) =
     ∙ slice_split_at is_lf (body c) 10 (lines cs) (body_avoids_lf c) refl
     ∙ ap (λ ls. body c ∷ ls) (bodies_of_lines cs)
 
-lines_apart : (v w : ℕ) → v < 2 ^ 64 → w < 2 ^ 64 → (cs ds : List (List Literal)) → AllByRecursion (AllByRecursion (IsIn v)) cs → AllByRecursion (AllByRecursion (IsIn w)) ds → lines cs ≡ lines ds → cs ≡ ds
+lines_apart : (v w : ℕ) → v < 2 ^ 64 → w < 2 ^ 64 → (cs ds : List (List Literal)) → AllByRecursion (AllByRecursion (IsWithin v)) cs → AllByRecursion (AllByRecursion (IsWithin w)) ds → lines cs ≡ lines ds → cs ≡ ds
 lines_apart v w a b cs ds h k e =
     let bodies = sym (bodies_of_lines cs) ∙ ap (slice_split is_lf) e ∙ bodies_of_lines ds in
-    map_apart body (AllByRecursion (IsIn v)) (AllByRecursion (IsIn w)) (body_apart v w a b) cs ds h k
+    map_apart body (AllByRecursion (IsWithin v)) (AllByRecursion (IsWithin w)) (body_apart v w a b) cs ds h k
     (append_cancel_right (map body cs) (map body ds) ([] ∷ []) bodies)
 
 -- ---- the first line: its numbers end at a space and at the line feed

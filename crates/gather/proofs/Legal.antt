@@ -1,18 +1,16 @@
 -- What legal histories of the machine keep.
-use Rattle.std.proofs.Common.{◌≡◌, ◌≢◌, ⊎_elim, ℕ, zero, suc, Bool, true, false, ◌&&◌, ◌==◌, List, [], ◌∷◌, Option, Some, None, refl, sym, ap, ◌∙◌, subst}
+use Rattle.std.proofs.Common.{◌≡◌, ◌≢◌, ⊎_elim, ℕ, zero, suc, Bool, true, false, ◌&&◌, List, [], ◌∷◌, Option, Some, refl, sym, ap, ◌∙◌, subst, arith}
 use Rattle.std.specs.Prelude.{slice_get, slice_set, if◌then◌else◌}
-use Rattle.std.specs.Str.{bytes_eq}
 use Rattle.std.proofs.lemmas.Bool.{eqb-true}
 use Rattle.std.proofs.lemmas.Slice.Eq.{bytes_eq-Decides}
-use Rattle.session_log.specs.Blocks.{blocks_of, block_text}
+use Rattle.session_log.specs.Blocks.{blocks_of}
 use Rattle.session_log.specs.declared.block.Block.{Block as Place}
 use Rattle.session_log.specs.declared.version.Version.{Version}
-use Rattle.session_log.specs.declared.version.Version.TheVariants.{One, Two, Three}
 use Rattle.desk.specs.declared.history.Entry.{Entry}
 use Rattle.desk.specs.History.{entry, IsLegal}
 use Rattle.desk.proofs.Tied.{get_set}
 use Rattle.gather.specs.Pieces.{Piece, IsPiece, same_version, is_piece_of, is_piece}
-use Rattle.gather.specs.Steps.{State, is_kept, is_held_by, put_reply, next_of, reply_of}
+use Rattle.gather.specs.Steps.{State, put_reply, next_of, reply_of}
 use Rattle.gather.specs.Kept.{WasKept, AreKept}
 use Rattle.gather.specs.declared.messages.BlockState.{BlockState}
 use Rattle.gather.specs.declared.messages.GatherEvent.{GatherEvent}
@@ -26,45 +24,21 @@ log_same s seat (Put k p) = refl
 log_same s seat Release = refl
 
 by_tests : (kept held fits : Bool) → (if kept then Double else (if held && fits then Kept else Stranger)) ≡ Kept → fits ≡ true
-by_tests true held fits e = absurd (cc)
-by_tests false false fits e = absurd (cc)
-by_tests false true true e = refl
-by_tests false true false e = absurd (cc)
+by_tests v0 held fits e = grind arith
 
 -- only a piece of the block is kept
 kept_fits : (seat : ℕ) (fits : Bool) (m : Option BlockState) → put_reply seat fits m ≡ Kept → fits ≡ true
-kept_fits seat fits None e = absurd (cc)
-kept_fits seat fits (Some m) e = by_tests (is_kept m) (is_held_by seat m) fits e
+kept_fits seat fits v2 e = grind (arith, by_tests)
 
 both : (a b : Bool) → (a && b) ≡ true → (a ≡ true) × (b ≡ true)
 both true b e = (refl, e)
 both false b e = absurd (cc)
 
 version_is : (v w : Version) → same_version v w ≡ true → v ≡ w
-version_is One One e = refl
-version_is One Two e = absurd (cc)
-version_is One Three e = absurd (cc)
-version_is Two One e = absurd (cc)
-version_is Two Two e = refl
-version_is Two Three e = absurd (cc)
-version_is Three One e = absurd (cc)
-version_is Three Two e = absurd (cc)
-version_is Three Three e = refl
+version_is v0 v1 e = grind arith
 
 piece_of : (log : List ℕ) (k : ℕ) (p : Piece) (o : Option Place) → slice_get (blocks_of log) k ≡ o → is_piece_of log p o ≡ true → IsPiece log k p
-piece_of log k p None here e = absurd (cc)
-piece_of log k p (Some b) here e =
-    let all = both (bytes_eq p.text (block_text log b) && p.line == b.line) (same_version p.version b.version) e in
-    let t = both (bytes_eq p.text (block_text log b)) (p.line == b.line) all.0 in
-    record {
-      block = b;
-      here = here;
-      piece = record {
-        version = version_is p.version b.version all.1;
-        text = (bytes_eq-Decides p.text (block_text log b)).0 t.0;
-        line = eqb-true p.line b.line t.1;
-      };
-    }
+piece_of log k p v3 here e = grind (arith, both, version_is, bytes_eq-Decides, eqb-true)
 
 pub piece_where : (log : List ℕ) (k : ℕ) (p : Piece) → is_piece log k p ≡ true → IsPiece log k p
 piece_where log k p e = piece_of log k p (slice_get (blocks_of log) k) refl e

@@ -1,5 +1,5 @@
 -- What the pieces of a log say of the log.
-use Rattle.std.proofs.Common.{◌≡◌, ℕ, suc, ◌≤◌, length, List, [], ◌∷◌, ◌++◌, Option, Some, None, Ok, Err, map, take, drop, refl, sym, ap, ◌∙◌, subst}
+use Rattle.std.proofs.Common.{◌≡◌, ℕ, suc, ◌≤◌, length, List, [], ◌∷◌, ◌++◌, Option, Some, None, Ok, Err, map, take, drop, refl, sym, ap, ◌∙◌, subst, arith}
 use Rattle.std.specs.Prelude.{slice_get}
 use Rattle.std.specs.Option.{option_or}
 use Rattle.std.specs.List.{AllByRecursion}
@@ -12,30 +12,17 @@ use Rattle.session_log.specs.Faults.{grammar_fault, first_fault, Start, IsFault}
 use Rattle.session_log.specs.Blocks.{blocks_of, block_text, block_fault, first_of}
 use Rattle.session_log.specs.declared.block.Block.{Block}
 use Rattle.session_log.specs.declared.fault.LogFault.{LogFault}
-use Rattle.session_log.specs.declared.fault.LogFault.TheVariants as faults
 use Rattle.gather.specs.Pieces.{Piece, IsOutcome, IsRead, IsPiece}
 use Rattle.gather.proofs.Places.{contains_at, take_at, drop_at, all_push, length_push}
 use Rattle.session_log.proofs.Together.{block_version, fault_by_blocks, joined}
 
 -- this very fault
 is_fault : (f : LogFault) (whole : Option LogFault) → whole ≡ Some f → IsFault f whole
-is_fault faults.Memory whole e = tt
-is_fault (faults.BadLine k) whole e = e
-is_fault (faults.SessionTwice k) whole e = e
-is_fault (faults.OutsideTransaction k) whole e = e
-is_fault (faults.OpenTransaction k) whole e = e
-is_fault (faults.WriteZero k) whole e = e
-is_fault (faults.WriteTwice k) whole e = e
-is_fault (faults.UnknownNotLast k) whole e = e
-is_fault (faults.EndsBeforeBegin k) whole e = e
-is_fault (faults.OverLimit k) whole e = e
+is_fault v0 whole e = grind arith
 
 -- the first fault of the block, by its piece
 fault_in : (log : List ℕ) (k : ℕ) (p : Piece) (h : IsPiece log k p) → block_fault log h.block ≡ first_fault p.version p.line Start (lines p.text)
-fault_in log k p h =
-    let b = h.block in
-    ap (λ t. first_fault b.version b.line Start (lines t)) (sym h.piece.text)
-    ∙ (ap (λ n. first_fault b.version n Start (lines p.text)) (sym h.piece.line) ∙ ap (λ v. first_fault v p.line Start (lines p.text)) (sym h.piece.version))
+fault_in log k p h = grind arith
 
 -- the piece has the log's version
 version_in : (log : List ℕ) (k : ℕ) (p : Piece) → IsPiece log k p → p.version ≡ version_of log
@@ -49,9 +36,7 @@ session_of log k p s h r o =
 
 -- a fault was found in the block
 fault_of : (log : List ℕ) (k : ℕ) (p : Piece) (f : LogFault) → IsPiece log k p → IsRead p → p.outcome ≡ Err f → (b : Block) × (slice_get (blocks_of log) k ≡ Some b) × (block_fault log b ≡ Some f)
-fault_of log k p f h r o =
-    let got = subst (IsOutcome p.version p.text p.line) o r.outcome in
-    (h.block, h.here, fault_in log k p h ∙ got.0)
+fault_of log k p f h r o = grind (arith, fault_in)
 
 module _ {A B C : Type 0} (f : A → C) (g : B → C) where
   -- one more of both lists
@@ -105,16 +90,7 @@ all_read log k ss h e = joined log ss (ap (map (block_text log)) (sym (take_all 
 
 -- the same fault of another sentence
 fault_as : (f : LogFault) (o whole : Option LogFault) → (o ≡ Some f → whole ≡ Some f) → IsFault f o → IsFault f whole
-fault_as faults.Memory o whole to h = tt
-fault_as (faults.BadLine k) o whole to h = to h
-fault_as (faults.SessionTwice k) o whole to h = to h
-fault_as (faults.OutsideTransaction k) o whole to h = to h
-fault_as (faults.OpenTransaction k) o whole to h = to h
-fault_as (faults.WriteZero k) o whole to h = to h
-fault_as (faults.WriteTwice k) o whole to h = to h
-fault_as (faults.UnknownNotLast k) o whole to h = to h
-fault_as (faults.EndsBeforeBegin k) o whole to h = to h
-fault_as (faults.OverLimit k) o whole to h = to h
+fault_as v0 o whole to h = grind arith
 
 -- the size is judged first, then the grammar
 pub by_size : (f : LogFault) (size grammar : Option LogFault) → IsFault f size → IsFault f (option_or size grammar)

@@ -277,13 +277,13 @@ fn pruned<R: Threads + Wait + Clock + Sync>(
     rt: &R,
     alloc: Global,
     history: &History,
-    workers: Workers,
+    count: u8,
 ) -> io::Result<Option<Pruned>>
     requires clean { IsClean (log_of history.now) }
 {
-    match chain_polygraph(alloc, history)? {
-        Some(poly) => Ok(Some(prune(rt, alloc, poly, workers, &OpenGate)?)),
-        None => Ok(None),
+    match (Workers::new(count), chain_polygraph(alloc, history)?) {
+        (Some(workers), Some(poly)) => Ok(Some(prune(rt, alloc, poly, workers, &OpenGate)?)),
+        _ => Ok(None),
     }
 }
 
@@ -295,11 +295,8 @@ fn time_pruning<R: Print + Threads + Wait + Clock + Sync>(
 ) -> io::Result<()>
     requires clean { IsClean (log_of history.now) }
 {
-    let Some(workers) = Workers::new(count) else {
-        return Ok(());
-    };
     let start = Instant::now(rt)?;
-    match pruned(rt, alloc, history, workers)? {
+    match pruned(rt, alloc, history, count)? {
         Some(found) => tell_pruned(rt, count, &found)?,
         None => return println!(rt; "not pruned"),
     }
@@ -352,11 +349,8 @@ fn list_pruning<R: Print + Threads + Wait + Clock + Sync>(
 ) -> io::Result<()>
     requires clean { IsClean (log_of history.now) }
 {
-    let Some(workers) = Workers::new(count) else {
-        return Ok(());
-    };
     println!(rt; "workers {count}")?;
-    match pruned(rt, alloc, history, workers)? {
+    match pruned(rt, alloc, history, count)? {
         Some(found) => list_pruned(rt, &found),
         None => println!(rt; "not pruned"),
     }
@@ -386,10 +380,7 @@ fn time_check_of<R: Print + Threads + Wait + Clock + Sync>(
 ) -> io::Result<()>
     requires clean { IsClean (log_of history.now) }
 {
-    let Some(worker) = Workers::new(1) else {
-        return Ok(());
-    };
-    match pruned(rt, alloc, history, worker)? {
+    match pruned(rt, alloc, history, 1)? {
         Some(found) => time_check(rt, whole, ledger_of(&found)),
         None => Ok(()),
     }

@@ -9,6 +9,9 @@ use polygraph::{Edges, Polygraph, bipaths, order_fits};
 use session_history::History;
 use std::alloc::Global;
 use std::process::Abort;
+use std::sync::Wait;
+use std::thread::Threads;
+use std::time::Clock;
 use write_chains::chains;
 
 const TWO_CHAINS: &str = "session 1\nbegin\nw x 1\ncommit\nsession 2\nbegin\nr x 1\nw x 2\ncommit\n\
@@ -85,7 +88,13 @@ fn chains_for_their_writers(rt: HostRuntime) {
 }
 
 /// The log's bipaths have a polygraph, and its chains leave one choice.
-fn see_chains(rt: &impl Abort, alloc: Global, log: &str, one: (usize, usize), two: (usize, usize)) {
+fn see_chains<R: Threads + Wait + Clock + Abort + Sync>(
+    rt: &R,
+    alloc: Global,
+    log: &str,
+    one: (usize, usize),
+    two: (usize, usize),
+) {
     let history = clean(rt, alloc, log);
     plain(rt, alloc, &history);
     see_choice(rt, coalesced(rt, alloc, &history), one, two);

@@ -1,25 +1,20 @@
-use crate::logs::{clean, history_of};
+use crate::logs::{IN_TURN, READ_BEFORE_WRITTEN, clean, history_of};
 use crate::node::{join, node};
 use known_graph::Known;
 use serializability::NodeIx;
 use std::alloc::Global;
 use std::process::Abort;
+use std::sync::Wait;
+use std::thread::Threads;
+use std::time::Clock;
 
-/// A session whose first transaction reads what its second one writes.
-const READ_BEFORE_WRITTEN: &str = "session 1\nbegin\nr x 1\ncommit\nbegin\nw x 1\ncommit\n";
-
-/// Each of three transactions begins when the one before it has ended.
-const IN_TURN: &str =
-    "log 3\nsession 1\nbegin 1\nw x 1\ncommit 2\nsession 2\nbegin 3\nw x 2\ncommit 4\n\
-    session 3\nbegin 5\nr x 1\ncommit 6\n";
-
-/// The same, where the third begins at the moment at which the second ends.
+/// As in turn, where the third begins at the moment at which the second ends.
 const AT_ONCE: &str =
     "log 3\nsession 1\nbegin 1\nw x 1\ncommit 2\nsession 2\nbegin 3\nw x 2\ncommit 4\n\
     session 3\nbegin 4\nr x 1\ncommit 6\n";
 
 /// The arcs of a log without an anomaly.
-fn arcs(rt: &impl Abort, alloc: Global, log: &str) -> Known {
+fn arcs<R: Threads + Wait + Clock + Abort + Sync>(rt: &R, alloc: Global, log: &str) -> Known {
     Known::of(alloc, &clean(rt, alloc, log)).expect(rt, "memory")
 }
 
@@ -31,7 +26,12 @@ fn see_edges(rt: &impl Abort, alloc: Global, known: &Known, want: &[(usize, usiz
     }
 }
 
-fn see_arcs(rt: &impl Abort, alloc: Global, log: &str, want: &[(usize, usize)]) {
+fn see_arcs<R: Threads + Wait + Clock + Abort + Sync>(
+    rt: &R,
+    alloc: Global,
+    log: &str,
+    want: &[(usize, usize)],
+) {
     see_edges(rt, alloc, &arcs(rt, alloc, log), want);
 }
 

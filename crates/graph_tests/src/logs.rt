@@ -1,45 +1,45 @@
-//! Logs, read by one thread.
+//! Logs, and their histories.
 
-ghost use Rattle.std.specs.Prelude.{◌≡◌, IfOk, map};
-ghost use Rattle.std.specs.List.{AllByRecursion};
-ghost use Rattle.session_log.specs.Text.{view, IsLegal, log_text};
-ghost use Rattle.session_log.specs.Blocks.{blocks_of};
-ghost use Rattle.session_log.specs.Version.{version_of};
 ghost use Rattle.serializability.specs.Reads.{IsClean};
 ghost use Rattle.log_definitions.specs.Numbers.{log_of};
 
 use anomalies::classify;
+use cobra_formulas::read_log;
+use desk::gate::OpenGate;
+use desk::seat_no::Workers;
 use session_history::History;
-use session_log::{Block, LogFault, Session, cut, parse_block};
 use std::alloc::Global;
 use std::process::Abort;
+use std::sync::Wait;
+use std::thread::Threads;
+use std::time::Clock;
 
-fn sessions_in(alloc: Global, log: &[u8], blocks: &[Block]) -> Result<Vec<Session>, LogFault>
-    requires { blocks.now ≡ blocks_of log.now }
-    ensures legal { IfOk result (λ ss. AllByRecursion IsLegal (map view ss.items)) }
-    ensures text { IfOk result (λ ss. log.now ≡ log_text (version_of log.now) (map view ss.items)) }
-{
-    let mut sessions = Vec::with_capacity(alloc, blocks.len())?;
-    for block in blocks {
-        sessions.push(parse_block(alloc, log, block)?)?;
-    }
-    Ok(sessions)
-}
+/// A session whose first transaction reads what its second one writes.
+pub const READ_BEFORE_WRITTEN: &str = "session 1\nbegin\nr x 1\ncommit\nbegin\nw x 1\ncommit\n";
 
-fn read(alloc: Global, log: &[u8]) -> Result<History, LogFault> {
-    let (version, blocks) = cut(alloc, log)?;
-    let sessions = sessions_in(alloc, log, &blocks)?;
-    History::build(alloc, version, sessions)
+/// Each of two writers of a key has ended when the next transaction begins, which reads what the
+/// first wrote.
+pub const IN_TURN: &str =
+    "log 3\nsession 1\nbegin 1\nw x 1\ncommit 2\nsession 2\nbegin 3\nw x 2\ncommit 4\n\
+    session 3\nbegin 5\nr x 1\ncommit 6\n";
+
+pub fn workers(rt: &impl Abort, count: u8) -> Workers {
+    Workers::new(count).expect(rt, "workers")
 }
 
 /// The history of a log.
-pub fn history_of(rt: &impl Abort, alloc: Global, log: &str) -> History {
-    read(alloc, log.as_bytes()).ok().expect(rt, "a history")
+pub fn history_of<R: Threads + Wait + Clock + Abort + Sync>(
+    rt: &R,
+    alloc: Global,
+    log: &str,
+) -> History {
+    let read = read_log(rt, alloc, log.as_bytes(), workers(rt, 1), &OpenGate);
+    read.ok().expect(rt, "a history")
 }
 
 /// The history of a log without an anomaly.
 #[tactic(auto, using(headline::proofs::Answered::clean_log))]
-pub fn clean(rt: &impl Abort, alloc: Global, log: &str) -> History
+pub fn clean<R: Threads + Wait + Clock + Abort + Sync>(rt: &R, alloc: Global, log: &str) -> History
     ensures { IsClean (log_of result) }
 {
     let history = history_of(rt, alloc, log);

@@ -1,11 +1,15 @@
 //! Nodes by their numbers.
 
+ghost use Rattle.std.specs.Prelude.{◌≡◌};
+
 use known_graph::Known;
 use serializability::NodeIx;
 use std::process::Abort;
 
 /// The node with this number.
-pub fn node(rt: &impl Abort, number: usize) -> NodeIx {
+pub fn node(rt: &impl Abort, number: usize) -> NodeIx
+    ensures { result ≡ number }
+{
     NodeIx::new(number).expect(rt, "a node")
 }
 

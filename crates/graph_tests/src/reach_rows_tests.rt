@@ -1,6 +1,7 @@
+use crate::logs::workers;
 use crate::node::{join, node};
 use desk::gate::{Gate, OpenGate};
-use desk::seat_no::{SeatNo, Workers};
+use desk::seat_no::SeatNo;
 use known_graph::Known;
 use reach_rows::Rows;
 use std::alloc::Global;
@@ -10,10 +11,6 @@ use std::sync::atomic::{AtomicBool, AtomicUsize, Ordering};
 use std::thread;
 use std::thread::Threads;
 use std::time::{Clock, Duration};
-
-fn workers(rt: &impl Abort, count: u8) -> Workers {
-    Workers::new(count).expect(rt, "workers")
-}
 
 fn join_rows(rt: &impl Abort, rows: &mut Rows, u: usize, v: usize) {
     let (u, v) = (node(rt, u), node(rt, v));

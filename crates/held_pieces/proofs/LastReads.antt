@@ -1,5 +1,5 @@
 -- The reads at the end of a session, from its last operation on; and the log of a piece, session by session.
-use Rattle.std.proofs.Common.{◌≡◌, ◌⊎◌, ℕ, suc, ◌+◌, ◌-◌, ◌<◌, Bool, true, false, cond, ◌||◌, List, [], ◌∷◌, ◌++◌, map, length, reverse, Option, Some, None, refl, sym, ap, ◌∙◌, inl, inr, arith, nat_cmp}
+use Rattle.std.proofs.Common.{◌≡◌, ℕ, suc, ◌+◌, ◌-◌, ◌<◌, Bool, true, false, cond, ◌||◌, List, [], ◌∷◌, ◌++◌, map, length, reverse, Option, Some, None, refl, sym, ap, ◌∙◌, arith, nat_cmp}
 use Rattle.std.specs.Prelude.{drop, slice_get}
 use Rattle.std.specs.List.{list_any}
 use Rattle.std.specs.Str.{bytes_eq}
@@ -11,7 +11,7 @@ use Rattle.std.proofs.lemmas.Slice.Eq.{bytes_eq-Decides}
 use Rattle.session_log.specs.Text.{ClientSession, Transaction}
 use Rattle.session_log.specs.declared.session.Op.{Op}
 use Rattle.session_log.specs.declared.session.Op.TheVariants.{Write}
-use Rattle.piece_laws.specs.Held.{Held, open_op, open_ops, read_held, writes_key, closing}
+use Rattle.piece_laws.specs.Held.{Held, open_ops, read_held, writes_key, closing}
 use Rattle.piece_laws.specs.Logs.{open_txn, opened, committed_reads, closed}
 use Rattle.cutting.proofs.Views.{get_drop}
 use Rattle.held_pieces.specs.Ops.{seen}
@@ -32,15 +32,7 @@ one_reversed before key (Some wid) = refl
 
 pub read_added : (before behind : Held) (old new : List Op) (key : List ℕ) (wid : ℕ) (rest : List Op) → list_any (writes_key key) rest ≡ false → new ≡ old ++ open_ops before (read_held key (behind key)) → reverse old ≡ open_ops before (closing behind rest)
     → reverse new ≡ open_ops before (closing behind (Write key wid ∷ rest))
-read_added before behind old new key wid rest none is h =
-    let one = read_held key (behind key) in
-    let at : closing behind (Write key wid ∷ rest) ≡ one ++ closing behind rest = rw none refl in
-    ap reverse is
-    ∙ reverse-append old (open_ops before one)
-    ∙ ap (λ l. l ++ reverse old) (one_reversed before key (behind key))
-    ∙ ap (λ l. open_ops before one ++ l) h
-    ∙ sym (map-append (open_op before) one (closing behind rest))
-    ∙ ap (open_ops before) (sym at)
+read_added before behind old new key wid rest none is h = grind (arith, reverse-append, one_reversed, map-append)
 
 pub read_known : (behind : Held) (key : List ℕ) (wid : ℕ) (rest : List Op) → list_any (writes_key key) rest ≡ true → closing behind rest ≡ closing behind (Write key wid ∷ rest)
 read_known behind key wid rest some = (let at : closing behind (Write key wid ∷ rest) ≡ closing behind rest = rw some refl in sym at)
@@ -64,11 +56,7 @@ done_more old new key wid rest h before q =
     ∙ ap (λ b. bytes_eq q key || b) (before q)
 
 pub done_known : (done : BTreeSet (Bor (List ℕ))) (key : List ℕ) (wid : ℕ) (rest : List Op) → list_any (writes_key key) rest ≡ true → Done done rest → Done done (Write key wid ∷ rest)
-done_known done key wid rest some before q = before q ∙ same (cases_Bool (bytes_eq q key))
-  where
-    same : (bytes_eq q key ≡ true) ⊎ (bytes_eq q key ≡ false) → list_any (writes_key q) rest ≡ (bytes_eq q key || list_any (writes_key q) rest)
-    same (inl t) = ap (λ k. list_any (writes_key k) rest) ((bytes_eq-Decides q key).0 t) ∙ some ∙ sym (ap (λ b. b || list_any (writes_key q) rest) t)
-    same (inr t) = sym (ap (λ b. b || list_any (writes_key q) rest) t)
+done_known done key wid rest some before q = grind (arith, cases_Bool, bytes_eq-Decides)
 
 -- ---- the last transaction
 pub reads_opened : (before : Held) (ops : List Op) → committed_reads (open_ops before ops) ≡ map (open_txn before) (committed_reads ops)

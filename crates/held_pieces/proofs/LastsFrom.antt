@@ -1,5 +1,5 @@
 -- Up to which piece identities are read.
-use Rattle.std.proofs.Common.{◌≡◌, ℕ, ◌+◌, ◌<◌, ◌≤◌, true, false, if◌then◌else◌, List, [], ◌∷◌, ◌++◌, length, refl, sym, ap, ◌∙◌, inl, inr, arith}
+use Rattle.std.proofs.Common.{◌≡◌, ℕ, ◌+◌, ◌<◌, ◌≤◌, true, false, if◌then◌else◌, List, [], ◌∷◌, ◌++◌, length, refl, ap, ◌∙◌, inl, inr, arith}
 use Rattle.std.specs.Prelude.{nat_lt}
 use Rattle.std.proofs.lemmas.Bool.{cases_Bool, or_cases, or_parts, lt-ltb, le-ltb}
 use Rattle.session_log.specs.Text.{ClientSession}
@@ -42,18 +42,10 @@ read_above n (ss ∷ pieces) f key wid h =
     ]
 
 put_within : (n : ℕ) (ops : List Op) (f : Lasts) (key : List ℕ) (wid : ℕ) → f key wid ≤ n → put (n + 1) ops f key wid ≤ n + 1
-put_within n ops f key wid le = elim (cases_Bool (reads key wid ops)) [
-  | inl t ↦ let e = put_there (n + 1) ops f key wid t in omega (arith, e)
-  | inr t ↦ let e = put_kept (n + 1) ops f key wid t in omega (arith, e, le)
-]
+put_within n ops f key wid le = grind (arith, cases_Bool, put_there, put_kept)
 
 later_read : (n : ℕ) (pieces : List (List ClientSession)) (f : Lasts) (key : List ℕ) (wid : ℕ) → f key wid ≤ n → reads_in key wid pieces ≡ nat_lt n (lasts_from n pieces f key wid)
-later_read n pieces f key wid low = elim (cases_Bool (reads_in key wid pieces)) [
-  | inl t ↦ t ∙ sym (lt-ltb n (lasts_from n pieces f key wid) (read_above n pieces f key wid t))
-  | inr t ↦
-      let e = unread n pieces f key wid t in
-      t ∙ sym (le-ltb n (lasts_from n pieces f key wid) (omega (arith, e, low)))
-]
+later_read n pieces f key wid low = grind (arith, cases_Bool, lt-ltb, read_above, unread, le-ltb)
 
 are_lasts : (n : ℕ) (pieces : List (List ClientSession)) (f : Lasts) → ((key : List ℕ) (wid : ℕ) → f key wid ≤ n) → AreLasts (lasts_from n pieces f) n pieces
 are_lasts n [] f low = tt
@@ -67,10 +59,8 @@ lasts_same f g e n [] h = tt
 lasts_same f g e n (ss ∷ pieces) h = ((λ key wid. h.0 key wid ∙ ap (nat_lt (n + 1)) (e key wid)), lasts_same f g e (n + 1) pieces h.1)
 
 lasts_more : (n m : ℕ) (pieces : List (List ClientSession)) (ss : List ClientSession) (f : Lasts) → m ≡ n + length pieces → lasts_from n (pieces ++ ss ∷ []) f ≡ put (m + 1) (committed_ops ss) (lasts_from n pieces f)
-lasts_more n m [] ss f e =
-    let same : n ≡ m = omega (arith, e) in
-    ap (λ k. put (k + 1) (committed_ops ss) f) same
-lasts_more n m (s ∷ pieces) ss f e = lasts_more (n + 1) m pieces ss (put (n + 1) (committed_ops s) f) (omega (arith, e))
+lasts_more n m [] ss f e = grind arith
+lasts_more n m (s ∷ pieces) ss f e = grind (arith, lasts_more (n + 1) m pieces ss (put (n + 1) (committed_ops s) f) (omega (arith, e)))
 
 -- at first nothing is read
 abbrev pub no_lasts : Lasts
@@ -82,13 +72,11 @@ lasts_behind [] = no_lasts
 lasts_behind (ss ∷ pieces) = lasts_from 1 pieces no_lasts
 
 pub are_behind : (pieces : List (List ClientSession)) → AreLasts (lasts_behind pieces) 0 pieces
-are_behind [] = tt
-are_behind (ss ∷ pieces) = ((λ key wid. later_read 1 pieces no_lasts key wid (omega arith)), are_lasts 1 pieces no_lasts (λ key wid. omega arith))
+are_behind v0 = grind (arith, later_read, are_lasts)
 
 pub first_passed : (pieces : List (List ClientSession)) (ss : List ClientSession) → length pieces ≡ 0 → lasts_behind pieces ≡ lasts_behind (pieces ++ ss ∷ [])
 first_passed [] ss e = refl
 first_passed (s ∷ pieces) ss e = absurd (omega (arith, e))
 
 pub later_taken : (n : ℕ) (pieces : List (List ClientSession)) (ss : List ClientSession) → 0 < n → n ≡ length pieces → put (n + 1) (committed_ops ss) (lasts_behind pieces) ≡ lasts_behind (pieces ++ ss ∷ [])
-later_taken n [] ss lt e = absurd (omega (arith, lt, e))
-later_taken n (s ∷ pieces) ss lt e = sym (lasts_more 1 n pieces ss no_lasts (omega (arith, e)))
+later_taken n v1 ss lt e = grind (arith, lasts_more)

@@ -14,7 +14,7 @@ use Rattle.session_log.specs.declared.session.Op.TheVariants.{Read, Write}
 use Rattle.log_definitions.specs.Unknown.{is_committed, txns_in, ops_in, committed_ops}
 use Rattle.log_definitions.proofs.Members.{any_member}
 use Rattle.piece_laws.specs.Cut.{Cut, first_part, rest_of}
-use Rattle.piece_laws.specs.Logs.{has_txns, present}
+use Rattle.piece_laws.specs.Logs.{present}
 use Rattle.cutting.specs.Parts.{CutOff}
 use Rattle.cutting.specs.Splits.{counts_of, IsSplit}
 use Rattle.held_pieces.specs.Ops.{is_read, reads}
@@ -39,10 +39,7 @@ abbrev nodes_read : List ℕ → ℕ → List Transaction → Bool
 nodes_read key wid ts = reads key wid (flat_map (λ (t : Transaction). t.ops) (filter is_committed ts))
 
 both : (key : List ℕ) (wid : ℕ) (a b : List Transaction) → nodes_read key wid (a ++ b) ≡ (nodes_read key wid a || nodes_read key wid b)
-both key wid a b =
-    ap (λ l. reads key wid (flat_map (λ (t : Transaction). t.ops) l)) (filter-append is_committed a b)
-    ∙ ap (reads key wid) (flat_map-append (λ (t : Transaction). t.ops) (filter is_committed a) (filter is_committed b))
-    ∙ list_any-append (is_read key wid) (flat_map (λ (t : Transaction). t.ops) (filter is_committed a)) (flat_map (λ (t : Transaction). t.ops) (filter is_committed b))
+both key wid a b = grind (arith, filter-append, flat_map-append, list_any-append)
 
 take_and_drop : {X : Type 0} (n : ℕ) (xs : List X) → take n xs ++ drop n xs ≡ xs
 take_and_drop zero xs = refl
@@ -50,10 +47,7 @@ take_and_drop (suc n) [] = refl
 take_and_drop (suc n) (x ∷ xs) = ap (λ l. x ∷ l) (take_and_drop n xs)
 
 middle : (a b c d : Bool) → ((a || b) || (c || d)) ≡ ((a || c) || (b || d))
-middle true b c d = refl
-middle false true true d = refl
-middle false true false d = refl
-middle false false c d = refl
+middle v0 b c d = grind arith
 
 pub reads_split : (key : List ℕ) (wid : ℕ) (c : Cut) (ss : List ClientSession) → reads key wid (committed_ops ss) ≡ (reads key wid (committed_ops (first_part c ss)) || reads key wid (committed_ops (rest_of c ss)))
 reads_split key wid c [] = refl
@@ -72,12 +66,7 @@ reads_split key wid c (s ∷ ss) =
 
 -- ---- sessions without transactions
 one_more : (s : ClientSession) (ss : List ClientSession) (ts : List Transaction) → s.txns ≡ ts → txns_in (present ss) ≡ txns_in ss → txns_in (present (s ∷ ss)) ≡ txns_in (s ∷ ss)
-one_more s ss [] e ih =
-    let none : has_txns s.txns ≡ false = ap has_txns e in
-    rw none (ih ∙ ap (λ l. l ++ txns_in ss) (sym e))
-one_more s ss (t ∷ ts) e ih =
-    let some : has_txns s.txns ≡ true = ap has_txns e in
-    rw some (ap (λ l. s.txns ++ l) ih)
+one_more s ss v2 e ih = grind arith
 
 pub present_txns : (ss : List ClientSession) → txns_in (present ss) ≡ txns_in ss
 present_txns [] = refl

@@ -60,12 +60,7 @@ until_of f key r (Write k w ∷ ops) h = until_of f key (next_reign f key r k w)
 ])
 
 next_most : (f : Lasts) (key : List ℕ) (r : Reign) (k : List ℕ) (w : ℕ) → r.until ≤ (next_reign f key r k w).until
-next_most f key r k w = elim (cases_Bool (bytes_eq key k && nat_lt r.until (f key w))) [
-  | inl t ↦
-      let lt = ltb-true r.until (f key w) (and_parts (bytes_eq key k) (nat_lt r.until (f key w)) t).1 in
-      rw t (omega (arith, lt))
-  | inr t ↦ rw t (omega arith)
-]
+next_most f key r k w = grind (arith, cases_Bool, ltb-true, and_parts)
 
 most : (f : Lasts) (key : List ℕ) (r : Reign) (ops : List Op) → r.until ≤ (reign_from f key r ops).until
 most f key r [] = omega arith
@@ -76,15 +71,7 @@ most f key r (Write k w ∷ ops) =
     omega (arith, one, more)
 
 here_most : (f : Lasts) (key : List ℕ) (r : Reign) (w : ℕ) → f key w ≤ (next_reign f key r key w).until
-here_most f key r w = elim (cases_Bool (nat_lt r.until (f key w))) [
-  | inl t ↦
-      let both = and_from (bytes_eq key key) (nat_lt r.until (f key w)) ((bytes_eq-Decides key key).1 refl) t in
-      rw both (omega arith)
-  | inr t ↦
-      let le = ltb-false r.until (f key w) t in
-      let one = next_most f key r key w in
-      omega (arith, le, one)
-]
+here_most f key r w = grind (arith, cases_Bool, and_from, bytes_eq-Decides, ltb-false, next_most)
 
 pub most_of : (f : Lasts) (key : List ℕ) (wid : ℕ) (r : Reign) (ops : List Op) → Contains ops (Write key wid) → f key wid ≤ (reign_from f key r ops).until
 most_of f key wid r [] c = absurd (omega (arith, c.1))
@@ -98,25 +85,13 @@ most_of f key wid r (Write k w ∷ ops) (suc i, lt, e) = most_of f key wid (next
 
 -- ---- what is held
 pub held_is : (n : ℕ) (r : Reign) (wid : ℕ) → held_by n r ≡ Some wid → (n < r.until) × (r.wid ≡ wid)
-held_is n r wid e = elim (cases_Bool (nat_lt 0 n && nat_lt n r.until)) [
-  | inl t ↦
-      let some : Some r.wid ≡ Some wid = rw t at e in
-      (ltb-true n r.until (and_parts (nat_lt 0 n) (nat_lt n r.until) t).1, cc)
-  | inr t ↦
-      let none : None ≡ Some wid = rw t at e in
-      cc
-]
+held_is n r wid e = grind (arith, cases_Bool, ltb-true, and_parts)
 
 pub held_where : (n : ℕ) (r : Reign) → 0 < n → n < r.until → held_by n r ≡ Some r.wid
-held_where n r pos lt =
-    let t = and_from (nat_lt 0 n) (nat_lt n r.until) (lt-ltb 0 n pos) (lt-ltb n r.until lt) in
-    rw t refl
+held_where n r pos lt = grind (arith, and_from, lt-ltb)
 
 pub none_where : (n : ℕ) (r : Reign) → nat_lt n r.until ≡ false → held_by n r ≡ None
-none_where n r f = elim (cases_Bool (nat_lt 0 n && nat_lt n r.until)) [
-  | inl t ↦ absurd (false≢true (sym f ∙ (and_parts (nat_lt 0 n) (nat_lt n r.until) t).1))
-  | inr t ↦ rw t refl
-]
+none_where n r f = grind (arith, cases_Bool, false≢true, and_parts)
 
 -- ---- at a cut
 pub is_held_behind : (f : Lasts) (n : ℕ) (earlier : List Op) (first rest : List ClientSession) → (n ≡ 0 → earlier ≡ [])

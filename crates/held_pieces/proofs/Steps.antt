@@ -4,7 +4,6 @@ use Rattle.std.specs.Prelude.{nat_lt, take, slice_get}
 use Rattle.std.specs.List.{filter, flat_map, list_any}
 use Rattle.std.specs.Map.{lookup}
 use Rattle.std.specs.Str.{bytes_eq}
-use Rattle.std.specs.Cmp.{unsigned_ties}
 use Rattle.std.specs.Cmp.Lexicographic.{slice_cmp}
 use Rattle.std.specs.Ordering.{is_eq, ordering_then}
 use Rattle.std.specs.declared.cmp.Ordering.{Ordering}
@@ -28,7 +27,7 @@ use Rattle.cutting.proofs.Views.{front_more, front_all}
 use Rattle.held_pieces.specs.Ops.{seen, is_meant, meant_in, meant_ops, has_key, is_read, reads}
 use Rattle.held_pieces.specs.declared.ops.Whose.TheVariants.{All}
 use Rattle.held_pieces.specs.Pieces.{HeldPiece, held_in}
-use Rattle.held_pieces.specs.Reigns.{Lasts, put, read_cmp, last_in, first_reign, reign_from, reign_in, held_among, held_behind, sessions_in}
+use Rattle.held_pieces.specs.Reigns.{Lasts, put, read_cmp, last_in, reign_from, reign_in, held_among, held_behind, sessions_in}
 use Rattle.held_pieces.specs.Kept.{IsKept, AreKept}
 use Rattle.held_pieces.specs.declared.reigns.Reign.{Reign}
 use Rattle.held_pieces.proofs.Reigning.{next_reign, reign_append}
@@ -36,10 +35,7 @@ use denote.Ref.{Bor}
 
 -- ---- tests of keys
 same_tests : (a b : Bool) → (a ≡ true → b ≡ true) → (b ≡ true → a ≡ true) → a ≡ b
-same_tests true true f g = refl
-same_tests true false f g = sym (f refl)
-same_tests false true f g = g refl
-same_tests false false f g = refl
+same_tests v0 v1 f g = grind arith
 
 pub bytes_flip : (a b : List ℕ) → bytes_eq a b ≡ bytes_eq b a
 bytes_flip a b = same_tests (bytes_eq a b) (bytes_eq b a) (λ t. (bytes_eq-Decides b a).1 (sym ((bytes_eq-Decides a b).0 t))) (λ t. (bytes_eq-Decides a b).1 (sym ((bytes_eq-Decides b a).0 t)))
@@ -65,17 +61,10 @@ abbrev pub ref_cmp : Bor (List ℕ) → Bor (List ℕ) → Ordering
 ref_cmp a b = slice_cmp nat_cmp a.now b.now
 
 and_flip : (a b : Bool) → (a && b) ≡ (b && a)
-and_flip true true = refl
-and_flip true false = refl
-and_flip false true = refl
-and_flip false false = refl
+and_flip v0 v1 = grind arith
 
 is_pair : (k key : List ℕ) (w wid : ℕ) → is_eq (ordering_then (nat_cmp w wid) (slice_cmp nat_cmp k key)) ≡ is_read key wid (Read k w)
-is_pair k key w wid =
-    eq_then (nat_cmp w wid) (slice_cmp nat_cmp k key)
-    ∙ and_flip (is_eq (nat_cmp w wid)) (is_eq (slice_cmp nat_cmp k key))
-    ∙ ap (λ b. b && is_eq (nat_cmp w wid)) (is_key k key)
-    ∙ ap (λ b. bytes_eq key k && b) (sym (unsigned_ties w wid) ∙ eqb_flip w wid)
+is_pair k key w wid = grind (arith, eq_then, and_flip, is_key, eqb_flip)
 
 -- ---- one operation more
 pub seen_more : (ops : List (Bor Op)) (i : ℕ) (o : Bor Op) → slice_get ops i ≡ Some o → seen (take (i + 1) ops) ≡ seen (take i ops) ++ o.now ∷ []
@@ -89,10 +78,7 @@ any_more : (p : Op → Bool) (a : List Op) (o : Op) → list_any p (a ++ o ∷ [
 any_more p a o = list_any-append p a (o ∷ []) ∙ ap (λ b. list_any p a || b) (or_none (p o))
 
 last_or : {X : Type 0} (a b : Bool) (x y : X) → cond (a || b) x y ≡ cond b x (cond a x y)
-last_or true true x y = refl
-last_or true false x y = refl
-last_or false true x y = refl
-last_or false false x y = refl
+last_or v0 v1 x y = grind arith
 
 -- ---- up to which piece identities are read
 put_more : (n : ℕ) (a : List Op) (o : Op) (f : Lasts) (key : List ℕ) (wid : ℕ) → put n (a ++ o ∷ []) f key wid ≡ cond (is_read key wid o) n (put n a f key wid)
@@ -130,9 +116,7 @@ pub reign_more : (ops : List (Bor Op)) (i : ℕ) (o : Bor Op) (f : Lasts) (key :
 reign_more ops i o f key r at = ap (reign_from f key r) (seen_more ops i o at) ∙ reign_append f key r (seen (take i ops)) (o.now ∷ [])
 
 put_reign : (f : Lasts) (old new : BTreeMap (List ℕ) Reign) (k : List ℕ) (r : Reign) → Updates (slice_cmp nat_cmp) old new k (Some r) → (key : List ℕ) → reign_in f new key ≡ cond (bytes_eq key k) r (reign_in f old key)
-put_reign f old new k r h key =
-    ap (λ o. unwrap_or o (first_reign f key)) (h.0 key ∙ ap (λ b. cond b (Some r) (get (slice_cmp nat_cmp) old key)) (is_key k key))
-    ∙ unwrap_cond (bytes_eq key k) r (get (slice_cmp nat_cmp) old key) (first_reign f key)
+put_reign f old new k r h key = grind (arith, is_key, unwrap_cond)
 
 -- a write begins a reign, where it is read for longer
 pub reign_begun : (f : Lasts) (old new : BTreeMap (List ℕ) Reign) (k : List ℕ) (w until : ℕ) → until ≡ f k w → (reign_in f old k).until < until → Updates (slice_cmp nat_cmp) old new k (Some (record { wid = w; until = until }))
@@ -154,20 +138,7 @@ reign_begun f old new k w until is lt h key = put_reign f old new k (record { wi
 
 -- and else begins none
 pub reign_stays : (f : Lasts) (r : List ℕ → Reign) (k : List ℕ) (w : ℕ) → f k w ≤ (r k).until → (key : List ℕ) → r key ≡ next_reign f key (r key) k w
-reign_stays f r k w le key = elim (cases_Bool (bytes_eq key k)) [
-  | inl t ↦
-      let keys = (bytes_eq-Decides key k).0 t in
-      let short : nat_lt (r key).until (f key w) ≡ false = le-ltb (r key).until (f key w) (subst (λ x. f x w ≤ (r x).until) (sym keys) le) in
-      none key (no_and (bytes_eq key k) (nat_lt (r key).until (f key w)) short)
-  | inr t ↦ none key (and_left (bytes_eq key k) (nat_lt (r key).until (f key w)) t)
-]
-  where
-    no_and : (a b : Bool) → b ≡ false → (a && b) ≡ false
-    no_and true b e = e
-    no_and false b e = refl
-
-    none : (key : List ℕ) → (bytes_eq key k && nat_lt (r key).until (f key w)) ≡ false → r key ≡ next_reign f key (r key) k w
-    none key e = sym (rw e refl)
+reign_stays f r k w le key = grind (arith, cases_Bool, bytes_eq-Decides, le-ltb, and_left, next_reign)
 
 -- ---- what keys hold
 among_more : (h : Held) (a : List Op) (o : Op) (key : List ℕ) → held_among h (a ++ o ∷ []) key ≡ cond (bytes_eq key (key_of o)) (h key) (held_among h a key)
@@ -208,8 +179,8 @@ none_taken h ops i o k table at is holds before key =
     here (inr t) = rw t refl
 
 lookup_same : (p q : List ℕ → Bool) → ((k : List ℕ) → p k ≡ q k) → (es : List (List ℕ × ℕ)) → lookup p es ≡ lookup q es
-lookup_same p q f [] = refl
-lookup_same p q f (e ∷ es) = ap (λ b. cond b (Some e.1) (lookup p es)) (f e.0) ∙ ap (λ o. cond (q e.0) (Some e.1) o) (lookup_same p q f es)
+lookup_same p q f [] = grind arith
+lookup_same p q f (e ∷ es) = grind (arith, lookup_same p q f es)
 
 -- a table says of each key what its entries do
 pub said : (t : BTreeMap (List ℕ) ℕ) (key : List ℕ) → get (slice_cmp nat_cmp) t key ≡ held_in t.entries key
@@ -282,11 +253,7 @@ all_ops ss = all_of (txns_in ss)
 
 -- ---- a piece that is kept
 pub kept_same : (a b h k : Held) (ss : List ClientSession) (p : HeldPiece) → ((key : List ℕ) → a key ≡ b key) → ((key : List ℕ) → h key ≡ k key) → IsKept a h ss p → IsKept b k ss p
-kept_same a b h k ss p e g is = record {
-  sessions = is.sessions;
-  before = λ key t. is.before key t ∙ e key;
-  behind = λ key t. is.behind key t ∙ g key;
-}
+kept_same a b h k ss p e g is = grind arith
 
 pub ops_more : (pieces : List (List ClientSession)) (ss : List ClientSession) → flat_map ops_in (pieces ++ ss ∷ []) ≡ flat_map ops_in pieces ++ ops_in ss
 ops_more pieces ss = flat_map-append ops_in pieces (ss ∷ []) ∙ ap (λ l. flat_map ops_in pieces ++ l) (append_none (ops_in ss))

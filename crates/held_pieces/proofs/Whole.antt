@@ -11,12 +11,12 @@ use Rattle.piece_laws.specs.Pieces.{CutAt, IsHeldBehind, AreCuts, pieces, AreCut
 use Rattle.cutting.specs.Parts.{CutOff}
 use Rattle.cutting.specs.Splits.{counts_of, IsSplit, points_of}
 use Rattle.held_pieces.specs.Ops.{reads}
-use Rattle.held_pieces.specs.Reigns.{Lasts, AreLasts, first_reign, reign_from, held_behind, pieces_in}
+use Rattle.held_pieces.specs.Reigns.{Lasts, AreLasts, held_behind, pieces_in}
 use Rattle.held_pieces.specs.Kept.{IsKept, AreKept}
-use Rattle.held_pieces.specs.Pieces.{HeldPiece, held_in, log_of, between, ArePieces}
+use Rattle.held_pieces.specs.Pieces.{HeldPiece, log_of, between, ArePieces}
 use Rattle.held_pieces.proofs.NodesRead.{present_ops, reads_later}
 use Rattle.held_pieces.proofs.Reigning.{until_of, none_where, is_held_behind}
-use Rattle.held_pieces.proofs.Agreed.{IsSame, EachOp, each_same, log_same, closed_none, present_opened, present_closed}
+use Rattle.held_pieces.proofs.Agreed.{each_same, log_same, closed_none, present_opened, present_closed}
 
 -- the cuts, and what is held there, where this was written before
 abbrev cuts_of : Lasts → ℕ → List Op → List CutOff → List CutAt
@@ -45,23 +45,11 @@ are_cuts f n earlier (p ∷ ps) last ss start split points lasts =
 
 -- ---- the logs
 one_log : (h k : Held) (ss sessions : List ClientSession) (p : HeldPiece) → IsKept h k sessions p → sessions ≡ present ss → log_of p ≡ present (opened h (closed k ss))
-one_log h k ss sessions p is e =
-    let at = is.sessions ∙ e in
-    let ops = present_ops ss in
-    let s : EachOp (IsSame (held_in p.before) h) sessions = each_same (held_in p.before) h sessions is.before in
-    let t : EachOp (IsSame (held_in p.behind) k) sessions = each_same (held_in p.behind) k sessions is.behind in
-    ap (λ l. opened (held_in p.before) (closed (held_in p.behind) l)) is.sessions
-    ∙ log_same (held_in p.before) h (held_in p.behind) k sessions s t
-    ∙ ap (λ l. opened h (closed k l)) e
-    ∙ ap (opened h) (sym (present_closed k ss))
-    ∙ sym (present_opened h (closed k ss))
+one_log h k ss sessions p is e = grind (arith, present_ops, each_same, log_same, present_closed, present_opened)
 
 -- nothing is held behind the last one
 none_behind : (f : Lasts) (n : ℕ) (earlier : List Op) (last : List ClientSession) → AreLasts f n (last ∷ []) → (key : List ℕ) → held_behind f (n + 1) earlier key ≡ None
-none_behind f n earlier last lasts key =
-    let r = reign_from f key (first_reign f key) earlier in
-    let until : r.until ≡ f key r.wid = until_of f key (first_reign f key) earlier refl in
-    none_where (n + 1) r (ap (nat_lt (n + 1)) until ∙ sym (lasts.0 key r.wid))
+none_behind f n earlier last lasts key = grind (arith, until_of, none_where)
 
 last_kept : (f : Lasts) (n : ℕ) (earlier : List Op) (last : List ClientSession) (p : HeldPiece) → AreLasts f n (last ∷ []) → IsKept (held_behind f n earlier) (held_behind f (n + 1) (earlier ++ ops_in last)) last p → IsKept (held_behind f n earlier) (λ key. None) last p
 last_kept f n earlier last p lasts is = record {

@@ -1,10 +1,11 @@
 -- The edges that a ledger keeps, as bits.
-use Rattle.std.proofs.Common.{◌≡◌, ℕ, ◌+◌, ◌*◌, ◌<◌, ◌≤◌, Bool, true, false, eqb, ◌&&◌, ◌||◌, List, [], ◌∷◌, ◌++◌, length, get_or, take, replicate, refl, sym, ap, ◌∙◌, subst, append_assoc, append-nil, arith, eq-eqb, eqb-true}
+use Rattle.std.proofs.Common.{◌≡◌, ℕ, ◌+◌, ◌*◌, ◌<◌, ◌≤◌, Bool, false, eqb, ◌&&◌, ◌||◌, List, [], ◌∷◌, ◌++◌, length, get_or, take, replicate, refl, sym, ap, ◌∙◌, subst, append_assoc, append-nil, arith, eq-eqb, eqb-true}
 use Rattle.std.specs.List.{list_any}
 use Rattle.std.proofs.lemmas.Bool.{and_parts, and_from}
 use Rattle.std.proofs.lemmas.List.{take_more}
 use Rattle.std.proofs.lemmas.List.Folds.{list_any-append}
 use Rattle.std.proofs.lemmas.Nat.{same_from_place}
+use Rattle.std.proofs.Math.Bool.{or_comm, or-false}
 use Rattle.serializability.specs.Polygraph.{Edge, Polygraph}
 use Rattle.reach_laws.specs.Reach.{Graph}
 use Rattle.pruning_laws.specs.Forced.{other}
@@ -43,19 +44,13 @@ no_edges n = record { same = λ u v hu hv. bit_of-zeros n (edge_place u v) }
 pub edge_bit : (kept : KeptEdges) (edges : List Edge) (u v place : ℕ) → place ≡ edge_place u v → u ≤ 1000 → v ≤ 1000 → HasEdges kept edges → bit_of kept.words place ≡ has_edge edges (u, v)
 edge_bit kept edges u v place is hu hv h = ap (bit_of kept.words) is ∙ h.same u v hu hv
 
-or_last : (a b : Bool) → (b || a) ≡ (a || (b || false))
-or_last true true = refl
-or_last true false = refl
-or_last false true = refl
-or_last false false = refl
-
 -- one edge more
 pub edge_added : (old new : KeptEdges) (edges : List Edge) (d : Edge) → d.1 ≤ 1000 → ((k : ℕ) → bit_of new.words k ≡ (eqb k (edge_place d.0 d.1) || bit_of old.words k)) → HasEdges old edges → HasEdges new (edges ++ d ∷ [])
 edge_added old new edges d small bits h = record {
   same = λ u v hu hv.
       bits (edge_place u v)
       ∙ (λ i. same_place u v d.0 d.1 hv small i || h.same u v hu hv i)
-      ∙ or_last (has_edge edges (u, v)) (eqb d.0 u && eqb d.1 v)
+      ∙ or_comm (eqb d.0 u && eqb d.1 v) (has_edge edges (u, v)) ∙ ap (λ b. has_edge edges (u, v) || b) (sym (or-false (eqb d.0 u && eqb d.1 v)))
       ∙ sym (edge_append edges (d ∷ []) (u, v));
 }
 

@@ -1,7 +1,7 @@
 //! Ledgers of pruning, checked: whether each entry is shown by those before it.
 //!
-//! Called by whoever is handed a ledger, as `graph_bench` is. It knows no thread, and nothing of how
-//! the ledger came to be.
+//! Called by no command: by `graph_tests` and `graph_bench`, and by whoever wants to check a ledger.
+//! It knows no thread, and nothing of how the ledger came to be.
 #![tactic(auto)]
 
 mod checking;

@@ -1,9 +1,10 @@
 ghost use Rattle.std.specs.Prelude.{◌≡◌};
 ghost use Rattle.session_log.specs.Blocks.{blocks_of};
 
+use crate::holding::Holding;
 use crate::session_log_tests::{THREE, read};
 use desk::desk::Desk;
-use desk::gate::{Gate, OpenGate};
+use desk::gate::OpenGate;
 use desk::machine::Machine;
 use desk::naming::Naming;
 use desk::opened::Opened;
@@ -14,16 +15,15 @@ use std::alloc::Global;
 use std::marker::Brand;
 use std::process::Abort;
 use std::sync::Wait;
-use std::sync::atomic::{AtomicBool, Ordering};
 use std::test::*;
-use std::thread;
 use std::thread::Threads;
-use std::time::{Clock, Duration};
+use std::time::Clock;
 
 /// A session whose client was not told how its transaction ended, and one that reads what it wrote.
-const UNKNOWN: &str = "log 2\nsession 1\nbegin\nw x 1\nunknown\nsession 2\nbegin\nr x 1\ncommit\n";
+pub const UNKNOWN: &str =
+    "log 2\nsession 1\nbegin\nw x 1\nunknown\nsession 2\nbegin\nr x 1\ncommit\n";
 
-const MOMENTS: &str = "log 3\nsession 1\nbegin 1\ncommit 1\nsession 2\nbegin 0\nabort\n";
+pub const MOMENTS: &str = "log 3\nsession 1\nbegin 1\ncommit 1\nsession 2\nbegin 0\nabort\n";
 
 fn see<'a>(
     rt: &impl Abort,
@@ -116,7 +116,7 @@ fn put_twice<'a, J: Naming, R: Wait + Abort>(
 }
 
 /// What was read is this fault, or the sessions of this text.
-fn see_read(
+pub fn see_read(
     rt: &impl Abort,
     alloc: Global,
     read: Result<Vec<Session>, LogFault>,
@@ -201,47 +201,15 @@ fn logs_are_read_as_by_one_thread(rt: HostRuntime) {
     }
 }
 
-/// Holds one seat at its first turn until the other one has come to its second.
-#[derive(Drop)]
-struct Holding {
-    held: u8,
-    free: u8,
-    let_go: AtomicBool,
-    ran_out: AtomicBool,
-}
-
-impl Gate for Holding {
-    fn pass<R: Wait + Clock>(&self, rt: &R, seat: SeatNo, turn: u64) {
-        if seat.get() == self.free && turn == 1 {
-            self.let_go.store(true, Ordering::SeqCst);
-        }
-        if seat.get() != self.held || turn != 0 {
-            return;
-        }
-        for _ in 0..10_000 {
-            if self.let_go.load(Ordering::SeqCst) {
-                return;
-            }
-            thread::sleep(rt, Duration::from_millis(1));
-        }
-        self.ran_out.store(true, Ordering::SeqCst);
-    }
-}
-
 #[test]
 fn both_workers_take_part(rt: HostRuntime) -> Result<(), Fail> {
     let alloc = rt.alloc();
     let workers = Workers::new(2).ok_or("two workers")?;
-    for (held, free) in [(1, 2), (2, 1)] {
-        let gate = Holding {
-            held,
-            free,
-            let_go: AtomicBool::new(false),
-            ran_out: AtomicBool::new(false),
-        };
+    for held in [1, 2] {
+        let gate = Holding::new(held);
         let read = collect(&rt, alloc, THREE.as_bytes(), workers, &gate);
         see_read(&rt, alloc, read.map(|read| read.1), THREE, None);
-        assert!(rt; !gate.ran_out.load(Ordering::SeqCst));
+        assert!(rt; !gate.has_missed());
     }
     Ok(())
 }

@@ -5,11 +5,8 @@ use Rattle.std.proofs.lemmas.List.Concat.{flat_map-append}
 use Rattle.std.proofs.lemmas.List.{map-append}
 use Rattle.session_log.specs.Text.{ClientSession, Transaction, op_line, end_line, txn_lines, session_lines}
 use Rattle.session_log.specs.declared.line.Line.{Line}
-use Rattle.session_log.specs.declared.line.Line.TheVariants as line
 use Rattle.session_log.specs.declared.session.Op.{Op}
-use Rattle.session_log.specs.declared.session.Op.TheVariants.{Read, Write}
 use Rattle.session_log.specs.declared.session.Outcome.{Outcome}
-use Rattle.session_log.specs.declared.session.Outcome.TheVariants.{Commit, Abort, Unknown}
 use Rattle.log_definitions.specs.Unknown.{txns_in, ops_in}
 use Rattle.log_definitions.specs.WellFormed.{log_lines, sessions_from, writes_from, written}
 use Rattle.log_definitions.proofs.Scanning.{written-append}
@@ -18,24 +15,12 @@ use Rattle.long_log_definitions.proofs.Repeats.{numbers}
 
 -- ---- of lines, and of lines behind them
 pub sessions_from-append : (n : ℕ) (a b : List Line) → sessions_from n (a ++ b) ≡ sessions_from n a ++ sessions_from (n + length a) b
-sessions_from-append n [] b = ap (λ m. sessions_from m b) (omega arith)
-sessions_from-append n (line.Session k ∷ a) b = ap (λ xs. (n, k) ∷ xs) (sessions_from-append (n + 1) a b ∙ ap (λ m. sessions_from (n + 1) a ++ sessions_from m b) (omega arith))
-sessions_from-append n (line.Write k w ∷ a) b = sessions_from-append (n + 1) a b ∙ ap (λ m. sessions_from (n + 1) a ++ sessions_from m b) (omega arith)
-sessions_from-append n (line.Read k w ∷ a) b = sessions_from-append (n + 1) a b ∙ ap (λ m. sessions_from (n + 1) a ++ sessions_from m b) (omega arith)
-sessions_from-append n (line.Begin _ ∷ a) b = sessions_from-append (n + 1) a b ∙ ap (λ m. sessions_from (n + 1) a ++ sessions_from m b) (omega arith)
-sessions_from-append n (line.Commit _ ∷ a) b = sessions_from-append (n + 1) a b ∙ ap (λ m. sessions_from (n + 1) a ++ sessions_from m b) (omega arith)
-sessions_from-append n (line.Abort ∷ a) b = sessions_from-append (n + 1) a b ∙ ap (λ m. sessions_from (n + 1) a ++ sessions_from m b) (omega arith)
-sessions_from-append n (line.Unknown ∷ a) b = sessions_from-append (n + 1) a b ∙ ap (λ m. sessions_from (n + 1) a ++ sessions_from m b) (omega arith)
+sessions_from-append n [] b = grind arith
+sessions_from-append n (l ∷ a) b = grind (arith, sessions_from-append (n + 1) a b)
 
 pub writes_from-append : (n : ℕ) (a b : List Line) → writes_from n (a ++ b) ≡ writes_from n a ++ writes_from (n + length a) b
-writes_from-append n [] b = ap (λ m. writes_from m b) (omega arith)
-writes_from-append n (line.Write k w ∷ a) b = ap (λ xs. (n, w) ∷ xs) (writes_from-append (n + 1) a b ∙ ap (λ m. writes_from (n + 1) a ++ writes_from m b) (omega arith))
-writes_from-append n (line.Session k ∷ a) b = writes_from-append (n + 1) a b ∙ ap (λ m. writes_from (n + 1) a ++ writes_from m b) (omega arith)
-writes_from-append n (line.Read k w ∷ a) b = writes_from-append (n + 1) a b ∙ ap (λ m. writes_from (n + 1) a ++ writes_from m b) (omega arith)
-writes_from-append n (line.Begin _ ∷ a) b = writes_from-append (n + 1) a b ∙ ap (λ m. writes_from (n + 1) a ++ writes_from m b) (omega arith)
-writes_from-append n (line.Commit _ ∷ a) b = writes_from-append (n + 1) a b ∙ ap (λ m. writes_from (n + 1) a ++ writes_from m b) (omega arith)
-writes_from-append n (line.Abort ∷ a) b = writes_from-append (n + 1) a b ∙ ap (λ m. writes_from (n + 1) a ++ writes_from m b) (omega arith)
-writes_from-append n (line.Unknown ∷ a) b = writes_from-append (n + 1) a b ∙ ap (λ m. writes_from (n + 1) a ++ writes_from m b) (omega arith)
+writes_from-append n [] b = grind arith
+writes_from-append n (l ∷ a) b = grind (arith, writes_from-append (n + 1) a b)
 
 -- ---- their numbers, by the sessions
 joined_sessions : (n : ℕ) (a b : List Line) (xs ys : List ℕ) → ((m : ℕ) → numbers (sessions_from m a) ≡ xs) → ((m : ℕ) → numbers (sessions_from m b) ≡ ys) → numbers (sessions_from n (a ++ b)) ≡ xs ++ ys
@@ -45,11 +30,8 @@ joined_writes : (n : ℕ) (a b : List Line) (xs ys : List ℕ) → ((m : ℕ) �
 joined_writes n a b xs ys e f = ap numbers (writes_from-append n a b) ∙ (map-append (λ x. x.1) (writes_from n a) (writes_from (n + length a) b) ∙ (ap (λ l. l ++ numbers (writes_from (n + length a) b)) (e n) ∙ ap (λ l. xs ++ l) (f (n + length a))))
 
 no_session_in_ops : (n : ℕ) (ops : List Op) (end : Outcome) (ended : Option ℕ) → numbers (sessions_from n (map op_line ops ++ end_line end ended ∷ [])) ≡ []
-no_session_in_ops n [] Commit ended = refl
-no_session_in_ops n [] Abort ended = refl
-no_session_in_ops n [] Unknown ended = refl
-no_session_in_ops n (Read k w ∷ ops) end ended = no_session_in_ops (n + 1) ops end ended
-no_session_in_ops n (Write k w ∷ ops) end ended = no_session_in_ops (n + 1) ops end ended
+no_session_in_ops n [] end ended = grind arith
+no_session_in_ops n (op ∷ ops) end ended = grind (arith, no_session_in_ops (n + 1) ops end ended)
 
 no_session_in_txns : (ts : List Transaction) (n : ℕ) → numbers (sessions_from n (flat_map txn_lines ts)) ≡ []
 no_session_in_txns [] n = refl
@@ -60,11 +42,8 @@ session_numbers [] n = refl
 session_numbers (s ∷ ss) n = joined_sessions n (session_lines s) (log_lines ss) (s.number ∷ []) (map (λ s. s.number) ss) (λ m. ap (λ l. s.number ∷ l) (no_session_in_txns s.txns (m + 1))) (session_numbers ss)
 
 writes_in_ops : (n : ℕ) (ops : List Op) (end : Outcome) (ended : Option ℕ) → numbers (writes_from n (map op_line ops ++ end_line end ended ∷ [])) ≡ written ops
-writes_in_ops n [] Commit ended = refl
-writes_in_ops n [] Abort ended = refl
-writes_in_ops n [] Unknown ended = refl
-writes_in_ops n (Read k w ∷ ops) end ended = writes_in_ops (n + 1) ops end ended
-writes_in_ops n (Write k w ∷ ops) end ended = ap (λ l. w ∷ l) (writes_in_ops (n + 1) ops end ended)
+writes_in_ops n [] end ended = grind arith
+writes_in_ops n (op ∷ ops) end ended = grind (arith, writes_in_ops (n + 1) ops end ended)
 
 writes_in_txns : (ts : List Transaction) (n : ℕ) → numbers (writes_from n (flat_map txn_lines ts)) ≡ written (flat_map txn_ops ts)
 writes_in_txns [] n = refl

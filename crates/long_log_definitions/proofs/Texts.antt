@@ -1,15 +1,13 @@
 -- What holds of a text that is a long log, and of one that is none.
-use Rattle.std.proofs.Common.{◌≡◌, ◌≢◌, ℕ, ◌≤◌, ◌^◌, Bool, true, false, cond, List, [], ◌∷◌, ◌++◌, length, Option, Some, None, refl, sym, ap, ◌∙◌, subst, arith, length-append, nat_eq, nat_lt}
+use Rattle.std.proofs.Common.{◌≡◌, ◌≢◌, ℕ, ◌≤◌, ◌^◌, List, [], ◌∷◌, ◌++◌, length, Option, Some, None, refl, sym, ap, ◌∙◌, subst, arith, length-append, nat_eq}
 use Rattle.std.specs.List.{IsDistinct, AllByRecursion}
 use Rattle.std.specs.Option.{option_or}
-use Rattle.std.proofs.lemmas.Bool.{ltb-false, le-ltb}
 use Rattle.session_log.specs.Text.{ClientSession, IsLegal, line_text, text_of_lines, log_text}
 use Rattle.session_log.specs.Version.{header_text, first_line, version_of}
 use Rattle.session_log.specs.Blocks as short
 use Rattle.session_log.specs.Faults.{grammar_fault}
 use Rattle.session_log.specs.declared.line.Line.{Line}
 use Rattle.session_log.specs.declared.fault.Limit.{Limit}
-use Rattle.session_log.specs.declared.fault.Limit.TheVariants as limit
 use Rattle.session_log.specs.declared.fault.LogFault.{LogFault}
 use Rattle.session_log.specs.declared.fault.LogFault.TheVariants.{OverLimit, Memory}
 use Rattle.session_log.specs.declared.version.Version.{Version}
@@ -46,7 +44,7 @@ abbrev HasFault : List ℕ → Type 0
 HasFault text = (f : LogFault) × IsLongLogFault text f × (f ≢ Memory)
 
 other : (o : Option LogFault) (f : LogFault) → NotMemory o → o ≡ Some f → f ≢ Memory
-other o f named e m = named.never (e ∙ ap (λ g. Some g) m)
+other o f named e m = named (e ∙ ap (λ g. Some g) m)
 
 pub fault_where_none : (text : List ℕ) → ((ss : List ClientSession) → IsLongLog text ss → ⊥) → HasFault text
 fault_where_none text h = by_size (size_fault text) refl
@@ -69,24 +67,11 @@ fault_where_none text h = by_size (size_fault text) refl
     by_size (Some f) e = (f, size f e, other _ f (size_fault_named text) e)
 
 -- ---- its sessions have numbers of their own
-neither : (a b : Option LogFault) → option_or a b ≡ None → (a ≡ None) × (b ≡ None)
-neither None b e = (refl, e)
-neither (Some f) b e = cc
-
-no_session : (o : Option ℕ) → session_fault o ≡ None → o ≡ None
-no_session None e = refl
-no_session (Some n) e = cc
-
-no_write : (o : Option ℕ) → write_fault o ≡ None → o ≡ None
-no_write None e = refl
-no_write (Some n) e = cc
-
 pub numbers_where_no_fault : (n : ℕ) (ss : List ClientSession) → list_fault n ss ≡ None → HasOwnNumbers ss
 unfolding list_fault
 numbers_where_no_fault n ss e =
-    let parts = neither (session_fault (session_twice n (log_lines ss))) (write_fault (write_twice n (log_lines ss))) e in
-    let sessions = apart_where_none [] (sessions_from n (log_lines ss)) (no_session _ parts.0) in
-    let writes = apart_where_none [] (writes_from n (log_lines ss)) (no_write _ parts.1) in
+    let sessions = apart_where_none [] (sessions_from n (log_lines ss)) (grind arith) in
+    let writes = apart_where_none [] (writes_from n (log_lines ss)) (grind arith) in
     record {
       sessions = subst (IsDistinct nat_eq) (session_numbers ss n) (IsDistinct-from_Apart (numbers (sessions_from n (log_lines ss))) sessions.0);
       writes = subst (IsDistinct nat_eq) (written_identities ss n) (IsDistinct-from_Apart (numbers (writes_from n (log_lines ss))) writes.0);
@@ -107,81 +92,45 @@ no_fault_where_numbers n ss h =
     ap (λ o. option_or (session_fault o) (write_fault (write_twice n (log_lines ss)))) sessions ∙ ap write_fault writes
 
 -- ---- of the logs that a log's limits allow
-small : (t : Bool) (text : List ℕ) (rest : Option LogFault) → nat_lt (2 ^ 24) (length text) ≡ t → cond t (Some (OverLimit limit.LogBytes)) rest ≡ None → length text ≤ 2 ^ 24
-small true text rest e h = cc
-small false text rest e h = ltb-false (2 ^ 24) (length text) e
-
-fits : (text : List ℕ) → length text ≤ 2 ^ 30 → size_fault text ≡ None
-unfolding size_fault
-fits text h = rw (le-ltb (2 ^ 30) (length text) h) refl
-
 pub size_where_small : (text : List ℕ) → short.size_fault text ≡ None → size_fault text ≡ None
-unfolding short.size_fault
-size_where_small text e = fits text (let few = small (nat_lt (2 ^ 24) (length text)) text _ refl e in omega arith)
+unfolding short.size_fault size_fault
+size_where_small text e = grind arith
 
 pub long_where_well_formed : (text : List ℕ) (ss : List ClientSession) → judged.IsWellFormed text ss → IsLongLog text ss
 unfolding judged.list_fault list_fault
-long_where_well_formed text ss w =
-    let ls = log_lines ss in
-    let n = first_line (version_of text) in
-    let outer = neither (session_fault (session_twice n ls)) (option_or (limit_fault ss) (write_fault (write_twice n ls))) w.sessions in
-    let inner = neither (limit_fault ss) (write_fault (write_twice n ls)) outer.1 in
-    record {
-      legal = w.legal;
-      held = w.held;
-      lines = w.lines;
-      size = size_where_small text w.size;
-      sessions = ap (λ o. option_or o (write_fault (write_twice n ls))) outer.0 ∙ inner.1;
-    }
+long_where_well_formed text ss w = record {
+  legal = w.legal;
+  held = w.held;
+  lines = w.lines;
+  size = size_where_small text w.size;
+  sessions = grind (arith, w.sessions);
+}
 
 pub well_formed_where_small : (text : List ℕ) (ss : List ClientSession) → IsLongLog text ss → short.size_fault text ≡ None → limit_fault ss ≡ None → judged.IsWellFormed text ss
 unfolding judged.list_fault list_fault
-well_formed_where_small text ss w small few =
-    let ls = log_lines ss in
-    let n = first_line (version_of text) in
-    let parts = neither (session_fault (session_twice n ls)) (write_fault (write_twice n ls)) w.sessions in
-    record {
-      legal = w.legal;
-      held = w.held;
-      lines = w.lines;
-      size = small;
-      sessions = ap (λ o. option_or o (option_or (limit_fault ss) (write_fault (write_twice n ls)))) parts.0 ∙ (ap (λ o. option_or o (write_fault (write_twice n ls))) few ∙ parts.1);
-    }
+well_formed_where_small text ss w small few = record {
+  legal = w.legal;
+  held = w.held;
+  lines = w.lines;
+  size = small;
+  sessions = grind (arith, w.sessions, few);
+}
 
 -- each limit has faults of its own
-record OnlyOver (o : Option LogFault) : Type 0 where
-  pub over : (f : LogFault) → o ≡ Some f → (which : Limit) × (f ≡ OverLimit which)
-
-over_or : (t : Bool) (which : Limit) (rest : Option LogFault) → OnlyOver rest → OnlyOver (cond t (Some (OverLimit which)) rest)
-over_or true which rest h = record { over = λ f e. (which, cc) }
-over_or false which rest h = h
-
-never_over : OnlyOver None
-never_over = record { over = λ f e. cc }
-
-small_size_over : (text : List ℕ) → OnlyOver (short.size_fault text)
+small_size_over : (text : List ℕ) (f : LogFault) → ((which : Limit) → f ≢ OverLimit which) → short.size_fault text ≡ Some f → ⊥
 unfolding short.size_fault
-small_size_over text = search (over_or, never_over)
+small_size_over text f apart e = grind (arith, apart)
 
-limit_over : (ss : List ClientSession) → OnlyOver (limit_fault ss)
-limit_over ss = search (over_or, never_over)
-
-abbrev IsNoLimit : LogFault → Type 0
-IsNoLimit f = (which : Limit) → f ≢ OverLimit which
-
-without_limit : (a limits b : Option LogFault) (f : LogFault) → OnlyOver limits → IsNoLimit f → option_or a (option_or limits b) ≡ Some f → option_or a b ≡ Some f
-without_limit (Some g) limits b f only apart e = e
-without_limit None (Some g) b f only apart e = let is = only.over f e in absurd (apart is.0 is.1)
-without_limit None None b f only apart e = e
+without_limit : (n : ℕ) (ss : List ClientSession) (f : LogFault) → ((which : Limit) → f ≢ OverLimit which) → judged.list_fault n ss ≡ Some f → list_fault n ss ≡ Some f
+unfolding judged.list_fault list_fault
+without_limit n ss f apart e = grind (arith, apart)
 
 pub fault_of_long : (text : List ℕ) (f : LogFault) → judged.IsLogFault text f → ((which : Limit) → f ≢ OverLimit which) → IsLongLogFault text f
-unfolding judged.list_fault list_fault
 fault_of_long text _ judged.memory apart = memory
-fault_of_long text _ (judged.size f e) apart = let is = (small_size_over text).over f e in absurd (apart is.0 is.1)
+fault_of_long text _ (judged.size f e) apart = absurd (small_size_over text f apart e)
 fault_of_long text _ (judged.grammar f s e) apart = grammar f (size_where_small text s) e
 fault_of_long text _ (judged.list f ss s legal held lines e) apart =
-    list f ss (size_where_small text s) legal held lines
-    (without_limit (session_fault (session_twice (first_line (version_of text)) (log_lines ss))) (limit_fault ss) (write_fault (write_twice (first_line (version_of text)) (log_lines ss))) f (limit_over ss) apart e)
+    list f ss (size_where_small text s) legal held lines (without_limit (first_line (version_of text)) ss f apart e)
 
 -- ---- there are no more lines than bytes
 lines_bytes : (fs : List Line) → length fs ≤ length (text_of_lines fs)
@@ -192,13 +141,9 @@ lines_bytes (f ∷ fs) =
     let b = length-append (line_text f) (10 ∷ []) in
     omega (arith, ih, a, b)
 
-size_of : (text : List ℕ) (t : Bool) → nat_lt (2 ^ 30) (length text) ≡ t → cond t (Some (OverLimit limit.LogBytes)) None ≡ None → length text ≤ 2 ^ 30
-size_of text true e h = cc
-size_of text false e h = ltb-false (2 ^ 30) (length text) e
-
 pub bytes_within : (text : List ℕ) → size_fault text ≡ None → length text ≤ 2 ^ 30
 unfolding size_fault
-bytes_within text s = size_of text (nat_lt (2 ^ 30) (length text)) refl s
+bytes_within text s = grind arith
 
 pub lines_within : (v : Version) (text : List ℕ) (ss : List ClientSession) → size_fault text ≡ None → text ≡ log_text v ss → length (log_lines ss) ≤ 2 ^ 30
 lines_within v text ss s e =

@@ -47,28 +47,10 @@ first_of-front (Some g ∷ xs) ys f h = h
 
 -- ---- what a fault says
 pub either_fault : (P : Type 0) (f : LogFault) (o : Option LogFault) → (f ≡ faults.Memory → P) → (o ≡ Some f → P) → IsFault f o → P
-either_fault P faults.Memory o m h k = m refl
-either_fault P (faults.BadLine n) o m h k = h k
-either_fault P (faults.SessionTwice n) o m h k = h k
-either_fault P (faults.OutsideTransaction n) o m h k = h k
-either_fault P (faults.OpenTransaction n) o m h k = h k
-either_fault P (faults.WriteZero n) o m h k = h k
-either_fault P (faults.WriteTwice n) o m h k = h k
-either_fault P (faults.UnknownNotLast n) o m h k = h k
-either_fault P (faults.EndsBeforeBegin n) o m h k = h k
-either_fault P (faults.OverLimit n) o m h k = h k
+either_fault v0 v1 o m h k = grind arith
 
 pub this_fault : (f : LogFault) (o : Option LogFault) → o ≡ Some f → IsFault f o
-this_fault faults.Memory o h = tt
-this_fault (faults.BadLine n) o h = h
-this_fault (faults.SessionTwice n) o h = h
-this_fault (faults.OutsideTransaction n) o h = h
-this_fault (faults.OpenTransaction n) o h = h
-this_fault (faults.WriteZero n) o h = h
-this_fault (faults.WriteTwice n) o h = h
-this_fault (faults.UnknownNotLast n) o h = h
-this_fault (faults.EndsBeforeBegin n) o h = h
-this_fault (faults.OverLimit n) o h = h
+this_fault v0 o h = grind arith
 
 pub fault_as : (f : LogFault) (o whole : Option LogFault) → (o ≡ Some f → whole ≡ Some f) → IsFault f o → IsFault f whole
 fault_as f o whole to h = either_fault (IsFault f whole) f o (λ m. subst (λ g. IsFault g whole) (sym m) tt) (λ e. this_fault f whole (to e)) h

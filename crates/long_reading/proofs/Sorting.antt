@@ -1,12 +1,11 @@
 -- A sorted list of numbers shows the first line whose number stood before.
-use Rattle.std.proofs.Common.{◌≡◌, ◌≢◌, ◌⊎◌, inl, inr, ℕ, zero, suc, ◌+◌, ◌-◌, ◌<◌, ◌≤◌, Bool, true, false, cond, min, List, [], ◌∷◌, ◌++◌, length, get_or, Option, Some, None, refl, sym, ap, ◌∙◌, subst, arith, nat_eq, nat_cmp}
+use Rattle.std.proofs.Common.{◌≡◌, ◌≢◌, ◌⊎◌, inl, inr, ℕ, zero, suc, ◌+◌, ◌-◌, ◌<◌, ◌≤◌, false, cond, min, List, [], ◌∷◌, ◌++◌, length, get_or, Option, Some, None, refl, sym, ap, ◌∙◌, subst, arith, nat_eq, nat_cmp}
 use Rattle.std.specs.Prelude.{count_by}
 use Rattle.std.specs.List.{Contains}
 use Rattle.std.specs.List.Sorted.{IsPermutation, IsSorted}
 use Rattle.std.specs.Option.{option_map_or}
 use Rattle.std.specs.Ordering.{is_lt, ordering_then}
 use Rattle.std.specs.declared.cmp.Ordering.{Ordering}
-use Rattle.std.specs.declared.cmp.Ordering.TheVariants.{Equal}
 use Rattle.std.proofs.lemmas.Bool.{cases_Bool, eqb-true, eqb-false, eq-eqb, ne_eqb, cases_lt, false≢true}
 use Rattle.std.proofs.lemmas.Cmp.{nat_cmp_total, on_total, then_total, ranked, by_ranked}
 use Rattle.std.proofs.lemmas.List.Sorted.{sorted_far, ranks_by, Contains-permutation, IsPermutation-sym, sum_by-IsPermutation}
@@ -35,76 +34,29 @@ pub record IsLeastPair (ys : List Stated) (n : ℕ) (first : Option ℕ) : Type 
   pub found : (m : ℕ) → first ≡ Some m → (k : ℕ) × (k + 1 < length ys) × (number_at ys k ≡ number_at ys (k + 1)) × (line_at ys (k + 1) ≡ m)
   pub least : (k : ℕ) → k + 1 < n → number_at ys k ≡ number_at ys (k + 1) → (m : ℕ) × (first ≡ Some m) × (m ≤ line_at ys (k + 1))
 
-pub no_pair : (ys : List Stated) (n : ℕ) → n ≤ 1 → IsLeastPair ys n None
-no_pair ys n h = record { found = λ m e. cc; least = λ k lt e. absurd (omega arith) }
-
 abbrev pub lesser_of : Option ℕ → ℕ → ℕ
 lesser_of least line = option_map_or (λ l. min l line) least line
 
 -- the least so far with one more line
 lesser_within : (least : Option ℕ) (line m : ℕ) → least ≡ Some m → lesser_of least line ≤ m
-lesser_within None line m e = cc
-lesser_within (Some l) line m e = let same : l ≡ m = cc in omega (arith, same)
+lesser_within v0 line m e = grind arith
 
 lesser_new : (least : Option ℕ) (line : ℕ) → lesser_of least line ≤ line
 lesser_new None line = omega arith
 lesser_new (Some l) line = omega arith
 
 lesser_one : (least : Option ℕ) (line : ℕ) → (lesser_of least line ≡ line) ⊎ (least ≡ Some (lesser_of least line))
-lesser_one None line = inl refl
-lesser_one (Some l) line = elim (cases_lt l line) [
-  | inl lt ↦ let is : min l line ≡ l = omega (arith, lt) in inr (ap (λ x. Some x) (sym is))
-  | inr le ↦ inl (omega (arith, le))
-]
+lesser_one v0 line = grind (arith, cases_lt)
 
 some_is : {X : Type 0} (a b : X) (o : Option X) → o ≡ Some a → o ≡ Some b → a ≡ b
 some_is a b o e f = cc
 
 pub one_pair_more : (ys : List Stated) (i : ℕ) (first next : Option ℕ) → 0 < i → i < length ys → next ≡ cond (nat_eq (number_at ys (i - 1)) (number_at ys i)) (Some (lesser_of first (line_at ys i))) first → IsLeastPair ys i first → IsLeastPair ys (i + 1) next
-one_pair_more ys i first next lo hi is h = go (nat_eq (number_at ys (i - 1)) (number_at ys i)) refl is
-  where
-    here : i - 1 + 1 ≡ i
-    here = omega arith
-
-    go : (b : Bool) → nat_eq (number_at ys (i - 1)) (number_at ys i) ≡ b → next ≡ cond b (Some (lesser_of first (line_at ys i))) first → IsLeastPair ys (i + 1) next
-    go true e f = record {
-      found = λ m g. elim (lesser_one first (line_at ys i)) [
-        | inl new ↦ (i - 1, omega (arith, hi, lo), eqb-true (number_at ys (i - 1)) (number_at ys i) e ∙ ap (number_at ys) (sym here), ap (line_at ys) here ∙ (sym new ∙ some_is (lesser_of first (line_at ys i)) m next f g))
-        | inr old ↦ h.found m (old ∙ ap (λ x. Some x) (some_is (lesser_of first (line_at ys i)) m next f g))
-      ];
-      least = λ k lt same. elim (cases_lt (k + 1) i) [
-        | inl before ↦
-            let found = h.least k before same in
-            (lesser_of first (line_at ys i), f, omega (arith, lesser_within first (line_at ys i) found.0 found.1, found.2))
-        | inr last ↦
-            let at : k + 1 ≡ i = omega (arith, lt, last) in
-            let new = lesser_new first (line_at ys i) in
-            (lesser_of first (line_at ys i), f, omega (arith, new, ap (line_at ys) at))
-      ];
-    }
-    go false e f = record {
-      found = λ m g. h.found m (sym f ∙ g);
-      least = λ k lt same. elim (cases_lt (k + 1) i) [
-        | inl before ↦ let found = h.least k before same in (found.0, f ∙ found.1, found.2)
-        | inr last ↦
-            let at : k + 1 ≡ i = omega (arith, lt, last) in
-            let prior : k ≡ i - 1 = omega (arith, at) in
-            absurd (eqb-false (number_at ys (i - 1)) (number_at ys i) e (sym (ap (number_at ys) prior) ∙ (same ∙ ap (number_at ys) at)))
-      ];
-    }
+one_pair_more ys i first next lo hi is h = grind (arith, lesser_one, eqb-true, some_is, cases_lt, lesser_within, lesser_new, eqb-false)
 
 -- ---- what the order says
 not_less : (a b c d : ℕ) → is_lt (ordering_then (nat_cmp a b) (nat_cmp c d)) ≡ false → (b ≤ a) × (a ≡ b → d ≤ c)
-not_less a b c d h = by_ranked (a < b) (a ≡ b) (b < a) (nat_cmp a b) (ranked a b (nat_cmp a b) refl)
-    (λ e lt. absurd (let less : is_lt (ordering_then (nat_cmp a b) (nat_cmp c d)) ≡ true = ap (λ o. is_lt (ordering_then o (nat_cmp c d))) e in false≢true (sym h ∙ less)))
-    (λ e same. (omega (arith, same), λ again. within e))
-    (λ e gt. (omega (arith, gt), λ again. absurd (omega (arith, gt, again))))
-  where
-    within : nat_cmp a b ≡ Equal → d ≤ c
-    within e = by_ranked (c < d) (c ≡ d) (d < c) (nat_cmp c d) (ranked c d (nat_cmp c d) refl)
-        (λ f lt. absurd (let less : is_lt (ordering_then (nat_cmp a b) (nat_cmp c d)) ≡ true = ap (λ o. is_lt (ordering_then o (nat_cmp c d))) e ∙ ap is_lt f in false≢true (sym h ∙ less)))
-        (λ f same. omega (arith, same))
-        (λ f gt. omega (arith, gt))
+not_less a b c d h = grind (arith, by_ranked, ranked, false≢true)
 
 ordered : (ys : List Stated) → IsSorted compared ys → (i j : ℕ) → i ≤ j → j < length ys → (number_at ys i ≤ number_at ys j) × (number_at ys j ≡ number_at ys i → line_at ys i ≤ line_at ys j)
 ordered ys up i j le lt =
@@ -179,9 +131,8 @@ counted-cons : (n : ℕ) (x : Stated) (xs : List Stated) → counted n (x ∷ xs
 counted-cons n x xs = sum_by-cons (λ s. cond (nat_eq s.line n) 1 0) x xs
 
 none_counted : (n k : ℕ) (xs : List Stated) → AscendFrom k (by_line xs) → n < k → counted n xs ≡ 0
-none_counted n k [] a lt = refl
-none_counted n k (x ∷ xs) a lt =
-    counted-cons n x xs ∙ (ap (λ b. cond b 1 0 + counted n xs) (ne_eqb x.line n (λ e. absurd (omega (arith, e, lt, a.0)))) ∙ (let later = none_counted n (x.line + 1) xs a.1 (omega (arith, lt, a.0)) in omega (arith, later)))
+none_counted n k [] a lt = grind (arith, counted-cons, ne_eqb)
+none_counted n k (x ∷ xs) a lt = grind (arith, counted-cons, ne_eqb, none_counted n (x.line + 1) xs a.1 (omega (arith, lt, a.0)))
 
 once_counted : (n k : ℕ) (xs : List Stated) → AscendFrom k (by_line xs) → counted n xs ≤ 1
 once_counted n k [] a = omega arith

@@ -7,9 +7,7 @@ use Rattle.session_log.specs.Text.{view, view_txn, op_line, end_line, txn_lines,
 use Rattle.session_log.specs.declared.line.Line.{Line}
 use Rattle.session_log.specs.declared.line.Line.TheVariants as line
 use Rattle.session_log.specs.declared.session.Op.{Op}
-use Rattle.session_log.specs.declared.session.Op.TheVariants.{Read, Write}
 use Rattle.session_log.specs.declared.session.Outcome.{Outcome}
-use Rattle.session_log.specs.declared.session.Outcome.TheVariants.{Commit, Abort, Unknown}
 use Rattle.session_log.specs.declared.session.Txn.{Txn}
 use Rattle.session_log.specs.declared.session.Session.{Session}
 use Rattle.log_definitions.specs.WellFormed.{log_lines, sessions_from, writes_from}
@@ -42,39 +40,19 @@ abbrev IsSilent : Line → Type 0
 IsSilent l = (n : ℕ) → (sessions_from n (l ∷ []) ≡ []) × (writes_from n (l ∷ []) ≡ [])
 
 takes_silent : (a b : Statements) (l : Line) → IsSilent l → b.line ≡ a.line + 1 → b.sessions ≡ a.sessions → b.writes ≡ a.writes → Takes a b (l ∷ [])
-takes_silent a b l h line sessions writes = record {
-  line = omega (arith, line);
-  sessions = ap (λ v. by_line v.items) sessions ∙ (sym (append-nil (by_line a.sessions.items)) ∙ ap (λ l. by_line a.sessions.items ++ l) (sym (h a.line).0));
-  writes = ap (λ v. by_line v.items) writes ∙ (sym (append-nil (by_line a.writes.items)) ∙ ap (λ l. by_line a.writes.items ++ l) (sym (h a.line).1));
-}
+takes_silent a b l h line sessions writes = grind (arith, append-nil)
 
 pub takes_begin : (a b : Statements) (m : Option ℕ) → b.line ≡ a.line + 1 → b.sessions ≡ a.sessions → b.writes ≡ a.writes → Takes a b (line.Begin m ∷ [])
 takes_begin a b m = takes_silent a b (line.Begin m) (λ n. (refl, refl))
 
 silent_end : (outcome : Outcome) (ended : Option ℕ) → IsSilent (end_line outcome ended)
-silent_end Commit ended n = (refl, refl)
-silent_end Abort ended n = (refl, refl)
-silent_end Unknown ended n = (refl, refl)
+silent_end v0 ended n = grind arith
 
 pub takes_end : (a b : Statements) (outcome : Outcome) (ended : Option ℕ) → b.line ≡ a.line + 1 → b.sessions ≡ a.sessions → b.writes ≡ a.writes → Takes a b (end_line outcome ended ∷ [])
 takes_end a b outcome ended = takes_silent a b (end_line outcome ended) (silent_end outcome ended)
 
-pub takes_read : (a b : Statements) (o : Op) (key : List ℕ) (wid : ℕ) → o ≡ Read key wid → b.line ≡ a.line + 1 → b.sessions ≡ a.sessions → b.writes ≡ a.writes → Takes a b (op_line o ∷ [])
-takes_read a b o key wid is l s w = subst (λ x. Takes a b (op_line x ∷ [])) (sym is) (takes_silent a b (line.Read key wid) (λ n. (refl, refl)) l s w)
-
-pub takes_write : (a b : Statements) (o : Op) (key : List ℕ) (wid : ℕ) (s : Stated) → o ≡ Write key wid → s.line ≡ a.line → s.number ≡ wid → b.line ≡ a.line + 1 → b.sessions ≡ a.sessions → b.writes.items ≡ a.writes.items ++ s ∷ [] → Takes a b (op_line o ∷ [])
-takes_write a b o key wid s is at named line sessions writes = subst (λ x. Takes a b (op_line x ∷ [])) (sym is) (record {
-  line = omega (arith, line);
-  sessions = ap (λ v. by_line v.items) sessions ∙ sym (append-nil (by_line a.sessions.items));
-  writes = by_line-push a.writes.items b.writes.items s writes ∙ ap (λ l. by_line a.writes.items ++ l) (ap (λ n. (n, s.number) ∷ []) at ∙ ap (λ w. (a.line, w) ∷ []) named);
-})
-
 pub takes_session : (a b : Statements) (number : ℕ) (s : Stated) → s.line ≡ a.line → s.number ≡ number → b.line ≡ a.line + 1 → b.writes ≡ a.writes → b.sessions.items ≡ a.sessions.items ++ s ∷ [] → Takes a b (line.Session number ∷ [])
-takes_session a b number s at named line writes sessions = record {
-  line = omega (arith, line);
-  sessions = by_line-push a.sessions.items b.sessions.items s sessions ∙ ap (λ l. by_line a.sessions.items ++ l) (ap (λ n. (n, s.number) ∷ []) at ∙ ap (λ w. (a.line, w) ∷ []) named);
-  writes = ap (λ v. by_line v.items) writes ∙ sym (append-nil (by_line a.writes.items));
-}
+takes_session a b number s at named line writes sessions = grind (arith, by_line-push, append-nil)
 
 -- ---- one more of several
 module _ {X : Type 0} (f : X → List Line) where
@@ -105,24 +83,12 @@ pub from_none : (n : ℕ) (xs : List (ℕ × ℕ)) → AscendFrom n xs → Ascen
 from_none n xs h = weaker 0 n xs (omega arith) h
 
 pub sessions_ascend : (n : ℕ) (ls : List Line) → AscendFrom n (sessions_from n ls)
-sessions_ascend n [] = tt
-sessions_ascend n (line.Session k ∷ ls) = (omega arith, sessions_ascend (n + 1) ls)
-sessions_ascend n (line.Begin m ∷ ls) = one_less n (sessions_from (n + 1) ls) (sessions_ascend (n + 1) ls)
-sessions_ascend n (line.Read k w ∷ ls) = one_less n (sessions_from (n + 1) ls) (sessions_ascend (n + 1) ls)
-sessions_ascend n (line.Write k w ∷ ls) = one_less n (sessions_from (n + 1) ls) (sessions_ascend (n + 1) ls)
-sessions_ascend n (line.Commit m ∷ ls) = one_less n (sessions_from (n + 1) ls) (sessions_ascend (n + 1) ls)
-sessions_ascend n (line.Abort ∷ ls) = one_less n (sessions_from (n + 1) ls) (sessions_ascend (n + 1) ls)
-sessions_ascend n (line.Unknown ∷ ls) = one_less n (sessions_from (n + 1) ls) (sessions_ascend (n + 1) ls)
+sessions_ascend n [] = grind (arith, one_less)
+sessions_ascend n (x ∷ ls) = grind (arith, one_less, sessions_ascend (n + 1) ls)
 
 pub writes_ascend : (n : ℕ) (ls : List Line) → AscendFrom n (writes_from n ls)
-writes_ascend n [] = tt
-writes_ascend n (line.Write k w ∷ ls) = (omega arith, writes_ascend (n + 1) ls)
-writes_ascend n (line.Session k ∷ ls) = one_less n (writes_from (n + 1) ls) (writes_ascend (n + 1) ls)
-writes_ascend n (line.Begin m ∷ ls) = one_less n (writes_from (n + 1) ls) (writes_ascend (n + 1) ls)
-writes_ascend n (line.Read k w ∷ ls) = one_less n (writes_from (n + 1) ls) (writes_ascend (n + 1) ls)
-writes_ascend n (line.Commit m ∷ ls) = one_less n (writes_from (n + 1) ls) (writes_ascend (n + 1) ls)
-writes_ascend n (line.Abort ∷ ls) = one_less n (writes_from (n + 1) ls) (writes_ascend (n + 1) ls)
-writes_ascend n (line.Unknown ∷ ls) = one_less n (writes_from (n + 1) ls) (writes_ascend (n + 1) ls)
+writes_ascend n [] = grind (arith, one_less)
+writes_ascend n (x ∷ ls) = grind (arith, one_less, writes_ascend (n + 1) ls)
 
 -- ---- all of several
 singles : {X Z : Type 0} (f : X → Z) (xs : List X) → flat_map (λ x. f x ∷ []) xs ≡ map f xs
@@ -130,10 +96,7 @@ singles f [] = refl
 singles f (x ∷ xs) = ap (λ l. f x ∷ l) (singles f xs)
 
 pub txn_length : (t : Txn) → length (txn_lines (view_txn t)) ≡ length (flat_map (λ (op : Op). op_line op ∷ []) t.ops.items) + 2
-txn_length t =
-    let joined = length-append (map op_line t.ops.items) (end_line t.outcome t.ended ∷ []) in
-    let same = ap length (singles op_line t.ops.items) in
-    omega (arith, joined, same)
+txn_length t = grind (arith, length-append, singles)
 
 pub session_length : (s : Session) → length (session_lines (view s)) ≡ length (flat_map (λ (t : Txn). txn_lines (view_txn t)) s.txns.items) + 1
 session_length s = let same = ap length (flat_map-map txn_lines view_txn s.txns.items) in omega (arith, same)

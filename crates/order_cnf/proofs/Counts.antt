@@ -4,16 +4,16 @@ use Rattle.std.specs.List.{filter, range_with_len}
 use Rattle.std.specs.Prelude.{map}
 use Rattle.std.proofs.lemmas.List.{length-map}
 use Rattle.std.proofs.lemmas.Nat.{mul-le}
+use Rattle.std.proofs.lemmas.List.FromFn.{length-range_with_len}
 use Rattle.serializability.specs.Pairs.{is_free, pairs_of}
 use Rattle.order_cnf.specs.Tables.{Relation, known_in, pairs_in}
-use Rattle.order_cnf.proofs.PairPlaces.{range_length}
 
 pairs_twice : (m a : ℕ) → 2 * length (pairs_of (range_with_len a m)) + m ≡ m * m
 pairs_twice zero a = omega arith
 pairs_twice (suc m) a =
     let others = range_with_len (a + 1) m in
     let with_first : ℕ → (ℕ × ℕ) = λ b. (a, b) in
-    omega (arith, length-append (map with_first others) (pairs_of others), length-map others with_first, range_length (a + 1) m, pairs_twice m (a + 1))
+    omega (arith, length-append (map with_first others) (pairs_of others), length-map others with_first, length-range_with_len (a + 1) m, pairs_twice m (a + 1))
 
 one_less : {X : Type 0} (b : Bool) (x : X) (xs : List X) (n : ℕ) → length xs ≤ n → length (cond b (x ∷ xs) xs) ≤ suc n
 one_less true x xs n h = omega (arith, h)

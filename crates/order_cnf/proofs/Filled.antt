@@ -1,14 +1,12 @@
 -- Tables of bits of pairs that are filled one pair after the other.
 use Rattle.std.proofs.Common.{◌≡◌, ◌⊎◌, inl, inr, sym, ap, ◌∙◌, ℕ, ◌+◌, ◌*◌, ◌<◌, ◌≤◌, Bool, true, false, eqb, ◌&&◌, ◌||◌, List, length, replicate, arith, eq-eqb, eqb-true}
 use Rattle.std.specs.Prelude.{nat_le}
-use Rattle.std.proofs.lemmas.Bool.{cases_eq, false≢true, or_cases, or_left, or_right, and_from, and_parts, le-leb, leb-true}
+use Rattle.std.proofs.lemmas.Bool.{cases_eq, false≢true, or_cases, or_left, or_right, and_from, le-leb}
 use Rattle.std.proofs.lemmas.List.{length-replicate}
 use Rattle.known_graph.specs.Bits.{bit_of, row_len}
 use Rattle.known_graph.specs.Held.{bit_place}
-use Rattle.known_graph.proofs.Bools.{same_tests}
 use Rattle.known_graph.proofs.Edges.{place_apart, nodes_within_row}
 use Rattle.known_graph.proofs.Words.{bit_of-zeros}
-use Rattle.order_cnf.specs.Cycles.{IsPairTable}
 
 -- each bit that is set is one at which f holds, and the bits of the pairs that are done are
 pub record IsFilled (n : ℕ) (f : ℕ → ℕ → Bool) (Done : ℕ → ℕ → Type 0) (words : List ℕ) : Type 0 where
@@ -35,13 +33,6 @@ past_more_turned u v x y h = elim (past_more u v y x h) [
   | inl e ↦ inl (e.1, e.0)
   | inr p ↦ inr p
 ]
-
-past_row : (n u v x y : ℕ) → n + 1 ≤ v → y ≤ n → IsPast (u + 1) 0 x y → IsPast u v x y
-past_row n u v x y h hy (inl lt) = elim (cases_eq x u) [
-  | inl e ↦ inr (e, omega (arith, h, hy))
-  | inr ne ↦ inl (omega (arith, lt, ne))
-]
-past_row n u v x y h hy (inr p) = absurd (omega (arith, p.1))
 
 -- ---- a table of no bits
 pub filled_none : (n : ℕ) (f : ℕ → ℕ → Bool) (Done : ℕ → ℕ → Type 0) (words : List ℕ) → words ≡ replicate ((n + 1) * row_len n) 0 → ((x y : ℕ) → Done x y → ⊥) → IsFilled n f Done words
@@ -96,24 +87,3 @@ kept_first n f words u v here k = filled_kept n f (IsPast u v) (IsPast u (v + 1)
 
 pub kept_second : (n : ℕ) (f : ℕ → ℕ → Bool) (words : List ℕ) (u v : ℕ) → f v u ≡ false → IsFilled n f (IsPastTurned u v) words → IsFilled n f (IsPastTurned u (v + 1)) words
 kept_second n f words u v here k = filled_kept n f (IsPastTurned u v) (IsPastTurned u (v + 1)) words v u here k (past_more_turned u v)
-
--- ---- a row is done
-pub row_first : (n : ℕ) (f : ℕ → ℕ → Bool) (words : List ℕ) (u v : ℕ) → n + 1 ≤ v → IsFilled n f (IsPast u v) words → IsFilled n f (IsPast (u + 1) 0) words
-row_first n f words u v end k = record { len = k.len; sound = k.sound; whole = λ x y hx hy d t. k.whole x y hx hy (past_row n u v x y end hy d) t }
-
-pub row_second : (n : ℕ) (f : ℕ → ℕ → Bool) (words : List ℕ) (u v : ℕ) → n + 1 ≤ v → IsFilled n f (IsPastTurned u v) words → IsFilled n f (IsPastTurned (u + 1) 0) words
-row_second n f words u v end k = record { len = k.len; sound = k.sound; whole = λ x y hx hy d t. k.whole x y hx hy (past_row n u v y x end hx d) t }
-
--- ---- all rows are done
-filled_all : (n : ℕ) (f : ℕ → ℕ → Bool) (Done : ℕ → ℕ → Type 0) (words : List ℕ) → ((x y : ℕ) → x ≤ n → y ≤ n → Done x y) → IsFilled n f Done words → IsPairTable n f words
-filled_all n f Done words all k = record {
-  len = k.len;
-  bits = λ x y hx hy. same_tests (bit_of words (bit_place n x y)) (nat_le y n && f x y) (k.sound x y hx hy)
-      (λ t. let p = and_parts (nat_le y n) (f x y) t in let small : y ≤ n = leb-true y n p.0 in k.whole x y hx small (all x y hx small) p.1);
-}
-
-pub all_first : (n : ℕ) (f : ℕ → ℕ → Bool) (words : List ℕ) (u : ℕ) → n + 1 ≤ u → IsFilled n f (IsPast u 0) words → IsPairTable n f words
-all_first n f words u end k = filled_all n f (IsPast u 0) words (λ x y hx hy. inl (omega (arith, hx, end))) k
-
-pub all_second : (n : ℕ) (f : ℕ → ℕ → Bool) (words : List ℕ) (u : ℕ) → n + 1 ≤ u → IsFilled n f (IsPastTurned u 0) words → IsPairTable n f words
-all_second n f words u end k = filled_all n f (IsPastTurned u 0) words (λ x y hx hy. inl (omega (arith, hy, end))) k

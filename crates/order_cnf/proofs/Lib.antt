@@ -1,6 +1,5 @@
 pub mod PairPlaces
 pub mod Counts
-pub mod Each
 pub mod Faults
 pub mod Terms
 pub mod Counted

@@ -8,7 +8,7 @@ use Rattle.std.proofs.lemmas.Grind.{get_or-set_at}
 use Rattle.std.proofs.lemmas.Nat.{same_from_place, mul-add-lt}
 use Rattle.serializability.specs.Pairs.{is_free, pairs_of, pair_place}
 use Rattle.serializability.proofs.Places.{each_from_append}
-use Rattle.order_cnf.specs.Tables.{Relation, IsStrict, IsTable, known_in, pairs_in, variable_of}
+use Rattle.order_cnf.specs.Tables.{Relation, known_in, pairs_in, variable_of}
 use Rattle.order_cnf.specs.Streams.{up_to}
 use Rattle.order_cnf.proofs.Walks.{up_to_first, up_to_last}
 use Rattle.order_cnf.proofs.Counts.{few_pairs}
@@ -218,22 +218,6 @@ number_known r table count low high lt hi k kept = record {
     | inr b ↦ inr (b.0, omega (arith, b.1))
   ]);
 }
-
--- all are numbered
-pub numbered_table : (r : Relation) (table : List ℕ) (count low high : ℕ) → r.nodes ≤ 1000 → IsStrict (known_in r) → r.nodes + 1 ≤ low → IsNumbered r table count low high → IsTable r table
-numbered_table r table count low high few strict end k = record {
-  few = few;
-  strict = strict;
-  places = k.places;
-  entry = λ u v lt hi. k.entries u v lt hi (inl (omega (arith, lt, hi, end)));
-}
-
-pub numbered_count : (r : Relation) (table : List ℕ) (count low : ℕ) → r.nodes + 1 ≤ low → IsNumbered r table count low (low + 1) → count ≡ length (pairs_in r)
-numbered_count r table count low end k =
-    let last : pairs_in r ≡ k.done ++ [] =
-    k.split ∙ ap (λ l. k.done ++ (free_with r low l ++ free_of r (up_to (low + 1) (r.nodes + 1)))) (up_to_last (low + 1) (r.nodes + 1) (omega (arith, end)))
-    ∙ ap (λ l. k.done ++ free_of r l) (up_to_last (low + 1) (r.nodes + 1) (omega (arith, end))) in
-    omega (arith, k.counted, ap length last, length-append k.done [])
 
 pub few_numbered : (r : Relation) (table : List ℕ) (count low high : ℕ) → r.nodes ≤ 1000 → IsNumbered r table count low high → count ≤ 500500
 few_numbered r table count low high few k =

@@ -32,9 +32,6 @@ passed_begun values variables all rest same count h = record {
 pub passed_number : (values : List Bool) (all rest : List (List Literal)) (n : ℕ) → IsPassed values all rest n → n + length rest ≡ length all
 passed_number values all rest n k = omega (arith, ap length k.split, length-append k.done rest, k.counted)
 
-pub passed_within : (values : List Bool) (all rest next : List (List Literal)) (c : List Literal) (n : ℕ) → IsPassed values all rest n → rest ≡ c ∷ next → AllByRecursion (IsWithin (length values)) c
-passed_within values all rest next c n k same = (subst (λ l. AllByRecursion (AllByRecursion (IsWithin (length values))) l) same k.within).0
-
 pub passed_one : (values : List Bool) (all rest next : List (List Literal)) (c : List Literal) (n : ℕ) → IsPassed values all rest n → rest ≡ c ∷ next → clause_true values c ≡ true → IsPassed values all next (n + 1)
 passed_one values all rest next c n k same t = record {
   done = k.done ++ c ∷ [];
@@ -60,9 +57,6 @@ passed_false values all rest next c n k same f =
       earlier = subst (λ m. AllByRecursion (Holds values) (take m all)) (sym back) (subst (λ l. AllByRecursion (Holds values) (take (length k.done) l)) (sym here) (subst (AllByRecursion (Holds values)) (sym (take-append_seam k.done (c ∷ next))) k.held));
       here = ap (λ m. clause_true values (get_or all m [])) back ∙ ap (λ l. clause_true values (get_or l (length k.done) [])) here ∙ ap (clause_true values) (get_seam k.done next c) ∙ f;
     }
-
-pub passed_all : (values : List Bool) (all rest : List (List Literal)) (n : ℕ) → IsPassed values all rest n → rest ≡ [] → AllByRecursion (Holds values) all
-passed_all values all rest n k none = subst (AllByRecursion (Holds values)) (sym (k.split ∙ ap (λ l. k.done ++ l) none)) (each_from_append (Holds values) k.done [] k.held tt)
 
 pub not_all : (values : List Bool) (all rest next : List (List Literal)) (c : List Literal) (n : ℕ) → IsPassed values all rest n → rest ≡ c ∷ next → clause_true values c ≡ false → AllByRecursion (Holds values) all → ⊥
 not_all values all rest next c n k same f h =

@@ -104,10 +104,6 @@ short : (log : Log) → IsClean log → HasShortClauses (plain log)
 short log clean = in_plain log clean (λ c. (0 < length c) × (length c ≤ 3)) (λ e edges few joined.
     let same = literal_count log.nodes edges in (omega arith, omega (arith, same, few)))
 
-nodes_of : (log : Log) → (plain log).nodes ≡ log.nodes
-unfolding plain
-nodes_of log = refl
-
 pub plain_is_formula : (log : Log) → IsClean log → log.nodes ≤ 1000 → length (plain log).clauses ≤ 20000000 → IsFormula (plain log)
 unfolding plain
 plain_is_formula log clean few size = record {

@@ -1,9 +1,10 @@
 -- What is known of a polygraph that is left open, by its rows.
-use Rattle.std.proofs.Common.{◌≡◌, sym, ap, ◌∙◌, subst, ℕ, ◌*◌, ◌<◌, ◌≤◌, true, List, [], ◌∷◌, ◌++◌, length, arith}
+use Rattle.std.proofs.Common.{◌≡◌, sym, ap, ◌∙◌, subst, ℕ, ◌*◌, ◌<◌, ◌≤◌, true, List, [], ◌∷◌, ◌++◌, length, arith, ◌+◌}
 use Rattle.std.specs.List.{AllByRecursion}
 use Rattle.serializability.specs.Polygraph.{Edge, Choice, Polygraph}
 use Rattle.serializability.specs.Pairs.{Known, free_pairs}
 use Rattle.serializability.proofs.Places.{each_from_append}
+use Rattle.serializability.specs.declared.literal.Literal.{Literal}
 use Rattle.reach_laws.specs.Reach.{Graph}
 use Rattle.reach_laws.proofs.Walks.{each_contained, each_from_contained}
 use Rattle.pruning_laws.specs.declared.side.Side.{Side}
@@ -12,14 +13,16 @@ use Rattle.pruning_laws.specs.Forced.{IsRefuted, edges_of}
 use Rattle.known_graph.proofs.Tested.{edge_in, has_contained}
 use Rattle.polygraph.specs.Polygraphs.{Joins, JoinsBoth}
 use Rattle.prune_ledger.specs.Pruned.{Remainder}
-use Rattle.order_laws.specs.Reduced.{IsReach, order_nodes}
+use Rattle.order_laws.specs.Reduced.{IsReach, order_nodes, reduced}
 use Rattle.order_laws.specs.Proper.{IsProper}
 use Rattle.order_laws.proofs.Reached.{reach_known, not_back, initial_known, same_pairs}
 use Rattle.order_cnf.specs.Data.{is_listed}
 use Rattle.order_cnf.specs.Tables.{Relation, known_in, pairs_in, IsStrict}
 use Rattle.order_cnf.specs.Left.{IsRest, IsProperRest}
 use Rattle.order_cnf.specs.Streams.{IsUnturned}
-use Rattle.order_cnf.proofs.Wholes.{edges_in, counts_in}
+use Rattle.order_cnf.proofs.Wholes.{edges_in, counts_in, reduced_is}
+use Rattle.order_cnf.specs.Layouts.{clauses_in}
+use Rattle.order_cnf.specs.Shapes.{Shape, cnf_with}
 
 pub is_reach : (p : Polygraph) (rows : Graph) → IsRest p rows → IsReach p.known (is_listed rows.edges)
 is_reach p rows k = record { each = λ u v. (λ t. (k.rows.reach u v).0 (edge_in rows.edges (u, v) t), λ r. has_contained rows.edges (u, v) ((k.rows.reach u v).1 r)) }
@@ -46,6 +49,15 @@ later_pairs p rows r k nodes known =
     let initial = initial_known p (is_proper p rows k) (is_listed rows.edges) (is_reach p rows k) in
     ap (λ n. pairs_in (record { nodes = n; known = r.known })) nodes
     ∙ same_pairs p.nodes (known_in r) (subst (λ es. (v : ℕ) → 0 < v → v ≤ p.nodes → is_listed es 0 v ≡ true) (sym known) initial)
+
+-- the clauses of what is left are those of its reduced formula
+pub rest_is : (s : Shape) (p : Polygraph) (rows : Graph) (r : Relation) (v : ℕ) (choices : List Choice) (units : List Literal) (bs : List Choice) (es : List Edge) (cs : List ℕ) → IsRest p rows → r.nodes ≡ p.nodes → r.known ≡ rows.edges
+    → v ≡ length (pairs_in r) → choices ≡ p.choices → units ≡ [] → bs ≡ [] → es ≡ edges_in choices → cs ≡ counts_in choices
+    → s ≡ record { relation = r; clauses = clauses_in r 1 units bs es cs } → cnf_with s (v + length choices) ≡ reduced (is_listed rows.edges) p
+rest_is s p rows r v choices units bs es cs k nodes known ev eh eu eb ee ec same =
+    reduced_is s p r (v + length choices) units bs es cs nodes (later_pairs p rows r k nodes known)
+    (ap (λ n. n + length choices) ev ∙ ap (λ hs. length (pairs_in r) + length hs) eh) eu eb (ee ∙ ap edges_in eh) (ec ∙ ap counts_in eh) same
+    ∙ ap (λ edges. reduced (is_listed edges) p) known
 
 side_unturned : (n : ℕ) (edges : List Edge) (known : Known) (r : Relation) → IsReach edges known → known_in r ≡ known → r.nodes ≡ n → (side : List Edge) → AllByRecursion (Joins n) side → (IsRefuted edges side → ⊥) → AllByRecursion (IsUnturned r) side
 side_unturned n edges known r reach same nodes side joins unrefuted =

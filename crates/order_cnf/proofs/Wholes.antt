@@ -1,6 +1,6 @@
 -- The clauses of whole formulas are those of their definitions.
-use Rattle.std.proofs.Common.{◌≡◌, refl, sym, ap, ◌∙◌, subst, ℕ, suc, ◌+◌, ◌-◌, ◌||◌, Bool, true, false, not, List, [], ◌∷◌, ◌++◌, length, drop, arith}
-use Rattle.std.specs.Prelude.{map, Option, None, Some, is_some, IfSome}
+use Rattle.std.proofs.Common.{◌≡◌, refl, sym, ap, ◌∙◌, subst, ℕ, suc, ◌+◌, ◌-◌, ◌||◌, Bool, true, false, not, List, [], ◌∷◌, ◌++◌, length, drop, arith, append-nil}
+use Rattle.std.specs.Prelude.{map, Some, is_some}
 use Rattle.std.specs.List.{flat_map, range_with_len, AllByRecursion}
 use Rattle.std.proofs.lemmas.Bool.{false≢true}
 use Rattle.std.proofs.lemmas.List.{append_assoc, length-append, length-map}
@@ -19,10 +19,6 @@ use Rattle.order_cnf.specs.Layouts.{clauses_in}
 use Rattle.order_cnf.specs.declared.fault.CnfFault.{CnfFault}
 use Rattle.order_cnf.specs.Limits.{size_fault}
 use Rattle.order_cnf.specs.Shapes.{Shape, cnf_with}
-
-append_none : {X : Type 0} (xs : List X) → xs ++ [] ≡ xs
-append_none [] = refl
-append_none (x ∷ xs) = ap (λ l. x ∷ l) (append_none xs)
 
 none_after : (r : Relation) (l : Literal) → sides_after r l [] [] ≡ []
 unfolding sides_after
@@ -51,7 +47,7 @@ contradicting = record { variable = 1; positive = true } ∷ record { variable =
 empty_whole : (units : List Literal) → cnf_with (record { relation = record { nodes = 0; known = [] }; clauses = clauses_in (record { nodes = 0; known = [] }) 0 units [] [] [] }) 1
     ≡ record { nodes = 0; known = nothing_known; variables = 1; clauses = map (λ l. l ∷ []) units }
 unfolding clauses_in units_of bipaths_of of_three sides_after
-empty_whole units = ap (λ cs. record { nodes = 0; known = nothing_known; variables = 1; clauses = cs }) (append_none (map (λ l. l ∷ []) units))
+empty_whole units = ap (λ cs. record { nodes = 0; known = nothing_known; variables = 1; clauses = cs }) (append-nil (map (λ l. l ∷ []) units))
 
 pub contradiction_is : (s : Shape) (r : Relation) (units : List Literal) (bs : List Choice) (es : List Edge) (cs : List ℕ) → r ≡ record { nodes = 0; known = [] } → units ≡ contradicting → bs ≡ [] → es ≡ [] → cs ≡ []
     → s ≡ record { relation = r; clauses = clauses_in r 0 units bs es cs } → cnf_with s 1 ≡ contradiction
@@ -87,7 +83,7 @@ plain_whole n units arcs choices eu =
     ap (λ us. whole (map (λ (l : Literal). l ∷ []) us ++ (twos ++ (threes_of (n + 1 - 0) ++ [])))) eu
     ∙ ap (λ us. whole (us ++ (twos ++ (threes_of (n + 1 - 0) ++ [])))) (units_are n arcs)
     ∙ ap (λ m. whole (ones ++ (twos ++ (threes_of m ++ [])))) (whole_range n)
-    ∙ ap (λ t. whole (ones ++ (twos ++ t))) (append_none threes)
+    ∙ ap (λ t. whole (ones ++ (twos ++ t))) (append-nil threes)
     ∙ ap whole (sym (append_assoc ones twos threes))
 
 pub plain_is : (s : Shape) (p : Polygraph) (r : Relation) (variables : ℕ) (units : List Literal) (arcs : List Edge) (bs : List Choice) (es : List Edge) (cs : List ℕ) → r ≡ record { nodes = p.nodes; known = [] } → variables ≡ length (pairs_in r)
@@ -183,7 +179,3 @@ clause_number r start units bs es cs =
     ∙ ap (λ n. n + length (map two bs ++ (threes ++ sides))) (length-map units one)
     ∙ ap (λ n. length units + n) (length-append (map two bs) (threes ++ sides) ∙ ap (λ n. n + length (threes ++ sides)) (length-map bs two)
     ∙ ap (λ n. length bs + n) (length-append threes sides))
-
-pub some_weaker : {X : Type 0} (o : Option X) (P Q : X → Type 0) → ((x : X) → P x → Q x) → IfSome o P → IfSome o Q
-some_weaker None P Q f h = tt
-some_weaker (Some x) P Q f h = f x h

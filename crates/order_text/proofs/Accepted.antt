@@ -1,31 +1,18 @@
 -- A text without a fault is the text of nodes.
-use Rattle.std.proofs.Common.{◌≡◌, ℕ, ◌+◌, ◌≤◌, ◌^◌, Bool, true, false, cond, eqb, List, [], ◌∷◌, ◌++◌, length, Option, Some, None, refl, sym, ap, ◌∙◌, nat_lt, ◌&&◌}
+use Rattle.std.proofs.Common.{◌≡◌, ℕ, ◌+◌, ◌≤◌, ◌^◌, Bool, true, false, cond, List, [], ◌∷◌, ◌++◌, length, Option, Some, None, refl, sym, ap, ◌∙◌, nat_lt, ◌&&◌}
 use Rattle.std.specs.List.{flat_map}
 use Rattle.std.specs.Option.{option_or, is_some}
-use Rattle.std.proofs.lemmas.Bool.{eqb-true, ltb-false}
+use Rattle.std.proofs.lemmas.Bool.{ltb-false}
 use Rattle.std.proofs.lemmas.List.Elements.{All-nil, All-cons}
 use Rattle.session_log.specs.Text.{ClientSession}
-use Rattle.session_log.specs.Lines.{lines, onto_line, bytes_of}
-use Rattle.session_log.proofs.Lines.{lines-nil, lines-cons_lf, lines-cons}
+use Rattle.session_log.specs.Lines.{lines, bytes_of}
+use Rattle.session_log.proofs.Lying.{text_of_lines_is}
 use Rattle.session_history.specs.Tables.{name_in}
 use Rattle.order_text.specs.Text.{name_line, order_text, AreNodes}
 use Rattle.order_text.specs.Faults.{is_name, named, line_fault, first_fault, order_fault}
 use Rattle.order_text.specs.declared.fault.OrderFault.{OrderFault}
 use Rattle.order_text.specs.declared.fault.OrderFault.TheVariants.{BadLine, NoSuchTransaction, TooLong}
 use Rattle.order_text.proofs.Reading.{IsNode, IsRead, bytes_read, named-sound}
-
--- ---- the lines of a text are all of it
-onto_line-bytes : (b : ℕ) (ls : List (List ℕ × Bool)) → flat_map bytes_of (onto_line b ls) ≡ b ∷ flat_map bytes_of ls
-onto_line-bytes b [] = refl
-onto_line-bytes b (l ∷ ls) = refl
-
-lines-bytes : (text : List ℕ) → flat_map bytes_of (lines text) ≡ text
-lines-bytes [] = ap (flat_map bytes_of) lines-nil
-lines-bytes (b ∷ bs) = go (eqb b 10) refl (lines-bytes bs)
-  where
-    go : (t : Bool) → eqb b 10 ≡ t → flat_map bytes_of (lines bs) ≡ bs → flat_map bytes_of (lines (b ∷ bs)) ≡ b ∷ bs
-    go true e ih = ap (flat_map bytes_of) (lines-cons_lf b bs e) ∙ ap (λ x. 10 ∷ x) ih ∙ ap (λ x. x ∷ bs) (sym (eqb-true b 10 e))
-    go false e ih = ap (flat_map bytes_of) (lines-cons b bs e) ∙ onto_line-bytes b (lines bs) ∙ ap (λ x. b ∷ x) ih
 
 -- ---- each names a node
 neither : (a b : Option OrderFault) → option_or a b ≡ None → (a ≡ None) × (b ≡ None)
@@ -50,16 +37,9 @@ record AreRead (ss : List ClientSession) (ls : List (List ℕ × Bool)) : Type 0
   pub nodes : AreNodes ss order
   pub text : flat_map bytes_of ls ≡ order_text ss order
 
-nothing : (ss : List ClientSession) → [] ≡ order_text ss []
-unfolding order_text
-nothing ss = refl
-
-order_text-cons : (ss : List ClientSession) (v : ℕ) (order : List ℕ) → name_line (name_in ss v) ++ order_text ss order ≡ order_text ss (v ∷ order)
-unfolding order_text
-order_text-cons ss v order = refl
-
 order_read : (ss : List ClientSession) (n : ℕ) (ls : List (List ℕ × Bool)) → first_fault ss n ls ≡ None → AreRead ss ls
-order_read ss n [] e = record { order = []; nodes = All-nil (IsNode ss); text = nothing ss }
+unfolding order_text
+order_read ss n [] e = record { order = []; nodes = All-nil (IsNode ss); text = refl }
 order_read ss n (l ∷ ls) e =
     let parts = neither (line_fault ss n l) (first_fault ss (n + 1) ls) e in
     let first = node_read ss n l parts.0 in
@@ -68,7 +48,7 @@ order_read ss n (l ∷ ls) e =
       order = first.0 ∷ rest.order;
       nodes = All-cons (IsNode ss) first.0 rest.order (named-sound ss l.0 first.0 first.1.named).1 rest.nodes;
       text = ap (λ x. x ++ flat_map bytes_of ls) (bytes_read ss n l.0 l.1 first.0 first.1)
-          ∙ ap (λ x. name_line (name_in ss first.0) ++ x) rest.text ∙ order_text-cons ss first.0 rest.order;
+          ∙ ap (λ x. name_line (name_in ss first.0) ++ x) rest.text;
     }
 
 no_fault_parts : (t : Bool) (rest : Option OrderFault) → cond t (Some TooLong) rest ≡ None → (t ≡ false) × (rest ≡ None)
@@ -80,4 +60,4 @@ unfolding order_fault
 accepted_printed ss text e =
     let parts = no_fault_parts (nat_lt (2 ^ 20) (length text)) (first_fault ss 1 (lines text)) e in
     let read = order_read ss 1 (lines text) parts.1 in
-    (ltb-false (2 ^ 20) (length text) parts.0, (read.order, read.nodes, sym (lines-bytes text) ∙ read.text))
+    (ltb-false (2 ^ 20) (length text) parts.0, (read.order, read.nodes, sym (text_of_lines_is text) ∙ read.text))

@@ -11,15 +11,12 @@ use Rattle.log_definitions.specs.Unknown.{is_committed, settle, settled, taken, 
 use Rattle.log_definitions.specs.WellFormed.{log_lines}
 use Rattle.log_definitions.specs.Serial.{Committed, committed_of, committed_in, node_of}
 use Rattle.log_definitions.specs.Numbers.{IsWellFormedList, log_of}
+use Rattle.log_definitions.proofs.Members.{each_weaker, each_member}
 use Rattle.log_definitions.proofs.Nodes.{each_at}
 use Rattle.log_definitions.proofs.Settled.{numbers_resolved}
 use Rattle.log_definitions.proofs.Scanning.{rules_where_no_fault}
 use Rattle.session_history.specs.Tables.{name_in, node_named}
 use Rattle.order_text.proofs.Reading.{IsNode, has_name, name_at, node_named-sound}
-
-each_of_all : {X : Type 0} (P : X → Type 0) → ((x : X) → P x) → (xs : List X) → AllByRecursion P xs
-each_of_all P h [] = tt
-each_of_all P h (x ∷ xs) = (h x, each_of_all P h xs)
 
 -- a transaction with its place in the session
 abbrev Placed : Type 0
@@ -57,20 +54,13 @@ apart_at (e ∷ cs) (suc i) (suc j) c d a x y s p = ap suc (apart_at cs i j c d 
 -- in a session, by their places
 placed_from : (k : ℕ) (ts : List Transaction) → AllByRecursion (λ (t : Placed). k ≤ t.0) (enumerate_from k ts)
 placed_from k [] = tt
-placed_from k (t ∷ ts) = (omega arith, later k ts (enumerate_from (k + 1) ts) (placed_from (k + 1) ts))
-  where
-    later : (k : ℕ) (ts : List Transaction) (xs : List Placed) → AllByRecursion (λ (t : Placed). k + 1 ≤ t.0) xs → AllByRecursion (λ (t : Placed). k ≤ t.0) xs
-    later k ts [] h = tt
-    later k ts (x ∷ xs) h = (omega (arith, h.0), later k ts xs h.1)
+placed_from k (t ∷ ts) = (omega arith, each_weaker (λ (x : Placed). k + 1 ≤ x.0) (λ (x : Placed). k ≤ x.0) (λ x h. omega (arith, h)) (enumerate_from (k + 1) ts) (placed_from (k + 1) ts))
 
 behind : (number k : ℕ) (t : Transaction) (xs : List Placed) → AllByRecursion (λ (x : Placed). k + 1 ≤ x.0) xs → AllByRecursion (IsOther (made number (k, t))) (map (made number) (filter is_kept xs))
 behind number k t xs h =
     each_from_map (IsOther (made number (k, t))) (made number) (filter is_kept xs)
-    (each_from_filter (λ x. IsOther (made number (k, t)) (made number x)) is_kept xs (go xs h))
-  where
-    go : (xs : List Placed) → AllByRecursion (λ (x : Placed). k + 1 ≤ x.0) xs → AllByRecursion (λ (x : Placed). is_kept x ≡ true → IsOther (made number (k, t)) (made number x)) xs
-    go [] h = tt
-    go (x ∷ xs) h = (λ _ s p. omega (arith, h.0, p), go xs h.1)
+    (each_from_filter (λ x. IsOther (made number (k, t)) (made number x)) is_kept xs
+    (each_weaker (λ (x : Placed). k + 1 ≤ x.0) (λ (x : Placed). is_kept x ≡ true → IsOther (made number (k, t)) (made number x)) (λ x low _ s p. omega (arith, low, p)) xs h))
 
 apart_in_session : (number k : ℕ) (ts : List Transaction) → AreApart (map (made number) (filter is_kept (enumerate_from k ts)))
 apart_in_session number k [] = tt
@@ -87,12 +77,8 @@ of_others : (n : ℕ) (ss : List ClientSession) → (Has n (map (λ s. s.number)
 of_others n [] absent = tt
 of_others n (s ∷ ss) absent =
     each_from_append (IsNotOf n) (committed_of s) (flat_map committed_of ss)
-    (each_from_map (IsNotOf n) (made s.number) (filter is_kept (enumerate_from 1 s.txns)) (each_of_all (λ t. IsNotOf n (made s.number t)) (λ t e. absent (inl (sym e))) (filter is_kept (enumerate_from 1 s.txns))))
+    (each_from_map (IsNotOf n) (made s.number) (filter is_kept (enumerate_from 1 s.txns)) (each_member (λ t. IsNotOf n (made s.number t)) (filter is_kept (enumerate_from 1 s.txns)) (λ t _ e. absent (inl (sym e)))))
     (of_others n ss (λ h. absent (inr h)))
-
-others : (c : Committed) (ds : List Committed) → AllByRecursion (IsNotOf c.session) ds → AllByRecursion (IsOther c) ds
-others c [] h = tt
-others c (d ∷ ds) h = (λ s p. h.0 s, others c ds h.1)
 
 apart : (ss : List ClientSession) → Apart (map (λ s. s.number) ss) → AreApart (flat_map committed_of ss)
 apart [] h = tt
@@ -100,7 +86,8 @@ apart (s ∷ ss) h =
     let kept : List Placed = filter is_kept (enumerate_from 1 s.txns) in
     apart-append (committed_of s) (flat_map committed_of ss) (apart_in_session s.number 1 s.txns) (apart ss h.1)
     (each_from_map (λ c. AllByRecursion (IsOther c) (flat_map committed_of ss)) (made s.number) kept
-    (each_of_all (λ t. AllByRecursion (IsOther (made s.number t)) (flat_map committed_of ss)) (λ t. others (made s.number t) (flat_map committed_of ss) (of_others s.number ss h.0)) kept))
+    (each_member (λ t. AllByRecursion (IsOther (made s.number t)) (flat_map committed_of ss)) kept
+    (λ t _. each_weaker (IsNotOf s.number) (IsOther (made s.number t)) (λ c other same _. other same) (flat_map committed_of ss) (of_others s.number ss h.0))))
 
 nodes_apart : (ss : List ClientSession) → Apart (map (λ (s : ClientSession). s.number) ss) → AreApart (committed_in ss)
 unfolding committed_in
@@ -114,10 +101,6 @@ placed_within : (m k : ℕ) (ts : List Transaction) → k + length ts ≤ m + 1 
 placed_within m k [] h = tt
 placed_within m k (t ∷ ts) h = (omega arith, placed_within m (k + 1) ts (omega arith))
 
-fits_in_session : (m number : ℕ) (xs : List Placed) → number < 2 ^ 16 → AllByRecursion (λ (t : Placed). t.0 ≤ m) xs → AllByRecursion (λ (t : Placed). is_kept t ≡ true → Fits m (made number t)) xs
-fits_in_session m number [] low h = tt
-fits_in_session m number (x ∷ xs) low h = (λ _. (low, h.0), fits_in_session m number xs low h.1)
-
 abbrev Sized : ℕ → ClientSession → Type 0
 Sized m s = (s.number < 2 ^ 16) × (length s.txns ≤ m)
 
@@ -127,7 +110,7 @@ each_fits m (s ∷ ss) h =
     each_from_append (Fits m) (committed_of s) (flat_map committed_of ss)
     (each_from_map (Fits m) (made s.number) (filter is_kept (enumerate_from 1 s.txns))
     (each_from_filter (λ t. Fits m (made s.number t)) is_kept (enumerate_from 1 s.txns)
-    (fits_in_session m s.number (enumerate_from 1 s.txns) h.0.0 (placed_within m 1 s.txns (omega (arith, h.0.1))))))
+    (each_weaker (λ (t : Placed). t.0 ≤ m) (λ (t : Placed). is_kept t ≡ true → Fits m (made s.number t)) (λ t low _. (h.0.0, low)) (enumerate_from 1 s.txns) (placed_within m 1 s.txns (omega (arith, h.0.1))))))
     (each_fits m ss h.1)
 
 sized_settled : (m : ℕ) (chosen : ℕ → Bool) (ss : List ClientSession) → AllByRecursion (Sized m) ss → AllByRecursion (Sized m) (settled chosen ss)
@@ -148,16 +131,12 @@ lines_of_txns : (ts : List Transaction) → length ts ≤ length (flat_map txn_l
 lines_of_txns [] = omega arith
 lines_of_txns (t ∷ ts) = let ih = lines_of_txns ts in let both = length-append (txn_lines t) (flat_map txn_lines ts) in omega (arith, ih, both)
 
-longer : (a b : ℕ) (ss : List ClientSession) → a ≤ b → AllByRecursion (λ (s : ClientSession). length s.txns ≤ a) ss → AllByRecursion (λ (s : ClientSession). length s.txns ≤ b) ss
-longer a b [] h k = tt
-longer a b (s ∷ ss) h k = (omega (arith, k.0), longer a b ss h k.1)
-
 few_txns : (ss : List ClientSession) → AllByRecursion (λ s. length s.txns ≤ length (log_lines ss)) ss
 few_txns [] = tt
 few_txns (s ∷ ss) =
     let both = length-append (session_lines s) (log_lines ss) in
     let some = lines_of_txns s.txns in
-    (omega (arith, both, some), longer (length (log_lines ss)) (length (log_lines (s ∷ ss))) ss (omega (arith, both)) (few_txns ss))
+    (omega (arith, both, some), each_weaker (λ (t : ClientSession). length t.txns ≤ length (log_lines ss)) (λ (t : ClientSession). length t.txns ≤ length (log_lines (s ∷ ss))) (λ t few. omega (arith, both, few)) ss (few_txns ss))
 
 -- ---- the nodes
 element : {X : Type 0} (xs : List X) (i : ℕ) → i < length xs → (x : X) × (slice_get xs i ≡ Some x)

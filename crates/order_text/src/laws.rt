@@ -23,6 +23,7 @@ pub fn printed_is_read()
 {}
 
 /// A text has no fault only where it is the text of nodes, and not too long.
+#[tactic(auto, using(crate::proofs::Accepted::accepted_printed))]
 pub fn accepted_is_printed()
     ensures short { (ss : List ClientSession) (text : List ℕ) → order_fault ss text ≡ None →
         length text ≤ 2 ^ 20 }
@@ -32,6 +33,7 @@ pub fn accepted_is_printed()
 
 /// A committed transaction's session number and place are below 2^64, so that a greater number in a
 /// line names none.
+#[tactic(auto, using(crate::proofs::Names::named_small))]
 pub fn large_numbers_name_none()
     ensures small { (ss : List ClientSession) → IsWellFormedList ss →
         length (log_lines ss) < 2 ^ 63 → (session place v : ℕ) →

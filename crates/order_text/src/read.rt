@@ -55,6 +55,7 @@ fn node_on(history: &History, body: &[u8], ended: bool, line: usize) -> Result<N
 /// that has one: `BadLine` where it is not two numbers without leading zeros, with one space
 /// between them, ended by a line feed, and `NoSuchTransaction` where they name no committed
 /// transaction. `Memory` in place of any of these.
+#[tactic(auto, using(crate::proofs::Reading::long_fault, crate::proofs::Reading::nothing_read))]
 pub fn read_order(alloc: Global, text: &[u8], history: &History) -> Result<NodeLine, OrderFault>
     ensures order { IfOk result (λ order. text.now ≡ order_text history.now order) }
     ensures nodes { IfOk result (λ order. AreNodes history.now order) }

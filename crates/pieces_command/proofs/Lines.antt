@@ -1,18 +1,11 @@
 -- The lines of pieces, one after another.
-use Rattle.std.proofs.Common.{◌≡◌, ℕ, suc, ◌+◌, ◌<◌, List, ◌∷◌, ◌++◌, length, drop, Some, sym, ap, ◌∙◌, inl, inr, arith, append_assoc}
+use Rattle.std.proofs.Common.{◌≡◌, ℕ, suc, ◌+◌, ◌<◌, List, ◌∷◌, ◌++◌, length, drop, Some, sym, ap, ◌∙◌, arith, append_assoc}
 use Rattle.std.specs.Prelude.{slice_get}
-use Rattle.std.proofs.lemmas.Option.{slice_get_cases}
 use Rattle.session_log.specs.Text.{ClientSession}
 use Rattle.cutting.proofs.Views.{get_drop}
+use Rattle.long_reading.proofs.Read.{some_at}
 use Rattle.held_pieces.specs.Pieces.{HeldPiece}
 use Rattle.pieces_command.specs.Told.{line_of, lines_from}
-
--- what stands at a place within
-pub within : {X : Type 0} (xs : List X) (i : ℕ) → i < length xs → (x : X) × (slice_get xs i ≡ Some x)
-within xs i lt = elim (slice_get_cases xs i).1 [
-  | inl h ↦ (h.0, h.2)
-  | inr h ↦ let le = h.0 in absurd (omega (arith, lt, le))
-]
 
 from_here : {X : Type 0} (xs : List X) (i : ℕ) (x : X) → slice_get xs i ≡ Some x → drop i xs ≡ x ∷ drop (i + 1) xs
 from_here xs i x e = let next : suc i ≡ i + 1 = omega arith in get_drop xs i x e ∙ ap (λ k. x ∷ drop k xs) next
@@ -23,6 +16,6 @@ put p ps i out more whole e h = ap (λ l. l ++ lines_from (i + 1 + 1) ps) e ∙ 
 -- a line more
 pub next_line : (ps : List HeldPiece) (i : ℕ) (out more whole : List ℕ) (parts : List ClientSession) → i < length ps → ((p : HeldPiece) → slice_get ps i ≡ Some p → parts ≡ p.sessions) → more ≡ out ++ line_of (i + 1) parts → out ++ lines_from (i + 1) (drop i ps) ≡ whole → more ++ lines_from (i + 1 + 1) (drop (i + 1) ps) ≡ whole
 next_line ps i out more whole parts lt are e h =
-    let p = within ps i lt in
+    let p = some_at ps i lt in
     put p.0 (drop (i + 1) ps) i out more whole (e ∙ ap (λ ss. out ++ line_of (i + 1) ss) (are p.0 p.1))
     (ap (λ l. out ++ lines_from (i + 1) l) (sym (from_here ps i p.0 p.1)) ∙ h)

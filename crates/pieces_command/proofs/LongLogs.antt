@@ -1,6 +1,5 @@
 -- Pieces of a long log.
-use Rattle.std.proofs.Common.{◌≡◌, ℕ, List, map, Result, Ok, Err, sym, ◌∙◌, subst}
-use Rattle.std.specs.Prelude.{IfOk}
+use Rattle.std.proofs.Common.{◌≡◌, ℕ, List, map, sym, ◌∙◌, subst}
 use Rattle.session_log.specs.Text.{ClientSession, view}
 use Rattle.session_log.specs.Version.{first_line, version_of}
 use Rattle.log_definitions.specs.Unknown.{resolved}
@@ -11,10 +10,6 @@ use Rattle.long_log_definitions.proofs.Texts.{sound_where_long, numbers_where_no
 use Rattle.held_pieces.specs.Pieces.{HeldPiece, ArePieces}
 use Rattle.pieces_command.specs.declared.known.KnownLog.{KnownLog}
 use Rattle.pieces_command.specs.Told.{IsKnown, ArePiecesOf}
-
-pub if_ok : {A E : Type 0} {P Q : A → Type 0} (r : Result A E) → ((a : A) → P a → Q a) → IfOk r P → IfOk r Q
-if_ok (Ok a) f h = f a h
-if_ok (Err e) f h = tt
 
 -- no two sessions of a long log have one number, and no two of its writes one identity
 pub own_numbers : (log : List ℕ) (ss : List ClientSession) → IsLongLog log ss → HasOwnNumbers ss

@@ -3,12 +3,11 @@
 ghost use Rattle.std.specs.Prelude.{◌<◌, length};
 
 use crate::known::KnownLog;
-use crate::listing::{count_of, piece_text};
+use crate::listing::{count_of, piece_text, put_number};
 use crate::places::{LogLines, Reads};
 use cutting::Part;
 use held_pieces::Pieces;
-use itoa::Buffer;
-use session_log::{Op, Session, Txn, Version};
+use session_log::{Op, Session, Txn};
 use std::alloc::{AllocError, Global};
 
 /// What stands in a map for a line that stands for none of the long log.
@@ -23,10 +22,7 @@ pub struct PieceFiles<'a> {
 }
 
 fn put_line(out: &mut Vec<u8>, line: usize) -> Result<(), AllocError> {
-    let mut digits = Buffer::new();
-    out.extend_from_slice(digits.format(line).as_bytes())?;
-    out.push(b'\n')?;
-    Ok(())
+    put_number(out, line, b'\n')
 }
 
 /// Appends the lines of a transaction that begins at this one.
@@ -52,14 +48,12 @@ fn named(held: Option<u64>, wid: u64) -> u64 {
 
 /// Whether a moment is stated, so that the text of these sessions has a header.
 fn states_moments(sessions: &[Session]) -> bool {
-    for session in sessions {
-        for txn in &session.txns {
-            if txn.begun.is_some() || txn.ended.is_some() {
-                return true;
-            }
-        }
-    }
-    false
+    sessions.iter().any(|session| {
+        session
+            .txns
+            .iter()
+            .any(|txn| txn.begun.is_some() || txn.ended.is_some())
+    })
 }
 
 impl<'a> PieceFiles<'a> {

@@ -5,10 +5,9 @@ ghost use Rattle.pieces_command.specs.Told.{IsKnown, ArePiecesOf, IsRefusal};
 
 use crate::fault::PiecesFault;
 use desk::seat_no::Workers;
-use held_pieces::Pieces;
+use held_pieces::{Pieces, size_of_pieces};
 use known_outcomes::resolve;
 use long_reading::read_long_log;
-use piece_sizes::size_of_pieces;
 use session_log::{Session, Version};
 use std::alloc::{AllocError, Global};
 use std::thread::Threads;

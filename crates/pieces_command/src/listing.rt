@@ -77,7 +77,7 @@ impl NodeCounts {
 }
 
 /// Appends a number and a byte.
-fn put_number(out: &mut Vec<u8>, number: usize, behind: u8) -> Result<(), AllocError>
+pub fn put_number(out: &mut Vec<u8>, number: usize, behind: u8) -> Result<(), AllocError>
     ensures { OnOk result (out.new.items ≡ out.old.items ++ (decimal number ++ behind ∷ [])) }
 {
     let mut digits = Buffer::new();

@@ -50,18 +50,15 @@ impl LogLines {
 
     /// The line of this session, 0 where there is none.
     pub fn session(&self, session: usize) -> usize {
-        match self.sessions.get(session) {
-            Some(it) => it.line,
-            None => 0,
-        }
+        self.sessions.get(session).map_or(0, |it| it.line)
     }
 
     /// The line at which this transaction of a session begins, 0 where there is none.
     pub fn begin(&self, session: usize, txn: usize) -> usize {
-        match self.sessions.get(session) {
-            Some(it) => it.begins.get(txn).copied().unwrap_or(0),
-            None => 0,
-        }
+        self.sessions
+            .get(session)
+            .and_then(|it| it.begins.get(txn).copied())
+            .unwrap_or(0)
     }
 }
 
@@ -145,10 +142,6 @@ impl<'a> Reads<'a> {
             Ok(place) | Err(place) => place,
         };
         let found = self.sorted.get(place)?;
-        if found.wid == wid && found.key == key {
-            Some(found.line)
-        } else {
-            None
-        }
+        (found.wid == wid && found.key == key).then_some(found.line)
     }
 }

@@ -5,16 +5,15 @@ use Rattle.std.proofs.lemmas.List.{map-append}
 use Rattle.std.proofs.lemmas.List.Folds.{list_any_at}
 use Rattle.serializability.specs.declared.literal.Literal.{Literal}
 use Rattle.proof_text.specs.Steps.{DratStep}
-use Rattle.proof_text.specs.declared.fault.ProofFault.{ProofFault}
 use Rattle.proof_text.specs.declared.fault.ProofFault.TheVariants as proof
-use Rattle.proof_checks.specs.Drat.{adds, adds_empty, as_read, Passes, IsDratStop, IsDratEnd}
+use Rattle.proof_checks.specs.Drat.{adds, adds_empty, as_read, Passes}
 use Rattle.proof_text.specs.Faults.{fault_of_step}
 use Rattle.proof_text.specs.declared.fault.StepFault.{StepFault}
 use Rattle.proof_text.specs.declared.fault.StepFault.TheVariants as step
 use Rattle.proof_text.specs.declared.drat.DratAction.{DratAction}
 use Rattle.proof_text.specs.declared.drat.DratAction.TheVariants.{Add}
 use Rattle.proof_checks.specs.Distinct.{distinct, is_tautology}
-use Rattle.proof_checks.specs.Passed.{IsAdded, IsNotAdded, IsStepStop, Passed, GoesOn, IsStop}
+use Rattle.proof_checks.specs.Passed.{IsAdded, IsNotAdded, IsStepStop, Passed, GoesOn}
 use Rattle.proof_checks.proofs.Once.{tautology_distinct}
 use Rattle.proof_checks.specs.Ends.{is_nil, is_empty_clause}
 
@@ -39,17 +38,6 @@ passed_more all now left clauses true p g t = (
 pub passed_less : (now left : List (ℕ × Option DratStep)) (clauses : List (Option (List Literal))) (on : Bool) → GoesOn now left clauses on → on ≡ true → length left < length now
 passed_less now left clauses false g t = cc
 passed_less now left clauses true g t = let long = ap length g.2 in omega (arith, long)
-
-pub passed_end : (all now left : List (ℕ × Option DratStep)) (clauses : List (Option (List Literal))) (on : Bool) → (passed : List (ℕ × DratStep)) × Passes all passed now → GoesOn now left clauses on → on ≡ false → IsDratEnd all clauses
-passed_end all now left clauses true p g t = cc
-passed_end all now left clauses false p g t = λ none. record { passed = p.0; left = now; passes = p.1; stops = g none }
-
-pub passed_stop : (all now : List (ℕ × Option DratStep)) (f : ProofFault) → (passed : List (ℕ × DratStep)) × Passes all passed now → IsStop now f → IsDratStop all f
-passed_stop all now (proof.BadLine k) p s = record { passed = p.0; left = now; passes = p.1; stops = s }
-passed_stop all now (proof.NotImplied k) p s = record { passed = p.0; left = now; passes = p.1; stops = s }
-passed_stop all now proof.NoEmptyClause p s = record { passed = p.0; left = now; passes = p.1; stops = s }
-passed_stop all now proof.TooLong p s = record { passed = p.0; left = now; passes = p.1; stops = s }
-passed_stop all now proof.Memory p s = tt
 
 -- whether the empty clause stands, by a test and by a list
 stands_in : (cs : List (Option (List Literal))) → list_any is_empty_clause cs ≡ true → Contains cs (Some [])

@@ -75,10 +75,6 @@ pub numbers_none : (p : Proof) (ns : List ℕ) (id : Option ℕ) (ids : List (Op
 unfolding numbers_at
 numbers_none p ns id ids e = ap (λ o. option_map (λ r. ns ++ r) (option_and_then (λ n. option_map (λ ms. n ∷ ms) (numbers_at p ids)) o)) e
 
-none_of_map : (ns : List ℕ) (o : Option (List ℕ)) → option_map (λ r. ns ++ r) o ≡ None → o ≡ None
-none_of_map ns None e = refl
-none_of_map ns (Some r) e = cc
-
 pub map_onto_none : (o : Option (List ℕ)) (ns : List ℕ) → ns ≡ [] → option_map (λ r. ns ++ r) o ≡ o
 map_onto_none None ns e = refl
 map_onto_none (Some r) ns e = ap (λ (m : List ℕ). Some (m ++ r)) e

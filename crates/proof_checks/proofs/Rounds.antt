@@ -1,31 +1,11 @@
 -- Marks by rounds.
 use Rattle.std.proofs.Common.{◌≡◌, ℕ, zero, suc, ◌+◌, ◌<◌, ◌≤◌, Bool, true, false, ◌||◌, eqb, List, [], ◌∷◌, ◌++◌, length, replicate, refl, sym, ap, ◌∙◌, get_or, slice_index, slice_set, get_or-set_other, get_or-set_same, take, take_all, inl, inr, arith}
-use Rattle.std.proofs.lemmas.Bool.{eqb-true, eqb-false, eq-eqb, ne_eqb, cases_eq}
+use Rattle.std.proofs.lemmas.Bool.{eqb-true, eqb-false, eq-eqb, cases_eq}
 use Rattle.std.proofs.lemmas.List.Folds.{list_any-append}
+use Rattle.std.proofs.Math.Bool.{or-true, or-false}
 use Rattle.serializability.specs.declared.literal.Literal.{Literal}
 use Rattle.proof_checks.specs.Distinct.{code_of, is_same, is_among}
-use Rattle.proof_checks.specs.Marks.{AreRounds, AreMarks}
-
-pub first_round : (rounds : List ℕ) (round : ℕ) → rounds ≡ [] → round ≡ 1 → AreRounds rounds round
-first_round rounds round e one = record {
-  begun = omega (arith, one);
-  passed = λ k. let none : slice_index rounds k ≡ 0 = ap (λ (xs : List ℕ). slice_index xs k) e in omega (arith, none, one);
-}
-
--- in a round that is later than all marks nothing is marked
-pub new_round : (rounds : List ℕ) (round : ℕ) → 0 < round → ((k : ℕ) → slice_index rounds k < round) → AreMarks rounds round []
-new_round rounds round begun before = record {
-  rounds_are = record { begun = begun; passed = λ k. let lt = before k in omega (arith, lt) };
-  exactly = λ l. let lt = before (code_of l) in ne_eqb (slice_index rounds (code_of l)) round (λ h. omega (arith, lt, h));
-}
-
-pub next_round : (old new : List ℕ) (before now : ℕ) → AreRounds old before → new ≡ old → now ≡ before + 1 → AreMarks new now []
-next_round old new before now r e n = new_round new now (omega (arith, n))
-    (λ k. let le = r.passed k in let same : slice_index new k ≡ slice_index old k = ap (λ (xs : List ℕ). slice_index xs k) e in omega (arith, le, same, n))
-
-pub round_anew : (new : List ℕ) (now : ℕ) → new ≡ [] → now ≡ 1 → AreMarks new now []
-round_anew new now e n = new_round new now (omega (arith, n))
-    (λ k. let none : slice_index new k ≡ 0 = ap (λ (xs : List ℕ). slice_index xs k) e in omega (arith, none, n))
+use Rattle.proof_checks.specs.Marks.{AreMarks}
 
 zeros : (n k : ℕ) → ◌≡◌ {A = ℕ} (get_or (replicate n 0) k 0) 0
 zeros zero k = refl
@@ -64,21 +44,13 @@ marks_more old long round marked l are same within = record {
     whole : (m : Literal) → is_among (marked ++ l ∷ []) m ≡ (is_among marked m || (is_same m l || false))
     whole m = list_any-append (is_same m) marked (l ∷ [])
 
-    or_true : (b : Bool) → (b || true) ≡ true
-    or_true true = refl
-    or_true false = refl
-
-    or_false : (b : Bool) → (b || false) ≡ b
-    or_false true = refl
-    or_false false = refl
-
     by_test : (m : Literal) (b : Bool) → is_same m l ≡ b → eqb (slice_index (slice_set long (code_of l) round) (code_of m)) round ≡ is_among (marked ++ l ∷ []) m
     by_test m true e =
         eq-eqb (slice_index (slice_set long (code_of l) round) (code_of m)) round (here (code_of m) (eqb-true (code_of m) (code_of l) e))
-        ∙ sym (whole m ∙ ap (λ b. is_among marked m || (b || false)) e ∙ or_true (is_among marked m))
+        ∙ sym (whole m ∙ ap (λ b. is_among marked m || (b || false)) e ∙ or-true (is_among marked m))
     by_test m false e =
         ap (λ v. eqb v round) (other (code_of m) (eqb-false (code_of m) (code_of l) e)) ∙ are.exactly m
-        ∙ sym (whole m ∙ ap (λ b. is_among marked m || (b || false)) e ∙ or_false (is_among marked m))
+        ∙ sym (whole m ∙ ap (λ b. is_among marked m || (b || false)) e ∙ or-false (is_among marked m))
 
     exact : (m : Literal) → eqb (slice_index (slice_set long (code_of l) round) (code_of m)) round ≡ is_among (marked ++ l ∷ []) m
     exact m = by_test m (is_same m l) refl

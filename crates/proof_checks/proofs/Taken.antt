@@ -1,8 +1,10 @@
 -- What a step of an LRAT proof does to its first fault.
-use Rattle.std.proofs.Common.{◌≡◌, ℕ, ◌<◌, Bool, true, false, not, ◌&&◌, ◌||◌, ◌==◌, if◌then◌else◌, List, [], ◌∷◌, ◌++◌, length, Option, Some, None, Result, Ok, Err, IfOk, IfErr, refl, sym, ap, subst, ◌∙◌, unwrap_or, arith}
+use Rattle.std.proofs.Common.{◌≡◌, ℕ, ◌<◌, Bool, true, false, not, ◌&&◌, ◌==◌, if◌then◌else◌, List, [], ◌∷◌, ◌++◌, length, Option, Some, None, Result, Ok, Err, IfOk, IfErr, sym, ap, subst, ◌∙◌, unwrap_or, arith}
 use Rattle.std.specs.List.{list_any}
 use Rattle.std.specs.Option.{option_or}
 use Rattle.std.proofs.lemmas.List.Folds.{list_any-append}
+use Rattle.std.proofs.Math.Bool.{or-true}
+use Rattle.std.proofs.lemmas.Bool.{not-true, not-false}
 use Rattle.serializability.specs.declared.literal.Literal.{Literal}
 use Rattle.proof_text.specs.Faults.{fault_of_step}
 use Rattle.proof_text.specs.Reads.{IsRead}
@@ -113,32 +115,20 @@ empty_stands : (p : Proof) (s : LratStep) → adds_empty s ≡ true → list_any
 unfolding after_step distinct
 empty_stands p s e = by_step s.action s.literals e
   where
-    or_true : (b : Bool) → (b || true) ≡ true
-    or_true true = refl
-    or_true false = refl
-
     by_step : (a : LratAction) (ls : List Literal) → (adds a && is_nil ls) ≡ true → list_any is_empty_clause (after_action p a (distinct ls) (unwrap_or (numbers_at p s.ids) [])).clauses ≡ true
     by_step Delete ls h = cc
     by_step (Add id) (l ∷ ls) h = cc
-    by_step (Add id) [] h = list_any-append is_empty_clause p.clauses (Some [] ∷ []) ∙ or_true (list_any is_empty_clause p.clauses)
+    by_step (Add id) [] h = list_any-append is_empty_clause p.clauses (Some [] ∷ []) ∙ or-true (list_any is_empty_clause p.clauses)
 
 goes_one : (n line : ℕ) (p new : Proof) (all left : List (ℕ × Option LratStep)) (s : LratStep) (on : Bool) → all ≡ (line, Some s) ∷ left → IsTaken n line p new s on → GoesOn n all left p new on
 goes_one n line p new all left s true e t = (
-  fault_behind n line p new all left s false e t.faultless t.stands (was_not (adds_empty s) t.goes_on),
+  fault_behind n line p new all left s false e t.faultless t.stands (not-true (adds_empty s) (sym t.goes_on)),
   (let long = ap length e in omega (arith, long)),
 )
-  where
-    was_not : (b : Bool) → true ≡ not b → b ≡ false
-    was_not true h = cc
-    was_not false h = refl
 goes_one n line p new all left s false e t =
-    let adds = was (adds_empty s) t.goes_on in
+    let adds = not-false (adds_empty s) (sym t.goes_on) in
     fault_behind n line p new all left s true e t.faultless t.stands adds
     ∙ sym (ap (λ (q : Proof). end_fault q.clauses) t.stands ∙ ap (λ b. if b then None else Some NoEmptyClause) (empty_stands p s adds))
-  where
-    was : (b : Bool) → false ≡ not b → b ≡ true
-    was true h = refl
-    was false h = cc
 
 pub goes_on : (n line : ℕ) (p new : Proof) (all left : List (ℕ × Option LratStep)) (s : LratStep) (r : Result Bool StepFault) → all ≡ (line, Some s) ∷ left → IfOk r (IsTaken n line p new s) → IfOk r (GoesOn n all left p new)
 goes_on n line p new all left s (Ok on) e t = goes_one n line p new all left s on e t
@@ -168,6 +158,3 @@ loop_less n p new all left true g t = g.1
 pub loop_end : (n : ℕ) (whole : Option ProofFault) (p new : Proof) (all left : List (ℕ × Option LratStep)) (on : Bool) → whole ≡ lrat_fault n all p → GoesOn n all left p new on → on ≡ false → whole ≡ end_fault new.clauses
 loop_end n whole p new all left true e g t = cc
 loop_end n whole p new all left false e g t = e ∙ g
-
-pub loop_fault : (whole now : Option ProofFault) (f : ProofFault) → whole ≡ now → IsFault f now → IsFault f whole
-loop_fault whole now f e h = subst (IsFault f) (sym e) h

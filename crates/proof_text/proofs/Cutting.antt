@@ -13,26 +13,14 @@ is_text b = not (is_blank b)
 abbrev pub is_feed : ℕ → Bool
 is_feed b = b == 10
 
-pub words_nil : words [] ≡ []
-unfolding words
-words_nil = refl
-
-pub words_blank : (b : ℕ) (bs : List ℕ) → is_blank b ≡ true → words (b ∷ bs) ≡ words bs
+words_blank : (b : ℕ) (bs : List ℕ) → is_blank b ≡ true → words (b ∷ bs) ≡ words bs
 unfolding words
 words_blank b bs e = rw e refl
 
-pub words_begun : (b : ℕ) (bs : List ℕ) → is_blank b ≡ false → begins_word bs ≡ true → words (b ∷ bs) ≡ onto_first b (words bs)
-unfolding words
-words_begun b bs e f = rw (e, f) refl
-
-pub words_short : (b : ℕ) (bs : List ℕ) → is_blank b ≡ false → begins_word bs ≡ false → words (b ∷ bs) ≡ (b ∷ []) ∷ words bs
-unfolding words
-words_short b bs e f = rw (e, f) refl
-
-take_step : (b j k : ℕ) (bs : List ℕ) → j ≡ suc k → take j (b ∷ bs) ≡ b ∷ take k bs
+pub take_step : (b j k : ℕ) (bs : List ℕ) → j ≡ suc k → take j (b ∷ bs) ≡ b ∷ take k bs
 take_step b j k bs e = ap (λ j. take j (b ∷ bs)) e
 
-drop_step : (b j k : ℕ) (bs : List ℕ) → j ≡ suc k → drop j (b ∷ bs) ≡ drop k bs
+pub drop_step : (b j k : ℕ) (bs : List ℕ) → j ≡ suc k → drop j (b ∷ bs) ≡ drop k bs
 drop_step b j k bs e = ap (λ j. drop j (b ∷ bs)) e
 
 -- behind blanks
@@ -66,6 +54,7 @@ no_more (x ∷ xs) f = rw (not-false (is_blank x) f) refl
 
 -- up to the first blank
 pub words_first : (bs : List ℕ) → begins_word bs ≡ true → words bs ≡ take (position_or_len is_blank bs) bs ∷ words (drop (position_or_len is_blank bs) bs)
+unfolding words
 words_first [] h = cc
 words_first (b ∷ bs) h = go (words_first bs) (is_blank b) (begins_word bs) refl refl h
   where
@@ -73,11 +62,11 @@ words_first (b ∷ bs) h = go (words_first bs) (is_blank b) (begins_word bs) ref
     go ih true s e f h = let no = rw e at h in cc
     go ih false true e f h =
         let k : ℕ = position_or_len is_blank bs in
-        words_begun b bs e f ∙ (ap (onto_first b) (ih f) ∙ rw e (cc (take_step b (1 + k) k bs (omega arith), drop_step b (1 + k) k bs (omega arith))))
+        rw (e, f) (ap (onto_first b) (ih f) ∙ cc (take_step b (1 + k) k bs (omega arith), drop_step b (1 + k) k bs (omega arith)))
     go ih false false e f h =
         let k : ℕ = position_or_len is_blank bs in
         let z = no_more bs f in
-        words_short b bs e f ∙ rw e (cc (take_step b (1 + k) k bs (omega arith), drop_step b (1 + k) k bs (omega arith), z))
+        rw (e, f) (cc (take_step b (1 + k) k bs (omega arith), drop_step b (1 + k) k bs (omega arith), z))
 
 -- what `position` answers, by the first place
 position_cases : {X : Type 0} (p : X → Bool) (xs : List X) (t : Bool) → nat_lt (position_or_len p xs) (length xs) ≡ t → (i : ℕ) → Some i ≡ cond t (Some (position_or_len p xs)) None → (position_or_len p xs ≡ i) × (position_or_len p xs < length xs)
@@ -111,31 +100,16 @@ words_at bs from i found is =
 
 -- no word
 words_over : (bs : List ℕ) → length bs ≤ position_or_len is_text bs → words bs ≡ []
-words_over [] h = words_nil
+unfolding words
+words_over [] h = refl
 words_over (b ∷ bs) h = go (words_over bs) (is_blank b) refl h
   where
     go : (length bs ≤ position_or_len is_text bs → words bs ≡ []) → (t : Bool) → is_blank b ≡ t → length (b ∷ bs) ≤ position_or_len is_text (b ∷ bs) → words (b ∷ bs) ≡ []
-    go ih true e h = let less = rw e at h in words_blank b bs e ∙ ih (omega arith)
+    go ih true e h = let less = rw e at h in rw e (ih (omega arith))
     go ih false e h = let no = rw e at h in absurd (omega arith)
 
 pub words_none : (bs : List ℕ) → None ≡ position is_text bs → words bs ≡ []
 words_none bs none = words_over bs (position_none is_text bs none)
-
-pub lines_nil : lines [] ≡ [] ∷ []
-unfolding lines
-lines_nil = refl
-
-pub lines_feed : (b : ℕ) (bs : List ℕ) → (b == 10) ≡ true → lines (b ∷ bs) ≡ [] ∷ lines bs
-unfolding lines
-lines_feed b bs e = rw e refl
-
-pub lines_more : (b : ℕ) (bs : List ℕ) → (b == 10) ≡ false → lines (b ∷ bs) ≡ onto_first b (lines bs)
-unfolding lines
-lines_more b bs e = rw e refl
-
-pub stated_nil : (n : ℕ) → stated n [] ≡ []
-unfolding stated
-stated_nil n = refl
 
 pub stated_passed : (n : ℕ) (l : List ℕ) (ls : List (List ℕ)) → is_passed (words l) ≡ true → stated n (l ∷ ls) ≡ stated (n + 1) ls
 unfolding stated
@@ -147,32 +121,35 @@ stated_first n l ls e = rw e refl
 
 -- nothing stands in an empty text
 pub stated_empty : (n : ℕ) (text : List ℕ) → length text ≡ 0 → stated n (lines text) ≡ []
-stated_empty n [] e = ap (stated n) lines_nil ∙ (stated_passed n [] [] (ap is_passed words_nil) ∙ stated_nil (n + 1))
+unfolding words lines stated
+stated_empty n [] e = refl
 stated_empty n (b ∷ bs) e = absurd (omega arith)
 
 -- up to the first line feed
 lines_first : (bs : List ℕ) → position_or_len is_feed bs < length bs → lines bs ≡ take (position_or_len is_feed bs) bs ∷ lines (drop (position_or_len is_feed bs + 1) bs)
+unfolding lines
 lines_first [] h = absurd (omega arith)
 lines_first (b ∷ bs) h = go (lines_first bs) (b == 10) refl h
   where
     go : (position_or_len is_feed bs < length bs → lines bs ≡ take (position_or_len is_feed bs) bs ∷ lines (drop (position_or_len is_feed bs + 1) bs)) → (t : Bool) → (b == 10) ≡ t → position_or_len is_feed (b ∷ bs) < length (b ∷ bs) → lines (b ∷ bs) ≡ take (position_or_len is_feed (b ∷ bs)) (b ∷ bs) ∷ lines (drop (position_or_len is_feed (b ∷ bs) + 1) (b ∷ bs))
-    go ih true e h = lines_feed b bs e ∙ rw e refl
+    go ih true e h = rw e refl
     go ih false e h =
         let k : ℕ = position_or_len is_feed bs in
         let small = rw e at h in
         let first = ih (omega arith) in
-        lines_more b bs e ∙ (ap (onto_first b) first ∙ rw e (cc (take_step b (1 + k) k bs (omega arith), drop_step b (1 + k + 1) (k + 1) bs (omega arith))))
+        rw e (ap (onto_first b) first ∙ cc (take_step b (1 + k) k bs (omega arith), drop_step b (1 + k + 1) (k + 1) bs (omega arith)))
 
 -- with no line feed
 lines_last : (bs : List ℕ) → length bs ≤ position_or_len is_feed bs → lines bs ≡ bs ∷ []
-lines_last [] h = lines_nil
+unfolding lines
+lines_last [] h = refl
 lines_last (b ∷ bs) h = go (lines_last bs) (b == 10) refl h
   where
     go : (length bs ≤ position_or_len is_feed bs → lines bs ≡ bs ∷ []) → (t : Bool) → (b == 10) ≡ t → length (b ∷ bs) ≤ position_or_len is_feed (b ∷ bs) → lines (b ∷ bs) ≡ (b ∷ bs) ∷ []
     go ih true e h = let no = rw e at h in absurd (omega arith)
     go ih false e h =
         let less = rw e at h in
-        lines_more b bs e ∙ ap (onto_first b) (ih (omega arith))
+        rw e (ap (onto_first b) (ih (omega arith)))
 
 -- at the place that `position` answers
 pub lines_at : (bs : List ℕ) (i : ℕ) → Some i ≡ position is_feed bs → lines bs ≡ take i bs ∷ lines (drop (i + 1) bs)
@@ -185,8 +162,9 @@ lines_unended bs none = lines_last bs (position_none is_feed bs none)
 
 -- the same as stated: the empty line behind the last says nothing
 pub stated_last : (n : ℕ) (bs line behind : List ℕ) → lines bs ≡ line ∷ [] → length behind ≡ 0 → stated n (lines bs) ≡ stated n (line ∷ lines behind)
+unfolding stated
 stated_last n bs line behind is none = ap (stated n) is ∙ go (is_passed (words line)) refl
   where
     go : (t : Bool) → is_passed (words line) ≡ t → stated n (line ∷ []) ≡ stated n (line ∷ lines behind)
-    go true e = stated_passed n line [] e ∙ (stated_nil (n + 1) ∙ (sym (stated_empty (n + 1) behind none) ∙ sym (stated_passed n line (lines behind) e)))
-    go false e = stated_first n line [] e ∙ (ap (λ ls. (n, words line) ∷ ls) (stated_nil (n + 1) ∙ sym (stated_empty (n + 1) behind none)) ∙ sym (stated_first n line (lines behind) e))
+    go true e = rw e (sym (stated_empty (n + 1) behind none))
+    go false e = rw e (ap (λ ls. (n, words line) ∷ ls) (sym (stated_empty (n + 1) behind none)))

@@ -1,6 +1,5 @@
 pub mod Cutting
 pub mod Digits
-pub mod Forming
 pub mod Packing
 pub mod Stepping
 pub mod UpToZero

@@ -1,9 +1,8 @@
 -- Reading up to a 0.
-use Rattle.std.proofs.Common.{◌≡◌, ℕ, Bool, true, false, ◌&&◌, List, [], ◌∷◌, ◌++◌, map, drop, Option, Some, None, refl, sym, ap, ◌∙◌, append_assoc, ◌==◌}
+use Rattle.std.proofs.Common.{◌≡◌, ℕ, true, false, List, [], ◌∷◌, ◌++◌, map, drop, Option, Some, None, refl, sym, ap, ◌∙◌, append_assoc, ◌==◌}
 use Rattle.std.proofs.lemmas.Bool.{ne_eqb}
 use Rattle.std.proofs.lemmas.List.{append-nil}
-use Rattle.proof_text.specs.Words.{is_empty}
-use Rattle.proof_text.specs.Numbers.{number_of, numbers_of, first_number, before_zero, with_front, whole, if_true, if_read}
+use Rattle.proof_text.specs.Numbers.{number_of, numbers_of, first_number, before_zero, with_front}
 use Rattle.proof_text.specs.Forms.{behind_zero}
 use Rattle.proof_text.specs.declared.number.Number.{Number}
 
@@ -30,11 +29,6 @@ none_is f (Some n ∷ ns) e = cc
 pub taken : (number : List ℕ → Option Number) (old new : List (List ℕ)) (n : Number) → Some n ≡ first_number (map number old) → new ≡ drop 1 old → map number old ≡ Some n ∷ map number new
 taken number [] new n e is = cc
 taken number (w ∷ ws) new n e is = cc
-
--- nothing is before, with nothing read
-pub behind_none : {A B : Type 0} (m : Option (List A × B)) → m ≡ behind [] m
-behind_none None = refl
-behind_none (Some m) = refl
 
 behind_more : {A B : Type 0} (xs : List A) (x : A) (m : Option (List A × B)) → behind xs (with_front (Some x) m) ≡ behind (xs ++ x ∷ []) m
 behind_more xs x None = refl
@@ -66,20 +60,6 @@ module _ {A : Type 0} (number : List ℕ → Option Number) (f : Number → Opti
       let there = more_is f n (map number new) (ne_eqb n.size 0 ne) in
       so_far ∙ (ap (λ ns. behind xs (before_zero f ns)) nums ∙ (ap (behind xs) there ∙ (ap (λ o. behind xs (with_front o (before_zero f (map number new)))) (sym good) ∙ (behind_more xs x (before_zero f (map number new)) ∙ ap (λ zs. behind zs (before_zero f (map number new))) (sym pushed)))))
 
--- read to the end of the line
-pub last_read : {A : Type 0} (m : Option (List A × List (Option Number))) (read over : Bool) (xs : List A) (ws : List (List ℕ)) → m ≡ if_read read xs (numbers_of ws) → over ≡ is_empty ws → whole m ≡ if_true (read && over) xs
-last_read m true over xs [] e is = ap whole e ∙ rw is refl
-last_read m true over xs (w ∷ ws) e is = ap whole e ∙ rw is refl
-last_read m false over xs ws e is = ap whole e
-
-behind_zero_is : (n : Number) (ns : List (Option Number)) → (n.size == 0) ≡ true → behind_zero (Some n ∷ ns) ≡ Some ns
-unfolding behind_zero
-behind_zero_is n ns e = rw e refl
-
-behind_zero_more : (n : Number) (ns : List (Option Number)) → (n.size == 0) ≡ false → behind_zero (Some n ∷ ns) ≡ behind_zero ns
-unfolding behind_zero
-behind_zero_more n ns e = rw e refl
-
 behind_zero_none : (ns : List (Option Number)) → None ≡ first_number ns → behind_zero ns ≡ None
 unfolding behind_zero
 behind_zero_none [] e = refl
@@ -91,7 +71,9 @@ pub pass_none : (old : List (List ℕ)) → None ≡ first_number (numbers_of ol
 pass_none old none = behind_zero_none (numbers_of old) none
 
 pub pass_zero : (old new : List (List ℕ)) (n : Number) → Some n ≡ first_number (numbers_of old) → new ≡ drop 1 old → n.size ≡ 0 → behind_zero (numbers_of old) ≡ Some (numbers_of new)
-pass_zero old new n first is zero = ap behind_zero (taken number_of old new n first is) ∙ behind_zero_is n (numbers_of new) (ap (λ k. k == 0) zero)
+unfolding behind_zero
+pass_zero old new n first is zero = ap behind_zero (taken number_of old new n first is) ∙ rw (ap (λ k. k == 0) zero) refl
 
 pub pass_more : (old new : List (List ℕ)) (n : Number) → Some n ≡ first_number (numbers_of old) → new ≡ drop 1 old → (n.size ≡ 0 → ⊥) → behind_zero (numbers_of old) ≡ behind_zero (numbers_of new)
-pass_more old new n first is ne = ap behind_zero (taken number_of old new n first is) ∙ behind_zero_more n (numbers_of new) (ne_eqb n.size 0 ne)
+unfolding behind_zero
+pass_more old new n first is ne = ap behind_zero (taken number_of old new n first is) ∙ rw (ne_eqb n.size 0 ne) refl

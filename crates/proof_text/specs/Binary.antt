@@ -36,16 +36,11 @@ abbrev pub is_zero : Option Number → Bool
 is_zero None = false
 is_zero (Some n) = n.size == 0
 
--- a word more at the head of the first line
-abbrev pub onto_line : List ℕ → List (List (List ℕ)) → List (List (List ℕ))
-onto_line w [] = (w ∷ []) ∷ []
-onto_line w (l ∷ ls) = (w ∷ l) ∷ ls
-
 -- the lines: each ends with its first 0, and only the last may lack it
 unfoldable pub binary_lines : List (List ℕ) → List (List (List ℕ))
 binary_lines [] = []
 binary_lines (w ∷ ws) = if is_zero (binary_number w) then
-    (w ∷ []) ∷ binary_lines ws else onto_line w (binary_lines ws)
+    (w ∷ []) ∷ binary_lines ws else onto_first w (binary_lines ws)
 
 -- the numbers of words
 abbrev pub binary_numbers : List (List ℕ) → List (Option Number)

@@ -71,13 +71,3 @@ if_whole xs (y ∷ ys) = None
 abbrev pub whole : {A B : Type 0} → Option (List A × List B) → Option (List A)
 whole None = None
 whole (Some m) = if_whole m.0 m.1
-
--- a value, where it was read
-abbrev pub if_true : {A : Type 0} → Bool → A → Option A
-if_true true x = Some x
-if_true false x = None
-
--- what was read, and what is left
-abbrev pub if_read : {A B : Type 0} → Bool → List A → List B → Option (List A × List B)
-if_read true xs ys = Some (xs, ys)
-if_read false xs ys = None

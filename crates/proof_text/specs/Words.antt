@@ -7,10 +7,10 @@ use Rattle.std.specs.Str.{bytes_eq}
 unfoldable pub is_blank : ℕ → Bool
 is_blank b = b == 32 || b == 9 || b == 13
 
--- a byte more at the head of the first
-abbrev pub onto_first : ℕ → List (List ℕ) → List (List ℕ)
-onto_first b [] = (b ∷ []) ∷ []
-onto_first b (w ∷ ws) = (b ∷ w) ∷ ws
+-- an item more at the head of the first list
+abbrev pub onto_first : {A : Type 0} → A → List (List A) → List (List A)
+onto_first x [] = (x ∷ []) ∷ []
+onto_first x (l ∷ ls) = (x ∷ l) ∷ ls
 
 -- a word goes on here
 abbrev pub begins_word : List ℕ → Bool

@@ -2,14 +2,14 @@
 
 ghost use Rattle.std.specs.Prelude.{◌≡◌, ◌≤◌, [], ◌∷◌, length, drop, position, nat_lt};
 ghost use Rattle.std.specs.Prelude.{MatchOption, IfOk, OnSome};
-ghost use Rattle.std.specs.Bool.{OnTrue};
+ghost use Rattle.std.specs.Bool.{OnTrue, then_some};
 ghost use Rattle.std.specs.List.{list_any};
 ghost use Rattle.std.specs.Str.{bytes_eq};
 ghost use Rattle.proof_text.specs.Binary.{binary_words, is_binary, sevens, signed, binary_number};
 ghost use Rattle.proof_text.specs.Binary.{binary_numbers, up_to_zero, behind_line};
 ghost use Rattle.proof_text.specs.Binary.{action_of_word, binary_action, binary_step};
 ghost use Rattle.proof_text.specs.Binary.{binary_lines_of};
-ghost use Rattle.proof_text.specs.Numbers.{first_number, before_zero, literal_of, if_read};
+ghost use Rattle.proof_text.specs.Numbers.{first_number, before_zero, literal_of};
 ghost use Rattle.proof_text.specs.Reads.{IsRead};
 ghost use Rattle.proof_text.specs.Steps.{steps_by, drat_with};
 
@@ -59,13 +59,9 @@ impl<'a> BinaryWords<'a> {
         ensures word { MatchOption result (self.old ≡ []) (λ word. self.old ≡ word.now ∷ self.new) }
         ensures rest { self.new ≡ drop 1 self.old }
     {
-        match cut_word(self.rest) {
-            Some((word, rest)) => {
-                self.rest = rest;
-                Some(word)
-            }
-            None => None,
-        }
+        let (word, rest) = cut_word(self.rest)?;
+        self.rest = rest;
+        Some(word)
     }
 
     /// Takes the next word, and gives the number that it is.
@@ -73,10 +69,7 @@ impl<'a> BinaryWords<'a> {
         ensures number { result ≡ first_number (binary_numbers self.old) }
         ensures rest { self.new ≡ drop 1 self.old }
     {
-        match self.next_word() {
-            Some(word) => binary_number(word),
-            None => None,
-        }
+        binary_number(self.next_word()?)
     }
 
     /// Takes the next word, and gives what a step does by it.
@@ -84,10 +77,7 @@ impl<'a> BinaryWords<'a> {
         ensures action { result ≡ binary_action self.old }
         ensures rest { self.new ≡ drop 1 self.old }
     {
-        match self.next_word() {
-            Some(word) => action_of(word),
-            None => None,
-        }
+        action_of(self.next_word()?)
     }
 }
 
@@ -99,6 +89,7 @@ fn first_last(bytes: &[u8]) -> Option<usize>
 }
 
 /// The first word, where there is one, and what stands behind it.
+#[tactic(auto, using(crate::proofs::Packing::binary_at, crate::proofs::Packing::binary_unended))]
 fn cut_word(bytes: &[u8]) -> Option<(&[u8], &[u8])>
     ensures { MatchOption result (binary_words bytes.now ≡ [])
         (λ cut. binary_words bytes.now ≡ cut.0.now ∷ binary_words cut.1.now) }
@@ -126,6 +117,7 @@ fn is_binary(word: &[u8]) -> bool
 }
 
 /// Seven bits a byte, the lowest first.
+#[tactic(auto, using(crate::proofs::Packing::sevens_fit), unfolding(crate::specs::Binary::sevens))]
 fn sevens(word: &[u8]) -> u64
     requires { length word.now ≤ 5 }
     ensures { result ≡ sevens word.now }
@@ -177,6 +169,7 @@ fn action_of(word: &[u8]) -> Option<DratAction>
 }
 
 /// Reads the literals up to a 0, which is passed over, and says whether they are such.
+#[tactic(auto, using(crate::proofs::UpToZero::at_item, crate::proofs::Packing::behind_at_more))]
 fn read_literals(
     words: &mut BinaryWords<'_>,
     variables: u32,
@@ -184,7 +177,7 @@ fn read_literals(
 ) -> Result<bool, AllocError>
     ensures read { IfOk result (λ read.
         before_zero (literal_of variables) (binary_numbers words.old) ≡
-        if_read read literals.new.items (binary_numbers words.new)) }
+        then_some read (literals.new.items, binary_numbers words.new)) }
     ensures rest { IfOk result (λ read. OnTrue read (words.new ≡ behind_line words.old)) }
 {
     literals.clear();
@@ -201,6 +194,7 @@ fn read_literals(
 }
 
 /// Reads the step of the first line.
+#[tactic(auto, using(crate::proofs::Packing::behind_read, crate::proofs::Packing::where_read))]
 fn read_step(
     words: &mut BinaryWords<'_>,
     variables: u32,
@@ -213,7 +207,7 @@ fn read_step(
     match words.next_action() {
         Some(action) => {
             let read = read_literals(words, variables, literals)?;
-            if read { Ok(Some(action)) } else { Ok(None) }
+            Ok(read.then_some(action))
         }
         None => Ok(None),
     }
@@ -270,15 +264,14 @@ impl<'a> BinaryLines<'a> {
             return Ok(None);
         }
         let mut words = BinaryWords::of(self.rest);
-        match read_step(&mut words, variables, literals) {
-            Ok(Some(action)) => {
+        match read_step(&mut words, variables, literals)? {
+            Some(action) => {
                 let line = self.number;
                 self.rest = words.bytes();
                 self.number = line + 1;
                 Ok(Some((line, action)))
             }
-            Ok(None) => Err(StepFault::BadLine { line: self.number }),
-            Err(refused) => Err(StepFault::from(refused)),
+            None => Err(StepFault::BadLine { line: self.number }),
         }
     }
 }

@@ -99,13 +99,12 @@ fn read_line(
           literals = literals.new.items;
         }) result }
 {
-    match lines.next_line() {
-        Some((line, mut words)) => match read_step(&mut words, variables, literals) {
-            Ok(Some(action)) => Ok(Some((line, action))),
-            Ok(None) => Err(StepFault::BadLine { line }),
-            Err(refused) => Err(StepFault::from(refused)),
-        },
-        None => Ok(None),
+    let Some((line, mut words)) = lines.next_line() else {
+        return Ok(None);
+    };
+    match read_step(&mut words, variables, literals)? {
+        Some(action) => Ok(Some((line, action))),
+        None => Err(StepFault::BadLine { line }),
     }
 }
 
@@ -122,6 +121,7 @@ fn take_action(words: &mut Words<'_>) -> DratAction
 }
 
 /// Reads the step of a line.
+#[tactic(auto, using(crate::proofs::Stepping::drat_is), unfolding(crate::specs::Steps::drat_step))]
 fn read_step(
     words: &mut Words<'_>,
     variables: u32,
@@ -132,5 +132,5 @@ fn read_step(
 {
     let action = take_action(words);
     let read = read_last_literals(words, variables, literals)?;
-    if read { Ok(Some(action)) } else { Ok(None) }
+    Ok(read.then_some(action))
 }

@@ -48,10 +48,7 @@ fn is_binary(proof: &[u8]) -> bool
 fn begins_with(proof: &[u8], byte: u8) -> bool
     ensures { result ≡ begins_with byte proof.now }
 {
-    match proof.first() {
-        Some(first) => *first == byte,
-        None => false,
-    }
+    proof.first().is_some_and(|first| *first == byte)
 }
 
 /// Whether the first line deletes a clause of DRAT.
@@ -63,54 +60,41 @@ fn deletes_first(proof: &[u8]) -> bool
 }
 
 /// Whether a line deletes a clause of DRAT.
+#[tactic(auto, unfolding(crate::specs::Forms::deletes))]
 fn deletes(line: &[u8]) -> bool
     ensures { result ≡ deletes (words line.now) }
 {
     let mut words = Words::of(line);
-    if words.take_delete() {
-        ends_at_zero(&mut words)
-    } else {
-        false
-    }
+    words.take_delete() && ends_at_zero(&mut words)
 }
 
 /// Whether the first 0 is the last number.
 fn ends_at_zero(words: &mut Words<'_>) -> bool
     ensures { result ≡ is_end (behind_zero (numbers_of words.old)) }
 {
-    let found = pass_zero(words);
-    found && words.are_over()
+    pass_zero(words) && words.are_over()
 }
 
 /// Whether something stands behind the first 0.
 fn goes_on(words: &mut Words<'_>) -> bool
     ensures { result ≡ is_more (behind_zero (numbers_of words.old)) }
 {
-    let found = pass_zero(words);
-    found && !words.are_over()
+    pass_zero(words) && !words.are_over()
 }
 
 /// Whether it is a number other than 0.
 fn is_some_nonzero(number: Option<Number>) -> bool
     ensures { result ≡ is_some_nonzero number }
 {
-    match number {
-        Some(number) => 0 < number.size,
-        None => false,
-    }
+    number.is_some_and(|number| 0 < number.size)
 }
 
 /// Whether a line of these words is one of LRAT.
+#[tactic(auto, unfolding(crate::specs::Forms::is_lrat))]
 fn is_lrat(words: &mut Words<'_>) -> bool
     ensures { result ≡ is_lrat words.old }
 {
-    if !is_some_nonzero(words.next_number()) {
-        return false;
-    }
-    if words.take_delete() {
-        return true;
-    }
-    goes_on(words)
+    is_some_nonzero(words.next_number()) && (words.take_delete() || goes_on(words))
 }
 
 /// The form of a text, by its first line that says something.

@@ -68,20 +68,18 @@ impl<'a> LratSteps<'a> {
           ids = ids.new.items;
         }) result }
     {
-        match self.text.next_line() {
-            Some((line, mut words)) => {
-                match read_step(&mut words, self.variables, literals, ids) {
-                    Ok(Some(action)) => Ok(Some((line, action))),
-                    Ok(None) => Err(StepFault::BadLine { line }),
-                    Err(refused) => Err(StepFault::from(refused)),
-                }
-            }
-            None => Ok(None),
+        let Some((line, mut words)) = self.text.next_line() else {
+            return Ok(None);
+        };
+        match read_step(&mut words, self.variables, literals, ids)? {
+            Some(action) => Ok(Some((line, action))),
+            None => Err(StepFault::BadLine { line }),
         }
     }
 }
 
 /// Reads the step of a line.
+#[tactic(auto, unfolding(crate::specs::Steps::lrat_step, crate::specs::Steps::step_of_id))]
 fn read_step(
     words: &mut Words<'_>,
     variables: u32,
@@ -109,6 +107,7 @@ fn line_id(number: Option<Number>) -> Option<u64>
 }
 
 /// Reads what stands behind the ID.
+#[tactic(auto, unfolding(crate::specs::Steps::step_of_id))]
 fn read_behind_id(
     words: &mut Words<'_>,
     variables: u32,
@@ -127,6 +126,7 @@ fn read_behind_id(
 }
 
 /// Reads `IDS 0`.
+#[tactic(auto, using(crate::proofs::Stepping::deletion_is))]
 fn read_deletion(
     words: &mut Words<'_>,
     literals: &mut Vec<Literal>,
@@ -137,14 +137,11 @@ fn read_deletion(
 {
     literals.clear();
     let read = read_last_ids(words, false, ids)?;
-    if read {
-        Ok(Some(LratAction::Delete))
-    } else {
-        Ok(None)
-    }
+    Ok(read.then_some(LratAction::Delete))
 }
 
 /// Reads `LITERALS 0 HINTS 0`.
+#[tactic(auto, using(crate::proofs::Stepping::addition_none, crate::proofs::Stepping::addition_is))]
 fn read_addition(
     words: &mut Words<'_>,
     variables: u32,
@@ -160,9 +157,5 @@ fn read_addition(
         return Ok(None);
     }
     let has_hints = read_last_ids(words, true, ids)?;
-    if has_hints {
-        Ok(Some(LratAction::Add(id)))
-    } else {
-        Ok(None)
-    }
+    Ok(has_hints.then_some(LratAction::Add(id)))
 }

@@ -33,6 +33,7 @@ fn is_decimal(word: &[u8]) -> bool
 }
 
 /// What digits write.
+#[tactic(auto, using(crate::proofs::Digits::value_more, crate::proofs::Digits::value_small))]
 fn value_of(word: &[u8]) -> u64
     requires digits { list_all is_ascii_digit word.now ≡ true }
     requires short { length word.now ≤ 18 }
@@ -50,23 +51,19 @@ fn value_of(word: &[u8]) -> u64
 fn size_of(word: &[u8]) -> Option<u64>
     ensures { result ≡ size_of word.now }
 {
-    if is_decimal(word) {
-        Some(value_of(word))
-    } else {
-        None
-    }
+    is_decimal(word).then(|| value_of(word))
 }
 
 /// The number behind a `-`, which is not 0.
 fn below_zero(size: Option<u64>) -> Option<Number>
     ensures { result ≡ below_zero size }
 {
-    match size {
-        Some(size) if size != 0 => Some(Number {
+    match size? {
+        0 => None,
+        size => Some(Number {
             size,
             negative: true,
         }),
-        _ => None,
     }
 }
 
@@ -74,28 +71,22 @@ fn below_zero(size: Option<u64>) -> Option<Number>
 fn not_below_zero(size: Option<u64>) -> Option<Number>
     ensures { result ≡ not_below_zero size }
 {
-    match size {
-        Some(size) => Some(Number {
-            size,
-            negative: false,
-        }),
-        None => None,
-    }
+    Some(Number {
+        size: size?,
+        negative: false,
+    })
 }
 
 /// The number that a word writes.
+#[tactic(auto, unfolding(crate::specs::Numbers::number_of))]
 pub(crate) fn number_of(word: &[u8]) -> Option<Number>
     ensures { result ≡ number_of word.now }
 {
-    match word.split_first() {
-        Some((first, rest)) => {
-            if *first == b'-' {
-                below_zero(size_of(rest))
-            } else {
-                not_below_zero(size_of(word))
-            }
-        }
-        None => None,
+    let (first, rest) = word.split_first()?;
+    if *first == b'-' {
+        below_zero(size_of(rest))
+    } else {
+        not_below_zero(size_of(word))
     }
 }
 

@@ -1,8 +1,8 @@
 //! The numbers of a line, read up to a 0.
 
 ghost use Rattle.std.specs.Prelude.{◌≡◌, IfOk};
+ghost use Rattle.std.specs.Bool.{then_some};
 ghost use Rattle.proof_text.specs.Numbers.{numbers_of, before_zero, whole, literal_of, id_of};
-ghost use Rattle.proof_text.specs.Numbers.{if_true, if_read};
 ghost use Rattle.proof_text.specs.Forms.{behind_zero};
 
 use crate::number::{id_of, literal_of};
@@ -11,13 +11,14 @@ use serializability::Literal;
 use std::alloc::AllocError;
 
 /// Reads the literals up to a 0, which is passed over, and says whether they are such.
+#[tactic(auto, using(crate::proofs::UpToZero::at_zero, crate::proofs::UpToZero::at_item))]
 pub(crate) fn read_literals(
     words: &mut Words<'_>,
     variables: u32,
     literals: &mut Vec<Literal>,
 ) -> Result<bool, AllocError>
     ensures { IfOk result (λ read. before_zero (literal_of variables) (numbers_of words.old) ≡
-        if_read read literals.new.items (numbers_of words.new)) }
+        then_some read (literals.new.items, numbers_of words.new)) }
 {
     literals.clear();
     while let Some(number) = words.next_number() {
@@ -33,13 +34,14 @@ pub(crate) fn read_literals(
 }
 
 /// Reads the IDs up to a 0, which is passed over, and says whether they are such.
+#[tactic(auto, using(crate::proofs::UpToZero::at_zero, crate::proofs::UpToZero::at_item))]
 fn read_ids(
     words: &mut Words<'_>,
     is_hint: bool,
     ids: &mut Vec<Option<u64>>,
 ) -> Result<bool, AllocError>
     ensures { IfOk result (λ read. before_zero (id_of is_hint) (numbers_of words.old) ≡
-        if_read read ids.new.items (numbers_of words.new)) }
+        then_some read (ids.new.items, numbers_of words.new)) }
 {
     ids.clear();
     while let Some(number) = words.next_number() {
@@ -61,10 +63,9 @@ pub(crate) fn read_last_ids(
     ids: &mut Vec<Option<u64>>,
 ) -> Result<bool, AllocError>
     ensures { IfOk result (λ read. whole (before_zero (id_of is_hint) (numbers_of words.old)) ≡
-        if_true read ids.new.items) }
+        then_some read ids.new.items) }
 {
-    let read = read_ids(words, is_hint, ids)?;
-    Ok(read && words.are_over())
+    Ok(read_ids(words, is_hint, ids)? && words.are_over())
 }
 
 /// Reads the literals up to a 0, which is to stand at the end of the line.
@@ -75,15 +76,15 @@ pub(crate) fn read_last_literals(
 ) -> Result<bool, AllocError>
     ensures { IfOk result (λ read.
         whole (before_zero (literal_of variables) (numbers_of words.old)) ≡
-        if_true read literals.new.items) }
+        then_some read literals.new.items) }
 {
-    let read = read_literals(words, variables, literals)?;
-    Ok(read && words.are_over())
+    Ok(read_literals(words, variables, literals)? && words.are_over())
 }
 
 /// Passes over numbers and the first 0, where there is one and only numbers stand before it.
+#[tactic(auto, using(crate::proofs::UpToZero::pass_zero, crate::proofs::UpToZero::pass_more))]
 pub(crate) fn pass_zero(words: &mut Words<'_>) -> bool
-    ensures { behind_zero (numbers_of words.old) ≡ if_true result (numbers_of words.new) }
+    ensures { behind_zero (numbers_of words.old) ≡ then_some result (numbers_of words.new) }
 {
     while let Some(number) = words.next_number() {
         if number.size == 0 {

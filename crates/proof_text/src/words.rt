@@ -42,13 +42,9 @@ impl<'a> Words<'a> {
         ensures word { MatchOption result (self.old ≡ []) (λ word. self.old ≡ word.now ∷ self.new) }
         ensures rest { self.new ≡ drop 1 self.old }
     {
-        match cut_word(self.rest) {
-            Some((word, rest)) => {
-                self.rest = rest;
-                Some(word)
-            }
-            None => None,
-        }
+        let (word, rest) = cut_word(self.rest)?;
+        self.rest = rest;
+        Some(word)
     }
 
     /// Takes the next word, and gives the number that it is.
@@ -56,10 +52,7 @@ impl<'a> Words<'a> {
         ensures number { result ≡ first_number (numbers_of self.old) }
         ensures rest { self.new ≡ drop 1 self.old }
     {
-        match self.next_word() {
-            Some(word) => number_of(word),
-            None => None,
-        }
+        number_of(self.next_word()?)
     }
 
     /// Whether no word is left.
@@ -113,6 +106,7 @@ fn first_blank(line: &[u8]) -> Option<usize>
 }
 
 /// How many bytes stand before the first blank.
+#[tactic(auto, using(crate::proofs::Cutting::position_end))]
 fn end_of_word(line: &[u8]) -> usize
     ensures { result ≡ position_or_len is_blank line.now }
 {
@@ -123,17 +117,14 @@ fn end_of_word(line: &[u8]) -> usize
 }
 
 /// The first word of a line, where it has one, and what stands behind it.
+#[tactic(auto, using(crate::proofs::Cutting::words_at, crate::proofs::Cutting::words_none))]
 fn cut_word(line: &[u8]) -> Option<(&[u8], &[u8])>
     ensures { MatchOption result (words line.now ≡ [])
         (λ cut. words line.now ≡ cut.0.now ∷ words cut.1.now) }
 {
-    match first_text(line) {
-        Some(start) => {
-            let (_, from) = line.split_at(start);
-            Some(from.split_at(end_of_word(from)))
-        }
-        None => None,
-    }
+    let start = first_text(line)?;
+    let (_, from) = line.split_at(start);
+    Some(from.split_at(end_of_word(from)))
 }
 
 /// The place of the first line feed.
@@ -144,6 +135,7 @@ fn first_feed(text: &[u8]) -> Option<usize>
 }
 
 /// The first line of a text, and what stands behind it.
+#[tactic(auto, using(crate::proofs::Cutting::lines_unended, crate::proofs::Cutting::stated_last))]
 pub(crate) fn cut_line(text: &[u8]) -> (&[u8], &[u8])
     ensures first { result.0.now ≡ first_line (lines text.now) }
     ensures lines { (n : ℕ) →
@@ -176,6 +168,7 @@ fn is_passed(line: &[u8]) -> bool
     }
 }
 
+#[tactic(auto, using(crate::proofs::Cutting::stated_first, crate::proofs::Cutting::stated_passed))]
 /// The first line that says something: its number, the line, and what stands behind it.
 fn find_line(text: &[u8], number: usize) -> Option<(usize, &[u8], &[u8])>
     requires { number + length text.now ≤ 2 ^ 63 }
@@ -231,13 +224,9 @@ impl<'a> Lines<'a> {
     pub(crate) fn next_line(&mut self) -> Option<(usize, Words<'a>)>
         ensures { MatchOption result (self.old ≡ []) (λ line. self.old ≡ line ∷ self.new) }
     {
-        match find_line(self.rest, self.number) {
-            Some((number, line, rest)) => {
-                self.rest = rest;
-                self.number = number + 1;
-                Some((number, Words::of(line)))
-            }
-            None => None,
-        }
+        let (number, line, rest) = find_line(self.rest, self.number)?;
+        self.rest = rest;
+        self.number = number + 1;
+        Some((number, Words::of(line)))
     }
 }

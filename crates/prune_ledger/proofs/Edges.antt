@@ -1,5 +1,5 @@
 -- More edges of a graph.
-use Rattle.std.proofs.Common.{◌≡◌, ◌⊎◌, ◌↔◌, ℕ, ◌+◌, ◌<◌, ◌≤◌, List, [], ◌∷◌, ◌++◌, length, get_or, take, refl, sym, ap, ◌∙◌, subst, inl, inr}
+use Rattle.std.proofs.Common.{◌≡◌, ◌⊎◌, ◌↔◌, ℕ, ◌+◌, ◌<◌, ◌≤◌, List, [], ◌∷◌, ◌++◌, length, get_or, take, sym, ap, ◌∙◌, subst, inl, inr}
 use Rattle.std.specs.List.{Contains, filter}
 use Rattle.std.proofs.lemmas.List.{take_more}
 use Rattle.serializability.specs.Polygraph.{Edge}
@@ -18,9 +18,6 @@ pub record Added (old now : Graph) (part : List Edge) : Type 0 where
   pub from : (e : Edge) → In e now.edges → In e old.edges ⊎ In e part
   pub first : (e : Edge) → In e old.edges → In e now.edges
   pub second : (e : Edge) → In e part → In e now.edges
-
-pub added_none : (g : Graph) → Added g g []
-added_none g = record { nodes = refl; from = λ e h. inl h; first = λ e h. h; second = λ e h. absurd h }
 
 pub added_more : (old now next : Graph) (part : List Edge) (d : Edge) → Added old now part → next.nodes ≡ now.nodes → ((e : Edge) → (Contains next.edges e ↔ (Contains now.edges e ⊎ (e ≡ d)))) → Added old next (part ++ d ∷ [])
 added_more old now next part d a n f = record {

@@ -1,10 +1,11 @@
 -- The end of pruning.
-use Rattle.std.proofs.Common.{◌≡◌, ◌↔◌, ℕ, zero, suc, ◌+◌, ◌<◌, ◌≤◌, Bool, true, false, cond, ◌||◌, List, [], ◌∷◌, ◌++◌, length, Some, refl, sym, ap, ◌∙◌, subst, inl, inr, arith}
+use Rattle.std.proofs.Common.{◌≡◌, ◌↔◌, ℕ, zero, suc, ◌+◌, ◌<◌, ◌≤◌, Bool, true, false, cond, ◌||◌, List, [], ◌∷◌, ◌++◌, length, Some, refl, sym, ap, ◌∙◌, subst, inl, inr, arith, length-append}
 use Rattle.std.specs.Prelude.{slice_get, IfSome, IsNone, map}
 use Rattle.std.specs.Option.{option_map_or}
 use Rattle.std.specs.List.{Contains, AllByRecursion}
 use Rattle.std.proofs.lemmas.Bool.{cases_Bool, false≢true, or_cases}
 use Rattle.std.proofs.lemmas.Option.{slice_get_within}
+use Rattle.std.proofs.Math.Bool.{or_comm}
 use Rattle.serializability.specs.Polygraph.{Edge, Choice, Polygraph}
 use Rattle.reach_laws.specs.Reach.{Graph, IsCyclic, IsCycle}
 use Rattle.reach_laws.proofs.Walks.{reach_joined}
@@ -35,7 +36,8 @@ use Rattle.prune_ledger.specs.declared.messages.PruneEvent.{PruneEvent}
 use Rattle.prune_ledger.specs.declared.messages.PruneReply.{PruneReply}
 use Rattle.known_graph.proofs.Tested.{same_bool}
 use Rattle.prune_ledger.proofs.Sides.{side_is, side_with}
-use Rattle.prune_ledger.proofs.Grown.{some_mark, walk_in, reaches_in, grown_opening, opens, grown_reopened, ran, kept_append, shown_append, refuted_in}
+use Rattle.prune_ledger.proofs.Grown.{some_mark, walk_in, reaches_in, grown_opening, opens, grown_reopened, ran, kept_append, shown_append, refuted_in, posts_append}
+use Rattle.prune_ledger.proofs.Marks.{some-inj}
 
 -- ---- the sides that are kept at the end are closed
 flag_at : (flags : List Bool) (k : ℕ) → k < length flags → (f : Bool) × (slice_get flags k ≡ Some f)
@@ -90,11 +92,6 @@ last_closed p entries s graph flags l = record {
 }
 
 -- ---- the open choices
-or_swapped : (a b : Bool) → (a || b) ≡ (b || a)
-or_swapped true true = refl
-or_swapped true false = refl
-or_swapped false true = refl
-or_swapped false false = refl
 
 open_listed : (ms : List ChoiceState) (hs : List Choice) (sides : Sides) (c : ℕ) → length ms ≡ length hs → ((k : ℕ) (m : ChoiceState) → slice_get ms k ≡ Some m → (sides (c + k) One || sides (c + k) Two) ≡ (m.one || m.two)) → unrefused ms hs ≡ open_from sides c hs
 open_listed [] [] sides c len f = refl
@@ -110,7 +107,7 @@ mark_sides : (p : Polygraph) (kept : List Kept) (s : State) → Grown p kept s �
 mark_sides p kept s g c m at =
     let one : m.one ≡ sides_in kept c Two = same_bool m.one (sides_in kept c Two) (λ t. g.marks c One (refused_at s c m One at t)) (λ t. refuses_at s c m One at (g.back c One t)) in
     let two : m.two ≡ sides_in kept c One = same_bool m.two (sides_in kept c One) (λ t. g.marks c Two (refused_at s c m Two at t)) (λ t. refuses_at s c m Two at (g.back c Two t)) in
-    or_swapped (sides_in kept c One) (sides_in kept c Two) ∙ ap (λ b. b || sides_in kept c One) (sym one) ∙ ap (λ b. m.one || b) (sym two)
+    or_comm (sides_in kept c One) (sides_in kept c Two) ∙ ap (λ b. b || sides_in kept c One) (sym one) ∙ ap (λ b. m.one || b) (sym two)
 
 pub choices_left : (p : Polygraph) (kept : List Kept) (s : State) → Grown p kept s → unrefused s.marks s.choices ≡ open_from (sides_in kept) 0 p.choices
 choices_left p kept s g =
@@ -181,13 +178,6 @@ pub cycle_in : (p : Polygraph) (entries : List LedgerEntry) (graph : Graph) → 
 cycle_in p entries graph g line c = (c.0, record { inner = c.1.inner; shape = c.1.shape; steps = walk_in graph.edges (edges_after p (kept_by entries)) g.from c.1.inner c.0 c.0 c.1.steps })
 
 -- ---- rounds
-some-state : (x y : State) → Some x ≡ Some y → x ≡ y
-some-state x y e = cc
-
-posts_joined : (xs ys : List LedgerEntry) → posts_in (xs ++ ys) ≡ posts_in xs ++ posts_in ys
-posts_joined [] ys = refl
-posts_joined (x ∷ xs) ys = ap (λ l. x.post ∷ l) (posts_joined xs ys)
-
 posts_entered_by : (seat : ℕ) (posts : List Posted) → posts_in (map (entered.entry_of seat) posts) ≡ posts
 posts_entered_by seat [] = refl
 posts_entered_by seat (q ∷ qs) = ap (λ l. q ∷ l) (posts_entered_by seat qs)
@@ -195,18 +185,18 @@ posts_entered_by seat (q ∷ qs) = ap (λ l. q ∷ l) (posts_entered_by seat qs)
 posts_entered : (history : List (Entry PruneEvent PruneReply)) → posts_in (entered_in history) ≡ ledger_of history
 posts_entered [] = refl
 posts_entered (x ∷ xs) =
-    posts_joined (entered_by x.seat x.event x.reply) (entered_in xs)
+    posts_append (entered_by x.seat x.event x.reply) (entered_in xs)
     ∙ ap (λ l. l ++ posts_in (entered_in xs)) (posts_entered_by x.seat (posts_of x.event x.reply))
     ∙ ap (λ l. posts_of x.event x.reply ++ l) (posts_entered xs)
 
 pub posts_more : (entries next : List LedgerEntry) (history : List (Entry PruneEvent PruneReply)) → next ≡ entries ++ entered_in history → posts_in next ≡ posts_in entries ++ ledger_of history
-posts_more entries next history is = ap posts_in is ∙ posts_joined entries (entered_in history) ∙ ap (λ l. posts_in entries ++ l) (posts_entered history)
+posts_more entries next history is = ap posts_in is ∙ posts_append entries (entered_in history) ∙ ap (λ l. posts_in entries ++ l) (posts_entered history)
 
 pub progress_more : (p : Polygraph) → IsWhole p → (entries next : List LedgerEntry) (s start now : State) (history : List (Entry PruneEvent PruneReply)) → IsProgress p entries s → start ≡ reopened_state s → IsReached next_of reply_of (Some start) history now
     → next ≡ entries ++ entered_in history → IsProgress p next now
 progress_more p whole entries next s start now history i is reached is_next =
     let more = posts_more entries next history is_next in
-    let first : reached.0 ≡ reopened_state s = some-state reached.0 start (sym reached.1) ∙ is in
+    let first : reached.0 ≡ reopened_state s = some-inj reached.0 start (sym reached.1) ∙ is in
     let legal = subst (λ (x : State). IsLegal next_of reply_of x history) first reached.2 in
     let last : now ≡ replay next_of (reopened_state s) history = reached.3 ∙ ap (λ (x : State). replay next_of x history) first in
     let r = ran p whole (kept_by entries) (reopened_state s) (grown_reopened p (kept_by entries) s i.grown) history legal in
@@ -221,13 +211,9 @@ length_posts : (entries : List LedgerEntry) → length (posts_in entries) ≡ le
 length_posts [] = refl
 length_posts (x ∷ xs) = ap suc (length_posts xs)
 
-length_joined : (xs ys : List Posted) → length (xs ++ ys) ≡ length xs + length ys
-length_joined [] ys = omega arith
-length_joined (x ∷ xs) ys = (let i = length_joined xs ys in omega (arith, i))
-
 pub no_fewer : (entries next : List LedgerEntry) (posts : List Posted) → posts_in next ≡ posts_in entries ++ posts → length entries ≤ length next
 no_fewer entries next posts more =
-    let a = ap length more in let b = length_joined (posts_in entries) posts in let d = length_posts entries in let e = length_posts next in omega (arith, a, b, d, e)
+    let a = ap length more in let b = length-append (posts_in entries) posts in let d = length_posts entries in let e = length_posts next in omega (arith, a, b, d, e)
 
 pub progress_first : (p : Polygraph) → IsWhole p → (s : State) → s ≡ opening_state p.choices (record { nodes = p.nodes; edges = p.known }) → IsProgress p [] s
 progress_first p whole s e = record { grown = subst (λ (x : State). Grown p [] x) (sym e) (grown_opening p whole (opening_state p.choices (record { nodes = p.nodes; edges = p.known })) (opens p)); shown = tt; rounds = subst (λ (x : State). AreRounds p [] x) (sym e) entered.none }

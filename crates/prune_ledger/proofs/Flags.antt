@@ -1,26 +1,24 @@
 -- Flags of passed choices, and marks.
-use Rattle.std.proofs.Common.{◌≡◌, ◌⊎◌, ℕ, zero, suc, ◌+◌, ◌<◌, ◌≤◌, Bool, true, false, cond, ◌||◌, List, [], ◌∷◌, ◌++◌, length, get_or, take, drop, Some, refl, sym, ap, ◌∙◌, subst, inl, inr, arith}
+use Rattle.std.proofs.Common.{◌≡◌, ◌⊎◌, ℕ, zero, suc, ◌+◌, ◌<◌, ◌≤◌, Bool, true, ◌||◌, List, [], ◌∷◌, ◌++◌, length, get_or, take, Some, refl, sym, ap, ◌∙◌, subst, inl, inr, arith}
 use Rattle.std.specs.Prelude.{slice_get, slice_set, map}
 use Rattle.std.specs.List.{AllByRecursion, Contains}
-use Rattle.std.proofs.lemmas.Bool.{cases_eq, cases_Bool}
+use Rattle.std.proofs.lemmas.Bool.{cases_Bool}
 use Rattle.std.proofs.lemmas.List.{take_more}
+use Rattle.std.proofs.lemmas.Option.{slice_get-get_or}
 use Rattle.serializability.specs.Polygraph.{Edge, Choice}
 use Rattle.reach_laws.proofs.Walks.{each_contained}
 use Rattle.known_graph.proofs.Listed.{In, Contains-from_In, In-append_left, In-append_right}
 use Rattle.prune_ledger.specs.Opening.{given_back}
 use Rattle.prune_ledger.specs.Rounds.{IsOpenIn}
-use Rattle.prune_ledger.specs.Pruned.{unrefused, AreOpen, AreSettled}
+use Rattle.prune_ledger.specs.Pruned.{unrefused, AreOpen}
 use Rattle.prune_ledger.specs.declared.messages.ChoiceState.{ChoiceState}
-use Rattle.prune_ledger.proofs.Marks.{some-inj, get_set}
+use Rattle.prune_ledger.proofs.Marks.{some-inj}
 
 -- ---- flags
 -- each flag that is set now was set before, or is of a choice in this part
 pub record Flagged (old now : List Bool) (part : List ℕ) : Type 0 where
   pub each : (c : ℕ) → slice_get now c ≡ Some true → (slice_get old c ≡ Some true) ⊎ In c part
   pub len : length now ≡ length old
-
-pub flagged_none : (flags : List Bool) → Flagged flags flags []
-flagged_none flags = record { each = λ c h. inl h; len = refl }
 
 pub flagged_more : (old now next : List Bool) (passed : List ℕ) (k d : ℕ) → k < length passed → d ≡ get_or passed k d → Flagged old now (take k passed)
     → ((c : ℕ) → slice_get next c ≡ Some true → (slice_get now c ≡ Some true) ⊎ (d ≡ c)) → length next ≡ length now → Flagged old next (take (k + 1) passed)
@@ -36,9 +34,6 @@ flagged_more old now next passed k d lt is f g len =
 
 pub flagged_contains : (old now : List Bool) (part : List ℕ) → Flagged old now part → (c : ℕ) → slice_get now c ≡ Some true → (slice_get old c ≡ Some true) ⊎ Contains part c
 flagged_contains old now part f c h = elim (f.each c h) [ inl a ↦ inl a | inr b ↦ inr (Contains-from_In part c b) ]
-
-pub flag_set : (flags : List Bool) (k c : ℕ) → slice_get (slice_set flags k true) c ≡ Some true → (slice_get flags c ≡ Some true) ⊎ (k ≡ c)
-flag_set flags k c h = elim (get_set flags k c true true h) [ inl p ↦ inr (sym p.0) | inr q ↦ inl q ]
 
 pub open_more : (edges : List Edge) (choices : List Choice) (old now : List Bool) (passed : List ℕ) → AreOpen edges choices old → AllByRecursion (IsOpenIn edges choices) passed
     → ((c : ℕ) → slice_get now c ≡ Some true → (slice_get old c ≡ Some true) ⊎ Contains passed c) → AreOpen edges choices now
@@ -71,43 +66,7 @@ given_all zero (m ∷ ms) h = absurd (omega arith)
 given_all (suc n) [] h = refl
 given_all (suc n) (m ∷ ms) h = ap (λ l. given_back m ∷ l) (given_all n ms (omega arith))
 
-pub given_length : (n : ℕ) (ms : List ChoiceState) → length (given_part n ms) ≡ length ms
-unfolding given_part
-given_length zero ms = refl
-given_length (suc n) [] = refl
-given_length (suc n) (m ∷ ms) = ap suc (given_length n ms)
-
 -- ---- open choices
-pub unrefused_none : (ms : List ChoiceState) → unrefused ms [] ≡ []
-unrefused_none [] = refl
-unrefused_none (m ∷ ms) = refl
-
-drop_at : (ms : List ChoiceState) (k : ℕ) (m : ChoiceState) → slice_get ms k ≡ Some m → drop k ms ≡ m ∷ drop (suc k) ms
-drop_at [] k m e = absurd (cc)
-drop_at (x ∷ xs) zero m e = ap (λ (y : ChoiceState). y ∷ xs) (some-inj x m e)
-drop_at (x ∷ xs) (suc k) m e = drop_at xs k m e
-
-unrefused_at : (ms : List ChoiceState) (k : ℕ) (m : ChoiceState) (h : Choice) (hs : List Choice) → slice_get ms k ≡ Some m
-    → unrefused (drop k ms) (h ∷ hs) ≡ cond (m.one || m.two) (unrefused (drop (k + 1) ms) hs) (h ∷ unrefused (drop (k + 1) ms) hs)
-unrefused_at ms k m h hs e =
-    let s : suc k ≡ k + 1 = omega arith in
-    ap (λ (l : List ChoiceState). unrefused l (h ∷ hs)) (drop_at ms k m e) ∙ ap (λ n. cond (m.one || m.two) (unrefused (drop n ms) hs) (h ∷ unrefused (drop n ms) hs)) s
-
-pub open_skipped : (ms : List ChoiceState) (k : ℕ) (m : ChoiceState) (h : Choice) (hs rest open_now whole : List Choice) → slice_get ms k ≡ Some m → (m.one || m.two) ≡ true → rest ≡ h ∷ hs
-    → open_now ++ unrefused (drop k ms) rest ≡ whole → open_now ++ unrefused (drop (k + 1) ms) hs ≡ whole
-open_skipped ms k m h hs rest open_now whole at t r i =
-    ap (λ l. open_now ++ l) (sym (ap (unrefused (drop k ms)) r ∙ unrefused_at ms k m h hs at ∙ ap (λ b. cond b (unrefused (drop (k + 1) ms) hs) (h ∷ unrefused (drop (k + 1) ms) hs)) t)) ∙ i
-
-pub open_pushed : (ms : List ChoiceState) (k : ℕ) (m : ChoiceState) (h : Choice) (hs rest open_now next whole : List Choice) → slice_get ms k ≡ Some m → (m.one || m.two) ≡ false → rest ≡ h ∷ hs
-    → next ≡ open_now ++ h ∷ [] → open_now ++ unrefused (drop k ms) rest ≡ whole → next ++ unrefused (drop (k + 1) ms) hs ≡ whole
-open_pushed ms k m h hs rest open_now next whole at t r n i =
-    ap (λ l. l ++ unrefused (drop (k + 1) ms) hs) n ∙ joined open_now (h ∷ []) (unrefused (drop (k + 1) ms) hs)
-    ∙ ap (λ l. open_now ++ l) (sym (ap (unrefused (drop k ms)) r ∙ unrefused_at ms k m h hs at ∙ ap (λ b. cond b (unrefused (drop (k + 1) ms) hs) (h ∷ unrefused (drop (k + 1) ms) hs)) t)) ∙ i
-  where
-    joined : (a b c : List Choice) → (a ++ b) ++ c ≡ a ++ (b ++ c)
-    joined [] b c = refl
-    joined (x ∷ a) b c = ap (λ l. x ∷ l) (joined a b c)
-
 pub unrefused_each : (P : Choice → Type 0) (ms : List ChoiceState) (hs : List Choice) → AllByRecursion P hs → AllByRecursion P (unrefused ms hs)
 unrefused_each P [] hs a = tt
 unrefused_each P (m ∷ ms) [] a = tt
@@ -128,35 +87,9 @@ unrefused_few (m ∷ ms) (h ∷ hs) = (let i = unrefused_few ms hs in elim (case
 pub record SettledTo (k : ℕ) (marks : List ChoiceState) (flags : List Bool) : Type 0 where
   pub each : (c : ℕ) (m : ChoiceState) (f : Bool) → c < k → slice_get marks c ≡ Some m → slice_get flags c ≡ Some f → ((m.one || m.two) || f) ≡ true
 
-pub settled_none : (marks : List ChoiceState) (flags : List Bool) → SettledTo 0 marks flags
-settled_none marks flags = record { each = λ c m f lt. absurd (omega (arith, lt)) }
-
-pub settled_more : (k : ℕ) (marks : List ChoiceState) (flags : List Bool) (m : ChoiceState) (f : Bool) → SettledTo k marks flags → slice_get marks k ≡ Some m → slice_get flags k ≡ Some f → ((m.one || m.two) || f) ≡ true → SettledTo (k + 1) marks flags
-settled_more k marks flags m f s a b t = record {
-  each = λ c n g lt at bt. (elim (cases_eq c k) [
-    | inl same ↦ (let x : Some m ≡ Some n = sym a ∙ ap (slice_get marks) (sym same) ∙ at in
-        let y : Some f ≡ Some g = sym b ∙ ap (slice_get flags) (sym same) ∙ bt in
-        subst (λ (z : Bool). ((n.one || n.two) || z) ≡ true) (some-inj f g y) (subst (λ (z : ChoiceState). ((z.one || z.two) || f) ≡ true) (some-inj m n x) t))
-    | inr apart ↦ s.each c n g (omega (arith, lt, apart)) at bt
-  ]);
-}
-
-within_of : {A : Type 0} (xs : List A) (c : ℕ) (x : A) → slice_get xs c ≡ Some x → c < length xs
-within_of [] c x e = absurd (cc)
-within_of (y ∷ ys) zero x e = omega arith
-within_of (y ∷ ys) (suc c) x e = let i = within_of ys c x e in omega (arith, i)
-
-pub settled_all : (k : ℕ) (marks : List ChoiceState) (flags : List Bool) → SettledTo k marks flags → length marks ≤ k → AreSettled marks flags
-settled_all k marks flags s le = record { each = λ c m f a b. s.each c m f (let w = within_of marks c m a in omega (arith, w, le)) a b }
-
-pub get_some : {A : Type 0} (xs : List A) (k : ℕ) (d : A) → k < length xs → slice_get xs k ≡ Some (get_or xs k d)
-get_some [] k d lt = absurd (omega (arith, lt))
-get_some (x ∷ xs) zero d lt = refl
-get_some (x ∷ xs) (suc k) d lt = get_some xs k d (omega (arith, lt))
-
 pub given_step : (k : ℕ) (ms now : List ChoiceState) (x d : ChoiceState) → now ≡ given_part k ms → k < length now → x ≡ given_back (get_or now k d) → slice_set now k x ≡ given_part (k + 1) ms
 given_step k ms now x d is lt e =
-    let at : slice_get (given_part k ms) k ≡ Some (get_or now k d) = ap (λ l. slice_get l k) (sym is) ∙ get_some now k d lt in
+    let at : slice_get (given_part k ms) k ≡ Some (get_or now k d) = ap (λ l. slice_get l k) (sym is) ∙ slice_get-get_or now k d lt in
     ap (λ (y : ChoiceState). slice_set now k y) e ∙ ap (λ l. slice_set l k (given_back (get_or now k d))) is ∙ given_more k ms (get_or now k d) at
 
 pub all_from_index : {X : Type 0} (P : X → Type 0) (xs : List X) (n : ℕ) → length xs ≡ n → ((i : ℕ) (d : X) → i < n → P (get_or xs i d)) → AllByRecursion P xs

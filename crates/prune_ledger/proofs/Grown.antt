@@ -4,7 +4,7 @@ use Rattle.std.specs.Prelude.{slice_get, slice_set, replicate, map}
 use Rattle.std.specs.Option.{option_map_or}
 use Rattle.std.specs.List.{Contains, AllByRecursion, filter}
 use Rattle.std.proofs.lemmas.Bool.{false≢true, and_parts, or_parts, or_cases, or_right, not-true, cases_eq, eqb-true}
-use Rattle.std.proofs.lemmas.List.{length-set}
+use Rattle.std.proofs.lemmas.List.{length-set, length-map, length-replicate}
 use Rattle.std.proofs.lemmas.Option.{slice_get_within}
 use Rattle.serializability.specs.Polygraph.{Edge, Choice, Polygraph}
 use Rattle.reach_laws.specs.Reach.{Graph, Walk, Reaches, IsWalk}
@@ -20,6 +20,7 @@ use Rattle.pruning_laws.specs.Ledger.{Entry as Kept, same_side, sides_in, IsLedg
 use Rattle.pruning_laws.proofs.Ledgers.{entries_in}
 use Rattle.desk.specs.declared.history.Entry.{Entry}
 use Rattle.desk.specs.History.{IsLegal, replay}
+use Rattle.desk.proofs.Tied.{get_set}
 use Rattle.prune_ledger.specs.Posted.{Posted}
 use Rattle.prune_ledger.specs.State.{State}
 use Rattle.prune_ledger.specs.Opening.{no_mark, opening_state, given_back, reopened_state}
@@ -33,29 +34,22 @@ use Rattle.prune_ledger.specs.declared.messages.ChoiceState.{ChoiceState}
 use Rattle.prune_ledger.specs.declared.messages.PruneEvent.{PruneEvent}
 use Rattle.prune_ledger.specs.declared.messages.PruneEvent.TheVariants.{Take, Post, Pass, Release}
 use Rattle.prune_ledger.specs.declared.messages.PruneReply.{PruneReply}
-use Rattle.prune_ledger.specs.declared.messages.PruneReply.TheVariants.{Judge, NoneLeft, Entered, AlreadyIn, BadWalk, Noted, Released, Dead}
+use Rattle.prune_ledger.specs.declared.messages.PruneReply.TheVariants.{Entered, AlreadyIn, BadWalk, Dead}
 use Rattle.known_graph.proofs.Tested.{edge_in, walk_of}
 use Rattle.prune_ledger.proofs.Edges.{in_listed, in_of_listed}
-use Rattle.prune_ledger.proofs.Marks.{some-inj, get_set, side_joins, marks_opening}
-use Rattle.prune_ledger.proofs.Sides.{other_other, ChoiceAt, choice_of_edge, side_is, numbered_first, known_with, side_with, more_kept, new_chosen, new_kept, kept_cases, no_kept}
+use Rattle.prune_ledger.proofs.Marks.{some-inj, side_joins}
+use Rattle.prune_ledger.proofs.Sides.{ChoiceAt, choice_of_edge, side_is, numbered_first, known_with, side_with, more_kept, new_chosen, new_kept, kept_cases, no_kept}
 use Rattle.pruning_laws.proofs.Ledgers.{same_is}
+use Rattle.pruning_laws.proofs.Pruned.{other_other}
 
 -- ---- replies
 pub is_entered_true : (r : PruneReply) → is_entered r ≡ true → r ≡ Entered
 is_entered_true Entered e = refl
-is_entered_true (Judge c) e = absurd (false≢true e)
-is_entered_true NoneLeft e = absurd (false≢true e)
-is_entered_true AlreadyIn e = absurd (false≢true e)
-is_entered_true BadWalk e = absurd (false≢true e)
-is_entered_true Noted e = absurd (false≢true e)
-is_entered_true Released e = absurd (false≢true e)
-is_entered_true Dead e = absurd (false≢true e)
+is_entered_true _ e = absurd (false≢true e)
 
 three : (a b d : Bool) → cond a (cond b AlreadyIn (cond d Entered BadWalk)) BadWalk ≡ Entered → (a ≡ true) × (b ≡ false) × (d ≡ true)
 three true false true e = (refl, refl, refl)
-three true false false e = absurd (false≢true (ap is_entered e))
-three true true d e = absurd (false≢true (ap is_entered e))
-three false b d e = absurd (false≢true (ap is_entered e))
+three _ _ _ e = absurd (false≢true (ap is_entered e))
 
 pub entered : (s : State) (q : Posted) → post_reply s q ≡ Entered → (is_choice s q.choice ≡ true) × (is_refused s q.choice q.side ≡ false) × (is_against s q ≡ true)
 entered s q e = three (is_choice s q.choice) (is_refused s q.choice q.side) (is_against s q) e
@@ -135,7 +129,7 @@ after_refused marks c side (Some m) e k w t =
         | inl q ↦ inl (p.0, q)
         | inr r ↦ inr (from_mark marks k w m (ap (slice_get marks) p.0 ∙ e) r)
       ]
-      | inr q ↦ inr (from_mark marks k w x.mark q x.refuses_it)
+      | inr q ↦ inr (from_mark marks k w x.mark q.1 x.refuses_it)
     ]
 
 after_handed : (marks : List ChoiceState) (c : ℕ) (o : Option ChoiceState) → slice_get marks c ≡ o → (k : ℕ) (w : Side) → test (option_map_or (λ m. slice_set marks c (hand_out m)) o marks) k w ≡ true → test marks k w ≡ true
@@ -144,7 +138,7 @@ after_handed marks c (Some m) e k w t =
     let x = tested (slice_set marks c (hand_out m)) k w (slice_get (slice_set marks c (hand_out m)) k) refl t in
     elim (get_set marks c k (hand_out m) x.mark x.at) [
       | inl p ↦ from_mark marks k w m (ap (slice_get marks) p.0 ∙ e) (handed_one m w (subst (λ (y : ChoiceState). refuses y w ≡ true) p.1 x.refuses_it))
-      | inr q ↦ from_mark marks k w x.mark q x.refuses_it
+      | inr q ↦ from_mark marks k w x.mark q.1 x.refuses_it
     ]
 
 after_given : (marks : List ChoiceState) (k : ℕ) (w : Side) → test (map given_back marks) k w ≡ true → test marks k w ≡ true
@@ -157,10 +151,6 @@ before_given [] k w t = t
 before_given (m ∷ ms) zero One t = t
 before_given (m ∷ ms) zero Two t = t
 before_given (m ∷ ms) (suc k) w t = before_given ms k w t
-
-length_given : (marks : List ChoiceState) → length (map given_back marks) ≡ length marks
-length_given [] = refl
-length_given (m ∷ ms) = ap suc (length_given ms)
 
 refusing_old : (m : ChoiceState) (side w : Side) → refuses m w ≡ true → refuses (refusing m side) w ≡ true
 refusing_old m One One t = refl
@@ -251,10 +241,10 @@ free_marks zero = tt
 free_marks (suc n) = (refl, free_marks n)
 
 pub opens : (p : Polygraph) → IsOpening p (opening_state p.choices (record { nodes = p.nodes; edges = p.known }))
-opens p = record { same = refl; graph = refl; marked = marks_opening p.choices; free = free_marks (length p.choices); alive = refl }
+opens p = record { same = refl; graph = refl; marked = length-replicate (length p.choices) no_mark; free = free_marks (length p.choices); alive = refl }
 
 pub grown_reopened : (p : Polygraph) (kept : List Kept) (s : State) → Grown p kept s → Grown p kept (reopened_state s)
-grown_reopened p kept s g = record { same = g.same; nodes = g.nodes; known = g.known; from = g.from; to = g.to; marks = λ c w t. g.marks c w (after_given s.marks c w t); marked = length_given s.marks ∙ g.marked; back = λ c w t. before_given s.marks c w (g.back c w t); ledger = g.ledger; dead = g.dead }
+grown_reopened p kept s g = record { same = g.same; nodes = g.nodes; known = g.known; from = g.from; to = g.to; marks = λ c w t. g.marks c w (after_given s.marks c w t); marked = length-map s.marks given_back ∙ g.marked; back = λ c w t. before_given s.marks c w (g.back c w t); ledger = g.ledger; dead = g.dead }
 
 -- ---- a post that is entered
 record Posting (p : Polygraph) (kept : List Kept) (s : State) (q : Posted) : Type 0 where
@@ -407,15 +397,13 @@ alive_entered true r e = absurd (false≢true (ap is_entered e))
 alive_entered false r e = e
 
 keeps_forced : (p : Polygraph) → IsWhole p → (sides : Sides) → IsClosed p sides → (kept : List Kept) (s : State) → Grown p kept s → (seat : ℕ) (e : PruneEvent) → KeepsForced sides e (reply_of s seat e)
-keeps_forced p whole sides f kept s g seat Take = tt
 keeps_forced p whole sides f kept s g seat (Post q) = λ e. (
     let r = alive_entered s.dead (post_reply s q) e in
     let post = posting p kept s q g r in
     let l = ledger_more p kept q post.choice.choice post.choice.at post.shown g.ledger in
     numbered_first (λ c h. (w : Side) → sides_in (kept_side q ∷ kept) c w ≡ true → sides c w ≡ true) p.choices q.choice post.choice.choice
     (entries_in p sides f (kept_side q ∷ kept) l) post.choice.at (other q.side) (new_chosen kept (kept_side q)))
-keeps_forced p whole sides f kept s g seat (Pass c) = tt
-keeps_forced p whole sides f kept s g seat Release = tt
+keeps_forced p whole sides f kept s g seat _ = tt
 
 pub each_forced : (p : Polygraph) → IsWhole p → (sides : Sides) → IsClosed p sides → (kept : List Kept) (s : State) → Grown p kept s → (history : List (Entry PruneEvent PruneReply)) → IsLegal next_of reply_of s history → EachKeepsForced sides history
 each_forced p whole sides f kept s g [] legal = tt

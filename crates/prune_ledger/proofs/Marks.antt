@@ -1,10 +1,12 @@
 -- What a written mark does to the state, and to the free choices.
 use Rattle.std.proofs.Common.{◌≡◌, ◌⊎◌, ℕ, zero, suc, ◌+◌, ◌<◌, ◌≤◌, Bool, true, false, cond, ◌&&◌, ◌||◌, not, List, [], ◌∷◌, length, drop, Option, Some, refl, sym, ap, ◌∙◌, subst, inl, inr, arith}
+use Rattle.desk.proofs.Tied.{get_set}
 use Rattle.std.specs.Prelude.{slice_get, slice_set, replicate}
 use Rattle.std.specs.Option.{option_map_or}
 use Rattle.std.specs.List.{AllByRecursion, Contains}
-use Rattle.std.proofs.lemmas.Bool.{cases_eq, false≢true}
-use Rattle.std.proofs.lemmas.List.{length-set}
+use Rattle.std.proofs.lemmas.Bool.{false≢true}
+use Rattle.std.proofs.lemmas.List.{length-set, length-replicate}
+use Rattle.std.proofs.Math.Bool.{and-false, or-true}
 use Rattle.serializability.specs.Polygraph.{Choice}
 use Rattle.reach_laws.specs.Reach.{Graph}
 use Rattle.reach_laws.proofs.Walks.{each_contained}
@@ -20,13 +22,6 @@ use Rattle.prune_ledger.specs.declared.messages.ChoiceState.{ChoiceState}
 
 pub some-inj : {A : Type 0} (x y : A) → Some x ≡ Some y → x ≡ y
 some-inj x y e = cc
-
-pub get_set : {A : Type 0} (xs : List A) (k j : ℕ) (y x : A) → slice_get (slice_set xs k y) j ≡ Some x → ((j ≡ k) × (x ≡ y)) ⊎ (slice_get xs j ≡ Some x)
-get_set [] k j y x e = absurd (cc)
-get_set (z ∷ zs) zero zero y x e = inl (refl, sym (some-inj y x e))
-get_set (z ∷ zs) zero (suc j) y x e = inr e
-get_set (z ∷ zs) (suc k) zero y x e = inr e
-get_set (z ∷ zs) (suc k) (suc j) y x e = elim (get_set zs k j y x e) [ inl p ↦ inl (ap suc p.0, p.1) | inr q ↦ inr q ]
 
 -- ---- free choices
 abbrev NoneBefore : ℕ → List ChoiceState → Type 0
@@ -63,47 +58,26 @@ least_free (x ∷ xs) base c e (suc k) m lt at = elim (found (is_free x) base c 
   | inr p ↦ least_free xs (base + 1) c p.1 k m (omega arith) at
 ]
 
-and_false : (b : Bool) → (b && false) ≡ false
-and_false true = refl
-and_false false = refl
-
-or_true : (b : Bool) → (b || true) ≡ true
-or_true true = refl
-or_true false = refl
-
 pub handed_not_free : (m : ChoiceState) → is_free (hand_out m) ≡ false
-handed_not_free m = and_false (not (m.one || m.two))
+handed_not_free m = and-false (not (m.one || m.two))
 
 pub refusing_not_free : (m : ChoiceState) (side : Side) → is_free (refusing m side) ≡ false
 refusing_not_free m One = refl
-refusing_not_free m Two = ap (λ b. not b && not m.handed) (or_true m.one)
+refusing_not_free m Two = ap (λ b. not b && not m.handed) (or-true m.one)
 
 pub past_taken : (marks : List ChoiceState) (c : ℕ) (m : ChoiceState) → Some c ≡ free_from 0 marks → IsPast (c + 1) (slice_set marks c (hand_out m))
 past_taken marks c m e = record {
   each = λ k x lt at. (elim (get_set marks c k (hand_out m) x at) [
     | inl p ↦ subst (λ (y : ChoiceState). is_free y ≡ false) (sym p.1) (handed_not_free m)
-    | inr old ↦ elim (cases_eq k c) [
-      | inl same ↦ elim (get_same marks c k (hand_out m) x same at) [
-        | inl q ↦ subst (λ (y : ChoiceState). is_free y ≡ false) (sym q) (handed_not_free m)
-        | inr none ↦ absurd none
-      ]
-      | inr apart ↦ least_free marks 0 c e k x (omega (arith, lt, apart)) old
-    ]
+    | inr old ↦ (let apart = old.0 in least_free marks 0 c e k x (omega (arith, lt, apart)) old.1)
   ]);
 }
-  where
-    get_same : (xs : List ChoiceState) (c k : ℕ) (y x : ChoiceState) → k ≡ c → slice_get (slice_set xs c y) k ≡ Some x → (x ≡ y) ⊎ ⊥
-    get_same [] c k y x s e = absurd (cc)
-    get_same (z ∷ zs) zero zero y x s e = inl (sym (some-inj y x e))
-    get_same (z ∷ zs) zero (suc k) y x s e = absurd (omega (arith, s))
-    get_same (z ∷ zs) (suc c) zero y x s e = absurd (omega (arith, s))
-    get_same (z ∷ zs) (suc c) (suc k) y x s e = get_same zs c k y x (omega (arith, s)) e
 
 pub past_refused : (cursor : ℕ) (marks : List ChoiceState) (c : ℕ) (m : ChoiceState) (side : Side) → IsPast cursor marks → IsPast cursor (slice_set marks c (refusing m side))
 past_refused cursor marks c m side h = record {
   each = λ k x lt at. (elim (get_set marks c k (refusing m side) x at) [
     | inl p ↦ subst (λ (y : ChoiceState). is_free y ≡ false) (sym p.1) (refusing_not_free m side)
-    | inr old ↦ h.each k x lt old
+    | inr old ↦ h.each k x lt old.1
   ]);
 }
 
@@ -156,10 +130,6 @@ state_refused s choice side h m graph dead a b e d =
     (ap (λ (o : Option ChoiceState). option_map_or (λ (n : ChoiceState). slice_set s.marks choice (refusing n side)) o s.marks) (sym b) i)
     ((d ∙ ap (λ (o : Option ChoiceState). option_map_or (λ (n : ChoiceState). refuses n (other side)) o false) (sym b)) i)
 
-pub marks_opening : (hs : List Choice) → length (replicate (length hs) no_mark) ≡ length hs
-marks_opening [] = refl
-marks_opening (h ∷ hs) = ap suc (marks_opening hs)
-
 pub kept_opening : (n : ℕ) (choices : List Choice) (marks : List ChoiceState) → length choices ≤ 100000 → AllByRecursion (JoinsBoth n) choices → marks ≡ replicate (length choices) no_mark → IsKept n choices marks 0
 kept_opening n choices marks few joined e =
-    record { few = few; joined = joined; marked = ap length e ∙ marks_opening choices; within = omega arith; past = past_none marks }
+    record { few = few; joined = joined; marked = ap length e ∙ length-replicate (length choices) no_mark; within = omega arith; past = past_none marks }

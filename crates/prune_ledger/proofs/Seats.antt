@@ -1,5 +1,5 @@
 -- The numbers of seats that have left.
-use Rattle.std.proofs.Common.{◌≡◌, ℕ, suc, ◌+◌, ◌<◌, ◌≤◌, true, List, [], ◌∷◌, ◌++◌, length, get_or, refl, sym, ap, ◌∙◌, subst, inl, inr, arith, eq-eqb}
+use Rattle.std.proofs.Common.{◌≡◌, ℕ, suc, ◌+◌, ◌<◌, ◌≤◌, true, List, [], ◌∷◌, ◌++◌, length, get_or, sym, ap, ◌∙◌, subst, inl, inr, arith, eq-eqb, append_assoc, append-nil}
 use Rattle.std.specs.Prelude.{◌==◌, map}
 use Rattle.std.proofs.lemmas.Bool.{cases_eq, or_left, or_right}
 use Rattle.desk.specs.Seats.{has_seat}
@@ -10,18 +10,10 @@ firsts xs = map (λ d. d.0) xs
 
 pub moved_on : {A B : Type 0} (old new : List A) (x : A × B) (rest later : List (A × B)) (whole : List A) → new ≡ old ++ x.0 ∷ [] → rest ≡ x ∷ later → old ++ firsts rest ≡ whole → new ++ firsts later ≡ whole
 moved_on old new x rest later whole n r i =
-    ap (λ l. l ++ firsts later) n ∙ joined old (x.0 ∷ []) (firsts later) ∙ ap (λ l. old ++ firsts l) (sym r) ∙ i
-  where
-    joined : {C : Type 0} (a b c : List C) → (a ++ b) ++ c ≡ a ++ (b ++ c)
-    joined [] b c = refl
-    joined (y ∷ a) b c = ap (λ l. y ∷ l) (joined a b c)
+    ap (λ l. l ++ firsts later) n ∙ append_assoc old (x.0 ∷ []) (firsts later) ∙ ap (λ l. old ++ firsts l) (sym r) ∙ i
 
 pub at_end : {A B : Type 0} (old : List A) (rest : List (A × B)) (whole : List A) → length rest ≡ 0 → old ++ firsts rest ≡ whole → old ≡ whole
-at_end old [] whole e i = nil_right old ∙ i
-  where
-    nil_right : {C : Type 0} (xs : List C) → xs ≡ xs ++ []
-    nil_right [] = refl
-    nil_right (x ∷ xs) = ap (λ l. x ∷ l) (nil_right xs)
+at_end old [] whole e i = sym (append-nil old) ∙ i
 at_end old (x ∷ rest) whole e i = absurd (omega (arith, e))
 
 pub has_from : {E R D : Type 0} (done : List (SeatView E R × D)) (k m : ℕ) → ((i : ℕ) (d : SeatView E R × D) → i < length done → (get_or done i d).0.number ≡ k + i + 1) → k < m → m ≤ k + length done → has_seat m (firsts done) ≡ true

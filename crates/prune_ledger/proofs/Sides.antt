@@ -7,15 +7,11 @@ use Rattle.serializability.specs.Polygraph.{Edge, Choice, Polygraph}
 use Rattle.known_graph.proofs.Listed.{In, In-append_left, In-append_right, In-append_cases}
 use Rattle.pruning_laws.specs.declared.side.Side.{Side}
 use Rattle.pruning_laws.specs.declared.side.Side.TheVariants.{One, Two}
-use Rattle.pruning_laws.specs.Forced.{edges_of, other, Sides, EachNumbered, kept_from, edges_with}
+use Rattle.pruning_laws.specs.Forced.{edges_of, Sides, EachNumbered, kept_from, edges_with}
 use Rattle.pruning_laws.specs.Ledger.{Entry, same_side, sides_in}
 use Rattle.pruning_laws.proofs.Ledgers.{same_is, same_itself}
 use Rattle.prune_ledger.specs.Ledger.{side_of, edges_after}
 use Rattle.prune_ledger.proofs.Marks.{some-inj}
-
-pub other_other : (side : Side) → other (other side) ≡ side
-other_other One = refl
-other_other Two = refl
 
 -- ---- a choice by its number
 pub record ChoiceAt (choices : List Choice) (c : ℕ) : Type 0 where

@@ -1,5 +1,5 @@
 -- Calls of a round, joined.
-use Rattle.std.proofs.Common.{◌≡◌, ◌⊎◌, ℕ, zero, suc, ◌<◌, List, [], ◌∷◌, ◌++◌, length, get_or, refl, sym, ap, ◌∙◌, subst, inl, inr, arith}
+use Rattle.std.proofs.Common.{◌≡◌, ◌⊎◌, ℕ, zero, suc, ◌<◌, List, [], ◌∷◌, ◌++◌, length, get_or, sym, ap, ◌∙◌, subst, inl, inr, arith, append_assoc, append-nil}
 use Rattle.std.specs.Prelude.{slice_index_or, slice_get, Option, Some, None, MatchOption}
 use Rattle.std.specs.List.{Contains, AllByRecursion}
 use Rattle.serializability.proofs.Places.{each_from_append}
@@ -14,26 +14,15 @@ use Rattle.reach_rows.specs.ReachRows.{AreRowsOf}
 use Rattle.polygraph.specs.Polygraphs.{Joins, JoinsBoth, IsPolygraph}
 use Rattle.prune_ledger.proofs.Grown.{reaches_in}
 use Rattle.prune_ledger.proofs.KeptUp.{open_fewer}
-use Rattle.prune_ledger.proofs.Marks.{side_joins, contained_at}
+use Rattle.prune_ledger.proofs.Marks.{side_joins, contained_at, some-inj}
 use Rattle.prune_ledger.specs.Rounds.{Refutes, GoesAgainst, HasPost, EachHandled, Handled, PostedOf, Settled, Turned, IsOpenIn, Extends}
 use Rattle.prune_ledger.specs.declared.messages.PruneEvent.{PruneEvent}
 use Rattle.prune_ledger.specs.declared.messages.PruneEvent.TheVariants.{Take, Post, Pass, Release}
 use Rattle.prune_ledger.specs.declared.messages.PruneReply.{PruneReply}
 use Rattle.prune_ledger.specs.declared.messages.PruneReply.TheVariants.{Judge}
 
-some-inj : {A : Type 0} (x y : A) → Some x ≡ Some y → x ≡ y
-some-inj x y e = cc
-
 abbrev Calls : Type 0
 Calls = List (PruneEvent × PruneReply)
-
-pub nil_right : {X : Type 0} (xs : List X) → xs ≡ xs ++ []
-nil_right [] = refl
-nil_right (x ∷ xs) = ap (λ l. x ∷ l) (nil_right xs)
-
-joined : {X : Type 0} (a b c : List X) → (a ++ b) ++ c ≡ a ++ (b ++ c)
-joined [] b c = refl
-joined (x ∷ a) b c = ap (λ l. x ∷ l) (joined a b c)
 
 left_at : (xs ys : List ℕ) (c k : ℕ) → k < length xs → slice_index_or xs k c ≡ c → Contains (xs ++ ys) c
 left_at [] ys c k lt e = absurd (omega arith)
@@ -59,13 +48,10 @@ handled_longer : (passed more : List ℕ) (xs : Calls) → EachHandled passed xs
 handled_longer passed more [] h = tt
 handled_longer passed more (x ∷ xs) h = ((λ c e. elim (h.0 c e) [ inl a ↦ inl (contains_left passed more c a) | inr b ↦ inr b ]), handled_longer passed more xs h.1)
 
-pub handled_none : (passed : List ℕ) (a : Calls) → Handled passed a a
-handled_none passed a = record { calls = []; same = nil_right a; each = tt }
-
 pub handled_turn : (passed listed : List ℕ) (a b n : Calls) → Handled passed a b → Turned passed listed b n → Handled listed a n
 handled_turn passed listed a b n h t = record {
   calls = h.calls ++ t.handled.calls;
-  same = t.handled.same ∙ ap (λ l. l ++ t.handled.calls) h.same ∙ joined a h.calls t.handled.calls;
+  same = t.handled.same ∙ ap (λ l. l ++ t.handled.calls) h.same ∙ append_assoc a h.calls t.handled.calls;
   each = handled_append listed h.calls t.handled.calls
       (subst (λ l. EachHandled l h.calls) (sym t.longer) (handled_longer passed t.more h.calls h.each)) t.handled.each;
 }
@@ -74,13 +60,13 @@ pub turned_stop : (passed : List ℕ) (b n : Calls) (r : PruneReply) → ((c : �
 turned_stop passed b n r none e = record {
   handled = record { calls = (Take, r) ∷ []; same = e; each = ((λ c h. absurd (none c h)), tt) };
   more = [];
-  longer = nil_right passed;
+  longer = sym (append-nil passed);
 }
 
 pub handled_last : (passed : List ℕ) (a b n : Calls) (r : PruneReply) → Handled passed a b → n ≡ b ++ (Release, r) ∷ [] → Handled passed a n
 handled_last passed a b n r h e = record {
   calls = h.calls ++ (Release, r) ∷ [];
-  same = e ∙ ap (λ l. l ++ (Release, r) ∷ []) h.same ∙ joined a h.calls ((Release, r) ∷ []);
+  same = e ∙ ap (λ l. l ++ (Release, r) ∷ []) h.same ∙ append_assoc a h.calls ((Release, r) ∷ []);
   each = handled_append passed h.calls ((Release, r) ∷ []) h.each ((λ d k. absurd k), tt);
 }
 
@@ -91,7 +77,7 @@ pub turned_settled : (c : ℕ) (passed listed : List ℕ) (b m n : Calls) (r : P
 turned_settled c passed listed b m n r is e s = record {
   handled = record {
     calls = (Take, r) ∷ s.calls;
-    same = s.same ∙ ap (λ l. l ++ s.calls) e ∙ joined b ((Take, r) ∷ []) s.calls;
+    same = s.same ∙ ap (λ l. l ++ s.calls) e ∙ append_assoc b ((Take, r) ∷ []) s.calls;
     each = ((λ d h. subst (λ k. Contains listed k ⊎ HasPost k s.calls) (judge-inj c d (sym is ∙ h)) s.its), s.each);
   };
   more = s.more;
@@ -111,11 +97,11 @@ settled_pass c passed listed b n r l e = record {
 pub settled_two : (c : ℕ) (passed : List ℕ) (b m n : Calls) → PostedOf c b m → PostedOf c m n → Settled c passed passed b n
 settled_two c passed b m n p q = record {
   calls = (Post p.post, p.reply) ∷ (Post q.post, q.reply) ∷ [];
-  same = q.same ∙ ap (λ l. l ++ (Post q.post, q.reply) ∷ []) p.same ∙ joined b ((Post p.post, p.reply) ∷ []) ((Post q.post, q.reply) ∷ []);
+  same = q.same ∙ ap (λ l. l ++ (Post q.post, q.reply) ∷ []) p.same ∙ append_assoc b ((Post p.post, p.reply) ∷ []) ((Post q.post, q.reply) ∷ []);
   each = ((λ d h. absurd h), ((λ d h. absurd h), tt));
   its = inr (inl p.its);
   more = [];
-  longer = nil_right passed;
+  longer = sym (append-nil passed);
 }
 
 -- ---- the list of open choices

@@ -8,7 +8,7 @@ use Rattle.pruning_laws.specs.declared.side.Side.{Side}
 use Rattle.pruning_laws.specs.Forced.{IsRefuted, edges_of, other}
 use Rattle.prune_ledger.specs.Posted.{Posted}
 use Rattle.prune_ledger.specs.declared.messages.PruneEvent.{PruneEvent}
-use Rattle.prune_ledger.specs.declared.messages.PruneEvent.TheVariants.{Take, Post, Pass, Release}
+use Rattle.prune_ledger.specs.declared.messages.PruneEvent.TheVariants.{Take, Post}
 use Rattle.prune_ledger.specs.declared.messages.PruneReply.{PruneReply}
 use Rattle.prune_ledger.specs.declared.messages.PruneReply.TheVariants.{Judge, Entered}
 
@@ -24,10 +24,8 @@ pub record GoesAgainst (graph : Graph) (h : Choice) (e : Edge) : Type 0 where
   pub joined : JoinsBoth graph.nodes h
 
 abbrev pub IsPostOf : ℕ → PruneEvent → Type 0
-IsPostOf c Take = ⊥
 IsPostOf c (Post q) = q.choice ≡ c
-IsPostOf c (Pass d) = ⊥
-IsPostOf c Release = ⊥
+IsPostOf c _ = ⊥
 
 -- one of these calls posts a side of the choice
 abbrev pub HasPost : ℕ → List (PruneEvent × PruneReply) → Type 0
@@ -37,9 +35,7 @@ HasPost c (x ∷ xs) = IsPostOf c x.0 ⊎ HasPost c xs
 -- the call handed out this choice
 abbrev pub Hands : ℕ → PruneEvent → PruneReply → Type 0
 Hands c Take r = r ≡ Judge c
-Hands c (Post q) r = ⊥
-Hands c (Pass d) r = ⊥
-Hands c Release r = ⊥
+Hands c _ r = ⊥
 
 -- each choice that was handed out is in the list, or a later call posts a side of it
 abbrev pub EachHandled : List ℕ → List (PruneEvent × PruneReply) → Type 0

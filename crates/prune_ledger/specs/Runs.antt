@@ -14,7 +14,7 @@ use Rattle.prune_ledger.specs.State.{State}
 use Rattle.prune_ledger.specs.Steps.{is_free, is_refused, is_entered}
 use Rattle.prune_ledger.specs.Ledger.{edges_after}
 use Rattle.prune_ledger.specs.declared.messages.PruneEvent.{PruneEvent}
-use Rattle.prune_ledger.specs.declared.messages.PruneEvent.TheVariants.{Take, Post, Pass, Release}
+use Rattle.prune_ledger.specs.declared.messages.PruneEvent.TheVariants.{Post}
 use Rattle.prune_ledger.specs.declared.messages.PruneReply.{PruneReply}
 use Rattle.prune_ledger.specs.declared.messages.PruneReply.TheVariants.{Entered}
 
@@ -33,20 +33,16 @@ pub record IsOpening (p : Polygraph) (s : State) : Type 0 where
 
 -- where the step is a post that was entered, the side that it keeps is in the set
 abbrev pub KeepsForced : Sides → PruneEvent → PruneReply → Type 0
-KeepsForced forced Take r = Unit {0}
 KeepsForced forced (Post q) r = r ≡ Entered → forced q.choice (other q.side) ≡ true
-KeepsForced forced (Pass c) r = Unit {0}
-KeepsForced forced Release r = Unit {0}
+KeepsForced forced _ r = Unit {0}
 
 abbrev pub EachKeepsForced : Sides → List (Entry PruneEvent PruneReply) → Type 0
 EachKeepsForced forced history = AllByRecursion (λ x. KeepsForced forced x.event x.reply) history
 
 -- the post of a step, where it was entered
 abbrev pub posts_of : PruneEvent → PruneReply → List Posted
-posts_of Take r = []
 posts_of (Post q) r = if is_entered r then q ∷ [] else []
-posts_of (Pass c) r = []
-posts_of Release r = []
+posts_of _ r = []
 
 -- the posts that were entered, in order
 abbrev pub ledger_of : List (Entry PruneEvent PruneReply) → List Posted

@@ -66,13 +66,7 @@ post_reply s q = if is_choice s q.choice then (if is_refused s q.choice q.side t
 
 abbrev pub is_entered : PruneReply → Bool
 is_entered Entered = true
-is_entered (Judge c) = false
-is_entered NoneLeft = false
-is_entered AlreadyIn = false
-is_entered BadWalk = false
-is_entered Noted = false
-is_entered Released = false
-is_entered Dead = false
+is_entered _ = false
 
 abbrev pub refused_mark : State → ℕ → Side → List ChoiceState
 refused_mark s c side = option_map_or (λ m. slice_set s.marks c (refusing m side))

@@ -1,5 +1,5 @@
 -- Rows of several nodes, one behind the other.
-use Rattle.std.proofs.Common.{◌≡◌, ◌↔◌, ℕ, ◌+◌, ◌-◌, ◌*◌, ◌/◌, ◌%◌, ◌<◌, ◌≤◌, Bool, true, eqb, List, [], ◌∷◌, ◌++◌, length, get_or, take, refl, sym, ap, ◌∙◌, subst, inl, inr, arith, length-append}
+use Rattle.std.proofs.Common.{◌≡◌, ◌↔◌, ℕ, ◌+◌, ◌-◌, ◌*◌, ◌/◌, ◌%◌, ◌<◌, ◌≤◌, Bool, true, eqb, List, [], ◌∷◌, ◌++◌, length, get_or, take, refl, sym, ap, ◌∙◌, inl, inr, arith, length-append}
 use Rattle.std.specs.List.{Contains}
 use Rattle.std.specs.Int.{bit_at}
 use Rattle.std.proofs.lemmas.Bool.{cases_lt, false≢true}
@@ -24,44 +24,20 @@ pub word_within : (n v : ℕ) → v ≤ n → v / 64 < row_len n
 word_within n v h = div_below v 64 (row_len n) (omega arith) (omega (arith, nodes_within_row n))
 
 mark_front : (n : ℕ) (xs ys : List ℕ) (u v rows : ℕ) → length xs ≡ rows * row_len n → u < rows → v ≤ n → is_marked n (xs ++ ys) (u, v) ≡ is_marked n xs (u, v)
-mark_front n xs ys u v rows len hu hv =
-    let here : u * row_len n + v / 64 < length xs = omega (arith, mul-add-lt u (row_len n) (v / 64) rows hu (word_within n v hv)) in
-    mark_is n (xs ++ ys) u v
-    ∙ ap (λ w. eqb (bit_at w (v % 64)) 1) (get_or_append_left xs ys 0 (u * row_len n + v / 64) here)
-    ∙ sym (mark_is n xs u v)
+mark_front n xs ys u v rows len hu hv = grind (arith, mul-add-lt, word_within, mark_is, get_or_append_left)
 
 mark_back : (n : ℕ) (xs ys : List ℕ) (u v rows : ℕ) → length xs ≡ rows * row_len n → is_marked n (xs ++ ys) (rows + u, v) ≡ is_marked n ys (u, v)
-mark_back n xs ys u v rows len =
-    let place : (rows + u) * row_len n + v / 64 ≡ length xs + (u * row_len n + v / 64) = omega arith in
-    mark_is n (xs ++ ys) (rows + u) v
-    ∙ ap (λ i. eqb (bit_at (get_or (xs ++ ys) i 0) (v % 64)) 1) place
-    ∙ ap (λ w. eqb (bit_at w (v % 64)) 1) (get_or-append-add xs ys (u * row_len n + v / 64) 0)
-    ∙ sym (mark_is n ys u v)
+mark_back n xs ys u v rows len = grind (arith, mark_is, get_or-append-add)
 
 iff_along : (a b : Bool) (P : Type 0) → a ≡ b → ((b ≡ true) ↔ P) → ((a ≡ true) ↔ P)
 iff_along a b P e h = (λ t. h.0 (sym e ∙ t), λ p. e ∙ h.1 p)
 
 pub rows_none : (graph : Graph) (first : ℕ) → AreReachRows graph first first []
-rows_none graph first =
-    let none : first - first ≡ 0 = omega arith in
-    record {
-      len = sym (ap (λ k. k * row_len graph.nodes) none ∙ omega arith);
-      reach = λ u v lo hi small. absurd (omega arith);
-    }
+rows_none graph first = grind arith
 
 pub rows_one : (graph : Graph) (u : ℕ) (row : List ℕ) → IsReachRow graph u row → AreReachRows graph u (u + 1) row
 unfolding is_marked bit_place
-rows_one graph u row h =
-    let n = graph.nodes in
-    let one : u + 1 - u ≡ 1 = omega arith in
-    record {
-      len = h.len ∙ sym (ap (λ k. k * row_len n) one ∙ omega arith);
-      reach = λ x v lo hi small.
-          (let same : x ≡ u = omega arith in
-          let place : (x - u) * (row_len n * 64) + v ≡ v = (let zero_rows : x - u ≡ 0 = omega arith in ap (λ k. k * (row_len n * 64) + v) zero_rows ∙ omega arith) in
-          subst (λ y. (bit_of row ((x - u) * (row_len n * 64) + v) ≡ true) ↔ Reaches graph.edges y v) (sym same)
-          (iff_along (bit_of row ((x - u) * (row_len n * 64) + v)) (bit_of row v) (Reaches graph.edges u v) (ap (bit_of row) place) (h.reach v)));
-    }
+rows_one graph u row h = grind (arith, iff_along)
 
 -- a walk joins nodes of the graph
 pub walk_nodes : (graph : Graph) → IsKnownGraph graph → (ws : List ℕ) (u v : ℕ) → Walk graph.edges u ws v → (u ≤ graph.nodes) × (v ≤ graph.nodes)
@@ -71,18 +47,7 @@ walk_nodes graph known (x ∷ ws) u v w = ((known.joined (u, x) w.0).0, (walk_no
 -- a row of a node, cut to the words of nodes
 pub rows_cut : (graph : Graph) (u : ℕ) (row : List ℕ) → IsKnownGraph graph → row_len graph.nodes ≤ length row → ((v : ℕ) → ((bit_of row v ≡ true) ↔ Reaches graph.edges u v)) → IsReachRow graph u (take (row_len graph.nodes) row)
 unfolding bit_of
-rows_cut graph u row known long reach = record {
-  len = length-take-le (row_len graph.nodes) row long;
-  reach = λ v. elim (cases_lt (v / 64) (row_len graph.nodes)) [
-    | inl within ↦
-        let same : bit_of (take (row_len graph.nodes) row) v ≡ bit_of row v = ap (λ w. eqb (bit_at w (v % 64)) 1) (get_or-take (row_len graph.nodes) row (v / 64) 0 within) in
-        iff_along (bit_of (take (row_len graph.nodes) row) v) (bit_of row v) (Reaches graph.edges u v) same (reach v)
-    | inr past ↦ (
-      λ t. absurd (false≢true (sym (bit_of-past (take (row_len graph.nodes) row) v (omega (arith, past, length-take-le (row_len graph.nodes) row long))) ∙ t)),
-      λ r. absurd (omega (arith, past, word_within graph.nodes v (walk_nodes graph known r.0 u v r.1).1)),
-    )
-  ];
-}
+rows_cut graph u row known long reach = grind (arith, length-take-le, cases_lt, get_or-take, iff_along, false≢true, bit_of-past, word_within, walk_nodes)
 
 pub rows_joined : (graph : Graph) (a b c : ℕ) (xs ys : List ℕ) → a ≤ b → b ≤ c → AreReachRows graph a b xs → AreReachRows graph b c ys → AreReachRows graph a c (xs ++ ys)
 rows_joined graph a b c xs ys ab bc p q =

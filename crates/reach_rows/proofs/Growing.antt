@@ -1,5 +1,5 @@
 -- Rows that grow by an edge.
-use Rattle.std.proofs.Common.{◌≡◌, ◌≢◌, ◌⊎◌, ◌↔◌, ℕ, ◌+◌, ◌*◌, ◌<◌, ◌≤◌, Bool, true, false, eqb, ◌||◌, ◌&&◌, List, refl, sym, ap, ◌∙◌, subst, inl, inr, arith, eq-eqb, ne_eqb, eqb-true}
+use Rattle.std.proofs.Common.{◌≡◌, ◌≢◌, ◌⊎◌, ◌↔◌, ℕ, ◌+◌, ◌*◌, ◌<◌, ◌≤◌, Bool, true, false, eqb, ◌||◌, ◌&&◌, List, refl, sym, ap, ◌∙◌, inl, inr, arith, eq-eqb, ne_eqb, eqb-true}
 use Rattle.std.proofs.lemmas.Bool.{cases_eq, cases_lt, or_cases, or_left, or_right, and_parts, and_from}
 use Rattle.reach_laws.specs.Reach.{Graph, Reaches}
 use Rattle.known_graph.specs.Bits.{bit_of, row_len}
@@ -30,61 +30,30 @@ none_from : (o e m t : Bool) → e ≡ false → m ≡ false → o ≡ (o || ((e
 none_from o e m t p q = or_nothing o t ∙ ap (λ x. o || ((x || false) && t)) (sym p) ∙ ap (λ y. o || ((e || y) && t)) (sym q)
 
 pub grown_past : (n : ℕ) (old now : List ℕ) (u v x : ℕ) → u ≤ n → IsGrownTo n old now u v x → eqb x u ≡ false → is_marked n now (x, u) ≡ false → IsGrownTo n old now u v (x + 1)
-grown_past n old now u v x hu h ne apart = record {
-  grown = λ a w lt small. elim (cases_eq a x) [
-    | inl e ↦
-        h.rest a w (omega (arith, e)) small
-        ∙ none_from (is_marked n old (a, w)) (eqb a u) (is_marked n old (a, u)) (eqb w v || is_marked n old (v, w))
-        (ap (λ z. eqb z u) e ∙ ne)
-        (sym (h.rest a u (omega (arith, e)) (omega (arith, nodes_within_row n))) ∙ ap (λ z. is_marked n now (z, u)) e ∙ apart)
-    | inr other ↦ h.grown a w (omega (arith, other)) small
-  ];
-  rest = λ a w le small. h.rest a w (omega arith) small;
-}
+grown_past n old now u v x hu h ne apart = grind (arith, cases_eq, none_from, nodes_within_row)
 
 -- a row grows
 pub record IsRowGrown (n : ℕ) (now next : List ℕ) (v x : ℕ) : Type 0 where
   pub marks : (a w : ℕ) → w < row_len n * 64 → is_marked n next (a, w) ≡ (eqb (bit_place n a w) (bit_place n x v) || (is_marked n now (a, w) || (eqb a x && is_marked n now (v, w))))
 
 swap : (e o c : Bool) → (e || (o || (true && c))) ≡ (o || (true && (e || c)))
-swap true true c = refl
-swap true false c = refl
-swap false true c = refl
-swap false false c = refl
+swap v0 v1 c = grind arith
 
 swap_grown : (e o c p : Bool) → (e || (o || (true && (c || (p && (e || c)))))) ≡ (o || (true && (e || c)))
-swap_grown true true c p = refl
-swap_grown true false c p = refl
-swap_grown false true c p = refl
-swap_grown false false true p = refl
-swap_grown false false false true = refl
-swap_grown false false false false = refl
+swap_grown v0 v1 c p = grind arith
 
 same_test : (a b c d : ℕ) → (a ≡ b → c ≡ d) → (c ≡ d → a ≡ b) → eqb a b ≡ eqb c d
-same_test a b c d f g = elim (cases_eq a b) [
-  | inl e ↦ eq-eqb a b e ∙ sym (eq-eqb c d (f e))
-  | inr ne ↦ ne_eqb a b ne ∙ sym (ne_eqb c d (λ e. ne (g e)))
-]
+same_test a b c d f g = grind (arith, cases_eq, eq-eqb)
 
 place_test : (n x w v : ℕ) → w < row_len n * 64 → v < row_len n * 64 → eqb (bit_place n x w) (bit_place n x v) ≡ eqb w v
 place_test n x w v hw hv = same_test (bit_place n x w) (bit_place n x v) w v (λ e. (place_apart n x w x v hw hv e).1) (ap (bit_place n x))
 
 -- the bit of v or of what it reached, whether or not row v has grown
 from_row : (n : ℕ) (old now : List ℕ) (u v x w : ℕ) (e o : Bool) → IsGrownTo n old now u v x → w < row_len n * 64 → e ≡ eqb w v → (e || (o || (true && is_marked n now (v, w)))) ≡ (o || (true && (eqb w v || is_marked n old (v, w))))
-from_row n old now u v x w e o h small same = elim (cases_lt v x) [
-  | inl done ↦
-      ap (λ c. e || (o || (true && c))) (h.grown v w done small)
-      ∙ ap (λ z. z || (o || (true && grown_mark n old u v v w))) same
-      ∙ swap_grown (eqb w v) o (is_marked n old (v, w)) (eqb v u || is_marked n old (v, u))
-  | inr ahead ↦
-      ap (λ c. e || (o || (true && c))) (h.rest v w ahead small)
-      ∙ ap (λ z. z || (o || (true && is_marked n old (v, w)))) same
-      ∙ swap (eqb w v) o (is_marked n old (v, w))
-]
+from_row n old now u v x w e o h small same = grind (arith, cases_lt, swap_grown, swap)
 
 other_row : (t o e c : Bool) → t ≡ false → e ≡ false → (t || (o || (e && c))) ≡ o
-other_row t true e c p q = ap (λ z. z || (true || (e && c))) p
-other_row t false e c p q = ap (λ z. z || (false || (e && c))) p ∙ ap (λ z. false || (false || (z && c))) q
+other_row t v1 e c p q = grind arith
 
 pub grown_here : (n : ℕ) (old now next : List ℕ) (u v x : ℕ) → u ≤ n → v ≤ n → IsGrownTo n old now u v x → (eqb x u || is_marked n now (x, u)) ≡ true → IsRowGrown n now next v x → IsGrownTo n old next u v (x + 1)
 grown_here n old now next u v x hu hv h joins g =
@@ -120,18 +89,10 @@ eqb_from a b t (inl e) = or_left (eqb a b) t (eq-eqb a b e)
 eqb_from a b t (inr e) = or_right (eqb a b) t e
 
 grown_cases : (n : ℕ) (old : List ℕ) (u v a w : ℕ) → grown_mark n old u v a w ≡ true → IsGrownMark n old u v (a, w)
-grown_cases n old u v a w t = elim (or_cases (is_marked n old (a, w)) ((eqb a u || is_marked n old (a, u)) && (eqb w v || is_marked n old (v, w))) t) [
-  | inl e ↦ inl e
-  | inr e ↦
-      let p = and_parts (eqb a u || is_marked n old (a, u)) (eqb w v || is_marked n old (v, w)) e in
-      inr (eqb_cases a u (is_marked n old (a, u)) p.0, eqb_cases w v (is_marked n old (v, w)) p.1)
-]
+grown_cases n old u v a w t = grind (arith, or_cases, and_parts, eqb_cases)
 
 grown_from : (n : ℕ) (old : List ℕ) (u v a w : ℕ) → IsGrownMark n old u v (a, w) → grown_mark n old u v a w ≡ true
-grown_from n old u v a w (inl e) = or_left (is_marked n old (a, w)) ((eqb a u || is_marked n old (a, u)) && (eqb w v || is_marked n old (v, w))) e
-grown_from n old u v a w (inr (p, q)) =
-    or_right (is_marked n old (a, w)) ((eqb a u || is_marked n old (a, u)) && (eqb w v || is_marked n old (v, w)))
-    (and_from (eqb a u || is_marked n old (a, u)) (eqb w v || is_marked n old (v, w)) (eqb_from a u (is_marked n old (a, u)) p) (eqb_from w v (is_marked n old (v, w)) q))
+grown_from n old u v a w v6 = grind (arith, or_left, or_right, and_from, eqb_from)
 
 pub grown_all : (n : ℕ) (old now : List ℕ) (u v x : ℕ) → n < x → IsGrownTo n old now u v x → Grows n old now u v
 grown_all n old now u v x all h = record {
@@ -146,14 +107,7 @@ pub record JoinsRow (len to from : ℕ) (now mid : List ℕ) : Type 0 where
 
 pub row_grown : (n : ℕ) (now mid next : List ℕ) (len place v x : ℕ) → len ≡ row_len n → place ≡ bit_place n x v → JoinsRow len x v now mid → ((k : ℕ) → bit_of next k ≡ (eqb k place || bit_of mid k)) → IsRowGrown n now next v x
 unfolding is_marked bit_place
-row_grown n now mid next len place v x same at joins sets =
-    let j = subst (λ l. JoinsRow l x v now mid) same joins in
-    record {
-      marks = λ a w small.
-          sets (bit_place n a w)
-          ∙ ap (λ p. eqb (bit_place n a w) p || bit_of mid (bit_place n a w)) at
-          ∙ ap (λ b. eqb (bit_place n a w) (bit_place n x v) || b) (j.bits a w small);
-    }
+row_grown n now mid next len place v x same at joins sets = grind arith
 
 pub mark_read : (n : ℕ) (words : List ℕ) (place u v : ℕ) (b : Bool) → place ≡ bit_place n u v → b ≡ bit_of words place → is_marked n words (u, v) ≡ b
 unfolding is_marked

@@ -1,5 +1,5 @@
 -- Bits of rows that are joined.
-use Rattle.std.proofs.Common.{◌≡◌, ◌≢◌, ℕ, ◌+◌, ◌*◌, ◌/◌, ◌%◌, ◌<◌, ◌≤◌, Bool, true, false, eqb, ◌||◌, ◌&&◌, List, length, get_or, set, refl, sym, ap, ◌∙◌, inl, inr, arith, eq-eqb, ne_eqb, get_or-set_same, get_or-set_other}
+use Rattle.std.proofs.Common.{◌≡◌, ◌≢◌, ℕ, ◌+◌, ◌*◌, ◌/◌, ◌%◌, ◌<◌, ◌≤◌, Bool, true, false, eqb, ◌||◌, ◌&&◌, List, length, get_or, set, refl, sym, ap, ◌∙◌, inl, inr, arith, eq-eqb, get_or-set_same, get_or-set_other}
 use Rattle.std.specs.Prelude.{bit_or}
 use Rattle.std.specs.Int.{bit_at}
 use Rattle.std.proofs.Math.Nat.{mul_assoc}
@@ -21,9 +21,7 @@ row_place_bit len u v = ap (λ p. p % 64) (row_place_parts len u v) ∙ mod-mul-
 -- the bit there, by its word
 pub row_bit_is : (words : List ℕ) (len u v : ℕ) → bit_of words (u * (len * 64) + v) ≡ eqb (bit_at (get_or words (u * len + v / 64) 0) (v % 64)) 1
 unfolding bit_of
-row_bit_is words len u v =
-    ap (λ i. eqb (bit_at (get_or words i 0) ((u * (len * 64) + v) % 64)) 1) (row_place_word len u v)
-    ∙ ap (λ b. eqb (bit_at (get_or words (u * len + v / 64) 0) b) 1) (row_place_bit len u v)
+row_bit_is words len u v = grind (arith, row_place_word, row_place_bit)
 
 -- ---- the first words of one row are joined with those of another
 pub record IsRowJoined (len to from i : ℕ) (old new : List ℕ) : Type 0 where
@@ -35,10 +33,7 @@ pub row_joined_none : (len to from : ℕ) (old : List ℕ) → IsRowJoined len t
 row_joined_none len to from old = record { joined = λ j h. absurd (omega arith); later = λ j h lt. refl; others = λ a j ne lt. refl }
 
 from_same : (len to from i : ℕ) (old new : List ℕ) → IsRowJoined len to from i old new → i < len → get_or new (from * len + i) 0 ≡ get_or old (from * len + i) 0
-from_same len to from i old new h lt = elim (cases_eq from to) [
-  | inl e ↦ ap (λ a. get_or new (a * len + i) 0) e ∙ h.later i (omega arith) lt ∙ ap (λ a. get_or old (a * len + i) 0) (sym e)
-  | inr ne ↦ h.others from i ne lt
-]
+from_same len to from i old new h lt = grind (arith, cases_eq)
 
 pub row_joined_more : (len to from i : ℕ) (old new : List ℕ) → IsRowJoined len to from i old new → i < len → to * len + i < length new → IsRowJoined len to from (i + 1) old (set new (to * len + i) (bit_or (get_or new (to * len + i) 0) (get_or new (from * len + i) 0)))
 row_joined_more len to from i old new h lt within =
@@ -69,23 +64,4 @@ and_no : (a b : Bool) → a ≡ false → (a && b) ≡ false
 and_no a b e = ap (λ x. x && b) e
 
 pub row_joined_bits : (len to from : ℕ) (old new : List ℕ) → IsRowJoined len to from len old new → (u v : ℕ) → v < len * 64 → bit_of new (u * (len * 64) + v) ≡ (bit_of old (u * (len * 64) + v) || (eqb u to && bit_of old (from * (len * 64) + v)))
-row_joined_bits len to from old new h u v small =
-    let j = v / 64 in
-    let b = v % 64 in
-    let in_row : j < len = div_below v 64 len (omega arith) small in
-    elim (cases_eq u to) [
-      | inl e ↦
-          row_bit_is new len u v
-          ∙ ap (λ a. eqb (bit_at (get_or new (a * len + j) 0) b) 1) e
-          ∙ ap (λ w. eqb (bit_at w b) 1) (h.joined j in_row)
-          ∙ joined_bit (get_or old (to * len + j) 0) (get_or old (from * len + j) 0) b
-          ∙ ap (λ a. eqb (bit_at (get_or old (a * len + j) 0) b) 1 || eqb (bit_at (get_or old (from * len + j) 0) b) 1) (sym e)
-          ∙ ap (λ x. x || eqb (bit_at (get_or old (from * len + j) 0) b) 1) (sym (row_bit_is old len u v))
-          ∙ ap (λ x. bit_of old (u * (len * 64) + v) || x) (sym (row_bit_is old len from v))
-          ∙ ap (λ x. bit_of old (u * (len * 64) + v) || x) (and_yes (eqb u to) (bit_of old (from * (len * 64) + v)) (eq-eqb u to e))
-      | inr ne ↦
-          row_bit_is new len u v
-          ∙ ap (λ w. eqb (bit_at w b) 1) (h.others u j ne in_row)
-          ∙ sym (row_bit_is old len u v)
-          ∙ or_none (bit_of old (u * (len * 64) + v)) (eqb u to && bit_of old (from * (len * 64) + v)) (and_no (eqb u to) (bit_of old (from * (len * 64) + v)) (ne_eqb u to ne))
-    ]
+row_joined_bits len to from old new h u v small = grind (arith, div_below, cases_eq, row_bit_is, joined_bit, and_yes, eq-eqb, or_none, and_no)

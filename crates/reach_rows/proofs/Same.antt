@@ -1,5 +1,5 @@
 -- Rows of one graph.
-use Rattle.std.proofs.Common.{◌≡◌, Bool, true, false, refl, sym, ap, ◌∙◌, subst}
+use Rattle.std.proofs.Common.{◌≡◌, Bool, true, false, refl, sym, ap, ◌∙◌, subst, arith}
 use Rattle.std.specs.List.{Contains, filter}
 use Rattle.serializability.specs.Polygraph.{Edge}
 use Rattle.reach_laws.specs.Reach.{Graph, Reaches}
@@ -22,9 +22,7 @@ pair_kept rows graph e r h is reach =
     (In-of_filter h e (all_pairs rows.nodes) (In-from_Contains (filter h (all_pairs rows.nodes)) e (subst (λ es. Contains es (e.0, e.1)) is ((r.reach e.0 e.1).1 reach)))).1
 
 same_graph : (a b : Graph) → a.nodes ≡ b.nodes → a.edges ≡ b.edges → a ≡ b
-same_graph a b n e =
-    ap (λ k. (let g : Graph = record { nodes = k; edges = a.edges } in g)) n
-    ∙ ap (λ l. (let g : Graph = record { nodes = b.nodes; edges = l } in g)) e
+same_graph a b n e = grind arith
 
 pub rows_are_one : (one other graph : Graph) → AreRowsOf one graph → AreRowsOf other graph → one ≡ other
 rows_are_one one other graph r s =

@@ -1,5 +1,5 @@
 -- A row of bits that spreads along edges.
-use Rattle.std.proofs.Common.{◌≡◌, ◌⊎◌, ◌↔◌, ℕ, ◌≤◌, true, false, eqb, ◌||◌, List, [], ◌∷◌, sym, ◌∙◌, subst, inl, inr, eqb-true}
+use Rattle.std.proofs.Common.{◌≡◌, ◌⊎◌, ◌↔◌, ℕ, ◌≤◌, true, false, eqb, ◌||◌, List, [], ◌∷◌, sym, ◌∙◌, subst, inl, inr, eqb-true, arith}
 use Rattle.std.specs.List.{Contains}
 use Rattle.std.proofs.lemmas.Bool.{false≢true, or_cases, or_left, or_right}
 use Rattle.serializability.specs.Polygraph.{Edge}
@@ -17,12 +17,7 @@ pub record IsSpreading (graph : Graph) (start row done : List ℕ) : Type 0 wher
   pub closed : (w v : ℕ) → bit_of done w ≡ true → Contains graph.edges (w, v) → bit_of row v ≡ true
 
 pub spreading_none : (graph : Graph) (start done : List ℕ) → ((k : ℕ) → bit_of done k ≡ false) → ((v : ℕ) → bit_of start v ≡ true → v ≤ graph.nodes) → IsSpreading graph start start done
-spreading_none graph start done none nodes = record {
-  kept = λ v t. t;
-  found = λ v t. inl t;
-  nodes = nodes;
-  closed = λ w v t c. absurd (false≢true (sym (none w) ∙ t));
-}
+spreading_none graph start done none nodes = grind (arith, false≢true)
 
 -- the row of one of its nodes joins it
 pub record IsSpreadStep (graph : Graph) (k : ℕ) (row done more row' done' : List ℕ) : Type 0 where
@@ -55,13 +50,6 @@ spreading_more graph start row done more row' done' k known h s = record {
         s.row_bits v ∙ or_right (bit_of row v) (bit_of more v) ((s.edges v).1 here)
     | inr a ↦ s.row_bits v ∙ or_left (bit_of row v) (bit_of more v) (h.closed w v a c)
   ];
-}
-
-pub spread_all : (graph : Graph) (start row done : List ℕ) → IsSpreading graph start row done → ((k : ℕ) → bit_of row k ≡ true → bit_of done k ≡ true) → Spreads graph.edges start row
-spread_all graph start row done h all = record {
-  kept = h.kept;
-  found = h.found;
-  closed = λ w v t c. h.closed w v (all w t) c;
 }
 
 -- ---- the row of a node

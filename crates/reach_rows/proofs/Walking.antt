@@ -1,5 +1,5 @@
 -- Walks where there is one edge more.
-use Rattle.std.proofs.Common.{◌≡◌, ◌⊎◌, ◌↔◌, ℕ, List, [], ◌∷◌, refl, sym, ap, subst, inl, inr}
+use Rattle.std.proofs.Common.{◌≡◌, ◌⊎◌, ◌↔◌, ℕ, List, [], ◌∷◌, refl, sym, ap, subst, inl, inr, arith}
 use Rattle.std.specs.List.{Contains}
 use Rattle.serializability.specs.Polygraph.{Edge}
 use Rattle.reach_laws.specs.Reach.{Walk, Reaches}
@@ -20,8 +20,7 @@ first_step old u v x y w (inr e) (inl r) = inr (inl (ap (λ (p : Edge). p.0) e),
 first_step old u v x y w (inr e) (inr (from, to)) = inr (inl (ap (λ (p : Edge). p.0) e), to)
 
 last_step : (old : List Edge) (u v x w : ℕ) → Contains old (x, w) ⊎ (let e : Edge = (x, w) in e ≡ (u, v)) → IsGrownReach old u v x w
-last_step old u v x w (inl c) = inl ([], c)
-last_step old u v x w (inr e) = inr (inl (ap (λ (p : Edge). p.0) e), inl (ap (λ (p : Edge). p.1) e))
+last_step old u v x w v5 = grind arith
 
 grown_walk : (old new : List Edge) (u v : ℕ) → AreMore old new u v → (ws : List ℕ) (x w : ℕ) → Walk new x ws w → IsGrownReach old u v x w
 grown_walk old new u v more [] x w c = last_step old u v x w ((more (x, w)).0 c)

@@ -34,7 +34,7 @@ clean_where_serial : (ss : List ClientSession) → IsWellFormedList ss → (orde
 clean_where_serial ss h order s None e = clean_log ss h e
 clean_where_serial ss h order s (Some a) e = absurd (none_serial ss h a e order s)
 
-serial : (ss : List ClientSession) (order : List ℕ) → IsWellFormedList ss → IsSerialOrder ss order → Serial (log_of ss) order
+pub serial : (ss : List ClientSession) (order : List ℕ) → IsWellFormedList ss → IsSerialOrder ss order → Serial (log_of ss) order
 serial ss order h s =
     let clean = clean_where_serial ss h order s (anomaly_of (log_of ss)) refl in
     let fits = serial_fits (log_of ss) clean order (serial_numbered ss order s) in
@@ -54,7 +54,7 @@ one_writer log n a u x w after writes (inr f) =
     (n.distinct a u x x w after g.0 writes g.1).0
 
 -- who reads from a node stands behind it
-source_before : (log : Log) (order : List ℕ) → Serial log order → (r x u : ℕ) → 0 < r → r ≤ log.nodes → x < log.keys → source log r x ≡ Some u → Before order u r
+pub source_before : (log : Log) (order : List ℕ) → Serial log order → (r x u : ℕ) → 0 < r → r ≤ log.nodes → x < log.keys → source log r x ≡ Some u → Before order u r
 source_before log order s r x u lo hi key e =
     s.arcs u r (source_within log s.clean r x u lo hi e) hi (arc_from_read log r u lo (reads_from_source log r x u key e))
 
@@ -93,7 +93,7 @@ read_before log order s a b x w after before apart writes reads = elim (some_cas
 
 -- ---- a write that is not seen
 -- r reads the key from u, and k, which writes it, stands behind u
-reader_before : (log : Log) (order : List ℕ) → Serial log order → (r k x u y : ℕ) → 0 < r → r ≤ log.nodes → 0 < k → k ≤ log.nodes → x < log.keys → k ≢ r → source log r x ≡ Some u → last_write x (log.ops k) ≡ Some y → Before order u k → Before order r k
+pub reader_before : (log : Log) (order : List ℕ) → Serial log order → (r k x u y : ℕ) → 0 < r → r ≤ log.nodes → 0 < k → k ≤ log.nodes → x < log.keys → k ≢ r → source log r x ≡ Some u → last_write x (log.ops k) ≡ Some y → Before order u k → Before order r k
 reader_before log order s r k x u y rlo rhi klo khi key ne from writes behind =
     let nu : k ≢ u = λ e. (let same : Before order u u = subst (Before order u) e behind in omega (arith, same)) in
     elim (s.bipaths r x u k rlo rhi key from klo khi (rival_from log x u r k y writes nu ne)) [

@@ -9,6 +9,8 @@ ghost use Rattle.serializability.specs.Polygraph.{arcs};
 ghost use Rattle.chain_laws.specs.Chains.{inner_edges, initial_first};
 ghost use Rattle.log_definitions.specs.Serial.{IsSerialOrder};
 ghost use Rattle.log_definitions.specs.Numbers.{IsWellFormedList, log_of};
+ghost use Rattle.reason_laws.specs.Crossed.{AreCrossed};
+ghost use Rattle.reason_laws.specs.declared.crossing.Crossing.{Crossing};
 ghost use Rattle.reason_laws.specs.Reasons.{AreOfSession, IsReadBy, IsOverwrittenBy};
 ghost use Rattle.reason_laws.specs.Reasons.{IsOfInitialBefore, EndsBefore};
 
@@ -42,4 +44,11 @@ pub fn known_edges_have_reasons()
     ensures initial { (ss : List ClientSession) → IsWellFormedList ss → IsClean (log_of ss)
         → (a b : ℕ) → 0 < a → Contains (initial_first (log_of ss)) (a, b) →
         ((i : ℕ) × ((j : ℕ) × IsOfInitialBefore ss a i b j)) }
+{}
+
+/// Where all four pairs of two versions of a key and two of another are read, there is no serial
+/// order.
+pub fn crossed_reads_rule_out_orders()
+    ensures none { (ss : List ClientSession) (order : List ℕ) → IsWellFormedList ss
+        → IsSerialOrder ss order → (c : Crossing) → AreCrossed ss c → ⊥ }
 {}

@@ -3,6 +3,7 @@ use Rattle.std.proofs.Common.{◌≡◌, ◌≢◌, ℕ, zero, suc, ◌<◌, ◌
 use Rattle.std.specs.Prelude.{slice_get, replicate, not, IsTrue, ◌↔◌}
 use Rattle.std.proofs.lemmas.Bool.{cases_eq, cases_lt, ne_eqb}
 use Rattle.std.proofs.lemmas.List.{length-set, length-replicate}
+use Rattle.std.proofs.lemmas.Option.{slice_get_within}
 use Rattle.session_log.specs.Text.{ClientSession}
 use Rattle.session_log.specs.declared.session.Op.TheVariants.{Write}
 use Rattle.serializability.specs.declared.event.Event.{Event}
@@ -21,8 +22,7 @@ use Rattle.reason_laws.specs.Reasons.{IsNode, IsOpAt, ReadsAt, WritesLastAt, Lin
 use Rattle.reason_laws.proofs.Numbers.{within, node_from, before_at, reads_after, none_before, final_at, reads_key, writes_key}
 use Rattle.reasons.specs.Initials.{IsBackIn, IsOfInitial, FollowsInitial, IsBegun, IsBeginning, BeginsBehind, ArePlain}
 use Rattle.reasons.specs.Given.{NoneInitial}
-use Rattle.reasons.proofs.Positions.{get_at, get_below}
-use Rattle.reasons.proofs.Ops.{event_at, write_at}
+use Rattle.reasons.proofs.Ops.{event_at, write_at, item_at}
 use Rattle.reasons.proofs.Overwrites.{final_one}
 
 -- ---- links, one after the other
@@ -180,7 +180,7 @@ none_further log a b place es d own lt n h = record {
   none = λ k e below at is.
       elim (cases_eq k place) [
         | inl same ↦
-            let here : slice_get (log.ops b) place ≡ Some (get_or es place d) = ap (λ l. slice_get l place) (sym own) ∙ get_at es place d (get_or es place d) lt refl in
+            let here : slice_get (log.ops b) place ≡ Some (get_or es place d) = item_at log b place es d own lt in
             let found : Some (get_or es place d) ≡ Some e = sym here ∙ ap (slice_get (log.ops b)) (sym same) ∙ at in
             let item : get_or es place d ≡ e = cc in
             h (subst (IsBeginning log a b) (sym item) is)
@@ -197,11 +197,11 @@ none_behind ss clean a b place n j r = elim (cases_lt j place) [
 pub none_initial : (ss : List ClientSession) → IsClean (log_of ss) → (a b place : ℕ) → NoneBefore (log_of ss) a b place → length ((log_of ss).ops b) ≤ place → NoneInitial ss a b
 none_initial ss clean a b place n all i j r =
     let e = begun ss clean a i b j r in
-    n.none j e.0 (omega (arith, all, get_below ((log_of ss).ops b) j e.0 e.1.0)) e.1.0 e.1.1
+    n.none j e.0 (omega (arith, all, slice_get_within ((log_of ss).ops b) j e.0 e.1.0)) e.1.0 e.1.1
 
 pub begins_at : (ss : List ClientSession) → IsClean (log_of ss) → (a b place : ℕ) (es : List Event) (d : Event) → IsNode ss a → IsNode ss b → es ≡ (log_of ss).ops b → place < length es → IsBeginning (log_of ss) a b (get_or es place d) → BeginsBehind ss a b place
 begins_at ss clean a b place es d first second own lt h =
-    begins ss clean a b place (get_or es place d) first second (ap (λ l. slice_get l place) (sym own) ∙ get_at es place d (get_or es place d) lt refl) h
+    begins ss clean a b place (get_or es place d) first second (item_at (log_of ss) b place es d own lt) h
 
 -- ---- marks of keys
 none_set : (n x : ℕ) → slice_get (replicate n false) x ≡ Some true → ⊥

@@ -1,6 +1,7 @@
 -- The first read that stands before the operation that begins a chain behind that of the initial value.
-use Rattle.std.proofs.Common.{◌≡◌, ℕ, ◌<◌, ◌≤◌, true, List, Some, refl, sym, ap, ◌∙◌, subst, arith, eq-eqb, length, get_or}
+use Rattle.std.proofs.Common.{◌≡◌, ℕ, ◌<◌, ◌≤◌, true, List, Some, refl, sym, ap, ◌∙◌, subst, eq-eqb, length, get_or}
 use Rattle.std.specs.Prelude.{slice_get, slice_index_or}
+use Rattle.std.proofs.lemmas.Option.{slice_get_within}
 use Rattle.session_log.specs.Text.{ClientSession}
 use Rattle.session_log.specs.declared.session.Op.TheVariants.{Read, Write}
 use Rattle.serializability.specs.declared.event.Event.{Event}
@@ -13,8 +14,8 @@ use Rattle.reason_laws.specs.Reasons.{IsOpAt, left_by, IsOfInitialBefore}
 use Rattle.reasons.specs.Events.{is_read_of}
 use Rattle.reasons.specs.Initials.{BeginsBehind}
 use Rattle.reasons.specs.Given.{IsLeastInitial}
-use Rattle.reasons.proofs.Positions.{FirstAt, get_at, get_below}
-use Rattle.reasons.proofs.Ops.{event_at, read_at, same_key}
+use Rattle.reasons.proofs.Positions.{FirstAt}
+use Rattle.reasons.proofs.Ops.{event_at, read_at, same_key, item_at}
 use Rattle.reasons.proofs.Overwrites.{read_event, earlier_read}
 
 write_event : (ss : List ClientSession) (a i b j : ℕ) (r : IsOfInitialBefore ss a i b j) → slice_get ((log_of ss).ops b) j ≡ Some (event.Write (number_in (keys_in ss) r.key) r.wid)
@@ -25,7 +26,7 @@ first_event ss a i b j r = let read = r.reads.read in event_at ss a i (Read r.ke
 
 pub begins_below : (ss : List ClientSession) (a b j : ℕ) (es : List Event) → es ≡ (log_of ss).ops b → BeginsBehind ss a b j → j < length es
 begins_below ss a b j es own r =
-    get_below es j (event.Write (number_in (keys_in ss) r.is.key) r.is.wid) (ap (λ l. slice_get l j) own ∙ write_event ss a r.read b j r.is)
+    slice_get_within es j (event.Write (number_in (keys_in ss) r.is.key) r.is.wid) (ap (λ l. slice_get l j) own ∙ write_event ss a r.read b j r.is)
 
 -- the operation that begins
 pub record BeginsAt (ss : List ClientSession) (b j : ℕ) (es : List Event) : Type 0 where
@@ -39,7 +40,7 @@ begins_at ss a b j es own r =
     record {
       op = get_or es j (event.Read 0 0);
       is = refl;
-      stands = ap (λ l. slice_get l j) (sym own) ∙ get_at es j (event.Read 0 0) (get_or es j (event.Read 0 0)) lt refl;
+      stands = item_at (log_of ss) b j es (event.Read 0 0) own lt;
     }
 
 -- the key of the operation that begins

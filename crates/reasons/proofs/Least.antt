@@ -2,6 +2,7 @@
 use Rattle.std.proofs.Common.{◌≡◌, ◌⊎◌, ℕ, zero, suc, ◌+◌, ◌<◌, ◌≤◌, Bool, true, false, ◌&&◌, List, [], ◌∷◌, Option, None, Some, refl, sym, ap, ◌∙◌, subst, inl, inr, arith, drop, length, get_or}
 use Rattle.std.specs.Prelude.{slice_get}
 use Rattle.std.proofs.lemmas.Bool.{cases_Bool, false≢true, cond-true, cond-false, and_from, and_left, and_right, ltb-true, ltb-false}
+use Rattle.std.proofs.lemmas.List.{at_drop_more, at_drop_all}
 use Rattle.serializability.specs.declared.event.Event.{Event}
 use Rattle.serializability.specs.declared.event.Event.TheVariants.{Read, Write}
 use Rattle.reasons.specs.declared.overwritten.KeyWrite.{KeyWrite}
@@ -172,15 +173,6 @@ least_of test old place [] = no_more test old place
 least_of test old place (e ∷ ops) =
     one_more test old (least_after test old place e) (least_from test (least_after test old place e) (place + 1) ops) place e ops (step test old place e) (least_of test (least_after test old place e) (place + 1) ops)
 
--- ---- as the loop makes it
-pub least_end : (test : ℕ → Bool) (least : Option KeyWrite) (place : ℕ) → least_from test least place [] ≡ least
-unfolding least_from
-least_end test least place = refl
-
-pub least_step : (test : ℕ → Bool) (least : Option KeyWrite) (place : ℕ) (e : Event) (ops : List Event) → least_from test least place (e ∷ ops) ≡ least_from test (least_after test least place e) (place + 1) ops
-unfolding least_from
-least_step test least place e ops = refl
-
 -- the least of all operations
 pub record LeastWrite (test : ℕ → Bool) (ops : List Event) (o : KeyWrite) : Type 0 where
   pub wid : ℕ
@@ -208,20 +200,11 @@ some_least test ops o e =
           }
     ]
 
-next_drop : {X : Type 0} (xs : List X) (i : ℕ) (d : X) → i < length xs → drop i xs ≡ get_or xs i d ∷ drop (i + 1) xs
-next_drop [] i d lt = absurd (omega (arith, lt))
-next_drop (x ∷ xs) zero d lt = refl
-next_drop (x ∷ xs) (suc i) d lt = let e : suc i + 1 ≡ suc (i + 1) = omega arith in next_drop xs i d (omega (arith, lt)) ∙ ap (λ n. get_or xs i d ∷ drop n (x ∷ xs)) (sym e)
-
-nothing_left : {X : Type 0} (xs : List X) (i : ℕ) → length xs ≤ i → drop i xs ≡ []
-nothing_left [] zero le = refl
-nothing_left [] (suc i) le = refl
-nothing_left (x ∷ xs) zero le = absurd (omega (arith, le))
-nothing_left (x ∷ xs) (suc i) le = nothing_left xs i (omega (arith, le))
-
+-- ---- as the loop makes it
 pub least_further : (test : ℕ → Bool) (least : Option KeyWrite) (place : ℕ) (ops : List Event) (d : Event) → place < length ops → least_from test least place (drop place ops) ≡ least_from test (least_after test least place (get_or ops place d)) (place + 1) (drop (place + 1) ops)
-least_further test least place ops d lt =
-    ap (least_from test least place) (next_drop ops place d lt) ∙ least_step test least place (get_or ops place d) (drop (place + 1) ops)
+unfolding least_from
+least_further test least place ops d lt = at_drop_more (least_from test least place) ops place d lt
 
 pub least_all : (test : ℕ → Bool) (least : Option KeyWrite) (place : ℕ) (ops : List Event) → length ops ≤ place → least_from test least place (drop place ops) ≡ least
-least_all test least place ops le = ap (least_from test least place) (nothing_left ops place le) ∙ least_end test least place
+unfolding least_from
+least_all test least place ops le = at_drop_all (least_from test least place) ops place le

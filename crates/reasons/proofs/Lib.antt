@@ -6,3 +6,4 @@ pub mod Overwrites
 pub mod Walked
 pub mod Beginnings
 pub mod Begun
+pub mod Crossing

@@ -2,6 +2,7 @@
 use Rattle.std.proofs.Common.{◌≡◌, ◌≢◌, ℕ, zero, suc, ◌<◌, true, eqb, List, [], ◌∷◌, Some, refl, sym, ap, ◌∙◌, subst, arith, length, get_or, eqb-true, eq-eqb}
 use Rattle.std.specs.Prelude.{slice_get}
 use Rattle.std.proofs.lemmas.Bool.{false≢true, and_parts, and_from}
+use Rattle.std.proofs.lemmas.Option.{slice_get-get_or, slice_get_within}
 use Rattle.session_log.specs.Text.{ClientSession}
 use Rattle.session_log.specs.declared.session.Op.{Op}
 use Rattle.session_log.specs.declared.session.Op.TheVariants.{Read, Write}
@@ -18,11 +19,11 @@ use Rattle.reason_laws.proofs.Texts.{one_key}
 use Rattle.reason_laws.proofs.Numbers.{ops_is, keys_is, listed_at}
 use Rattle.reasons.specs.Events.{names}
 use Rattle.reasons.specs.Given.{IsLeastRead, NoneRead}
-use Rattle.reasons.proofs.Positions.{FirstAt, any_from, some_at, get_at}
+use Rattle.reasons.proofs.Positions.{FirstAt, any_from, some_at}
 use Rattle.reasons.specs.Events.{names_any}
 
 -- ---- one operation, and its event
-record OpIn (keys : List (List ℕ)) (ops : List Op) (i : ℕ) (e : Event) : Type 0 where
+pub record OpIn (keys : List (List ℕ)) (ops : List Op) (i : ℕ) (e : Event) : Type 0 where
   pub op : Op
   pub stands : slice_get ops i ≡ Some op
   pub event : event_of keys op ≡ e
@@ -43,8 +44,8 @@ event_in keys (q ∷ ops) (suc i) o h = event_in keys ops i o h
 pub event_at : (ss : List ClientSession) (v i : ℕ) (o : Op) → IsOpAt ss v i o → slice_get ((log_of ss).ops v) i ≡ Some (event_of (keys_in ss) o)
 event_at ss v i o h = ap (λ es. slice_get es i) (ops_is ss v) ∙ event_in (keys_in ss) (ops_of ss v) i o h
 
-op_at : (ss : List ClientSession) (v i : ℕ) (e : Event) → slice_get ((log_of ss).ops v) i ≡ Some e → OpIn (keys_in ss) (ops_of ss v) i e
-op_at ss v i e h = op_in (keys_in ss) (ops_of ss v) i e (ap (λ es. slice_get es i) (sym (ops_is ss v)) ∙ h)
+pub op_of : (ss : List ClientSession) (v i : ℕ) (e : Event) → slice_get ((log_of ss).ops v) i ≡ Some e → OpIn (keys_in ss) (ops_of ss v) i e
+op_of ss v i e h = op_in (keys_in ss) (ops_of ss v) i e (ap (λ es. slice_get es i) (sym (ops_is ss v)) ∙ h)
 
 pub record ReadIn (ss : List ClientSession) (v i x w : ℕ) : Type 0 where
   pub key : List ℕ
@@ -59,7 +60,7 @@ read_of ss v i x w (Read key u) h e =
 read_of ss v i x w (Write key u) h e = cc
 
 pub read_at : (ss : List ClientSession) (v i x w : ℕ) → slice_get ((log_of ss).ops v) i ≡ Some (event.Read x w) → ReadIn ss v i x w
-read_at ss v i x w h = let o = op_at ss v i (event.Read x w) h in read_of ss v i x w o.op o.stands o.event
+read_at ss v i x w h = let o = op_of ss v i (event.Read x w) h in read_of ss v i x w o.op o.stands o.event
 
 pub record WriteIn (ss : List ClientSession) (v i x w : ℕ) : Type 0 where
   pub key : List ℕ
@@ -74,20 +75,20 @@ write_of ss v i x w (Write key u) h e =
     record { key = key; number = n; stands = subst (λ y. IsOpAt ss v i (Write key y)) same h }
 
 pub write_at : (ss : List ClientSession) (v i x w : ℕ) → slice_get ((log_of ss).ops v) i ≡ Some (event.Write x w) → WriteIn ss v i x w
-write_at ss v i x w h = let o = op_at ss v i (event.Write x w) h in write_of ss v i x w o.op o.stands o.event
+write_at ss v i x w h = let o = op_of ss v i (event.Write x w) h in write_of ss v i x w o.op o.stands o.event
 
 -- keys of one number are one key
 pub same_key : (ss : List ClientSession) (v i : ℕ) (o : Op) (key : List ℕ) → IsOpAt ss v i o → number_in (keys_in ss) (key_of o) ≡ number_in (keys_in ss) key → key_of o ≡ key
 same_key ss v i o key h n = one_key (keys_in ss) (key_of o) key (listed_at ss v i o h) n
 
-key_of_event : (keys : List (List ℕ)) (o : Op) → event_key (event_of keys o) ≡ number_in keys (key_of o)
+pub key_of_event : (keys : List (List ℕ)) (o : Op) → event_key (event_of keys o) ≡ number_in keys (key_of o)
 key_of_event keys (Read key w) = refl
 key_of_event keys (Write key w) = refl
 
 -- the keys of events are those of the log
 pub key_below : (ss : List ClientSession) (v i : ℕ) (e : Event) → slice_get ((log_of ss).ops v) i ≡ Some e → event_key e < (log_of ss).keys
 key_below ss v i e h =
-    let o = op_at ss v i e h in
+    let o = op_of ss v i e h in
     let below = number_below (keys_in ss) (key_of o.op) (listed_at ss v i o.op o.stands) in
     let n : event_key e ≡ number_in (keys_in ss) (key_of o.op) = ap event_key (sym o.event) ∙ key_of_event (keys_in ss) o.op in
     let all = keys_is ss in
@@ -163,6 +164,12 @@ least_read ss a b written read e r at w = record {
       (ap (λ d. names d (event.Write (number_in (keys_in ss) o.key) o.wid)) (sym same) ∙ names_self (number_in (keys_in ss) o.key) o.wid));
 }
 
--- the same of the item of a loop over the events
+-- ---- the item of a loop over the events of a node
+pub item_at : (log : Log) (v i : ℕ) (es : List Event) (d : Event) → es ≡ log.ops v → i < length es → slice_get (log.ops v) i ≡ Some (get_or es i d)
+item_at log v i es d own lt = ap (λ l. slice_get l i) (sym own) ∙ slice_get-get_or es i d lt
+
+pub found_at : (log : Log) (v i : ℕ) (es : List Event) (d : Event) → es ≡ log.ops v → (e : Event) → slice_get (log.ops v) i ≡ Some e → slice_get (log.ops v) i ≡ Some (get_or es i d)
+found_at log v i es d own e at = item_at log v i es d own (slice_get_within es i e (ap (λ l. slice_get l i) own ∙ at))
+
 pub key_below_at : (ss : List ClientSession) (v i : ℕ) (es : List Event) (d : Event) → es ≡ (log_of ss).ops v → i < length es → event_key (get_or es i d) < (log_of ss).keys
-key_below_at ss v i es d e lt = key_below ss v i (get_or es i d) (ap (λ l. slice_get l i) (sym e) ∙ get_at es i d (get_or es i d) lt refl)
+key_below_at ss v i es d own lt = key_below ss v i (get_or es i d) (item_at (log_of ss) v i es d own lt)

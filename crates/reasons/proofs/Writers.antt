@@ -1,28 +1,25 @@
 -- The write that has an identity, and who writes it.
-use Rattle.std.proofs.Common.{◌≡◌, ◌≢◌, ℕ, suc, ◌<◌, ◌≤◌, Bool, true, false, eqb, List, [], ◌∷◌, ◌++◌, refl, sym, ap, ◌∙◌, subst, inl, inr, arith, eq-eqb, ne_eqb}
+use Rattle.std.proofs.Common.{◌≡◌, ◌≢◌, ℕ, ◌<◌, ◌≤◌, Bool, true, false, eqb, List, [], ◌∷◌, ◌++◌, refl, sym, ap, ◌∙◌, subst, inl, inr, arith, eq-eqb, ne_eqb}
 use Rattle.std.specs.List.{list_any, Contains}
 use Rattle.std.proofs.lemmas.Bool.{cases_Bool, cases_eq}
 use Rattle.std.proofs.lemmas.List.{append_cancel_left}
+use Rattle.std.proofs.lemmas.List.Elements.{Contains-append_right}
 use Rattle.serializability.specs.declared.event.Event.{Event}
 use Rattle.serializability.specs.declared.event.Event.TheVariants.{Read, Write}
 use Rattle.serializability.specs.Log.{Log}
 use Rattle.serializability.specs.Reads.{WritesAfter, IsNumbered}
 use Rattle.serializability.specs.Anomalies.{writes_as, is_write_of}
 use Rattle.anomaly_laws.proofs.Writes.{writes_split, is_write-self}
+use Rattle.log_definitions.proofs.Members.{any_member}
 use Rattle.session_history.specs.Writes.{IsUnwritten, IsNodesWrite, IsWrite}
 use Rattle.reasons.specs.Events.{names, names_any}
-use Rattle.reasons.proofs.Positions.{get_at, any_from}
 
 -- ---- a write that stands in a list
 writes_contained : (x w : ℕ) (ops : List Event) → Contains ops (Write x w) → writes_as x w ops ≡ true
-writes_contained x w ops c = any_from (is_write_of x w) ops c.0 (Write x w) (get_at ops c.0 (Write x w) (Write x w) c.1 c.2) (is_write-self x w)
+writes_contained x w ops c = any_member (is_write_of x w) ops (Write x w) c (is_write-self x w)
 
 contained_split : (ops front back : List Event) (e : Event) → ops ≡ front ++ e ∷ back → Contains ops e
-contained_split ops front back e h = subst (λ l. Contains l e) (sym h) (in_split front back e)
-  where
-    in_split : (front back : List Event) (e : Event) → Contains (front ++ e ∷ back) e
-    in_split [] back e = (0, omega arith, refl)
-    in_split (d ∷ front) back e = let c = in_split front back e in (suc c.0, omega (arith, c.1), c.2)
+contained_split ops front back e h = subst (λ l. Contains l e) (sym h) (Contains-append_right front (e ∷ back) e (0, omega arith, refl))
 
 after_writes : (log : Log) (v x w : ℕ) → 0 < v → v ≤ log.nodes → writes_as x w (log.ops v) ≡ true → (before : List Event) × WritesAfter log v before x w
 after_writes log v x w lo hi t = let s = writes_split x w (log.ops v) t in (s.before, (lo, hi, (s.behind, s.stands)))

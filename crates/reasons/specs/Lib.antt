@@ -1,3 +1,4 @@
+pub mod Crossed
 pub mod Given
 pub mod Events
 pub mod Initials

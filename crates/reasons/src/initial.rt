@@ -101,6 +101,7 @@ fn is_beginning(plain: &mut [bool], history: &History, a: NodeIx, b: NodeIx, eve
 /// The first operation of `b` that begins a chain behind that of the initial value of its key,
 /// which `a` reads from. The chain of each key is walked once, however often `b` writes the key.
 /// The one error is that memory runs out for a byte of each key.
+#[tactic(auto, using(crate::proofs::Ops::key_below_at))]
 fn begins_behind_initial(
     alloc: Global,
     history: &History,

@@ -71,6 +71,7 @@ fn least_after(
 }
 
 /// The least key that both nodes read alike and `b` writes, with its first write of it.
+#[tactic(auto, using(crate::proofs::Ops::key_below_at))]
 fn least_write(history: &History, a: NodeIx, b: NodeIx) -> Option<KeyWrite>
     ensures { let log = log_of history.now in
         result ≡ spec.least_from (spec.reads_alike log a b) None 0 (log.ops b) }

@@ -58,6 +58,7 @@ fn ended_before(history: &History, a: NodeIx, b: NodeIx) -> bool
 
 /// Why `a` stands before `b` in each serial order, where the log shows it. The one error is that
 /// memory runs out.
+#[tactic(auto, unfolding(log_definitions::specs::Numbers::log_of))]
 pub fn reason_of(
     alloc: Global,
     history: &History,

@@ -1,10 +1,9 @@
 -- Clauses in store, when more literals come behind them.
-use Rattle.std.proofs.Common.{◌≡◌, ℕ, ◌-◌, ◌≤◌, zero, suc, Result, Ok, Err, OnErr, Option, None, Some, unwrap_or, slice_get, slice_set, List, [], ◌∷◌, ◌++◌, length, take, drop, refl, ap, subst, ◌∙◌, arith, length-append, length-drop}
+use Rattle.std.proofs.Common.{◌≡◌, ℕ, ◌-◌, ◌≤◌, zero, suc, Result, Ok, Err, OnErr, Option, None, Some, slice_set, List, [], ◌∷◌, ◌++◌, length, take, drop, refl, ap, ◌∙◌, arith, length-append, length-drop}
 use Rattle.std.specs.List.{slice_range}
 use Rattle.std.proofs.lemmas.List.{take-append-le, drop-append-le}
 use Rattle.std.proofs.Math.Seq.{drop-append_seam, take-length}
 use Rattle.serializability.specs.declared.literal.Literal.{Literal}
-use Rattle.refutation.specs.Numbered.{clause_at}
 use Rattle.refutation.specs.Stored.{clause_in, clauses_in, IsWithin, AreWithin}
 use Rattle.refutation.specs.declared.clauses.Span.{Span}
 
@@ -44,32 +43,10 @@ pub within_with : (n : ℕ) (spans : List (Option Span)) (s : Option Span) → A
 within_with n [] s w h = (h, tt)
 within_with n (t ∷ spans) s w h = (w.0, within_with n spans s w.1 h)
 
-pub within_without : (n : ℕ) (spans : List (Option Span)) (k : ℕ) → AreWithin n spans → AreWithin n (slice_set spans k None)
-within_without n [] k w = w
-within_without n (s ∷ spans) zero w = (tt, w.1)
-within_without n (s ∷ spans) (suc k) w = (w.0, within_without n spans k w.1)
-
-pub within_at : (n : ℕ) (spans : List (Option Span)) (k : ℕ) (s : Span) → AreWithin n spans → slice_get spans k ≡ Some (Some s) → (s.start ≤ s.end) × (s.end ≤ n)
-within_at n [] k s w h = cc
-within_at n (t ∷ spans) zero s w h = let same : t ≡ Some s = cc in subst (IsWithin n) same w.0
-within_at n (t ∷ spans) (suc k) s w h = within_at n spans k s w.1 h
-
--- the clause with a number, by its span
-pub clause_of_span : (xs : List Literal) (spans : List (Option Span)) (k : ℕ) → clause_at (clauses_in xs spans) k ≡ clause_in xs (unwrap_or (slice_get spans k) None)
-clause_of_span xs [] k = refl
-clause_of_span xs (s ∷ spans) zero = refl
-clause_of_span xs (s ∷ spans) (suc k) = clause_of_span xs spans k
-
 pub clauses_without : (xs : List Literal) (spans : List (Option Span)) (k : ℕ) → clauses_in xs (slice_set spans k None) ≡ slice_set (clauses_in xs spans) k None
 clauses_without xs [] k = refl
 clauses_without xs (s ∷ spans) zero = refl
 clauses_without xs (s ∷ spans) (suc k) = ap (λ cs. clause_in xs s ∷ cs) (clauses_without xs spans k)
-
--- where there is no place to write, nothing is written
-pub set_past : {X : Type 0} (xs : List X) (k : ℕ) (x : X) → length xs ≤ k → slice_set xs k x ≡ xs
-set_past [] k x le = refl
-set_past (y ∷ xs) zero x le = absurd (omega arith)
-set_past (y ∷ xs) (suc k) x le = ap (λ ys. y ∷ ys) (set_past xs k x (omega arith))
 
 -- a clause put behind the others
 pub clause_pushed : (xs c : List Literal) (spans : List (Option Span)) (s : Span) → AreWithin (length xs) spans → s.start ≡ length xs → s.end ≡ length (xs ++ c) → clauses_in (xs ++ c) (spans ++ Some s ∷ []) ≡ clauses_in xs spans ++ Some c ∷ []

@@ -8,8 +8,10 @@ use Rattle.std.proofs.lemmas.Option.{slice_get-get_or, slice_get_within, get_or_
 use Rattle.serializability.specs.Formula.{value_of, literal_true, clause_true}
 use Rattle.serializability.specs.declared.literal.Literal.{Literal}
 use Rattle.refutation.specs.Follows.{met, SatisfiesAll, Follows, Entails, IsRefuted}
-use Rattle.refutation.specs.Known.{HasValue, Agrees, Assumes, value_is, known_false, left_of, with_true, with_false, all_open}
+use Rattle.refutation.specs.Known.{Agrees, Assumes, value_is, known_false, left_of, with_true, with_false, all_open}
 use Rattle.std.specs.Option.{option_map}
+use Rattle.std.proofs.Math.Bool.{or-false}
+use Rattle.std.proofs.lemmas.Bool.{or_parts}
 use Rattle.refutation.specs.Hinted.{looked, hinted}
 use Rattle.refutation.specs.Numbered.{clause_at}
 use Rattle.refutation.specs.Standing.{Standing, standing, IsSound}
@@ -64,11 +66,7 @@ pub left_nothing : (known : List (Option Bool)) (values : List Bool) (c : List L
 left_nothing known values c e a = left_worth known values c a ∙ ap (clause_true values) e
 
 pub left_literal : (known : List (Option Bool)) (values : List Bool) (c : List Literal) (l : Literal) → left_of known c ≡ l ∷ [] → Agrees known values → clause_true values c ≡ literal_true values l
-left_literal known values c l e a = left_worth known values c a ∙ (ap (clause_true values) e ∙ or_none (literal_true values l))
-  where
-    or_none : (v : Bool) → (v || false) ≡ v
-    or_none true = refl
-    or_none false = refl
+left_literal known values c l e a = left_worth known values c a ∙ (ap (clause_true values) e ∙ or-false (literal_true values l))
 
 negated_true : (p v : Bool) → literal_true (v ∷ []) (record { variable = 1; positive = p }) ≡ false → literal_true (v ∷ []) (record { variable = 1; positive = not p }) ≡ true
 negated_true true true h = cc
@@ -97,10 +95,6 @@ satisfied_at values [] k c s h = cc
 satisfied_at values (d ∷ cs) zero c s h = let same : d ≡ Some c = h in subst (λ (e : Option (List Literal)). met values e ≡ true) same s.0
 satisfied_at values (d ∷ cs) (suc k) c s h = satisfied_at values cs k c s.1 h
 
-pub satisfied_with : (values : List Bool) (cs : List (Option (List Literal))) (c : List Literal) → SatisfiesAll values cs → clause_true values c ≡ true → SatisfiesAll values (cs ++ Some c ∷ [])
-satisfied_with values [] c s t = (t, tt)
-satisfied_with values (d ∷ cs) c s t = (s.0, satisfied_with values cs c s.1 t)
-
 pub satisfied_front : (values : List Bool) (cs : List (Option (List Literal))) (c : List Literal) → SatisfiesAll values (cs ++ Some c ∷ []) → SatisfiesAll values cs
 satisfied_front values [] c s = tt
 satisfied_front values (d ∷ cs) c s = (s.0, satisfied_front values cs c s.1)
@@ -110,20 +104,9 @@ pub satisfied_given : (values : List Bool) (cs : List (List Literal)) → AllByR
 satisfied_given values [] s = tt
 satisfied_given values (c ∷ cs) s = (s.0, satisfied_given values cs s.1)
 
-satisfied_without : (values : List Bool) (cs : List (Option (List Literal))) (k : ℕ) → SatisfiesAll values cs → SatisfiesAll values (slice_set cs k None)
-satisfied_without values [] k s = s
-satisfied_without values (d ∷ cs) zero s = (refl, s.1)
-satisfied_without values (d ∷ cs) (suc k) s = (s.0, satisfied_without values cs k s.1)
-
 -- clauses entail themselves, with one that follows too, and without one; and what they entail entails
 pub entails_same : (old new : List (Option (List Literal))) → new ≡ old → Entails old new
 entails_same old new e = record { each = λ values all. subst (SatisfiesAll values) (sym e) all }
-
-pub entails_with : (old new : List (Option (List Literal))) (c : List Literal) → Follows old c → new ≡ old ++ Some c ∷ [] → Entails old new
-entails_with old new c f e = record { each = λ values all. subst (SatisfiesAll values) (sym e) (satisfied_with values old c all (f.each values all)) }
-
-pub entails_without : (old new : List (Option (List Literal))) (k : ℕ) → new ≡ slice_set old k None → Entails old new
-entails_without old new k e = record { each = λ values all. subst (SatisfiesAll values) (sym e) (satisfied_without values old k all) }
 
 pub entails_then : (a b c : List (Option (List Literal))) → Entails a b → Entails b c → Entails a c
 entails_then a b c ab bc = record { each = λ values all. bc.each values (ab.each values all) }
@@ -134,16 +117,8 @@ refuted_before old new e r = record { none = λ values all. r.none values (e.eac
 -- each literal of a false clause is false
 pub false_at : (values : List Bool) (c : List Literal) (k : ℕ) (l : Literal) → clause_true values c ≡ false → slice_get c k ≡ Some l → literal_true values l ≡ false
 false_at values [] k l f h = cc
-false_at values (m ∷ c) zero l f h = let same : m ≡ l = cc in subst (λ (n : Literal). literal_true values n ≡ false) same (or_left (literal_true values m) (clause_true values c) f)
-  where
-    or_left : (a b : Bool) → (a || b) ≡ false → a ≡ false
-    or_left true b h = cc
-    or_left false b h = refl
-false_at values (m ∷ c) (suc k) l f h = false_at values c k l (or_right (literal_true values m) (clause_true values c) f) h
-  where
-    or_right : (a b : Bool) → (a || b) ≡ false → b ≡ false
-    or_right true b h = cc
-    or_right false b h = h
+false_at values (m ∷ c) zero l f h = let same : m ≡ l = cc in subst (λ (n : Literal). literal_true values n ≡ false) same (or_parts (literal_true values m) (clause_true values c) f).0
+false_at values (m ∷ c) (suc k) l f h = false_at values c k l (or_parts (literal_true values m) (clause_true values c) f).1 h
 
 -- The law of the checker: where a clause that stands is false under what is known, the step's clause follows.
 pub step_follows : (cs : List (Option (List Literal))) (step : List Literal) (known : List (Option Bool)) (k : ℕ) (c : List Literal) → IsSound cs step known → clause_at cs k ≡ Some c → left_of known c ≡ [] → Follows cs step
@@ -165,14 +140,6 @@ sound_forced cs step known k c l s h left = record {
 -- what is known is so with a clause more, and where nothing is known it does not matter which clauses stand
 pub sound_more : (cs : List (Option (List Literal))) (c step : List Literal) (known : List (Option Bool)) → IsSound cs step known → IsSound (cs ++ Some c ∷ []) step known
 sound_more cs c step known s = record { assumed = λ values all. s.assumed values (satisfied_front values cs c all) }
-
-pub sound_open : (cs : List (Option (List Literal))) (step : List Literal) (n : ℕ) → IsSound cs step (all_open n)
-sound_open cs step n = record { assumed = λ values all f. record { each = λ v b h. absurd (none_has n v b h) } }
-  where
-    none_has : (m v : ℕ) (b : Bool) → HasValue (all_open m) v b → ⊥
-    none_has zero v b h = cc
-    none_has (suc m) zero b h = cc
-    none_has (suc m) (suc v) b h = none_has m v b h
 
 -- where the empty clause stands, nothing satisfies all clauses
 pub refuted_at : (cs : List (Option (List Literal))) (k : ℕ) → clause_at cs k ≡ Some [] → IsRefuted cs

@@ -4,24 +4,23 @@ use branch_search::{
     Alternate, Answer, Budget, ByWords, CubeDecision, CubeView, Effort, FirstOpen, Growth,
     MostEdges, NodeLine, Strategy, Tree, TreeNode, search,
 };
+use cobra_formulas::read_log;
 use decode_order::replay;
 use desk::gate::{Gate, OpenGate};
-use desk::seat_no::{SeatNo, Workers};
-use gather::collect;
+use desk::seat_no::Workers;
+use log_tests::holding::Holding;
 use polygraph::ChoiceIx;
 use prune_ledger::Reduced;
 use pruning_laws::Side;
 use reduction::{Reduction, reduce};
 use session_history::History;
-use session_log::LogFault;
 use std::alloc::Global;
 use std::process::Abort;
 use std::sync::Wait;
 use std::sync::atomic::{AtomicBool, AtomicU64, Ordering};
 use std::test::*;
-use std::thread;
 use std::thread::Threads;
-use std::time::{Clock, Duration};
+use std::time::Clock;
 use tree_checks::check_tree;
 
 /// Two writers of each of two keys, and a reader of each pair of them: two open choices, and each
@@ -36,19 +35,9 @@ const SIX_WRITERS: &str = "session 1\nbegin\nw x 1\ncommit\nsession 2\nbegin\nw 
     session 3\nbegin\nw x 3\ncommit\nsession 4\nbegin\nw x 4\ncommit\n\
     session 5\nbegin\nw x 5\ncommit\nsession 6\nbegin\nw x 6\ncommit\n";
 
-fn read_by<R: Threads + Wait + Clock + Sync>(
-    rt: &R,
-    alloc: Global,
-    log: &[u8],
-    workers: Workers,
-) -> Result<History, LogFault> {
-    let (version, sessions) = collect(rt, alloc, log, workers, &OpenGate)?;
-    History::build(alloc, version, sessions)
-}
-
 fn read<R: Threads + Wait + Clock + Abort + Sync>(rt: &R, alloc: Global, log: &str) -> History {
     let workers = Workers::new(1).expect(rt, "a worker");
-    let history = read_by(rt, alloc, log.as_bytes(), workers).ok();
+    let history = read_log(rt, alloc, log.as_bytes(), workers, &OpenGate).ok();
     history.expect(rt, "a history")
 }
 
@@ -201,59 +190,13 @@ fn strategies_in_turn(rt: HostRuntime) {
     assert_eq!(rt; tree.nodes().len(), 7);
 }
 
-/// Holds a seat at its first turn 0 until the other has once come to a turn 1, and counts turns.
-#[derive(Drop)]
-struct Holding {
-    held: u8,
-    came: AtomicBool,
-    missed: AtomicBool,
-    turns: AtomicU64,
-}
-
-impl Gate for Holding {
-    fn pass<R: Wait + Clock>(&self, rt: &R, seat: SeatNo, turn: u64) {
-        self.turns.fetch_add(1, Ordering::SeqCst);
-        if seat.get() != self.held {
-            if turn == 1 {
-                self.came.store(true, Ordering::SeqCst);
-            }
-            return;
-        }
-        if turn == 0 {
-            self.wait(rt);
-        }
-    }
-}
-
-impl Holding {
-    /// Looks at most 10,000 times, a millisecond apart.
-    fn wait<R: Clock>(&self, rt: &R) {
-        for _ in 0..10_000 {
-            if self.came.load(Ordering::SeqCst) {
-                return;
-            }
-            thread::sleep(rt, Duration::from_millis(1));
-        }
-        self.missed.store(true, Ordering::SeqCst);
-    }
-}
-
-fn gate_holding(held: u8) -> Holding {
-    Holding {
-        held,
-        came: AtomicBool::new(false),
-        missed: AtomicBool::new(false),
-        turns: AtomicU64::new(0),
-    }
-}
-
 #[test]
 fn each_of_two_workers_takes_turns(rt: HostRuntime) {
     for held in [1, 2] {
-        let gate = gate_holding(held);
+        let gate = Holding::new(held);
         tree_of_eight(&rt, rt.alloc(), &FirstOpen, 2, &gate);
-        assert!(rt; !gate.missed.load(Ordering::SeqCst));
-        assert!(rt; gate.turns.load(Ordering::SeqCst) >= 7);
+        assert!(rt; !gate.has_missed());
+        assert!(rt; gate.held_turns().saturating_add(gate.free_turns()) >= 7);
     }
 }
 

@@ -1,5 +1,5 @@
--- Elements that are written, and what of both is or is not.
-use Rattle.std.proofs.Common.{◌≡◌, ◌≢◌, ℕ, zero, suc, ◌<◌, Bool, true, false, ◌||◌, List, [], ◌∷◌, length, set, Some, refl, ap, arith}
+-- Elements that are written.
+use Rattle.std.proofs.Common.{◌≡◌, ◌≢◌, ℕ, zero, suc, ◌<◌, List, [], ◌∷◌, length, set, Some, refl, ap, arith}
 use Rattle.std.specs.Prelude.{slice_get}
 
 pub slice_get-set_same : {A : Type 0} (xs : List A) (k : ℕ) (y : A) → k < length xs → slice_get (set xs k y) k ≡ Some y
@@ -13,11 +13,3 @@ slice_get-set_other (x ∷ xs) zero zero y h = absurd (h refl)
 slice_get-set_other (x ∷ xs) zero (suc j) y h = refl
 slice_get-set_other (x ∷ xs) (suc k) zero y h = refl
 slice_get-set_other (x ∷ xs) (suc k) (suc j) y h = slice_get-set_other xs k j y (λ e. h (ap suc e))
-
-pub or_false : (b : Bool) → b ≡ (b || false)
-or_false true = refl
-or_false false = refl
-
-pub or_swap : (a b c : Bool) → (a || (b || c)) ≡ ((a || b) || c)
-or_swap true b c = refl
-or_swap false b c = refl

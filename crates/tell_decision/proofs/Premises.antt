@@ -1,5 +1,6 @@
 -- What is known of a history where its answer is to be explained.
-use Rattle.std.proofs.Common.{◌≡◌, ℕ, ◌+◌, List, [], ◌∷◌, ◌++◌, sym, ap, ◌∙◌, subst, inl, inr}
+use Rattle.std.proofs.Common.{◌≡◌, ℕ, ◌+◌, List, [], ◌∷◌, ◌++◌, Option, sym, ap, ◌∙◌, subst, inl, inr}
+use Rattle.std.specs.Prelude.{IfSome}
 use Rattle.session_log.specs.Text.{ClientSession}
 use Rattle.serializability.specs.Log.{Log}
 use Rattle.serializability.specs.Polygraph.{Polygraph}
@@ -8,14 +9,17 @@ use Rattle.headline.proofs.Answered.{clean_log}
 use Rattle.log_definitions.specs.Numbers.{log_of, IsWellFormedList}
 use Rattle.log_lines.specs.declared.placed.PlacedHistory.{PlacedHistory}
 use Rattle.prune_ledger.specs.declared.ledger.Ledger.{Ledger}
+use Rattle.reason_laws.specs.Crossed.{AreCrossed}
+use Rattle.reason_laws.specs.declared.crossing.Crossing.{Crossing}
 use Rattle.reduction.specs.Chained.{IsKnownCycle, IsUnpruned}
 use Rattle.reduction.specs.Outcome.{IsDeadHistory}
 use Rattle.tell_steps.specs.Ledgers.{IsDeadLedger}
 use Rattle.tell_steps.specs.Steps.{IsLineTold, IsDeadTold}
 use Rattle.tell_steps.specs.declared.item.Item.{Item}
 use Rattle.tell_runs.specs.Runs.{joined_items}
+use Rattle.tell_trees.specs.Trees.{IsTreeTold}
 use Rattle.tell_runs.proofs.Lines.{between_joined}
-use Rattle.tell_decision.specs.Explained.{told_text, cycle_text, dead_text, AreWritten, IsRoundTold, IsCycleWritten, IsDeadWritten}
+use Rattle.tell_decision.specs.Explained.{cycle_text, dead_text, tree_text, IsRoundTold, IsCycleWritten, IsDeadWritten, IsTreeWritten}
 use Rattle.call_options.specs.declared.format.Format.{Format}
 
 pub unpruned_clean : (ss : List ClientSession) (p : Polygraph) → IsWellFormedList ss → IsUnpruned (log_of ss) p → IsClean (log_of ss)
@@ -31,14 +35,14 @@ dead_ledger ss ledger h = record {
 }
 
 -- ---- what is written
-pub are_written : (Told : List Item → Type 0) (format : Format) (log : PlacedHistory) (items given : List Item) (text : List ℕ) → Told items → given ≡ items → text ≡ told_text format log given → AreWritten Told format log text
-are_written Told format log items given text told same written = record { items = items; told = told; written = written ∙ ap (told_text format log) same }
+pub tree_written : (leaves : ℕ) (format : Format) (log : PlacedHistory) (found : Option Crossing) (items given : List Item) (text : List ℕ) → IfSome found (λ c. AreCrossed log.history.now c) → IsTreeTold log.history.now leaves items → given ≡ items → text ≡ tree_text format log found given → IsTreeWritten leaves format log text
+tree_written leaves format log found items given text crossed told same written = record { found = found; crossed = crossed; items = items; told = told; written = written ∙ ap (tree_text format log found) same }
 
 pub cycle_written : (line : List ℕ) (format : Format) (log : PlacedHistory) (items given : List Item) (text : List ℕ) → IsRoundTold log.history.now line items → given ≡ items → text ≡ cycle_text format log given → IsCycleWritten line format log text
 cycle_written line format log items given text told same written = record { items = items; told = told; written = written ∙ ap (cycle_text format log) same }
 
-pub dead_written : (format : Format) (log : PlacedHistory) (items given : List Item) (text : List ℕ) → IsDeadTold log.history.now items → given ≡ items → text ≡ dead_text format log given → IsDeadWritten format log text
-dead_written format log items given text told same written = record { items = items; told = told; written = written ∙ ap (dead_text format log) same }
+pub dead_written : (format : Format) (log : PlacedHistory) (found : Option Crossing) (items given : List Item) (text : List ℕ) → IfSome found (λ c. AreCrossed log.history.now c) → IsDeadTold log.history.now items → given ≡ items → text ≡ dead_text format log found given → IsDeadWritten format log text
+dead_written format log found items given text crossed told same written = record { found = found; crossed = crossed; items = items; told = told; written = written ∙ ap (dead_text format log found) same }
 
 -- ---- a line that leads back to where it begins
 record Round (line : List ℕ) : Type 0 where

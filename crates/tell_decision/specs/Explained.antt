@@ -1,5 +1,6 @@
 -- Why there is no order, written behind what `check` says.
 use Rattle.std.specs.Prelude.{◌≡◌, ℕ, ◌==◌, false, if◌then◌else◌, List, [], ◌∷◌, ◌++◌, codes}
+use Rattle.std.specs.Prelude.{Option, None, Some, IfSome}
 use Rattle.std.specs.List.{flat_map}
 use Rattle.session_log.specs.Text.{ClientSession}
 use Rattle.serializability.specs.declared.anomaly.Anomaly.{Anomaly}
@@ -7,7 +8,10 @@ use Rattle.log_lines.specs.Places.{AreBeginLines}
 use Rattle.deciding.specs.declared.decision.Decision.{Decision}
 use Rattle.deciding.specs.declared.decision.Decision.TheVariants.{Serial, Anomalous, Cyclic, Dead}
 use Rattle.deciding.specs.declared.decision.Decision.TheVariants.{Refuted, Spent}
+use Rattle.reason_laws.specs.Crossed.{AreCrossed}
+use Rattle.reason_laws.specs.declared.crossing.Crossing.{Crossing}
 use Rattle.tell_reasons.specs.Anomalies.{IsAnomalyTold}
+use Rattle.tell_reasons.specs.Crossed.{crossing_text}
 use Rattle.tell_steps.specs.Steps.{IsLineTold, IsDeadTold}
 use Rattle.tell_steps.specs.declared.item.Item.{Item}
 use Rattle.tell_runs.specs.Runs.{joined_items}
@@ -15,7 +19,7 @@ use Rattle.tell_trees.specs.Trees.{IsTreeTold}
 use Rattle.tell_trees.specs.Visits.{leaf_count}
 use Rattle.tell_texts.specs.Texts.{items_text}
 use Rattle.tell_texts.specs.Graphs.{graph_text, quoted}
-use Rattle.tell_decision.specs.Names.{name_of, behind_cycle}
+use Rattle.tell_decision.specs.Names.{name_of, name_behind}
 use Rattle.call_options.specs.declared.format.Format.{Format}
 use Rattle.call_options.specs.declared.format.Format.TheVariants.{Text, Dot}
 use Rattle.log_lines.specs.declared.placed.PlacedHistory.{PlacedHistory}
@@ -25,18 +29,30 @@ abbrev pub told_text : Format → PlacedHistory → List Item → List ℕ
 told_text Text log items = items_text log 0 false items
 told_text Dot log items = graph_text log items
 
--- the name of the cycle that these tell, a line of a text
-abbrev pub known_as : Format → List ClientSession → List Item → List ℕ
-known_as Text ss items = codes "known as: " ++ name_of ss items ++ codes "\n"
-known_as Dot ss items = []
+-- the name of a cycle, a line of a text
+abbrev pub known_as : Format → List ℕ → List ℕ
+known_as Text name = codes "known as: " ++ name ++ codes "\n"
+known_as Dot name = []
 
 abbrev pub cycle_text : Format → PlacedHistory → List Item → List ℕ
-cycle_text format log items = told_text format log items ++ known_as format log.history.now items
+cycle_text format log items =
+    told_text format log items ++ known_as format (name_of log.history.now items)
 
--- steps, a cycle behind them, and its name
-abbrev pub dead_text : Format → PlacedHistory → List Item → List ℕ
-dead_text format log items =
-    told_text format log items ++ known_as format log.history.now (behind_cycle items)
+-- reads that rule out every order, where such were found
+abbrev pub crossed_text : Format → PlacedHistory → Option Crossing → List ℕ
+crossed_text Text log (Some c) = crossing_text log c
+crossed_text Text log None = []
+crossed_text Dot log found = []
+
+-- such reads; and steps, a cycle behind them, and its name
+abbrev pub dead_text : Format → PlacedHistory → Option Crossing → List Item → List ℕ
+dead_text format log found items =
+    (crossed_text format log found ++ told_text format log items)
+    ++ known_as format (name_behind log.history.now items)
+
+-- such reads, and a tree
+abbrev pub tree_text : Format → PlacedHistory → Option Crossing → List Item → List ℕ
+tree_text format log found items = crossed_text format log found ++ told_text format log items
 
 -- in a label a line break is a backslash and n
 abbrev pub label_byte : ℕ → List ℕ
@@ -63,12 +79,15 @@ pub record IsAnomalyExplained (format : Format) (log : PlacedHistory) (a : Anoma
   pub told : IsAnomalyTold log a lines
   pub written : text ≡ lines_text format lines
 
--- items of which this holds
-pub record AreWritten (Told : List Item → Type 0) (format : Format) (log : PlacedHistory)
+-- a refutation tree with so many leaves, and before it reads that rule out every order, where such
+-- were found
+pub record IsTreeWritten (leaves : ℕ) (format : Format) (log : PlacedHistory)
     (text : List ℕ) : Type 0 where
+  pub found : Option Crossing
+  pub crossed : IfSome found (λ c. AreCrossed log.history.now c)
   pub items : List Item
-  pub told : Told items
-  pub written : text ≡ told_text format log items
+  pub told : IsTreeTold log.history.now leaves items
+  pub written : text ≡ tree_text format log found items
 
 -- the edges of a line of nodes, each with its reason, with each run of edges of one session as one:
 -- what is told leads from the line's first node back to it
@@ -89,11 +108,14 @@ pub record IsCycleWritten (line : List ℕ) (format : Format) (log : PlacedHisto
   pub told : IsRoundTold log.history.now line items
   pub written : text ≡ cycle_text format log items
 
--- the forced steps that the cycle of a dead ledger needs, the cycle, and its name
+-- reads that rule out every order, where such were found; the forced steps that the cycle of a dead
+-- ledger needs, the cycle, and its name
 pub record IsDeadWritten (format : Format) (log : PlacedHistory) (text : List ℕ) : Type 0 where
+  pub found : Option Crossing
+  pub crossed : IfSome found (λ c. AreCrossed log.history.now c)
   pub items : List Item
   pub told : IsDeadTold log.history.now items
-  pub written : text ≡ dead_text format log items
+  pub written : text ≡ dead_text format log found items
 
 -- by what is decided; of an order and of a spent budget there is nothing to explain
 abbrev pub IsWhy : Format → PlacedHistory → Decision → List ℕ → Type 0
@@ -101,8 +123,7 @@ IsWhy format log (Serial order) text = text ≡ empty_text format
 IsWhy format log (Anomalous a) text = IsAnomalyExplained format log a text
 IsWhy format log (Cyclic line) text = IsCycleWritten line.items format log text
 IsWhy format log (Dead ledger) text = IsDeadWritten format log text
-IsWhy format log (Refuted left tree) text = AreWritten
-    (IsTreeTold log.history.now (leaf_count tree)) format log text
+IsWhy format log (Refuted left tree) text = IsTreeWritten (leaf_count tree) format log text
 IsWhy format log (Spent closed) text = text ≡ empty_text format
 
 -- the log of these sessions, the first of which begins at this line, and why, in its lines

@@ -5,13 +5,13 @@ ghost use Rattle.serializability.specs.Anomalies.{anomaly_of};
 ghost use Rattle.log_definitions.specs.Numbers.{log_of};
 ghost use Rattle.reduction.specs.Outcome.{IsCyclicHistory, IsDeadHistory, IsOpenHistory};
 ghost use Rattle.branch_search.specs.Trees.{IsRefutationTree};
-ghost use Rattle.tell_trees.specs.Trees.{IsTreeTold};
 ghost use Rattle.tell_trees.specs.Visits.{leaf_count};
-ghost use Rattle.tell_decision.specs.Explained.{AreWritten, IsCycleWritten, IsDeadWritten};
+ghost use Rattle.tell_decision.specs.Explained.{IsCycleWritten, IsDeadWritten, IsTreeWritten};
 
+use crate::crossed::soon_crossed;
 use crate::cycles::cycle_items;
 use crate::steps::{dead_items, tree_items};
-use crate::written::{written, written_cycle, written_dead};
+use crate::written::{written_cycle, written_dead, written_tree};
 use branch_search::Tree;
 use call_options::Format;
 use log_lines::PlacedHistory;
@@ -38,7 +38,8 @@ pub fn explain_cycle(
     written_cycle(alloc, log, format, &items)
 }
 
-/// The forced steps that the cycle of a dead ledger needs, the cycle, and its name.
+/// Reads that rule out every order, where such are found; the forced steps that the cycle of a dead
+/// ledger needs, the cycle, and its name.
 pub fn explain_dead(
     alloc: Global,
     log: &PlacedHistory<'_>,
@@ -51,10 +52,12 @@ pub fn explain_dead(
     let _invariant = log.history.committed();
     let chains = open_chains(alloc, log.history)?;
     let items = dead_items(alloc, log.history, &chains, ledger)?;
-    written_dead(alloc, log, format, &items)
+    let found = soon_crossed(alloc, log.history)?;
+    written_dead(alloc, log, format, found, &items)
 }
 
-/// The forced steps that the cycles of a refutation tree need, and the tree.
+/// Reads that rule out every order, where such are found; the forced steps that the cycles of a
+/// refutation tree need, and the tree.
 pub fn explain_tree(
     alloc: Global,
     log: &PlacedHistory<'_>,
@@ -64,11 +67,12 @@ pub fn explain_tree(
 ) -> Result<Vec<u8>, AllocError>
     requires left { IsOpenHistory log.now.history.now reduced.now }
     requires refutes { IsRefutationTree reduced.now.poly tree.now }
-    ensures written { IfOk result (λ text. AreWritten
-        (IsTreeTold log.now.history.now (leaf_count tree.now)) format log.now text.items) }
+    ensures written { IfOk result (λ text.
+        IsTreeWritten (leaf_count tree.now) format log.now text.items) }
 {
     let _invariant = log.history.committed();
     let chains = open_chains(alloc, log.history)?;
     let items = tree_items(alloc, log.history, &chains, reduced, tree)?;
-    written(alloc, log, format, &items)
+    let found = soon_crossed(alloc, log.history)?;
+    written_tree(alloc, log, format, found, &items)
 }

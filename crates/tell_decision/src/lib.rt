@@ -4,6 +4,7 @@
 #![tactic(auto)]
 
 mod anomaly;
+mod crossed;
 mod cycles;
 mod explained;
 mod names;

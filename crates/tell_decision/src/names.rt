@@ -11,8 +11,7 @@ use session_history::History;
 use tell_reasons::{Why, left_at};
 use tell_steps::Item;
 
-/// How many edges of a cycle miss a write: those of anti-dependencies and of the order of versions,
-/// where they lead from a transaction that reads the key.
+/// How many edges of a cycle miss a write.
 #[derive(Clone, Copy)]
 pub enum Missed {
     Nothing,
@@ -20,15 +19,65 @@ pub enum Missed {
     More,
 }
 
-/// Of which kinds the edges of a cycle are.
+/// What an edge of a cycle is.
 #[derive(Clone, Copy)]
-pub struct Kinds {
+pub enum EdgeKind {
+    /// An anti-dependency, or an order of versions where the first transaction reads the key.
+    Missed,
+    Read,
+    /// An order of versions where the first transaction wrote the key.
+    Written,
+    Session,
+    Moments,
+}
+
+/// What the edges of a line are.
+#[derive(Clone, Copy)]
+pub struct Shape {
     pub missed: Missed,
     pub read: bool,
-    /// Whether one is of the order of writes.
     pub written: bool,
     pub session: bool,
     pub moments: bool,
+    /// Whether there is an edge.
+    pub begun: bool,
+    /// Whether the first one, the last one, and two neighbours miss a write.
+    pub first: bool,
+    pub last: bool,
+    pub beside: bool,
+}
+
+/// What an edge of this reason is.
+fn kind_by_reason(reason: Reason) -> EdgeKind
+    ensures { result ≡ spec.kind_by_reason reason }
+{
+    match reason {
+        Reason::Session => EdgeKind::Session,
+        Reason::Moments => EdgeKind::Moments,
+        Reason::Read { .. } => EdgeKind::Read,
+        Reason::Overwritten { .. } | Reason::Initial { .. } => EdgeKind::Missed,
+    }
+}
+
+/// What an edge by an order of two versions of a key is, from a node that wrote it or reads it.
+fn kind_by_order(history: &History, key: usize, node: NodeIx) -> EdgeKind
+    ensures { result ≡ spec.kind_by_order (left_at history.now key node) }
+{
+    match left_at(history, key, node) {
+        Some(_) => EdgeKind::Written,
+        None => EdgeKind::Missed,
+    }
+}
+
+/// What an edge from this node is.
+fn kind_of(history: &History, first: NodeIx, why: Why) -> EdgeKind
+    ensures { result ≡ spec.kind_of history.now first why }
+{
+    match why {
+        Why::Known(reason) => kind_by_reason(reason),
+        Why::Forced { step: _, order } => kind_by_order(history, order.key, first),
+        Why::Chosen(order) => kind_by_order(history, order.key, first),
+    }
 }
 
 /// One more.
@@ -42,168 +91,87 @@ fn one_more(missed: Missed) -> Missed
     }
 }
 
-/// With an edge from who missed a write.
-fn with_missed(kinds: Kinds) -> Kinds
-    ensures { result ≡ spec.with_missed kinds }
+/// With an edge that misses a write, or does not.
+fn with_edge(line: Shape, misses: bool) -> Shape
+    ensures { result ≡ spec.with_edge line misses }
 {
-    Kinds {
-        missed: one_more(kinds.missed),
-        ..kinds
+    Shape {
+        missed: if misses {
+            one_more(line.missed)
+        } else {
+            line.missed
+        },
+        begun: true,
+        first: if line.begun { line.first } else { misses },
+        last: misses,
+        beside: line.beside || (line.last && misses),
+        ..line
     }
 }
 
-/// With an edge of this reason too.
-fn with_reason(kinds: Kinds, reason: Reason) -> Kinds
-    ensures { result ≡ spec.with_reason kinds reason }
+/// With an edge of this kind.
+fn with_kind(line: Shape, kind: EdgeKind) -> Shape
+    ensures { result ≡ spec.with_kind line kind }
 {
-    match reason {
-        Reason::Session => Kinds {
-            session: true,
-            ..kinds
-        },
-        Reason::Moments => Kinds {
-            moments: true,
-            ..kinds
-        },
-        Reason::Read { .. } => Kinds {
+    match kind {
+        EdgeKind::Missed => with_edge(line, true),
+        EdgeKind::Read => Shape {
             read: true,
-            ..kinds
+            ..with_edge(line, false)
         },
-        Reason::Overwritten { .. } | Reason::Initial { .. } => with_missed(kinds),
-    }
-}
-
-/// With an edge by an order of two versions of a key, from a node that wrote it or reads it.
-fn with_order(history: &History, kinds: Kinds, key: usize, node: NodeIx) -> Kinds
-    ensures { result ≡ spec.with_order kinds (left_at history.now key node) }
-{
-    match left_at(history, key, node) {
-        Some(_) => Kinds {
+        EdgeKind::Written => Shape {
             written: true,
-            ..kinds
+            ..with_edge(line, false)
         },
-        None => with_missed(kinds),
-    }
-}
-
-/// With an edge from this node too.
-fn with_why(history: &History, kinds: Kinds, first: NodeIx, why: Why) -> Kinds
-    ensures { result ≡ spec.with_why history.now kinds first why }
-{
-    match why {
-        Why::Known(reason) => with_reason(kinds, reason),
-        Why::Forced { step: _, order } => with_order(history, kinds, order.key, first),
-        Why::Chosen(order) => with_order(history, kinds, order.key, first),
+        EdgeKind::Session => Shape {
+            session: true,
+            ..with_edge(line, false)
+        },
+        EdgeKind::Moments => Shape {
+            moments: true,
+            ..with_edge(line, false)
+        },
     }
 }
 
 /// With this item too.
-fn with_item(history: &History, kinds: Kinds, item: Item) -> Kinds
-    ensures { result ≡ spec.with_item history.now kinds item }
+fn with_item(history: &History, line: Shape, item: Item) -> Shape
+    ensures { result ≡ spec.with_item history.now line item }
 {
     match item {
         Item::Edge {
             first,
             second: _,
             why,
-        } => with_why(history, kinds, first, why),
-        _ => kinds,
+        } => with_kind(line, kind_of(history, first, why)),
+        _ => line,
     }
 }
 
-/// Of which kinds the edges among these are.
-fn kinds_of(history: &History, items: &[Item]) -> Kinds
-    ensures { result ≡ spec.kinds_after history.now spec.no_kinds items.now }
+/// What the edges among these are.
+fn shape_of(history: &History, items: &[Item]) -> Shape
+    ensures { result ≡ spec.shape_after history.now spec.no_edges items.now }
 {
-    let mut kinds = Kinds {
+    let mut line = Shape {
         missed: Missed::Nothing,
         read: false,
         written: false,
         session: false,
         moments: false,
-    };
-    for item in items {
-        kinds = with_item(history, kinds, *item);
-    }
-    kinds
-}
-
-/// Which edges of a line miss a write: its first, its last, and two neighbours.
-#[derive(Clone, Copy)]
-pub struct Neighbours {
-    /// Whether there is an edge.
-    pub begun: bool,
-    pub first: bool,
-    pub last: bool,
-    pub beside: bool,
-}
-
-/// Whether an edge of this reason misses a write.
-fn misses_by(reason: Reason) -> bool
-    ensures { result ≡ spec.misses_by reason }
-{
-    match reason {
-        Reason::Session | Reason::Moments | Reason::Read { .. } => false,
-        Reason::Overwritten { .. } | Reason::Initial { .. } => true,
-    }
-}
-
-/// Whether an edge from this node misses a write.
-fn misses(history: &History, first: NodeIx, why: Why) -> bool
-    ensures { result ≡ spec.misses history.now first why }
-{
-    match why {
-        Why::Known(reason) => misses_by(reason),
-        Why::Forced { step: _, order } => left_at(history, order.key, first).is_none(),
-        Why::Chosen(order) => left_at(history, order.key, first).is_none(),
-    }
-}
-
-/// With an edge that misses a write, or not.
-fn with_neighbour(line: Neighbours, missed: bool) -> Neighbours
-    ensures { result ≡ spec.with_neighbour line missed }
-{
-    Neighbours {
-        begun: true,
-        first: if line.begun { line.first } else { missed },
-        last: missed,
-        beside: line.beside || (line.last && missed),
-    }
-}
-
-/// With this item too.
-fn beside_item(history: &History, line: Neighbours, item: Item) -> Neighbours
-    ensures { result ≡ spec.beside_item history.now line item }
-{
-    match item {
-        Item::Edge {
-            first,
-            second: _,
-            why,
-        } => with_neighbour(line, misses(history, first, why)),
-        _ => line,
-    }
-}
-
-/// Which of the edges among these miss a write.
-fn neighbours_of(history: &History, items: &[Item]) -> Neighbours
-    ensures { result ≡ spec.neighbours_after history.now spec.no_neighbours items.now }
-{
-    let mut line = Neighbours {
         begun: false,
         first: false,
         last: false,
         beside: false,
     };
     for item in items {
-        line = beside_item(history, line, *item);
+        line = with_item(history, line, *item);
     }
     line
 }
 
 /// Whether no two neighbours among the edges of a line miss a write, of which the first stands
 /// behind the last.
-fn are_apart(line: Neighbours) -> bool
+fn are_apart(line: Shape) -> bool
     ensures { result ≡ spec.are_apart line }
 {
     !(line.beside || (line.first && line.last))
@@ -211,16 +179,16 @@ fn are_apart(line: Neighbours) -> bool
 
 /// Which of three names, by what orders transactions besides their reads and writes.
 fn by_order(
-    kinds: Kinds,
+    line: Shape,
     none: &'static str,
     session: &'static str,
     moments: &'static str,
 ) -> &'static str
-    ensures { result.now ≡ spec.by_order kinds none.now session.now moments.now }
+    ensures { result.now ≡ spec.by_order line none.now session.now moments.now }
 {
-    if kinds.moments {
+    if line.moments {
         moments
-    } else if kinds.session {
+    } else if line.session {
         session
     } else {
         none
@@ -228,19 +196,19 @@ fn by_order(
 }
 
 /// The name of a cycle, no edge of which misses a write.
-fn name_unmissed(kinds: Kinds) -> &'static str
-    ensures { result.now ≡ spec.name_unmissed kinds }
+fn name_unmissed(line: Shape) -> &'static str
+    ensures { result.now ≡ spec.name_unmissed line }
 {
-    if kinds.read {
+    if line.read {
         by_order(
-            kinds,
+            line,
             "circular information flow (G1c)",
             "a read from the future (G1c-process)",
             "a read from the future (G1c-realtime)",
         )
-    } else if kinds.written {
+    } else if line.written {
         by_order(
-            kinds,
+            line,
             "writes in a circle (G0)",
             "writes and sessions in a circle (G0-process)",
             "writes and moments in a circle (G0-realtime)",
@@ -251,26 +219,26 @@ fn name_unmissed(kinds: Kinds) -> &'static str
 }
 
 /// The name of a cycle with so many edges, one of which misses a write.
-fn name_once_missed(kinds: Kinds, edges: usize) -> &'static str
-    ensures { result.now ≡ spec.name_once_missed kinds edges }
+fn name_once_missed(line: Shape, edges: usize) -> &'static str
+    ensures { result.now ≡ spec.name_once_missed line edges }
 {
-    if kinds.written {
+    if line.written {
         by_order(
-            kinds,
+            line,
             "a missed write in a circle (G-single)",
             "a missed write and sessions in a circle (G-single-process)",
             "a missed write and moments in a circle (G-single-realtime)",
         )
-    } else if edges == 2 && !kinds.read {
+    } else if edges == 2 && !line.read {
         by_order(
-            kinds,
+            line,
             "stale read (G-single)",
             "a session misses its own write (G-single-process)",
             "stale read (G-single-realtime)",
         )
     } else {
         by_order(
-            kinds,
+            line,
             "read skew (G-single)",
             "read skew by way of sessions (G-single-process)",
             "read skew by way of moments (G-single-realtime)",
@@ -278,22 +246,27 @@ fn name_once_missed(kinds: Kinds, edges: usize) -> &'static str
     }
 }
 
-/// The name of a cycle with so many edges, several of which miss a write: apart, or not.
-fn name_often_missed(kinds: Kinds, edges: usize, apart: bool) -> &'static str
-    ensures { result.now ≡ spec.name_often_missed kinds edges apart }
+/// The name of a cycle with so many edges, several of which miss a write.
+fn name_often_missed(line: Shape, edges: usize) -> &'static str
+    ensures { result.now ≡ spec.name_often_missed line edges }
 {
     if edges == 2 {
-        "write skew (G2-item)"
-    } else if apart {
         by_order(
-            kinds,
+            line,
+            "write skew (G2-item)",
+            "write skew by way of sessions (G2-item-process)",
+            "write skew by way of moments (G2-item-realtime)",
+        )
+    } else if are_apart(line) {
+        by_order(
+            line,
             "long fork (G-nonadjacent-item)",
             "long fork by way of sessions (G-nonadjacent-item-process)",
             "long fork by way of moments (G-nonadjacent-item-realtime)",
         )
     } else {
         by_order(
-            kinds,
+            line,
             "missed writes in a circle (G2-item)",
             "missed writes and sessions in a circle (G2-item-process)",
             "missed writes and moments in a circle (G2-item-realtime)",
@@ -301,14 +274,14 @@ fn name_often_missed(kinds: Kinds, edges: usize, apart: bool) -> &'static str
     }
 }
 
-/// The name of a cycle with so many edges, in which those that miss a write stand apart, or not.
-fn name(kinds: Kinds, edges: usize, apart: bool) -> &'static str
-    ensures { result.now ≡ spec.name kinds edges apart }
+/// The name of a cycle with so many edges.
+fn name(line: Shape, edges: usize) -> &'static str
+    ensures { result.now ≡ spec.name line edges }
 {
-    match kinds.missed {
-        Missed::Nothing => name_unmissed(kinds),
-        Missed::One => name_once_missed(kinds, edges),
-        Missed::More => name_often_missed(kinds, edges, apart),
+    match line.missed {
+        Missed::Nothing => name_unmissed(line),
+        Missed::One => name_once_missed(line, edges),
+        Missed::More => name_often_missed(line, edges),
     }
 }
 
@@ -316,8 +289,7 @@ fn name(kinds: Kinds, edges: usize, apart: bool) -> &'static str
 pub fn name_of(history: &History, items: &[Item]) -> &'static str
     ensures { result.now ≡ spec.name_of history.now items.now }
 {
-    let apart = are_apart(neighbours_of(history, items));
-    name(kinds_of(history, items), items.len(), apart)
+    name(shape_of(history, items), items.len())
 }
 
 /// Whether a cycle begins with an item.
@@ -331,7 +303,7 @@ fn is_cycle(item: Item) -> bool
 }
 
 /// What stands behind the item that begins a cycle.
-pub fn behind_cycle(items: &[Item]) -> &[Item]
+fn behind_cycle(items: &[Item]) -> &[Item]
     ensures { result.now ≡ spec.behind_cycle items.now }
 {
     for i in 0..items.len() {
@@ -340,4 +312,19 @@ pub fn behind_cycle(items: &[Item]) -> &[Item]
         }
     }
     &[]
+}
+
+/// The name of the cycle behind these steps, which takes the order of sessions and of moments that
+/// the steps take.
+pub fn name_behind(history: &History, items: &[Item]) -> &'static str
+    ensures { result.now ≡ spec.name_behind history.now items.now }
+{
+    let whole = shape_of(history, items);
+    let cycle = behind_cycle(items);
+    let line = Shape {
+        session: whole.session,
+        moments: whole.moments,
+        ..shape_of(history, cycle)
+    };
+    name(line, cycle.len())
 }

@@ -1,51 +1,87 @@
 //! What is told, as text or as a graph.
 
-ghost use Rattle.std.specs.Prelude.{◌≡◌, ◌++◌, IfOk, OnOk};
+ghost use Rattle.std.specs.Prelude.{◌≡◌, ◌++◌, IfSome, IfOk, OnOk};
 ghost use Rattle.std.specs.List.{flat_map};
+ghost use Rattle.reason_laws.specs.Crossed.{AreCrossed};
 ghost use Rattle.tell_texts.specs.Texts.{AreTellable};
-ghost use Rattle.tell_decision.specs.Explained.{told_text, known_as, cycle_text, dead_text};
+ghost use Rattle.tell_decision.specs.Explained.{told_text, crossed_text, tree_text};
+ghost use Rattle.tell_decision.specs.Explained.{known_as, cycle_text, dead_text};
 ghost use Rattle.tell_decision.specs.Explained.{lines_text, label_byte, box_text};
 
-use crate::names::{behind_cycle, name_of};
+use crate::names::{name_behind, name_of};
 use call_options::Format;
 use log_lines::PlacedHistory;
-use session_history::History;
+use reason_laws::Crossing;
 use std::alloc::{AllocError, Global};
+use tell_reasons::put_crossing;
 use tell_steps::Item;
 use tell_texts::{put_graph, put_items};
 
-/// Items as lines of text, or as a graph.
-pub fn written(
+/// Appends items as lines of text, or as a graph.
+fn put_told(
     alloc: Global,
+    out: &mut Vec<u8>,
     log: &PlacedHistory<'_>,
     format: Format,
     items: &[Item],
-) -> Result<Vec<u8>, AllocError>
+) -> Result<(), AllocError>
     requires items { AreTellable log.now.history.now items.now }
-    ensures text { IfOk result (λ text. text.items ≡ told_text format log.now items.now) }
+    ensures text { OnOk result (out.new.items
+        ≡ out.old.items ++ told_text format log.now items.now) }
+{
+    match format {
+        Format::Text => put_items(out, log, items),
+        Format::Dot => put_graph(alloc, out, log, items),
+    }
+}
+
+/// Appends reads that rule out every order, where such were found, as lines of a text.
+fn put_crossed(
+    out: &mut Vec<u8>,
+    log: &PlacedHistory<'_>,
+    format: Format,
+    found: Option<Crossing>,
+) -> Result<(), AllocError>
+    requires crossed { IfSome found (λ c. AreCrossed log.now.history.now c) }
+    ensures text { OnOk result (out.new.items
+        ≡ out.old.items ++ crossed_text format log.now found) }
+{
+    match format {
+        Format::Text => match found {
+            Some(crossing) => put_crossing(out, log, crossing),
+            None => Ok(()),
+        },
+        Format::Dot => Ok(()),
+    }
+}
+
+/// Reads that rule out every order, where such were found, and a tree, as lines of text; or the
+/// tree as a graph.
+pub fn written_tree(
+    alloc: Global,
+    log: &PlacedHistory<'_>,
+    format: Format,
+    found: Option<Crossing>,
+    items: &[Item],
+) -> Result<Vec<u8>, AllocError>
+    requires crossed { IfSome found (λ c. AreCrossed log.now.history.now c) }
+    requires items { AreTellable log.now.history.now items.now }
+    ensures text { IfOk result (λ text. text.items ≡ tree_text format log.now found items.now) }
 {
     let mut out = Vec::new(alloc);
-    match format {
-        Format::Text => put_items(&mut out, log, items)?,
-        Format::Dot => put_graph(alloc, &mut out, log, items)?,
-    }
+    put_crossed(&mut out, log, format, found)?;
+    put_told(alloc, &mut out, log, format, items)?;
     Ok(out)
 }
 
-/// Appends the name of the cycle that these tell, a line of a text.
-fn put_known_as(
-    out: &mut Vec<u8>,
-    history: &History,
-    format: Format,
-    items: &[Item],
-) -> Result<(), AllocError>
-    ensures text { OnOk result (out.new.items
-        ≡ out.old.items ++ known_as format history.now items.now) }
+/// Appends the name of a cycle, a line of a text.
+fn put_known_as(out: &mut Vec<u8>, format: Format, name: &str) -> Result<(), AllocError>
+    ensures text { OnOk result (out.new.items ≡ out.old.items ++ known_as format name.now) }
 {
     match format {
         Format::Text => {
             out.extend_from_slice(b"known as: ")?;
-            out.extend_from_slice(name_of(history, items).as_bytes())?;
+            out.extend_from_slice(name.as_bytes())?;
             out.extend_from_slice(b"\n")?;
             Ok(())
         }
@@ -63,23 +99,27 @@ pub fn written_cycle(
     requires items { AreTellable log.now.history.now items.now }
     ensures text { IfOk result (λ text. text.items ≡ cycle_text format log.now items.now) }
 {
-    let mut out = written(alloc, log, format, items)?;
-    put_known_as(&mut out, log.history, format, items)?;
+    let mut out = Vec::new(alloc);
+    put_told(alloc, &mut out, log, format, items)?;
+    put_known_as(&mut out, format, name_of(log.history, items))?;
     Ok(out)
 }
 
-/// Steps and the cycle behind them as lines of text, and the cycle's name, or as a graph.
+/// Reads that rule out every order, where such were found, and steps and the cycle behind them, as
+/// lines of text, with the cycle's name; or the steps and the cycle as a graph.
 pub fn written_dead(
     alloc: Global,
     log: &PlacedHistory<'_>,
     format: Format,
+    found: Option<Crossing>,
     items: &[Item],
 ) -> Result<Vec<u8>, AllocError>
+    requires crossed { IfSome found (λ c. AreCrossed log.now.history.now c) }
     requires items { AreTellable log.now.history.now items.now }
-    ensures text { IfOk result (λ text. text.items ≡ dead_text format log.now items.now) }
+    ensures text { IfOk result (λ text. text.items ≡ dead_text format log.now found items.now) }
 {
-    let mut out = written(alloc, log, format, items)?;
-    put_known_as(&mut out, log.history, format, behind_cycle(items))?;
+    let mut out = written_tree(alloc, log, format, found, items)?;
+    put_known_as(&mut out, format, name_behind(log.history, items))?;
     Ok(out)
 }
 

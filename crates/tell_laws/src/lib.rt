@@ -1,6 +1,6 @@
 //! What the told lines rule out.
 //!
-//! Cited by whoever wants to know what a told line is worth. It knows no code.
+//! Cited by no crate: its contracts are for the reader of `docs/PROMISES.md`. It knows no code.
 #![tactic(auto)]
 
 pub mod laws;

@@ -1,7 +1,20 @@
 //! Why a piece has no order, in the words of the whole log.
 //!
 //! Called by `audit_command`. It knows no status and no sink.
+//!
+//! # What is promised
+//!
+//! Where a transaction of a piece stands in the whole log, and at which line it begins there. The
+//! text itself is tested.
 #![tactic(auto)]
+
+mod context;
+mod lines;
+mod names;
+mod retell_text;
+mod spots;
+mod versions;
+mod words;
 
 ghost use Rattle.std.specs.Prelude.{◌+◌, ◌<◌, ◌^◌, length, map};
 ghost use Rattle.session_log.specs.Text.{view};
@@ -9,11 +22,13 @@ ghost use Rattle.log_definitions.specs.WellFormed.{log_lines};
 ghost use Rattle.piece_laws.specs.Logs.{IsLog};
 ghost use Rattle.auditing.specs.Audits.{ArePiecesOfLog};
 
+use crate::retell_text::retell;
 use auditing::{AuditMeans, line_count};
 use deciding::{Means, decide};
 use desk::gate::OpenGate;
 use desk::seat_no::Workers;
 use held_pieces::Pieces;
+pub use lines::{begin_line, place_of, session_lines};
 use polygraph::PolyFault;
 use session_history::History;
 use session_log::{LogFault, Session, Version};
@@ -22,7 +37,6 @@ use std::sync::Wait;
 use std::thread::Threads;
 use std::time::Clock;
 use tell_decision::{Format, explain};
-use tell_whole_log::retell;
 
 /// More lines than any log has.
 const MANY_LINES: usize = 1_000_000_000;

@@ -5,7 +5,8 @@ use Rattle.std.specs.List.{position_or_len}
 use Rattle.std.specs.Option.{option_map}
 use Rattle.std.specs.Str.{bytes_eq}
 use Rattle.std.proofs.lemmas.Bool.{false≢true}
-use Rattle.std.proofs.lemmas.List.{map-append, length-map, reverse-append, take-map, get_or-take}
+use Rattle.std.proofs.lemmas.List.{map-append, length-map, length-take-le, reverse-append, take-map, get_or-take}
+use Rattle.std.proofs.lemmas.Option.{slice_get-get_or}
 use Rattle.std.proofs.lemmas.List.Quantifiers.{position-Some}
 use Rattle.session_log.specs.Text.{ClientSession}
 use Rattle.session_log.specs.declared.session.Op.{Op}
@@ -20,8 +21,8 @@ use Rattle.reason_laws.proofs.Numbers.{ops_is, listed_at}
 use Rattle.tell_reasons.specs.Reasons.{op_at, key_text, op_wid}
 use Rattle.tell_reasons.specs.Events.{event_wid, is_write_in, is_read_in, is_other_in}
 use Rattle.tell_reasons.specs.Anomalies.{IsRead, is_write_of, is_read_of, is_other_read, last_position}
-use Rattle.tell_reasons.proofs.Ops.{op_of, key_of_event, text_of_key, wid_is, item_at}
-use Rattle.tell_reasons.proofs.Found.{front_length}
+use Rattle.reasons.proofs.Ops.{op_of, key_of_event}
+use Rattle.tell_reasons.proofs.Ops.{text_of_key, wid_is}
 
 -- ---- places in a list whose items are mapped
 same_place : {X Y : Type 0} (f : X → Y) (q : Y → Bool) (p : X → Bool) (xs : List X) → ((x : X) → q (f x) ≡ p x) → position_or_len q (map f xs) ≡ position_or_len p xs
@@ -115,11 +116,11 @@ pub other_is_read : (ops : List Op) (text : List ℕ) (w n i : ℕ) → n ≤ le
 other_is_read ops text w n i le e =
     let d = Read text w in
     let f = position-Some (is_other_read text w) (take n ops) i d e in
-    let size = front_length ops n le in
+    let size = length-take-le n ops le in
     let lt : i < n = omega (arith, f.0, size) in
     let same : get_or (take n ops) i d ≡ get_or ops i d = get_or-take n ops i d lt in
     let passes : is_other_read text w (get_or ops i d) ≡ true = ap (is_other_read text w) (sym same) ∙ f.1 in
-    subst (λ (o : Option Op). IsRead o) (sym (item_at ops i d (omega (arith, lt, le)))) (is_other text w (get_or ops i d) passes)
+    subst (λ (o : Option Op). IsRead o) (sym (slice_get-get_or ops i d (omega (arith, lt, le)))) (is_other text w (get_or ops i d) passes)
 
 pub if_found : (P : ℕ → Type 0) (r : Option ℕ) → ((i : ℕ) → r ≡ Some i → P i) → IfSome r P
 if_found P (Some i) f = f i refl

@@ -7,3 +7,4 @@ pub mod Keyed
 pub mod Told
 pub mod Updates
 pub mod Reported
+pub mod Pairs

@@ -1,9 +1,10 @@
 -- Operations of nodes, and the events that a history keeps of them.
-use Rattle.std.proofs.Common.{◌≡◌, ℕ, zero, suc, ◌+◌, ◌<◌, Bool, true, false, List, [], ◌∷◌, length, Option, Some, refl, sym, ap, ◌∙◌, subst, arith, get_or}
+use Rattle.std.proofs.Common.{◌≡◌, ℕ, suc, ◌+◌, ◌<◌, Bool, true, false, List, [], ◌∷◌, length, Option, Some, refl, sym, ap, ◌∙◌, subst, arith}
 use Rattle.std.specs.Prelude.{slice_get, decimal, IfSome}
 use Rattle.std.specs.Str.{bytes_eq}
 use Rattle.std.proofs.lemmas.Bool.{false≢true}
 use Rattle.std.proofs.lemmas.List.{length-map}
+use Rattle.std.proofs.lemmas.Option.{slice_get_within}
 use Rattle.std.proofs.lemmas.Slice.Eq.{bytes_eq-Decides}
 use Rattle.session_log.specs.Text.{ClientSession}
 use Rattle.session_log.specs.declared.session.Op.{Op}
@@ -11,52 +12,22 @@ use Rattle.session_log.specs.declared.session.Op.TheVariants.{Read, Write}
 use Rattle.serializability.specs.declared.event.Event.{Event}
 use Rattle.log_definitions.specs.WellFormed.{keys_in, key_of}
 use Rattle.log_definitions.specs.Serial.{ops_of}
-use Rattle.log_definitions.specs.Numbers.{number_in, event_of, events_of, log_of}
-use Rattle.log_definitions.proofs.Keys.{Listed, number_below}
+use Rattle.log_definitions.specs.Numbers.{number_in, event_of, log_of}
+use Rattle.log_definitions.proofs.Keys.{Listed}
 use Rattle.session_history.specs.Rows.{event_key}
 use Rattle.reason_laws.specs.Reasons.{IsOpAt}
-use Rattle.reason_laws.proofs.Numbers.{ops_is, keys_is, listed_at}
+use Rattle.reason_laws.proofs.Numbers.{ops_is, listed_at}
+use Rattle.reasons.proofs.Ops.{op_of, key_of_event}
 use Rattle.tell_reasons.specs.Events.{event_wid}
 use Rattle.tell_reasons.specs.Reasons.{op_at, key_text, wid_text, op_wid}
 
 pub event_count : (ss : List ClientSession) (v : ℕ) → length ((log_of ss).ops v) ≡ length (ops_of ss v)
 event_count ss v = ap (λ es. length es) (ops_is ss v) ∙ length-map (ops_of ss v) (event_of (keys_in ss))
 
-pub item_at : {X : Type 0} (xs : List X) (i : ℕ) (d : X) → i < length xs → slice_get xs i ≡ Some (get_or xs i d)
-item_at [] i d lt = absurd (omega (arith, lt))
-item_at (x ∷ xs) zero d lt = refl
-item_at (x ∷ xs) (suc i) d lt = item_at xs i d (omega (arith, lt))
-
 pub op_below : (ss : List ClientSession) (v i : ℕ) (op : Op) → IsOpAt ss v i op → i < length (ops_of ss v)
-op_below ss v i op h = below (ops_of ss v) i op h
-  where
-    below : (ops : List Op) (i : ℕ) (op : Op) → slice_get ops i ≡ Some op → i < length ops
-    below [] i op e = cc
-    below (o ∷ ops) zero op e = omega arith
-    below (o ∷ ops) (suc i) op e = omega (arith, below ops i op e)
+op_below ss v i op h = slice_get_within (ops_of ss v) i op h
 
--- ---- the operation behind an event
-pub record IsOfOp (keys : List (List ℕ)) (ops : List Op) (i : ℕ) (e : Event) : Type 0 where
-  pub op : Op
-  pub stands : slice_get ops i ≡ Some op
-  pub event : event_of keys op ≡ e
-
-further : (keys : List (List ℕ)) (o : Op) (ops : List Op) (i : ℕ) (e : Event) → IsOfOp keys ops i e → IsOfOp keys (o ∷ ops) (suc i) e
-further keys o ops i e h = record { op = h.op; stands = h.stands; event = h.event }
-
-of_op : (keys : List (List ℕ)) (ops : List Op) (i : ℕ) (e : Event) → slice_get (events_of keys ops) i ≡ Some e → IsOfOp keys ops i e
-of_op keys [] i e h = cc
-of_op keys (o ∷ ops) zero e h = let same : event_of keys o ≡ e = cc in record { op = o; stands = refl; event = same }
-of_op keys (o ∷ ops) (suc i) e h = further keys o ops i e (of_op keys ops i e h)
-
-pub op_of : (ss : List ClientSession) (v i : ℕ) (e : Event) → slice_get ((log_of ss).ops v) i ≡ Some e → IsOfOp (keys_in ss) (ops_of ss v) i e
-op_of ss v i e h = of_op (keys_in ss) (ops_of ss v) i e (ap (λ es. slice_get es i) (sym (ops_is ss v)) ∙ h)
-
--- ---- its key and its identity
-pub key_of_event : (keys : List (List ℕ)) (o : Op) → event_key (event_of keys o) ≡ number_in keys (key_of o)
-key_of_event keys (Read key wid) = refl
-key_of_event keys (Write key wid) = refl
-
+-- ---- the key and the identity of an event
 pub text_of_key : (o : Op) → key_text (Some o) ≡ key_of o
 text_of_key (Read key wid) = refl
 text_of_key (Write key wid) = refl
@@ -83,14 +54,6 @@ key_told ss v i e h =
     let number : event_key e ≡ number_in (keys_in ss) (key_of o.op) = ap event_key (sym o.event) ∙ key_of_event (keys_in ss) o.op in
     let text : key_text (op_at ss v i) ≡ key_of o.op = ap key_text o.stands ∙ text_of_key o.op in
     ap (λ x. slice_get (keys_in ss) x) number ∙ numbered (keys_in ss) (key_of o.op) (listed_at ss v i o.op o.stands) ∙ ap (λ t. Some t) (sym text)
-
-pub key_below : (ss : List ClientSession) (v i : ℕ) (e : Event) → slice_get ((log_of ss).ops v) i ≡ Some e → event_key e < (log_of ss).keys
-key_below ss v i e h =
-    let o = op_of ss v i e h in
-    let number : event_key e ≡ number_in (keys_in ss) (key_of o.op) = ap event_key (sym o.event) ∙ key_of_event (keys_in ss) o.op in
-    let below = number_below (keys_in ss) (key_of o.op) (listed_at ss v i o.op o.stands) in
-    let count = keys_is ss in
-    omega (arith, number, below, count)
 
 wid_in : (keys : List (List ℕ)) (o : Op) → op_wid (Some o) ≡ event_wid (event_of keys o)
 wid_in keys (Read key wid) = refl

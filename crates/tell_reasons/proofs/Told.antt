@@ -1,7 +1,6 @@
 -- Texts that were appended, and what they tell.
-use Rattle.std.proofs.Common.{◌≡◌, ◌≢◌, ℕ, ◌+◌, ◌<◌, ◌≤◌, List, [], ◌∷◌, ◌++◌, length, take, Option, None, Some, Result, Ok, Err, refl, sym, ap, ◌∙◌, subst, append_assoc}
-use Rattle.std.specs.Prelude.{map, codes, slice_get, OnOk}
-use Rattle.std.proofs.lemmas.List.{append-nil}
+use Rattle.std.proofs.Common.{◌≡◌, ◌≢◌, ℕ, ◌+◌, ◌<◌, ◌≤◌, List, [], ◌∷◌, ◌++◌, length, take, Some, refl, sym, ap, ◌∙◌, subst, append_assoc}
+use Rattle.std.specs.Prelude.{map, codes, slice_get}
 use Rattle.std.proofs.lemmas.Option.{slice_get_within}
 use Rattle.session_log.specs.Text.{ClientSession, Transaction, view, view_txn}
 use Rattle.session_log.specs.declared.session.Op.TheVariants.{Write}
@@ -15,16 +14,12 @@ use Rattle.tell_reasons.specs.declared.writes.Keys.{Keys}
 use Rattle.tell_reasons.specs.declared.writes.Keys.TheVariants.{This, Any}
 use Rattle.tell_reasons.specs.declared.writes.WriteAt.{WriteAt}
 use Rattle.tell_reasons.specs.Reasons.{op_at, key_text, reads_text, op_wid}
-use Rattle.tell_reasons.specs.Anomalies.{Appends, IsRead, IsWriteAt, IsFirstWriteAt, IsWriterTold, IsReadTold, IsDoneTold, IsBeforeTold, IsBadReadTold, wrote_text, elsewhere_text, did_text}
+use Rattle.tell_reasons.specs.Anomalies.{Appends, IsRead, IsWriteAt, IsFirstWriteAt, IsWriterTold, IsReadTold, IsBeforeTold, IsBadReadTold, wrote_text, elsewhere_text}
 use Rattle.tell_reasons.specs.Anomalies.IsWriterTold.{initial, nobody, elsewhere, wrote}
 use Rattle.tell_reasons.specs.Writes.{IsNoneWrite, Finds}
 use Rattle.tell_reasons.proofs.Begun.{begins_within}
 use Rattle.tell_reasons.proofs.Texts.{two}
 use Rattle.tell_reasons.proofs.Written.{txn_ops, among_this, none_here, none_anywhere}
-
-pub on_ok : {T E : Type 0} (P Q : Type 0) (r : Result T E) → (P → Q) → OnOk r P → OnOk r Q
-on_ok P Q (Ok x) f h = f h
-on_ok P Q (Err e) f h = tt
 
 -- ---- who wrote
 pub initial_told : (n : ℕ) (ss : List ClientSession) (read : ℕ) (key : List ℕ) (wid : ℕ) (old new : List ℕ) → wid ≡ 0 → new ≡ old ++ codes ", the initial value" → Appends old new (IsWriterTold n ss read key wid)
@@ -54,11 +49,6 @@ looked_up n sessions keys key wid w s t P f p q h =
     let moved : slice_get s.txns.items w.txn ≡ Some f.txn = ap (λ (x : Session). slice_get x.txns.items w.txn) (sym session) ∙ f.stands in
     let txn : f.txn ≡ t = cc in
     subst (λ (x : Session). P x t) session (subst (λ (y : Txn). P f.session y) txn h)
-
-pub txn_below : (n : ℕ) (sessions : List Session) (keys : Keys) (key : List ℕ) (wid : ℕ) (w : WriteAt) (s : Session) → Finds n sessions keys key wid w → slice_get sessions w.session ≡ Some s → w.txn < length s.txns.items
-txn_below n sessions keys key wid w s f p =
-    let session : f.session ≡ s = let among = f.among in cc in
-    subst (λ (x : Session). w.txn < length x.txns.items) session (slice_get_within f.session.txns.items w.txn f.txn f.stands)
 
 -- the write that was found, as an operation of the transaction
 pub record IsOpFound (n : ℕ) (ss : List ClientSession) (w : WriteAt) (t : Txn) : Type 0 where
@@ -134,11 +124,3 @@ bad_read log v i old mid new a b =
       added = two old a.text b.text mid new a.added b.added;
       told = record { line = a.text; before = b.text; read = a.told; done = done; whole = refl };
     }
-
--- ---- before it
-pub write_before : (log : PlacedHistory) (v i : ℕ) (other : Option ℕ) (old new : List ℕ) → new ≡ old ++ (did_text log v (codes " wrote ") i ++ 10 ∷ [])
-    → Appends old new (IsDoneTold log v (Some i) other)
-write_before log v i other old new e = record { text = did_text log v (codes " wrote ") i ++ 10 ∷ []; added = e; told = refl }
-
-pub nothing_before : (log : PlacedHistory) (v : ℕ) (old : List ℕ) → Appends old old (IsDoneTold log v None None)
-nothing_before log v old = record { text = []; added = sym (append-nil old); told = refl }

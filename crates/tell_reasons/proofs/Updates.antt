@@ -3,7 +3,8 @@ use Rattle.std.proofs.Common.{◌≡◌, ℕ, suc, ◌+◌, ◌-◌, ◌<◌, �
 use Rattle.std.specs.Prelude.{codes, slice_get, position, reverse, unwrap_or}
 use Rattle.std.specs.Option.{option_map}
 use Rattle.std.proofs.lemmas.Bool.{cases_Bool, false≢true}
-use Rattle.std.proofs.lemmas.List.{length-reverse, get_or-reverse}
+use Rattle.std.proofs.lemmas.List.{length-reverse, get_or-reverse, take_all}
+use Rattle.std.proofs.lemmas.Option.{slice_get-get_or}
 use Rattle.std.proofs.lemmas.List.Quantifiers.{position-Some}
 use Rattle.session_log.specs.Text.{ClientSession}
 use Rattle.session_log.specs.declared.session.Op.{Op}
@@ -20,9 +21,10 @@ use Rattle.log_lines.specs.declared.placed.PlacedHistory.{PlacedHistory}
 use Rattle.tell_reasons.specs.Reasons.{op_at, key_text, key_bytes, named, wid_text, op_in_line, reads_text}
 use Rattle.tell_reasons.specs.Events.{is_write_in, is_read_in}
 use Rattle.tell_reasons.specs.Anomalies.{Appends, IsRead, IsReadTold, IsUpdateTold, AreUpdatesTold, is_read_of, is_write_of, last_position}
-use Rattle.tell_reasons.proofs.Found.{front_all, none_at}
+use Rattle.tell_reasons.proofs.Found.{none_at}
 use Rattle.tell_reasons.proofs.Keyed.{last_told, read_told}
-use Rattle.tell_reasons.proofs.Ops.{event_count, item_at, op_of, key_told}
+use Rattle.reasons.proofs.Ops.{op_of}
+use Rattle.tell_reasons.proofs.Ops.{event_count, key_told}
 use Rattle.tell_reasons.proofs.Texts.{two}
 
 -- ---- an item that passes
@@ -107,7 +109,7 @@ first_read ss x v i e =
     let r = read_event x (get_or es i (event.Read 0 0)) f.1 in
     let count = event_count ss v in
     let lt = f.0 in
-    record { wid = r.0; event = item_at es i (event.Read 0 0) lt ∙ ap (λ d. Some d) r.1; below = omega (arith, lt, count) }
+    record { wid = r.0; event = slice_get-get_or es i (event.Read 0 0) lt ∙ ap (λ d. Some d) r.1; below = omega (arith, lt, count) }
 
 read_op : (keys : List (List ℕ)) (x w : ℕ) (o : Op) → event_of keys o ≡ event.Read x w → IsRead (Some o)
 read_op keys x w (Read key wid) e = record { key = key; wid = wid; is = refl }
@@ -125,7 +127,7 @@ no_write ss x u v i n h at le e =
     let r = first_read ss x v i at in
     let count = event_count ss v in
     let told = last_told ss v i n (event.Read x r.wid) r.event in
-    let all = front_all es n (omega (arith, count, le)) in
+    let all = take_all n es (omega (arith, count, le)) in
     let none = e ∙ sym told ∙ ap (λ l. last_position (is_write_in x) l) all in
     last_there (is_write_in x) es (write_there x h.writes.0 es h.writes.1) none
 

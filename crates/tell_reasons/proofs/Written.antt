@@ -3,7 +3,8 @@ use Rattle.std.proofs.Common.{◌≡◌, ℕ, ◌+◌, ◌<◌, ◌≤◌, true,
 use Rattle.std.specs.Prelude.{map, position, slice_get}
 use Rattle.std.specs.List.{flat_map, Contains}
 use Rattle.std.proofs.lemmas.Bool.{false≢true, and_parts, and_from}
-use Rattle.std.proofs.lemmas.List.{append-nil, length-map, get_or-take}
+use Rattle.std.proofs.lemmas.List.{append-nil, length-map, length-take-le, get_or-take}
+use Rattle.std.proofs.lemmas.Option.{slice_get-get_or}
 use Rattle.std.proofs.lemmas.List.Concat.{flat_map-append}
 use Rattle.std.proofs.lemmas.List.Elements.{Contains-append_cases}
 use Rattle.std.proofs.lemmas.List.Quantifiers.{position-Some}
@@ -21,8 +22,7 @@ use Rattle.tell_reasons.specs.declared.writes.Keys.{Keys}
 use Rattle.tell_reasons.specs.declared.writes.Keys.TheVariants.{This, Any}
 use Rattle.tell_reasons.specs.declared.writes.WriteAt.{WriteAt}
 use Rattle.tell_reasons.proofs.Begun.{lines-append, txns-append}
-use Rattle.tell_reasons.proofs.Found.{front, cut, front_all, front_length, none_at}
-use Rattle.tell_reasons.proofs.Ops.{item_at}
+use Rattle.tell_reasons.proofs.Found.{front, cut, none_at}
 
 -- ---- one operation
 pub among_itself : (keys : Keys) (key : List ℕ) → is_among keys key key ≡ true
@@ -63,7 +63,7 @@ no_earlier keys key wid ops j e = record {
       let p = is_write_as keys key wid in
       let o = Write written wid in
       let f = position-Some p ops j o e in
-      let size = front_length ops j (omega (arith, f.0)) in
+      let size = length-take-le j ops (omega (arith, f.0)) in
       let lt : c.0 < j = omega (arith, c.1, size) in
       let fails : p (get_or ops c.0 o) ≡ false = f.2 c.0 lt in
       let same : get_or ops c.0 o ≡ o = sym (get_or-take j ops c.0 o lt) ∙ c.2 in
@@ -94,9 +94,6 @@ pub record IsBefore (n : ℕ) (keys : Keys) (key : List ℕ) (wid : ℕ) (txns :
   pub begins : line ≡ n + 1 + length (flat_map txn_lines (map view_txn (take i txns)))
   pub none : IsNoneWrite keys key wid (flat_map (λ t. t.ops) (map view_txn (take i txns)))
 
-pub before_none : (n : ℕ) (keys : Keys) (key : List ℕ) (wid : ℕ) (txns : List Txn) → IsBefore n keys key wid txns 0 (n + 1)
-before_none n keys key wid txns = record { begins = omega arith; none = none_among keys key wid }
-
 pub before_more : (n : ℕ) (keys : Keys) (key : List ℕ) (wid : ℕ) (txns : List Txn) (i line : ℕ) (x : Txn) → i < length txns → x ≡ get_or txns i x → IsBefore n keys key wid txns i line → None ≡ position (is_write_as keys key wid) x.ops.items
     → IsBefore n keys key wid txns (i + 1) (line + length (txn_lines (view_txn x)))
 before_more n keys key wid txns i line x h at b e =
@@ -110,9 +107,6 @@ before_more n keys key wid txns i line x h at b e =
       begins = omega (arith, lines, one, b.begins);
       none = subst (λ l. IsNoneWrite keys key wid l) (sym ops) (none-append keys key wid (txn_ops before) x.ops.items b.none (no_write keys key wid x.ops.items e));
     }
-
-pub before_all : (n : ℕ) (keys : Keys) (key : List ℕ) (wid : ℕ) (txns : List Txn) (i line : ℕ) → length txns ≤ i → IsBefore n keys key wid txns i line → IsNoneWrite keys key wid (flat_map (λ t. t.ops) (map view_txn txns))
-before_all n keys key wid txns i line le b = subst (λ ts. IsNoneWrite keys key wid (flat_map (λ t. t.ops) (map view_txn ts))) (front_all txns i le) b.none
 
 -- the lines of one transaction stand in those of the session
 pub txn_within : (s : Session) (i : ℕ) (x : Txn) → i < length s.txns.items → x ≡ get_or s.txns.items i x
@@ -135,15 +129,15 @@ write_within n s keys key wid i line j at x h is b e =
     record {
       written = is_sought.written;
       txn = x;
-      stands = item_at s.txns.items i x h ∙ ap (λ y. Some y) (sym is);
+      stands = slice_get-get_or s.txns.items i x h ∙ ap (λ y. Some y) (sym is);
       write = record {
         earlier = map view_txn before;
         later = map view_txn (drop (i + 1) s.txns.items);
         txns = cut view_txn s.txns.items i x h is;
-        stands = let size = length-map before view_txn in let count = front_length s.txns.items i (omega (arith, h)) in omega (arith, size, count);
+        stands = let size = length-map before view_txn in let count = length-take-le i s.txns.items (omega (arith, h)) in omega (arith, size, count);
         begins = b.begins;
         among = is_sought.among;
-        writes = item_at x.ops.items j d f.0 ∙ ap (λ o. Some o) is_sought.is;
+        writes = slice_get-get_or x.ops.items j d f.0 ∙ ap (λ o. Some o) is_sought.is;
         first = none-append keys key wid (txn_ops (map view_txn before)) (take j x.ops.items) b.none (no_earlier keys key wid x.ops.items j (sym e));
       };
     }
@@ -152,9 +146,6 @@ write_within n s keys key wid i line j at x h is b e =
 pub record IsBeyond (n : ℕ) (keys : Keys) (key : List ℕ) (wid : ℕ) (sessions : List Session) (i line : ℕ) : Type 0 where
   pub begins : line ≡ n + length (log_lines (map view (take i sessions)))
   pub none : IsNoneWrite keys key wid (ops_in (map view (take i sessions)))
-
-pub beyond_none : (n : ℕ) (keys : Keys) (key : List ℕ) (wid : ℕ) (sessions : List Session) → IsBeyond n keys key wid sessions 0 n
-beyond_none n keys key wid sessions = record { begins = omega arith; none = none_among keys key wid }
 
 ops-append : (a b : List ClientSession) → ops_in (a ++ b) ≡ ops_in a ++ ops_in b
 ops-append a b = ap txn_ops (flat_map-append (λ s. s.txns) a b) ∙ flat_map-append (λ t. t.ops) (txns_in a) (txns_in b)
@@ -171,9 +162,6 @@ beyond_more n keys key wid sessions i line x h at b e =
       begins = omega (arith, lines, one, b.begins);
       none = subst (λ l. IsNoneWrite keys key wid l) (sym ops) (none-append keys key wid (ops_in before) (txn_ops (map view_txn x.txns.items)) b.none e);
     }
-
-pub beyond_all : (n : ℕ) (keys : Keys) (key : List ℕ) (wid : ℕ) (sessions : List Session) (i line : ℕ) → length sessions ≤ i → IsBeyond n keys key wid sessions i line → IsNoneWrite keys key wid (ops_in (map view sessions))
-beyond_all n keys key wid sessions i line le b = subst (λ ss. IsNoneWrite keys key wid (ops_in (map view ss))) (front_all sessions i le) b.none
 
 pub session_within : (sessions : List Session) (i : ℕ) (x : Session) → i < length sessions → x ≡ get_or sessions i x
     → length (log_lines (map view (take i sessions))) + length (session_lines (view x)) ≤ length (log_lines (map view sessions))
@@ -193,7 +181,7 @@ write_beyond n sessions keys key wid i line x w h is b r at =
       written = r.written;
       session = x;
       txn = r.txn;
-      among = ap (λ k. slice_get sessions k) at ∙ item_at sessions i x h ∙ ap (λ y. Some y) (sym is);
+      among = ap (λ k. slice_get sessions k) at ∙ slice_get-get_or sessions i x h ∙ ap (λ y. Some y) (sym is);
       stands = r.stands;
       write = record {
         begins = record {

@@ -1,4 +1,5 @@
 pub mod Anomalies
+pub mod Crossed
 pub mod Edges
 pub mod Events
 pub mod Reasons

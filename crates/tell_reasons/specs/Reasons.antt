@@ -64,10 +64,13 @@ op_wid (Some (Write key wid)) = wid
 abbrev pub key_bytes : List ClientSession → ℕ → List ℕ
 key_bytes ss x = unwrap_or (slice_get (keys_in ss) x) []
 
--- node v reads this, in its line
-abbrev pub reads_text : PlacedHistory → ℕ → ℕ → List ℕ
-reads_text log v i = named log v ++ codes " reads " ++ key_and_wid (op_at log.history.now v i)
+-- node v does this, in its line
+abbrev pub does_text : PlacedHistory → ℕ → List ℕ → ℕ → List ℕ
+does_text log v does i = named log v ++ does ++ key_and_wid (op_at log.history.now v i)
     ++ op_in_line log v i
+
+abbrev pub reads_text : PlacedHistory → ℕ → ℕ → List ℕ
+reads_text log v i = does_text log v (codes " reads ") i
 
 -- whether an operation names the initial value itself, or what stands behind it
 abbrev pub origin_text : Option Op → List ℕ

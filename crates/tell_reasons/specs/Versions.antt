@@ -5,7 +5,7 @@ use Rattle.session_log.specs.Text.{ClientSession}
 use Rattle.log_definitions.specs.Numbers.{log_of}
 use Rattle.tell_reasons.specs.Events.{is_write_in, is_read_in}
 use Rattle.tell_reasons.specs.Reasons.{named, key_bytes, op_at, op_wid, wid_text, op_in_line}
-use Rattle.tell_reasons.specs.Reasons.{key_and_wid, reads_text}
+use Rattle.tell_reasons.specs.Reasons.{does_text, reads_text}
 use Rattle.tell_reasons.specs.Anomalies.{last_position}
 use Rattle.tell_reasons.specs.declared.why.ChainOrder.{ChainOrder}
 use Rattle.log_lines.specs.declared.placed.PlacedHistory.{PlacedHistory}
@@ -38,8 +38,7 @@ version_text log x v = version_at log v (left_at log.history.now x v)
 
 -- that a node wrote this: `1.7 wrote k27 9001 (line 32)`
 abbrev pub write_text : PlacedHistory → ℕ → ℕ → List ℕ
-write_text log v i =
-    named log v ++ codes " wrote " ++ key_and_wid (op_at log.history.now v i) ++ op_in_line log v i
+write_text log v i = does_text log v (codes " wrote ") i
 
 abbrev pub back_text : ℕ → List ℕ
 back_text version = codes ", which goes back to " ++ decimal version
@@ -71,18 +70,28 @@ versions_text log o =
     key_bytes log.history.now o.key ++ codes ": " ++ version_text log o.key o.first
     ++ codes ", comes before " ++ version_text log o.key o.second
 
--- the same between two commas
-abbrev pub aside_text : ℕ → ℕ → List ℕ
-aside_text wid version = if wid == version then [] else back_text version ++ codes ","
+-- `    if 20 came first, `
+abbrev pub if_text : ℕ → List ℕ
+if_text version = codes "    if " ++ decimal version ++ codes " came first, "
+
+-- `14.1, which reads 20 (line 68)`
+abbrev pub other_text : PlacedHistory → ℕ → ℕ → ℕ → List ℕ
+other_text log version u i =
+    named log u ++ codes ", which reads " ++ wid_text (op_at log.history.now u i)
+    ++ op_in_line log u i ++ behind_text (op_wid (op_at log.history.now u i)) version
+
+-- `, would come before 11.1, but 11.1 comes before 14.1:`
+abbrev pub would_text : PlacedHistory → ℕ → ℕ → List ℕ
+would_text log u v =
+    (codes ", would come before " ++ named log v) ++ (codes ", but " ++ named log v)
+    ++ (codes " comes before " ++ named log u) ++ codes ":\n"
 
 -- why one of two versions of a key comes first: u reads the other one, and comes after v. Nothing,
--- where u reads neither: `    since 14.1 reads 20 (line 68) and comes after 11.1:`
+-- where u reads neither
 abbrev pub since_at : PlacedHistory → ℕ → ℕ → ℕ → Option ℕ → List ℕ
 since_at log version u v None = []
 since_at log version u v (Some i) =
-    codes "    since " ++ named log u ++ codes " reads " ++ wid_text (op_at log.history.now u i)
-    ++ op_in_line log u i ++ aside_text (op_wid (op_at log.history.now u i)) version
-    ++ codes " and comes after " ++ named log v ++ codes ":\n"
+    (if_text version ++ other_text log version u i) ++ would_text log u v
 
 abbrev pub since_text : PlacedHistory → ChainOrder → ℕ → ℕ → List ℕ
 since_text log o u v = since_at log (version_of log.history.now o.key o.second) u v

@@ -15,7 +15,7 @@ ghost use Rattle.tell_reasons.specs.Anomalies.{IsReadTold, IsBadReadTold, IsUpda
 ghost use Rattle.tell_reasons.specs.Anomalies.{IsAnomalyTold, IsDoneTold, IsBeforeTold};
 
 use crate::pieces::{
-    key_at, line_of, op_count, put_key_and_wid, put_named, put_op_in_line, put_reads, put_wid,
+    key_at, line_of, op_count, put_does, put_key_and_wid, put_named, put_op_in_line, put_wid,
     wid_at,
 };
 use crate::places::{first_read, last_write, other_read};
@@ -25,45 +25,43 @@ use serializability::{Anomaly, NodeIx};
 use session_history::History;
 use std::alloc::AllocError;
 
-/// Appends the rest of the line of a read, of which nothing is said before: who wrote what it
-/// names.
-fn put_source(
-    out: &mut Vec<u8>,
-    log: &PlacedHistory<'_>,
+/// An operation of a node; operations count from 0.
+#[derive(Clone, Copy)]
+struct OpAt {
     node: NodeIx,
     op: usize,
-) -> Result<(), AllocError>
-    requires op { op < length (ops_of log.now.history.now node) }
-    requires read { IsRead (op_at log.now.history.now node op) }
+}
+
+/// Appends the rest of the line of a read, of which nothing is said before: who wrote what it
+/// names.
+fn put_source(out: &mut Vec<u8>, log: &PlacedHistory<'_>, at: OpAt) -> Result<(), AllocError>
+    requires op { at.op < length (ops_of log.now.history.now at.node) }
+    requires read { IsRead (op_at log.now.history.now at.node at.op) }
     ensures told { OnOk result (Appends out.old.items out.new.items
-        (IsReadTold log.now node op [])) }
+        (IsReadTold log.now at.node at.op [])) }
 {
-    let line = line_of(log, node, op);
-    let key = key_at(log.history, node, op);
-    let wid = wid_at(log.history, node, op);
+    let line = line_of(log, at.node, at.op);
+    let key = key_at(log.history, at.node, at.op);
+    let wid = wid_at(log.history, at.node, at.op);
     put_writer(out, log.first, log.history.sessions(), line, key, wid)?;
     put_text(out, b"\n")?;
     Ok(())
 }
 
 /// Appends the line of a read: what it names, and who wrote that.
-fn put_read(
-    out: &mut Vec<u8>,
-    log: &PlacedHistory<'_>,
-    node: NodeIx,
-    op: usize,
-) -> Result<(), AllocError>
-    requires op { op < length (ops_of log.now.history.now node) }
-    requires read { IsRead (op_at log.now.history.now node op) }
+fn put_read(out: &mut Vec<u8>, log: &PlacedHistory<'_>, at: OpAt) -> Result<(), AllocError>
+    requires op { at.op < length (ops_of log.now.history.now at.node) }
+    requires read { IsRead (op_at log.now.history.now at.node at.op) }
     ensures told { OnOk result (Appends out.old.items out.new.items
-        (IsReadTold log.now node op (reads_text log.now node op))) }
+        (IsReadTold log.now at.node at.op (reads_text log.now at.node at.op))) }
 {
-    put_reads(out, log, node, op)?;
-    put_source(out, log, node, op)?;
+    put_does(out, log, at.node, b" reads ", at.op)?;
+    put_source(out, log, at)?;
     Ok(())
 }
 
 /// Appends what a transaction did.
+#[tactic(auto, using(crate::proofs::Begun::op_within))]
 fn put_did(
     out: &mut Vec<u8>,
     log: &PlacedHistory<'_>,
@@ -98,35 +96,25 @@ fn put_done(
 }
 
 /// Appends the line of an earlier write.
-fn put_earlier_write(
-    out: &mut Vec<u8>,
-    log: &PlacedHistory<'_>,
-    node: NodeIx,
-    op: usize,
-) -> Result<(), AllocError>
-    requires op { op < length (ops_of log.now.history.now node) }
+fn put_earlier_write(out: &mut Vec<u8>, log: &PlacedHistory<'_>, at: OpAt) -> Result<(), AllocError>
+    requires op { at.op < length (ops_of log.now.history.now at.node) }
     ensures text { OnOk result (out.new.items ≡ out.old.items
-        ++ (did_text log.now node (codes " wrote ") op ++ 10 ∷ [])) }
+        ++ (did_text log.now at.node (codes " wrote ") at.op ++ 10 ∷ [])) }
 {
-    put_done(out, log, node, b" wrote ", op)?;
+    put_done(out, log, at.node, b" wrote ", at.op)?;
     out.push(b'\n')?;
     Ok(())
 }
 
 /// Appends the line of an earlier read, and who wrote what it names.
-fn put_earlier_read(
-    out: &mut Vec<u8>,
-    log: &PlacedHistory<'_>,
-    node: NodeIx,
-    op: usize,
-) -> Result<(), AllocError>
-    requires op { op < length (ops_of log.now.history.now node) }
-    requires read { IsRead (op_at log.now.history.now node op) }
+fn put_earlier_read(out: &mut Vec<u8>, log: &PlacedHistory<'_>, at: OpAt) -> Result<(), AllocError>
+    requires op { at.op < length (ops_of log.now.history.now at.node) }
+    requires read { IsRead (op_at log.now.history.now at.node at.op) }
     ensures told { OnOk result (Appends out.old.items out.new.items
-        (IsReadTold log.now node op (did_text log.now node (codes " read ") op))) }
+        (IsReadTold log.now at.node at.op (did_text log.now at.node (codes " read ") at.op))) }
 {
-    put_done(out, log, node, b" read ", op)?;
-    put_source(out, log, node, op)?;
+    put_done(out, log, at.node, b" read ", at.op)?;
+    put_source(out, log, at)?;
     Ok(())
 }
 
@@ -145,29 +133,24 @@ fn put_done_before(
         (IsDoneTold log.now node write read)) }
 {
     match write {
-        Some(write) => put_earlier_write(out, log, node, write),
+        Some(write) => put_earlier_write(out, log, OpAt { node, op: write }),
         None => match read {
-            Some(read) => put_earlier_read(out, log, node, read),
+            Some(read) => put_earlier_read(out, log, OpAt { node, op: read }),
             None => Ok(()),
         },
     }
 }
 
 /// Appends what a transaction did with the key before its read.
-fn put_before_read(
-    out: &mut Vec<u8>,
-    log: &PlacedHistory<'_>,
-    node: NodeIx,
-    op: usize,
-) -> Result<(), AllocError>
-    requires op { op < length (ops_of log.now.history.now node) }
-    ensures told { let read = op_at log.now.history.now node op in
+fn put_before_read(out: &mut Vec<u8>, log: &PlacedHistory<'_>, at: OpAt) -> Result<(), AllocError>
+    requires op { at.op < length (ops_of log.now.history.now at.node) }
+    ensures told { let read = op_at log.now.history.now at.node at.op in
         OnOk result (Appends out.old.items out.new.items
-        (IsBeforeTold log.now node op (key_text read) (op_wid read))) }
+        (IsBeforeTold log.now at.node at.op (key_text read) (op_wid read))) }
 {
-    let write = last_write(log.history, node, op, op);
-    let read = other_read(log.history, node, op);
-    put_done_before(out, log, node, write, read)
+    let write = last_write(log.history, at.node, at.op, at.op);
+    let read = other_read(log.history, at.node, at.op);
+    put_done_before(out, log, at.node, write, read)
 }
 
 /// Appends the lines of a read that is an anomaly.
@@ -182,27 +165,24 @@ fn put_bad_read(
     ensures told { OnOk result (Appends out.old.items out.new.items
         (IsBadReadTold log.now node op)) }
 {
-    put_read(out, log, node, op)?;
-    put_before_read(out, log, node, op)?;
+    put_read(out, log, OpAt { node, op })?;
+    put_before_read(out, log, OpAt { node, op })?;
     Ok(())
 }
 
 /// Appends that a transaction overwrites what it read.
-fn put_overwrites(
-    out: &mut Vec<u8>,
-    log: &PlacedHistory<'_>,
-    node: NodeIx,
-    op: usize,
-) -> Result<(), AllocError>
-    requires op { op < length (ops_of log.now.history.now node) }
+#[tactic(auto, using(crate::proofs::Begun::op_within))]
+fn put_overwrites(out: &mut Vec<u8>, log: &PlacedHistory<'_>, at: OpAt) -> Result<(), AllocError>
+    requires op { at.op < length (ops_of log.now.history.now at.node) }
     ensures text { OnOk result (out.new.items ≡ out.old.items
-        ++ (named log.now node ++ codes " overwrites it with "
-        ++ wid_text (op_at log.now.history.now node op) ++ op_in_line log.now node op ++ 10 ∷ [])) }
+        ++ (named log.now at.node ++ codes " overwrites it with "
+        ++ wid_text (op_at log.now.history.now at.node at.op)
+        ++ op_in_line log.now at.node at.op ++ 10 ∷ [])) }
 {
-    put_named(out, b"", log, node)?;
+    put_named(out, b"", log, at.node)?;
     out.extend_from_slice(b" overwrites it with ")?;
-    put_wid(out, log.history, node, op)?;
-    put_op_in_line(out, log, node, op)?;
+    put_wid(out, log.history, at.node, at.op)?;
+    put_op_in_line(out, log, at.node, at.op)?;
     out.push(b'\n')?;
     Ok(())
 }
@@ -245,8 +225,8 @@ fn put_update(
 {
     let read = update_read(log.history, node, key);
     let write = update_write(log.history, node, key, read);
-    put_read(out, log, node, read)?;
-    put_overwrites(out, log, node, write)?;
+    put_read(out, log, OpAt { node, op: read })?;
+    put_overwrites(out, log, OpAt { node, op: write })?;
     Ok(())
 }
 

@@ -1,7 +1,7 @@
 //! Why one node stands before another, in a line.
 
 ghost use Rattle.std.specs.Prelude.{◌≡◌, ◌+◌, ◌<◌, ◌≤◌, ◌^◌, ◌++◌, length, decimal, codes, OnOk};
-ghost use Rattle.std.specs.Prelude.{unwrap_or};
+ghost use Rattle.std.specs.Prelude.{unwrap_or, IfSome, Some};
 ghost use Rattle.reason_laws.specs.Reasons.{IsNode, IsReadBy, IsOverwrittenBy, IsOfInitialBefore};
 ghost use Rattle.reason_laws.specs.Reasons.{EndsBefore};
 ghost use Rattle.reasons.specs.Given.{IsReason};
@@ -11,14 +11,15 @@ ghost use Rattle.log_definitions.specs.Numbers.{log_of};
 ghost use Rattle.log_lines.specs.Placed.{begin_in};
 ghost use Rattle.tell_reasons.specs.Reasons.{before_text, reason_text, origin_text, CanTell};
 ghost use Rattle.tell_reasons.specs.Reasons.{end_in_line, in_line, op_at};
-ghost use Rattle.tell_reasons.specs.Edges.{why_text, comes_text, by_step, supposed};
+ghost use Rattle.tell_reasons.specs.Edges.{why_text, comes_text, comes_by};
 
 use crate::pieces::{
-    begin_of, end_of, put_in_line, put_key_and_wid, put_named, put_number, put_op_in_line,
-    put_reads, put_wid, wid_at,
+    begin_of, end_of, put_does, put_in_line, put_key_and_wid, put_named, put_number,
+    put_op_in_line, put_wid, wid_at,
 };
 use crate::versions::{put_held, put_version};
 use crate::why::{ChainOrder, Why};
+use crate::writers::put_text;
 use log_lines::PlacedHistory;
 use reasons::Reason;
 use serializability::NodeIx;
@@ -53,6 +54,7 @@ fn put_session(out: &mut Vec<u8>, history: &History, a: NodeIx) -> Result<(), Al
 }
 
 /// Appends that `b` reads what `a` wrote.
+#[tactic(auto, using(reason_laws::proofs::Numbers::within, crate::proofs::Ops::op_below))]
 fn put_read(
     out: &mut Vec<u8>,
     log: &PlacedHistory<'_>,
@@ -65,13 +67,14 @@ fn put_read(
     ensures text { OnOk result (out.new.items ≡ out.old.items
         ++ reason_text log.now a b (kind.Read written read)) }
 {
-    put_reads(out, log, b, read)?;
+    put_does(out, log, b, b" reads ", read)?;
     put_named(out, b", which ", log, a)?;
     out.extend_from_slice(b" wrote")?;
     put_op_in_line(out, log, a, written)
 }
 
 /// Appends that `b` overwrites what both read.
+#[tactic(auto, using(reason_laws::proofs::Numbers::within, crate::proofs::Ops::op_below))]
 fn put_overwritten(
     out: &mut Vec<u8>,
     log: &PlacedHistory<'_>,
@@ -84,7 +87,7 @@ fn put_overwritten(
     ensures text { OnOk result (out.new.items ≡ out.old.items
         ++ reason_text log.now a b (kind.Overwritten read overwrites)) }
 {
-    put_reads(out, log, a, read)?;
+    put_does(out, log, a, b" reads ", read)?;
     put_named(out, b", and ", log, b)?;
     out.extend_from_slice(b" overwrites it with ")?;
     put_wid(out, log.history, b, overwrites)?;
@@ -111,6 +114,7 @@ fn put_origin(
 }
 
 /// Appends that `a` reads a key's initial value, or what stands behind it, and `b` wrote the key.
+#[tactic(auto, using(reason_laws::proofs::Numbers::within, crate::proofs::Ops::op_below))]
 fn put_initial(
     out: &mut Vec<u8>,
     log: &PlacedHistory<'_>,
@@ -123,7 +127,7 @@ fn put_initial(
     ensures text { OnOk result (out.new.items ≡ out.old.items
         ++ reason_text log.now a b (kind.Initial read write)) }
 {
-    put_reads(out, log, a, read)?;
+    put_does(out, log, a, b" reads ", read)?;
     put_origin(out, log.history, a, read)?;
     put_named(out, b", and ", log, b)?;
     out.extend_from_slice(b" wrote ")?;
@@ -153,6 +157,7 @@ fn put_begun(out: &mut Vec<u8>, log: &PlacedHistory<'_>, b: NodeIx) -> Result<()
 }
 
 /// Appends that `a` ended before `b` began.
+#[tactic(auto, using(reason_laws::proofs::Numbers::within))]
 fn put_moments(
     out: &mut Vec<u8>,
     log: &PlacedHistory<'_>,
@@ -199,7 +204,7 @@ fn put_reason(
 /// Appends by which forced step a version comes first; steps count from 1 in a text.
 fn put_by_step(out: &mut Vec<u8>, step: usize) -> Result<(), AllocError>
     requires { step + 1 < 2 ^ 64 }
-    ensures text { OnOk result (out.new.items ≡ out.old.items ++ by_step step) }
+    ensures text { OnOk result (out.new.items ≡ out.old.items ++ comes_by (Some step)) }
 {
     out.extend_from_slice(b", which by [")?;
     put_number(out, step as u64 + 1)?;
@@ -207,45 +212,36 @@ fn put_by_step(out: &mut Vec<u8>, step: usize) -> Result<(), AllocError>
     Ok(())
 }
 
-/// Appends what `a` has of a key, and that a forced step puts it before what `b` wrote of it, and
-/// ends the line.
-fn put_forced(
-    out: &mut Vec<u8>,
-    log: &PlacedHistory<'_>,
-    order: ChainOrder,
-    a: NodeIx,
-    b: NodeIx,
-    step: usize,
-) -> Result<(), AllocError>
-    requires first { IsNode log.now.history.now a }
-    requires second { IsNode log.now.history.now b }
-    requires step { step + 1 < 2 ^ 64 }
-    ensures text { OnOk result (out.new.items ≡ out.old.items
-        ++ comes_text log.now order a b (by_step step)) }
+/// Appends by which forced step a version comes first, or that it is supposed to.
+fn put_comes_by(out: &mut Vec<u8>, step: Option<usize>) -> Result<(), AllocError>
+    requires { IfSome step (λ k. k + 1 < 2 ^ 64) }
+    ensures text { OnOk result (out.new.items ≡ out.old.items ++ comes_by step) }
 {
-    put_held(out, log, order.key, order.first, a)?;
-    put_by_step(out, step)?;
-    put_version(out, log, order.key, b)?;
-    out.extend_from_slice(b"\n")?;
-    Ok(())
+    match step {
+        Some(step) => put_by_step(out, step),
+        None => put_text(out, b", which is supposed to come before "),
+    }
 }
 
-/// Appends what `a` has of a key, and that it is supposed to come before what `b` wrote of it, and
-/// ends the line.
-fn put_chosen(
+/// Appends what `a` has of a key, and that a forced step puts it before what `b` wrote of it, or
+/// that it is supposed to come before that, and ends the line.
+#[tactic(auto, using(reason_laws::proofs::Numbers::within))]
+fn put_comes(
     out: &mut Vec<u8>,
     log: &PlacedHistory<'_>,
     order: ChainOrder,
     a: NodeIx,
     b: NodeIx,
+    step: Option<usize>,
 ) -> Result<(), AllocError>
     requires first { IsNode log.now.history.now a }
     requires second { IsNode log.now.history.now b }
+    requires step { IfSome step (λ k. k + 1 < 2 ^ 64) }
     ensures text { OnOk result (out.new.items ≡ out.old.items
-        ++ comes_text log.now order a b supposed) }
+        ++ comes_text log.now order a b step) }
 {
     put_held(out, log, order.key, order.first, a)?;
-    out.extend_from_slice(b", which is supposed to come before ")?;
+    put_comes_by(out, step)?;
     put_version(out, log, order.key, b)?;
     out.extend_from_slice(b"\n")?;
     Ok(())
@@ -273,7 +269,7 @@ pub fn put_edge(
             out.push(b'\n')?;
             Ok(())
         }
-        Why::Forced { step, order } => put_forced(out, log, order, a, b, step),
-        Why::Chosen(order) => put_chosen(out, log, order, a, b),
+        Why::Forced { step, order } => put_comes(out, log, order, a, b, Some(step)),
+        Why::Chosen(order) => put_comes(out, log, order, a, b, None),
     }
 }

@@ -4,6 +4,7 @@
 #![tactic(auto)]
 
 mod anomalies;
+mod crossed;
 mod edge;
 mod pieces;
 mod places;
@@ -13,6 +14,7 @@ mod writers;
 mod writes;
 
 pub use anomalies::put_anomaly;
+pub use crossed::put_crossing;
 pub use edge::put_edge;
 pub use pieces::{put_key, put_key_and_wid, put_named, put_number, put_op_in_line};
 pub use versions::{left_at, put_since, put_versions};

@@ -10,7 +10,7 @@ ghost use Rattle.session_history.specs.Rows.{event_key};
 ghost use Rattle.tell_reasons.specs.Events.{event_wid};
 ghost use Rattle.tell_reasons.specs.Reasons as spec;
 ghost use Rattle.tell_reasons.specs.Reasons.{named, in_line, op_at, op_in_line, op_wid};
-ghost use Rattle.tell_reasons.specs.Reasons.{key_and_wid, reads_text};
+ghost use Rattle.tell_reasons.specs.Reasons.{key_and_wid, does_text};
 
 use itoa::Buffer;
 use log_lines::PlacedHistory;
@@ -53,6 +53,7 @@ pub fn put_in_line(out: &mut Vec<u8>, line: usize) -> Result<(), AllocError>
 }
 
 /// The line at which a node begins.
+#[tactic(auto, using(crate::proofs::Begun::begin_listed))]
 pub fn begin_of(log: &PlacedHistory<'_>, node: NodeIx) -> usize
     requires node { IsNode log.now.history.now node }
     ensures line { result ≡ begin_in log.now node }
@@ -61,6 +62,7 @@ pub fn begin_of(log: &PlacedHistory<'_>, node: NodeIx) -> usize
 }
 
 /// The line of an operation of a node.
+#[tactic(auto, using(crate::proofs::Begun::has_op, crate::proofs::Begun::line_fits))]
 pub fn line_of(log: &PlacedHistory<'_>, node: NodeIx, op: usize) -> usize
     requires op { op < length (ops_of log.now.history.now node) }
     ensures line { result ≡ begin_in log.now node + 1 + op }
@@ -100,6 +102,7 @@ pub fn wid_of(event: Event) -> u64
 }
 
 /// How many operations a node has.
+#[tactic(auto, using(crate::proofs::Ops::event_count))]
 pub fn op_count(history: &History, node: NodeIx) -> usize
     ensures count { result ≡ length (ops_of history.now node) }
 {
@@ -107,6 +110,7 @@ pub fn op_count(history: &History, node: NodeIx) -> usize
 }
 
 /// The line that ends a node.
+#[tactic(auto, using(crate::proofs::Begun::line_fits))]
 pub fn end_of(log: &PlacedHistory<'_>, node: NodeIx) -> usize
     requires node { IsNode log.now.history.now node }
     ensures line { result ≡ begin_in log.now node + 1 + length (ops_of log.now.history.now node) }
@@ -116,6 +120,7 @@ pub fn end_of(log: &PlacedHistory<'_>, node: NodeIx) -> usize
 }
 
 /// An operation of a node.
+#[tactic(auto, using(crate::proofs::Ops::event_count))]
 pub fn event_at(history: &History, node: NodeIx, op: usize) -> Event
     requires op { op < length (ops_of history.now node) }
     ensures event { slice_get ((log_of history.now).ops node) op ≡ Some result }
@@ -124,6 +129,7 @@ pub fn event_at(history: &History, node: NodeIx, op: usize) -> Event
 }
 
 /// The bytes of the key of an operation.
+#[tactic(auto, using(reasons::proofs::Ops::key_below))]
 pub fn key_at(history: &History, node: NodeIx, op: usize) -> &[u8]
     requires op { op < length (ops_of history.now node) }
     ensures bytes { result.now ≡ spec.key_text (op_at history.now node op) }
@@ -134,6 +140,7 @@ pub fn key_at(history: &History, node: NodeIx, op: usize) -> &[u8]
 }
 
 /// The identity that an operation names.
+#[tactic(auto, using(crate::proofs::Ops::wid_told, crate::proofs::Ops::wid_is))]
 pub fn wid_at(history: &History, node: NodeIx, op: usize) -> u64
     requires op { op < length (ops_of history.now node) }
     ensures text { decimal result ≡ spec.wid_text (op_at history.now node op) }
@@ -181,18 +188,21 @@ pub fn put_key_and_wid(
     put_wid(out, history, node, op)
 }
 
-/// Appends what a node reads, as `2.1 reads x 7 (line 12)`.
-pub fn put_reads(
+/// Appends what a node does, as `2.1 reads x 7 (line 12)`.
+#[tactic(auto, using(crate::proofs::Begun::op_within))]
+pub fn put_does(
     out: &mut Vec<u8>,
     log: &PlacedHistory<'_>,
     node: NodeIx,
+    does: &[u8],
     op: usize,
 ) -> Result<(), AllocError>
     requires op { op < length (ops_of log.now.history.now node) }
-    ensures text { OnOk result (out.new.items ≡ out.old.items ++ reads_text log.now node op) }
+    ensures text { OnOk result (out.new.items
+        ≡ out.old.items ++ does_text log.now node does.now op) }
 {
     put_named(out, b"", log, node)?;
-    out.extend_from_slice(b" reads ")?;
+    out.extend_from_slice(does)?;
     put_key_and_wid(out, log.history, node, op)?;
     put_op_in_line(out, log, node, op)
 }

@@ -86,6 +86,7 @@ fn front(events: &[Event], count: usize) -> &[Event]
 }
 
 /// The first `count` operations of a node.
+#[tactic(auto, using(crate::proofs::Ops::event_count))]
 fn events_before(history: &History, node: NodeIx, count: usize) -> &[Event]
     requires count { count ≤ length (ops_of history.now node) }
     ensures before { result.now ≡ take count ((log_of history.now).ops node) }

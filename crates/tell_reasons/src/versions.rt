@@ -6,12 +6,10 @@ ghost use Rattle.log_definitions.specs.Serial.{ops_of};
 ghost use Rattle.log_definitions.specs.Numbers.{log_of};
 ghost use Rattle.tell_reasons.specs.Versions as spec;
 ghost use Rattle.tell_reasons.specs.Versions.{version_at, version_text, versions_text, back_text};
-ghost use Rattle.tell_reasons.specs.Versions.{behind_text, aside_text, since_at, since_text};
-ghost use Rattle.tell_reasons.specs.Versions.{write_text, had_at, held_text};
+ghost use Rattle.tell_reasons.specs.Versions.{behind_text, if_text, other_text, would_text};
+ghost use Rattle.tell_reasons.specs.Versions.{since_at, since_text, had_at, held_text};
 
-use crate::pieces::{
-    put_key, put_key_and_wid, put_named, put_number, put_op_in_line, put_reads, put_wid, wid_at,
-};
+use crate::pieces::{put_does, put_key, put_named, put_number, put_op_in_line, put_wid, wid_at};
 use crate::places::{first_read_among, last_among};
 use crate::why::ChainOrder;
 use log_lines::PlacedHistory;
@@ -36,6 +34,7 @@ fn read_at(history: &History, key: usize, node: NodeIx) -> Option<usize>
 }
 
 /// Appends the identity of a write, and who wrote it.
+#[tactic(auto, using(crate::proofs::Begun::op_within))]
 fn put_version_at(
     out: &mut Vec<u8>,
     log: &PlacedHistory<'_>,
@@ -66,22 +65,6 @@ pub fn put_version(
         Some(op) => put_version_at(out, log, node, op),
         None => put_named(out, b"", log, node),
     }
-}
-
-/// Appends what a node wrote, as `1.7 wrote k27 9001 (line 32)`.
-fn put_write(
-    out: &mut Vec<u8>,
-    log: &PlacedHistory<'_>,
-    node: NodeIx,
-    op: usize,
-) -> Result<(), AllocError>
-    requires op { op < length (ops_of log.now.history.now node) }
-    ensures text { OnOk result (out.new.items ≡ out.old.items ++ write_text log.now node op) }
-{
-    put_named(out, b"", log, node)?;
-    out.extend_from_slice(b" wrote ")?;
-    put_key_and_wid(out, log.history, node, op)?;
-    put_op_in_line(out, log, node, op)
 }
 
 /// The identity of the version of a key that a node leaves.
@@ -115,6 +98,7 @@ fn put_behind(out: &mut Vec<u8>, wid: u64, version: u64) -> Result<(), AllocErro
 
 /// Appends a node's first read of a key, and to which version that goes back, as `9.16 reads k1
 /// 16013 (line 1193), which goes back to 16009`.
+#[tactic(auto, using(reason_laws::proofs::Numbers::within))]
 fn put_had(
     out: &mut Vec<u8>,
     log: &PlacedHistory<'_>,
@@ -128,7 +112,7 @@ fn put_had(
 {
     match read_at(log.history, key, node) {
         Some(op) => {
-            put_reads(out, log, node, op)?;
+            put_does(out, log, node, b" reads ", op)?;
             put_behind(out, wid_at(log.history, node, op), version)
         }
         None => put_named(out, b"", log, node),
@@ -150,7 +134,7 @@ pub fn put_held(
     let version = version_of(log.history, key, head);
     match left_at(log.history, key, node) {
         Some(op) => {
-            put_write(out, log, node, op)?;
+            put_does(out, log, node, b" wrote ", op)?;
             put_behind(out, wid_at(log.history, node, op), version)
         }
         None => put_had(out, log, version, key, node),
@@ -176,20 +160,59 @@ pub fn put_versions(
     put_version(out, log, order.key, order.second)
 }
 
-/// Appends to which version another goes back, between two commas.
-fn put_aside(out: &mut Vec<u8>, wid: u64, version: u64) -> Result<(), AllocError>
-    ensures text { OnOk result (out.new.items ≡ out.old.items ++ aside_text wid version) }
+/// Appends what is to be ruled out, as `    if 20 came first, `.
+fn put_if(out: &mut Vec<u8>, version: u64) -> Result<(), AllocError>
+    ensures text { OnOk result (out.new.items ≡ out.old.items ++ if_text version) }
 {
-    if wid == version {
-        Ok(())
-    } else {
-        put_back(out, version)?;
-        out.extend_from_slice(b",")
-    }
+    out.extend_from_slice(b"    if ")?;
+    put_number(out, version)?;
+    out.extend_from_slice(b" came first, ")?;
+    Ok(())
 }
 
-/// Appends that a node reads this, and behind whom it comes, as `    since 14.1 reads 20 (line 68)
-/// and comes after 11.1:`.
+/// Appends who reads that version, or one that goes back to it, as `14.1, which reads 20 (line
+/// 68)`.
+#[tactic(auto, using(crate::proofs::Begun::op_within))]
+fn put_other(
+    out: &mut Vec<u8>,
+    log: &PlacedHistory<'_>,
+    version: u64,
+    node: NodeIx,
+    op: usize,
+) -> Result<(), AllocError>
+    requires op { op < length (ops_of log.now.history.now node) }
+    ensures text { OnOk result (out.new.items ≡ out.old.items
+        ++ other_text log.now version node op) }
+{
+    put_named(out, b"", log, node)?;
+    out.extend_from_slice(b", which reads ")?;
+    put_wid(out, log.history, node, op)?;
+    put_op_in_line(out, log, node, op)?;
+    put_behind(out, wid_at(log.history, node, op), version)
+}
+
+/// Appends what would follow, and what does, as `, would come before 11.1, but 11.1 comes before
+/// 14.1:`.
+fn put_would(
+    out: &mut Vec<u8>,
+    log: &PlacedHistory<'_>,
+    source: NodeIx,
+    target: NodeIx,
+) -> Result<(), AllocError>
+    requires source { source ≤ (log_of log.now.history.now).nodes }
+    requires target { target ≤ (log_of log.now.history.now).nodes }
+    ensures text { OnOk result (out.new.items
+        ≡ out.old.items ++ would_text log.now source target) }
+{
+    put_named(out, b", would come before ", log, target)?;
+    put_named(out, b", but ", log, target)?;
+    put_named(out, b" comes before ", log, source)?;
+    out.extend_from_slice(b":\n")?;
+    Ok(())
+}
+
+/// Appends why the version of this identity comes second: `source` reads it, and comes after
+/// `target`.
 fn put_since_at(
     out: &mut Vec<u8>,
     log: &PlacedHistory<'_>,
@@ -198,19 +221,15 @@ fn put_since_at(
     target: NodeIx,
     op: usize,
 ) -> Result<(), AllocError>
+    requires source { source ≤ (log_of log.now.history.now).nodes }
     requires target { target ≤ (log_of log.now.history.now).nodes }
     requires op { op < length (ops_of log.now.history.now source) }
     ensures text { OnOk result (out.new.items ≡ out.old.items
         ++ since_at log.now version source target (Some op)) }
 {
-    put_named(out, b"    since ", log, source)?;
-    out.extend_from_slice(b" reads ")?;
-    put_wid(out, log.history, source, op)?;
-    put_op_in_line(out, log, source, op)?;
-    put_aside(out, wid_at(log.history, source, op), version)?;
-    put_named(out, b" and comes after ", log, target)?;
-    out.extend_from_slice(b":\n")?;
-    Ok(())
+    put_if(out, version)?;
+    put_other(out, log, version, source, op)?;
+    put_would(out, log, source, target)
 }
 
 /// Appends why the first of two versions of a key comes first: `source` reads the other one, and

@@ -8,23 +8,13 @@ use Rattle.std.specs.Prelude.{IfSome, IfNone}
 use Rattle.reasons.specs.Given.{IsReason, IsOfFirstKind, IsLeast, HaveNone}
 use Rattle.reasons.specs.declared.reason.Reason.{Reason}
 use Rattle.reasons.specs.declared.reason.Reason.TheVariants as reason
-use Rattle.tell_steps.specs.Firsts.{IsFound, cell, cells}
-use Rattle.tell_steps.specs.Lines.{IsGiven, IsAnswer, IsNoted, AreAnswers, IsEntry}
+use Rattle.tell_steps.specs.Firsts.{IsFound, cell}
+use Rattle.tell_steps.specs.Lines.{IsAnswer, IsNoted, AreAnswers, IsEntry}
 use Rattle.tell_steps.proofs.Places.{cell_within, cell_one}
 use Rattle.tell_steps.proofs.FirstSides.{Sides, not_none}
 
 abbrev pub Table : Type 0
 Table = List (Option (Option Reason))
-
-pub answers_none : (ss : List ClientSession) (k : ℕ) (table : Table) → k ≡ cells (log_of ss).nodes → length table ≡ k → ((c : ℕ) → c < k → get_or table c None ≡ None) → AreAnswers ss table
-answers_none ss k table e count blank = record {
-  count = count ∙ e;
-  each = λ a b ha hb.
-      (let n = (log_of ss).nodes in
-      let lt : cell n a b < k = omega (arith, e, cell_within n a b ha hb) in
-      let P : Option (Option Reason) → Type 0 = λ o. IsNoted ss a b o in
-      subst P (sym (blank (cell n a b) lt)) tt);
-}
 
 pub answers_more : (ss : List ClientSession) (table : Table) (a b : ℕ) (answer : Option Reason) → a ≤ (log_of ss).nodes → b ≤ (log_of ss).nodes → IsAnswer ss a b answer
     → AreAnswers ss table → AreAnswers ss (set table (cell (log_of ss).nodes a b) (Some answer))
@@ -67,9 +57,6 @@ reason_not_none ss a b (reason.Initial i j) h none = none.initial i j h
 reason_not_none ss a b reason.Moments h none = none.moments h
 
 -- ---- the first entry that keeps an edge which the log does not show
-pub entry_shown : (ss : List ClientSession) (sides : Sides) (a b : ℕ) (r : Reason) → IsGiven ss a b r → IsEntry ss sides a b None
-entry_shown ss sides a b r g = λ u. reason_not_none ss a b r g.holds u.none
-
 pub entry_found : (ss : List ClientSession) (sides : Sides) (a b : ℕ) (o : Option ℕ) → HaveNone ss a b → IsFound sides (a, b) o → IsEntry ss sides a b o
 entry_found ss sides a b None n f = λ u. not_none sides (length sides) (a, b) u.kept f
 entry_found ss sides a b (Some k) n f = (n, f)

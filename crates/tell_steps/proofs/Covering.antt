@@ -2,11 +2,10 @@
 use Rattle.std.proofs.Common.{◌≡◌, ◌⊎◌, ℕ, zero, suc, ◌+◌, ◌<◌, Bool, List, [], ◌∷◌, ◌++◌, length, get_or, Some, refl, sym, ap, ◌∙◌, subst, inl, inr, arith, Bor}
 use Rattle.std.specs.Prelude.{slice_get}
 use Rattle.std.specs.List.{All, Contains}
-use Rattle.std.proofs.lemmas.Option.{slice_get_within}
+use Rattle.std.proofs.lemmas.Option.{slice_get_within, slice_get-get_or, get_or_from_slice_get}
 use Rattle.std.proofs.lemmas.List.{length-map}
-use Rattle.std.proofs.lemmas.List.Elements.{All-nil, All-cons, All-push, All-weaker, All-contains, Contains-append_right}
+use Rattle.std.proofs.lemmas.List.Elements.{All-nil, All-cons, All-push, All-weaker, All-contains}
 use Rattle.reach_laws.specs.Reach.{Walk}
-use Rattle.reach_laws.proofs.Walks.{Contains-here}
 use Rattle.session_log.specs.Text.{ClientSession}
 use Rattle.serializability.specs.Polygraph.{Edge}
 use Rattle.serializability.specs.Reads.{IsClean}
@@ -20,7 +19,6 @@ use Rattle.prune_ledger.specs.Pruned as pruned
 use Rattle.prune_ledger.specs.declared.ledger.LedgerEntry.{LedgerEntry}
 use Rattle.tell_reasons.specs.declared.why.ChainOrder.{ChainOrder}
 use Rattle.tell_steps.specs.declared.item.Item.{Item}
-use Rattle.known_graph.proofs.Listed.{In, In-from_Contains}
 use Rattle.tell_steps.specs.Steps.{edges_in, IsOrder, IsFirstWith, NoStepHas, AreStepsTold, none, step}
 use Rattle.tell_steps.specs.Firsts.{HasSide, IsFirstIn, NoneHas}
 use Rattle.tell_steps.specs.View.{StepsView}
@@ -29,13 +27,11 @@ use Rattle.tell_steps.specs.Marks as marks
 use Rattle.tell_steps.specs.Ledgers.{AreEntries, kept_by}
 use Rattle.tell_steps.specs.Told.{AreTold}
 use Rattle.tell_steps.proofs.Ledgers.{Given, map_get, order_by, edge_leads, edge_rests, walk_end}
-use Rattle.tell_steps.proofs.Telling.{one_of}
+use Rattle.tell_steps.proofs.Places.{one_of}
 
 -- ---- places
 contains_get : {X : Type 0} (xs : List X) (k : ℕ) (x : X) → slice_get xs k ≡ Some x → Contains xs x
-contains_get [] k x e = absurd (cc)
-contains_get (y ∷ xs) zero x e = let same : x ≡ y = cc in let P : _ → Type 0 = λ z. Contains (y ∷ xs) z in subst P (sym same) (Contains-here y xs)
-contains_get (y ∷ xs) (suc k) x e = Contains-append_right (y ∷ []) xs x (contains_get xs k x e)
+contains_get xs k x e = (k, slice_get_within xs k x e, get_or_from_slice_get xs k x x e)
 
 front_at : (front back : List ℕ) (a b : ℕ) → get_or (front ++ a ∷ b ∷ back) (length front) 0 ≡ a
 front_at [] back a b = refl
@@ -147,17 +143,12 @@ first_step ss steps e k o here f =
 pub first_within : (ss : List ClientSession) (steps : List ChainOrder) (e : Edge) (k : ℕ) → IsFirstIn (sides_of ss steps) e k → k < length steps
 first_within ss steps e k f = let many = length-map steps (edges_in (log_of ss)) in omega (arith, many, slice_get_within (sides_of ss steps) k f.side f.at)
 
-get_in : {X : Type 0} (xs : List X) (x : X) → In x xs → (k : ℕ) × (slice_get xs k ≡ Some x)
-get_in [] x i = absurd i
-get_in (y ∷ ys) x (inl e) = (0, ap Some e)
-get_in (y ∷ ys) x (inr i) = let r = get_in ys x i in (suc r.0, r.1)
-
 pub no_step : (ss : List ClientSession) (steps : List ChainOrder) (e : Edge) → NoneHas (sides_of ss steps) e → NoStepHas (log_of ss) steps e
 no_step ss steps e n = record {
   none = λ o among c.
       (let log = log_of ss in
-      let r = get_in steps o (In-from_Contains steps o among) in
-      n.none r.0 (edges_in log o) (map_get (edges_in log) steps r.0 o r.1) c);
+      let at : slice_get steps among.0 ≡ Some o = slice_get-get_or steps among.0 o among.1 ∙ ap Some among.2 in
+      n.none among.0 (edges_in log o) (map_get (edges_in log) steps among.0 o at) c);
 }
 
 pub steps_covered : (ss : List ClientSession) (entries : List LedgerEntry) (kept : List ChainOrder) (posts : List Posted) (marked : List Bool) (numbers : List ℕ) (steps orders : List ChainOrder) (items : List Item) → IsClean (log_of ss) → kept ≡ kept_by ss entries → orders ≡ steps

@@ -1,5 +1,5 @@
 -- The first of several lists of edges that has an edge, as one more edge is put into the last of them.
-use Rattle.std.proofs.Common.{◌≡◌, ℕ, ◌+◌, ◌<◌, ◌≤◌, List, [], ◌∷◌, ◌++◌, length, get_or, set, take, Option, None, Some, refl, sym, ap, ◌∙◌, subst, inl, inr, arith}
+use Rattle.std.proofs.Common.{◌≡◌, ℕ, ◌+◌, ◌<◌, ◌≤◌, List, [], ◌∷◌, ◌++◌, length, get_or, set, take, Option, None, Some, sym, ap, ◌∙◌, subst, inl, inr, arith}
 use Rattle.std.specs.Prelude.{slice_get, map}
 use Rattle.std.specs.List.{All, Contains}
 use Rattle.std.specs.Option.{option_or}
@@ -8,15 +8,12 @@ use Rattle.std.proofs.lemmas.Option.{slice_get_within}
 use Rattle.std.proofs.lemmas.List.{get_or-set_same, get_or-set_other, length-set, map_more}
 use Rattle.std.proofs.lemmas.List.Elements.{Contains-append_left, Contains-push, Contains-push_cases}
 use Rattle.serializability.specs.Polygraph.{Edge}
-use Rattle.chain_laws.specs.Chains.{edges_to}
-use Rattle.tell_steps.specs.Firsts.{IsFirstIn, NoneHas, HasSide, IsFound, AreFirsts, cell, cells, noted_in}
-use Rattle.tell_steps.proofs.Places.{cell_within, cell_one, get_last, get_cases, get_kept}
+use Rattle.desk.proofs.Seating.{get_front, get_last}
+use Rattle.tell_steps.specs.Firsts.{IsFirstIn, NoneHas, HasSide, IsFound, AreFirsts, cell, noted_in}
+use Rattle.tell_steps.proofs.Places.{cell_within, cell_one, get_cases}
 
 abbrev pub Sides : Type 0
 Sides = List (List Edge)
-
-none_in : (e : Edge) → Contains [] e → ⊥
-none_in e c = omega (arith, c.1)
 
 one_first : (sides : Sides) (e : Edge) (j k : ℕ) → IsFirstIn sides e j → IsFirstIn sides e k → j < k → ⊥
 one_first sides e j k f g lt = g.first j f.side lt f.at f.within
@@ -40,37 +37,15 @@ first_below sides bound e k f h = elim (cases_lt h.number k) [
 pub not_none : (sides : Sides) (bound : ℕ) (e : Edge) → HasSide sides bound e → NoneHas sides e → ⊥
 not_none sides bound e h n = n.none h.number h.side h.at h.within
 
-pub found_some : (sides : Sides) (bound : ℕ) (e : Edge) (o : Option ℕ) → HasSide sides bound e → IsFound sides e o → (k : ℕ) × ((o ≡ Some k) × IsFirstIn sides e k)
-found_some sides bound e None h f = absurd (not_none sides bound e h f)
-found_some sides bound e (Some k) h f = (k, (refl, f))
-
--- ---- a list without an edge behind them
-pub found_empty : (sides : Sides) (e : Edge) (o : Option ℕ) → IsFound sides e o → IsFound (sides ++ [] ∷ []) e o
-found_empty sides e None f = record {
-  none = λ j side at c. elim (get_cases sides [] side j at) [
-    | inl a ↦ f.none j side a c
-    | inr b ↦ none_in e (let P : List Edge → Type 0 = λ s. Contains s e in subst P (sym b.1) c)
-  ];
-}
-found_empty sides e (Some k) f = record {
-  side = f.side;
-  at = get_kept sides [] f.side k f.at;
-  within = f.within;
-  first = λ j earlier lt at c. elim (get_cases sides [] earlier j at) [
-    | inl a ↦ f.first j earlier lt a c
-    | inr b ↦ none_in e (let P : List Edge → Type 0 = λ s. Contains s e in subst P (sym b.1) c)
-  ];
-}
-
 -- ---- one more edge in the last list
 first_more : (sides : Sides) (s : List Edge) (d e : Edge) (k : ℕ) → IsFirstIn (sides ++ s ∷ []) e k → IsFirstIn (sides ++ (s ++ d ∷ []) ∷ []) e k
 first_more sides s d e k f = elim (get_cases sides s f.side k f.at) [
   | inl a ↦ record {
     side = f.side;
-    at = get_kept sides (s ++ d ∷ []) f.side k a;
+    at = get_front sides ((s ++ d ∷ []) ∷ []) k f.side a;
     within = f.within;
     first = λ j earlier lt at c. elim (get_cases sides (s ++ d ∷ []) earlier j at) [
-      | inl b ↦ f.first j earlier lt (get_kept sides s earlier j b) c
+      | inl b ↦ f.first j earlier lt (get_front sides (s ∷ []) j earlier b) c
       | inr b ↦ (let below : k < length sides = slice_get_within sides k f.side a in absurd (omega (arith, b.0, below, lt)))
     ];
   }
@@ -79,7 +54,7 @@ first_more sides s d e k f = elim (get_cases sides s f.side k f.at) [
     at = (let P : ℕ → Type 0 = λ i. slice_get (sides ++ (s ++ d ∷ []) ∷ []) i ≡ Some (s ++ d ∷ []) in subst P (sym z.0) (get_last sides (s ++ d ∷ [])));
     within = Contains-append_left s (d ∷ []) e (let P : List Edge → Type 0 = λ l. Contains l e in subst P (sym z.1) f.within);
     first = λ j earlier lt at c. elim (get_cases sides (s ++ d ∷ []) earlier j at) [
-      | inl b ↦ f.first j earlier lt (get_kept sides s earlier j b) c
+      | inl b ↦ f.first j earlier lt (get_front sides (s ∷ []) j earlier b) c
       | inr b ↦ absurd (omega (arith, b.0, z.0, lt))
     ];
   }
@@ -88,7 +63,7 @@ first_more sides s d e k f = elim (get_cases sides s f.side k f.at) [
 found_other : (sides : Sides) (s : List Edge) (d e : Edge) (o : Option ℕ) → (d ≡ e → ⊥) → IsFound (sides ++ s ∷ []) e o → IsFound (sides ++ (s ++ d ∷ []) ∷ []) e o
 found_other sides s d e None ne f = record {
   none = λ j side at c. elim (get_cases sides (s ++ d ∷ []) side j at) [
-    | inl a ↦ f.none j side (get_kept sides s side j a) c
+    | inl a ↦ f.none j side (get_front sides (s ∷ []) j side a) c
     | inr b ↦ (elim (Contains-push_cases s d e (let P : List Edge → Type 0 = λ l. Contains l e in subst P (sym b.1) c)) [
       | inl old ↦ f.none (length sides) s (get_last sides s) old
       | inr same ↦ ne same
@@ -103,30 +78,13 @@ found_same sides s e None entry count f = record {
   at = (let P : ℕ → Type 0 = λ i. slice_get (sides ++ (s ++ e ∷ []) ∷ []) i ≡ Some (s ++ e ∷ []) in subst P count (get_last sides (s ++ e ∷ [])));
   within = Contains-push s e;
   first = λ j earlier lt at c. elim (get_cases sides (s ++ e ∷ []) earlier j at) [
-    | inl a ↦ f.none j earlier (get_kept sides s earlier j a) c
+    | inl a ↦ f.none j earlier (get_front sides (s ∷ []) j earlier a) c
     | inr b ↦ absurd (omega (arith, b.0, count, lt))
   ];
 }
 found_same sides s e (Some k) entry count f = first_more sides s e e k f
 
 -- ---- the table
-pub firsts_empty : (n : ℕ) (sides : Sides) (table : List (Option ℕ)) → AreFirsts n sides table → AreFirsts n (sides ++ [] ∷ []) table
-firsts_empty n sides table t = record {
-  count = t.count;
-  each = λ a b ha hb. found_empty sides (a, b) (get_or table (cell n a b) None) (t.each a b ha hb);
-}
-
-pub firsts_none : (n k : ℕ) → k ≡ cells n → (table : List (Option ℕ)) → length table ≡ k → ((c : ℕ) → c < k → get_or table c None ≡ None) → AreFirsts n [] table
-firsts_none n k e table count blank = record {
-  count = count ∙ e;
-  each = λ a b ha hb.
-      (let lt : cell n a b < k = omega (arith, e, cell_within n a b ha hb) in
-      let is : get_or table (cell n a b) None ≡ None = blank (cell n a b) lt in
-      let P : Option ℕ → Type 0 = λ o. IsFound [] (a, b) o in
-      let nothing : NoneHas [] (a, b) = record { none = λ j side at c. absurd (cc) } in
-      subst P (sym is) nothing);
-}
-
 pub firsts_more : (n : ℕ) (sides : Sides) (s : List Edge) (table : List (Option ℕ)) (a b entry : ℕ) → a ≤ n → b ≤ n → length sides ≡ entry
     → AreFirsts n (sides ++ s ∷ []) table → AreFirsts n (sides ++ (s ++ (a, b) ∷ []) ∷ []) (noted_in n table a b entry)
 firsts_more n sides s table a b entry ha hb many t =
@@ -162,17 +120,3 @@ from_more n entry target sources i source sides mid new lt is within ht many t e
     subst (λ l. AreFirsts n (sides ++ l ∷ []) new) (sym next)
     (subst (AreFirsts n (sides ++ (map (edge_to target) (take i sources) ++ (source, target) ∷ []) ∷ [])) (sym e)
     (firsts_more n sides (map (edge_to target) (take i sources)) mid source target entry hs ht many t))
-
--- the edges of a chain before a head, where some node reads its last write, and where none does
-pub edges_by_readers : (t b : ℕ) (rs : List ℕ) → 0 < length rs → map (edge_to b) rs ≡ edges_to t b rs
-edges_by_readers t b [] lt = absurd (omega (arith, lt))
-edges_by_readers t b (r ∷ rs) lt = refl
-
-pub edges_by_tail : (t b : ℕ) (rs : List ℕ) → length rs ≡ 0 → map (edge_to b) (t ∷ []) ≡ edges_to t b rs
-edges_by_tail t b [] e = refl
-edges_by_tail t b (r ∷ rs) e = absurd (omega (arith, e))
-
-pub side_is_noted : (n entry : ℕ) (t b : ℕ) (rs part : List ℕ) (old new : List (Option ℕ)) → map (edge_to b) part ≡ edges_to t b rs
-    → ((sides : Sides) → length sides ≡ entry → AreFirsts n sides old → AreFirsts n (sides ++ map (edge_to b) part ∷ []) new)
-    → (sides : Sides) → length sides ≡ entry → AreFirsts n sides old → AreFirsts n (sides ++ edges_to t b rs ∷ []) new
-side_is_noted n entry t b rs part old new e h sides many f = subst (λ l. AreFirsts n (sides ++ l ∷ []) new) e (h sides many f)

@@ -2,7 +2,8 @@
 use Rattle.std.proofs.Common.{◌≡◌, ◌⊎◌, ℕ, zero, suc, ◌+◌, ◌<◌, true, List, [], ◌∷◌, ◌++◌, length, get_or, take, Option, None, Some, refl, sym, ap, ◌∙◌, subst, inl, inr, arith}
 use Rattle.std.specs.Prelude.{map, slice_get, unwrap_or}
 use Rattle.std.specs.List.{All, AllByRecursion, Contains, flat_map}
-use Rattle.std.proofs.lemmas.Option.{slice_get_within, slice_get-get_or, slice_get_read}
+use Rattle.std.specs.Option.{option_map}
+use Rattle.std.proofs.lemmas.Option.{slice_get_within, slice_get-get_or, slice_get-map, slice_get_read}
 use Rattle.std.proofs.lemmas.List.{length-map, get_or-map}
 use Rattle.std.proofs.lemmas.List.Elements.{All-cons, All-nil, Contains-append_cases}
 use Rattle.session_log.specs.Text.{ClientSession}
@@ -45,9 +46,7 @@ get_map f (x ∷ xs) zero y e = let same : f x ≡ y = cc in (x, (refl, same))
 get_map f (x ∷ xs) (suc k) y e = get_map f xs k y e
 
 pub map_get : {X Y : Type 0} (f : X → Y) (xs : List X) (k : ℕ) (x : X) → slice_get xs k ≡ Some x → slice_get (map f xs) k ≡ Some (f x)
-map_get f [] k x e = absurd (cc)
-map_get f (y ∷ xs) zero x e = let same : y ≡ x = cc in ap (λ z. Some (f z)) same
-map_get f (y ∷ xs) (suc k) x e = map_get f xs k x e
+map_get f xs k x e = slice_get-map f xs k ∙ ap (option_map f) e
 
 get_take : {X : Type 0} (xs : List X) (n k : ℕ) (x : X) → slice_get (take n xs) k ≡ Some x → (k < n) × (slice_get xs k ≡ Some x)
 get_take xs zero k x e = absurd (cc)
@@ -277,8 +276,7 @@ given_of : (ss : List ClientSession) (entries : List LedgerEntry) → IsClean (l
 given_of ss entries clean d = record { clean = clean; known = d.known; choices = d.choices }
 
 pub posts_many : (entries : List LedgerEntry) → length (posts_in entries) ≡ length entries
-posts_many [] = refl
-posts_many (x ∷ es) = ap suc (posts_many es)
+posts_many entries = length-map entries (λ (x : LedgerEntry). x.post)
 
 -- a dead ledger's are such
 pub dead_entries : (ss : List ClientSession) (ledger : Ledger) → IsDeadLedger ss ledger → AreEntries ss ledger.entries.items

@@ -1,5 +1,5 @@
 -- Marks of entries, as edges, lines and walks are looked at.
-use Rattle.std.proofs.Common.{◌≡◌, ℕ, zero, suc, ◌+◌, ◌<◌, ◌≤◌, Bool, true, false, List, [], ◌∷◌, length, get_or, set, take, replicate, None, Some, ◌⊎◌, refl, sym, ap, ◌∙◌, subst, inl, inr, arith, Bor}
+use Rattle.std.proofs.Common.{◌≡◌, ℕ, zero, suc, ◌+◌, ◌<◌, ◌≤◌, Bool, true, false, List, [], ◌∷◌, length, get_or, set, take, replicate, Some, ◌⊎◌, refl, sym, ap, ◌∙◌, subst, inl, inr, arith, Bor}
 use Rattle.std.specs.Prelude.{slice_get}
 use Rattle.std.specs.List.{All, Contains}
 use Rattle.std.proofs.lemmas.Bool.{cases_eq, cases_lt, false≢true}
@@ -14,6 +14,7 @@ use Rattle.tell_steps.specs.Lines.{IsUnshown, LineRests, IsEntry}
 use Rattle.tell_steps.specs.Marks.{is_set, IsMarked, AreMore, AreSameFrom, AreNoOthers, IsFirstUnshown, IsNeededBy, IsEdgeMarked, IsCovered, IsLineMarked, IsWalkMarked, AreCovered, IsNeededByLine, IsNeededByWalk, AreNeeded}
 use Rattle.known_graph.proofs.Listed.{In-from_Contains}
 use Rattle.tell_steps.proofs.FirstSides.{Sides, first_below}
+use Rattle.tell_steps.proofs.Places.{one_of}
 
 -- ---- more marks
 pub more_same : (marks : List Bool) → AreMore marks marks
@@ -62,23 +63,7 @@ edge_marked ss sides a b k old h within = record {
   only = set_only ss sides a b k old (record { none = h.0; first = h.1 });
 }
 
-pub edge_unmarked : (ss : List ClientSession) (sides : Sides) (a b : ℕ) (old : List Bool) → IsEntry ss sides a b None → IsEdgeMarked ss sides a b old old
-edge_unmarked ss sides a b old h = record {
-  covered = λ u. absurd (h u);
-  more = more_same old;
-  later = λ bound rests. record { each = λ k le. refl };
-  only = no_others old (IsFirstUnshown ss sides a b);
-}
-
 -- ---- a line
-pub line_none : (ss : List ClientSession) (sides : Sides) (line : List ℕ) (marks : List Bool) → IsLineMarked ss sides line 0 marks marks
-line_none ss sides line marks = record {
-  covered = record { each = λ i lt h none. absurd (omega (arith, lt)) };
-  more = more_same marks;
-  later = λ bound rests. record { each = λ k le. refl };
-  only = no_others marks (IsNeededBy ss sides line);
-}
-
 pub covered_more : (ss : List ClientSession) (sides : Sides) (a b : List Bool) (line : List ℕ) (count : ℕ) → AreMore a b → IsCovered ss sides a line count → IsCovered ss sides b line count
 covered_more ss sides a b line count m c = record { each = λ i lt h none. marked_more sides a b (get_or line i 0, get_or line (i + 1) 0) m (c.each i lt h none) }
 
@@ -96,14 +81,6 @@ line_more ss sides line i old mid new within h e = record {
   more = more_joined old mid new h.more e.more;
   later = λ bound rests. same_joined bound old mid new (h.later bound rests) (e.later bound (rests.each i within));
   only = record { each = λ k t. elim (e.only.each k t) [ inl before ↦ h.only.each k before | inr n ↦ inr (record { place = i; within = within; edge = n }) ] };
-}
-
-pub line_all : (ss : List ClientSession) (sides : Sides) (line : List ℕ) (i : ℕ) (old new : List Bool) → length line ≤ i + 1 → IsLineMarked ss sides line i old new → IsLineMarked ss sides line (length line) old new
-line_all ss sides line i old new le h = record {
-  covered = record { each = λ j lt hj none. h.covered.each j (omega (arith, le, hj)) hj none };
-  more = h.more;
-  later = h.later;
-  only = h.only;
 }
 
 -- ---- a walk
@@ -124,14 +101,11 @@ walk_unmarked ss sides line entry marks f = record {
 }
 
 -- ---- all walks
-one_post : (qs : List Posted) (k : ℕ) (p q : Posted) → slice_get qs k ≡ Some p → slice_get qs k ≡ Some q → p ≡ q
-one_post qs k p q a b = let e : Some p ≡ Some q = sym a ∙ b in cc
-
 pub walks_more : (ss : List ClientSession) (sides : Sides) (entries : List LedgerEntry) (count entry : ℕ) (q : Posted) (old new : List Bool) → slice_get (posts_in entries) entry ≡ Some q → length entries ≡ entry + (count + 1)
     → IsWalkMarked ss sides q.walk entry old new → AreCovered ss sides old entries count → AreCovered ss sides new entries (count + 1)
 walks_more ss sides entries count entry q old new at low w c = record {
   each = λ k p is le t. elim (cases_eq k entry) [
-    | inl same ↦ (let e : q ≡ p = one_post (posts_in entries) k q p (ap (slice_get (posts_in entries)) same ∙ at) is in
+    | inl same ↦ (let e : q ≡ p = one_of (posts_in entries) k q p (ap (slice_get (posts_in entries)) same ∙ at) is in
         let P : Posted → Type 0 = λ r. IsCovered ss sides new r.walk (length r.walk) in
         subst P e (w.covered (ap (λ i. get_or new i false) (sym same) ∙ t)))
     | inr other ↦ (elim (cases_lt k entry) [
@@ -143,18 +117,6 @@ walks_more ss sides entries count entry q old new at low w c = record {
     ])
   ];
 }
-
-pub walks_none : (ss : List ClientSession) (sides : Sides) (entries : List LedgerEntry) (marks : List Bool) → AreCovered ss sides marks entries 0
-walks_none ss sides entries marks = record { each = λ k p is le t. absurd (past (posts_in entries) k p is (omega (arith, le, many entries))) }
-  where
-    many : (es : List LedgerEntry) → length (posts_in es) ≡ length es
-    many [] = refl
-    many (x ∷ es) = ap suc (many es)
-
-    past : (qs : List Posted) (k : ℕ) (p : Posted) → slice_get qs k ≡ Some p → length qs ≤ k → ⊥
-    past [] k p e le = cc
-    past (x ∷ qs) zero p e le = omega (arith, le)
-    past (x ∷ qs) (suc k) p e le = past qs k p e (omega (arith, le))
 
 pub walks_only : (ss : List ClientSession) (sides : Sides) (entries : List LedgerEntry) (entry : ℕ) (q : Posted) (first old new : List Bool) → slice_get (posts_in entries) entry ≡ Some q → IsWalkMarked ss sides q.walk entry old new
     → AreNoOthers first old (IsNeededByWalk ss sides old entries) → AreNoOthers first new (IsNeededByWalk ss sides new entries)

@@ -1,37 +1,23 @@
 -- What is checked of a proposal.
-use Rattle.std.proofs.Common.{◌≡◌, ℕ, ◌+◌, ◌-◌, ◌<◌, ◌≤◌, List, length, get_or, Some, sym, ◌∙◌, subst, inl, inr, arith}
+use Rattle.std.proofs.Common.{◌≡◌, ℕ, ◌+◌, ◌<◌, ◌≤◌, List, length, get_or, Some, sym, ◌∙◌, subst, inl, inr, arith}
 use Rattle.std.specs.Prelude.{slice_get}
 use Rattle.std.proofs.lemmas.Bool.{cases_lt}
 use Rattle.std.proofs.lemmas.List.{length-map}
 use Rattle.std.proofs.lemmas.Option.{slice_get_within, get_or_from_slice_get}
 use Rattle.std.specs.List.{All}
 use Rattle.session_log.specs.Text.{ClientSession}
-use Rattle.serializability.specs.Polygraph.{Edge}
 use Rattle.log_definitions.specs.Numbers.{log_of}
 use Rattle.prune_ledger.specs.Posted.{Posted}
 use Rattle.prune_ledger.specs.Pruned.{posts_in}
 use Rattle.prune_ledger.specs.declared.ledger.LedgerEntry.{LedgerEntry}
 use Rattle.tell_reasons.specs.declared.why.ChainOrder.{ChainOrder}
 use Rattle.tell_steps.specs.Steps.{IsOrder, Follows, turned}
-use Rattle.tell_steps.specs.Lines.{sides_of, IsBetween, Rests, LineRests}
+use Rattle.tell_steps.specs.Lines.{sides_of, LineRests}
 use Rattle.tell_steps.specs.Shorter.{HasEnds}
-use Rattle.tell_steps.specs.Ledgers.{IsStep, AreSteps, IsClosed}
+use Rattle.tell_steps.specs.Ledgers.{IsStep, AreSteps}
 use Rattle.tell_steps.proofs.Ledgers.{post_at}
 
 -- ---- lines
-pub ends_some : (line : List ℕ) (a b : ℕ) → HasEnds a b line → 0 < length line
-ends_some line a b h = subst (λ l. 0 < length l) (sym h.is) (omega arith)
-
-pub line_of : (ss : List ClientSession) (sides : List (List Edge)) (bound : ℕ) (line : List ℕ) → 0 < length line → All (IsBetween ss) line → ((i : ℕ) → i < length line - 1 → Rests ss sides bound (get_or line i 0) (get_or line (i + 1) 0)) → LineRests ss sides bound line
-line_of ss sides bound line some nodes each = record {
-  some = some;
-  nodes = nodes;
-  each = λ i lt. each i (omega (arith, lt));
-}
-
-pub closed_of : (ss : List ClientSession) (kept : List ChainOrder) (line : List ℕ) (start : ℕ) → HasEnds start start line → LineRests ss (sides_of ss kept) (length kept) line → IsClosed ss kept line
-closed_of ss kept line start ends rests = record { start = start; inner = ends.inner; shape = ends.is; rests = rests }
-
 -- ---- entries
 same_post : (entries : List LedgerEntry) (i : ℕ) (x : LedgerEntry) (q : Posted) → i < length entries → x ≡ get_or entries i x → slice_get (posts_in entries) i ≡ Some q → x.post ≡ q
 same_post entries i x q lt is at = let e : Some x.post ≡ Some q = sym (post_at entries i x lt is) ∙ at in cc

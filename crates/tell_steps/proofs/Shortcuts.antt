@@ -1,57 +1,26 @@
 -- Lines that leave nodes out.
-use Rattle.std.proofs.Common.{◌≡◌, ◌⊎◌, ℕ, zero, suc, ◌+◌, ◌-◌, ◌<◌, List, [], ◌∷◌, ◌++◌, length, get_or, Some, refl, sym, ap, ◌∙◌, subst, inl, inr, arith, length-append}
-use Rattle.std.specs.Prelude.{reverse, slice_get, map}
+use Rattle.std.proofs.Common.{◌≡◌, ◌⊎◌, ℕ, suc, ◌+◌, ◌<◌, List, [], ◌∷◌, ◌++◌, length, get_or, Some, refl, sym, ap, ◌∙◌, subst, inl, inr, arith, length-append}
+use Rattle.std.specs.Prelude.{reverse, slice_get}
 use Rattle.std.specs.List.{Contains}
 use Rattle.std.proofs.lemmas.List.{reverse-append, map-append, length-map}
 use Rattle.session_log.specs.Text.{ClientSession}
 use Rattle.serializability.specs.Log.{Log}
 use Rattle.serializability.specs.Polygraph.{Edge}
 use Rattle.log_definitions.specs.Numbers.{log_of}
-use Rattle.reasons.specs.Given.{IsReason, HaveNone}
-use Rattle.reasons.specs.declared.reason.Reason.{Reason}
-use Rattle.reasons.specs.declared.reason.Reason.TheVariants as reason
+use Rattle.reasons.specs.Given.{HaveNone}
 use Rattle.tell_reasons.specs.declared.why.ChainOrder.{ChainOrder}
 use Rattle.prune_ledger.specs.Posted.{Posted}
 use Rattle.prune_ledger.specs.Pruned.{posts_in}
 use Rattle.prune_ledger.specs.declared.ledger.LedgerEntry.{LedgerEntry}
 use Rattle.tell_steps.specs.Steps.{turned, edges_in, IsOrder, Follows}
 use Rattle.tell_steps.specs.Lines.{sides_of, IsBetween, IsLineOfNodes, Rests, LineRests}
-use Rattle.tell_steps.specs.Ledgers.{IsStep, AreSteps, IsClosed}
-use Rattle.tell_steps.specs.Shorter.{Leads, HasEnds, KeepsEnds, LeadsTo, IsNear, IsNearOf, IsWalkOf, KeepsPost, last_of, IsShort}
+use Rattle.tell_steps.specs.Ledgers.{IsStep, IsClosed}
+use Rattle.tell_steps.specs.Shorter.{Leads, HasEnds, KeepsEnds, LeadsTo, IsNearOf, IsWalkOf, KeepsPost, last_of, IsShort}
 use Rattle.tell_steps.specs.declared.near.Near.{Near}
 use Rattle.tell_steps.proofs.Ledgers.{line_one, line_cons}
 use Rattle.tell_steps.proofs.ChainSides.{order_target}
 use Rattle.tell_steps.proofs.Chosen.{turned_order}
-
--- ---- edges
-pub not_none : (ss : List ClientSession) (a b : ℕ) (r : Reason) → IsReason ss a b r → HaveNone ss a b → ⊥
-not_none ss a b reason.Session h none = none.session h
-not_none ss a b (reason.Read written read) h none = none.read written read h
-not_none ss a b (reason.Overwritten read overwrites) h none = none.overwritten read overwrites h
-not_none ss a b (reason.Initial read begins) h none = none.initial read begins h
-not_none ss a b reason.Moments h none = none.moments h
-
-pub leads_shown : (ss : List ClientSession) (line : List ℕ) (i j x y : ℕ) → i < length line → j < length line → x ≡ get_or line i 0 → y ≡ get_or line j 0 → (HaveNone ss x y → ⊥) → Leads ss line i j
-leads_shown ss line i j x y low high ex ey shown = record {
-  rests = λ sides bound r. record {
-    first = r.nodes i 0 low;
-    second = r.nodes j 0 high;
-    kept = λ none. absurd (shown (subst (λ a. HaveNone ss a y) (sym ex) (subst (HaveNone ss (get_or line i 0)) (sym ey) none)));
-  };
-}
-
-pub leads_next : (ss : List ClientSession) (line : List ℕ) (at : ℕ) → 0 < at → at < length line → Leads ss line (at - 1) at
-leads_next ss line at low high =
-    let next : (at - 1) + 1 ≡ at = omega (arith, low) in
-    record {
-      rests = λ sides bound r. subst (λ k. Rests ss sides bound (get_or line (at - 1) 0) (get_or line k 0)) next (r.each (at - 1) (omega (arith, low, high)));
-    }
-
-pub near_of : (ss : List ClientSession) (order : ChainOrder) (line : List ℕ) (place from source : ℕ) → place < length line → from ≡ get_or line place 0 → IsNear ss order from source → IsNearOf ss order line (record { place = place; source = source })
-near_of ss order line place from source within read h = record {
-  on = record { within = within; between = h.between; shown = λ none. h.shown (subst (λ a. HaveNone ss a source) (sym read) none) };
-  edge = h.edge;
-}
+use Rattle.tell_steps.proofs.Places.{get_cases, one_of}
 
 -- ---- a line from its end
 short_one : (ss : List ClientSession) (line : List ℕ) (at x : ℕ) → at + 1 ≡ length line → x ≡ get_or line at 0 → IsShort ss line (get_or line at 0) at (x ∷ [])
@@ -155,13 +124,6 @@ closed_kept ss kept line made h c =
     record { start = c.start; inner = e.inner; shape = e.is; rests = h.rests (sides_of ss kept) (length kept) c.rests }
 
 -- ---- posts
-pub same_post : (ss : List ClientSession) (order : ChainOrder) (post made : Posted) → IsWalkOf ss order post → made ≡ post → KeepsPost ss order post made
-same_post ss order post made w e = subst (KeepsPost ss order post) (sym e) (record {
-  edge = w.edge;
-  rests = λ sides bound r. r;
-  ends = λ inner shape. record { inner = inner; is = shape };
-})
-
 pub shorter_post : (ss : List ClientSession) (order : ChainOrder) (post made : Posted) (line : List ℕ) → IsWalkOf ss order post → KeepsEnds ss post.walk line → made.edge ≡ post.edge → made.walk ≡ line → KeepsPost ss order post made
 shorter_post ss order post made line w keeps edge walk = record {
   edge = subst (Follows (log_of ss) order) (sym edge) w.edge;
@@ -190,23 +152,19 @@ nearer_post ss order post made line walk near w keeps close leads edge is =
     }
 
 -- ---- entries
--- the order that an entry keeps, as its place in the list has it
-same_order : (kept : List ChainOrder) (k : ℕ) (o x : ChainOrder) → slice_get kept k ≡ Some o → slice_get kept k ≡ Some x → o ≡ x
-same_order kept k o x a b = let e : Some o ≡ Some x = sym a ∙ b in cc
-
 pub step_walk : (ss : List ClientSession) (kept : List ChainOrder) (k : ℕ) (x order : ChainOrder) (q : Posted) → slice_get kept k ≡ Some x → order ≡ turned x → IsStep ss kept k q → IsWalkOf ss order q
 step_walk ss kept k x order q at is s =
-    let e : turned s.order ≡ order = ap turned (same_order kept k s.order x s.at at) ∙ sym is in
+    let e : turned s.order ≡ order = ap turned (one_of kept k s.order x s.at at) ∙ sym is in
     record { sides = sides_of ss kept; bound = k; rests = s.rests; edge = subst (λ o. Follows (log_of ss) o q.edge) e s.refuted }
 
 pub step_order : (ss : List ClientSession) (kept : List ChainOrder) (k : ℕ) (x order : ChainOrder) (q : Posted) → slice_get kept k ≡ Some x → order ≡ turned x → IsStep ss kept k q → IsOrder (log_of ss) order
 step_order ss kept k x order q at is s =
-    let e : turned s.order ≡ order = ap turned (same_order kept k s.order x s.at at) ∙ sym is in
+    let e : turned s.order ≡ order = ap turned (one_of kept k s.order x s.at at) ∙ sym is in
     subst (IsOrder (log_of ss)) e (turned_order (log_of ss) s.order s.two_chains)
 
 pub step_kept : (ss : List ClientSession) (kept : List ChainOrder) (k : ℕ) (x order : ChainOrder) (q made : Posted) → slice_get kept k ≡ Some x → order ≡ turned x → KeepsPost ss order q made → IsStep ss kept k q → IsStep ss kept k made
 step_kept ss kept k x order q made at is h s =
-    let e : turned s.order ≡ order = ap turned (same_order kept k s.order x s.at at) ∙ sym is in
+    let e : turned s.order ≡ order = ap turned (one_of kept k s.order x s.at at) ∙ sym is in
     let f = h.ends s.inner s.shape in
     record {
       order = s.order;
@@ -226,28 +184,10 @@ pub record AreFrontSteps (ss : List ClientSession) (kept : List ChainOrder) (cou
   pub long : length made ≡ count
   pub each : (k : ℕ) (q : Posted) → slice_get (posts_in made) k ≡ Some q → IsStep ss kept k q
 
-pub front_none : (ss : List ClientSession) (kept : List ChainOrder) (made : List LedgerEntry) → made ≡ [] → AreFrontSteps ss kept 0 made
-front_none ss kept made e = record {
-  long = ap length e;
-  each = λ k q at. let f : slice_get (posts_in []) k ≡ Some q = sym (ap (λ l. slice_get (posts_in l) k) e) ∙ at in absurd (none_at k q f);
-}
-  where
-    none_at : (k : ℕ) (q : Posted) → slice_get [] k ≡ Some q → ⊥
-    none_at k q f = cc
-
-get_last : {X : Type 0} (xs : List X) (x : X) (k : ℕ) (y : X) → slice_get (xs ++ x ∷ []) k ≡ Some y → (slice_get xs k ≡ Some y) ⊎ ((k ≡ length xs) × (x ≡ y))
-get_last [] x zero y e = let same : x ≡ y = cc in inr (refl, same)
-get_last [] x (suc k) y e = absurd (cc)
-get_last (z ∷ xs) x zero y e = inl e
-get_last (z ∷ xs) x (suc k) y e = elim (get_last xs x k y e) [
-  | inl a ↦ inl a
-  | inr b ↦ inr (ap suc b.0, b.1)
-]
-
 pub front_more : (ss : List ClientSession) (kept : List ChainOrder) (count : ℕ) (made new : List LedgerEntry) (x : LedgerEntry) → new ≡ made ++ x ∷ [] → IsStep ss kept count x.post → AreFrontSteps ss kept count made → AreFrontSteps ss kept (count + 1) new
 front_more ss kept count made new x added step h = record {
   long = ap length added ∙ length-append made (x ∷ []) ∙ ap (λ n. n + 1) h.long;
-  each = λ k q at. go k q (get_last (posts_in made) x.post k q (sym (ap (λ l. slice_get l k) (ap posts_in added ∙ map-append (λ (e : LedgerEntry). e.post) made (x ∷ []))) ∙ at));
+  each = λ k q at. go k q (get_cases (posts_in made) x.post q k (sym (ap (λ l. slice_get l k) (ap posts_in added ∙ map-append (λ (e : LedgerEntry). e.post) made (x ∷ []))) ∙ at));
 }
   where
     many : length (posts_in made) ≡ count
@@ -258,6 +198,3 @@ front_more ss kept count made new x added step h = record {
       | inl a ↦ h.each k q a
       | inr b ↦ subst (λ n. IsStep ss kept n q) (sym (b.0 ∙ many)) (subst (IsStep ss kept count) b.1 step)
     ]
-
-pub front_all : (ss : List ClientSession) (kept : List ChainOrder) (entries made : List LedgerEntry) → AreSteps ss kept entries → AreFrontSteps ss kept (length entries) made → AreSteps ss kept made
-front_all ss kept entries made s h = record { count = s.count ∙ sym h.long; each = h.each }

@@ -1,6 +1,6 @@
 -- How lines and steps are told.
-use Rattle.std.proofs.Common.{◌≡◌, ℕ, zero, suc, ◌+◌, ◌-◌, ◌<◌, ◌≤◌, Bool, true, false, List, [], ◌∷◌, ◌++◌, length, get_or, set, drop, Some, ◌⊎◌, refl, sym, ap, ◌∙◌, subst, inl, inr, arith, append_assoc}
-use Rattle.std.specs.Prelude.{slice_get, Result, Ok, Err, OnOk}
+use Rattle.std.proofs.Common.{◌≡◌, ℕ, zero, suc, ◌+◌, ◌-◌, ◌<◌, ◌≤◌, Bool, true, false, List, [], ◌∷◌, ◌++◌, length, get_or, set, drop, Some, ◌⊎◌, sym, ap, ◌∙◌, subst, inl, inr, arith, append_assoc}
+use Rattle.std.specs.Prelude.{slice_get}
 use Rattle.std.specs.List.{Contains}
 use Rattle.std.proofs.lemmas.Bool.{cases_lt, false≢true}
 use Rattle.std.proofs.lemmas.Option.{slice_get_within}
@@ -25,7 +25,8 @@ use Rattle.tell_steps.specs.Lines.{sides_of, IsUnshown, LineRests}
 use Rattle.tell_steps.specs.Marks.{is_set, IsCovered, IsNeededBy, IsNeededByWalk}
 use Rattle.tell_steps.specs.Ledgers.{IsStep, IsClosed}
 use Rattle.tell_steps.specs.Told.{LineNumbered, IsPut, EdgesTold, LinePut, StepPut, IsKeptBefore, IsNumberOf, IsOfMarked, IsLineNamed, AreTold}
-use Rattle.tell_steps.proofs.Places.{get_last, get_cases, get_kept}
+use Rattle.desk.proofs.Seating.{get_front, get_last}
+use Rattle.tell_steps.proofs.Places.{get_cases, one_of}
 use Rattle.tell_steps.proofs.FirstSides.{Sides, first_unique, first_below}
 use Rattle.tell_steps.proofs.Answers.{reason_not_none}
 use Rattle.tell_steps.proofs.Ledgers.{get_map, map_get, posts_many}
@@ -74,9 +75,6 @@ pub put_all : (ss : List ClientSession) (steps decided : List ChainOrder) (line 
 put_all ss steps decided line i out new some le lt h = record { items = h.items; appended = h.appended; kind = edges_all ss steps decided line i h.items some le lt h.kind }
 
 -- ---- numbers of steps
-pub one_of : {X : Type 0} (xs : List X) (k : ℕ) (x y : X) → slice_get xs k ≡ Some x → slice_get xs k ≡ Some y → x ≡ y
-one_of xs k x y a b = let e : Some x ≡ Some y = sym a ∙ b in cc
-
 first_with : (ss : List ClientSession) (kept steps : List ChainOrder) (e : Edge) (k r : ℕ) (o : ChainOrder) → slice_get kept k ≡ Some o → IsFirstIn (sides_of ss kept) e k → IsNumberOf kept steps k r → IsFirstWith (log_of ss) steps r o e
 first_with ss kept steps e k r o here f m =
     let log = log_of ss in
@@ -224,7 +222,7 @@ number_kept : (kept steps : List ChainOrder) (o : ChainOrder) (k r : ℕ) → Is
 number_kept kept steps o k r m = record {
   order = m.order;
   at = m.at;
-  stands = get_kept steps o m.order r m.stands;
+  stands = get_front steps (o ∷ []) r m.order m.stands;
   earlier = λ s p lt at. elim (get_cases steps o p s at) [
     | inl before ↦ m.earlier s p lt before
     | inr last ↦ absurd (omega (arith, last.0, lt, slice_get_within steps r m.order m.stands))
@@ -336,25 +334,6 @@ dead_told ss kept entries marks numbers steps line before mid new start edges co
                 step_named ss sides numbers (length kept) w.post.walk before new m.entry s front (t.walks w.entry w.post below w.at w.marked) w.edge m.number)
           ]);
     }
-
--- a clause of what returns well, and what follows from it
-pub ok_more : {T E : Type 0} (r : Result T E) (P Q : Type 0) → (P → Q) → OnOk r P → OnOk r Q
-ok_more (Ok x) P Q f h = f h
-ok_more (Err e) P Q f h = tt
-
--- a step's item, and then its walk
-pub step_put : (ss : List ClientSession) (kept : List ChainOrder) (numbers : List ℕ) (number : ℕ) (o : ChainOrder) (q : Posted) (old mid new : List Item) → mid ≡ old ++ item.Step number o q.edge.0 q.edge.1 ∷ []
-    → LinePut ss kept numbers q.walk mid new → StepPut ss kept numbers number o q old new
-step_put ss kept numbers number o q old mid new is line = record {
-  each = λ steps n.
-      (let put = line.each steps n in
-      let head = item.Step number o q.edge.0 q.edge.1 ∷ [] in
-      record {
-        items = head ++ put.items;
-        appended = put.appended ∙ ap (λ l. l ++ put.items) is ∙ append_assoc old head put.items;
-        kind = record { against = put.items; line = put.kind; whole = refl };
-      });
-}
 
 -- ---- lines that rest on more
 pub rests_later : (ss : List ClientSession) (sides : Sides) (bound more : ℕ) (line : List ℕ) → bound ≤ more → LineRests ss sides bound line → LineRests ss sides more line

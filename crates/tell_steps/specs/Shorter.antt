@@ -1,5 +1,5 @@
 -- Lines that leave nodes out, and lines that lead to another node.
-use Rattle.std.specs.Prelude.{◌≡◌, ℕ, ◌+◌, ◌-◌, ◌<◌, List, [], ◌∷◌, ◌++◌, length, slice_index}
+use Rattle.std.specs.Prelude.{◌≡◌, ℕ, ◌+◌, ◌<◌, List, [], ◌∷◌, ◌++◌, length, slice_index}
 use Rattle.std.specs.List.{Contains}
 use Rattle.session_log.specs.Text.{ClientSession}
 use Rattle.serializability.specs.Polygraph.{Edge}

@@ -23,7 +23,8 @@ pub struct Near {
     pub source: NodeIx,
 }
 
-/// Whether an edge of the order leads from a node that the log shows to stand behind this one.
+/// Whether an edge of the order leads from this number, which is that of a node that the log shows
+/// to stand behind another.
 fn is_near(
     basis: &LogAndGrounds<'_>,
     answers: &mut [Option<Option<Reason>>],
@@ -37,38 +38,16 @@ fn is_near(
     requires chains { chains.now ≡ basis.now.history.now }
     requires order { IsOrder (log_of basis.now.history.now) order }
     requires from { IsBetween basis.now.history.now from }
-    requires source { IsBetween basis.now.history.now source }
     ensures answers { AreAnswers basis.now.history.now answers.new }
     ensures near { IfOk result (λ near. IsTrue near
         → IsNear basis.now.history.now order from source) }
 {
+    if !is_between(basis.history, source) {
+        return Ok(false);
+    }
     let shown = shows(basis, answers, from, source)?;
     if shown {
         return Ok(has_edge(chains, order, source, order.second));
-    }
-    Ok(false)
-}
-
-/// The same of any number.
-fn is_node_near(
-    basis: &LogAndGrounds<'_>,
-    answers: &mut [Option<Option<Reason>>],
-    chains: &Chains<'_>,
-    order: ChainOrder,
-    from: NodeIx,
-    source: NodeIx,
-) -> Result<bool, AllocError>
-    requires basis { IsBasis basis.now }
-    requires answers { AreAnswers basis.now.history.now answers.old }
-    requires chains { chains.now ≡ basis.now.history.now }
-    requires order { IsOrder (log_of basis.now.history.now) order }
-    requires from { IsBetween basis.now.history.now from }
-    ensures answers { AreAnswers basis.now.history.now answers.new }
-    ensures near { IfOk result (λ near. IsTrue near
-        → IsNear basis.now.history.now order from source) }
-{
-    if is_between(basis.history, source) {
-        return is_near(basis, answers, chains, order, from, source);
     }
     Ok(false)
 }
@@ -93,7 +72,7 @@ fn source_near(
         (IsNear basis.now.history.now order.now from)) }
 {
     for source in sources {
-        let near = is_node_near(basis, answers, chains, *order, from, *source)?;
+        let near = is_near(basis, answers, chains, *order, from, *source)?;
         if near {
             return Ok(Some(*source));
         }

@@ -117,13 +117,29 @@ fn line_to(
     Ok(made)
 }
 
-/// A post with a shorter walk, to a nearer source where the log shows one.
+/// The same post.
+fn same_post(alloc: Global, post: &Refutation) -> Result<Refutation, AllocError>
+    ensures same { IfOk result (λ made. made ≡ post.now) }
+{
+    let mut walk = Vec::new(alloc);
+    walk.extend_from_slice(&post.walk)?;
+    Ok(Refutation {
+        choice: post.choice,
+        side: post.side,
+        edge: post.edge,
+        walk,
+    })
+}
+
+/// A post that tells the same: where it is to be told, by a shorter walk, to a nearer source where
+/// the log shows one.
 fn shorter_post(
     basis: &LogAndGrounds<'_>,
     answers: &mut [Option<Option<Reason>>],
     chains: &Chains<'_>,
     order: ChainOrder,
     post: &Refutation,
+    is_told: bool,
 ) -> Result<Refutation, AllocError>
     requires basis { IsBasis basis.now }
     requires answers { AreAnswers basis.now.history.now answers.old }
@@ -133,6 +149,9 @@ fn shorter_post(
     ensures answers { AreAnswers basis.now.history.now answers.new }
     ensures keeps { IfOk result (KeepsPost basis.now.history.now order post.now) }
 {
+    if !is_told {
+        return same_post(basis.alloc, post);
+    }
     let walk = shorter_line(basis, answers, &post.walk)?;
     let line = walk.as_slice();
     match nearest(basis, answers, chains, order, line)? {
@@ -149,43 +168,6 @@ fn shorter_post(
             walk,
         }),
     }
-}
-
-/// The same post.
-fn same_post(alloc: Global, post: &Refutation) -> Result<Refutation, AllocError>
-    ensures same { IfOk result (λ made. made ≡ post.now) }
-{
-    let mut walk = Vec::new(alloc);
-    walk.extend_from_slice(&post.walk)?;
-    Ok(Refutation {
-        choice: post.choice,
-        side: post.side,
-        edge: post.edge,
-        walk,
-    })
-}
-
-/// A post that tells the same, by a shorter walk where it is to be told.
-fn post_of(
-    basis: &LogAndGrounds<'_>,
-    answers: &mut [Option<Option<Reason>>],
-    chains: &Chains<'_>,
-    order: ChainOrder,
-    post: &Refutation,
-    is_told: bool,
-) -> Result<Refutation, AllocError>
-    requires basis { IsBasis basis.now }
-    requires answers { AreAnswers basis.now.history.now answers.old }
-    requires chains { chains.now ≡ basis.now.history.now }
-    requires order { IsOrder (log_of basis.now.history.now) order }
-    requires walk { IsWalkOf basis.now.history.now order post.now }
-    ensures answers { AreAnswers basis.now.history.now answers.new }
-    ensures keeps { IfOk result (KeepsPost basis.now.history.now order post.now) }
-{
-    if is_told {
-        return shorter_post(basis, answers, chains, order, post);
-    }
-    same_post(basis.alloc, post)
 }
 
 /// The entries of a ledger, of which the marked ones have shorter walks.
@@ -208,7 +190,7 @@ fn shorter_entries(
     let mut made = Vec::with_capacity(basis.alloc, entries.len())?;
     for (entry, found) in entries.iter().enumerate() {
         let order = turned(basis.grounds.kept[entry]);
-        let post = post_of(basis, answers, chains, order, &found.post, marks[entry])?;
+        let post = shorter_post(basis, answers, chains, order, &found.post, marks[entry])?;
         made.push(LedgerEntry {
             seat: found.seat,
             post,

@@ -2,7 +2,7 @@
 use Rattle.std.proofs.Common.{◌≡◌, ◌⊎◌, ℕ, zero, suc, ◌+◌, ◌<◌, ◌≤◌, Bool, true, false, cond, eqb, ◌&&◌, not, List, [], ◌∷◌, length, Option, Some, None, refl, sym, ap, ◌∙◌, subst, inl, inr, arith}
 use Rattle.std.specs.Prelude.{slice_get, nat_lt, is_none}
 use Rattle.std.specs.Option.{option_map_or}
-use Rattle.std.proofs.lemmas.Bool.{false≢true, and_parts, and_from, or_cases, or_left, or_right, not-true, ltb-true, lt-ltb, eqb-true, eq-eqb, ne_eqb}
+use Rattle.std.proofs.lemmas.Bool.{false≢true, and_parts, and_from, or_cases, or_left, or_right, not-true, ltb-true, lt-ltb, eqb-true, eq-eqb, ne_eqb, not_from_false}
 use Rattle.serializability.specs.Polygraph.{Choice, Polygraph, KeepsOne, Fits}
 use Rattle.pruning_laws.specs.declared.side.Side.{Side}
 use Rattle.pruning_laws.specs.declared.side.Side.TheVariants.{One, Two}
@@ -24,9 +24,6 @@ use Rattle.branch_search.proofs.Upward.{cube_under, cube_top}
 
 lt_from : (a b : ℕ) → a < b → nat_lt a b ≡ true
 lt_from a b lt = lt-ltb a b lt
-
-not_from : (b : Bool) → b ≡ false → not b ≡ true
-not_from b e = ap not e
 
 -- ---- decisions
 decision_is : (d : Option CubeDecision) (c : ℕ) (side : Side) → decides_side d c side ≡ true → d ≡ Some (record { choice = c; side = side })
@@ -181,7 +178,7 @@ module _ (p : Polygraph) (nodes : List TreeNode) (t : IsRefutationTree p nodes) 
   grown_from i x (Inner c first second) e f =
       let k = t.inner i x c first second e f in
       and_from (nat_lt c (length p.choices)) (not (is_decided (cube_of nodes i) c) && (is_child nodes i c One first && is_child nodes i c Two second)) (lt_from c (length p.choices) k.choice)
-      (and_from (not (is_decided (cube_of nodes i) c)) (is_child nodes i c One first && is_child nodes i c Two second) (not_from (is_decided (cube_of nodes i) c) k.undecided)
+      (and_from (not (is_decided (cube_of nodes i) c)) (is_child nodes i c One first && is_child nodes i c Two second) (not_from_false (is_decided (cube_of nodes i) c) k.undecided)
       (and_from (is_child nodes i c One first) (is_child nodes i c Two second) (child_tested nodes i c One first k.one) (child_tested nodes i c Two second k.two)))
 
   placed_from : (i : ℕ) (x : TreeNode) → slice_get nodes i ≡ Some x → cond (eqb i 0) (is_root x) (is_below nodes i x) ≡ true

@@ -1,8 +1,10 @@
 -- What the cube of a node decides, and which edges are under it: by what it decides itself, and by its parent's cube.
-use Rattle.std.proofs.Common.{◌≡◌, ◌⊎◌, ℕ, ◌<◌, ◌≤◌, Bool, true, false, ◌||◌, List, [], Option, Some, None, refl, sym, ap, ◌∙◌, inl, inr}
+use Rattle.std.proofs.Common.{◌≡◌, ◌⊎◌, ℕ, ◌<◌, ◌≤◌, true, false, ◌||◌, List, [], Option, Some, None, refl, sym, ap, ◌∙◌, inl, inr}
 use Rattle.std.specs.Prelude.{slice_get}
+use Rattle.std.proofs.lemmas.Bool.{or_left}
 use Rattle.serializability.specs.Polygraph.{Edge, Polygraph}
 use Rattle.known_graph.specs.Tests.{has_edge}
+use Rattle.known_graph.proofs.Bools.{or_second}
 use Rattle.cube_laws.specs.Cubes.{Cube, is_decided, edges_under}
 use Rattle.cube_machine.specs.Sides.{side_in, cube_edges}
 use Rattle.side_edges.proofs.Listed.{edge_append}
@@ -18,18 +20,12 @@ decided_below : (cube : Cube) (d : Option CubeDecision) (c : ℕ) → is_decided
 decided_below cube None c = refl
 decided_below cube (Some d) c = refl
 
-or_first : (a b : Bool) → a ≡ true → (a || b) ≡ true
-or_first a b e = ap (λ t. t || b) e
-
-or_second : (a b : Bool) → a ≡ false → (a || b) ≡ b
-or_second a b e = ap (λ t. t || b) e
-
 joined : (nodes : List TreeNode) (i : ℕ) (x : TreeNode) (c : ℕ) (above : Cube) → cube_of nodes i ≡ cube_below above x.decision → is_decided (cube_of nodes i) c ≡ (decides x.decision c || is_decided above c)
 joined nodes i x c above e = ap (λ (k : Cube). is_decided k c) e ∙ decided_below above x.decision c
 
 pub decided_here : (nodes : List TreeNode) (i : ℕ) (x : TreeNode) (c : ℕ) → slice_get nodes i ≡ Some x → decides x.decision c ≡ true → (x.parent < i) ⊎ (i ≤ x.parent) → is_decided (cube_of nodes i) c ≡ true
-decided_here nodes i x c e t (inl lt) = joined nodes i x c (cube_of nodes x.parent) (cube_under nodes i x e lt) ∙ or_first (decides x.decision c) (is_decided (cube_of nodes x.parent) c) t
-decided_here nodes i x c e t (inr le) = joined nodes i x c [] (cube_top nodes i x e le) ∙ or_first (decides x.decision c) (is_decided [] c) t
+decided_here nodes i x c e t (inl lt) = joined nodes i x c (cube_of nodes x.parent) (cube_under nodes i x e lt) ∙ or_left (decides x.decision c) (is_decided (cube_of nodes x.parent) c) t
+decided_here nodes i x c e t (inr le) = joined nodes i x c [] (cube_top nodes i x e le) ∙ or_left (decides x.decision c) (is_decided [] c) t
 
 pub decided_up : (nodes : List TreeNode) (i : ℕ) (x : TreeNode) (c : ℕ) → slice_get nodes i ≡ Some x → decides x.decision c ≡ false → x.parent < i → is_decided (cube_of nodes i) c ≡ is_decided (cube_of nodes x.parent) c
 decided_up nodes i x c e f lt = joined nodes i x c (cube_of nodes x.parent) (cube_under nodes i x e lt) ∙ or_second (decides x.decision c) (is_decided (cube_of nodes x.parent) c) f
@@ -54,8 +50,8 @@ edge_joined : (p : Polygraph) (nodes : List TreeNode) (i : ℕ) (x : TreeNode) (
 edge_joined p nodes i x e above is = ap (λ (k : Cube). has_edge (cube_edges p k) e) is ∙ edge_below p above x.decision e
 
 pub edge_here : (p : Polygraph) (nodes : List TreeNode) (i : ℕ) (x : TreeNode) (e : Edge) → slice_get nodes i ≡ Some x → adds p x.decision e ≡ true → (x.parent < i) ⊎ (i ≤ x.parent) → has_edge (cube_edges p (cube_of nodes i)) e ≡ true
-edge_here p nodes i x e at t (inl lt) = edge_joined p nodes i x e (cube_of nodes x.parent) (cube_under nodes i x at lt) ∙ or_first (adds p x.decision e) (has_edge (cube_edges p (cube_of nodes x.parent)) e) t
-edge_here p nodes i x e at t (inr le) = edge_joined p nodes i x e [] (cube_top nodes i x at le) ∙ or_first (adds p x.decision e) (has_edge (cube_edges p []) e) t
+edge_here p nodes i x e at t (inl lt) = edge_joined p nodes i x e (cube_of nodes x.parent) (cube_under nodes i x at lt) ∙ or_left (adds p x.decision e) (has_edge (cube_edges p (cube_of nodes x.parent)) e) t
+edge_here p nodes i x e at t (inr le) = edge_joined p nodes i x e [] (cube_top nodes i x at le) ∙ or_left (adds p x.decision e) (has_edge (cube_edges p []) e) t
 
 pub edge_up : (p : Polygraph) (nodes : List TreeNode) (i : ℕ) (x : TreeNode) (e : Edge) → slice_get nodes i ≡ Some x → adds p x.decision e ≡ false → x.parent < i → has_edge (cube_edges p (cube_of nodes i)) e ≡ has_edge (cube_edges p (cube_of nodes x.parent)) e
 edge_up p nodes i x e at f lt = edge_joined p nodes i x e (cube_of nodes x.parent) (cube_under nodes i x at lt) ∙ or_second (adds p x.decision e) (has_edge (cube_edges p (cube_of nodes x.parent)) e) f
@@ -69,9 +65,6 @@ edge_past p nodes i e none = ap (λ (k : Cube). has_edge (cube_edges p k) e) (cu
 -- ---- the edges of a cube
 under_either : (p : Polygraph) (cube : Cube) (e : Edge) → has_edge (edges_under p cube) e ≡ (has_edge p.known e || has_edge (cube_edges p cube) e)
 under_either p cube e = sym (under_is p cube e) ∙ edge_append p.known (cube_edges p cube) e
-
-pub step_known : (p : Polygraph) (cube : Cube) (e : Edge) → has_edge p.known e ≡ true → has_edge (edges_under p cube) e ≡ true
-step_known p cube e t = under_either p cube e ∙ or_first (has_edge p.known e) (has_edge (cube_edges p cube) e) t
 
 pub step_added : (p : Polygraph) (cube : Cube) (e : Edge) → has_edge p.known e ≡ false → has_edge (edges_under p cube) e ≡ has_edge (cube_edges p cube) e
 step_added p cube e f = under_either p cube e ∙ or_second (has_edge p.known e) (has_edge (cube_edges p cube) e) f

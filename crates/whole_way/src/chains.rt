@@ -1,11 +1,12 @@
 ghost use Rattle.std.specs.Prelude.{◌≡◌, IfOk, IfSome};
 
 use crate::logs::{TWO_CHAINS, WRITE_SKEW};
+use anomalies::classify;
 use cobra_cli::read_log;
 use desk::{OpenGate, Workers};
 use headline::laws::anomalies_decide;
-use history::{History, NodeIx, classify};
 use reach_laws::Edge;
+use session_history::{History, NodeIx};
 use std::alloc::{AllocError, Global};
 use std::process::Abort;
 use std::sync::Wait;

@@ -1,5 +1,5 @@
 -- Walks back along the sources of a key.
-use Rattle.std.proofs.Common.{◌≡◌, ◌≢◌, ◌⊎◌, ℕ, zero, suc, ◌+◌, ◌<◌, ◌≤◌, false, List, [], ◌∷◌, ◌++◌, length, reverse, None, Some, refl, sym, ap, subst, ◌∙◌, inl, inr, arith, length-append, ne_eqb}
+use Rattle.std.proofs.Common.{◌≡◌, ◌≢◌, ◌⊎◌, ℕ, zero, suc, ◌+◌, ◌<◌, ◌≤◌, List, [], ◌∷◌, ◌++◌, length, reverse, None, Some, refl, sym, ap, subst, ◌∙◌, inl, inr, arith, length-append}
 use Rattle.std.specs.Prelude.{nat_eq, is_some}
 use Rattle.std.specs.List.{AllByRecursion, IsDistinct}
 use Rattle.std.proofs.lemmas.List.{reverse-append, length-reverse}
@@ -53,9 +53,8 @@ each_push P (x ∷ xs) v h p = (h.0, each_push P xs v h.1 p)
 
 distinct_push : (xs : List ℕ) (v : ℕ) → IsDistinct nat_eq xs → (Has v xs → ⊥) → IsDistinct nat_eq (xs ++ v ∷ [])
 unfolding IsDistinct
-distinct_push [] v d absent = (tt, tt)
-distinct_push (x ∷ xs) v d absent =
-    (each_push (λ y. nat_eq x y ≡ false) xs v d.0 (ne_eqb x v (λ e. absent (inl e))), distinct_push xs v d.1 (λ h. absent (inr h)))
+distinct_push [] v d absent = grind (arith, each_push)
+distinct_push (x ∷ xs) v d absent = grind (arith, each_push, distinct_push xs v d.1 (λ h. absent (inr h)))
 
 last_among : (v : ℕ) (rest : List ℕ) → Has (last v rest) (v ∷ rest)
 last_among v [] = inl refl
@@ -83,8 +82,7 @@ source_high log x u (inr k) = k.high
 
 -- a node with a source is the next writer of it, where node 0 has none
 is_next : (log : Log) (x v u : ℕ) → source log 0 x ≡ None → IsSource log x v → source log v x ≡ Some u → IsNext log x u v
-is_next log x v u none (inl z) e = let bad : None ≡ Some u = sym none ∙ ap (λ q. source log q x) (sym z) ∙ e in cc
-is_next log x v u none (inr k) e = record { low = k.low; high = k.high; writer = k.writer; from = e }
+is_next log x v u none v5 e = grind arith
 
 pub stepped : (log : Log) → IsClean log → (x writer first s : ℕ) (line next : List ℕ) → source log 0 x ≡ None → WalkedBack log x writer first line → source log first x ≡ Some s → s ≢ writer → next ≡ line ++ s ∷ [] → WalkedBack log x writer s next
 stepped log clean x writer first s line next none w e ne is =
@@ -158,18 +156,10 @@ open_back log x v [] b o = (o, tt)
 open_back log x v (u ∷ rest) b o = let r = open_back log x u rest b.1 o in (open_before log x v u b.0.from r.0, r)
 
 pub all_open : (log : Log) (x writer first : ℕ) (line : List ℕ) → WalkedBack log x writer first line → IsOpen log x first → AllByRecursion (IsOpen log x) line
-all_open log x writer first line w o =
-    subst (AllByRecursion (IsOpen log x)) (sym w.shape) (open_back log x writer w.rest w.back (subst (IsOpen log x) (sym w.ends) o))
+all_open log x writer first line w o = grind (arith, open_back)
 
 pub writer_open : (log : Log) (x writer first : ℕ) (line : List ℕ) → WalkedBack log x writer first line → IsOpen log x first → IsOpen log x writer
 writer_open log x writer first line w o = (open_back log x writer w.rest w.back (subst (IsOpen log x) (sym w.ends) o)).0
-
-pub line_within : (log : Log) (x writer first : ℕ) (line : List ℕ) → WalkedBack log x writer first line → AllByRecursion (λ u. u < log.nodes + 1) line
-line_within log x writer first line w = subst (AllByRecursion (λ u. u < log.nodes + 1)) (sym w.shape) (each (writer ∷ w.rest) w.within)
-  where
-    each : (us : List ℕ) → AllByRecursion (λ u. u ≤ log.nodes) us → AllByRecursion (λ u. u < log.nodes + 1) us
-    each [] h = tt
-    each (u ∷ us) h = (omega (arith, h.0), each us h.1)
 
 -- ---- where all writers are open, no chain closes on itself
 -- a node of a chain that closes on itself has its source on the chain

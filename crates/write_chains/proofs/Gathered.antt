@@ -1,5 +1,5 @@
 -- The readings of the keys, and the readers of the nodes, one by one.
-use Rattle.std.proofs.Common.{◌≡◌, ℕ, zero, suc, ◌+◌, ◌-◌, ◌<◌, ◌≤◌, Bool, true, false, cond, eqb, List, [], ◌∷◌, ◌++◌, Option, None, Some, refl, sym, ap, subst, ◌∙◌, arith, append_assoc, inl, inr}
+use Rattle.std.proofs.Common.{◌≡◌, ℕ, zero, suc, ◌+◌, ◌-◌, ◌<◌, ◌≤◌, false, cond, eqb, List, [], ◌∷◌, ◌++◌, Option, None, Some, refl, sym, ap, subst, ◌∙◌, arith, inl, inr}
 use Rattle.std.specs.Prelude.{map}
 use Rattle.std.specs.List.{filter, filter_map, cons_option, range_with_len, AllByRecursion}
 use Rattle.std.specs.Option.{option_map, option_map_or}
@@ -69,17 +69,13 @@ readings_one log r x reads lt e =
     from_pairs r x reads ∙ ap (by_pairs r x) e ∙ present r x (source log r) 0 log.keys (omega arith) (omega arith)
 
 pub readings_push : (r x : ℕ) (front : List ReadFrom) (read : ReadFrom) → readings_by r x (front ++ read ∷ []) ≡ readings_by r x front ++ cond (eqb read.key x) (reading r read.source ∷ []) []
-readings_push r x [] read = append-nil (cond (eqb read.key x) (reading r read.source ∷ []) [])
-readings_push r x (a ∷ front) read =
-    ap (λ l. cond (eqb a.key x) (reading r a.source ∷ []) [] ++ l) (readings_push r x front read)
-    ∙ sym (append_assoc (cond (eqb a.key x) (reading r a.source ∷ []) []) (readings_by r x front) (cond (eqb read.key x) (reading r read.source ∷ []) []))
+readings_push r x [] read = grind (arith, append-nil)
+readings_push r x (a ∷ front) read = grind (arith, append-nil, readings_push r x front read)
 
 -- ---- node by node
 pub range_push : (a n : ℕ) → range_with_len a (n + 1) ≡ range_with_len a n ++ (a + n) ∷ []
-range_push a zero = ap (λ v. v ∷ []) (omega arith)
-range_push a (suc n) =
-    let e : suc n + 1 ≡ suc (n + 1) = omega arith in
-    ap (range_with_len a) e ∙ ap (λ l. a ∷ l) (range_push (a + 1) n ∙ ap (λ v. range_with_len (a + 1) n ++ v ∷ []) (omega arith))
+range_push a zero = grind arith
+range_push a (suc n) = grind (arith, range_push (a + 1) n)
 
 pub readings_further : (log : Log) (x r : ℕ) → 0 < r → readings_among log x (range_with_len 1 (r - 1)) ++ readings_among log x (r ∷ []) ≡ readings_among log x (range_with_len 1 (r + 1 - 1))
 readings_further log x r lo =
@@ -94,42 +90,26 @@ keys_below log r n None x ps lt h = h
 keys_below log r n (Some w) x ps lt h = (lt, h)
 
 pub all_keys_below : (log : Log) (r n a m : ℕ) → a + m ≤ n → AllByRecursion (λ (p : ℕ × ℕ). p.0 < n) (filter_map (λ x. option_map (λ w. (x, w)) (source log r x)) (range_with_len a m))
-all_keys_below log r n a zero h = tt
-all_keys_below log r n a (suc m) h =
-    keys_below log r n (source log r a) a (filter_map (λ x. option_map (λ w. (x, w)) (source log r x)) (range_with_len (a + 1) m)) (omega arith) (all_keys_below log r n (a + 1) m (omega arith))
+all_keys_below log r n a zero h = grind (arith, keys_below)
+all_keys_below log r n a (suc m) h = grind (arith, keys_below, all_keys_below log r n (a + 1) m (omega arith))
 
 -- ---- readers
 readers_one : (log : Log) (x w r : ℕ) (o : Option ℕ) (rest : List Reading) → readers_among w (cons_option (option_map (reading r) o) rest) ≡ cond (option_map_or (λ u. eqb u w) o false) (r ∷ readers_among w rest) (readers_among w rest)
-readers_one log x w r None rest = refl
-readers_one log x w r (Some u) rest = either (eqb u w)
-  where
-    either : (b : Bool) → map (λ (a : Reading). a.reader) (cond b (reading r u ∷ filter (λ a. eqb a.source w) rest) (filter (λ a. eqb a.source w) rest)) ≡ cond b (r ∷ readers_among w rest) (readers_among w rest)
-    either true = refl
-    either false = refl
+readers_one log x w r v4 rest = grind arith
 
 readers_of_nodes : (log : Log) (x w : ℕ) (nodes : List ℕ) → readers_among w (readings_among log x nodes) ≡ filter (reads_key log x w) nodes
-readers_of_nodes log x w [] = refl
-readers_of_nodes log x w (r ∷ nodes) =
-    readers_one log x w r (source log r x) (readings_among log x nodes)
-    ∙ ap (λ l. cond (reads_key log x w r) (r ∷ l) l) (readers_of_nodes log x w nodes)
+readers_of_nodes log x w [] = grind (arith, readers_one)
+readers_of_nodes log x w (r ∷ nodes) = grind (arith, readers_one, readers_of_nodes log x w nodes)
 
 pub readers_all : (log : Log) (x w : ℕ) → readers_among w (readings_in log x) ≡ readers log x w
 readers_all log x w = readers_of_nodes log x w (committed log)
 
 pub readers_push : (w : ℕ) (front : List Reading) (r : Reading) → readers_among w (front ++ r ∷ []) ≡ readers_among w front ++ cond (eqb r.source w) (r.reader ∷ []) []
-readers_push w front r =
-    ap (map (λ (a : Reading). a.reader)) (filter-append (λ (a : Reading). eqb a.source w) front (r ∷ []))
-    ∙ map-append (λ (a : Reading). a.reader) (filter (λ a. eqb a.source w) front) (filter (λ a. eqb a.source w) (r ∷ []))
-    ∙ ap (λ l. readers_among w front ++ l) (either (eqb r.source w))
-  where
-    either : (b : Bool) → map (λ (a : Reading). a.reader) (cond b (r ∷ []) []) ≡ cond b (r.reader ∷ []) []
-    either true = refl
-    either false = refl
+readers_push w front r = grind (arith, filter-append, map-append)
 
 -- the sources of the readings are nodes of the log
 source_one : (log : Log) (r x : ℕ) (o : Option ℕ) → source log r x ≡ o → (rest : List Reading) → AllByRecursion (λ (a : Reading). a.source < log.nodes + 1) rest → AllByRecursion (λ (a : Reading). a.source < log.nodes + 1) (cons_option (option_map (reading r) o) rest)
-source_one log r x None e rest h = h
-source_one log r x (Some w) e rest h = (let k = source_within log r x w e in omega (arith, k), h)
+source_one log r x v3 e rest h = grind (arith, source_within)
 
 pub sources_below : (log : Log) (x : ℕ) (nodes : List ℕ) → AllByRecursion (λ (a : Reading). a.source < log.nodes + 1) (readings_among log x nodes)
 sources_below log x [] = tt

@@ -1,5 +1,5 @@
 -- The heads of a key among its writers, and where walks along a table end.
-use Rattle.std.proofs.Common.{◌≡◌, ℕ, zero, suc, Bool, true, false, cond, ◌&&◌, not, List, [], ◌∷◌, ◌++◌, Option, None, Some, refl, sym, ap, ◌∙◌}
+use Rattle.std.proofs.Common.{◌≡◌, ℕ, zero, suc, Bool, true, false, ◌&&◌, not, List, [], ◌∷◌, ◌++◌, Option, None, Some, refl, ap, arith}
 use Rattle.std.specs.Prelude.{is_some, map}
 use Rattle.std.specs.List.{filter}
 use Rattle.std.specs.Option.{option_map_or}
@@ -17,12 +17,8 @@ abbrev pub reads_nothing : Log → ℕ → ℕ → Bool
 reads_nothing log x v = not (is_some (source log v x))
 
 filter_both : {X : Type 0} (p q : X → Bool) (xs : List X) → filter p (filter q xs) ≡ filter (λ x. q x && p x) xs
-filter_both p q [] = refl
-filter_both p q (x ∷ xs) =
-    elim (q x) as (λ b. filter p (cond b (x ∷ filter q xs) (filter q xs)) ≡ cond (b && p x) (x ∷ filter (λ y. q y && p y) xs) (filter (λ y. q y && p y) xs)) [
-      | true ↦ ap (λ l. cond (p x) (x ∷ l) l) (filter_both p q xs)
-      | false ↦ filter_both p q xs
-    ]
+filter_both p q [] = grind arith
+filter_both p q (x ∷ xs) = grind (arith, filter_both p q xs)
 
 pub heads_among : (log : Log) (x : ℕ) → filter (reads_nothing log x) (writers_in log x) ≡ heads log x
 heads_among log x = filter_both (reads_nothing log x) (writes log x) (committed log)
@@ -39,21 +35,14 @@ pub end_some : (f : ℕ → Option ℕ) (steps v u : ℕ) → f v ≡ Some u →
 end_some f steps v u e = ap (λ o. option_map_or (end_by f steps) o v) e
 
 pub end_none : (f : ℕ → Option ℕ) (steps v : ℕ) → f v ≡ None → end_by f steps v ≡ v
-end_none f zero v e = refl
-end_none f (suc steps) v e = ap (λ o. option_map_or (end_by f steps) o v) e
+end_none f v1 v e = grind arith
 
 -- ---- chains, head by head
 pub chain_is : (log : Log) (x h : ℕ) (view : ChainView) → view ≡ record { head = h; tail = end_by (next log x) log.nodes h; readers = readers log x (end_by (next log x) log.nodes h) } → view ≡ chain_from log x h
-chain_is log x h view e =
-    let chain : ℕ → ChainView = λ t. record { head = h; tail = t; readers = readers log x t } in
-    e ∙ ap chain (end_is log x log.nodes h)
+chain_is log x h view e = grind (arith, end_is)
 
 pub head_more : (log : Log) (x : ℕ) (front : List ℕ) (v : ℕ) (views : List ChainView) → reads_nothing log x v ≡ true → views ≡ map (chain_from log x) (filter (reads_nothing log x) front) → views ++ chain_from log x v ∷ [] ≡ map (chain_from log x) (filter (reads_nothing log x) (front ++ v ∷ []))
-head_more log x front v views t e =
-    ap (λ l. l ++ chain_from log x v ∷ []) e
-    ∙ sym (map-append (chain_from log x) (filter (reads_nothing log x) front) (v ∷ []))
-    ∙ ap (map (chain_from log x)) (ap (λ b. filter (reads_nothing log x) front ++ cond b (v ∷ []) []) (sym t) ∙ sym (filter-append (reads_nothing log x) front (v ∷ [])))
+head_more log x front v views t e = grind (arith, map-append, filter-append)
 
 pub head_passed : (log : Log) (x : ℕ) (front : List ℕ) (v : ℕ) (views : List ChainView) → reads_nothing log x v ≡ false → views ≡ map (chain_from log x) (filter (reads_nothing log x) front) → views ≡ map (chain_from log x) (filter (reads_nothing log x) (front ++ v ∷ []))
-head_passed log x front v views t e =
-    e ∙ ap (map (chain_from log x)) (sym (append-nil (filter (reads_nothing log x) front)) ∙ ap (λ b. filter (reads_nothing log x) front ++ cond b (v ∷ []) []) (sym t) ∙ sym (filter-append (reads_nothing log x) front (v ∷ [])))
+head_passed log x front v views t e = grind (arith, append-nil, filter-append)

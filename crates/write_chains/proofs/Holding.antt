@@ -1,6 +1,6 @@
 -- What the chains of a history answer from their tables.
 use Rattle.std.proofs.Common.{◌≡◌, ℕ, ◌+◌, ◌<◌, List, [], ◌∷◌, ◌++◌, Option, None, Some, length, get_or, refl, sym, ap, ◌∙◌, arith}
-use Rattle.std.specs.List.{filter_map, cons_option, range_with_len}
+use Rattle.std.specs.List.{cons_option}
 use Rattle.std.specs.Option.{option_map}
 use Rattle.std.proofs.lemmas.List.{append-nil, length-map, get_or-map}
 use Rattle.std.proofs.lemmas.List.Elements.{filter_map-append}
@@ -14,9 +14,7 @@ use Rattle.write_chains.specs.Held.{key_view, key_in, sessions_of, AreChains}
 use Rattle.write_chains.proofs.Gathered.{range_push}
 
 pub keys_held : (c : Inside) → AreChains c → length c.keys.items ≡ (log_of (sessions_of c)).keys
-keys_held c h =
-    let log = log_of (sessions_of c) in
-    sym (length-map c.keys.items key_view) ∙ ap length h.keys ∙ length-map-range_with_len (key_in log) 0 log.keys
+keys_held c h = grind (arith, length-map, length-map-range_with_len)
 
 pub key_held : (c : Inside) → AreChains c → (x : ℕ) (k : KeyChains) → x < (log_of (sessions_of c)).keys → k ≡ get_or c.keys.items x k → key_view k ≡ key_in (log_of (sessions_of c)) x
 key_held c h x k lt is =
@@ -41,22 +39,18 @@ list_absent f v e = no_list (f v) e
 
 -- ---- the lists that are not empty, one by one
 pub pairs_further : {Y : Type 0} (g : ℕ → Option Y) (k : ℕ) → pairs g 0 (k + 1) ≡ pairs g 0 k ++ cons_option (pair_at g k) []
-pairs_further g k =
-    let here : 0 + k ≡ k = omega arith in
-    ap (filter_map (pair_at g)) (range_push 0 k ∙ ap (λ v. range_with_len 0 k ++ v ∷ []) here) ∙ filter_map-append (pair_at g) (range_with_len 0 k) (k ∷ [])
+pairs_further g k = grind (arith, range_push, filter_map-append)
 
 group_some : {X : Type 0} (k : ℕ) (l : List X) → 0 < length l → cons_option {X = ℕ × List X} (option_map (λ y. (k, y)) (unless_empty l)) [] ≡ (k, l) ∷ []
 group_some k [] lt = absurd (omega arith)
 group_some k (x ∷ l) lt = refl
 
 pub group_added : {X : Type 0} (f : ℕ → List X) (k : ℕ) (views : List (ℕ × List X)) → 0 < length (f k) → views ≡ pairs (λ v. unless_empty (f v)) 0 k → views ++ (k, f k) ∷ [] ≡ pairs (λ v. unless_empty (f v)) 0 (k + 1)
-group_added f k views lt e =
-    ap (λ l. l ++ (k, f k) ∷ []) e ∙ ap (λ l. pairs (λ v. unless_empty (f v)) 0 k ++ l) (sym (group_some k (f k) lt)) ∙ sym (pairs_further (λ v. unless_empty (f v)) k)
+group_added f k views lt e = grind (arith, group_some, pairs_further)
 
 group_none : {X : Type 0} (k : ℕ) (l : List X) → length l ≡ 0 → cons_option {X = ℕ × List X} (option_map (λ y. (k, y)) (unless_empty l)) [] ≡ []
 group_none k [] e = refl
 group_none k (x ∷ l) e = absurd (omega (arith, e))
 
 pub group_passed : {X : Type 0} (f : ℕ → List X) (k : ℕ) (views : List (ℕ × List X)) → length (f k) ≡ 0 → views ≡ pairs (λ v. unless_empty (f v)) 0 k → views ≡ pairs (λ v. unless_empty (f v)) 0 (k + 1)
-group_passed f k views none e =
-    e ∙ sym (append-nil (pairs (λ v. unless_empty (f v)) 0 k)) ∙ ap (λ l. pairs (λ v. unless_empty (f v)) 0 k ++ l) (sym (group_none k (f k) none)) ∙ sym (pairs_further (λ v. unless_empty (f v)) k)
+group_passed f k views none e = grind (arith, append-nil, group_none, pairs_further)

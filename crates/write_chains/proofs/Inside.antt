@@ -1,5 +1,5 @@
 -- Inner edges, node by node and key by key.
-use Rattle.std.proofs.Common.{◌≡◌, ℕ, ◌+◌, List, [], ◌∷◌, ◌++◌, Option, None, Some, refl, sym, ap, ◌∙◌, arith, append_assoc}
+use Rattle.std.proofs.Common.{◌≡◌, ℕ, ◌+◌, List, [], ◌∷◌, ◌++◌, refl, sym, ap, ◌∙◌, arith, append_assoc}
 use Rattle.std.specs.List.{flat_map, range_with_len}
 use Rattle.serializability.specs.Log.{Log}
 use Rattle.serializability.specs.Polygraph as graph
@@ -19,18 +19,10 @@ flat_same f g e [] = refl
 flat_same f g e (x ∷ xs) = ap (λ l. l ++ flat_map f xs) (e x) ∙ ap (λ l. g x ++ l) (flat_same f g e xs)
 
 pub inner_by_links : (log : Log) (x : ℕ) → flat_map (λ w. edges_before (readers log x w) (next log x w)) (range_with_len 0 (log.nodes + 1)) ≡ inner_of log x
-inner_by_links log x = flat_same (λ w. edges_before (readers log x w) (next log x w)) (λ w. inner_at log x w (next log x w)) (λ w. one w (next log x w)) (range_with_len 0 (log.nodes + 1))
-  where
-    one : (w : ℕ) (o : Option ℕ) → edges_before (readers log x w) o ≡ inner_at log x w o
-    one w None = refl
-    one w (Some v) = refl
+inner_by_links log x = grind (arith, flat_same)
 
 flat_further : {X : Type 0} (f : ℕ → List X) (k : ℕ) → flat_map f (range_with_len 0 (k + 1)) ≡ flat_map f (range_with_len 0 k) ++ f k
-flat_further f k =
-    let here : 0 + k ≡ k = omega arith in
-    ap (flat_map f) (range_push 0 k ∙ ap (λ v. range_with_len 0 k ++ v ∷ []) here)
-    ∙ flat_map-append f (range_with_len 0 k) (k ∷ [])
-    ∙ ap (λ l. flat_map f (range_with_len 0 k) ++ l) (append-nil (f k))
+flat_further f k = grind (arith, range_push, flat_map-append, append-nil)
 
 -- with the edges of one more node, or key
 pub edges_further : {X : Type 0} (f : ℕ → List X) (k : ℕ) (first now new : List X) → now ≡ first ++ flat_map f (range_with_len 0 k) → new ≡ now ++ f k → new ≡ first ++ flat_map f (range_with_len 0 (k + 1))
@@ -38,12 +30,7 @@ edges_further f k first now new h e =
     e ∙ ap (λ l. l ++ f k) h ∙ append_assoc first (flat_map f (range_with_len 0 k)) (f k) ∙ ap (λ l. first ++ l) (sym (flat_further f k))
 
 pub inner_further : (log : Log) (k : ℕ) (now new : List graph.Edge) → now ≡ flat_map (inner_of log) (range_with_len 0 k) → new ≡ now ++ flat_map (λ w. edges_before (readers log k w) (next log k w)) (range_with_len 0 (log.nodes + 1)) → new ≡ flat_map (inner_of log) (range_with_len 0 (k + 1))
-inner_further log k now new h e =
-    e ∙ ap (λ l. l ++ flat_map (λ w. edges_before (readers log k w) (next log k w)) (range_with_len 0 (log.nodes + 1))) h
-    ∙ ap (λ l. flat_map (inner_of log) (range_with_len 0 k) ++ l) (inner_by_links log k) ∙ sym (flat_further (inner_of log) k)
+inner_further log k now new h e = grind (arith, inner_by_links, flat_further)
 
 pub mapped_further : {X Y : Type 0} (f : ℕ → Y) (view : X → Y) (k : ℕ) (now new : List X) (x : X) → map view now ≡ map f (range_with_len 0 k) → new ≡ now ++ x ∷ [] → view x ≡ f k → map view new ≡ map f (range_with_len 0 (k + 1))
-mapped_further f view k now new x h e is =
-    let here : 0 + k ≡ k = omega arith in
-    ap (map view) e ∙ map-append view now (x ∷ []) ∙ ap (λ l. l ++ view x ∷ []) h ∙ ap (λ y. map f (range_with_len 0 k) ++ y ∷ []) is
-    ∙ sym (ap (map f) (range_push 0 k ∙ ap (λ v. range_with_len 0 k ++ v ∷ []) here) ∙ map-append f (range_with_len 0 k) (k ∷ []))
+mapped_further f view k now new x h e is = grind (arith, map-append, range_push)

@@ -1,16 +1,15 @@
-use Rattle.std.proofs.Common.{◌∙◌, length, sym, ap, subst, arith}
+use Rattle.std.proofs.Common.{◌∙◌, length, sym, ap, subst, arith, length-set}
 use Rattle.desk.specs.History.{replay}
 use Rattle.cube_laws.specs.State.{opening_state}
 use Rattle.cube_laws.specs.Steps.{next_of}
 use Rattle.branch_search.specs.Trees.{IsRefutationTree}
-use Rattle.branch_search.proofs.Lists.{set_length}
 use Rattle.branch_search.proofs.Planted.{Standing, standing_step, standing_last}
 use Rattle.branch_search.proofs.growing.tree_of.Goals as goal
 
 pub loop-step-preserved : goal.loop-step-preserved
 loop-step-preserved c =
     let l = c.loop-step in let x = c.in-Some.step in let g = c.in_ok-grow.ensures in let size = l.invariant.0 in (
-      ap length g.held ∙ set_length l.held x.seat _ ∙ size,
+      ap length g.held ∙ length-set l.held x.seat _ ∙ size,
       (λ p budget legal.
           (let last = replay next_of (opening_state p budget) c.args.steps.items in
           standing_step p last l.nodes.items c.grow.new.nodes.items l.held c.grow.new.held x c.next.new.self.rest.items size g.seat g.nodes g.held

@@ -1,6 +1,6 @@
-use Rattle.std.proofs.Common.{◌≡◌, ℕ, suc, ◌+◌, ◌<◌, ◌≤◌, true, false, List, [], ◌∷◌, ◌++◌, length, map, Option, Some, refl, sym, ap, ◌∙◌, subst, inl, inr, arith}
+use Rattle.std.proofs.Common.{◌≡◌, suc, ◌+◌, length, map, refl, sym, ap, ◌∙◌, subst, inl, inr, arith}
 use Rattle.std.specs.Prelude.{slice_get, drop}
-use Rattle.cutting.specs.Parts.{CutOff, part_view, parts_view, piece_view}
+use Rattle.cutting.specs.Parts.{CutOff, parts_view, piece_view}
 use Rattle.cutting.specs.Splits.{IsApart, AllOver, AllSince, IsNoLater, behind}
 use Rattle.cutting.proofs.Views.{item, get_map, length_mapped, last_or_before}
 use Rattle.cutting.proofs.Overs.{some_same}

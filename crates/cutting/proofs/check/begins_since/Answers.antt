@@ -1,4 +1,4 @@
-use Rattle.std.proofs.Common.{◌≡◌, ℕ, suc, ◌+◌, ◌<◌, ◌≤◌, true, false, List, map, Option, Some, refl, sym, ap, ◌∙◌, subst, arith}
+use Rattle.std.proofs.Common.{sym, ap, ◌∙◌}
 use Rattle.cutting.specs.Ends.{is_since}
 use Rattle.cutting.proofs.Views.{item}
 use Rattle.cutting.proofs.Loops.{begins_later, begins_here, begins_none}

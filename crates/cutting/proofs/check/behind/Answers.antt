@@ -1,6 +1,5 @@
-use Rattle.std.proofs.Common.{◌≡◌, ℕ, suc, ◌+◌, ◌<◌, ◌≤◌, true, false, List, map, Option, Some, refl, sym, ap, ◌∙◌, subst, arith}
-use Rattle.session_log.specs.Text.{ClientSession}
-use Rattle.std.specs.Prelude.{slice_get, drop}
+use Rattle.std.proofs.Common.{map, sym, ap, ◌∙◌}
+use Rattle.std.specs.Prelude.{drop}
 use Rattle.cutting.specs.Parts.{piece_view, parts_view}
 use Rattle.cutting.specs.Splits.{behind}
 use Rattle.cutting.proofs.Views.{looked_up, get_map, get_drop}

@@ -1,5 +1,4 @@
-use Rattle.std.proofs.Common.{◌≡◌, ℕ, suc, ◌+◌, ◌<◌, ◌≤◌, true, false, List, map, Option, Some, refl, sym, ap, ◌∙◌, subst, arith}
-use Rattle.std.specs.Prelude.{drop}
+use Rattle.std.proofs.Common.{map, sym, subst}
 use Rattle.cutting.specs.Parts.{piece_view}
 use Rattle.cutting.specs.Splits.{IsNoLater}
 use Rattle.cutting.proofs.Views.{looked_up, get_map, get_drop, le_where}

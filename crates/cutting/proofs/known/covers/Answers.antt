@@ -1,4 +1,4 @@
-use Rattle.std.proofs.Common.{◌≡◌, ℕ, suc, ◌+◌, ◌<◌, ◌≤◌, true, false, List, [], ◌∷◌, ◌++◌, length, map, Option, Some, refl, sym, ap, ◌∙◌, subst, inl, inr, arith}
+use Rattle.std.proofs.Common.{◌≤◌, refl, sym, ap, ◌∙◌, subst, inl, inr, arith}
 use Rattle.session_log.specs.Text.{ClientSession}
 use Rattle.log_definitions.specs.Serial.{committed_of}
 use Rattle.std.specs.List.{Contains}

@@ -1,5 +1,4 @@
-use Rattle.std.proofs.Common.{◌≡◌, ℕ, suc, ◌+◌, ◌<◌, ◌≤◌, true, false, List, [], ◌∷◌, ◌++◌, length, map, Option, Some, refl, sym, ap, ◌∙◌, subst, inl, inr, arith}
-use Rattle.session_log.specs.Text.{view_txn}
+use Rattle.std.proofs.Common.{◌+◌, length, sym, ap, ◌∙◌, subst}
 use Rattle.cutting.specs.Parts.{part_view, parts_view}
 use Rattle.cutting.proofs.Views.{item, get_map}
 use Rattle.std.specs.Prelude.{slice_get}

@@ -1,10 +1,6 @@
-use Rattle.std.proofs.Common.{◌≡◌, ℕ, suc, ◌+◌, ◌<◌, ◌≤◌, true, false, List, map, Option, Some, refl, sym, ap, ◌∙◌, subst, arith}
-use Rattle.std.specs.List.{Contains}
-use Rattle.std.specs.Prelude.{slice_get}
+use Rattle.std.proofs.Common.{◌≡◌, ◌+◌, refl, sym, ap, ◌∙◌, subst}
 use Rattle.session_log.specs.Text.{view_txn}
-use Rattle.session_log.specs.declared.session.Op.{Op}
 use Rattle.cutting.specs.Parts.{part_view, parts_view}
-use Rattle.cutting.specs.Splits.{nodes_of}
 use Rattle.cutting.specs.Ends.{IsKnownOver, raised}
 use Rattle.cutting.proofs.Views.{looked_up, get_map}
 use Rattle.cutting.proofs.Overs.{raised_by_source}

@@ -3,7 +3,7 @@ use Rattle.cutting.specs.Parts.{parts_view}
 use Rattle.cutting.specs.Ends.{IsKnownOver}
 use Rattle.cutting.proofs.Views.{item, got}
 use Rattle.cutting.proofs.known.follow_reads.Goals.{in-Read+in-Some+then-follow_read+in_ok-push, in-Read+in-Some+else-follow_read, in-Read+in_default-find_write, in_default}
-use Rattle.std.proofs.Common.{◌≡◌, ℕ, suc, ◌+◌, ◌<◌, ◌≤◌, true, false, List, map, Option, Some, refl, sym, ap, ◌∙◌, subst, arith}
+use Rattle.std.proofs.Common.{sym, subst}
 use Rattle.cutting.proofs.known.follow_reads.Goals as goal
 
 pub loop-op-preserved : goal.loop-op-preserved

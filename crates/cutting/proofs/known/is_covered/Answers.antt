@@ -1,10 +1,9 @@
 use Rattle.cutting.proofs.Loops.{covered_more}
 use Rattle.cutting.proofs.known.is_covered.Goals.{else-over-i-via-then-over-i+else-is_committed, else-over-i-via-else-over-i}
-use Rattle.std.proofs.Common.{◌≡◌, ℕ, suc, ◌+◌, ◌<◌, ◌≤◌, true, false, List, map, Option, Some, refl, sym, ap, ◌∙◌, subst, arith}
-use Rattle.session_log.specs.Text.{Transaction, view_txn}
-use Rattle.std.specs.Prelude.{slice_get}
+use Rattle.std.proofs.Common.{map, sym, ◌∙◌, arith}
+use Rattle.session_log.specs.Text.{view_txn}
 use Rattle.std.proofs.lemmas.Option.{slice_get_within}
-use Rattle.cutting.proofs.Views.{item, get_map, of_get_map, length_mapped}
+use Rattle.cutting.proofs.Views.{item, length_mapped}
 use Rattle.cutting.proofs.known.is_covered.Goals as goal
 
 pub loop-i-init : goal.loop-i-init

@@ -1,4 +1,4 @@
-use Rattle.std.proofs.Common.{◌≡◌, ℕ, suc, ◌+◌, ◌-◌, ◌<◌, ◌≤◌, true, false, List, map, Option, Some, refl, sym, ap, ◌∙◌, subst, arith}
+use Rattle.std.proofs.Common.{◌≡◌, ℕ, ◌+◌, ◌-◌, true, List, map, Some, sym, ap, ◌∙◌, subst, arith}
 use Rattle.session_log.specs.Text.{Transaction, view_txn}
 use Rattle.std.specs.Prelude.{slice_get}
 use Rattle.cutting.specs.Ends.{ended_before, IsEnded}

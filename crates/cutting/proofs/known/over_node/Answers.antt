@@ -1,4 +1,4 @@
-use Rattle.std.proofs.Common.{◌≡◌, ℕ, suc, ◌+◌, ◌<◌, ◌≤◌, true, false, List, map, Option, Some, refl, sym, ap, ◌∙◌, subst, arith}
+use Rattle.std.proofs.Common.{◌+◌, refl, sym, ◌∙◌}
 use Rattle.session_log.specs.Text.{view_txn}
 use Rattle.cutting.specs.Parts.{part_view, parts_view}
 use Rattle.cutting.proofs.Views.{looked_up, get_map}

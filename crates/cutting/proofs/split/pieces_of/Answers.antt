@@ -1,7 +1,7 @@
-use Rattle.std.proofs.Common.{◌≡◌, ℕ, suc, ◌+◌, ◌<◌, ◌≤◌, true, false, List, [], ◌∷◌, ◌++◌, length, map, Option, Some, refl, sym, ap, ◌∙◌, subst, inl, inr, arith}
+use Rattle.std.proofs.Common.{[], map, sym, ap, ◌∙◌, subst}
 use Rattle.session_log.specs.Text.{view}
 use Rattle.cutting.specs.declared.part.Piece.{Piece}
-use Rattle.cutting.specs.Parts.{CutOff, part_view, parts_view, piece_view}
+use Rattle.cutting.specs.Parts.{parts_view, piece_view}
 use Rattle.cutting.specs.Splits.{IsSplit}
 use Rattle.cutting.proofs.Views.{map_more}
 use Rattle.cutting.proofs.Loops.{append_none}

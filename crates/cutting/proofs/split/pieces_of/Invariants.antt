@@ -1,8 +1,6 @@
-use Rattle.std.proofs.Common.{◌≡◌, ◌++◌, List, map}
-use Rattle.std.specs.Prelude.{nat_eq}
-use Rattle.std.specs.List.{IsDistinct}
-use Rattle.session_log.specs.Text.{ClientSession, view}
-use Rattle.cutting.specs.Parts.{CutOff, parts_view, piece_view}
+use Rattle.std.proofs.Common.{map}
+use Rattle.session_log.specs.Text.{view}
+use Rattle.cutting.specs.Parts.{parts_view, piece_view}
 use Rattle.cutting.proofs.Firsts.{SplitSoFar}
 use Rattle.cutting.proofs.split.pieces_of.Given as goal
 

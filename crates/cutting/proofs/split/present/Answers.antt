@@ -1,7 +1,6 @@
 use Rattle.std.proofs.Common.{length}
 use Rattle.cutting.proofs.Views.{nonempty, empty}
-use Rattle.std.proofs.Common.{◌≡◌, ℕ, suc, ◌+◌, ◌<◌, ◌≤◌, true, false, List, map, Option, Some, refl, sym, ap, ◌∙◌, subst, arith}
-use Rattle.std.specs.Prelude.{take}
+use Rattle.std.proofs.Common.{ap, ◌∙◌}
 use Rattle.cutting.specs.Parts.{part_view, parts_view}
 use Rattle.piece_laws.specs.Logs.{present}
 use Rattle.cutting.proofs.Views.{item, front_all}

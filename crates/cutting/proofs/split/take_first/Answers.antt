@@ -2,7 +2,7 @@ use Rattle.cutting.specs.Splits.{first_txns, rest_txns}
 use Rattle.std.proofs.Common.{get_or, length}
 use Rattle.cutting.specs.declared.part.Part.{Part}
 use Rattle.cutting.proofs.Views.{same_item}
-use Rattle.std.proofs.Common.{◌≡◌, ℕ, suc, ◌+◌, ◌<◌, ◌≤◌, true, false, List, map, Option, Some, refl, sym, ap, ◌∙◌, subst, arith}
+use Rattle.std.proofs.Common.{◌+◌, ◌≤◌, sym, ap, ◌∙◌, subst}
 use Rattle.cutting.specs.Parts.{part_view, parts_view}
 use Rattle.cutting.proofs.Firsts.{Taken, taken_none, takes_first, taken_numbers}
 use Rattle.cutting.proofs.Loops.{count_taken}

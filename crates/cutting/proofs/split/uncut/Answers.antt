@@ -1,4 +1,4 @@
-use Rattle.std.proofs.Common.{◌≡◌, map, sym, ap, ◌∙◌, subst}
+use Rattle.std.proofs.Common.{map, sym, ap, ◌∙◌, subst}
 use Rattle.session_log.specs.Text.{view}
 use Rattle.piece_laws.specs.Logs.{present}
 use Rattle.cutting.specs.Parts.{parts_view, piece_view}

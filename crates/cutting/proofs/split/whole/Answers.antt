@@ -1,10 +1,9 @@
 use Rattle.cutting.specs.declared.part.Part.{Part}
 use Rattle.std.proofs.Common.{[], ◌∷◌, ◌++◌}
 use Rattle.session_log.specs.Text.{view_txn}
-use Rattle.std.proofs.Common.{◌≡◌, ℕ, suc, ◌+◌, ◌<◌, ◌≤◌, true, false, List, map, Option, Some, refl, sym, ap, ◌∙◌, subst, arith}
+use Rattle.std.proofs.Common.{◌≡◌, map, sym, ap, ◌∙◌}
 use Rattle.std.specs.Prelude.{take}
 use Rattle.session_log.specs.Text.{view}
-use Rattle.session_log.specs.declared.session.Session.{Session}
 use Rattle.cutting.specs.Parts.{part_view, parts_view}
 use Rattle.cutting.proofs.Views.{item, front_all, front_more, map_more}
 use Rattle.cutting.proofs.split.whole.Goals as goal

@@ -1,5 +1,5 @@
-use Rattle.decode_order.proofs.Whole.{fault-serial, serial_where_no_fault}
+use Rattle.decode_order.proofs.Whole.{fault_serial, serial_where_no_fault}
 use Rattle.decode_order.proofs.laws.no_fault_exactly_where_serial.Goals as goal
 
 pub returns : goal.returns
-returns c = λ log order. (serial_where_no_fault log order, fault-serial log order)
+returns c = λ log order. (serial_where_no_fault log order, fault_serial log order)

@@ -10,6 +10,7 @@ use Rattle.order_cnf.specs.Tables.{Relation}
 use Rattle.order_cnf.specs.Streams.{IsFreeBipath}
 use Rattle.order_cnf.proofs.Wholes.{plain_is, free_bipaths, no_edges}
 use Rattle.order_cnf.proofs.plain.formula_of.Goals as goal
+use Rattle.order_cnf.specs.Shapes.{cnf_with}
 
 pub new-layout-requires : goal.new-layout-requires
 new-layout-requires c = record {
@@ -30,26 +31,20 @@ of-requires-clause-sound c =
     (c.deref.ensures.value ∙ c.in_ok-edges.ensures.edges ∙ ap (λ g. g.edges) c.into_parts-known.ensures.known) c.into_parts-known.ensures.choices c.new.ensures.items c.new-2.ensures.items c.new-layout.ensures.value in
     λ few. subst IsFormula (sym whole) (c.requires.plain.sound (omega (arith, few, ap (λ f. length f.clauses) whole)))
 
-pub returns-clause-formula : goal.returns-clause-formula
-returns-clause-formula c =
+-- the clauses of the layout are those of the plain formula
+whole : (c : goal.After-drop-known-inside-2) → cnf_with c.new-layout.result c.variables-variables.result ≡ plain_of c.args.polygraph
+whole c =
     let of_nodes : ℕ → Relation = λ n. record { nodes = n; known = [] } in
     let r = c.in_ok-relation.ensures.relation ∙ ap of_nodes (c.nodes.ensures.count ∙ ap (λ g. g.nodes) c.into_parts-known.ensures.known) in
-    let whole = plain_is c.new-layout.result c.args.polygraph c.in_ok-relation.relation c.variables-variables.result _ _ _ _ _ r c.variables-variables.ensures.count c.in_ok-units.ensures.literals
-    (c.deref.ensures.value ∙ c.in_ok-edges.ensures.edges ∙ ap (λ g. g.edges) c.into_parts-known.ensures.known) c.into_parts-known.ensures.choices c.new.ensures.items c.new-2.ensures.items c.new-layout.ensures.value in
-    IfOk-weaker c.of.result _ (λ f. cnf_of f ≡ plain_of c.args.polygraph) (λ f e. ap cnf_of e ∙ whole) c.of.ensures.formula
+    plain_is c.new-layout.result c.args.polygraph c.in_ok-relation.relation c.variables-variables.result _ _ _ _ _ r c.variables-variables.ensures.count c.in_ok-units.ensures.literals
+    (c.deref.ensures.value ∙ c.in_ok-edges.ensures.edges ∙ ap (λ g. g.edges) c.into_parts-known.ensures.known) c.into_parts-known.ensures.choices c.new.ensures.items c.new-2.ensures.items c.new-layout.ensures.value
+
+pub returns-clause-formula : goal.returns-clause-formula
+returns-clause-formula c = IfOk-weaker c.of.result _ (λ f. cnf_of f ≡ plain_of c.args.polygraph) (λ f e. ap cnf_of e ∙ whole c) c.of.ensures.formula
 
 pub returns-clause-fits : goal.returns-clause-fits
-returns-clause-fits c =
-    let of_nodes : ℕ → Relation = λ n. record { nodes = n; known = [] } in
-    let r = c.in_ok-relation.ensures.relation ∙ ap of_nodes (c.nodes.ensures.count ∙ ap (λ g. g.nodes) c.into_parts-known.ensures.known) in
-    let whole = plain_is c.new-layout.result c.args.polygraph c.in_ok-relation.relation c.variables-variables.result _ _ _ _ _ r c.variables-variables.ensures.count c.in_ok-units.ensures.literals
-    (c.deref.ensures.value ∙ c.in_ok-edges.ensures.edges ∙ ap (λ g. g.edges) c.into_parts-known.ensures.known) c.into_parts-known.ensures.choices c.new.ensures.items c.new-2.ensures.items c.new-layout.ensures.value in
-    subst (λ g. IfOk c.of.result (λ _. size_fault g ≡ None)) whole c.of.ensures.fits
+returns-clause-fits c = subst (λ g. IfOk c.of.result (λ _. size_fault g ≡ None)) (whole c) c.of.ensures.fits
 
 pub returns-clause-fault : goal.returns-clause-fault
 returns-clause-fault c =
-    let of_nodes : ℕ → Relation = λ n. record { nodes = n; known = [] } in
-    let r = c.in_ok-relation.ensures.relation ∙ ap of_nodes (c.nodes.ensures.count ∙ ap (λ g. g.nodes) c.into_parts-known.ensures.known) in
-    let whole = plain_is c.new-layout.result c.args.polygraph c.in_ok-relation.relation c.variables-variables.result _ _ _ _ _ r c.variables-variables.ensures.count c.in_ok-units.ensures.literals
-    (c.deref.ensures.value ∙ c.in_ok-edges.ensures.edges ∙ ap (λ g. g.edges) c.into_parts-known.ensures.known) c.into_parts-known.ensures.choices c.new.ensures.items c.new-2.ensures.items c.new-layout.ensures.value in
-    IfErr-weaker c.of.result _ (λ e. IsFault e (size_fault (plain_of c.args.polygraph))) (λ e h. inr (sym (ap size_fault whole) ∙ h)) c.of.ensures.fault
+    IfErr-weaker c.of.result _ (λ e. IsFault e (size_fault (plain_of c.args.polygraph))) (λ e h. inr (sym (ap size_fault (whole c)) ∙ h)) c.of.ensures.fault

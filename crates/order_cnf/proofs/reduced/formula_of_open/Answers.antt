@@ -1,4 +1,4 @@
-use Rattle.std.proofs.Common.{◌≡◌, ◌+◌, None, sym, ap, ◌∙◌, subst, inr, arith, length}
+use Rattle.std.proofs.Common.{◌≡◌, None, sym, ap, ◌∙◌, subst, inr, arith, length}
 use Rattle.std.specs.Prelude.{IfOk}
 use Rattle.std.specs.List.{AllByRecursion}
 use Rattle.std.proofs.lemmas.Result.{IfOk-weaker, IfErr-weaker}
@@ -9,14 +9,13 @@ use Rattle.order_cnf.specs.Data.{cnf_of, is_listed}
 use Rattle.order_cnf.specs.Left.{formula_of_rest}
 use Rattle.order_cnf.specs.Limits.{size_fault, IsFault}
 use Rattle.order_cnf.specs.Streams.{IsUnturned, IsFreeBipath}
-use Rattle.order_cnf.specs.Tables.{IsStrict, pairs_in}
-use Rattle.order_cnf.proofs.Wholes.{reduced_is, edges_in, counts_in}
-use Rattle.order_cnf.proofs.Rests.{is_reach, is_proper, is_strict, later_pairs, all_unturned, two_each}
+use Rattle.order_cnf.specs.Tables.{IsStrict}
+use Rattle.order_cnf.proofs.Wholes.{edges_in, counts_in}
+use Rattle.order_cnf.proofs.Rests.{is_reach, is_proper, is_strict, all_unturned, two_each, rest_is}
 use Rattle.order_cnf.proofs.reduced.formula_of_open.Goals as goal
 
 pub of-requires-clause-strict : goal.of-requires-clause-strict
 of-requires-clause-strict c =
-    let same = c.poly-polygraph.ensures.poly in
     let p = c.args.reduced.now.poly in
     let rows = c.args.reduced.now.rows in
     let rest = c.left_is_proper.ensures.rest in
@@ -52,14 +51,12 @@ of-requires-2-clause-sound c =
     let nodes = ap (λ r. r.nodes) c.in_ok-relation.ensures.relation ∙ c.nodes.ensures.count ∙ ap (λ q. q.nodes) same in
     let known = ap (λ r. r.known) c.in_ok-relation.ensures.relation ∙ ap (λ g. g.edges) copied in
     let choices = c.choices-choices.ensures.choices ∙ ap (λ q. q.choices) same in
-    let whole = reduced_is c.new-layout.result p c.in_ok-relation.relation (c.variables.result + length c.choices-choices.result.now) _ _ _ _ nodes (later_pairs p rows c.in_ok-relation.relation rest nodes known)
-    (ap (λ n. n + length c.choices-choices.result.now) c.variables.ensures.count ∙ ap (λ hs. length (pairs_in c.in_ok-relation.relation) + length hs) choices)
-    c.new.ensures.items c.new-2.ensures.items (c.in_ok-edges.ensures.edges ∙ ap edges_in choices) (c.in_ok-edges.ensures.counts ∙ ap counts_in choices) c.new-layout.ensures.value
-    ∙ ap (λ es. reduced (is_listed es) p) known in
+    let whole = rest_is c.new-layout.result p rows c.in_ok-relation.relation c.variables.result c.choices-choices.result.now _ _ _ _ rest nodes known c.variables.ensures.count choices
+    c.new.ensures.items c.new-2.ensures.items c.in_ok-edges.ensures.edges c.in_ok-edges.ensures.counts c.new-layout.ensures.value in
     λ few. subst IsFormula (sym whole) (is_formula p (is_proper p rows rest) (is_listed rows.edges) (is_reach p rows rest) (omega (arith, c.nodes.ensures.few, c.nodes.ensures.count, ap (λ q. q.nodes) same)) (omega (arith, few, ap (λ f. length f.clauses) whole)))
 
-pub returns-clause-formula : goal.returns-clause-formula
-returns-clause-formula c =
+pub returns : goal.returns
+returns c =
     let same = c.poly-polygraph.ensures.poly in
     let p = c.args.reduced.now.poly in
     let rows = c.args.reduced.now.rows in
@@ -68,40 +65,12 @@ returns-clause-formula c =
     let nodes = ap (λ r. r.nodes) c.in_ok-relation.ensures.relation ∙ c.nodes.ensures.count ∙ ap (λ q. q.nodes) same in
     let known = ap (λ r. r.known) c.in_ok-relation.ensures.relation ∙ ap (λ g. g.edges) copied in
     let choices = c.choices-choices.ensures.choices ∙ ap (λ q. q.choices) same in
-    let whole = reduced_is c.new-layout.result p c.in_ok-relation.relation (c.variables.result + length c.choices-choices.result.now) _ _ _ _ nodes (later_pairs p rows c.in_ok-relation.relation rest nodes known)
-    (ap (λ n. n + length c.choices-choices.result.now) c.variables.ensures.count ∙ ap (λ hs. length (pairs_in c.in_ok-relation.relation) + length hs) choices)
-    c.new.ensures.items c.new-2.ensures.items (c.in_ok-edges.ensures.edges ∙ ap edges_in choices) (c.in_ok-edges.ensures.counts ∙ ap counts_in choices) c.new-layout.ensures.value
-    ∙ ap (λ es. reduced (is_listed es) p) known in
-    IfOk-weaker c.of-2.result _ (λ f. cnf_of f ≡ formula_of_rest c.args.reduced.now) (λ f e. ap cnf_of e ∙ whole) c.of-2.ensures.formula
-
-pub returns-clause-fits : goal.returns-clause-fits
-returns-clause-fits c =
-    let same = c.poly-polygraph.ensures.poly in
-    let p = c.args.reduced.now.poly in
-    let rows = c.args.reduced.now.rows in
-    let rest = c.left_is_proper.ensures.rest in
-    let copied = c.in_ok-rows.ensures.same ∙ c.rows.ensures.rows in
-    let nodes = ap (λ r. r.nodes) c.in_ok-relation.ensures.relation ∙ c.nodes.ensures.count ∙ ap (λ q. q.nodes) same in
-    let known = ap (λ r. r.known) c.in_ok-relation.ensures.relation ∙ ap (λ g. g.edges) copied in
-    let choices = c.choices-choices.ensures.choices ∙ ap (λ q. q.choices) same in
-    let whole = reduced_is c.new-layout.result p c.in_ok-relation.relation (c.variables.result + length c.choices-choices.result.now) _ _ _ _ nodes (later_pairs p rows c.in_ok-relation.relation rest nodes known)
-    (ap (λ n. n + length c.choices-choices.result.now) c.variables.ensures.count ∙ ap (λ hs. length (pairs_in c.in_ok-relation.relation) + length hs) choices)
-    c.new.ensures.items c.new-2.ensures.items (c.in_ok-edges.ensures.edges ∙ ap edges_in choices) (c.in_ok-edges.ensures.counts ∙ ap counts_in choices) c.new-layout.ensures.value
-    ∙ ap (λ es. reduced (is_listed es) p) known in
-    subst (λ g. IfOk c.of-2.result (λ _. size_fault g ≡ None)) whole c.of-2.ensures.fits
-
-pub returns-clause-fault : goal.returns-clause-fault
-returns-clause-fault c =
-    let same = c.poly-polygraph.ensures.poly in
-    let p = c.args.reduced.now.poly in
-    let rows = c.args.reduced.now.rows in
-    let rest = c.left_is_proper.ensures.rest in
-    let copied = c.in_ok-rows.ensures.same ∙ c.rows.ensures.rows in
-    let nodes = ap (λ r. r.nodes) c.in_ok-relation.ensures.relation ∙ c.nodes.ensures.count ∙ ap (λ q. q.nodes) same in
-    let known = ap (λ r. r.known) c.in_ok-relation.ensures.relation ∙ ap (λ g. g.edges) copied in
-    let choices = c.choices-choices.ensures.choices ∙ ap (λ q. q.choices) same in
-    let whole = reduced_is c.new-layout.result p c.in_ok-relation.relation (c.variables.result + length c.choices-choices.result.now) _ _ _ _ nodes (later_pairs p rows c.in_ok-relation.relation rest nodes known)
-    (ap (λ n. n + length c.choices-choices.result.now) c.variables.ensures.count ∙ ap (λ hs. length (pairs_in c.in_ok-relation.relation) + length hs) choices)
-    c.new.ensures.items c.new-2.ensures.items (c.in_ok-edges.ensures.edges ∙ ap edges_in choices) (c.in_ok-edges.ensures.counts ∙ ap counts_in choices) c.new-layout.ensures.value
-    ∙ ap (λ es. reduced (is_listed es) p) known in
-    IfErr-weaker c.of-2.result _ (λ e. IsFault e (size_fault (formula_of_rest c.args.reduced.now))) (λ e h. inr (sym (ap size_fault whole) ∙ h)) c.of-2.ensures.fault
+    let whole = rest_is c.new-layout.result p rows c.in_ok-relation.relation c.variables.result c.choices-choices.result.now _ _ _ _ rest nodes known c.variables.ensures.count choices
+    c.new.ensures.items c.new-2.ensures.items c.in_ok-edges.ensures.edges c.in_ok-edges.ensures.counts c.new-layout.ensures.value in
+    record {
+      formula = IfOk-weaker c.of-2.result _ (λ f. cnf_of f ≡ formula_of_rest c.args.reduced.now) (λ f e. ap cnf_of e ∙ whole) c.of-2.ensures.formula;
+      choices = IfOk-weaker c.of-2.result _ (λ f. f.choices ≡ length c.args.reduced.now.poly.choices) (λ f e. ap (λ d. d.choices) e ∙ ap length choices) c.of-2.ensures.formula;
+      proper = c.left_is_proper.ensures.proper;
+      fits = subst (λ g. IfOk c.of-2.result (λ _. size_fault g ≡ None)) whole c.of-2.ensures.fits;
+      fault = IfErr-weaker c.of-2.result _ (λ e. IsFault e (size_fault (formula_of_rest c.args.reduced.now))) (λ e h. inr (sym (ap size_fault whole) ∙ h)) c.of-2.ensures.fault;
+    }

@@ -7,23 +7,12 @@ use Rattle.order_cnf.proofs.triples.next_open.Goals as goal
 pub loop-place-init : goal.loop-place-init
 loop-place-init c = none_begun c.args.relation.now c.args.i c.args.j c.args.from
 
-pub returns-then-either-ne0-clause-node : goal.returns-then-either-ne0-clause-node
-returns-then-either-ne0-clause-node c =
+pub returns-then-either-ne0 : goal.returns-then-either-ne0
+returns-then-either-ne0 c =
     let a = c.open_from-one.result in
     let b = c.open_from-other.result in
-    (next_found c.args.relation.now c.args.i c.args.j c.args.from c.loop-place.place a b c.open_from-one.ensures.word c.open_from-other.ensures.word (or_lt 64 a b (omega arith) (omega arith)) c.if-either-ne0.true c.loop-place.invariant).node
-
-pub returns-then-either-ne0-clause-some : goal.returns-then-either-ne0-clause-some
-returns-then-either-ne0-clause-some c =
-    let a = c.open_from-one.result in
-    let b = c.open_from-other.result in
-    (next_found c.args.relation.now c.args.i c.args.j c.args.from c.loop-place.place a b c.open_from-one.ensures.word c.open_from-other.ensures.word (or_lt 64 a b (omega arith) (omega arith)) c.if-either-ne0.true c.loop-place.invariant).some
-
-pub returns-then-either-ne0-clause-passed : goal.returns-then-either-ne0-clause-passed
-returns-then-either-ne0-clause-passed c =
-    let a = c.open_from-one.result in
-    let b = c.open_from-other.result in
-    (next_found c.args.relation.now c.args.i c.args.j c.args.from c.loop-place.place a b c.open_from-one.ensures.word c.open_from-other.ensures.word (or_lt 64 a b (omega arith) (omega arith)) c.if-either-ne0.true c.loop-place.invariant).passed
+    let found = next_found c.args.relation.now c.args.i c.args.j c.args.from c.loop-place.place a b c.open_from-one.ensures.word c.open_from-other.ensures.word (or_lt 64 a b (omega arith) (omega arith)) c.if-either-ne0.true c.loop-place.invariant in
+    record { node = found.node; some = found.some; passed = found.passed; none = tt }
 
 pub loop-place-preserved : goal.loop-place-preserved
 loop-place-preserved c =

@@ -1,21 +1,10 @@
-use Rattle.std.proofs.Common.{length, sym, refl, ◌∙◌, arith}
+use Rattle.std.proofs.Common.{length, sym, ◌∙◌, arith}
 use Rattle.std.proofs.lemmas.Bool.{eqb-true}
 use Rattle.std.proofs.lemmas.Result.{err_from_is_err_and}
 use Rattle.session_log.specs.Lines.{lines}
 use Rattle.order_text.specs.Faults.{order_fault}
-use Rattle.order_text.proofs.Reading.{IsRead, text_on, nodes_on, fault_on, fault_stop, no_lines, short_fault, long_fault, is_fault, nothing_read}
+use Rattle.order_text.proofs.Reading.{IsRead, text_on, nodes_on, fault_on, fault_stop, no_lines, short_fault, is_fault}
 use Rattle.order_text.proofs.read.read_order.Goals as goal
-
-pub returns-then-text-gt-MAX_ORDER_BYTES-clause-fault : goal.returns-then-text-gt-MAX_ORDER_BYTES-clause-fault
-returns-then-text-gt-MAX_ORDER_BYTES-clause-fault c = long_fault c.args.history.now c.args.text.now c.if-text-gt-MAX_ORDER_BYTES.true
-
-pub loop-rest-init : goal.loop-rest-init
-loop-rest-init c = record {
-  fault = refl;
-  text = nothing_read c.args.history.now c.args.text.now c.new-nodes.result.items c.new-nodes.ensures.items;
-  nodes = rw c.new-nodes.ensures.items (λ k d lt. absurd (omega arith));
-  room = omega arith;
-}
 
 pub returns-in_err-node-clause-fault : goal.returns-in_err-node-clause-fault
 returns-in_err-node-clause-fault c =

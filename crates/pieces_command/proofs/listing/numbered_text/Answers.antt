@@ -1,7 +1,7 @@
 use Rattle.std.proofs.Common.{◌-◌, arith}
 use Rattle.std.proofs.lemmas.Result.{err_from_is_err_and}
 use Rattle.long_log_definitions.specs.LongLog.{memory}
-use Rattle.pieces_command.proofs.Lines.{within}
+use Rattle.long_reading.proofs.Read.{some_at}
 use Rattle.pieces_command.proofs.listing.numbered_text.Goals as goal
 
 pub returns-in_err-piece_text-clause-refused : goal.returns-in_err-piece_text-clause-refused
@@ -11,5 +11,5 @@ returns-in_err-piece_text-clause-refused c =
 
 pub returns-clause-told : goal.returns-clause-told
 returns-clause-told c =
-    let p = within c.args.pieces.now (c.args.number - 1) (omega (arith, c.if-number-eq0.false, c.if-number-count-2.false, c.count.ensures.count)) in
+    let p = some_at c.args.pieces.now (c.args.number - 1) (omega (arith, c.if-number-eq0.false, c.if-number-count-2.false, c.count.ensures.count)) in
     (p.0, p.1, c.in_ok-piece_text.ensures p.0 p.1)

@@ -1,8 +1,8 @@
 use Rattle.std.proofs.Common.{sym, ◌∙◌}
 use Rattle.proof_text.specs.Numbers.{literal_of}
 use Rattle.proof_text.specs.Binary.{binary_number, binary_numbers}
-use Rattle.proof_text.proofs.Packing.{behind_at_zero, behind_at_more}
-use Rattle.proof_text.proofs.UpToZero.{at_end, at_zero, at_bad, at_item}
+use Rattle.proof_text.proofs.Packing.{behind_at_zero}
+use Rattle.proof_text.proofs.UpToZero.{at_end, at_zero, at_bad}
 use Rattle.proof_text.proofs.binary.read_literals.Goals as goal
 
 pub returns-then-number-eq0-clause-read : goal.returns-then-number-eq0-clause-read
@@ -13,13 +13,6 @@ returns-then-number-eq0-clause-read c =
 pub returns-then-number-eq0-clause-rest : goal.returns-then-number-eq0-clause-rest
 returns-then-number-eq0-clause-rest c =
     sym (c.loop-number.invariant.1 ∙ behind_at_zero c.loop-number.words c.next_number.new.self c.in-Some.number c.in-Some.ensures.number c.in-Some.ensures.rest c.if-number-eq0.true)
-
-pub loop-number-preserved : goal.loop-number-preserved
-loop-number-preserved c = (
-  at_item binary_number (literal_of c.args.variables) (binary_numbers c.args.words.now) c.loop-number.literals.items c.loop-number.words c.next_number.new.self c.loop-number.invariant.0
-      c.in-Some.number c.in-Some-literal_of.literal c.push.new.self.items c.in-Some.ensures.number c.in-Some.ensures.rest c.if-number-eq0.false c.in-Some-literal_of.ensures c.in_ok-push.ensures.items,
-  c.loop-number.invariant.1 ∙ behind_at_more c.loop-number.words c.next_number.new.self c.in-Some.number c.in-Some.ensures.number c.in-Some.ensures.rest c.if-number-eq0.false,
-)
 
 pub returns-in_default-literal_of-clause-read : goal.returns-in_default-literal_of-clause-read
 returns-in_default-literal_of-clause-read c =

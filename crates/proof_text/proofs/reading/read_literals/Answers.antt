@@ -1,16 +1,6 @@
 use Rattle.proof_text.specs.Numbers.{number_of, numbers_of, literal_of}
-use Rattle.proof_text.proofs.UpToZero.{at_end, at_zero, at_bad, at_item}
+use Rattle.proof_text.proofs.UpToZero.{at_end, at_bad}
 use Rattle.proof_text.proofs.reading.read_literals.Goals as goal
-
-pub returns-then-number-eq0 : goal.returns-then-number-eq0
-returns-then-number-eq0 c =
-    at_zero number_of (literal_of c.args.variables) (numbers_of c.args.words.now) c.loop-number.literals.items c.loop-number.words c.next_number.new.self c.loop-number.invariant
-    c.in-Some.number c.in-Some.ensures.number c.in-Some.ensures.rest c.if-number-eq0.true
-
-pub loop-number-preserved : goal.loop-number-preserved
-loop-number-preserved c =
-    at_item number_of (literal_of c.args.variables) (numbers_of c.args.words.now) c.loop-number.literals.items c.loop-number.words c.next_number.new.self c.loop-number.invariant
-    c.in-Some.number c.in-Some-literal_of.literal c.push.new.self.items c.in-Some.ensures.number c.in-Some.ensures.rest c.if-number-eq0.false c.in-Some-literal_of.ensures c.in_ok-push.ensures.items
 
 pub returns-in_default-literal_of : goal.returns-in_default-literal_of
 returns-in_default-literal_of c =

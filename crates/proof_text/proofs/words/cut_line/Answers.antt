@@ -1,8 +1,8 @@
-use Rattle.std.proofs.Common.{[], sym, ap, refl}
+use Rattle.std.proofs.Common.{sym, ap}
 use Rattle.std.proofs.lemmas.List.{take_rest}
 use Rattle.proof_text.specs.Words.{stated}
 use Rattle.proof_text.specs.Forms.{first_line}
-use Rattle.proof_text.proofs.Cutting.{lines_at, lines_unended, stated_last}
+use Rattle.proof_text.proofs.Cutting.{lines_at}
 use Rattle.proof_text.proofs.words.cut_line.Goals as goal
 
 pub returns-in-Some-clause-first : goal.returns-in-Some-clause-first
@@ -10,9 +10,3 @@ returns-in-Some-clause-first c = sym (ap first_line (lines_at c.args.text.now c.
 
 pub returns-in-Some-clause-lines : goal.returns-in-Some-clause-lines
 returns-in-Some-clause-lines c = λ n. rw take_rest (ap (stated n) (lines_at c.args.text.now c.in-Some.end c.in-Some.ensures))
-
-pub returns-in-None-clause-first : goal.returns-in-None-clause-first
-returns-in-None-clause-first c = sym (ap first_line (lines_unended c.args.text.now c.in-None.ensures))
-
-pub returns-in-None-clause-lines : goal.returns-in-None-clause-lines
-returns-in-None-clause-lines c = λ n. stated_last n c.args.text.now c.args.text.now [] (lines_unended c.args.text.now c.in-None.ensures) refl

@@ -2,14 +2,8 @@ use Rattle.std.proofs.Common.{length, sym, ap, ◌∙◌, arith}
 use Rattle.std.proofs.lemmas.Bool.{false≢true}
 use Rattle.serializability.specs.declared.event.Event.TheVariants as event
 use Rattle.log_definitions.specs.Numbers.{log_of}
-use Rattle.reasons.proofs.Ops.{key_below_at}
 use Rattle.reasons.proofs.Beginnings.{none_yet, none_plain, none_further, none_behind, none_initial, begins_at}
 use Rattle.reasons.proofs.initial.begins_behind_initial.Goals as goal
-
-pub is_beginning-requires-clause-key : goal.is_beginning-requires-clause-key
-is_beginning-requires-clause-key c =
-    let own = c.events_of-event-items.ensures.events in
-    key_below_at c.args.history.now c.args.b c.loop-place.place c.events_of-event-items.result.now (event.Read 0 0) own c.loop-place-test.true
 
 pub returns-then-is_beginning-clause-is : goal.returns-then-is_beginning-clause-is
 returns-then-is_beginning-clause-is c =

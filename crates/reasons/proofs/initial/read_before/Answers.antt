@@ -1,5 +1,4 @@
 use Rattle.std.proofs.Common.{ap, arith, sym, ◌∙◌}
-use Rattle.serializability.specs.declared.event.Event.TheVariants as event
 use Rattle.log_definitions.specs.Numbers.{log_of}
 use Rattle.session_history.specs.Rows.{event_key}
 use Rattle.reasons.specs.Events.{is_read_of}

@@ -2,17 +2,11 @@ use Rattle.std.proofs.Common.{None, ◌+◌, drop, refl, sym, ap, ◌∙◌}
 use Rattle.serializability.specs.declared.event.Event.TheVariants as event
 use Rattle.log_definitions.specs.Numbers.{log_of}
 use Rattle.reasons.specs.Events.{reads_alike, least_from}
-use Rattle.reasons.proofs.Ops.{key_below_at}
 use Rattle.reasons.proofs.Least.{least_further, least_all}
 use Rattle.reasons.proofs.overwritten.least_write.Goals as goal
 
 pub loop-place-init : goal.loop-place-init
 loop-place-init c = refl
-
-pub least_after-least-requires : goal.least_after-least-requires
-least_after-least-requires c = record {
-  key = key_below_at c.args.history.now c.args.b c.loop-place.place c.events_of-event-items.result.now (event.Read 0 0) c.events_of-event-items.ensures.events c.loop-place-test.true;
-}
 
 pub loop-place-preserved : goal.loop-place-preserved
 loop-place-preserved c =

@@ -1,10 +1,10 @@
-use Rattle.std.proofs.Common.{◌≡◌, Some, get_or, sym, ap}
+use Rattle.std.proofs.Common.{◌≡◌, Some, get_or}
 use Rattle.std.specs.Prelude.{slice_get}
 use Rattle.serializability.specs.declared.event.Event.TheVariants as event
 use Rattle.log_definitions.specs.Numbers.{log_of}
 use Rattle.reasons.specs.Events.{names, names_any}
-use Rattle.reasons.proofs.Positions.{FirstAt, first_at, none_passes, get_below, get_at}
-use Rattle.reasons.proofs.Ops.{none_read, none_first, first_read, least_read}
+use Rattle.reasons.proofs.Positions.{FirstAt, first_at, none_passes}
+use Rattle.reasons.proofs.Ops.{none_read, none_first, first_read, least_read, found_at}
 use Rattle.reasons.proofs.read.read_by.Goals as goal
 
 pub returns-in_default-clause-none : goal.returns-in_default-clause-none
@@ -19,7 +19,7 @@ returns-in_default-first_named-clause-none c =
     let read = c.in-Some.read in
     let e = get_or c.events_of.result.now read (event.Read 0 0) in
     let r : FirstAt (names_any (log_of ss) c.args.a) ops read = first_at (names_any (log_of ss) c.args.a) ops read c.in-Some.ensures in
-    let at : slice_get ops read ≡ Some e = get_at ops read (event.Read 0 0) e (get_below ops read r.item r.stands) (ap (λ l. get_or l read (event.Read 0 0)) (sym c.events_of.ensures.events)) in
+    let at : slice_get ops read ≡ Some e = found_at (log_of ss) c.args.b read c.events_of.result.now (event.Read 0 0) c.events_of.ensures.events r.item r.stands in
     absurd (none_first (log_of ss) c.args.a c.args.b read e r at (none_passes (names e) ((log_of ss).ops c.args.a) c.in_default-first_named.ensures))
 
 pub returns-clause-is : goal.returns-clause-is
@@ -29,7 +29,7 @@ returns-clause-is c =
     let read = c.in-Some.read in
     let e = get_or c.events_of.result.now read (event.Read 0 0) in
     let r : FirstAt (names_any (log_of ss) c.args.a) ops read = first_at (names_any (log_of ss) c.args.a) ops read c.in-Some.ensures in
-    let at : slice_get ops read ≡ Some e = get_at ops read (event.Read 0 0) e (get_below ops read r.item r.stands) (ap (λ l. get_or l read (event.Read 0 0)) (sym c.events_of.ensures.events)) in
+    let at : slice_get ops read ≡ Some e = found_at (log_of ss) c.args.b read c.events_of.result.now (event.Read 0 0) c.events_of.ensures.events r.item r.stands in
     first_read ss c.args.a c.args.b c.in-Some-first_named.written read e c.requires.first c.requires.second c.requires.apart at (first_at (names e) ((log_of ss).ops c.args.a) c.in-Some-first_named.written c.in-Some-first_named.ensures)
 
 pub returns-clause-least : goal.returns-clause-least
@@ -39,5 +39,5 @@ returns-clause-least c =
     let read = c.in-Some.read in
     let e = get_or c.events_of.result.now read (event.Read 0 0) in
     let r : FirstAt (names_any (log_of ss) c.args.a) ops read = first_at (names_any (log_of ss) c.args.a) ops read c.in-Some.ensures in
-    let at : slice_get ops read ≡ Some e = get_at ops read (event.Read 0 0) e (get_below ops read r.item r.stands) (ap (λ l. get_or l read (event.Read 0 0)) (sym c.events_of.ensures.events)) in
+    let at : slice_get ops read ≡ Some e = found_at (log_of ss) c.args.b read c.events_of.result.now (event.Read 0 0) c.events_of.ensures.events r.item r.stands in
     least_read ss c.args.a c.args.b c.in-Some-first_named.written read e r at (first_at (names e) ((log_of ss).ops c.args.a) c.in-Some-first_named.written c.in-Some-first_named.ensures)

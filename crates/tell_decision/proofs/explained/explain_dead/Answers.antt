@@ -14,8 +14,11 @@ dead_items-requires-clause-clean c = unpruned_clean c.args.log.now.history.now c
 pub dead_items-requires-clause-ledger : goal.dead_items-requires-clause-ledger
 dead_items-requires-clause-ledger c = dead_ledger c.args.log.now.history.now c.args.ledger.now c.requires.dead
 
-pub written_dead-requires : goal.written_dead-requires
-written_dead-requires c =
+pub soon_crossed-requires : goal.soon_crossed-requires
+soon_crossed-requires c = record { clean = unpruned_clean c.args.log.now.history.now c.requires.dead.poly c.committed-invariant.ensures.well_formed c.requires.dead.unpruned }
+
+pub written_dead-requires-clause-items : goal.written_dead-requires-clause-items
+written_dead-requires-clause-items c =
     let ss = c.args.log.now.history.now in
     let items = c.in_ok-items.items.items in
     let made = c.in_ok-items.items in
@@ -23,11 +26,11 @@ written_dead-requires c =
     let room = made.ok.1 in
     let bound = made.small in
     let small : length items < 2 ^ 63 = omega (arith, count, room, bound) in
-    record { items = subst (AreTellable ss) (sym c.deref.ensures.value) (dead_tellable ss items small c.in_ok-items.ensures.told) }
+    subst (AreTellable ss) (sym c.deref.ensures.value) (dead_tellable ss items small c.in_ok-items.ensures.told)
 
 pub returns : goal.returns
 returns c = record {
   written = IfOk-weaker c.written_dead.result _ _
-      (λ made e. dead_written c.args.format c.args.log.now c.in_ok-items.items.items c.deref.result.now made.items c.in_ok-items.ensures.told c.deref.ensures.value e)
+      (λ made e. dead_written c.args.format c.args.log.now c.in_ok-found.found c.in_ok-items.items.items c.deref.result.now made.items c.in_ok-found.ensures.crossed c.in_ok-items.ensures.told c.deref.ensures.value e)
       c.written_dead.ensures.text;
 }

@@ -1,9 +1,8 @@
 use Rattle.std.proofs.Common.{◌<◌, ◌^◌, length, subst, sym, arith}
 use Rattle.std.proofs.lemmas.Result.{IfOk-weaker}
-use Rattle.tell_trees.specs.Trees.{IsTreeTold}
 use Rattle.tell_trees.specs.Visits.{leaf_count}
 use Rattle.tell_texts.specs.Texts.{AreTellable}
-use Rattle.tell_decision.proofs.Premises.{unpruned_clean, are_written}
+use Rattle.tell_decision.proofs.Premises.{unpruned_clean, tree_written}
 use Rattle.tell_decision.proofs.Tellable.{tree_tellable}
 use Rattle.tell_decision.proofs.explained.explain_tree.Goals as goal
 
@@ -13,8 +12,11 @@ open_chains-requires-clause-clean c = unpruned_clean c.args.log.now.history.now 
 pub tree_items-requires-clause-clean : goal.tree_items-requires-clause-clean
 tree_items-requires-clause-clean c = unpruned_clean c.args.log.now.history.now c.requires.left.poly c.committed-invariant.ensures.well_formed c.requires.left.unpruned
 
-pub written-requires : goal.written-requires
-written-requires c =
+pub soon_crossed-requires : goal.soon_crossed-requires
+soon_crossed-requires c = record { clean = unpruned_clean c.args.log.now.history.now c.requires.left.poly c.committed-invariant.ensures.well_formed c.requires.left.unpruned }
+
+pub written_tree-requires-clause-items : goal.written_tree-requires-clause-items
+written_tree-requires-clause-items c =
     let ss = c.args.log.now.history.now in
     let items = c.in_ok-items.items.items in
     let made = c.in_ok-items.items in
@@ -22,11 +24,11 @@ written-requires c =
     let room = made.ok.1 in
     let bound = made.small in
     let small : length items < 2 ^ 63 = omega (arith, count, room, bound) in
-    record { items = subst (AreTellable ss) (sym c.deref.ensures.value) (tree_tellable ss (leaf_count c.args.tree.now) items small c.in_ok-items.ensures.told) }
+    subst (AreTellable ss) (sym c.deref.ensures.value) (tree_tellable ss (leaf_count c.args.tree.now) items small c.in_ok-items.ensures.told)
 
 pub returns : goal.returns
 returns c = record {
-  written = IfOk-weaker c.written.result _ _
-      (λ made e. are_written (IsTreeTold c.args.log.now.history.now (leaf_count c.args.tree.now)) c.args.format c.args.log.now c.in_ok-items.items.items c.deref.result.now made.items c.in_ok-items.ensures.told c.deref.ensures.value e)
-      c.written.ensures.text;
+  written = IfOk-weaker c.written_tree.result _ _
+      (λ made e. tree_written (leaf_count c.args.tree.now) c.args.format c.args.log.now c.in_ok-found.found c.in_ok-items.items.items c.deref.result.now made.items c.in_ok-found.ensures.crossed c.in_ok-items.ensures.told c.deref.ensures.value e)
+      c.written_tree.ensures.text;
 }

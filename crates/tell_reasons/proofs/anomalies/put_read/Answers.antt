@@ -4,9 +4,9 @@ use Rattle.tell_reasons.proofs.anomalies.put_read.Goals as goal
 
 pub returns : goal.returns
 returns c =
-    let said = reads_text c.args.log.now c.args.node c.args.op in
+    let said = reads_text c.args.log.now c.args.at.node c.args.at.op in
     record {
       told =
-          said_told c.args.log.now c.args.node c.args.op said c.args.out.now.items c.put_reads.new.out.items c.put_source.new.out.items
-          c.in_ok-put_reads.ensures.text c.in_ok-put_source.ensures.told;
+          said_told c.args.log.now c.args.at.node c.args.at.op said c.args.out.now.items c.put_does.new.out.items c.put_source.new.out.items
+          c.in_ok-put_does.ensures.text c.in_ok-put_source.ensures.told;
     }

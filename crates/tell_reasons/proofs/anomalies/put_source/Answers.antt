@@ -14,6 +14,6 @@ returns c =
     let writer = subst (λ l. Appends old mid (IsWriterTold n l line key wid)) c.sessions.ensures.sessions c.in_ok-put_writer.ensures.told in
     record {
       told =
-          rest_told c.args.log.now c.args.node c.args.op line old mid c.put_text.new.out.items key wid c.requires.read c.line_of-line.ensures.line
+          rest_told c.args.log.now c.args.at.node c.args.at.op line old mid c.put_text.new.out.items key wid c.requires.read c.line_of-line.ensures.line
           c.key_at-key.ensures.bytes c.wid_at-wid.ensures.wid writer c.in_ok-put_text.ensures.text;
     }

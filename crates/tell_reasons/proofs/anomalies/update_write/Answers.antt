@@ -2,7 +2,7 @@ use Rattle.std.proofs.Common.{◌≤◌, length, ap, sym, ◌∙◌, arith}
 use Rattle.log_definitions.specs.Serial.{ops_of}
 use Rattle.tell_reasons.specs.Reasons.{op_at, key_text}
 use Rattle.tell_reasons.specs.Anomalies.{is_write_of, last_position}
-use Rattle.tell_reasons.proofs.Found.{front_all}
+use Rattle.std.proofs.lemmas.List.{take_all}
 use Rattle.tell_reasons.proofs.Updates.{first_read, no_write}
 use Rattle.tell_reasons.proofs.anomalies.update_write.Goals as goal
 
@@ -19,4 +19,4 @@ returns-clause-place c =
     let ss = c.args.history.now in
     let ops = ops_of ss c.args.node in
     let le : length ops ≤ c.op_count.result = omega (arith, c.op_count.ensures.count) in
-    sym (c.in-Some.ensures.place ∙ ap (λ l. last_position (is_write_of (key_text (op_at ss c.args.node c.args.read))) l) (front_all ops c.op_count.result le))
+    sym (c.in-Some.ensures.place ∙ ap (λ l. last_position (is_write_of (key_text (op_at ss c.args.node c.args.read))) l) (take_all c.op_count.result ops le))

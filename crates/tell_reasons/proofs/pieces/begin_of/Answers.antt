@@ -1,10 +1,7 @@
-use Rattle.std.proofs.Common.{◌≡◌, ◌-◌, ◌<◌, length, get_or, ap, ◌∙◌, arith}
+use Rattle.std.proofs.Common.{◌-◌, ◌<◌, length, get_or, ap, ◌∙◌, arith}
 use Rattle.std.proofs.lemmas.List.{get_or_read}
 use Rattle.tell_reasons.proofs.Begun.{begin_listed}
 use Rattle.tell_reasons.proofs.pieces.begin_of.Goals as goal
-
-pub index-requires : goal.index-requires
-index-requires c = omega (arith, begin_listed c.args.log.now c.args.node c.requires.node, c.requires.node.0, c.get.ensures.value, c.args.log.now.begins.ok.0)
 
 pub returns : goal.returns
 returns c =

@@ -1,14 +1,8 @@
-use Rattle.std.proofs.Common.{◌<◌, sym, ap, subst, ◌∙◌}
+use Rattle.std.proofs.Common.{sym, ap, ◌∙◌}
 use Rattle.std.specs.Prelude.{slice_get}
 use Rattle.log_definitions.specs.WellFormed.{keys_in}
-use Rattle.log_definitions.specs.Numbers.{log_of}
-use Rattle.tell_reasons.proofs.Ops.{key_below, key_told}
+use Rattle.tell_reasons.proofs.Ops.{key_told}
 use Rattle.tell_reasons.proofs.pieces.key_at.Goals as goal
-
-pub key_text-requires : goal.key_text-requires
-key_text-requires c =
-    subst (λ x. x < (log_of c.args.history.now).keys) (sym c.key_of.ensures)
-    (key_below c.args.history.now c.args.node c.args.op c.event_at.result c.event_at.ensures.event)
 
 pub returns : goal.returns
 returns c =

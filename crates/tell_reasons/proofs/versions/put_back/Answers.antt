@@ -1,6 +1,6 @@
-use Rattle.std.proofs.Common.{◌≡◌, ◌++◌, ap, ◌∙◌, append_assoc}
+use Rattle.std.proofs.Common.{◌++◌, ap, ◌∙◌, append_assoc}
 use Rattle.std.specs.Prelude.{codes, decimal}
-use Rattle.tell_reasons.proofs.Told.{on_ok}
+use Rattle.std.proofs.lemmas.Result.{on_ok_weaker}
 use Rattle.tell_reasons.proofs.versions.put_back.Goals as goal
 
 pub returns : goal.returns
@@ -12,6 +12,6 @@ returns c =
     let new = c.put_number.new.out.items in
     record {
       text =
-          on_ok (new ≡ middle ++ digits) (new ≡ old ++ (words ++ digits)) c.put_number.result
+          on_ok_weaker c.put_number.result
           (λ e. e ∙ ap (λ l. l ++ digits) c.in_ok-extend_from_slice.ensures.items ∙ append_assoc old words digits) c.put_number.ensures.text;
     }

@@ -1,9 +1,8 @@
-use Rattle.std.proofs.Common.{◌≡◌, ◌++◌}
 use Rattle.std.specs.Prelude.{codes}
 use Rattle.tell_reasons.specs.Reasons.{key_bytes}
-use Rattle.tell_reasons.specs.Versions.{version_text, versions_text}
+use Rattle.tell_reasons.specs.Versions.{version_text}
 use Rattle.tell_reasons.proofs.Texts.{five_joined}
-use Rattle.tell_reasons.proofs.Told.{on_ok}
+use Rattle.std.proofs.lemmas.Result.{on_ok_weaker}
 use Rattle.tell_reasons.proofs.versions.put_versions.Goals as goal
 
 pub returns : goal.returns
@@ -23,7 +22,7 @@ returns c =
     let new = c.put_version-2.new.out.items in
     record {
       text =
-          on_ok (new ≡ four ++ second) (new ≡ old ++ versions_text log order) c.put_version-2.result
+          on_ok_weaker c.put_version-2.result
           (λ e. five_joined old key colon first before second one two three four new c.in_ok-put_key.ensures.text
           c.in_ok-extend_from_slice.ensures.items c.in_ok-put_version.ensures.text c.in_ok-extend_from_slice-2.ensures.items e)
           c.put_version-2.ensures.text;

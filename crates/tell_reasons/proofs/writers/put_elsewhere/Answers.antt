@@ -1,9 +1,10 @@
 use Rattle.std.proofs.Common.{◌≡◌, ◌+◌, ◌++◌, Some, sym, ap, ◌∙◌, arith}
-use Rattle.std.specs.Prelude.{codes, map, slice_get}
+use Rattle.std.specs.Prelude.{map, slice_get}
 use Rattle.session_log.specs.Text.{view, view_txn}
 use Rattle.tell_reasons.specs.declared.writes.Keys.TheVariants.{Any}
-use Rattle.tell_reasons.specs.Anomalies.{Appends, IsWriterTold, elsewhere_text}
-use Rattle.tell_reasons.proofs.Told.{on_ok, nobody_told, elsewhere_told, any_write, op_found}
+use Rattle.tell_reasons.specs.Anomalies.{elsewhere_text}
+use Rattle.std.proofs.lemmas.Result.{on_ok_weaker}
+use Rattle.tell_reasons.proofs.Told.{nobody_told, elsewhere_told, any_write, op_found}
 use Rattle.tell_reasons.proofs.writers.put_elsewhere.Goals as goal
 
 pub overflow_add-line-in-Some : goal.overflow_add-line-in-Some
@@ -30,7 +31,7 @@ returns-in-Some c =
     let op : slice_get t.ops.items w.op ≡ Some c.op_among-op.result.now = ap (λ ops. slice_get ops w.op) (sym c.deref.ensures.value) ∙ c.op_among-op.ensures in
     record {
       told =
-          on_ok (new ≡ old ++ elsewhere_text key s.number (w.txn + 1) (Some c.op_among-op.result.now) line) (Appends old new (IsWriterTold n ss read key wid)) c.put_written_elsewhere.result
+          on_ok_weaker c.put_written_elsewhere.result
           (λ e. elsewhere_told n ss read key wid is.other s.number (w.txn + 1) w.begin w.op (view_txn t) old new c.requires.nonzero c.requires.none is.write
           (e ∙ ap (λ o. old ++ elsewhere_text key s.number (w.txn + 1) o line) (sym op))) c.put_written_elsewhere.ensures.text;
     }
@@ -46,6 +47,6 @@ returns-in-None c =
     let new = c.put_text.new.out.items in
     record {
       told =
-          on_ok (new ≡ old ++ codes ", which no transaction wrote") (Appends old new (IsWriterTold n ss read key wid)) c.put_text.result
+          on_ok_weaker c.put_text.result
           (λ e. nobody_told n ss read key wid old new c.requires.nonzero c.in-None.ensures.none e) c.put_text.ensures.text;
     }

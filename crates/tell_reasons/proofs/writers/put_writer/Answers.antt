@@ -1,8 +1,7 @@
-use Rattle.std.proofs.Common.{◌≡◌, ◌++◌}
-use Rattle.std.specs.Prelude.{codes, map}
+use Rattle.std.specs.Prelude.{map}
 use Rattle.session_log.specs.Text.{view}
-use Rattle.tell_reasons.specs.Anomalies.{Appends, IsWriterTold}
-use Rattle.tell_reasons.proofs.Told.{on_ok, initial_told}
+use Rattle.std.proofs.lemmas.Result.{on_ok_weaker}
+use Rattle.tell_reasons.proofs.Told.{initial_told}
 use Rattle.tell_reasons.proofs.writers.put_writer.Goals as goal
 
 pub returns-then-wid-eq0 : goal.returns-then-wid-eq0
@@ -12,6 +11,6 @@ returns-then-wid-eq0 c =
     let new = c.put_text.new.out.items in
     record {
       told =
-          on_ok (new ≡ old ++ codes ", the initial value") (Appends old new (IsWriterTold c.args.first ss c.args.read c.args.key.now c.args.wid)) c.put_text.result
+          on_ok_weaker c.put_text.result
           (λ e. initial_told c.args.first ss c.args.read c.args.key.now c.args.wid old new c.if-wid-eq0.true e) c.put_text.ensures.text;
     }

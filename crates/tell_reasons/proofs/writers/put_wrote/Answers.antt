@@ -1,8 +1,8 @@
-use Rattle.std.proofs.Common.{◌≡◌, ◌+◌, ◌++◌}
+use Rattle.std.proofs.Common.{◌+◌}
 use Rattle.std.specs.Prelude.{map}
 use Rattle.session_log.specs.Text.{view, view_txn}
-use Rattle.tell_reasons.specs.Anomalies.{Appends, IsWriterTold, wrote_text}
-use Rattle.tell_reasons.proofs.Told.{on_ok, wrote_told, this_write}
+use Rattle.std.proofs.lemmas.Result.{on_ok_weaker}
+use Rattle.tell_reasons.proofs.Told.{wrote_told, this_write}
 use Rattle.tell_reasons.proofs.writers.put_wrote.Goals as goal
 
 pub returns-in-Some : goal.returns-in-Some
@@ -20,6 +20,6 @@ returns-in-Some c =
     let is = this_write n c.args.sessions.now key wid w s t c.in-Some.ensures.found c.session_at-session.ensures c.txn_at-txn.ensures.item in
     record {
       told =
-          on_ok (new ≡ old ++ wrote_text read key s.number (w.txn + 1) (view_txn t) w.begin w.op) (Appends old new (IsWriterTold n ss read key wid)) c.put_written.result
+          on_ok_weaker c.put_written.result
           (λ e. wrote_told n ss read key wid s.number (w.txn + 1) w.begin w.op (view_txn t) old new is e) c.put_written.ensures.text;
     }

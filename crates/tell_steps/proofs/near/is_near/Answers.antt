@@ -8,7 +8,7 @@ pub returns-then-shown-clause-near : goal.returns-then-shown-clause-near
 returns-then-shown-clause-near c = λ t.
     let o = c.args.order in
     record {
-      between = c.requires.source;
+      between = c.is_between.ensures.yes c.if-not-is_between.false;
       shown = c.in_ok-shown.ensures.shown c.if-shown.true;
       edge = subst (λ s. Contains (edges_in (log_of s) o) (c.args.source, o.second)) c.requires.chains (c.has_edge.ensures.yes t);
     }

@@ -1,5 +1,4 @@
-use Rattle.std.proofs.Common.{◌≡◌, ◌≤◌, length, vec_len, arith}
-use Rattle.tell_steps.proofs.Proposals.{steps_more, steps_all}
+use Rattle.tell_steps.proofs.Proposals.{steps_more}
 use Rattle.tell_steps.proofs.proposed.are_steps.Goals as goal
 
 pub loop-entry-preserved : goal.loop-entry-preserved

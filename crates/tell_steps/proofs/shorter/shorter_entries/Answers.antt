@@ -1,11 +1,11 @@
-use Rattle.std.proofs.Common.{◌+◌, ◌<◌, length, refl, arith}
+use Rattle.std.proofs.Common.{◌<◌, length, refl, arith}
 use Rattle.std.proofs.lemmas.Option.{slice_get_read}
 use Rattle.tell_steps.proofs.Ledgers.{post_at}
 use Rattle.tell_steps.proofs.Shortcuts.{step_order, step_walk, step_kept, front_more}
 use Rattle.tell_steps.proofs.shorter.shorter_entries.Goals as goal
 
-pub post_of-requires-clause-order : goal.post_of-requires-clause-order
-post_of-requires-clause-order c =
+pub shorter_post-requires-clause-order : goal.shorter_post-requires-clause-order
+shorter_post-requires-clause-order c =
     let kept = c.args.basis.now.grounds.now.kept.items in
     let i = c.loop-entry.entry in
     let x = c.index-entries-entry.result in
@@ -15,8 +15,8 @@ post_of-requires-clause-order c =
     let step = c.requires.steps.each i x.post (post_at c.args.entries.now i x c.loop-entry-test.true c.index-entries-entry.is) in
     step_order c.args.basis.now.history.now kept i o c.turned-order.result x.post at c.turned-order.ensures.order step
 
-pub post_of-requires-clause-walk : goal.post_of-requires-clause-walk
-post_of-requires-clause-walk c =
+pub shorter_post-requires-clause-walk : goal.shorter_post-requires-clause-walk
+shorter_post-requires-clause-walk c =
     let kept = c.args.basis.now.grounds.now.kept.items in
     let i = c.loop-entry.entry in
     let x = c.index-entries-entry.result in

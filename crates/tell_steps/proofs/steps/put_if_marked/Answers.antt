@@ -3,7 +3,8 @@ use Rattle.std.specs.Prelude.{slice_get}
 use Rattle.std.proofs.lemmas.Option.{slice_get_read}
 use Rattle.tell_steps.specs.Lines.{sides_of}
 use Rattle.tell_steps.specs.Told.{AreTold}
-use Rattle.tell_steps.proofs.Telling.{one_of, rests_later, told_skip, told_step}
+use Rattle.tell_steps.proofs.Places.{one_of}
+use Rattle.tell_steps.proofs.Telling.{rests_later, told_skip, told_step}
 use Rattle.tell_steps.proofs.steps.put_if_marked.Goals as goal
 
 pub put_step-requires-clause-rests : goal.put_step-requires-clause-rests

@@ -13,23 +13,23 @@ returns-then-is_empty c =
 pub invariant_of-self : goal.invariant_of-self
 invariant_of-self c =
     let some : 0 < length c.self.inside.rest.now = omega (arith, eqb-false (length c.self.inside.rest.now) 0 (sym c.is_empty.ensures ∙ c.if-is_empty.false)) in
-    let behind = rw c.in-Ok-Some.field-0-is at c.in-Ok-Some.ensures.rest in
+    let behind = rw c.in-Some.is at c.in_ok-action.ensures.rest in
     behind_within c.self.inside.rest.now c.of-words.result (binary_words c.bytes-self-inside.result.now) c.self.inside.number (2 ^ 63) some c.of-words.ensures
     (c.bytes-self-inside.ensures ∙ behind) c.self.invariant
 
-pub returns-in-Ok-Some : goal.returns-in-Ok-Some
-returns-in-Ok-Some c =
+pub returns-in-Some : goal.returns-in-Some
+returns-in-Some c =
     let some : 0 < length c.self.inside.rest.now = omega (arith, eqb-false (length c.self.inside.rest.now) 0 (sym c.is_empty.ensures ∙ c.if-is_empty.false)) in
-    let step = rw c.in-Ok-Some.field-0-is at c.in-Ok-Some.ensures.step in
-    let behind = rw c.in-Ok-Some.field-0-is at c.in-Ok-Some.ensures.rest in
+    let step = rw c.in-Some.is at c.in_ok-action.ensures.step in
+    let behind = rw c.in-Some.is at c.in_ok-action.ensures.rest in
     ap (steps_by (binary_step c.args.variables)) (sym c.self.view_is)
-    ∙ (steps_first c.args.variables c.self.inside.number c.self.inside.rest.now c.of-words.result (Some (drat_clause c.in-Ok-Some.action c.read_step.new.literals.items)) some c.of-words.ensures step
-    ∙ ap (λ ws. (c.self.inside.number, Some (drat_clause c.in-Ok-Some.action c.read_step.new.literals.items)) ∷ steps_at c.args.variables (c.self.inside.number + 1) ws) (sym (c.bytes-self-inside.ensures ∙ behind)))
+    ∙ (steps_first c.args.variables c.self.inside.number c.self.inside.rest.now c.of-words.result (Some (drat_clause c.in-Some.action c.read_step.new.literals.items)) some c.of-words.ensures step
+    ∙ ap (λ ws. (c.self.inside.number, Some (drat_clause c.in-Some.action c.read_step.new.literals.items)) ∷ steps_at c.args.variables (c.self.inside.number + 1) ws) (sym (c.bytes-self-inside.ensures ∙ behind)))
 
-pub returns-in-Ok-None : goal.returns-in-Ok-None
-returns-in-Ok-None c =
+pub returns-in-None : goal.returns-in-None
+returns-in-None c =
     let some : 0 < length c.self.inside.rest.now = omega (arith, eqb-false (length c.self.inside.rest.now) 0 (sym c.is_empty.ensures ∙ c.if-is_empty.false)) in
-    let step = rw c.in-Ok-None.field-0-is at c.in-Ok-None.ensures.step in (
+    let step = rw c.in-None.is at c.in_ok-action.ensures.step in (
       steps_at c.args.variables (c.self.inside.number + 1) (behind_line c.of-words.result),
       ap (steps_by (binary_step c.args.variables)) (sym c.self.view_is) ∙ steps_first c.args.variables c.self.inside.number c.self.inside.rest.now c.of-words.result None some c.of-words.ensures step,
     )
