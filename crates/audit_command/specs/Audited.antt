@@ -64,22 +64,21 @@ pub record IsAudited (o : AuditOptions) (log : List ℕ) (status : Status)
   pub told : IsReport o.form o.quiet (length pieces) verdict totals text
 
 -- a text that is so was put into the sink
-pub record IsTold (o : AuditOptions) (log : List ℕ) (old new : Option (List ℕ))
+pub record IsAuditTold (o : AuditOptions) (log : List ℕ) (old new : Option (List ℕ))
     (status : Status) : Type 0 where
   pub text : List ℕ
   pub audited : IsAudited o log status text
   pub all : Appends old new text
 
 -- the sink failed at such a text
-pub record IsToldInPart (o : AuditOptions) (log : List ℕ) (old new : Option (List ℕ))
+pub record IsAuditToldInPart (o : AuditOptions) (log : List ℕ) (old new : Option (List ℕ))
     (written : ℕ) : Type 0 where
   pub status : Status
   pub text : List ℕ
   pub audited : IsAudited o log status text
   pub cut : IsCutShort old new text written
 
--- The log is no long log, and its first fault is this one; what is said of that was put into the
--- sink.
+-- the log is no long log, with this first fault; what is said of that was put into the sink
 pub record IsLogRefused (o : AuditOptions) (log : List ℕ) (old new : Option (List ℕ))
     (f : LogFault) : Type 0 where
   pub text : List ℕ
@@ -88,7 +87,7 @@ pub record IsLogRefused (o : AuditOptions) (log : List ℕ) (old new : Option (L
   pub all : Appends old new text
 
 -- the sink failed at what is said of a refused log
-pub record IsRefusedInPart (o : AuditOptions) (log : List ℕ) (old new : Option (List ℕ))
+pub record IsRefusalToldInPart (o : AuditOptions) (log : List ℕ) (old new : Option (List ℕ))
     (written : ℕ) : Type 0 where
   pub f : LogFault
   pub text : List ℕ
@@ -97,9 +96,10 @@ pub record IsRefusedInPart (o : AuditOptions) (log : List ℕ) (old new : Option
   pub cut : IsCutShort old new text written
 
 -- why there is no answer
-abbrev pub IsRefused : AuditOptions → List ℕ → Option (List ℕ) → Option (List ℕ) → Fault → Type 0
-IsRefused o log old new (fault.Log f) = IsLogRefused o log old new f
-IsRefused o log old new (fault.Device written) = IsToldInPart o log old new written
-    ⊎ IsRefusedInPart o log old new written
-IsRefused o log old new fault.Memory = Keeps old new
-IsRefused o log old new _ = ⊥
+abbrev pub IsAuditRefused : AuditOptions → List ℕ → Option (List ℕ) → Option (List ℕ) → Fault
+    → Type 0
+IsAuditRefused o log old new (fault.Log f) = IsLogRefused o log old new f
+IsAuditRefused o log old new (fault.Device written) = IsAuditToldInPart o log old new written
+    ⊎ IsRefusalToldInPart o log old new written
+IsAuditRefused o log old new fault.Memory = Keeps old new
+IsAuditRefused o log old new _ = ⊥

@@ -5,14 +5,14 @@ ghost use Rattle.session_log.specs.Text.{view};
 ghost use Rattle.session_log.specs.Version.{version_of};
 ghost use Rattle.long_log_definitions.specs.LongLog.{IsLongLog, IsLongLogFault};
 ghost use Rattle.cobra_answers.specs.Failures.{failures_after};
-ghost use Rattle.audit_command.specs.Audited.{IsAudited, IsTold, IsRefused};
+ghost use Rattle.audit_command.specs.Audited.{IsAudited, IsAuditTold, IsAuditRefused};
+ghost use Rattle.audit_command.specs.Report.{status_of};
 
-use crate::counting::totals_of;
-use crate::openings::status_of;
 use crate::options::AuditOptions;
+use crate::piece_reasons::piece_reason;
 use crate::reports::{Audited, refusal, report};
-use crate::told::told_of;
-use auditing::{Progress, count_log, judge, verdict_of};
+use crate::totals::totals_of;
+use auditing::{Progress, Verdict, count_log, judge, verdict_of};
 use cobra_answers::{Fault, Reply, Status, tell};
 use dimacs::{Sink, write_all};
 use held_pieces::{Pieces, size_of_pieces};
@@ -24,6 +24,17 @@ use std::io::Eprint;
 use std::sync::Wait;
 use std::thread::Threads;
 use std::time::Clock;
+
+/// How a command ends that tells this verdict.
+pub fn status_of(verdict: &Verdict) -> Status
+    ensures status { result ≡ status_of verdict.now }
+{
+    match verdict {
+        Verdict::Serializable => Status::Done,
+        Verdict::NotSerializable(_) => Status::NotSerializable,
+        Verdict::TooFew { .. } | Verdict::Undecided { .. } => Status::Unknown,
+    }
+}
 
 /// What is said of a long log of these sessions, and how the command ends.
 fn reply_of<R: Threads + Wait + Clock + Eprint + Sync, P: Progress>(
@@ -53,7 +64,7 @@ fn reply_of<R: Threads + Wait + Clock + Eprint + Sync, P: Progress>(
     );
     let status = status_of(&verdict);
     let totals = totals_of(&counts, &sessions, &pieces)?;
-    let why = told_of(rt, alloc, version, &sessions, &pieces, verdict, options)?;
+    let why = piece_reason(rt, alloc, version, &sessions, &pieces, verdict, options)?;
     let text = report(
         alloc,
         options,
@@ -82,7 +93,8 @@ fn refused<W: Sink>(
     sink: &mut W,
 ) -> Fault
     requires fault { IsLongLogFault log.now fault }
-    ensures refused { IsRefused options.now log.now (W.bytes sink.old) (W.bytes sink.new) result }
+    ensures refused { IsAuditRefused options.now log.now (W.bytes sink.old) (W.bytes sink.new)
+        result }
     ensures count { W.failures sink.new ≡ failures_after (W.failures sink.old) (Err result) }
 {
     let Ok(text) = refusal(alloc, options, log, fault) else {
@@ -109,8 +121,9 @@ pub fn audit<R: Threads + Wait + Clock + Eprint + Sync, W: Sink, P: Progress>(
     progress: &mut P,
     sink: &mut W,
 ) -> Result<Status, Fault>
-    ensures told { IfOk result (IsTold options.now log.now (W.bytes sink.old) (W.bytes sink.new)) }
-    ensures refused { IfErr result (IsRefused options.now log.now (W.bytes sink.old)
+    ensures told { IfOk result (IsAuditTold options.now log.now (W.bytes sink.old)
+        (W.bytes sink.new)) }
+    ensures refused { IfErr result (IsAuditRefused options.now log.now (W.bytes sink.old)
         (W.bytes sink.new)) }
     ensures count { W.failures sink.new ≡ failures_after (W.failures sink.old) result }
 {

@@ -11,18 +11,16 @@
 #![tactic(auto)]
 
 mod command;
-mod counting;
-mod objects;
-mod openings;
+mod json;
 mod options;
-mod refuted;
+mod piece_commands;
+mod piece_reasons;
+mod report_lines;
 mod reports;
 mod spans;
-mod told;
 mod totals;
 mod undecided;
 
-pub use command::audit;
-pub use openings::status_of;
+pub use command::{audit, status_of};
 pub use options::AuditOptions;
 pub use totals::Totals;

@@ -4,10 +4,10 @@ ghost use Rattle.std.specs.Prelude.{◌≡◌, length, IfOk};
 ghost use Rattle.std.specs.String.{string_bytes};
 ghost use Rattle.audit_command.specs.Report.{IsReport, IsRefusal, NamesOneOf};
 
-use crate::objects::{object_rest, refusal_rest};
-use crate::openings::{counts_text, first_line, object_finding, object_front, piece_line};
+use crate::json::{object_finding, object_front, object_rest, refusal_rest};
 use crate::options::AuditOptions;
-use crate::refuted::refuted_text;
+use crate::piece_reasons::refuted_piece_text;
+use crate::report_lines::{counts_text, first_line, piece_line};
 use crate::spans::Lines;
 use crate::totals::Totals;
 use crate::undecided::undecided_text;
@@ -41,7 +41,7 @@ fn middle(
         Verdict::Serializable => Ok(String::new(alloc)),
         Verdict::NotSerializable(refuted) => {
             let lines = Lines::of(alloc, audited.version, audited.sessions)?;
-            refuted_text(alloc, &lines, audited.pieces, refuted, audited.why)
+            refuted_piece_text(alloc, &lines, audited.pieces, refuted, audited.why)
         }
         Verdict::TooFew { .. } | Verdict::Undecided { .. } => {
             let lines = Lines::of(alloc, audited.version, audited.sessions)?;

@@ -4,6 +4,9 @@ use cutting::Part;
 use session_log::{Session, Txn, Version};
 use std::alloc::{AllocError, Global};
 
+/// Of how many sessions it is told where the piece lies.
+const LISTED: usize = 20;
+
 /// How many lines transactions have.
 fn line_count(txns: &[Txn]) -> usize {
     let mut count: usize = 0;
@@ -75,4 +78,28 @@ impl<'a> Lines<'a> {
                 .saturating_sub(1),
         }
     }
+}
+
+fn span_text(alloc: Global, span: Span) -> Result<String, AllocError> {
+    let (session, first, last) = (span.session, span.first, span.last);
+    let (begin, end) = (span.begin, span.end);
+    if first == last {
+        return format!(in alloc; "{session}.{first} (lines {begin} to {end})");
+    }
+    format!(in alloc; "{session}.{first} to {session}.{last} (lines {begin} to {end})")
+}
+
+/// The line that says which transactions a piece of these parts has.
+pub fn spans_text(alloc: Global, lines: &Lines, parts: &[Part]) -> Result<String, AllocError> {
+    let mut text = String::from_str(alloc, "transactions")?;
+    for (i, part) in parts.iter().take(LISTED).enumerate() {
+        text.push_str(if i > 0 { ", " } else { " " })?;
+        text.push_str(&span_text(alloc, lines.span_of(part))?)?;
+    }
+    let more = parts.len().saturating_sub(LISTED);
+    if more > 0 {
+        write!(text, " and {more} more sessions")?;
+    }
+    text.push_str("\n")?;
+    Ok(text)
 }

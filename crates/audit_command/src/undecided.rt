@@ -1,7 +1,7 @@
 //! What is told of pieces that are not decided.
 
-use crate::counting::is_committed;
 use crate::spans::Lines;
+use crate::totals::is_committed;
 use auditing::{Undecided, Why, count_log};
 use cutting::Part;
 use held_pieces::Pieces;
@@ -31,9 +31,13 @@ fn excess(
     })
 }
 
-fn states_moment(txns: &[Txn]) -> bool {
-    txns.iter()
-        .any(|txn| txn.begun.is_some() || txn.ended.is_some())
+/// Whether a transaction of these parts states a moment.
+fn state_moments(parts: &[Part]) -> bool {
+    parts.iter().any(|part| {
+        part.txns
+            .iter()
+            .any(|txn| txn.begun.is_some() || txn.ended.is_some())
+    })
 }
 
 /// The first node, of which and of all behind it no end is stated.
@@ -41,11 +45,10 @@ fn open_node(txns: &[Txn]) -> Option<usize> {
     let mut open = None;
     for (i, txn) in txns.iter().enumerate() {
         if is_committed(txn) {
-            if txn.ended.is_some() {
-                open = None;
-            } else if open.is_none() {
-                open = Some(i);
-            }
+            open = match txn.ended {
+                Some(_) => None,
+                None => open.or(Some(i)),
+            };
         }
     }
     open
@@ -53,7 +56,7 @@ fn open_node(txns: &[Txn]) -> Option<usize> {
 
 /// Why a piece was not cut, as far as that can be seen.
 fn uncut_text(alloc: Global, lines: &Lines, parts: &[Part]) -> Result<String, AllocError> {
-    if !parts.iter().any(|part| states_moment(part.txns)) {
+    if !state_moments(parts) {
         return String::from_str(alloc, "; no transaction states a moment");
     }
     for part in parts {
@@ -87,12 +90,7 @@ fn too_large_text(
 
 /// Whether a smaller size may cut a piece into smaller ones, where this size is stated or none.
 fn can_be_smaller(pieces: &Pieces, piece: usize, size: Option<usize>) -> bool {
-    size.is_none_or(|size| size > 1)
-        && piece < pieces.count()
-        && pieces
-            .parts(piece)
-            .iter()
-            .any(|part| states_moment(part.txns))
+    size.is_none_or(|size| size > 1) && piece < pieces.count() && state_moments(pieces.parts(piece))
 }
 
 /// That a piece has too many choices, and what may help.
@@ -138,8 +136,7 @@ pub fn undecided_text(
     for piece in undecided.iter().take(LISTED) {
         let why = why_text(alloc, lines, pieces, size, piece)?;
         let number = piece.piece.saturating_add(1);
-        let line = format!(in alloc; "piece {number}: {why}\n")?;
-        text.push_str(&line)?;
+        writeln!(text, "piece {number}: {why}")?;
     }
     Ok(text)
 }

@@ -13,7 +13,7 @@ use Rattle.log_definitions.proofs.Nodes.{each_at}
 use Rattle.log_definitions.proofs.Members.{each_weaker}
 use Rattle.piece_laws.specs.Logs.{HasOrder}
 use Rattle.cube_machine.proofs.Lists.{get_pushed}
-use Rattle.branch_search.proofs.Lists.{there}
+use Rattle.cube_laws.proofs.Lists.{there}
 use Rattle.held_pieces.specs.Pieces.{HeldPiece, log_of as log_of_piece}
 use Rattle.auditing.specs.declared.found.Found.{Found}
 use Rattle.auditing.specs.declared.found.PieceFound.{PieceFound}

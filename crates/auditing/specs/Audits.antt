@@ -10,7 +10,7 @@ use Rattle.piece_laws.specs.Logs.{IsSoundLog, HasOrder}
 use Rattle.polygraph.specs.declared.fault.PolyFault.TheVariants as poly_fault
 use Rattle.prune_ledger.specs.declared.ledger.Ledger.{Ledger}
 use Rattle.prune_ledger.specs.Pruned.{Remainder}
-use Rattle.branch_search.specs.declared.tree.TreeNode.{TreeNode}
+use Rattle.cube_laws.specs.declared.tree.TreeNode.{TreeNode}
 use Rattle.reduction.specs.Outcome.{IsDeadHistory, IsReduceFault}
 use Rattle.deciding.specs.Decides.{HasNoOrder, IsCycleOf, IsRefutedBy}
 use Rattle.held_pieces.specs.Pieces.{HeldPiece, ArePieces, log_of as log_of_piece}
@@ -30,8 +30,7 @@ use Rattle.auditing.specs.declared.verdict.Verdict.TheVariants.{TooFew, Undecide
 -- ---- a piece
 
 -- what stands against a log: the anomaly that is reported; a cycle of what is known; a ledger of
--- pruning, which ends in a cycle; or a
--- tree that refutes every cube
+-- pruning, which ends in a cycle; or a tree that refutes every cube
 abbrev pub Finds : List ClientSession → Finding → Type 0
 Finds ss (Anomaly a) = anomaly_of (log_of ss) ≡ Some a
 Finds ss Cycle = (line : List ℕ) × IsCycleOf ss line
@@ -45,8 +44,7 @@ pub record IsRefutedLog (ss : List ClientSession) (finding : Finding) : Type 0 w
   pub found : Finds ss finding
 
 -- Why a log is not decided: its search closed as many cubes as it may; it has too many of
--- something; or its chains have too many
--- choices. Of time nothing is said.
+-- something; or its chains have too many choices. Of time nothing is said.
 abbrev pub IsUndecidedBy : ℕ → List ClientSession → Why → Type 0
 IsUndecidedBy budget ss (Spent closed) = closed ≡ budget
 IsUndecidedBy budget ss (TooLarge which) = IsOver ss which
@@ -56,8 +54,7 @@ IsUndecidedBy budget ss NotBegun = Unit {0}
 -- ---- all pieces
 
 -- the pieces are those of a log that is legal and sound, with its unknown outcomes resolved, so
--- that the log of each can be judged by
--- itself
+-- that the log of each can be judged by itself
 pub record ArePiecesOfLog (ps : List HeldPiece) : Type 0 where
   pub ss : List ClientSession
   pub legal : AllByRecursion IsLegal ss
@@ -75,8 +72,7 @@ IsRefutedAt ps (Some r) = (p : HeldPiece) × (slice_get ps r.piece ≡ Some p)
     × IsRefutedLog (log_of_piece p) r.finding
 
 -- The log of the refuted piece has no order, and why. Of the pieces before it, or of all where
--- there is none, each log has an order, or is
--- told not to be decided, and why; each once, in order.
+-- there is none, each log has an order, or is told not to be decided, and why; each once, in order.
 pub record AreJudged (budget : ℕ) (ps : List HeldPiece) (j : Judged) : Type 0 where
   pub refuted : IsRefutedAt ps j.refuted
   pub decided : (i : ℕ) (p : HeldPiece) → slice_get ps i ≡ Some p
@@ -97,10 +93,9 @@ AreBegun j = (k : ℕ) (u : _) → slice_get j.undecided.items k ≡ Some u → 
 -- ---- the whole
 
 -- That the sessions have a serial order, of the committed and the taken transactions, and at least
--- so many committed ones; that no order
--- of the committed and of any unknown ones explains them, since the log of this piece has none;
--- that there are fewer committed ones, and
--- how many; or that so many pieces are not decided.
+-- so many committed ones; that no order of the committed and of any unknown ones explains them,
+-- since the log of this piece has none; that there are fewer committed ones, and how many; or that
+-- so many pieces are not decided.
 abbrev pub IsVerdict : List ClientSession → List HeldPiece → Judged → ℕ → Verdict → Type 0
 IsVerdict ss ps j at_least Serializable = HasOrder ss
     × (at_least ≤ count_by is_committed (txns_in ss))

@@ -11,8 +11,8 @@ ghost use Rattle.auditing.specs.declared.means.AuditMeans.{AuditMeans};
 ghost use Rattle.auditing.specs.Findings.{IsFound, IsLimitOrMemory};
 
 use crate::judged::{Finding, Why};
+use crate::limits::size_limit;
 use crate::means::AuditMeans;
-use crate::sizes::size_limit;
 use deciding::{Decision, Means, decide};
 use desk::gate::OpenGate;
 use desk::seat_no::Workers;

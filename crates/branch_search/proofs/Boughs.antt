@@ -10,11 +10,11 @@ use Rattle.cube_laws.specs.Cubes.{Cube, is_decided, edges_under}
 use Rattle.cube_laws.specs.Steps.{is_cycle}
 use Rattle.cube_laws.specs.declared.messages.CubeState.{CubeState}
 use Rattle.cube_laws.specs.declared.messages.CubeState.TheVariants.{Open, Held, Split as Divided, Refuted, Solved as Ended}
-use Rattle.branch_search.specs.declared.tree.CubeDecision.{CubeDecision}
-use Rattle.branch_search.specs.declared.tree.Growth.{Growth}
-use Rattle.branch_search.specs.declared.tree.Growth.TheVariants.{Leaf, Inner}
+use Rattle.cube_laws.specs.declared.tree.CubeDecision.{CubeDecision}
+use Rattle.cube_laws.specs.declared.tree.Growth.{Growth}
+use Rattle.cube_laws.specs.declared.tree.Growth.TheVariants.{Leaf, Inner}
 use Rattle.branch_search.specs.Growing.{bud}
-use Rattle.branch_search.proofs.Lists.{some_is, within, set_here, set_apart, append_left, append_cases, append_at}
+use Rattle.cube_laws.proofs.Lists.{some_is, within, set_here, set_apart, append_left, append_cases, append_at}
 
 -- a mark of a node that is neither split nor refuted
 pub record IsLive (m : CubeState) : Type 0 where

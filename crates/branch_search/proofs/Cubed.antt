@@ -5,12 +5,12 @@ use Rattle.std.specs.Option.{option_map_or}
 use Rattle.std.proofs.lemmas.List.{map-set, get_or_append_left}
 use Rattle.pruning_laws.specs.declared.side.Side.TheVariants.{One, Two}
 use Rattle.cube_laws.specs.Cubes.{Cube}
-use Rattle.branch_search.specs.declared.tree.CubeDecision.{CubeDecision}
-use Rattle.branch_search.specs.declared.tree.Growth.{Growth}
-use Rattle.branch_search.specs.declared.tree.TreeNode.{TreeNode}
+use Rattle.cube_laws.specs.declared.tree.CubeDecision.{CubeDecision}
+use Rattle.cube_laws.specs.declared.tree.Growth.{Growth}
+use Rattle.cube_laws.specs.declared.tree.TreeNode.{TreeNode}
 use Rattle.branch_search.specs.Growing.{sprout, with_growth}
-use Rattle.branch_search.specs.Trees.{cube_below, cubes_after}
-use Rattle.branch_search.proofs.Lists.{map_some, set_self}
+use Rattle.cube_laws.specs.Trees.{cube_below, cubes_after}
+use Rattle.cube_laws.proofs.Lists.{map_some, set_self}
 
 abbrev pub parents_of : List TreeNode → List ℕ
 parents_of nodes = map (λ n. n.parent) nodes

@@ -13,7 +13,7 @@ use Rattle.cube_laws.proofs.Grown.{grown_opening, grown_after}
 use Rattle.cube_laws.proofs.Counted.{solved_before}
 use Rattle.branch_search.specs.Answers.{IsSpent, IsReadFrom, EndsRun}
 use Rattle.branch_search.specs.declared.answer.Answer.{Answer}
-use Rattle.branch_search.proofs.Lists.{some_is}
+use Rattle.cube_laws.proofs.Lists.{some_is}
 
 still_live : (a b : Bool) → a ≡ false → (not a && not b) ≡ false → b ≡ true
 still_live true b e f = absurd (cc)

@@ -3,7 +3,7 @@ use Rattle.std.proofs.Common.{◌≡◌, ℕ, List, Bool, true, false, Option, S
 use Rattle.cube_laws.specs.declared.messages.CubeEvent.{CubeEvent}
 use Rattle.cube_laws.specs.declared.messages.CubeReply.{CubeReply}
 use Rattle.cube_laws.specs.Runs.{is_closing}
-use Rattle.branch_search.specs.declared.tree.TreeNode.{TreeNode}
+use Rattle.cube_laws.specs.declared.tree.TreeNode.{TreeNode}
 use Rattle.branch_search.specs.Growing.{closed_with, closed_where, grown}
 use Rattle.std.specs.Prelude.{if◌then◌else◌}
 

@@ -1,12 +1,9 @@
 pub mod Places
 pub mod Grown
-pub mod Lists
-pub mod Growths
 pub mod Boughs
 pub mod Seated
 pub mod Cubed
 pub mod Planted
-pub mod Upward
 pub mod Ends
 pub mod Retraced
 pub mod Asked

@@ -18,14 +18,14 @@ use Rattle.cube_laws.specs.declared.messages.CubeEvent.{CubeEvent}
 use Rattle.cube_laws.specs.declared.messages.CubeEvent.TheVariants.{Claim, TakeAny, Split, Refute, Solve, Release}
 use Rattle.cube_laws.specs.declared.messages.CubeReply.{CubeReply}
 use Rattle.cube_laws.specs.declared.messages.CubeReply.TheVariants.{Finished, HasCube, NotOpen, NoneNow, Cube as Given, NoCube, BadChoice, Children, BadCycle, Closed, BadOrder, Solved, Released}
-use Rattle.branch_search.specs.declared.tree.CubeDecision.{CubeDecision}
-use Rattle.branch_search.specs.declared.tree.Growth.{Growth}
-use Rattle.branch_search.specs.declared.tree.Growth.TheVariants.{Leaf, Inner}
-use Rattle.branch_search.specs.declared.tree.TreeNode.{TreeNode}
+use Rattle.cube_laws.specs.declared.tree.CubeDecision.{CubeDecision}
+use Rattle.cube_laws.specs.declared.tree.Growth.{Growth}
+use Rattle.cube_laws.specs.declared.tree.Growth.TheVariants.{Leaf, Inner}
+use Rattle.cube_laws.specs.declared.tree.TreeNode.{TreeNode}
 use Rattle.branch_search.specs.Growing.{held_after, bud, sprout, with_growth, grown}
-use Rattle.branch_search.specs.Trees.{cubes_after, cube_of, IsChild, IsSplit, IsBelow, IsRoot, IsRefutationTree}
-use Rattle.branch_search.proofs.Lists.{some_is, within, there, map_some, some_map, map_length, map_append, or_map, any_false}
-use Rattle.branch_search.proofs.Growths.{leaf_is, choice_is, first_is, second_is, leaf_or_inner}
+use Rattle.cube_laws.specs.Trees.{cubes_after, cube_of, IsChild, IsSplit, IsBelow, IsRoot, IsRefutationTree}
+use Rattle.cube_laws.proofs.Lists.{some_is, within, there, map_some, some_map, map_length, map_append, or_map, any_false}
+use Rattle.cube_laws.proofs.Growths.{leaf_is, choice_is, first_is, second_is, leaf_or_inner}
 use Rattle.branch_search.proofs.Boughs.{IsLive, live_open, live_held, live_ended, IsChildAt, HasChildren, IsGrown, grown_marked, grown_refuted, grown_split}
 use Rattle.branch_search.proofs.Seated.{marks_of, cubes_in, marks_with, cubes_with, held_is, last_is_open, claimed_is_open, Tied, Others, tied_same, tied_given, tied_left, tied_more}
 use Rattle.branch_search.proofs.Cubed.{parents_of, decisions_of, growths_of, growths_with, parents_with, decisions_with, cubes_same, cubes_append, cubes_split}

@@ -10,7 +10,7 @@ use Rattle.cube_laws.specs.State.{Node, State}
 use Rattle.cube_laws.specs.Steps.{is_open, is_held_by, held_from, last_open_from, or_else, with_mark, is_open_at}
 use Rattle.cube_laws.specs.declared.messages.CubeState.{CubeState}
 use Rattle.cube_laws.specs.declared.messages.CubeState.TheVariants.{Open, Held}
-use Rattle.branch_search.proofs.Lists.{some_is, within, set_here, set_apart, set_self, append_left, append_cases, map_some}
+use Rattle.cube_laws.proofs.Lists.{some_is, within, set_here, set_apart, set_self, append_left, append_cases, map_some}
 
 abbrev pub marks_of : List Node → List CubeState
 marks_of nodes = map (λ n. n.mark) nodes

@@ -9,7 +9,7 @@ use Rattle.cube_laws.specs.State.{State, opening_state}
 use Rattle.cube_laws.specs.Steps.{has_solved, has_live, is_exhausted, next_of, reply_of}
 use Rattle.cube_laws.specs.declared.messages.CubeEvent.{CubeEvent}
 use Rattle.cube_laws.specs.declared.messages.CubeReply.{CubeReply}
-use Rattle.branch_search.specs.Trees.{IsRefutationTree}
+use Rattle.cube_laws.specs.Trees.{IsRefutationTree}
 use Rattle.branch_search.specs.declared.answer.Answer.{Answer}
 use Rattle.branch_search.specs.declared.answer.Answer.TheVariants.{Yes, No, Unknown}
 
@@ -46,8 +46,7 @@ pub record IsSpent (s : State) (closed : ℕ) : Type 0 where
   pub live : has_live s.nodes ≡ true
 
 -- the answer says how this state stands: yes where a node is solved; no where none is solved, open
--- or held; else unknown, where the
--- budget is spent
+-- or held; else unknown, where the budget is spent
 abbrev pub IsReadFrom : State → Answer → Type 0
 IsReadFrom s (Yes order) = has_solved s.nodes ≡ true
 IsReadFrom s (No tree) = is_exhausted s ≡ true

@@ -10,9 +10,9 @@ use Rattle.cube_laws.specs.declared.messages.CubeReply.{CubeReply}
 use Rattle.cube_laws.specs.declared.messages.CubeReply.TheVariants.{Cube as Given, Children}
 use Rattle.cube_laws.specs.declared.messages.CubeReply.TheVariants.{Closed, Solved, Released}
 use Rattle.cube_laws.specs.Runs.{is_closing}
-use Rattle.branch_search.specs.declared.tree.Growth.{Growth}
-use Rattle.branch_search.specs.declared.tree.Growth.TheVariants.{Leaf, Inner}
-use Rattle.branch_search.specs.declared.tree.TreeNode.{TreeNode}
+use Rattle.cube_laws.specs.declared.tree.Growth.{Growth}
+use Rattle.cube_laws.specs.declared.tree.Growth.TheVariants.{Leaf, Inner}
+use Rattle.cube_laws.specs.declared.tree.TreeNode.{TreeNode}
 
 -- the node that a seat holds after a reply, where it held this one before
 abbrev pub held_after : Option ℕ → CubeReply → Option ℕ

@@ -1,6 +1,6 @@
 //! What a search answers.
 
-use crate::tree::Tree;
+use cube_laws::Tree;
 use session_history::NodeLine;
 
 /// What a search answers.

@@ -9,10 +9,9 @@ ghost use Rattle.cube_laws.specs.Steps.{next_of, reply_of, is_exhausted};
 ghost use Rattle.cube_laws.specs.Runs.{is_closing as closes};
 ghost use Rattle.branch_search.specs.Growing.{held_after, bud, sprout, with_growth, closed_with};
 ghost use Rattle.branch_search.specs.Growing.{grown};
-ghost use Rattle.branch_search.specs.Trees.{IsRefutationTree};
+ghost use Rattle.cube_laws.specs.Trees.{IsRefutationTree};
 
-use crate::tree::{CubeDecision, Growth, Tree, TreeNode};
-use cube_laws::{CubeEvent, CubeReply};
+use cube_laws::{CubeDecision, CubeEvent, CubeReply, Growth, Tree, TreeNode};
 use desk::history::Entry;
 use polygraph::ChoiceIx;
 use pruning_laws::Side;

@@ -1,7 +1,7 @@
 //! A search for a serial order: workers split, refute and solve the cubes of a polygraph.
 //!
-//! Called by `deciding`; `tree_checks`, `tell_trees` and `tell_decision` read its trees. It knows no
-//! key, no text and no command.
+//! Called by `deciding`. It knows no key, no text and no command; the trees that it hands out are
+//! those of `cube_laws`.
 //!
 //! The workers sit at a desk whose machine keeps the tree of cubes. A worker takes a cube, refutes
 //! it where its edges have a cycle, solves it where no choice is left, and else splits it by the
@@ -14,7 +14,6 @@ mod growing;
 mod reading;
 mod retrace;
 mod searching;
-mod tree;
 mod worker;
 
 pub use answer::Answer;
@@ -25,4 +24,3 @@ pub use cube_laws::{CubeEvent, CubeReply};
 pub use cube_machine::{Budget, CubeMachine};
 pub use searching::{Effort, search};
 pub use session_history::NodeLine;
-pub use tree::{CubeDecision, Growth, Tree, TreeNode};

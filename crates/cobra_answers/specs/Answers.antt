@@ -40,8 +40,8 @@ pub record IsToldInPart (Says : List ClientSession → Status → List ℕ → T
   pub cut : IsCutShort old new text written
 
 -- Why a command is refused: for the log's fault; for one that the command has of the sessions of a
--- well-formed log; and in both
--- cases nothing was written; or because the sink failed at what the command says.
+-- well-formed log; and in both cases nothing was written; or because the sink failed at what the
+-- command says.
 pub data IsRefused (Says : List ClientSession → Status → List ℕ → Type 0)
     (Refuses : Fault → List ClientSession → Type 0) (log : List ℕ)
     (old new : Option (List ℕ)) : Fault → Type 0 where

@@ -36,8 +36,7 @@ counts_text v ss =
     ++ count_line (codes "operations") (length (ops_in ss))
 
 -- the anomaly; or the number of bipaths; or the number of choices between chains, of those of them
--- that are not open, and of those
--- that are
+-- that are not open, and of those that are
 abbrev pub basis_text : Basis → List ℕ
 basis_text (Anomalous number) = codes "anomaly A" ++ decimal number ++ 10 ∷ []
 basis_text (Bipaths count) = count_line (codes "choices") count

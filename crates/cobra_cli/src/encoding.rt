@@ -33,16 +33,16 @@ fn tell_formula<W: Sink>(sink: &mut W, formula: &Formula) -> Result<Status, Faul
 }
 
 /// Writes the formula of a log as DIMACS text: the reduced formula, or with `--plain` the plain
-/// one, and the contradiction where an anomaly stands. An assignment satisfies it exactly where
-/// some serial order of the committed transactions explains every read. The text is the same for
-/// each number of workers.
+/// one, and the contradiction where an anomaly stands. Some assignment satisfies it exactly where
+/// some serial order of the committed and the taken transactions explains every read. The text is
+/// the same for each number of workers.
 ///
 /// # Errors
 /// The log's first fault; G1 above 100,000 choices between chains, where neither an anomaly nor a
 /// cycle of the arcs was found; G3 above 20,000,000 clauses; the sink's failure, with how much of
-/// the text went out; want of memory. With `--plain` G2 above 100 committed transactions, before
-/// anything else of the formula, and then, where no anomaly stands, G1 above 100,000 bipaths. At
-/// each but the sink's nothing was written.
+/// the text went out; want of memory. With `--plain` G2 above 100 committed and taken transactions,
+/// before anything else of the formula, and then, where no anomaly stands, G1 above 100,000
+/// bipaths. At each but the sink's nothing was written.
 pub fn encode<R: Threads + Wait + Clock + Sync, G: Gate, W: Sink>(
     rt: &R,
     alloc: Global,

@@ -71,10 +71,9 @@ pub record IsPlainFormula (ss : List ClientSession) (b : Basis) (f : Cnf) : Type
 -- ---- without it
 
 -- The contradiction where an anomaly stands; where none does, but the arcs have a cycle or, where
--- these have none, all known edges
--- of the chains; and where pruning their polygraph ends in a cycle. Else the reduced formula of
--- what pruning leaves: the known edges
--- with those of the forced set, and the choices that are open.
+-- these have none, all known edges of the chains; and where pruning their polygraph ends in a
+-- cycle. Else the reduced formula of what pruning leaves: the known edges with those of the forced
+-- set, and the choices that are open.
 pub data IsReducedFormula (ss : List ClientSession) : Basis → Cnf → Type 0 where
   by_anomaly : (a : Anomaly) → anomaly_of (log_of ss) ≡ Some a
       → IsReducedFormula ss (Anomalous (anomaly_number a)) contradiction
@@ -130,8 +129,8 @@ IsFormulaFault false ss e = IsReducedFault ss e
 -- ---- what it says of the sessions
 
 -- An assignment satisfies the formula exactly where a serial order explains the sessions: any order
--- of the committed and of some unknown
--- transactions is enough, and there is one of just the taken ones then.
+-- of the committed and of some unknown transactions is enough, and there is one of just the taken
+-- ones then.
 pub record IsHeadline (ss : List ClientSession) (f : Cnf) : Type 0 where
   pub satisfied_where_some : (order : List ℕ) → IsSomeOrder ss order
       → (values : List Bool) × Satisfies values f

@@ -30,10 +30,9 @@ impl EachSecond {
         let Ok(now) = Instant::now(rt) else {
             return true;
         };
-        if let Some(last) = self.last {
-            if now.duration_since(last).as_secs() < EACH {
-                return false;
-            }
+        let is_early = |last| now.duration_since(last).as_secs() < EACH;
+        if self.last.is_some_and(is_early) {
+            return false;
         }
         self.last = Some(now);
         true
@@ -62,10 +61,8 @@ fn options_of<'a>(
     words: &AuditWords,
     start: Option<Instant>,
 ) -> AuditOptions<'a> {
-    let deadline = match (start, words.seconds) {
-        (Some(start), Some(seconds)) => Some(Deadline { start, seconds }),
-        _ => None,
-    };
+    let limits = start.zip(words.seconds);
+    let deadline = limits.map(|(start, seconds)| Deadline { start, seconds });
     AuditOptions {
         means: AuditMeans {
             workers: request.workers,
@@ -97,13 +94,11 @@ pub fn audit_log<R: Runtime + Threads + Wait + Sync, W: Write>(
         is_asked: words.progress,
         last: start,
     };
-    match audit(rt, alloc, log, &options, &mut progress, sink) {
-        Ok(status) => Ok(status),
-        Err(Fault::Log(fault)) => {
-            // An object may have been written that says so.
-            let _ = sink.writer.flush();
-            Err(Ending::refused(alloc, log_name(request), log, fault))
-        }
-        Err(fault) => Err(Ending::from(fault)),
+    let told = audit(rt, alloc, log, &options, &mut progress, sink);
+    if let Err(Fault::Log(fault)) = told {
+        // An object may have been written that says so.
+        let _ = sink.writer.flush();
+        return Err(Ending::refused(alloc, log_name(request), log, fault));
     }
+    Ok(told?)
 }

@@ -24,12 +24,10 @@ fn put_refusal<W: Write>(
 ) -> Result<(), Ending> {
     let mut line = refusal_line(alloc, log_name(request), log, fault)?;
     line.push('\n')?;
-    let is_out = sink.writer.write_all(line.as_bytes()).is_ok() && sink.writer.flush().is_ok();
-    if is_out {
-        Ok(())
-    } else {
-        Err(Stop::Output.into())
-    }
+    sink.writer
+        .write_all(line.as_bytes())
+        .and_then(|()| sink.writer.flush())
+        .map_err(|_| Stop::Output.into())
 }
 
 /// Says why no serial order explains a log, and of a log that is refused, why, in words.
@@ -42,14 +40,11 @@ pub fn explain_log<R: Runtime + Threads + Wait + Sync, W: Write>(
     format: Format,
     sink: &mut Counted<W>,
 ) -> Result<Status, Ending> {
-    match explain(rt, alloc, log, options, format, &OpenGate, sink) {
-        Ok(status) => Ok(status),
-        Err(Fault::Log(fault)) => {
-            if format == Format::Text && fault != LogFault::Memory {
-                put_refusal(alloc, log, request, fault, sink)?;
-            }
-            Err(Ending::from(Fault::Log(fault)))
+    let told = explain(rt, alloc, log, options, format, &OpenGate, sink);
+    if let Err(Fault::Log(fault)) = told {
+        if format == Format::Text && fault != LogFault::Memory {
+            put_refusal(alloc, log, request, fault, sink)?;
         }
-        Err(fault) => Err(Ending::from(fault)),
     }
+    Ok(told?)
 }

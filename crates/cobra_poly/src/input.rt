@@ -43,13 +43,10 @@ impl<I: Read> Source for NamedRead<I> {
     }
 }
 
-/// Reads a file, up to one byte more than the limit.
-pub fn read_file<R: Files>(rt: &R, alloc: Global, path: &str, limit: usize) -> Result<Vec<u8>, Stop>
+/// Reads what a reader gives, up to one byte more than the limit.
+fn read_up_to<I: Read + Drop>(alloc: Global, reader: I, limit: usize) -> Result<Vec<u8>, Stop>
     requires { limit < 2 ^ 63 }
 {
-    let Ok(reader) = fs::open(rt, path) else {
-        return Err(Stop::Input);
-    };
     let mut source = CountedRead {
         reader,
         failures: 0,
@@ -57,23 +54,12 @@ pub fn read_file<R: Files>(rt: &R, alloc: Global, path: &str, limit: usize) -> R
     Ok(read_all(alloc, &mut source, limit)?)
 }
 
-/// Reads a log of limited length from its file, or from standard input.
-fn read_short_bytes<R: Files, I: Read + Drop>(
-    rt: &R,
-    alloc: Global,
-    path: Option<&str>,
-    input: I,
-) -> Result<Vec<u8>, Stop> {
-    match path {
-        Some(path) => read_file(rt, alloc, path, MAX_LOG_BYTES),
-        None => {
-            let mut source = CountedRead {
-                reader: input,
-                failures: 0,
-            };
-            Ok(read_all(alloc, &mut source, MAX_LOG_BYTES)?)
-        }
-    }
+/// Reads a file, up to one byte more than the limit.
+pub fn read_file<R: Files>(rt: &R, alloc: Global, path: &str, limit: usize) -> Result<Vec<u8>, Stop>
+    requires { limit < 2 ^ 63 }
+{
+    let file = fs::open(rt, path).map_err(|_| Stop::Input)?;
+    read_up_to(alloc, file, limit)
 }
 
 /// Reads a long log. Where that fails, its name is told, and why.
@@ -93,34 +79,23 @@ fn read_named<I: Read + Drop>(alloc: Global, name: &str, reader: I) -> Result<Ve
     }
 }
 
-/// Reads a long log from its file, or from standard input.
-fn read_long_bytes<R: Files, I: Read + Drop>(
-    rt: &R,
-    alloc: Global,
-    path: Option<&str>,
-    input: I,
-) -> Result<Vec<u8>, Ending> {
-    match path {
-        Some(path) => match fs::open(rt, path) {
-            Ok(file) => read_named(alloc, path, file),
-            Err(error) => Err(Ending::unusable(alloc, path, error)),
-        },
-        None => read_named(alloc, STANDARD_INPUT, input),
-    }
-}
-
-/// Reads the log that a call asks for: a long one, where the command takes such.
+/// Reads the log that a call asks for, from its file or from standard input: a long one, where the
+/// command takes such.
 pub fn read_log_bytes<R: Files, I: Read + Drop>(
     rt: &R,
     alloc: Global,
     request: &Request<'_>,
     input: I,
 ) -> Result<Vec<u8>, Ending> {
-    match &request.command {
-        Command::Audit(_) | Command::Pieces { .. } => {
-            read_long_bytes(rt, alloc, request.log, input)
+    let is_long = matches!(&request.command, Command::Audit(_) | Command::Pieces { .. });
+    match request.log {
+        Some(path) if is_long => {
+            let file = fs::open(rt, path).map_err(|error| Ending::unusable(alloc, path, error))?;
+            read_named(alloc, path, file)
         }
-        _ => Ok(read_short_bytes(rt, alloc, request.log, input)?),
+        None if is_long => read_named(alloc, STANDARD_INPUT, input),
+        Some(path) => Ok(read_file(rt, alloc, path, MAX_LOG_BYTES)?),
+        None => Ok(read_up_to(alloc, input, MAX_LOG_BYTES)?),
     }
 }
 

@@ -83,10 +83,8 @@ fn run<R: Runtime + Threads + Wait + Sync, I: Read + Drop, W: Write + Drop>(
     let log = read_log_bytes(rt, alloc, request, input)?;
     let mut sink = Counted::new(output);
     let status = run_on(rt, alloc, &log, request, start, &mut sink)?;
-    match sink.writer.flush() {
-        Ok(()) => Ok(status),
-        Err(_) => Err(Stop::Output.into()),
-    }
+    sink.writer.flush().map_err(|_| Stop::Output)?;
+    Ok(status)
 }
 
 /// Why the words of a call cannot be had.
@@ -105,10 +103,8 @@ fn answer<R: Runtime + AllocGlobal + Threads + Wait + Sync, I: Read + Drop, W: W
     input: I,
     output: W,
 ) -> Result<u8, Ending> {
-    let words: Vec<String> = match env::args(rt) {
-        Ok(words) => words.collect(alloc).map_err(Stop::from)?,
-        Err(error) => return Err(words_fault(error.kind()).into()),
-    };
+    let words = env::args(rt).map_err(|error| words_fault(error.kind()))?;
+    let words: Vec<String> = words.collect(alloc).map_err(Stop::from)?;
     match words_of(alloc, &words).map_err(Stop::from)? {
         Some(Words::Request(request)) => {
             Ok(run(rt, alloc, &request, start, input, output)?.code())

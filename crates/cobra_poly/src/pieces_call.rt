@@ -26,21 +26,13 @@ fn ending_of(alloc: Global, name: &str, log: &[u8], fault: PiecesFault) -> Endin
 /// Makes a directory, where there is no empty one.
 fn make_directory<R: Runtime>(rt: &R, alloc: Global, path: &str) -> Result<(), Ending> {
     match fs::create_dir(rt, path) {
-        Ok(()) => return Ok(()),
-        Err(error) => {
-            if error.kind() != ErrorKind::AlreadyExists {
-                return Err(Ending::unusable(alloc, path, error));
-            }
-        }
+        Err(error) if error.kind() == ErrorKind::AlreadyExists => {}
+        made => return made.map_err(|error| Ending::unusable(alloc, path, error)),
     }
-    let mut entries = match fs::read_dir(rt, path) {
-        Ok(entries) => entries,
-        Err(error) => return Err(Ending::unusable(alloc, path, error)),
-    };
-    match entries.next() {
+    let first = fs::read_dir(rt, path).and_then(|mut entries| entries.next().transpose());
+    match first.map_err(|error| Ending::unusable(alloc, path, error))? {
         None => Ok(()),
-        Some(Err(error)) => Err(Ending::unusable(alloc, path, error)),
-        Some(Ok(_)) => Err(Ending::usage(format!(in alloc;
+        Some(_) => Err(Ending::usage(format!(in alloc;
             "error: the directory {path} is not empty"
         ))),
     }
@@ -59,14 +51,9 @@ fn path_of(alloc: Global, directory: &str, number: usize, count: usize) -> Resul
 }
 
 fn write_file<R: Runtime>(rt: &R, alloc: Global, path: &str, bytes: &[u8]) -> Result<(), Ending> {
-    let mut file = match fs::create(rt, path) {
-        Ok(file) => file,
-        Err(error) => return Err(Ending::unusable(alloc, path, error)),
-    };
-    match file.write_all(bytes) {
-        Ok(()) => Ok(()),
-        Err(error) => Err(Ending::unusable(alloc, path, error)),
-    }
+    fs::create(rt, path)
+        .and_then(|mut file| file.write_all(bytes))
+        .map_err(|error| Ending::unusable(alloc, path, error))
 }
 
 /// Writes the log and the map of a piece.
@@ -89,14 +76,14 @@ fn write_pieces<R: Runtime>(
     alloc: Global,
     files: &PieceFiles<'_>,
     directory: &str,
-) -> Result<Status, Ending> {
+) -> Result<(), Ending> {
     make_directory(rt, alloc, directory)?;
     let count = files.count();
     for piece in 0..count {
         let path = path_of(alloc, directory, piece + 1, count)?;
         write_piece(rt, alloc, files, piece, &path)?;
     }
-    Ok(Status::Done)
+    Ok(())
 }
 
 /// Cuts a long log into pieces, and tells or writes them.
@@ -110,22 +97,16 @@ pub fn cut_log<R: Runtime + Threads + Sync, W: Write>(
     sink: &mut Counted<W>,
 ) -> Result<Status, Ending> {
     let workers = request.workers;
-    let name = log_name(request);
-    let told = match wanted {
-        PiecesWord::List => list(rt, alloc, log, size, workers, sink),
-        PiecesWord::Piece(number) => put_piece(rt, alloc, log, size, workers, number, sink),
-        PiecesWord::Into(directory) => {
-            return match read_known(rt, alloc, log, size, workers) {
-                Ok(known) => {
-                    let files = PieceFiles::of(alloc, &known)?;
-                    write_pieces(rt, alloc, &files, directory)
-                }
-                Err(fault) => Err(ending_of(alloc, name, log, fault)),
-            };
+    let ending = |fault| ending_of(alloc, log_name(request), log, fault);
+    match wanted {
+        PiecesWord::List => list(rt, alloc, log, size, workers, sink).map_err(ending)?,
+        PiecesWord::Piece(number) => {
+            put_piece(rt, alloc, log, size, workers, number, sink).map_err(ending)?
         }
-    };
-    match told {
-        Ok(()) => Ok(Status::Done),
-        Err(fault) => Err(ending_of(alloc, name, log, fault)),
+        PiecesWord::Into(directory) => {
+            let known = read_known(rt, alloc, log, size, workers).map_err(ending)?;
+            write_pieces(rt, alloc, &PieceFiles::of(alloc, &known)?, directory)?
+        }
     }
+    Ok(Status::Done)
 }

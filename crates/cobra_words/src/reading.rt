@@ -19,7 +19,7 @@ fn log_of<'a>(matches: &ArgMatches<'a>) -> Option<&'a str> {
         .filter(|name| *name != STANDARD_INPUT)
 }
 
-/// The strategy; any word but these three stands for the default, and so does none.
+/// The strategy, of which the command line has filled in the default of its command.
 fn strategy_of(matches: &ArgMatches<'_>) -> StrategyName {
     match matches.get_str("strategy") {
         Some("most") => StrategyName::Most,

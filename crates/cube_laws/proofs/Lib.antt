@@ -5,3 +5,6 @@ pub mod Fits
 pub mod Alive
 pub mod Closings
 pub mod Counted
+pub mod Lists
+pub mod Growths
+pub mod Upward

@@ -27,8 +27,7 @@ pub record HasMark (nodes : List TreeNode) (k : ℕ) (m : CubeState) : Type 0 wh
   pub marked : node.mark ≡ m
 
 -- Each node but those without an origin comes after its parent. The open nodes are listed, each
--- seat's slot has the node that it
--- holds, if any, and it is noted whether one is solved.
+-- seat's slot has the node that it holds, if any, and it is noted whether one is solved.
 pub record IsTree (nodes : List TreeNode) (numbers : List ℕ) (held : List (Option ℕ))
     (solved : Bool) : Type 0 where
   pub ordered : (k : ℕ) (x : TreeNode) (o : Origin) → slice_get nodes k ≡ Some x → x.origin ≡ Some o

@@ -8,10 +8,10 @@ use Rattle.prune_ledger.specs.Pruned.{Remainder}
 use Rattle.reduction.specs.Chained.{HasNoSerialOrder}
 use Rattle.reduction.specs.Outcome.{IsOpenHistory}
 use Rattle.branch_search.specs.Answers.{EndsRun}
-use Rattle.branch_search.specs.Trees.{IsRefutationTree}
+use Rattle.cube_laws.specs.Trees.{IsRefutationTree}
 use Rattle.branch_search.specs.declared.answer.Answer.{Answer}
 use Rattle.branch_search.specs.declared.answer.Answer.TheVariants.{Yes, No, Unknown}
-use Rattle.branch_search.specs.declared.tree.TreeNode.{TreeNode}
+use Rattle.cube_laws.specs.declared.tree.TreeNode.{TreeNode}
 use Rattle.deciding.specs.Decides.{HasNoOrder, IsSearched, Decides}
 use Rattle.deciding.specs.declared.decision.Decision.{Decision}
 use Rattle.deciding.specs.declared.decision.Decision.TheVariants.{Serial, Refuted, Spent}

@@ -7,10 +7,10 @@ use Rattle.log_definitions.specs.Numbers.{log_of}
 use Rattle.prune_ledger.specs.Pruned.{Remainder}
 use Rattle.reduction.specs.Outcome.{IsCyclicHistory, IsDeadHistory, IsOpenHistory}
 use Rattle.branch_search.specs.Answers.{EndsRun}
-use Rattle.branch_search.specs.Trees.{IsRefutationTree}
+use Rattle.cube_laws.specs.Trees.{IsRefutationTree}
 use Rattle.branch_search.specs.declared.answer.Answer.{Answer}
 use Rattle.branch_search.specs.declared.answer.Answer.TheVariants.{Yes, No, Unknown}
-use Rattle.branch_search.specs.declared.tree.TreeNode.{TreeNode}
+use Rattle.cube_laws.specs.declared.tree.TreeNode.{TreeNode}
 use Rattle.deciding.specs.declared.decision.Decision.{Decision}
 use Rattle.deciding.specs.declared.decision.Decision.TheVariants.{Serial, Anomalous, Cyclic, Dead}
 use Rattle.deciding.specs.declared.decision.Decision.TheVariants.{Refuted, Spent}
@@ -21,9 +21,8 @@ pub record HasNoOrder (ss : List ClientSession) : Type 0 where
   pub none : (order : List ℕ) → IsSomeOrder ss order → ⊥
 
 -- The steps before a search let the sessions through (no anomaly, no cycle of known edges, at most
--- 100,000 choices between chains, and
--- a polygraph of the chains that is not dead), and a search of what they leave ends with this
--- answer within the budget.
+-- 100,000 choices between chains, and a polygraph of the chains that is not dead), and a search of
+-- what they leave ends with this answer within the budget.
 pub record IsSearched (budget : ℕ) (ss : List ClientSession) (answer : Answer) : Type 0 where
   pub left : Remainder
   pub history : IsOpenHistory ss left
@@ -44,10 +43,8 @@ pub record IsRefutedBy (budget : ℕ) (ss : List ClientSession) (left : Remainde
   pub refutes : IsRefutationTree left.poly tree
 
 -- A serial order, which a search found; or that there is none, and why: the anomaly that is
--- reported, a cycle of what is known, a
--- ledger of the polygraph of the chains, which is dead, or a tree that refutes every cube; or that
--- a search spent its budget, and
--- found neither.
+-- reported, a cycle of what is known, a ledger of the polygraph of the chains, which is dead, or a
+-- tree that refutes every cube; or that a search spent its budget, and found neither.
 abbrev pub Decides : ℕ → List ClientSession → Decision → Type 0
 Decides budget ss (Serial order) = IsSerialOrder ss order × IsSearched budget ss (Yes order)
 Decides budget ss (Anomalous a) = HasNoOrder ss × (anomaly_of (log_of ss) ≡ Some a)

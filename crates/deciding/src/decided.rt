@@ -5,12 +5,13 @@ ghost use Rattle.log_definitions.specs.Numbers.{IsWellFormedList};
 ghost use Rattle.reduction.specs.Chained.{HasItsOrders};
 ghost use Rattle.reduction.specs.Outcome.{IsOpenHistory, IsReduceFault};
 ghost use Rattle.branch_search.specs.Answers.{SaysYes, SaysNo, ShowsNo, SaysUnknown, EndsRun};
-ghost use Rattle.branch_search.specs.Trees.{IsRefutationTree};
+ghost use Rattle.cube_laws.specs.Trees.{IsRefutationTree};
 ghost use Rattle.deciding.specs.Decides.{Decides};
 
 use crate::decision::Decision;
 use crate::means::Means;
-use branch_search::{Answer, Effort, FirstOpen, Forced, LeastEdges, MostEdges, Tree, search};
+use branch_search::{Answer, Effort, FirstOpen, Forced, LeastEdges, MostEdges, search};
+use cube_laws::Tree;
 use cube_machine::StrategyName;
 use desk::gate::Gate;
 use polygraph::PolyFault;

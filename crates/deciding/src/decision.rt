@@ -1,6 +1,6 @@
 //! What is decided of a history.
 
-use branch_search::Tree;
+use cube_laws::Tree;
 use prune_ledger::{Ledger, Reduced};
 use session_history::{Anomaly, NodeIx, NodeLine};
 

@@ -7,8 +7,7 @@ use Rattle.decode_order.specs.declared.fault.DecodeFault.TheVariants.{NotAModel,
 use Rattle.decode_order.specs.declared.fault.DecodeFault.TheVariants.{Memory}
 
 -- A wrong length comes before a false clause, of which the first is named, and memory is refused to
--- nothing but a satisfying
--- assignment.
+-- nothing but a satisfying assignment.
 abbrev pub IsDecodeFault : FormulaData → List Bool → DecodeFault → Type 0
 IsDecodeFault f values WrongLength = length values ≢ f.variables
 IsDecodeFault f values (NotAModel k) = (length values ≡ f.variables)

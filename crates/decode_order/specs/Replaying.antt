@@ -80,10 +80,8 @@ abbrev pub read_fault : Option (ℕ × ℕ) → Option ReplayFault
 read_fault found = option_map (λ p. ReadMismatch p.0 p.1) found
 
 -- What is wrong: that the nodes are not listed once each, else the first one that stands before an
--- earlier one of its session,
--- else the first one that stands before one that ended before it began, else the first read in
--- replay that does not name what the
--- map holds.
+-- earlier one of its session, else the first one that stands before one that ended before it began,
+-- else the first read in replay that does not name what the map holds.
 unfoldable pub replay_fault : Log → List ℕ → Option ReplayFault
 replay_fault log order =
     if lists_once log.nodes order

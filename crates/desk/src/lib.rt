@@ -1,7 +1,8 @@
 //! One lock, one history: a machine that several threads call, and what each of them may know.
 //!
-//! Called by every crate with a machine: `gather`, `prune_ledger`, `branch_search`. It knows no
-//! machine, no log and no graph.
+//! Called by every crate with a machine: `gather`, `prune_ledger`, `cube_machine`,
+//! `branch_search`; and by the commands for gates and numbers of workers. It knows no machine, no
+//! log and no graph.
 //!
 //! A `Machine` is a state that takes one event at a time and answers it. A `Desk` holds one behind
 //! a lock, together with the history of all steps so far, and hands out numbered seats, one for

@@ -22,8 +22,8 @@ is_refused (Ok (suc n)) piece = false
 is_refused (Err e) piece = true
 
 -- what came of writing a piece of a text, of which so many bytes had gone out before: at `Ok` all
--- of the piece
--- went out, and at `Err` its front, up to the count that the fault names, but not all of it
+-- of the piece went out, and at `Err` its front, up to the count that the fault names, but not all
+-- of it
 pub record WritesFrom (old new : Option (List ℕ)) (before : ℕ) (piece : List ℕ)
     (result : Result ℕ WriteFault) : Type 0 where
   pub ok : IfOk result (λ n. (n ≡ before + length piece) × Appends old new piece)

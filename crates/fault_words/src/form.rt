@@ -56,14 +56,7 @@ pub fn first_word(bytes: &[u8]) -> (&[u8], Option<&[u8]>) {
 }
 
 fn has_two_blanks(bytes: &[u8]) -> bool {
-    let mut last = 0;
-    for byte in bytes {
-        if *byte == b' ' && last == b' ' {
-            return true;
-        }
-        last = *byte;
-    }
-    false
+    bytes.windows(2).any(|pair| pair == b"  ".as_slice())
 }
 
 fn is_key_byte(byte: u8) -> bool {
@@ -110,14 +103,15 @@ fn wrong_as_a_whole(line: LogLine<'_>, number: usize) -> Option<Wrong> {
     None
 }
 
-fn wrong_number(number: Number, word: &[u8]) -> Option<Wrong> {
-    Some(Wrong::Number(number, number_fault(word)?))
-}
-
-fn wrong_session(rest: &[u8]) -> Option<Wrong> {
+/// What is wrong with the rest of a line, which should be one number.
+fn wrong_number(number: Number, rest: &[u8]) -> Option<Wrong> {
     if index_of(rest, b' ').is_some() {
         return Some(Wrong::TooManyWords);
     }
+    Some(Wrong::Number(number, number_fault(rest)?))
+}
+
+fn wrong_session(rest: &[u8]) -> Option<Wrong> {
     match number_of(rest) {
         Some(1..=65535) => None,
         Some(_) => Some(Wrong::SessionNumber),
@@ -132,12 +126,8 @@ fn wrong_key(key: &[u8]) -> Option<Wrong> {
     if key.len() > LONGEST_KEY {
         return Some(Wrong::LongKey);
     }
-    for byte in key {
-        if !is_key_byte(*byte) {
-            return Some(Wrong::KeyByte(*byte));
-        }
-    }
-    None
+    let byte = key.iter().find(|byte| !is_key_byte(**byte))?;
+    Some(Wrong::KeyByte(*byte))
 }
 
 fn wrong_operation(rest: &[u8]) -> Option<Wrong> {
@@ -145,13 +135,10 @@ fn wrong_operation(rest: &[u8]) -> Option<Wrong> {
     if let Some(wrong) = wrong_key(key) {
         return Some(wrong);
     }
-    let Some(identity) = behind else {
-        return Some(Wrong::NoIdentity);
-    };
-    if index_of(identity, b' ').is_some() {
-        return Some(Wrong::TooManyWords);
+    match behind {
+        Some(identity) => wrong_number(Number::Identity, identity),
+        None => Some(Wrong::NoIdentity),
     }
-    wrong_number(Number::Identity, identity)
 }
 
 /// A word that stands alone, and may state a moment in version 3.
@@ -159,9 +146,6 @@ fn wrong_moment(version: Version, word: &'static str, behind: Option<&[u8]>) -> 
     let moment = behind?;
     if !version.has_moments() {
         return Some(Wrong::Moment(word));
-    }
-    if index_of(moment, b' ').is_some() {
-        return Some(Wrong::TooManyWords);
     }
     wrong_number(Number::Moment, moment)
 }
@@ -187,12 +171,8 @@ fn wrong_header(number: usize) -> Wrong {
     }
 }
 
-fn has_capitals(word: &[u8]) -> bool {
-    word.iter().any(|byte| byte.is_ascii_uppercase())
-}
-
 fn wrong_word(word: &[u8]) -> Wrong {
-    if has_capitals(word) {
+    if word.iter().any(|byte| byte.is_ascii_uppercase()) {
         Wrong::CapitalLetters
     } else {
         Wrong::NoSuchWord
@@ -217,8 +197,5 @@ fn wrong_in_words(version: Version, bytes: &[u8], number: usize) -> Option<Wrong
 /// What is wrong with a line of a log of this version, of this number from 1, where that can be
 /// seen.
 pub fn wrong_form(version: Version, line: LogLine<'_>, number: usize) -> Option<Wrong> {
-    match wrong_as_a_whole(line, number) {
-        Some(wrong) => Some(wrong),
-        None => wrong_in_words(version, line.bytes, number),
-    }
+    wrong_as_a_whole(line, number).or_else(|| wrong_in_words(version, line.bytes, number))
 }

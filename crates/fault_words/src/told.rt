@@ -115,22 +115,17 @@ fn form_words(alloc: Global, wrong: Wrong, line: LogLine<'_>) -> Result<String, 
 }
 
 fn bad_line_words(alloc: Global, log: &[u8], number: usize) -> Result<String, AllocError> {
-    let unseen = "the line has none of the forms of a log";
-    let Some(line) = line_at(log, number) else {
-        return String::from_str(alloc, unseen);
-    };
-    match wrong_form(Version::of(log), line, number) {
-        Some(wrong) => form_words(alloc, wrong, line),
-        None => String::from_str(alloc, unseen),
+    if let Some(line) = line_at(log, number) {
+        if let Some(wrong) = wrong_form(Version::of(log), line, number) {
+            return form_words(alloc, wrong, line);
+        }
     }
+    String::from_str(alloc, "the line has none of the forms of a log")
 }
 
 /// The last word of a line that begins with `w `, which is a write's identity.
 fn identity_of(line: &[u8]) -> Option<&[u8]> {
-    if !line.starts_with(b"w ") {
-        return None;
-    }
-    let words = &line[2..];
+    let words = line.strip_prefix(b"w ")?;
     let blank = index_of(words, b' ')?;
     Some(&words[blank + 1..])
 }
@@ -157,17 +152,11 @@ fn session_twice_words(alloc: Global, log: &[u8], number: usize) -> Result<Strin
 }
 
 fn write_twice_words(alloc: Global, log: &[u8], number: usize) -> Result<String, AllocError> {
-    let identity = match line_at(log, number) {
-        Some(line) => identity_of(line.bytes),
-        None => None,
-    };
-    let Some(identity) = identity else {
+    let line = line_at(log, number);
+    let Some(identity) = line.and_then(|line| identity_of(line.bytes)) else {
         return twice_words(alloc, "this identity", "was written", None);
     };
-    let earlier = earlier_line(log, number, |bytes| match identity_of(bytes) {
-        Some(other) => other == identity,
-        None => false,
-    });
+    let earlier = earlier_line(log, number, |bytes| identity_of(bytes) == Some(identity));
     let shown = quoted(alloc, identity)?;
     let what = format!(in alloc; "identity {shown}")?;
     twice_words(alloc, &what, "was written", earlier)

@@ -15,8 +15,7 @@ use Rattle.session_log.specs.declared.version.Version.{Version}
 use Rattle.session_log.specs.declared.version.Version.TheVariants.{One, Two, Three}
 
 -- what was read of a piece of a log: the log's version, the piece's bytes, the line of the log that
--- is its first, and the session
--- that it holds or its first fault
+-- is its first, and the session that it holds or its first fault
 pub record Piece : Type 0 where
   pub version : Version
   pub text : List ℕ
@@ -29,8 +28,7 @@ view_outcome (Ok s) = Ok (view s)
 view_outcome (Err f) = Err f
 
 -- what reading these bytes in this version gives: the session whose text they are and which the
--- version holds, where they have no
--- fault, and else their first fault; want of memory is no outcome
+-- version holds, where they have no fault, and else their first fault; want of memory is no outcome
 abbrev pub IsOutcome : Version → List ℕ → ℕ → Result ClientSession LogFault → Type 0
 IsOutcome v text line (Ok s) = (first_fault v line Start (lines text) ≡ None) × IsLegal s
     × IsHeldBy v s × (text ≡ session_text s)

@@ -166,6 +166,7 @@ fn by_block<'a>(
     Ok(found)
 }
 
+#[tactic(auto, using(crate::proofs::Places::none_more))]
 fn none_yet<'a>(alloc: Global, blocks: &[Block]) -> Result<Vec<Option<Parsed<'a>>>, AllocError>
     ensures { IfOk result (λ found. found.items ≡ nothing_found blocks.now) }
 {

@@ -10,6 +10,7 @@ ghost use Rattle.gather.specs.Steps.{State, next_of, reply_of};
 ghost use Rattle.gather.specs.Kept.{WasKept};
 
 /// Over every list of steps, whoever makes them: what is kept for a block is a piece of it.
+#[tactic(auto, using(crate::proofs::Legal::kept_pieces))]
 pub fn kept_are_pieces()
     ensures { (start : State) (history : List (Entry Sent Answer))
         → IsLegal next_of reply_of start history

@@ -117,28 +117,19 @@ fn is_piece_of<'a>(log: &[u8], block: &Block, parsed: &Parsed<'a>) -> bool
 fn is_open(mark: BlockState) -> bool
     ensures { result ≡ is_open mark }
 {
-    match mark {
-        BlockState::Open => true,
-        BlockState::Held(_) | BlockState::Kept => false,
-    }
+    matches!(mark, BlockState::Open)
 }
 
 fn is_kept(mark: BlockState) -> bool
     ensures { result ≡ is_kept mark }
 {
-    match mark {
-        BlockState::Open | BlockState::Held(_) => false,
-        BlockState::Kept => true,
-    }
+    matches!(mark, BlockState::Kept)
 }
 
 fn is_held_by(mark: BlockState, seat: SeatNo) -> bool
     ensures { result ≡ is_held_by seat mark }
 {
-    match mark {
-        BlockState::Open | BlockState::Kept => false,
-        BlockState::Held(holder) => holder.get() == seat.get(),
-    }
+    matches!(mark, BlockState::Held(holder) if holder.get() == seat.get())
 }
 
 fn all_open(alloc: Global, blocks: &[Block]) -> Result<Vec<BlockState>, AllocError>
@@ -163,10 +154,7 @@ fn open_block(marks: &[BlockState]) -> Option<usize>
 fn handed(marks: &[BlockState], seat: SeatNo) -> Option<usize>
     ensures { result ≡ handed marks.now seat }
 {
-    match held_block(marks, seat) {
-        Some(block) => Some(block),
-        None => open_block(marks),
-    }
+    held_block(marks, seat).or_else(|| open_block(marks))
 }
 
 fn released(mark: &BlockState, seat: SeatNo) -> BlockState

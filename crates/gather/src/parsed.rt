@@ -42,6 +42,7 @@ impl<'a> Model for Parsed<'a> {
 }
 
 /// Reads a block of the log. A fault of the block is an outcome; an error is want of memory.
+#[tactic(auto, using(session_log::proofs::Lying::lies))]
 pub fn parse_piece<'a>(
     alloc: Global,
     log: &'a [u8],
@@ -92,12 +93,6 @@ impl<'a> Parsed<'a> {
         ensures fault { IfErr result (λ f. self.entry.outcome ≡ Err f) }
         ensures read { IsRead self.entry }
     {
-        let Parsed {
-            version: _,
-            slice: _,
-            line: _,
-            outcome,
-        } = self;
-        outcome
+        self.outcome
     }
 }

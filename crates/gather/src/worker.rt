@@ -75,8 +75,6 @@ fn take_turn<'b, 'a, J: Naming, R: Wait>(
         block: number,
         parsed,
     };
-    match desk.call(rt, seat, put) {
-        Ok(_) => Some(()),
-        Err(_) => None,
-    }
+    desk.call(rt, seat, put).ok()?;
+    Some(())
 }

@@ -9,8 +9,7 @@ use Rattle.piece_laws.specs.Logs.{opened, closed, present}
 use Rattle.piece_laws.specs.Pieces.{CutAt, AreCuts, pieces, none_held}
 
 -- what lies between two cuts, of each session that has transactions there, and what the keys of
--- these are said to hold there: each key
--- that holds something, with its identity
+-- these are said to hold there: each key that holds something, with its identity
 pub record HeldPiece : Type 0 where
   pub sessions : List ClientSession
   pub before : List (List ℕ × ℕ)

@@ -8,8 +8,7 @@ use Rattle.known_graph.specs.Pairs.{all_pairs}
 use Rattle.serializability.specs.declared.node.TheConstants.{MAX_NODES}
 
 -- The graph has at most 1,000 nodes beside node 0. Its edges are pairs of them, each once, by the
--- first node and then the second,
--- and one leads from node 0 to each other node.
+-- first node and then the second, and one leads from node 0 to each other node.
 pub record IsKnownGraph (g : Graph) : Type 0 where
   pub few : g.nodes ≤ MAX_NODES
   pub test : Edge → Bool

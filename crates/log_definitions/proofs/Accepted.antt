@@ -4,7 +4,7 @@ use Rattle.std.specs.List.{flat_map, AllByRecursion}
 use Rattle.session_log.specs.Lines.{lines}
 use Rattle.session_log.specs.Moments.{is_earlier, IsMoment}
 use Rattle.session_log.specs.Version.{header_text, first_line, has_unknown_line, has_moments, version_of, body_of}
-use Rattle.session_log.specs.Text.{ClientSession, Transaction, line_text, op_line, end_line, txn_lines, session_lines, text_of_lines, log_text, is_unknown, IsKnown, IsKnownBeforeLast, IsLegal, IsLegalMoment, IsLegalTxn, IsLegalOp, IsTold, HasNoMoments, IsHeldBy}
+use Rattle.session_log.specs.Text.{ClientSession, Transaction, line_text, op_line, end_line, txn_lines, session_lines, text_of_lines, log_text, is_unknown, IsKnown, IsKnownBeforeLast, IsLegal, IsLegalMoment, IsLegalTxn, IsLegalOp, MayEndAt, HasNoMoments, IsHeldBy}
 use Rattle.session_log.specs.Faults.{Place, Start, Between, Inside, Over, after, after_form, step, form_at, is_session_line, first_fault, going_on, grammar_fault}
 use Rattle.session_log.specs.Blocks.{text_of}
 use Rattle.session_log.specs.declared.line.Line.{Line}
@@ -90,7 +90,7 @@ record HoldsOps (v : Version) (begun : Option ℕ) (fs : List Line) : Type 0 whe
   pub legal_ops : AllByRecursion IsLegalOp ops
   pub legal_txns : AllByRecursion IsLegalTxn txns
   pub moment : IsMoment ended
-  pub told : IsTold outcome ended
+  pub told : MayEndAt outcome ended
   pub ordered : is_earlier ended begun ≡ false
   pub ends : (all : List Op) → IsLegalMoment v begun → MayEnd v (record { ops = all; outcome = outcome; begun = begun; ended = ended } ∷ txns)
   pub legal : AllByRecursion IsLegal sessions
@@ -151,7 +151,7 @@ with_op v begun o fs h r =
       by_line = ap (λ l. op_line o ∷ l) r.by_line;
     }
 
-with_end : (v : Version) (begun : Option ℕ) (o : Outcome) (ended : Option ℕ) (fs : List Line) → is_unknown o ≡ false → IsTold o ended → IsLegalMoment v ended → is_earlier ended begun ≡ false → HoldsTxns v fs → HoldsOps v begun (end_line o ended ∷ fs)
+with_end : (v : Version) (begun : Option ℕ) (o : Outcome) (ended : Option ℕ) (fs : List Line) → is_unknown o ≡ false → MayEndAt o ended → IsLegalMoment v ended → is_earlier ended begun ≡ false → HoldsTxns v fs → HoldsOps v begun (end_line o ended ∷ fs)
 with_end v begun o ended fs known told stated ordered r =
     record {
       ops = [];

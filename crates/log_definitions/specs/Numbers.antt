@@ -44,9 +44,8 @@ log_of ss = record {
 }
 
 -- Sessions that are those of a well-formed log, but for the size of its text. That they have no
--- fault from line 1 on is that they
--- have none from any line (the law fault_from_any_line), so that this holds of the sessions of each
--- version.
+-- fault from line 1 on is that they have none from any line (the law fault_from_any_line), so that
+-- this holds of the sessions of each version.
 pub record IsWellFormedList (ss : List ClientSession) : Type 0 where
   pub legal : AllByRecursion IsLegal ss
   pub sessions : list_fault 1 ss ≡ None

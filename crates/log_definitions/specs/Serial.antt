@@ -15,8 +15,7 @@ use Rattle.log_definitions.specs.Unknown.{is_committed, resolved, settled}
 -- ---- the nodes: the committed transactions, and those of unknown outcome that were taken
 
 -- a node: the number of its session, its place in the session from 1, every transaction counted,
--- its operations, and the moments
--- at which it began and ended, where they are stated
+-- its operations, and the moments at which it began and ended, where they are stated
 pub record Committed : Type 0 where
   pub session : ℕ
   pub place : ℕ
@@ -81,10 +80,9 @@ Replays map (Write key wid ∷ ops) = Replays (set map key wid) ops
 -- ---- serial orders
 
 -- The order lists nodes 1 to n once each, keeps each session's order and the order of the stated
--- moments (a node that ended before
--- another began stands before it), and its replay, transaction by transaction with nothing in
--- between, meets every read. So of the transactions of unknown outcome it lists exactly the taken
--- ones.
+-- moments (a node that ended before another began stands before it), and its replay, transaction by
+-- transaction with nothing in between, meets every read. So of the transactions of unknown outcome
+-- it lists exactly the taken ones.
 pub record IsSerialOrder (ss : List ClientSession) (order : List ℕ) : Type 0 where
   pub once : ListsOnce (length (committed_in ss)) order
   pub sessions : (a b : ℕ) → 0 < a → a < b → b ≤ length (committed_in ss)

@@ -1,6 +1,6 @@
 -- Transactions whose outcome the client never learnt, and which of them must have been committed. A
--- legal session has one
--- such transaction at most, its last, so that sets of them are sets of session numbers.
+-- legal session has one such transaction at most, its last, so that sets of them are sets of
+-- session numbers.
 use Rattle.std.specs.Prelude.{◌≡◌, ℕ, zero, suc, ◌==◌, ◌&&◌, ◌||◌, Bool, true, false, IsTrue}
 use Rattle.std.specs.Prelude.{if◌then◌else◌, List, length, map}
 use Rattle.std.specs.List.{filter, flat_map, list_any, Contains}
@@ -89,16 +89,14 @@ unfoldable pub taken : List ClientSession → ℕ → Bool
 taken ss = taking_times (length ss) ss (λ n. false)
 
 -- The sessions with the taken transactions as committed ones, and with each other unknown one,
--- which no node reads from, as an
--- aborted one.
+-- which no node reads from, as an aborted one.
 unfoldable pub resolved : List ClientSession → List ClientSession
 resolved ss = settled (taken ss) ss
 
 -- ---- the same in words
 
 -- the session with this number has an unknown transaction that writes what a committed one reads,
--- where the chosen ones count as
--- committed: the same key, under the same identity
+-- where the chosen ones count as committed: the same key, under the same identity
 pub record IsNeeded (ss : List ClientSession) (chosen : ℕ → Bool) (n : ℕ) : Type 0 where
   pub session : ClientSession
   pub txn : Transaction

@@ -84,8 +84,7 @@ write_fault None = None
 write_fault (Some n) = Some (WriteTwice n)
 
 -- the first fault of legal sessions, whose text begins at line n: a session number that stood
--- before, then a limit, then an
--- identity that was written before
+-- before, then a limit, then an identity that was written before
 unfoldable pub list_fault : ℕ → List ClientSession → Option LogFault
 list_fault n ss =
     option_or (session_fault (session_twice n (log_lines ss)))

@@ -20,8 +20,7 @@ size_fault text = if nat_lt MAX_LONG_LOG_BYTES (length text) then Some
     (OverLimit limit.LogBytes) else None
 
 -- the first fault of legal sessions, whose text begins at line n: a session number that stood
--- before, then an identity that was
--- written before
+-- before, then an identity that was written before
 unfoldable pub list_fault : ℕ → List ClientSession → Option LogFault
 list_fault n ss = option_or (session_fault (session_twice n (log_lines ss)))
     (write_fault (write_twice n (log_lines ss)))

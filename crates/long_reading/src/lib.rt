@@ -23,7 +23,7 @@
 //! 32 bytes of memory, and 80 more where its key has more than 14 bytes.
 #![tactic(auto)]
 
-mod cutting;
+mod blocks;
 mod reading;
 mod repeats;
 mod shares;

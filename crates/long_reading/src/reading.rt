@@ -11,7 +11,7 @@ ghost use Rattle.log_definitions.specs.WellFormed.{log_lines};
 ghost use Rattle.long_log_definitions.specs.LongLog.{IsLongLog, IsLongLogFault, list_fault};
 ghost use Rattle.long_reading.specs.Reading.{AreRead, fault_of_blocks};
 
-use crate::cutting::cut_long;
+use crate::blocks::cut_long;
 use crate::repeats::first_repeated;
 use crate::shares::shares;
 use crate::stated::Statements;

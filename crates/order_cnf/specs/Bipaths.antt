@@ -20,8 +20,7 @@ pub record IsBipath (n : ℕ) (c : Choice) : Type 0 where
   pub second : IsSingle n c.two
 
 -- Each known edge joins two different nodes, each side of a choice is one such edge, and the
--- clauses, where they are few enough,
--- are a formula.
+-- clauses, where they are few enough, are a formula.
 pub record HasPlain (p : Polygraph) : Type 0 where
   pub few : p.nodes ≤ MAX_NODES
   pub joined : AllByRecursion (Joins p.nodes) p.known

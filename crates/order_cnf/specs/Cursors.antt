@@ -14,8 +14,7 @@ pub record IsCursor (end : ℕ) (c : Cursor) : Type 0 where
   pub third : c.third ≤ end
 
 -- the clauses of the first two nodes and each from the third on, of the first and two nodes behind
--- the second, and of three nodes
--- behind the first
+-- the second, and of three nodes behind the first
 unfoldable pub cursor_left : Relation → Cursor → List (List Literal)
 cursor_left r c =
     of_one r c.first c.second (up_to c.third (r.nodes + 1))

@@ -7,8 +7,7 @@ use Rattle.serializability.specs.Pairs.{Known}
 use Rattle.serializability.specs.Formula.{Cnf, clause_true}
 
 -- `known` lists the pairs (u, v) of which it is known that u stands before v, and `choices` counts
--- the choices that the formula is
--- made of
+-- the choices that the formula is made of
 pub record FormulaData : Type 0 where
   pub nodes : ℕ
   pub known : List (ℕ × ℕ)

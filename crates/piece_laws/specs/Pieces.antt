@@ -16,9 +16,8 @@ pub record CutAt : Type 0 where
   pub held : Held
 
 -- What keys hold behind a first part, where this was written and held before it: an identity that a
--- node of the rest reads, and that
--- the first part writes, or that it found and left; some such one, wherever a node of the rest
--- reads 0 or what was written so far.
+-- node of the rest reads, and that the first part writes, or that it found and left; some such one,
+-- wherever a node of the rest reads 0 or what was written so far.
 pub record IsHeldBehind (earlier : List Op) (before : Held) (first rest : List ClientSession)
     (held : Held) : Type 0 where
   pub read : (key : List ℕ) (wid : ℕ) → held key ≡ Some wid

@@ -30,8 +30,7 @@ pub record AreNodes (ts : List Transaction) (c : NodeCounts) : Type 0 where
   pub operations : c.operations ≡ length (flat_map (λ t. t.ops) (filter is_committed ts))
 
 -- The line of a piece: its number, its nodes, and their operations. Only a log without transactions
--- has a piece without sessions, which
--- has no line.
+-- has a piece without sessions, which has no line.
 abbrev pub line_of : ℕ → List ClientSession → List ℕ
 line_of number [] = []
 line_of number (s ∷ ss) =

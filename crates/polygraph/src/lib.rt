@@ -1,8 +1,8 @@
 //! Polygraphs: known edges between the nodes of a history, and choices of which an order keeps one
 //! side; the bipaths of a history; and the orders that fit a polygraph.
 //!
-//! Called by `coalesce`, `prune_ledger`, `order_cnf` and the crates of the search. It knows no
-//! chain, no formula and no thread.
+//! Called by the crates that prune, search, audit, tell and write formulas, from `coalesce` to
+//! `order_cnf`. It knows no chain, no formula and no thread.
 #![tactic(auto)]
 
 mod bipath;

@@ -52,11 +52,6 @@ impl Index {
         (sum as usize).checked_rem(self.lists.len()).unwrap_or(0)
     }
 
-    /// The clause that came last into the list of a sum.
-    fn last_of(&self, sum: u32) -> Option<u32> {
-        self.lists.get(self.list_of(sum)).copied().flatten()
-    }
-
     /// Takes in the clauses that were stored since the last call.
     pub(crate) fn take_in(&mut self, store: &Store) -> Result<(), AllocError> {
         for number in self.entries.len()..store.len() {
@@ -108,7 +103,7 @@ impl Index {
     pub(crate) fn take(&mut self, store: &Store, marks: &Marks, clause: &[Code]) -> Option<u32> {
         let sum = sum_of(clause);
         let mut behind = None;
-        let mut next = self.last_of(sum);
+        let mut next = self.lists.get(self.list_of(sum)).copied().flatten();
         for _ in 0..MOST_LOOKED_AT {
             let number = next?;
             let entry = self.entries.get(number as usize).copied()?;
@@ -125,17 +120,12 @@ impl Index {
     /// Takes a clause out of its list, in which this one came behind it, where one did.
     fn unlink(&mut self, behind: Option<u32>, number: u32, entry: Entry) {
         let list = self.list_of(entry.sum);
-        match behind {
-            Some(behind) => {
-                if let Some(place) = self.entries.get_mut(behind as usize) {
-                    place.before = entry.before;
-                }
+        if let Some(behind) = behind {
+            if let Some(place) = self.entries.get_mut(behind as usize) {
+                place.before = entry.before;
             }
-            None => {
-                if let Some(place) = self.lists.get_mut(list) {
-                    *place = entry.before;
-                }
-            }
+        } else if let Some(place) = self.lists.get_mut(list) {
+            *place = entry.before;
         }
         if let Some(place) = self.entries.get_mut(number as usize) {
             place.listed = false;

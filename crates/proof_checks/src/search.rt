@@ -15,9 +15,10 @@ use crate::watches::{Look, Watch, Watches, inspect, is_true};
 use refutation::{Checker, take_step};
 use serializability::Literal;
 use std::alloc::{AllocError, Global};
+use std::mem;
 
 /// What is known of a variable.
-#[derive(Clone, Copy)]
+#[derive(Clone, Copy, Default)]
 struct Known {
     // the clause that forced it, by its number; none where it was assumed
     reason: Option<u32>,
@@ -40,14 +41,9 @@ struct Trail {
 
 impl Trail {
     fn new(alloc: Global, variables: u32) -> Result<Trail, AllocError> {
-        let known = Known {
-            reason: None,
-            root: false,
-            seen: false,
-        };
         Ok(Trail {
             truth: vec![in alloc; false; places(variables)]?,
-            known: vec![in alloc; known; places(variables)]?,
+            known: vec![in alloc; Known::default(); places(variables)]?,
             codes: Vec::new(alloc),
             propagated: 0,
             roots: 0,
@@ -100,11 +96,7 @@ impl Trail {
     /// Marks the variable of a literal, and says whether it was marked before.
     fn mark(&mut self, code: Code, seen: bool) -> bool {
         match self.known.get_mut(code.variable()) {
-            Some(known) => {
-                let before = known.seen;
-                known.seen = seen;
-                before
-            }
+            Some(known) => mem::replace(&mut known.seen, seen),
             None => true,
         }
     }
@@ -183,13 +175,11 @@ impl Search {
         let number = short(self.store.len());
         self.store.push(&self.codes)?;
         match open {
-            0 => {
-                self.contradict(number);
-                Ok(())
-            }
-            1 => self.add_root(number),
-            _ => self.watch(number),
+            0 => self.contradiction = self.contradiction.or(Some(number)),
+            1 => self.add_root(number)?,
+            _ => self.watch(number)?,
         }
+        Ok(())
     }
 
     /// Puts two literals first that are not false by the roots, as far as the clause has them, and
@@ -213,72 +203,48 @@ impl Search {
         open
     }
 
-    /// Notes that all literals of a clause are false by the roots.
-    fn contradict(&mut self, number: u32) {
-        self.contradiction = self.contradiction.or(Some(number));
-    }
-
     /// Makes the first literal of the clause that was added true, where it is open.
     fn add_root(&mut self, number: u32) -> Result<(), AllocError> {
-        if let Some(code) = self.codes.first().copied() {
-            if !self.trail.is_true(code) {
-                self.trail.push(code, Some(number))?;
-            }
+        match self.codes.first().copied() {
+            Some(code) if !self.trail.is_true(code) => self.trail.push(code, Some(number)),
+            _ => Ok(()),
         }
-        Ok(())
     }
 
     /// Has the clause that was added watch its first two literals.
     fn watch(&mut self, number: u32) -> Result<(), AllocError> {
         if let [first, second, ..] = *self.codes.as_slice() {
-            self.watches.add(
-                first,
-                Watch {
-                    number,
-                    other: second,
-                },
-            )?;
-            self.watches.add(
-                second,
-                Watch {
-                    number,
-                    other: first,
-                },
-            )?;
+            for (code, other) in [(first, second), (second, first)] {
+                self.watches.add(code, Watch { number, other })?;
+            }
         }
         Ok(())
     }
 
     /// Finds the roots that the clauses added since give, and has the checker take each as a unit
     /// clause. The checker has no other clauses than the search.
+    #[tactic(auto, using(refutation::proofs::Units::entails_then))]
     pub(crate) fn settle(&mut self, checker: &mut Checker) -> Result<(), AllocError>
         ensures follows { Entails checker.old.clauses checker.new.clauses }
     {
-        if let Some(number) = self.propagate()? {
-            self.contradict(number);
-        }
+        let conflict = self.propagate()?;
+        self.contradiction = self.contradiction.or(conflict);
         for index in self.trail.roots..self.trail.codes.len() {
-            self.take_root_at(checker, index)?;
+            self.take_root(checker, index)?;
         }
         self.trail.roots = self.trail.codes.len();
         self.trail.propagated = self.trail.roots;
         Ok(())
     }
 
-    /// Has the checker take the root at a place of the trail.
-    fn take_root_at(&mut self, checker: &mut Checker, index: usize) -> Result<(), AllocError>
+    /// Has the checker take the root at a place of the trail as a unit clause, unless the clause
+    /// that forced it is one.
+    fn take_root(&mut self, checker: &mut Checker, index: usize) -> Result<(), AllocError>
         ensures follows { Entails checker.old.clauses checker.new.clauses }
     {
-        match self.trail.codes.get(index).copied() {
-            Some(code) => self.take_root(checker, code),
-            None => Ok(()),
-        }
-    }
-
-    /// Has the checker take a root as a unit clause, unless the clause that forced it is one.
-    fn take_root(&mut self, checker: &mut Checker, code: Code) -> Result<(), AllocError>
-        ensures follows { Entails checker.old.clauses checker.new.clauses }
-    {
+        let Some(code) = self.trail.codes.get(index).copied() else {
+            return Ok(());
+        };
         self.trail.set_root(code);
         let Some(reason) = self.trail.reason(code) else {
             return Ok(());
@@ -390,12 +356,11 @@ impl Search {
             Some(number) => Some(number),
             None => self.assume(literals)?,
         };
-        let found = conflict.is_some();
         if let Some(number) = conflict {
             self.explain(number)?;
         }
         self.trail.undo();
-        Ok(found)
+        Ok(conflict.is_some())
     }
 
     /// Makes each literal of a step false, and what follows true. The number of a clause that is
@@ -436,19 +401,12 @@ impl Search {
 
     /// Adds the clause that forced a literal, where the conflict rests on it.
     fn explain_literal(&mut self, code: Code) -> Result<(), AllocError> {
-        match self.trail.known(code) {
-            Some(
-                Known {
-                    seen: true,
-                    reason: Some(reason),
-                    ..
-                },
-            ) => {
-                self.forcing.push(reason)?;
-                self.mark_clause(reason)
-            }
-            _ => Ok(()),
+        let seen = self.trail.known(code).filter(|known| known.seen);
+        if let Some(reason) = seen.and_then(|known| known.reason) {
+            self.forcing.push(reason)?;
+            self.mark_clause(reason)?;
         }
+        Ok(())
     }
 
     /// Marks the literals of a clause, and adds the unit clauses of those that are roots.
@@ -456,14 +414,8 @@ impl Search {
         for code in self.store.clause(number as usize) {
             if !self.trail.mark(*code, true) {
                 self.marked.push(*code)?;
-                if let Some(
-                    Known {
-                        root: true,
-                        reason: Some(unit),
-                        ..
-                    },
-                ) = self.trail.known(*code)
-                {
+                let root = self.trail.known(*code).filter(|known| known.root);
+                if let Some(unit) = root.and_then(|known| known.reason) {
                     self.hints.push(unit as usize)?;
                 }
             }

@@ -2,6 +2,7 @@
 
 use crate::code::Code;
 use std::alloc::{AllocError, Global};
+use std::ops::Range;
 
 /// Where the codes of a clause begin, and how many they are: none where the clause is forgotten, or
 /// not for the search.
@@ -36,35 +37,23 @@ impl Store {
         self.spans.len()
     }
 
-    /// Where the codes of the clause with a number begin and end.
-    fn range(&self, number: usize) -> (usize, usize) {
-        match self.spans.get(number) {
-            Some(span) => {
-                let start = span.start as usize;
-                (start, start.wrapping_add(span.length as usize))
-            }
-            None => (0, 0),
-        }
+    /// Where the codes of the clause with a number stand.
+    fn range(&self, number: usize) -> Option<Range<usize>> {
+        let span = self.spans.get(number)?;
+        let start = span.start as usize;
+        Some(start..start.wrapping_add(span.length as usize))
     }
 
     /// The clause with a number; a forgotten one is empty.
     pub(crate) fn clause(&self, number: usize) -> &[Code] {
-        let (start, end) = self.range(number);
-        if start <= end && end <= self.codes.len() {
-            &self.codes[start..end]
-        } else {
-            &[]
-        }
+        let range = self.range(number).unwrap_or(0..0);
+        self.codes.get(range).unwrap_or(&[])
     }
 
     /// The same, to change the order of its literals.
     pub(crate) fn clause_mut(&mut self, number: usize) -> Option<&mut [Code]> {
-        let (start, end) = self.range(number);
-        if start <= end && end <= self.codes.len() {
-            Some(&mut self.codes[start..end])
-        } else {
-            None
-        }
+        let range = self.range(number)?;
+        self.codes.as_mut_slice().get_mut(range)
     }
 
     /// Adds a clause under the next number.

@@ -23,26 +23,25 @@ fn shown(rt: &(impl Abort + AllocGlobal), proof: &[u8]) -> Result<(), ProofFault
     check_proof(rt.alloc(), &mut checker, 2, proof)
 }
 
+fn bad_line(line: usize) -> Result<(), ProofFault> {
+    Err(ProofFault::BadLine { line })
+}
+
+fn not_implied(line: usize) -> Result<(), ProofFault> {
+    Err(ProofFault::NotImplied { line })
+}
+
 #[test]
 fn drat(rt: HostRuntime) {
     assert_eq!(rt; shown(&rt, b"1 0\n0\n"), Ok(()));
     assert_eq!(rt; shown(&rt, b"1 1 0\n0\n"), Ok(()));
     assert_eq!(rt; shown(&rt, b"1 -1 0\n2 0\nd 1 2 0\nd 2 1 0\n0\n"), Ok(()));
     assert_eq!(rt; shown(&rt, b"a\x02\x00a\x00"), Ok(()));
-    assert_eq!(rt; shown(&rt, b"0\n"), Err(ProofFault::NotImplied { line: 1 }));
+    assert_eq!(rt; shown(&rt, b"0\n"), not_implied(1));
     assert_eq!(rt; shown(&rt, b"1 0\n"), Err(ProofFault::NoEmptyClause));
-    assert_eq!(rt;
-        shown(&rt, b"1 0\n3 0\n"),
-        Err(ProofFault::BadLine { line: 2 })
-    );
-    assert_eq!(rt;
-        shown(&rt, b"d 1 2 0\n1 0\n"),
-        Err(ProofFault::NotImplied { line: 2 })
-    );
-    assert_eq!(rt;
-        shown(&rt, b"d 1 2 0\n-1 0\n0\n"),
-        Err(ProofFault::NotImplied { line: 3 })
-    );
+    assert_eq!(rt; shown(&rt, b"1 0\n3 0\n"), bad_line(2));
+    assert_eq!(rt; shown(&rt, b"d 1 2 0\n1 0\n"), not_implied(2));
+    assert_eq!(rt; shown(&rt, b"d 1 2 0\n-1 0\n0\n"), not_implied(3));
 }
 
 #[test]
@@ -56,26 +55,11 @@ fn lrat(rt: HostRuntime) {
         shown(&rt, b"5 1 0 1 2 0\n"),
         Err(ProofFault::NoEmptyClause)
     );
-    assert_eq!(rt;
-        shown(&rt, b"5 1 0 1 3 0\n"),
-        Err(ProofFault::NotImplied { line: 1 })
-    );
-    assert_eq!(rt;
-        shown(&rt, b"5 1 0 1 5 0\n"),
-        Err(ProofFault::BadLine { line: 1 })
-    );
-    assert_eq!(rt;
-        shown(&rt, b"4 1 0 1 2 0\n"),
-        Err(ProofFault::BadLine { line: 1 })
-    );
-    assert_eq!(rt;
-        shown(&rt, b"4 d 1 0\n5 1 0 1 2 0\n"),
-        Err(ProofFault::BadLine { line: 2 })
-    );
-    assert_eq!(rt;
-        shown(&rt, b"5 1 0 -1 2 0\n"),
-        Err(ProofFault::NotImplied { line: 1 })
-    );
+    assert_eq!(rt; shown(&rt, b"5 1 0 1 3 0\n"), not_implied(1));
+    assert_eq!(rt; shown(&rt, b"5 1 0 1 5 0\n"), bad_line(1));
+    assert_eq!(rt; shown(&rt, b"4 1 0 1 2 0\n"), bad_line(1));
+    assert_eq!(rt; shown(&rt, b"4 d 1 0\n5 1 0 1 2 0\n"), bad_line(2));
+    assert_eq!(rt; shown(&rt, b"5 1 0 -1 2 0\n"), not_implied(1));
 }
 
 #[test]
@@ -85,16 +69,7 @@ fn lrat_ids(rt: HostRuntime) {
         Ok(())
     );
     assert_eq!(rt; shown(&rt, b"5 1 1 0 1 2 0\n6 0 5 3 4 0\n"), Ok(()));
-    assert_eq!(rt;
-        shown(&rt, b"5 1 0 1 2 0\n5 0 5 3 4 0\n"),
-        Err(ProofFault::BadLine { line: 2 })
-    );
-    assert_eq!(rt;
-        shown(&rt, b"5 1 0 1 2 0\n9 0 8 3 4 0\n"),
-        Err(ProofFault::BadLine { line: 2 })
-    );
-    assert_eq!(rt;
-        shown(&rt, b"c\n\n5 1 0 1 -2 0\n"),
-        Err(ProofFault::NotImplied { line: 3 })
-    );
+    assert_eq!(rt; shown(&rt, b"5 1 0 1 2 0\n5 0 5 3 4 0\n"), bad_line(2));
+    assert_eq!(rt; shown(&rt, b"5 1 0 1 2 0\n9 0 8 3 4 0\n"), bad_line(2));
+    assert_eq!(rt; shown(&rt, b"c\n\n5 1 0 1 -2 0\n"), not_implied(3));
 }

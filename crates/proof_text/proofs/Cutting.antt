@@ -168,3 +168,10 @@ stated_last n bs line behind is none = ap (stated n) is ∙ go (is_passed (words
     go : (t : Bool) → is_passed (words line) ≡ t → stated n (line ∷ []) ≡ stated n (line ∷ lines behind)
     go true e = rw e (sym (stated_empty (n + 1) behind none))
     go false e = rw e (ap (λ ls. (n, words line) ∷ ls) (sym (stated_empty (n + 1) behind none)))
+
+-- these lemmas by what they serve
+pub ruleset word_cuts = (words_at, words_none, position_within)
+
+pub ruleset line_cuts = (lines_at, lines_unended, stated_last)
+
+pub ruleset line_finds = (stated_empty, stated_first, stated_passed)

@@ -15,6 +15,7 @@ use Rattle.proof_text.specs.declared.number.Number.{Number}
 use Rattle.proof_text.specs.declared.drat.DratAction.{DratAction}
 use Rattle.proof_text.proofs.Cutting.{take_step, drop_step, position_some, position_none}
 use Rattle.proof_text.proofs.Stepping.{drat_is}
+use Rattle.proof_text.proofs.UpToZero.{read_steps}
 
 abbrev pub is_last : ℕ → Bool
 is_last b = nat_lt b 128
@@ -239,3 +240,12 @@ pub behind_within : (bytes : List ℕ) (words new : List (List ℕ)) (n limit : 
 behind_within bytes words new n limit some is left h =
     let many : 0 < length words = omega (arith, some_words bytes some, ap length is) in
     omega (arith, behind_fewer words many, ap length is, ap length left)
+
+-- these lemmas by what they serve
+pub ruleset word_cuts = (binary_nil, binary_at, binary_unended)
+
+pub ruleset line_steps = (read_steps, behind_at_zero, behind_at_more)
+
+pub ruleset steps_read = (step_none, step_read, behind_read, where_read)
+
+pub ruleset lines_read = (steps_none, steps_first, behind_within)

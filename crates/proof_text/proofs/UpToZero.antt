@@ -77,3 +77,8 @@ pass_zero old new n first is zero = ap behind_zero (taken number_of old new n fi
 pub pass_more : (old new : List (List ℕ)) (n : Number) → Some n ≡ first_number (numbers_of old) → new ≡ drop 1 old → (n.size ≡ 0 → ⊥) → behind_zero (numbers_of old) ≡ behind_zero (numbers_of new)
 unfolding behind_zero
 pass_more old new n first is ne = ap behind_zero (taken number_of old new n first is) ∙ rw (ne_eqb n.size 0 ne) refl
+
+-- the ways in which reading, or passing, up to a 0 goes on
+pub ruleset pass_steps = (pass_none, pass_zero, pass_more)
+
+pub ruleset read_steps = (at_end, at_zero, at_bad, at_item)

@@ -89,7 +89,7 @@ fn first_last(bytes: &[u8]) -> Option<usize>
 }
 
 /// The first word, where there is one, and what stands behind it.
-#[tactic(auto, using(crate::proofs::Packing::binary_at, crate::proofs::Packing::binary_unended))]
+#[tactic(auto, using(crate::proofs::Packing::word_cuts))]
 fn cut_word(bytes: &[u8]) -> Option<(&[u8], &[u8])>
     ensures { MatchOption result (binary_words bytes.now ≡ [])
         (λ cut. binary_words bytes.now ≡ cut.0.now ∷ binary_words cut.1.now) }
@@ -133,14 +133,10 @@ fn sevens(word: &[u8]) -> u64
 fn signed(number: u64) -> Option<Number>
     ensures { result ≡ signed number }
 {
-    if number == 1 {
-        None
-    } else {
-        Some(Number {
-            size: number / 2,
-            negative: number % 2 == 1,
-        })
-    }
+    (number != 1).then_some(Number {
+        size: number / 2,
+        negative: number % 2 == 1,
+    })
 }
 
 /// The number of a word.
@@ -169,7 +165,7 @@ fn action_of(word: &[u8]) -> Option<DratAction>
 }
 
 /// Reads the literals up to a 0, which is passed over, and says whether they are such.
-#[tactic(auto, using(crate::proofs::UpToZero::at_item, crate::proofs::Packing::behind_at_more))]
+#[tactic(auto, using(crate::proofs::Packing::line_steps))]
 fn read_literals(
     words: &mut BinaryWords<'_>,
     variables: u32,
@@ -194,7 +190,7 @@ fn read_literals(
 }
 
 /// Reads the step of the first line.
-#[tactic(auto, using(crate::proofs::Packing::behind_read, crate::proofs::Packing::where_read))]
+#[tactic(auto, using(crate::proofs::Packing::steps_read))]
 fn read_step(
     words: &mut BinaryWords<'_>,
     variables: u32,
@@ -247,6 +243,7 @@ impl<'a> BinaryLines<'a> {
     }
 
     /// Reads the step of the next line.
+    #[tactic(auto, using(crate::proofs::Packing::lines_read))]
     pub(crate) fn read(
         &mut self,
         variables: u32,

@@ -55,17 +55,12 @@ impl<'a> DratSteps<'a> {
     pub fn new(text: &'a [u8], variables: u32, binary: bool) -> DratSteps<'a>
         ensures { result ≡ drat_steps_in binary variables text.now }
     {
-        if binary {
-            DratSteps {
-                source: Source::Binary(BinaryLines::of(text)),
-                variables,
-            }
+        let source = if binary {
+            Source::Binary(BinaryLines::of(text))
         } else {
-            DratSteps {
-                source: Source::Text(Lines::of(text)),
-                variables,
-            }
-        }
+            Source::Text(Lines::of(text))
+        };
+        DratSteps { source, variables }
     }
 
     /// Reads the next step, where there is one: its line, what it does, and its literals.

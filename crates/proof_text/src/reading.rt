@@ -11,7 +11,7 @@ use serializability::Literal;
 use std::alloc::AllocError;
 
 /// Reads the literals up to a 0, which is passed over, and says whether they are such.
-#[tactic(auto, using(crate::proofs::UpToZero::at_zero, crate::proofs::UpToZero::at_item))]
+#[tactic(auto, using(crate::proofs::UpToZero::read_steps))]
 pub(crate) fn read_literals(
     words: &mut Words<'_>,
     variables: u32,
@@ -34,7 +34,7 @@ pub(crate) fn read_literals(
 }
 
 /// Reads the IDs up to a 0, which is passed over, and says whether they are such.
-#[tactic(auto, using(crate::proofs::UpToZero::at_zero, crate::proofs::UpToZero::at_item))]
+#[tactic(auto, using(crate::proofs::UpToZero::read_steps))]
 fn read_ids(
     words: &mut Words<'_>,
     is_hint: bool,
@@ -82,7 +82,7 @@ pub(crate) fn read_last_literals(
 }
 
 /// Passes over numbers and the first 0, where there is one and only numbers stand before it.
-#[tactic(auto, using(crate::proofs::UpToZero::pass_zero, crate::proofs::UpToZero::pass_more))]
+#[tactic(auto, using(crate::proofs::UpToZero::pass_steps))]
 pub(crate) fn pass_zero(words: &mut Words<'_>) -> bool
     ensures { behind_zero (numbers_of words.old) ≡ then_some result (numbers_of words.new) }
 {

@@ -3,7 +3,6 @@
 ghost use Rattle.std.specs.Prelude.{◌≡◌, ◌+◌, ◌^◌, ◌<◌, ◌≤◌, ℕ, [], ◌∷◌, not, length, drop};
 ghost use Rattle.std.specs.Prelude.{position, ◌==◌, MatchOption};
 ghost use Rattle.std.specs.List.{position_or_len};
-ghost use Rattle.std.specs.Str.{bytes_eq};
 ghost use Rattle.proof_text.specs.Forms.{first_line};
 ghost use Rattle.proof_text.specs.Numbers.{numbers_of, first_number};
 ghost use Rattle.proof_text.specs.Words.{is_blank, words, lines, begins_comment, is_passed};
@@ -68,7 +67,7 @@ impl<'a> Words<'a> {
         ensures rest { self.new ≡ behind_delete self.old }
     {
         match cut_word(self.rest) {
-            Some((word, rest)) if is_d(word) => {
+            Some((word, rest)) if word == b"d".as_slice() => {
                 self.rest = rest;
                 true
             }
@@ -82,13 +81,6 @@ fn is_blank(byte: u8) -> bool
     ensures { result ≡ is_blank byte }
 {
     byte == b' ' || byte == b'\t' || byte == b'\r'
-}
-
-/// Whether a word is `d`.
-fn is_d(word: &[u8]) -> bool
-    ensures { result ≡ bytes_eq word.now (100 ∷ []) }
-{
-    word == b"d".as_slice()
 }
 
 /// The place of the first byte that is no blank.
@@ -110,14 +102,11 @@ fn first_blank(line: &[u8]) -> Option<usize>
 fn end_of_word(line: &[u8]) -> usize
     ensures { result ≡ position_or_len is_blank line.now }
 {
-    match first_blank(line) {
-        Some(end) => end,
-        None => line.len(),
-    }
+    first_blank(line).unwrap_or(line.len())
 }
 
 /// The first word of a line, where it has one, and what stands behind it.
-#[tactic(auto, using(crate::proofs::Cutting::words_at, crate::proofs::Cutting::words_none))]
+#[tactic(auto, using(crate::proofs::Cutting::word_cuts))]
 fn cut_word(line: &[u8]) -> Option<(&[u8], &[u8])>
     ensures { MatchOption result (words line.now ≡ [])
         (λ cut. words line.now ≡ cut.0.now ∷ words cut.1.now) }
@@ -135,7 +124,7 @@ fn first_feed(text: &[u8]) -> Option<usize>
 }
 
 /// The first line of a text, and what stands behind it.
-#[tactic(auto, using(crate::proofs::Cutting::lines_unended, crate::proofs::Cutting::stated_last))]
+#[tactic(auto, using(crate::proofs::Cutting::line_cuts))]
 pub(crate) fn cut_line(text: &[u8]) -> (&[u8], &[u8])
     ensures first { result.0.now ≡ first_line (lines text.now) }
     ensures lines { (n : ℕ) →
@@ -152,24 +141,19 @@ pub(crate) fn cut_line(text: &[u8]) -> (&[u8], &[u8])
 fn begins_comment(word: &[u8]) -> bool
     ensures { result ≡ begins_comment word.now }
 {
-    match word.first() {
-        Some(byte) => *byte == b'c' || *byte == b'%',
-        None => false,
-    }
+    word.first()
+        .is_some_and(|byte| *byte == b'c' || *byte == b'%')
 }
 
 /// Whether a line says nothing.
 fn is_passed(line: &[u8]) -> bool
     ensures { result ≡ is_passed (words line.now) }
 {
-    match cut_word(line) {
-        Some((word, _)) => begins_comment(word),
-        None => true,
-    }
+    cut_word(line).is_none_or(|(word, _)| begins_comment(word))
 }
 
-#[tactic(auto, using(crate::proofs::Cutting::stated_first, crate::proofs::Cutting::stated_passed))]
 /// The first line that says something: its number, the line, and what stands behind it.
+#[tactic(auto, using(crate::proofs::Cutting::line_finds))]
 fn find_line(text: &[u8], number: usize) -> Option<(usize, &[u8], &[u8])>
     requires { number + length text.now ≤ 2 ^ 63 }
     ensures { MatchOption result (stated number (lines text.now) ≡ [])

@@ -25,8 +25,8 @@ entered_in [] = []
 entered_in (x ∷ xs) = entered_by x.seat x.event x.reply ++ entered_in xs
 
 -- Rounds, each a legal history of the machine: the first one begins in the opening state of the
--- polygraph, each further one where the
--- one before ended, with nothing handed out. They entered these entries, and led to this state.
+-- polygraph, each further one where the one before ended, with nothing handed out. They entered
+-- these entries, and led to this state.
 pub data AreRounds (p : Polygraph) : List LedgerEntry → State → Type 0 where
   none : AreRounds p [] (opening_state p.choices (record { nodes = p.nodes; edges = p.known }))
   round : (entries : List LedgerEntry) (s now : State)

@@ -26,9 +26,8 @@ abbrev pub kept_by : List LedgerEntry → List Entry
 kept_by entries = kept_after [] (posts_in entries)
 
 -- each entry's edge is in its refused side, and its walk leads against it over the known edges and
--- the sides that earlier
--- entries keep; a cycle, where one is given, is one in the known edges and the sides that all
--- entries keep
+-- the sides that earlier entries keep; a cycle, where one is given, is one in the known edges and
+-- the sides that all entries keep
 pub record IsLedgerOf (p : Polygraph) (ledger : Ledger) : Type 0 where
   pub shown : AreShown p [] (posts_in ledger.entries.items)
   pub cycle : IfSome ledger.cycle (λ line. IsCycle
@@ -41,9 +40,8 @@ pub record IsReduced (p : Polygraph) : Type 0 where
       p.choices
 
 -- what is left of a polygraph that is not dead: its known edges with those of the forced sides, the
--- choices that are open, what
--- reaches what by these edges, and the ledger of the forced sides, which has what the rounds
--- entered
+-- choices that are open, what reaches what by these edges, and the ledger of the forced sides,
+-- which has what the rounds entered
 pub record Remainder : Type 0 where
   pub poly : Polygraph
   pub rows : Graph

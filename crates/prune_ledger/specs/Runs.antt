@@ -50,8 +50,8 @@ ledger_of [] = []
 ledger_of (x ∷ xs) = posts_of x.event x.reply ++ ledger_of xs
 
 -- a state in which these sides are kept, the newest first: each was refuted in turn, the edges are
--- the known ones and theirs,
--- a side is refused exactly where the other one is kept, and a dead machine's edges have a cycle
+-- the known ones and theirs, a side is refused exactly where the other one is kept, and a dead
+-- machine's edges have a cycle
 pub record Grown (p : Polygraph) (kept : List Kept) (s : State) : Type 0 where
   pub same : s.choices ≡ p.choices
   pub nodes : s.graph.nodes ≡ p.nodes

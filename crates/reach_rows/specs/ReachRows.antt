@@ -6,8 +6,7 @@ use Rattle.reach_laws.specs.Reach.{Graph, Reaches}
 use Rattle.known_graph.specs.Pairs.{all_pairs}
 
 -- The rows of a graph, as a graph of its nodes: its edges are the pairs of which the first node
--- reaches
--- the second, each once, by the first node and then the second.
+-- reaches the second, each once, by the first node and then the second.
 pub record AreRowsOf (rows graph : Graph) : Type 0 where
   pub nodes : rows.nodes ≡ graph.nodes
   pub reach : (u v : ℕ) → (Contains rows.edges (u, v) ↔ Reaches graph.edges u v)

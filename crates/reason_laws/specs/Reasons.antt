@@ -1,7 +1,6 @@
 -- Why one transaction stands before another in each serial order, in the words of the log. Nodes
--- are those of the sessions, and
--- operations count from 0. The kinds are those of Adya's dependencies (1999), the order of a
--- session, and that of real time.
+-- are those of the sessions, and operations count from 0. The kinds are those of Adya's
+-- dependencies (1999), the order of a session, and that of real time.
 use Rattle.std.specs.Prelude.{◌≡◌, ◌≢◌, ℕ, ◌+◌, ◌<◌, ◌≤◌, List, [], ◌∷◌, length, take, drop}
 use Rattle.std.specs.Prelude.{slice_get, Some}
 use Rattle.std.specs.List.{AllByRecursion}
@@ -54,8 +53,7 @@ pub record IsReadBy (ss : List ClientSession) (a written b read : ℕ) : Type 0 
   pub reads : IsOpAt ss b read (Read key wid)
 
 -- a and b read the same write of a key, before any own write of it, and operation `overwrites` of b
--- writes the key: so a, which does
--- not see that, stands before b
+-- writes the key: so a, which does not see that, stands before b
 pub record IsOverwrittenBy (ss : List ClientSession) (a read b overwrites : ℕ) : Type 0 where
   pub first : IsNode ss a
   pub second : IsNode ss b
@@ -88,9 +86,8 @@ left_by wid [] = wid
 left_by wid (l ∷ ls) = left_by l.wid ls
 
 -- operation `read` of a, before any own write of the key, names the key's initial value or a write
--- of the chain that begins with it, and
--- operation `begins` of b, which reads the key from nobody, writes it: so b's write stands behind
--- those of the chain
+-- of the chain that begins with it, and operation `begins` of b, which reads the key from nobody,
+-- writes it: so b's write stands behind those of the chain
 pub record IsOfInitialBefore (ss : List ClientSession) (a read b begins : ℕ) : Type 0 where
   pub first : IsNode ss a
   pub second : IsNode ss b

@@ -60,8 +60,7 @@ IsReduction ss (Dead ledger) = IsDeadHistory ss ledger
 IsReduction ss (Open choices reduced) = IsCountedHistory ss choices reduced
 
 -- where neither an anomaly stands nor the arcs have a cycle, there are more than 100,000 choices
--- between chains; of want of
--- memory nothing is said
+-- between chains; of want of memory nothing is said
 abbrev pub IsReduceFault : List ClientSession → PolyFault → Type 0
 IsReduceFault ss TooManyChoices = (anomaly_of (log_of ss) ≡ None)
     × (IsCyclic (arcs (log_of ss)) → ⊥) × (MAX_CHOICES < length (chain_choices (log_of ss)))

@@ -1,8 +1,9 @@
 -- Clauses in store, when more literals come behind them.
-use Rattle.std.proofs.Common.{◌≡◌, ℕ, ◌-◌, ◌≤◌, zero, suc, Result, Ok, Err, OnErr, Option, None, Some, slice_set, List, [], ◌∷◌, ◌++◌, length, take, drop, refl, ap, ◌∙◌, arith, length-append, length-drop}
+use Rattle.std.proofs.Common.{◌≡◌, ℕ, ◌-◌, ◌≤◌, Result, Ok, Err, OnErr, Option, None, Some, List, [], ◌∷◌, ◌++◌, length, take, drop, refl, ap, ◌∙◌, arith, length-append, length-drop}
 use Rattle.std.specs.List.{slice_range}
-use Rattle.std.proofs.lemmas.List.{take-append-le, drop-append-le}
+use Rattle.std.proofs.lemmas.List.{take-append-le, drop-append-le, map-append}
 use Rattle.std.proofs.Math.Seq.{drop-append_seam, take-length}
+use Rattle.serializability.proofs.Places.{each_from_append}
 use Rattle.serializability.specs.declared.literal.Literal.{Literal}
 use Rattle.refutation.specs.Stored.{clause_in, clauses_in, IsWithin, AreWithin}
 use Rattle.refutation.specs.declared.clauses.Span.{Span}
@@ -27,10 +28,6 @@ clauses_before xs more (Some s ∷ spans) w =
     let tail = clauses_before xs more spans w.1 in
     ap (λ c. Some c ∷ clauses_in (xs ++ more) spans) head ∙ ap (λ cs. Some (slice_range xs s.start s.end) ∷ cs) tail
 
-pub clauses_with : (xs : List Literal) (spans : List (Option Span)) (s : Option Span) → clauses_in xs (spans ++ s ∷ []) ≡ clauses_in xs spans ++ clause_in xs s ∷ []
-clauses_with xs [] s = refl
-clauses_with xs (t ∷ spans) s = ap (λ cs. clause_in xs t ∷ cs) (clauses_with xs spans s)
-
 is_within_more : (n m : ℕ) (s : Option Span) → n ≤ m → IsWithin n s → IsWithin m s
 is_within_more n m None le w = tt
 is_within_more n m (Some s) le w = (w.0, omega (arith, w.1))
@@ -39,25 +36,16 @@ pub within_more : (n m : ℕ) (spans : List (Option Span)) → n ≤ m → AreWi
 within_more n m [] le w = w
 within_more n m (s ∷ spans) le w = (is_within_more n m s le w.0, within_more n m spans le w.1)
 
-pub within_with : (n : ℕ) (spans : List (Option Span)) (s : Option Span) → AreWithin n spans → IsWithin n s → AreWithin n (spans ++ s ∷ [])
-within_with n [] s w h = (h, tt)
-within_with n (t ∷ spans) s w h = (w.0, within_with n spans s w.1 h)
-
-pub clauses_without : (xs : List Literal) (spans : List (Option Span)) (k : ℕ) → clauses_in xs (slice_set spans k None) ≡ slice_set (clauses_in xs spans) k None
-clauses_without xs [] k = refl
-clauses_without xs (s ∷ spans) zero = refl
-clauses_without xs (s ∷ spans) (suc k) = ap (λ cs. clause_in xs s ∷ cs) (clauses_without xs spans k)
-
 -- a clause put behind the others
 pub clause_pushed : (xs c : List Literal) (spans : List (Option Span)) (s : Span) → AreWithin (length xs) spans → s.start ≡ length xs → s.end ≡ length (xs ++ c) → clauses_in (xs ++ c) (spans ++ Some s ∷ []) ≡ clauses_in xs spans ++ Some c ∷ []
 clause_pushed xs c spans s w a b =
     let last : slice_range (xs ++ c) s.start s.end ≡ c = rw (a, b) (range_behind xs c) in
-    clauses_with (xs ++ c) spans (Some s) ∙ (ap (λ cs. cs ++ clause_in (xs ++ c) (Some s) ∷ []) (clauses_before xs c spans w) ∙ ap (λ d. clauses_in xs spans ++ Some d ∷ []) last)
+    map-append (clause_in (xs ++ c)) spans (Some s ∷ []) ∙ (ap (λ cs. cs ++ clause_in (xs ++ c) (Some s) ∷ []) (clauses_before xs c spans w) ∙ ap (λ d. clauses_in xs spans ++ Some d ∷ []) last)
 
 pub within_pushed : (xs c : List Literal) (spans : List (Option Span)) (s : Span) → AreWithin (length xs) spans → s.start ≡ length xs → s.end ≡ length (xs ++ c) → AreWithin (length (xs ++ c)) (spans ++ Some s ∷ [])
 within_pushed xs c spans s w a b =
     let long = length-append xs c in
-    within_with (length (xs ++ c)) spans (Some s) (within_more (length xs) (length (xs ++ c)) spans (omega arith) w) (omega arith, omega arith)
+    each_from_append (IsWithin (length (xs ++ c))) spans (Some s ∷ []) (within_more (length xs) (length (xs ++ c)) spans (omega arith) w) ((omega arith, omega arith), tt)
 
 pub on_err : {T E P : Type 0} (r : Result T E) → P → OnErr r P
 on_err (Ok x) p = tt

@@ -4,7 +4,8 @@ use Rattle.std.specs.List.{AllByRecursion}
 use Rattle.std.proofs.Math.Seq.{drop-cons, take-suc}
 use Rattle.std.proofs.lemmas.List.{take-append-drop, length-replicate}
 use Rattle.std.proofs.lemmas.List.Elements.{filter_more, filter-append}
-use Rattle.std.proofs.lemmas.Option.{slice_get-get_or, slice_get_within, get_or_from_slice_get}
+use Rattle.std.proofs.lemmas.Option.{slice_get-get_or, slice_get_within, get_or_from_slice_get, unwrap_or-slice_get}
+use Rattle.serializability.proofs.Places.{each_from_map, each_of_append}
 use Rattle.serializability.specs.Formula.{value_of, literal_true, clause_true}
 use Rattle.serializability.specs.declared.literal.Literal.{Literal}
 use Rattle.refutation.specs.Follows.{met, SatisfiesAll, Follows, Entails, IsRefuted}
@@ -23,26 +24,18 @@ abbrev pub negated : Literal → Literal
 negated l = record { variable = l.variable; positive = not l.positive }
 
 true_then : (p v : Bool) → literal_true (v ∷ []) (record { variable = 1; positive = p }) ≡ true → v ≡ p
-true_then true true h = refl
-true_then true false h = cc
-true_then false true h = cc
-true_then false false h = refl
+true_then true v h = grind arith
+true_then false v h = grind arith
 
 false_when : (p v : Bool) → v ≡ not p → literal_true (v ∷ []) (record { variable = 1; positive = p }) ≡ false
-false_when true true h = cc
-false_when true false h = refl
-false_when false true h = refl
-false_when false false h = cc
+false_when p v h = grind arith
 
 -- a literal that is known to be false is
 pub false_literal : (known : List (Option Bool)) (values : List Bool) (l : Literal) → Agrees known values → known_false known l ≡ true → literal_true values l ≡ false
 false_literal known values l a h = by_value (slice_get known l.variable) refl h
   where
     same_value : (v b : Bool) → value_is (Some (Some v)) b ≡ true → v ≡ b
-    same_value true true h = refl
-    same_value true false h = cc
-    same_value false true h = cc
-    same_value false false h = refl
+    same_value v b h = grind arith
 
     by_value : (o : Option (Option Bool)) → slice_get known l.variable ≡ o → value_is o (not l.positive) ≡ true → literal_true values l ≡ false
     by_value None e h = cc
@@ -69,10 +62,7 @@ pub left_literal : (known : List (Option Bool)) (values : List Bool) (c : List L
 left_literal known values c l e a = left_worth known values c a ∙ (ap (clause_true values) e ∙ or-false (literal_true values l))
 
 negated_true : (p v : Bool) → literal_true (v ∷ []) (record { variable = 1; positive = p }) ≡ false → literal_true (v ∷ []) (record { variable = 1; positive = not p }) ≡ true
-negated_true true true h = cc
-negated_true true false h = refl
-negated_true false true h = refl
-negated_true false false h = cc
+negated_true p v h = grind arith
 
 pub negated_literal : (values : List Bool) (l : Literal) → literal_true values l ≡ false → literal_true values (negated l) ≡ true
 negated_literal values l h = negated_true l.positive (value_of values l.variable) h
@@ -95,14 +85,9 @@ satisfied_at values [] k c s h = cc
 satisfied_at values (d ∷ cs) zero c s h = let same : d ≡ Some c = h in subst (λ (e : Option (List Literal)). met values e ≡ true) same s.0
 satisfied_at values (d ∷ cs) (suc k) c s h = satisfied_at values cs k c s.1 h
 
-pub satisfied_front : (values : List Bool) (cs : List (Option (List Literal))) (c : List Literal) → SatisfiesAll values (cs ++ Some c ∷ []) → SatisfiesAll values cs
-satisfied_front values [] c s = tt
-satisfied_front values (d ∷ cs) c s = (s.0, satisfied_front values cs c s.1)
-
 -- clauses that are given one after the other
 pub satisfied_given : (values : List Bool) (cs : List (List Literal)) → AllByRecursion (λ c. clause_true values c ≡ true) cs → SatisfiesAll values (map Some cs)
-satisfied_given values [] s = tt
-satisfied_given values (c ∷ cs) s = (s.0, satisfied_given values cs s.1)
+satisfied_given values cs s = each_from_map (λ c. met values c ≡ true) Some cs s
 
 -- clauses entail themselves, with one that follows too, and without one; and what they entail entails
 pub entails_same : (old new : List (Option (List Literal))) → new ≡ old → Entails old new
@@ -139,7 +124,7 @@ sound_forced cs step known k c l s h left = record {
 
 -- what is known is so with a clause more, and where nothing is known it does not matter which clauses stand
 pub sound_more : (cs : List (Option (List Literal))) (c step : List Literal) (known : List (Option Bool)) → IsSound cs step known → IsSound (cs ++ Some c ∷ []) step known
-sound_more cs c step known s = record { assumed = λ values all. s.assumed values (satisfied_front values cs c all) }
+sound_more cs c step known s = record { assumed = λ values all. s.assumed values (each_of_append (λ d. met values d ≡ true) cs (Some c ∷ []) all).0 }
 
 -- where the empty clause stands, nothing satisfies all clauses
 pub refuted_at : (cs : List (Option (List Literal))) (k : ℕ) → clause_at cs k ≡ Some [] → IsRefuted cs
@@ -194,10 +179,6 @@ forces cs step known new k c l now v e h left =
       known = ap (standing cs step) e;
     })
 
-pub nothing_in : {X : Type 0} (c : List X) → length c ≡ 0 → c ≡ []
-nothing_in [] h = refl
-nothing_in (l ∷ c) h = absurd (omega arith)
-
 -- where the empty clause is among clauses, and where it is not
 pub has_empty : (cs : List (Option (List Literal))) (k : ℕ) → clause_at cs k ≡ Some [] → Contains cs (Some [])
 has_empty cs k h = by_slot (slice_get cs k) refl h
@@ -213,9 +194,7 @@ has_no_empty cs n none le p = none p.0 (omega (arith, p.1)) (ap (λ o. unwrap_or
 -- a clause more of a list of clauses
 pub take_clause : (cs : List (Option (List Literal))) (k : ℕ) (o : Option (List Literal)) → k < length cs → clause_at cs k ≡ o → take (k + 1) cs ≡ take k cs ++ o ∷ []
 take_clause cs k o within e =
-    let there : slice_get cs k ≡ Some (get_or cs k None) = slice_get-get_or cs k None within in
-    let same : get_or cs k None ≡ o = sym (ap (λ p. unwrap_or p None) there) ∙ e in
-    rw add-one (take-suc cs k None within) ∙ ap (λ p. take k cs ++ p ∷ []) same
+    rw add-one (take-suc cs k None within) ∙ ap (λ p. take k cs ++ p ∷ []) (sym (unwrap_or-slice_get cs k None) ∙ e)
 
 -- hints whose first one shows nothing close no step
 pub hinted_nothing : (h : ℕ) (hints : List ℕ) (cs : List (Option (List Literal))) (known : List (Option Bool)) → ((c : List Literal) → clause_at cs h ≡ Some c → 2 ≤ length (left_of known c)) → hinted (h ∷ hints) cs known ≡ false
@@ -237,3 +216,6 @@ length_false (l ∷ c) known = length_false c (slice_set known l.variable (Some 
 
 pub length_assumed : (c : List Literal) (n : ℕ) (known : List (Option Bool)) → known ≡ with_false c (all_open n) → length known ≡ n
 length_assumed c n known e = ap length e ∙ length_false c (all_open n) ∙ length-replicate n None
+
+-- what a look at a clause shows
+pub ruleset show_steps = (sound_more, sound_forced, closes, forces)

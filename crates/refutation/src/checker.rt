@@ -53,11 +53,10 @@ impl Checker {
               variables;
         }) }
     {
-        let assigned = Assignment::new(alloc, variables)?;
         Ok(Checker {
             clauses: Clauses::new(alloc),
             step: Vec::new(alloc),
-            assigned,
+            assigned: Assignment::new(alloc, variables)?,
         })
     }
 
@@ -85,6 +84,7 @@ impl Checker {
     }
 
     /// Looks at the clause with a number.
+    #[tactic(auto, using(crate::proofs::Units::show_steps))]
     pub fn show(&mut self, number: usize) -> Result<Shown, AllocError>
         ensures shown { IfOk result (λ s. Shows self.old self.new number s) }
         ensures same { OnErr result (self.new ≡ self.old) }
@@ -178,6 +178,7 @@ fn what_is_left(assigned: &Assignment, clause: &[Literal]) -> Left
 }
 
 /// Makes each literal of a clause false.
+#[tactic(auto, using(crate::proofs::Units::assumed_more, crate::proofs::Units::false_more))]
 fn assume(assigned: &mut Assignment, clause: &[Literal]) -> Result<(), AllocError>
     ensures assumes { Assumes clause.now assigned.old assigned.new }
     ensures known { OnOk result (assigned.new ≡ with_false clause.now assigned.old) }

@@ -70,6 +70,7 @@ impl Clauses {
     }
 
     /// Adds a clause under the next number.
+    #[tactic(auto, using(crate::proofs::Stores::clause_pushed))]
     pub fn push(&mut self, clause: &[Literal]) -> Result<(), AllocError>
         ensures pushed { OnOk result (self.new ≡ self.old ++ Some clause.now ∷ []) }
         ensures same { OnErr result (self.new ≡ self.old) }
@@ -106,6 +107,7 @@ impl Clauses {
     }
 
     /// The same clauses, without the literals that belong to none.
+    #[tactic(auto, using(crate::proofs::Units::take_clause))]
     fn packed(&self) -> Result<Clauses, AllocError>
         ensures { IfOk result (λ c. c ≡ self.now) }
     {

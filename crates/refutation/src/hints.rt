@@ -13,6 +13,7 @@ use std::alloc::AllocError;
 /// Takes a step: shows the clauses with the numbers in `hints`, in turn, until the step is closed,
 /// and says whether it was. A step is not taken where a hint shows nothing, or where the hints end
 /// before it is closed. A literal that a clause has twice counts twice.
+#[tactic(auto, using(crate::proofs::Units::length_assumed))]
 pub fn take_step(
     checker: &mut Checker,
     step: &[Literal],

@@ -3,17 +3,10 @@ use serializability::Literal;
 use std::process::Abort;
 use std::test::*;
 
-fn positive(variable: u32) -> Literal {
+fn literal(number: i32) -> Literal {
     Literal {
-        variable,
-        positive: true,
-    }
-}
-
-fn negative(variable: u32) -> Literal {
-    Literal {
-        variable,
-        positive: false,
+        variable: number.unsigned_abs(),
+        positive: number > 0,
     }
 }
 
@@ -28,23 +21,16 @@ fn shows(rt: &impl Abort, checker: &mut Checker, index: usize) -> i64 {
 
 /// The four clauses over two variables.
 fn give_all(rt: &impl Abort, checker: &mut Checker) {
-    checker
-        .give(&[positive(1), positive(2)])
-        .expect(rt, "memory");
-    checker
-        .give(&[positive(1), negative(2)])
-        .expect(rt, "memory");
-    checker
-        .give(&[negative(1), positive(2)])
-        .expect(rt, "memory");
-    checker
-        .give(&[negative(1), negative(2)])
-        .expect(rt, "memory");
+    for [first, second] in [[1, 2], [1, -2], [-1, 2], [-1, -2]] {
+        checker
+            .give(&[literal(first), literal(second)])
+            .expect(rt, "memory");
+    }
 }
 
 /// The steps 1 (by clauses 0 and 1) and the empty clause (by 4, 2 and 3).
 fn take_steps(rt: &impl Abort, checker: &mut Checker) {
-    checker.begin(&[positive(1)]).expect(rt, "memory");
+    checker.begin(&[literal(1)]).expect(rt, "memory");
     assert_eq!(rt; shows(rt, checker, 2), 0);
     assert_eq!(rt; shows(rt, checker, 0), 2);
     assert_eq!(rt; shows(rt, checker, 1), -1);
@@ -73,10 +59,10 @@ fn steps_by_hints(rt: HostRuntime) {
     let mut checker = Checker::new(rt.alloc(), 3).expect(&rt, "memory");
     give_all(&rt, &mut checker);
     assert!(rt; !takes(&rt, &mut checker, &[], &[0, 1]));
-    assert!(rt; !takes(&rt, &mut checker, &[positive(1)], &[0]));
-    assert!(rt; !takes(&rt, &mut checker, &[positive(1)], &[0, 4]));
+    assert!(rt; !takes(&rt, &mut checker, &[literal(1)], &[0]));
+    assert!(rt; !takes(&rt, &mut checker, &[literal(1)], &[0, 4]));
     assert_eq!(rt; checker.len(), 4);
-    assert!(rt; takes(&rt, &mut checker, &[positive(1)], &[0, 1]));
+    assert!(rt; takes(&rt, &mut checker, &[literal(1)], &[0, 1]));
     assert!(rt; takes(&rt, &mut checker, &[], &[4, 2, 3]));
     assert!(rt; checker.is_refuted());
 }
@@ -87,8 +73,8 @@ fn forgotten_clauses_show_nothing(rt: HostRuntime) {
     give_all(&rt, &mut checker);
     checker.forget(0);
     checker.forget(7);
-    assert!(rt; !takes(&rt, &mut checker, &[positive(1)], &[0, 1]));
-    assert!(rt; takes(&rt, &mut checker, &[negative(1)], &[2, 3]));
+    assert!(rt; !takes(&rt, &mut checker, &[literal(1)], &[0, 1]));
+    assert!(rt; takes(&rt, &mut checker, &[literal(-1)], &[2, 3]));
     assert_eq!(rt; checker.len(), 5);
 }
 
@@ -103,7 +89,7 @@ fn memory_is_reclaimed(rt: HostRuntime) {
         checker.reclaim().expect(&rt, "memory");
     }
     assert_eq!(rt; checker.len(), 32);
-    assert!(rt; takes(&rt, &mut checker, &[positive(1)], &[0, 1]));
+    assert!(rt; takes(&rt, &mut checker, &[literal(1)], &[0, 1]));
     assert!(rt; takes(&rt, &mut checker, &[], &[32, 2, 3]));
     assert!(rt; checker.is_refuted());
 }

@@ -16,7 +16,7 @@ use Rattle.cobra_answers.specs.declared.status.Status.TheVariants.{NotSerializab
 use Rattle.cobra_answers.proofs.Telling.{keeps}
 use Rattle.refute_command.specs.declared.refusal.Refusal.{Refusal}
 use Rattle.refute_command.specs.declared.refusal.Refusal.TheVariants.{Command, Proof}
-use Rattle.refute_command.specs.Refuted.{IsShownBy, IsRefutation, IsProofRefused, IsNotRefuted, IsRefuteRefused, refuted_text, given_by}
+use Rattle.refute_command.specs.Refuted.{IsShownBy, IsRefutation, IsProofRefused, IsNotRefuted, IsRefuteRefused, refuted_formula_text, given_by}
 
 pub same_given : (s : Standing) (v : ℕ) (f : Cnf) → s.clauses ≡ map Some f.clauses → v ≡ f.variables → length s.known ≡ f.variables + 1 → given_to s v ≡ given_by f
 same_given s v f e n k = λ i. record { clauses = e i; variables = n i; known = k i }
@@ -30,7 +30,7 @@ shown_by proof f s v e n k accepted refuted = record {
 pub fault_by : (proof : List ℕ) (f : Cnf) (s : Standing) (v : ℕ) (e : ProofFault) → s.clauses ≡ map Some f.clauses → v ≡ f.variables → length s.known ≡ f.variables + 1 → IsProofFault (given_to s v) proof e → IsProofFault (given_by f) proof e
 fault_by proof f s v e c n k h = subst (λ (g : Given). IsProofFault g proof e) (same_given s v f c n k) h
 
-pub refutation_of : (plain : Bool) (proof : List ℕ) (ss : List ClientSession) (b : Basis) (f : Cnf) (status : Status) (text : List ℕ) → IsFormulaFrom plain ss b f → IsFaithful ss f → IsShownBy proof f → status ≡ NotSerializable → text ≡ refuted_text → IsRefutation plain proof ss status text
+pub refutation_of : (plain : Bool) (proof : List ℕ) (ss : List ClientSession) (b : Basis) (f : Cnf) (status : Status) (text : List ℕ) → IsFormulaFrom plain ss b f → IsFaithful ss f → IsShownBy proof f → status ≡ NotSerializable → text ≡ refuted_formula_text → IsRefutation plain proof ss status text
 refutation_of plain proof ss b f status text made faithful shown ends told = record {
   formula = f;
   belongs = record { basis = b; made = made };

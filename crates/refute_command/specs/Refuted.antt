@@ -35,12 +35,11 @@ pub record IsShownBy (proof : List ℕ) (f : Cnf) : Type 0 where
   pub accepted : IsAccepted (given_by f) proof
   pub unsatisfiable : IsUnsatisfiable f
 
-abbrev pub refuted_text : List ℕ
-refuted_text = codes "not serializable: the formula is refuted\n"
+abbrev pub refuted_formula_text : List ℕ
+refuted_formula_text = codes "not serializable: the formula is refuted\n"
 
 -- The formula that belongs to the sessions cannot be satisfied, and so no list of the committed
--- transactions and of some of the unknown
--- ones is an order that explains them.
+-- transactions and of some of the unknown ones is an order that explains them.
 pub record IsRefutation (plain : Bool) (proof : List ℕ) (ss : List ClientSession) (status : Status)
     (text : List ℕ) : Type 0 where
   pub formula : Cnf
@@ -48,7 +47,7 @@ pub record IsRefutation (plain : Bool) (proof : List ℕ) (ss : List ClientSessi
   pub shown : IsShownBy proof formula
   pub none : (order : List ℕ) → IsSomeOrder ss order → ⊥
   pub ends : status ≡ NotSerializable
-  pub told : text ≡ refuted_text
+  pub told : text ≡ refuted_formula_text
 
 -- the sessions have a formula, and the proof this fault
 pub record IsProofRefused (plain : Bool) (proof : List ℕ) (ss : List ClientSession)

@@ -1,10 +1,11 @@
 ghost use Rattle.reduction.specs.Chained.{HasItsOrders};
 
 use branch_search::{
-    Alternate, Answer, Budget, ByWords, CubeDecision, CubeView, Effort, FirstOpen, Growth,
-    MostEdges, NodeLine, Strategy, Tree, TreeNode, search,
+    Alternate, Answer, Budget, ByWords, CubeView, Effort, FirstOpen, MostEdges, NodeLine, Strategy,
+    search,
 };
 use cobra_formulas::read_log;
+use cube_laws::{CubeDecision, Growth, Tree, TreeNode};
 use decode_order::replay;
 use desk::gate::{Gate, OpenGate};
 use desk::seat_no::Workers;

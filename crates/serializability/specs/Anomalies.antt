@@ -45,8 +45,8 @@ is_other_read x w (event.Read k v) = (k == x) && not (v == w)
 is_other_read x w (event.Write k v) = false
 
 -- The anomaly of a read of x as w in node v, with these operations before it and those behind it.
--- The read is internal where
--- its last own write before it is some, and external where there is none.
+-- The read is internal where its last own write before it is some, and external where there is
+-- none.
 abbrev pub external_anomaly : Log → ℕ → List Event → ℕ → ℕ → List Event → Option ReadAnomaly
 external_anomaly log v before x w behind =
     if is_unknown log x w then Some read.Unknown else

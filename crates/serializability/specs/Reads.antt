@@ -39,8 +39,8 @@ WritesAfter log v before x w = (0 < v) × (v ≤ log.nodes)
     × ((behind : List Event) × (log.ops v ≡ before ++ Write x w ∷ behind))
 
 -- What holds of every well-formed log: keys are below their count, no write has identity 0, no two
--- writes have one identity
--- (aborted transactions included), and the nodes of a session lie together.
+-- writes have one identity (aborted transactions included), and the nodes of a session lie
+-- together.
 pub record IsNumbered (log : Log) : Type 0 where
   pub keys : (v x w : ℕ) (before : List Event) → ReadsAfter log v before x w → x < log.keys
   pub nonzero : (v x w : ℕ) (before : List Event) → WritesAfter log v before x w → 0 < w
@@ -54,11 +54,9 @@ pub record IsNumbered (log : Log) : Type 0 where
       → log.session b ≡ log.session c
 
 -- No read is an anomaly: an internal one names the own write before it, an external one the final
--- write of another node, and two
--- of one key in a node name one identity. No two nodes that read a key from one node both write it.
--- Of each well-formed log
--- there hold besides: keys are below their count, an identity names one write, and sessions lie
--- together.
+-- write of another node, and two of one key in a node name one identity. No two nodes that read a
+-- key from one node both write it. Of each well-formed log there hold besides: keys are below their
+-- count, an identity names one write, and sessions lie together.
 pub record IsClean (log : Log) : Type 0 where
   pub internal : (v x w own : ℕ) (before : List Event) → ReadsAfter log v before x w
       → last_write x before ≡ Some own → w ≡ own

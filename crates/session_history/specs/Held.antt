@@ -33,8 +33,7 @@ abbrev pub row_in : Log → ℕ → RowView
 row_in log x = record { writers = writers_in log x; readers = readers_in log x }
 
 -- The table finds each write by its identity: that of a node, the last of its key there, and that
--- of a transaction that counts
--- as aborted.
+-- of a transaction that counts as aborted.
 pub record FindsWrites (log : Log) (t : Writes) : Type 0 where
   pub nodes : (x w v : ℕ) → 0 < v → is_write x v (entry_of t w) ≡ writes_as x w (log.ops v)
   pub lasts : (x w v : ℕ) → 0 < v → is_last_write x v (entry_of t w) ≡ ends_with x w (log.ops v)

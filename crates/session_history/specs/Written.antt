@@ -45,8 +45,7 @@ pub record HasSeen (lines : List (ℕ × ℕ)) (t : Writes) : Type 0 where
   pub seen : t.twice ≡ None → (w : ℕ) → is_some (entry_of t w) ≡ list_any (λ p. w == p.1) lines
 
 -- While no identity was written twice, the table has the writes of these transactions, each with
--- its node, or with 0 where
--- it was aborted.
+-- its node, or with 0 where it was aborted.
 pub record HasWrites (txns : List (ℕ × List Event)) (t : Writes) : Type 0 where
   pub writes : t.twice ≡ None → (x w v : ℕ) → is_write x v (entry_of t w) ≡ list_any
       (λ p. (p.0 == v) && writes_as x w p.1) txns

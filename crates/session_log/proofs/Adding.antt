@@ -4,7 +4,7 @@ use Rattle.std.specs.List.{flat_map, AllByRecursion}
 use Rattle.std.proofs.lemmas.Bool.{false≢true}
 use Rattle.std.proofs.lemmas.List.{append-nil, map-append}
 use Rattle.std.proofs.lemmas.List.Concat.{flat_map-append}
-use Rattle.session_log.specs.Text.{Transaction, op_line, end_line, txn_lines, view_txn, IsLegalLine, IsLegalMoment, IsLegalOp, IsLegalTxn, IsTold, IsKnown, IsKnownBeforeLast, HasNoMoments}
+use Rattle.session_log.specs.Text.{Transaction, op_line, end_line, txn_lines, view_txn, IsLegalLine, IsLegalMoment, IsLegalOp, IsLegalTxn, MayEndAt, IsKnown, IsKnownBeforeLast, HasNoMoments}
 use Rattle.session_log.specs.Moments.{is_earlier, IsMoment}
 use Rattle.session_log.specs.Version.{has_unknown_line, has_moments}
 use Rattle.session_log.specs.Faults.{Place, Between, Inside, Over, after}
@@ -109,12 +109,12 @@ pub none_stated : (v : Version) (moment : Option ℕ) → IsLegalMoment v moment
 none_stated v None h without = refl
 none_stated v (Some m) h without = absurd (false≢true (sym without ∙ h.1))
 
-end_moment : (v : Version) (o : Outcome) (ended : Option ℕ) → IsTold o ended → IsLegalLine v (end_line o ended) → IsLegalMoment v ended
+end_moment : (v : Version) (o : Outcome) (ended : Option ℕ) → MayEndAt o ended → IsLegalLine v (end_line o ended) → IsLegalMoment v ended
 end_moment v Commit ended told h = h
 end_moment v Abort ended told h = subst (IsLegalMoment v) (sym told) tt
 end_moment v Unknown ended told h = subst (IsLegalMoment v) (sym told) tt
 
-pub ended : (n : ℕ) (old : Reading) (form : Line) (new : Reading) (t : OpenTxn) (o : Outcome) (end : Option ℕ) → IsTold o end → is_earlier end t.begun ≡ false → old.progress ≡ progress.Inside t → form ≡ end_line o end → new.progress ≡ end_progress o → new.txns.items ≡ old.txns.items ++ record { ops = t.ops; outcome = o; begun = t.begun; ended = end } ∷ [] → Adds n old form new
+pub ended : (n : ℕ) (old : Reading) (form : Line) (new : Reading) (t : OpenTxn) (o : Outcome) (end : Option ℕ) → MayEndAt o end → is_earlier end t.begun ≡ false → old.progress ≡ progress.Inside t → form ≡ end_line o end → new.progress ≡ end_progress o → new.txns.items ≡ old.txns.items ++ record { ops = t.ops; outcome = o; begun = t.begun; ended = end } ∷ [] → Adds n old form new
 ended n old form new t o end told ordered p f q e =
     let done : List Line = flat_map txn_lines (map view_txn old.txns.items) in
     let last : Transaction = record { ops = t.ops.items; outcome = o; begun = t.begun; ended = end } in

@@ -11,7 +11,7 @@ use Rattle.std.proofs.lemmas.Fmt.{digits_decimal}
 use Rattle.session_log.specs.Key.{is_key_byte, IsKey}
 use Rattle.session_log.specs.Lines.{lines}
 use Rattle.session_log.specs.Moments.{is_earlier, IsMoment}
-use Rattle.session_log.specs.Text.{ClientSession, Transaction, line_text, text_of_lines, op_line, end_line, txn_lines, session_lines, session_text, log_text, IsLegal, IsLegalLine, IsLegalMoment, IsLegalTxn, IsLegalOp, IsTold, IsKnown, IsKnownBeforeLast, HasNoMoments, IsHeldBy, is_unknown}
+use Rattle.session_log.specs.Text.{ClientSession, Transaction, line_text, text_of_lines, op_line, end_line, txn_lines, session_lines, session_text, log_text, IsLegal, IsLegalLine, IsLegalMoment, IsLegalTxn, IsLegalOp, MayEndAt, IsKnown, IsKnownBeforeLast, HasNoMoments, IsHeldBy, is_unknown}
 use Rattle.session_log.specs.Faults.{Place, Start, Between, Inside, Over, first_fault, grammar_fault, step, after, after_form, form_at, is_session_line}
 use Rattle.session_log.specs.declared.line.Line.{Line}
 use Rattle.session_log.specs.declared.line.Line.TheVariants as line
@@ -160,7 +160,7 @@ read_op : (o : Op) (ls : List (List ℕ × Bool)) → IsLegalOp o → read_back 
 read_op (Read k n) ls h = read_line (line.Read k n) ls h
 read_op (Write k n) ls h = read_line (line.Write k n) ls (h.0, h.2)
 
-read_end : (o : Outcome) (ended : Option ℕ) (ls : List (List ℕ × Bool)) → IsMoment ended → IsTold o ended → read_back (stands (end_line o ended) ∷ ls) ≡ (ended_so o ended ∷ (read_back ls).0, (read_back ls).1)
+read_end : (o : Outcome) (ended : Option ℕ) (ls : List (List ℕ × Bool)) → IsMoment ended → MayEndAt o ended → read_back (stands (end_line o ended) ∷ ls) ≡ (ended_so o ended ∷ (read_back ls).0, (read_back ls).1)
 read_end Commit ended ls h told = read_line (line.Commit ended) ls (stated ended h)
 read_end Abort ended ls h told = read_line line.Abort ls tt ∙ ap (λ e. (ended_so Abort e ∷ (read_back ls).0, (read_back ls).1)) (sym told)
 read_end Unknown ended ls h told = read_line line.Unknown ls refl ∙ ap (λ e. (ended_so Unknown e ∷ (read_back ls).0, (read_back ls).1)) (sym told)
@@ -169,7 +169,7 @@ read_end Unknown ended ls h told = read_line line.Unknown ls refl ∙ ap (λ e. 
 abbrev begun_lines : Transaction → List Line
 begun_lines t = map op_line t.ops ++ end_line t.outcome t.ended ∷ []
 
-read_ops : (os : List Op) (o : Outcome) (ended : Option ℕ) (ls : List (List ℕ × Bool)) → AllByRecursion IsLegalOp os → IsMoment ended → IsTold o ended → read_back (map stands (map op_line os ++ end_line o ended ∷ []) ++ ls) ≡ (record { ops = os; outcome = o; begun = None; ended = ended } ∷ (read_back ls).0, (read_back ls).1)
+read_ops : (os : List Op) (o : Outcome) (ended : Option ℕ) (ls : List (List ℕ × Bool)) → AllByRecursion IsLegalOp os → IsMoment ended → MayEndAt o ended → read_back (map stands (map op_line os ++ end_line o ended ∷ []) ++ ls) ≡ (record { ops = os; outcome = o; begun = None; ended = ended } ∷ (read_back ls).0, (read_back ls).1)
 read_ops [] o ended ls h m told = read_end o ended ls m told
 read_ops (x ∷ os) o ended ls h m told = read_op x (map stands (map op_line os ++ end_line o ended ∷ []) ++ ls) h.0 ∙ ap (λ (r : List Transaction × List ClientSession). (add_op x r.0, r.1)) (read_ops os o ended ls h.1 m told)
 

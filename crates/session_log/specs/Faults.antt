@@ -15,10 +15,9 @@ use Rattle.session_log.specs.declared.fault.LogFault.TheVariants.{UnknownNotLast
 use Rattle.session_log.specs.declared.fault.LogFault.TheVariants.{OverLimit, Memory}
 use Rattle.session_log.specs.declared.version.Version.{Version}
 
--- where reading has come to: no session has begun; a session has, and no transaction is open;
--- the transaction is open whose `begin` is at this line and may state a moment; the session is
--- over: no transaction is
--- open and none may begin, since the outcome of the last is unknown
+-- where reading has come to: no session has begun; a session has, and no transaction is open; the
+-- transaction is open whose `begin` is at this line and may state a moment; the session is over: no
+-- transaction is open and none may begin, since the outcome of the last is unknown
 pub data Place : Type 0 where
   Start : Place
   Between : Place

@@ -18,8 +18,7 @@ use Rattle.session_log.specs.declared.version.Version.{Version}
 use Rattle.session_log.specs.declared.version.Version.TheVariants.{One, Two, Three}
 
 -- a transaction, without where it lies in memory: its operations, how it ended, and the moments at
--- which it began and ended, where
--- they are stated
+-- which it began and ended, where they are stated
 pub record Transaction : Type 0 where
   pub ops : List Op
   pub outcome : Outcome
@@ -105,17 +104,17 @@ IsLegalOp (Read key wid) = IsKey key × (wid < 2 ^ 64)
 IsLegalOp (Write key wid) = IsKey key × (0 < wid) × (wid < 2 ^ 64)
 
 -- only of a commit there is a moment
-abbrev pub IsTold : Outcome → Option ℕ → Type 0
-IsTold Commit ended = Unit {0}
-IsTold Abort ended = ended ≡ None
-IsTold Unknown ended = ended ≡ None
+abbrev pub MayEndAt : Outcome → Option ℕ → Type 0
+MayEndAt Commit ended = Unit {0}
+MayEndAt Abort ended = ended ≡ None
+MayEndAt Unknown ended = ended ≡ None
 
 -- a transaction of such operations, which did not end before it began
 pub record IsLegalTxn (t : Transaction) : Type 0 where
   pub ops : AllByRecursion IsLegalOp t.ops
   pub begun : IsMoment t.begun
   pub ended : IsMoment t.ended
-  pub told : IsTold t.outcome t.ended
+  pub told : MayEndAt t.outcome t.ended
   pub ordered : is_earlier t.ended t.begun ≡ false
 
 -- the client was not told how the transaction ended

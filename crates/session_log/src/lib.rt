@@ -1,7 +1,7 @@
 //! The log of client sessions: what it holds, its text, and its faults.
 //!
-//! Called wherever a log is read or printed: `gather`, `long_reading`, `auditing`,
-//! `pieces_command`. It knows no node, no order and no file.
+//! Called wherever a log is read, cut or printed, and by `session_history` and the crates that
+//! tell for the operations of its sessions. It knows no node, no order and no file.
 #![tactic(auto)]
 
 mod block;

@@ -4,3 +4,6 @@ pub mod Lines
 pub mod Premises
 pub mod Tellable
 pub mod LeftOver
+pub mod Backs
+pub mod RunLines
+pub mod RunsTold

@@ -16,9 +16,9 @@ use Rattle.reduction.specs.Outcome.{IsDeadHistory}
 use Rattle.tell_steps.specs.Ledgers.{IsDeadLedger}
 use Rattle.tell_steps.specs.Steps.{IsLineTold, IsDeadTold}
 use Rattle.tell_steps.specs.declared.item.Item.{Item}
-use Rattle.tell_runs.specs.Runs.{joined_items}
+use Rattle.tell_decision.specs.Runs.{joined_items}
 use Rattle.tell_trees.specs.Trees.{IsTreeTold}
-use Rattle.tell_runs.proofs.Lines.{between_joined}
+use Rattle.tell_decision.proofs.RunLines.{between_joined}
 use Rattle.tell_decision.specs.Explained.{cycle_text, dead_text, tree_text, IsRoundTold, IsCycleWritten, IsDeadWritten, IsTreeWritten}
 use Rattle.call_options.specs.declared.format.Format.{Format}
 

@@ -14,7 +14,7 @@ use Rattle.tell_reasons.specs.Anomalies.{IsAnomalyTold}
 use Rattle.tell_reasons.specs.Crossed.{crossing_text}
 use Rattle.tell_steps.specs.Steps.{IsLineTold, IsDeadTold}
 use Rattle.tell_steps.specs.declared.item.Item.{Item}
-use Rattle.tell_runs.specs.Runs.{joined_items}
+use Rattle.tell_decision.specs.Runs.{joined_items}
 use Rattle.tell_trees.specs.Trees.{IsTreeTold}
 use Rattle.tell_trees.specs.Visits.{leaf_count}
 use Rattle.tell_texts.specs.Texts.{items_text}

@@ -1,3 +1,4 @@
 pub mod Explained
 pub mod Names
 pub mod Shown
+pub mod Runs

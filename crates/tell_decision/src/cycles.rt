@@ -9,12 +9,12 @@ ghost use Rattle.tell_steps.specs.Steps.{IsWhy, IsLineTold};
 ghost use Rattle.tell_decision.specs.Explained.{IsRoundTold};
 ghost use Rattle.tell_decision.specs.Shown.{IsShown};
 
+use crate::runs::joined;
 use reasons::{Reason, reason_of};
 use serializability::NodeIx;
 use session_history::History;
 use std::alloc::{AllocError, Global};
 use tell_reasons::Why;
-use tell_runs::joined;
 use tell_steps::Item;
 
 /// Why the log shows that `a` stands before `b`, where it does.

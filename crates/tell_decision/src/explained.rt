@@ -1,25 +1,42 @@
-//! Cycles, dead ledgers and refutation trees.
+//! Anomalies, cycles, dead ledgers and refutation trees.
 
 ghost use Rattle.std.specs.Prelude.{◌≡◌, IfOk};
 ghost use Rattle.serializability.specs.Anomalies.{anomaly_of};
 ghost use Rattle.log_definitions.specs.Numbers.{log_of};
 ghost use Rattle.reduction.specs.Outcome.{IsCyclicHistory, IsDeadHistory, IsOpenHistory};
-ghost use Rattle.branch_search.specs.Trees.{IsRefutationTree};
+ghost use Rattle.cube_laws.specs.Trees.{IsRefutationTree};
 ghost use Rattle.tell_trees.specs.Visits.{leaf_count};
-ghost use Rattle.tell_decision.specs.Explained.{IsCycleWritten, IsDeadWritten, IsTreeWritten};
+ghost use Rattle.tell_decision.specs.Explained.{IsAnomalyExplained, IsCycleWritten};
+ghost use Rattle.tell_decision.specs.Explained.{IsDeadWritten, IsTreeWritten};
 
 use crate::crossed::soon_crossed;
 use crate::cycles::cycle_items;
 use crate::steps::{dead_items, tree_items};
-use crate::written::{written_cycle, written_dead, written_tree};
-use branch_search::Tree;
+use crate::written::{written_cycle, written_dead, written_lines, written_tree};
 use call_options::Format;
+use cube_laws::Tree;
 use log_lines::PlacedHistory;
 use prune_ledger::{Ledger, Reduced};
 use reduction::open_chains;
-use serializability::NodeIx;
+use serializability::{Anomaly, NodeIx};
 use session_history::History;
 use std::alloc::{AllocError, Global};
+use tell_reasons::put_anomaly;
+
+/// The operations that show an anomaly, which is the one of a history.
+pub fn explain_anomaly(
+    alloc: Global,
+    log: &PlacedHistory<'_>,
+    format: Format,
+    anomaly: Anomaly,
+) -> Result<Vec<u8>, AllocError>
+    requires reported { anomaly_of (log_of log.now.history.now) ≡ Some anomaly }
+    ensures explained { IfOk result (λ text. IsAnomalyExplained format log.now anomaly text.items) }
+{
+    let mut lines = Vec::new(alloc);
+    put_anomaly(&mut lines, log, anomaly)?;
+    written_lines(alloc, format, lines)
+}
 
 /// The edges of a cycle that is known of a history without an anomaly, each with its reason and
 /// each run of edges of one session as one edge, and the cycle's name.

@@ -3,11 +3,11 @@
 //! Called by `cobra_cli`, and by `tell_pieces` of a piece's log. It knows no piece and no status.
 #![tactic(auto)]
 
-mod anomaly;
 mod crossed;
 mod cycles;
 mod explained;
 mod names;
+mod runs;
 mod steps;
 mod telling;
 mod written;

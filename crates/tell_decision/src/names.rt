@@ -75,7 +75,7 @@ fn kind_of(history: &History, first: NodeIx, why: Why) -> EdgeKind
 {
     match why {
         Why::Known(reason) => kind_by_reason(reason),
-        Why::Forced { step: _, order } => kind_by_order(history, order.key, first),
+        Why::Forced { order, .. } => kind_by_order(history, order.key, first),
         Why::Chosen(order) => kind_by_order(history, order.key, first),
     }
 }
@@ -86,8 +86,7 @@ fn one_more(missed: Missed) -> Missed
 {
     match missed {
         Missed::Nothing => Missed::One,
-        Missed::One => Missed::More,
-        Missed::More => Missed::More,
+        Missed::One | Missed::More => Missed::More,
     }
 }
 
@@ -113,25 +112,15 @@ fn with_edge(line: Shape, misses: bool) -> Shape
 fn with_kind(line: Shape, kind: EdgeKind) -> Shape
     ensures { result ≡ spec.with_kind line kind }
 {
+    let mut more = with_edge(line, false);
     match kind {
-        EdgeKind::Missed => with_edge(line, true),
-        EdgeKind::Read => Shape {
-            read: true,
-            ..with_edge(line, false)
-        },
-        EdgeKind::Written => Shape {
-            written: true,
-            ..with_edge(line, false)
-        },
-        EdgeKind::Session => Shape {
-            session: true,
-            ..with_edge(line, false)
-        },
-        EdgeKind::Moments => Shape {
-            moments: true,
-            ..with_edge(line, false)
-        },
+        EdgeKind::Missed => return with_edge(line, true),
+        EdgeKind::Read => more.read = true,
+        EdgeKind::Written => more.written = true,
+        EdgeKind::Session => more.session = true,
+        EdgeKind::Moments => more.moments = true,
     }
+    more
 }
 
 /// With this item too.
@@ -139,11 +128,7 @@ fn with_item(history: &History, line: Shape, item: Item) -> Shape
     ensures { result ≡ spec.with_item history.now line item }
 {
     match item {
-        Item::Edge {
-            first,
-            second: _,
-            why,
-        } => with_kind(line, kind_of(history, first, why)),
+        Item::Edge { first, why, .. } => with_kind(line, kind_of(history, first, why)),
         _ => line,
     }
 }
@@ -167,14 +152,6 @@ fn shape_of(history: &History, items: &[Item]) -> Shape
         line = with_item(history, line, *item);
     }
     line
-}
-
-/// Whether no two neighbours among the edges of a line miss a write, of which the first stands
-/// behind the last.
-fn are_apart(line: Shape) -> bool
-    ensures { result ≡ spec.are_apart line }
-{
-    !(line.beside || (line.first && line.last))
 }
 
 /// Which of three names, by what orders transactions besides their reads and writes.
@@ -246,7 +223,8 @@ fn name_once_missed(line: Shape, edges: usize) -> &'static str
     }
 }
 
-/// The name of a cycle with so many edges, several of which miss a write.
+/// The name of a cycle with so many edges, several of which miss a write; where no two neighbours
+/// among them do, of which the first stands behind the last, it is a long fork.
 fn name_often_missed(line: Shape, edges: usize) -> &'static str
     ensures { result.now ≡ spec.name_often_missed line edges }
 {
@@ -257,19 +235,19 @@ fn name_often_missed(line: Shape, edges: usize) -> &'static str
             "write skew by way of sessions (G2-item-process)",
             "write skew by way of moments (G2-item-realtime)",
         )
-    } else if are_apart(line) {
-        by_order(
-            line,
-            "long fork (G-nonadjacent-item)",
-            "long fork by way of sessions (G-nonadjacent-item-process)",
-            "long fork by way of moments (G-nonadjacent-item-realtime)",
-        )
-    } else {
+    } else if line.beside || (line.first && line.last) {
         by_order(
             line,
             "missed writes in a circle (G2-item)",
             "missed writes and sessions in a circle (G2-item-process)",
             "missed writes and moments in a circle (G2-item-realtime)",
+        )
+    } else {
+        by_order(
+            line,
+            "long fork (G-nonadjacent-item)",
+            "long fork by way of sessions (G-nonadjacent-item-process)",
+            "long fork by way of moments (G-nonadjacent-item-realtime)",
         )
     }
 }

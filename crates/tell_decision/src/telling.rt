@@ -6,8 +6,7 @@ ghost use Rattle.log_definitions.specs.WellFormed.{log_lines};
 ghost use Rattle.deciding.specs.Decides.{IsDecided};
 ghost use Rattle.tell_decision.specs.Explained.{empty_text, IsWhy, IsExplained};
 
-use crate::anomaly::explain_anomaly;
-use crate::explained::{explain_cycle, explain_dead, explain_tree};
+use crate::explained::{explain_anomaly, explain_cycle, explain_dead, explain_tree};
 use call_options::Format;
 use deciding::Decision;
 use log_lines::PlacedHistory;
@@ -15,16 +14,13 @@ use session_history::History;
 use session_log::Version;
 use std::alloc::{AllocError, Global};
 
-/// A graph without boxes.
-const EMPTY_GRAPH: &[u8] = b"strict digraph explanation {\nnode [shape=box];\n}\n";
-
-/// What stands where there is nothing to explain.
+/// What stands where there is nothing to explain: no line, or a graph without boxes.
 fn empty(format: Format) -> &'static [u8]
     ensures text { result.now ≡ empty_text format }
 {
     match format {
         Format::Text => b"",
-        Format::Dot => EMPTY_GRAPH,
+        Format::Dot => b"strict digraph explanation {\nnode [shape=box];\n}\n",
     }
 }
 

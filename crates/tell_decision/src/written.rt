@@ -46,12 +46,9 @@ fn put_crossed(
     ensures text { OnOk result (out.new.items
         ≡ out.old.items ++ crossed_text format log.now found) }
 {
-    match format {
-        Format::Text => match found {
-            Some(crossing) => put_crossing(out, log, crossing),
-            None => Ok(()),
-        },
-        Format::Dot => Ok(()),
+    match (format, found) {
+        (Format::Text, Some(crossing)) => put_crossing(out, log, crossing),
+        (Format::Text, None) | (Format::Dot, _) => Ok(()),
     }
 }
 

@@ -8,10 +8,13 @@
 //! text itself is tested.
 #![tactic(auto)]
 
+mod clauses;
 mod context;
 mod lines;
 mod names;
+mod piece;
 mod retell_text;
+mod sources;
 mod spots;
 mod versions;
 mod words;
@@ -22,6 +25,8 @@ ghost use Rattle.log_definitions.specs.WellFormed.{log_lines};
 ghost use Rattle.piece_laws.specs.Logs.{IsLog};
 ghost use Rattle.auditing.specs.Audits.{ArePiecesOfLog};
 
+use crate::context::Context;
+use crate::piece::Piece;
 use crate::retell_text::retell;
 use auditing::{AuditMeans, line_count};
 use deciding::{Means, decide};
@@ -98,8 +103,11 @@ pub fn explain_piece<R: Threads + Wait + Clock + Sync>(
 {
     let reasons = reasons_of(rt, alloc, pieces.log(alloc, piece)?, means)?;
     let log = pieces.log(alloc, piece)?;
-    match std::str::from_utf8(&reasons) {
-        Ok(text) => retell(alloc, version, sessions, pieces, piece, &log, text),
-        Err(_) => Ok(String::new(alloc)),
-    }
+    let piece = Piece {
+        all: pieces,
+        number: piece,
+    };
+    let context = Context::of(alloc, version, sessions, piece, &log)?;
+    let text = std::str::from_utf8(&reasons).unwrap_or("");
+    retell(alloc, &context, text)
 }

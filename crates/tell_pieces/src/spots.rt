@@ -22,17 +22,10 @@ pub struct Spots<'l> {
     spots: Vec<Spot<'l>>,
 }
 
-/// The line at which a session begins, or 0 where there is none.
-fn line_at(lines: &[usize], session: usize) -> usize {
-    lines.get(session).copied().unwrap_or(0)
-}
-
 /// The line at which a part of a session begins that begins at this line.
 fn begin_of(sessions: &[Session], part: &Part, line: usize) -> Result<usize, AllocError> {
-    let Some(session) = sessions.get(part.session) else {
-        return Ok(line);
-    };
-    match session.txns.get(..part.before) {
+    let session = sessions.get(part.session);
+    match session.and_then(|session| session.txns.get(..part.before)) {
         Some(earlier) => begin_line(earlier, line),
         None => Ok(line),
     }
@@ -47,18 +40,13 @@ impl<'l> Spots<'l> {
         parts: &[Part<'l>],
         log: &'l [Session],
     ) -> Result<Spots<'l>, AllocError> {
-        let mut all = Spots {
-            spots: Vec::new(alloc),
-        };
-        for (i, part) in parts.iter().enumerate() {
-            let first = line_at(lines, part.session);
+        let spots = Vec::new(alloc);
+        let mut all = Spots { spots };
+        for (part, session) in parts.iter().zip(log) {
+            let first = lines.get(part.session).copied().unwrap_or(0);
             all.add(first, None, false)?;
-            let mut line = begin_of(sessions, part, first)?;
-            for txn in part.txns {
-                all.add_txn(txn, line, false)?;
-                line = line_behind(txn, line)?;
-            }
-            if let Some(end) = end_of(part, log.get(i)) {
+            all.add_txns(part.txns, begin_of(sessions, part, first)?)?;
+            if let Some(end) = end_of(part, session) {
                 all.add_txn(end, 0, true)?;
             }
         }
@@ -81,17 +69,23 @@ impl<'l> Spots<'l> {
         self.add(line.saturating_add(1), None, is_end)
     }
 
+    /// Adds the lines of transactions, the first of which begins at this line.
+    fn add_txns(&mut self, txns: &'l [Txn], begin: usize) -> Result<(), AllocError> {
+        let mut line = begin;
+        for txn in txns {
+            self.add_txn(txn, line, false)?;
+            line = line_behind(txn, line)?;
+        }
+        Ok(())
+    }
+
     /// What stands at a line of a log of version 1.
     pub fn at(&self, line: usize) -> Option<Spot<'l>> {
-        let i = line.checked_sub(1)?;
-        self.spots.get(i).copied()
+        self.spots.get(line.checked_sub(1)?).copied()
     }
 }
 
 /// The reads at the end of a session of a piece's log, which is of this part.
-pub fn end_of<'l>(part: &Part, session: Option<&'l Session>) -> Option<&'l Txn> {
-    match session {
-        Some(session) => session.txns.get(part.txns.len()),
-        None => None,
-    }
+pub fn end_of<'l>(part: &Part, session: &'l Session) -> Option<&'l Txn> {
+    session.txns.get(part.txns.len())
 }

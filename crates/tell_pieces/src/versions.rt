@@ -1,10 +1,12 @@
 //! Who wrote and who read the versions of keys that a piece reads.
 
 use crate::lines::{line_behind, place_of};
+use crate::piece::Piece;
+use crate::words::Name;
 use cutting::Part;
-use held_pieces::Pieces;
 use session_log::{Key, Op, Outcome, Txn};
 use std::alloc::{AllocError, Global};
+use std::cmp::Ordering;
 
 /// A version of a key, by the identity of its write: 0 of the initial value.
 #[derive(Clone, Copy, PartialEq, Eq, PartialOrd, Ord)]
@@ -16,11 +18,10 @@ pub struct KeyVersion<'k> {
 /// An operation of the whole log.
 #[derive(Clone, Copy)]
 pub struct OpAt {
-    /// The number of its session, and the place of its transaction there, from 1.
-    pub session: u16,
-    pub place: usize,
-    /// The piece that its transaction is of, from 0.
-    pub piece: usize,
+    /// The name of its transaction.
+    pub name: Name,
+    /// Where its transaction stands: before the piece, in it or behind it.
+    pub stands: Ordering,
     pub line: usize,
     /// The line at which its transaction was aborted.
     pub aborted: Option<usize>,
@@ -34,7 +35,7 @@ pub struct WriteTo<'a> {
 }
 
 /// What is known of a version.
-#[derive(Clone, Copy)]
+#[derive(Clone, Copy, Default)]
 pub struct Seen<'a> {
     pub writer: Option<OpAt>,
     /// The write of its identity to another key.
@@ -45,14 +46,15 @@ pub struct Seen<'a> {
     pub behind: Option<OpAt>,
 }
 
-impl<'a> Seen<'a> {
-    /// Nothing.
-    pub fn nothing() -> Seen<'a> {
-        Seen {
-            writer: None,
-            elsewhere: None,
-            reader: None,
-            behind: None,
+impl Seen<'_> {
+    /// Takes in a read of the version.
+    fn put_read(&mut self, at: OpAt) {
+        if at.stands == Ordering::Less || at.aborted.is_some() {
+            return;
+        }
+        self.reader = self.reader.or(Some(at));
+        if at.stands == Ordering::Greater {
+            self.behind = self.behind.or(Some(at));
         }
     }
 }
@@ -62,16 +64,6 @@ impl<'a> Seen<'a> {
 pub struct Versions<'k, 'a> {
     names: Vec<KeyVersion<'k>>,
     seen: Vec<Seen<'a>>,
-}
-
-/// The line at which the first transaction of each session begins, where the sessions begin at
-/// these.
-fn firsts(alloc: Global, lines: &[usize]) -> Result<Vec<usize>, AllocError> {
-    let mut firsts = Vec::with_capacity(alloc, lines.len())?;
-    for line in lines {
-        firsts.push(line.saturating_add(1))?;
-    }
-    Ok(firsts)
 }
 
 impl<'k, 'a> Versions<'k, 'a> {
@@ -84,7 +76,7 @@ impl<'k, 'a> Versions<'k, 'a> {
         for version in &sought {
             if names.last() != Some(version) {
                 names.push(*version)?;
-                seen.push(Seen::nothing())?;
+                seen.push(Seen::default())?;
             }
         }
         Ok(Versions { names, seen })
@@ -93,8 +85,8 @@ impl<'k, 'a> Versions<'k, 'a> {
     /// What is known of a version.
     pub fn of(&self, version: KeyVersion<'_>) -> Seen<'a> {
         match self.names.binary_search(&version) {
-            Ok(at) => self.seen.get(at).copied().unwrap_or(Seen::nothing()),
-            Err(_) => Seen::nothing(),
+            Ok(at) => self.seen.get(at).copied().unwrap_or_default(),
+            Err(_) => Seen::default(),
         }
     }
 
@@ -102,41 +94,32 @@ impl<'k, 'a> Versions<'k, 'a> {
     fn put_write(&mut self, key: &'a Key, wid: u64, at: OpAt) {
         let first = self.names.partition_point(|version| version.wid < wid);
         for i in first..self.names.len() {
-            let Some(version) = self.names.get(i).copied() else {
+            let (Some(version), Some(seen)) = (self.names.get(i), self.seen.get_mut(i)) else {
                 break;
             };
             if version.wid != wid {
                 break;
             }
-            if let Some(seen) = self.seen.get_mut(i) {
-                if version.key == key {
-                    seen.writer = Some(at);
-                } else {
-                    seen.elsewhere = Some(WriteTo { at, key });
-                }
+            if version.key == key {
+                seen.writer = Some(at);
+            } else {
+                seen.elsewhere = Some(WriteTo { at, key });
             }
         }
     }
 
-    fn put_read(&mut self, key: &Key, wid: u64, at: OpAt, piece: usize) {
-        if at.piece < piece || at.aborted.is_some() {
-            return;
-        }
-        if let Ok(i) = self.names.binary_search(&KeyVersion { wid, key }) {
+    /// Takes in a read.
+    fn put_read(&mut self, version: KeyVersion<'_>, at: OpAt) {
+        if let Ok(i) = self.names.binary_search(&version) {
             if let Some(seen) = self.seen.get_mut(i) {
-                if seen.reader.is_none() {
-                    seen.reader = Some(at);
-                }
-                if at.piece > piece && seen.behind.is_none() {
-                    seen.behind = Some(at);
-                }
+                seen.put_read(at);
             }
         }
     }
 
     /// Sees a transaction of the whole log, of which this is its `begin`, and which ends at the
     /// line before this one.
-    fn see(&mut self, txn: &'a Txn, begin: OpAt, behind: usize, piece: usize) {
+    fn see(&mut self, txn: &'a Txn, begin: OpAt, behind: usize) {
         let mut at = begin;
         at.aborted = match txn.outcome {
             Outcome::Commit => None,
@@ -146,49 +129,49 @@ impl<'k, 'a> Versions<'k, 'a> {
             at.line = at.line.saturating_add(1);
             match op {
                 Op::Write { key, wid } => self.put_write(key, *wid, at),
-                Op::Read { key, wid } => self.put_read(key, *wid, at, piece),
+                Op::Read { key, wid } => self.put_read(KeyVersion { wid: *wid, key }, at),
             }
         }
     }
 
-    /// Sees a part of a piece, which begins at this line; gives the line behind it.
+    /// Sees a part of a piece that stands so, which begins at this line; gives the line behind it.
     fn see_part(
         &mut self,
         part: &Part<'a>,
-        of: usize,
+        stands: Ordering,
         line: usize,
-        piece: usize,
     ) -> Result<usize, AllocError> {
+        let session = part.number;
         let mut line = line;
         for (i, txn) in part.txns.iter().enumerate() {
+            let place = place_of(part, i);
             let begin = OpAt {
-                session: part.number,
-                place: place_of(part, i),
-                piece: of,
+                name: Name { session, place },
+                stands,
                 line,
                 aborted: None,
             };
             line = line_behind(txn, line)?;
-            self.see(txn, begin, line, piece);
+            self.see(txn, begin, line);
         }
         Ok(line)
     }
 
     /// Who wrote these versions, and who reads them in this piece and behind it: one pass over the
-    /// whole log.
+    /// whole log, the sessions of which begin at these lines.
     pub fn seen(
         alloc: Global,
         lines: &[usize],
-        pieces: &Pieces<'a>,
-        piece: usize,
+        piece: Piece<'_, 'a>,
         sought: Vec<KeyVersion<'k>>,
     ) -> Result<Versions<'k, 'a>, AllocError> {
         let mut versions = Versions::new(alloc, sought)?;
-        let mut next = firsts(alloc, lines)?;
-        for of in 0..pieces.count() {
-            for part in pieces.parts(of) {
+        let firsts = lines.iter().map(|line| line.saturating_add(1));
+        let mut next: Vec<usize> = firsts.collect(alloc)?;
+        for number in 0..piece.all.count() {
+            for part in piece.all.parts(number) {
                 if let Some(line) = next.get_mut(part.session) {
-                    *line = versions.see_part(part, of, *line, piece)?;
+                    *line = versions.see_part(part, number.cmp(&piece.number), *line)?;
                 }
             }
         }

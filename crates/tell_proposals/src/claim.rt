@@ -3,7 +3,7 @@
 use crate::hops::Kind;
 
 /// Of which kinds the edges of a walk are.
-#[derive(Clone, Copy)]
+#[derive(Clone, Copy, Default)]
 pub struct Claim {
     missed: usize,
     is_read: bool,
@@ -12,16 +12,6 @@ pub struct Claim {
 }
 
 impl Claim {
-    /// That of no edges.
-    pub fn none() -> Claim {
-        Claim {
-            missed: 0,
-            is_read: false,
-            is_session: false,
-            is_moments: false,
-        }
-    }
-
     /// With an edge of this kind too.
     pub fn add(&mut self, kind: Kind) {
         match kind {
@@ -36,12 +26,10 @@ impl Claim {
     /// How weak a store may be at which this happens: the more writes are missed, the weaker; then
     /// those at which information goes in a circle, and those at which writes do.
     fn weakness(self) -> usize {
-        if self.missed == 0 {
-            usize::from(self.is_read)
-        } else if self.missed == 1 {
-            2
-        } else {
-            3
+        match self.missed {
+            0 => usize::from(self.is_read),
+            1 => 2,
+            _ => 3,
         }
     }
 
@@ -59,9 +47,6 @@ impl Claim {
     /// Whether this claims less than another: it takes less order, or as much and happens at weaker
     /// stores.
     pub fn is_less(self, other: Claim) -> bool {
-        if other.freedom() == self.freedom() {
-            return other.weakness() < self.weakness();
-        }
-        other.freedom() < self.freedom()
+        (other.freedom(), other.weakness()) < (self.freedom(), self.weakness())
     }
 }

@@ -41,6 +41,7 @@ pub struct Hop {
 /// as many places in the order in which nodes began, and one for each key.
 #[derive(Drop)]
 pub struct Hops {
+    /// How many nodes there are, with node 0.
     pub nodes: usize,
     lists: Vec<Vec<Hop>>,
 }
@@ -72,12 +73,10 @@ fn next_writer(history: &History, key: usize, readers: &[NodeIx]) -> Option<Node
         return None;
     }
     let writers = history.writers_of(key);
-    for reader in readers {
-        if writers.contains(reader) {
-            return Some(*reader);
-        }
-    }
-    None
+    readers
+        .iter()
+        .find(|reader| writers.contains(reader))
+        .copied()
 }
 
 /// The nodes of which it is stated when they began, in the order of these moments.
@@ -97,8 +96,7 @@ impl Hops {
     /// None, of so many nodes and keys.
     fn none(alloc: Global, nodes: usize, keys: usize) -> Result<Hops, AllocError> {
         let mut lists = Vec::new(alloc);
-        let rails = nodes.saturating_add(1).saturating_mul(3);
-        for _ in 0..rails.saturating_add(keys) {
+        for _ in 0..nodes.saturating_mul(3).saturating_add(keys) {
             lists.push(Vec::new(alloc))?;
         }
         Ok(Hops { nodes, lists })
@@ -107,7 +105,8 @@ impl Hops {
     /// What the log shows.
     pub fn of(alloc: Global, chains: &Chains<'_>) -> Result<Hops, AllocError> {
         let history = chains.history();
-        let mut hops = Hops::none(alloc, history.committed(), history.keys())?;
+        let nodes = history.committed().saturating_add(1);
+        let mut hops = Hops::none(alloc, nodes, history.keys())?;
         hops.add_sessions(history)?;
         hops.add_moments(alloc, history)?;
         hops.add_reads(history)?;
@@ -143,40 +142,33 @@ impl Hops {
 
     /// Adds a hop that the log shows.
     fn add_shown(&mut self, from: usize, to: usize, kind: Kind) -> Result<(), AllocError> {
-        let (cost, kept) = (cost_of(kind), None);
         let hop = Hop {
             to,
             kind,
-            cost,
-            kept,
+            cost: cost_of(kind),
+            kept: None,
         };
         self.add(from, hop)
     }
 
     /// The place of a node in its session.
     fn in_session(&self, node: usize) -> usize {
-        self.nodes.saturating_add(1).saturating_add(node)
+        self.nodes.saturating_add(node)
     }
 
     /// The place behind this many nodes in the order in which they began.
     fn in_time(&self, count: usize) -> usize {
-        self.nodes
-            .saturating_add(1)
-            .saturating_mul(2)
-            .saturating_add(count)
+        self.nodes.saturating_mul(2).saturating_add(count)
     }
 
     /// The place of a key.
     fn of_key(&self, key: usize) -> usize {
-        self.nodes
-            .saturating_add(1)
-            .saturating_mul(3)
-            .saturating_add(key)
+        self.nodes.saturating_mul(3).saturating_add(key)
     }
 
     /// From each node to those behind it in its session.
     fn add_sessions(&mut self, history: &History) -> Result<(), AllocError> {
-        for next in 2..self.nodes.saturating_add(1) {
+        for next in 2..self.nodes {
             let node = next.saturating_sub(1);
             let rail = self.in_session(next);
             self.add_shown(rail, next, Kind::On)?;
@@ -196,7 +188,7 @@ impl Hops {
             self.add_shown(rail, entry.node.get(), Kind::On)?;
             self.add_shown(rail, self.in_time(count.saturating_add(1)), Kind::On)?;
         }
-        for number in 1..self.nodes.saturating_add(1) {
+        for number in 1..self.nodes {
             if let Some(end) = history.ended_of(node_at(number)) {
                 let count = begun.partition_point(|entry| entry.moment <= end);
                 if count < begun.len() {
@@ -209,7 +201,7 @@ impl Hops {
 
     /// From each node to those that read from it.
     fn add_reads(&mut self, history: &History) -> Result<(), AllocError> {
-        for number in 1..self.nodes.saturating_add(1) {
+        for number in 1..self.nodes {
             for read in history.reads_of(node_at(number)) {
                 self.add_shown(read.source.get(), number, Kind::Read)?;
             }
@@ -224,8 +216,11 @@ impl Hops {
             return Ok(());
         }
         let place = self.of_key(key);
-        let mut writer = NodeIx::INITIAL;
-        for _ in 0..self.nodes.saturating_add(1) {
+        let mut next = Some(NodeIx::INITIAL);
+        for _ in 0..self.nodes {
+            let Some(writer) = next else {
+                break;
+            };
             if chains.history().committed() < writer.get() {
                 break;
             }
@@ -233,10 +228,7 @@ impl Hops {
             for reader in readers {
                 self.add_shown(reader.get(), place, Kind::Missed)?;
             }
-            match next_writer(chains.history(), key, readers) {
-                Some(next) => writer = next,
-                None => break,
-            }
+            next = next_writer(chains.history(), key, readers);
         }
         for chain in chains.chains_of(key) {
             self.add_shown(place, chain.head.get(), Kind::On)?;

@@ -1,6 +1,6 @@
 //! Which orders of two chains are refuted, and at what cost.
 
-use crate::hops::Hops;
+use crate::hops::{Hops, node_at};
 use crate::search::{FAR, Search};
 use serializability::NodeIx;
 use std::alloc::{AllocError, Global};
@@ -32,6 +32,12 @@ pub struct Cost {
     pub cycle: usize,
 }
 
+/// That of an order which no walk refutes.
+const UNREFUTED: Cost = Cost {
+    step: FAR,
+    cycle: FAR,
+};
+
 /// A node to which a walk leads, and what that costs.
 #[derive(Clone, Copy)]
 pub struct End {
@@ -42,7 +48,7 @@ pub struct End {
 /// Of each key, for each order of two of its chains, what the cheapest walks against it cost.
 #[derive(Drop)]
 pub struct Costs {
-    keys: Vec<Vec<Cost>>,
+    keys: Vec<Vec<Vec<Cost>>>,
 }
 
 /// The chains of a key.
@@ -54,42 +60,35 @@ pub fn chains_at<'a>(chains: &'a Chains<'_>, key: usize) -> &'a [Chain] {
     }
 }
 
-/// The cheaper one.
-fn cheaper(one: End, two: End) -> End {
-    if two.cost < one.cost { two } else { one }
-}
-
 /// A walk to a node, which costs so much more where it is told.
 fn end_at(search: &Search, node: NodeIx, more: usize) -> End {
     let cost = search.cost(node.get()).saturating_add(more);
     End { node, cost }
 }
 
+/// The cheapest walk to who reads a chain's last version, which costs so much more where it is told.
+fn end_at_reader(search: &Search, chain: &Chain, more: usize) -> Option<End> {
+    let ends = chain
+        .readers
+        .iter()
+        .map(|reader| end_at(search, *reader, more));
+    ends.min_by_key(|end| end.cost)
+}
+
 /// Where the walk of a cycle ends that goes on from this chain to those behind it: at who reads its
 /// last version, or at its writer where nobody does.
 pub fn end_of_cycle(search: &Search, chain: &Chain) -> End {
-    let mut end = End {
-        node: chain.tail,
-        cost: FAR,
-    };
-    if chain.readers.is_empty() {
-        end = end_at(search, chain.tail, 0);
-    }
-    for reader in &chain.readers {
-        end = cheaper(end, end_at(search, *reader, 0));
-    }
-    end
+    end_at_reader(search, chain, 0).unwrap_or(end_at(search, chain.tail, 0))
 }
 
 /// Where the walk of a step ends that refutes this chain's standing before another: at its last
 /// writer, or at who reads its last version, which costs one more, since that has to be told.
 pub fn end_of_step(search: &Search, chain: &Chain) -> End {
-    let reads = usize::from(chain.head != chain.tail);
-    let mut end = end_at(search, chain.tail, reads);
-    for reader in &chain.readers {
-        end = cheaper(end, end_at(search, *reader, 1));
+    let own = end_at(search, chain.tail, usize::from(chain.head != chain.tail));
+    match end_at_reader(search, chain, 1) {
+        Some(end) if end.cost < own.cost => end,
+        _ => own,
     }
-    end
 }
 
 /// What the cheapest walks against this chain's standing before another cost.
@@ -106,11 +105,11 @@ impl Costs {
         let mut keys = Vec::new(alloc);
         for key in 0..chains.history().keys() {
             let count = chains_at(chains, key).len();
-            let none = Cost {
-                step: FAR,
-                cycle: FAR,
-            };
-            keys.push(vec![in alloc; none; count.saturating_mul(count)]?)?;
+            let mut rows = Vec::new(alloc);
+            for _ in 0..count {
+                rows.push(vec![in alloc; UNREFUTED; count]?)?;
+            }
+            keys.push(rows)?;
         }
         Ok(Costs { keys })
     }
@@ -124,11 +123,8 @@ impl Costs {
     ) -> Result<Costs, AllocError> {
         let mut costs = Costs::unrefuted(alloc, chains)?;
         let mut search = Search::new(alloc, hops.places())?;
-        for number in 1..hops.nodes.saturating_add(1) {
-            let Some(head) = NodeIx::new(number) else {
-                break;
-            };
-            costs.put_head(chains, hops, &mut search, head, limit)?;
+        for number in 1..hops.nodes {
+            costs.put_head(chains, hops, &mut search, node_at(number), limit)?;
         }
         Ok(costs)
     }
@@ -154,8 +150,7 @@ impl Costs {
             }
             for (first, chain) in all.iter().enumerate() {
                 if first != second {
-                    let cost = cost_against(search, chain);
-                    self.put(all.len(), Pair { key, first, second }, cost);
+                    self.put(Pair { key, first, second }, cost_against(search, chain));
                 }
             }
         }
@@ -163,23 +158,18 @@ impl Costs {
     }
 
     /// Puts in what it costs to refute an order.
-    fn put(&mut self, count: usize, pair: Pair, cost: Cost) {
-        let place = pair.first.saturating_mul(count).saturating_add(pair.second);
-        if let Some(costs) = self.keys.get_mut(pair.key) {
-            if let Some(known) = costs.get_mut(place) {
-                *known = cost;
-            }
+    fn put(&mut self, pair: Pair, cost: Cost) {
+        if let Some(rows) = self.keys.get_mut(pair.key)
+            && let Some(row) = rows.get_mut(pair.first)
+            && let Some(known) = row.get_mut(pair.second)
+        {
+            *known = cost;
         }
     }
 
-    /// What it costs to refute an order of two of so many chains, where it is refuted.
-    pub fn cost(&self, count: usize, pair: Pair) -> Option<Cost> {
-        let place = pair.first.saturating_mul(count).saturating_add(pair.second);
-        let cost = *self.keys.get(pair.key)?.get(place)?;
-        if cost.step < FAR && cost.cycle < FAR {
-            Some(cost)
-        } else {
-            None
-        }
+    /// What it costs to refute an order, where it is refuted.
+    pub fn cost(&self, pair: Pair) -> Option<Cost> {
+        let cost = *self.keys.get(pair.key)?.get(pair.first)?.get(pair.second)?;
+        (cost.step < FAR && cost.cycle < FAR).then_some(cost)
     }
 }

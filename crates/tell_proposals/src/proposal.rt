@@ -59,20 +59,7 @@ impl<'a> Walks<'a> {
         };
         self.search.walk_to(self.alloc, hops, start, end)
     }
-}
 
-/// What the cycle claims that refutes an order: this walk, and the edge that closes it.
-fn claim_of(chains: &Chains<'_>, order: Pair, walk: &Walk) -> Claim {
-    let mut claim = walk.claim;
-    let is_read = match chains_at(chains, order.key).get(order.first) {
-        Some(chain) => !chain.readers.is_empty(),
-        None => false,
-    };
-    claim.add(if is_read { Kind::Missed } else { Kind::Written });
-    claim
-}
-
-impl<'a> Walks<'a> {
     /// The one of two orders, both of which are refuted, that a step refutes: the other one's cycle
     /// claims no more than its own would, so what is told as a fact is rather one.
     fn last_step(&mut self, order: Pair, limit: usize) -> Result<Pair, AllocError> {
@@ -86,6 +73,15 @@ impl<'a> Walks<'a> {
             order
         })
     }
+}
+
+/// What the cycle claims that refutes an order: this walk, and the edge that closes it.
+fn claim_of(chains: &Chains<'_>, order: Pair, walk: &Walk) -> Claim {
+    let mut claim = walk.claim;
+    let first = chains_at(chains, order.key).get(order.first);
+    let is_read = first.is_some_and(|chain| !chain.readers.is_empty());
+    claim.add(if is_read { Kind::Missed } else { Kind::Written });
+    claim
 }
 
 /// Marks the kept orders that a walk rests on.
@@ -128,10 +124,8 @@ fn told(alloc: Global, chains: &Chains<'_>, rounds: &Rounds) -> Result<Proposal,
     mark(needed, &walk);
     let mut steps = Vec::new(alloc);
     steps.push(step_of(chains, order, walk))?;
-    for done in 0..limit {
-        let number = limit.saturating_sub(done).saturating_sub(1);
-        let is_needed = needed.get(number).copied().unwrap_or(false);
-        if let (true, Some(kept)) = (is_needed, rounds.kept.get(number)) {
+    for (number, kept) in rounds.kept.iter().enumerate().rev() {
+        if needed.get(number).copied().unwrap_or(false) {
             let walk = walks.against(kept.order.turned(), kept.limit, true)?;
             mark(needed, &walk);
             steps.push(step_of(chains, kept.order, walk))?;
@@ -148,8 +142,8 @@ fn told(alloc: Global, chains: &Chains<'_>, rounds: &Rounds) -> Result<Proposal,
 /// Proposes how it is told that a history with these chains has no order, where rounds of pruning
 /// end in a cycle before they get long.
 pub fn propose(alloc: Global, chains: &Chains<'_>) -> Result<Option<Proposal>, AllocError> {
-    match rounds_of(alloc, chains)? {
-        Some(rounds) => Ok(Some(told(alloc, chains, &rounds)?)),
-        None => Ok(None),
-    }
+    let rounds = rounds_of(alloc, chains)?;
+    rounds
+        .map(|rounds| told(alloc, chains, &rounds))
+        .transpose()
 }

@@ -33,8 +33,7 @@ pub struct Rounds {
 /// What a round finds: an order of which both ways are refuted, or what it keeps.
 #[derive(Drop)]
 struct Found {
-    both: Option<Pair>,
-    words: usize,
+    both: Option<(Pair, usize)>,
     kept: Vec<(Pair, usize)>,
 }
 
@@ -42,9 +41,8 @@ impl Found {
     /// Takes in an order that a step refutes, where a cycle refutes the other way, which takes so
     /// many words.
     fn take_both(&mut self, pair: Pair, words: usize) {
-        if self.both.is_none() || words < self.words {
-            self.both = Some(pair);
-            self.words = words;
+        if self.both.is_none_or(|(_, least)| words < least) {
+            self.both = Some((pair, words));
         }
     }
 
@@ -62,39 +60,15 @@ impl Found {
         Ok(())
     }
 
-    /// What these costs say of an order of two of so many chains, of which `before` says what the
-    /// rounds before knew.
-    fn take_pair(
-        &mut self,
-        before: &Costs,
-        costs: &Costs,
-        count: usize,
-        pair: Pair,
-    ) -> Result<(), AllocError> {
-        let (one, two) = (costs.cost(count, pair), costs.cost(count, pair.turned()));
+    /// What these costs say of an order, of which `before` says what the rounds before knew.
+    fn take_pair(&mut self, before: &Costs, costs: &Costs, pair: Pair) -> Result<(), AllocError> {
+        let (one, two) = (costs.cost(pair), costs.cost(pair.turned()));
         let is_known = one.is_none() || two.is_none();
-        let was_known = before.cost(count, pair).is_some()
-            || before.cost(count, pair.turned()).is_some();
+        let was_known = before.cost(pair).is_some() || before.cost(pair.turned()).is_some();
         if is_known && was_known {
             return Ok(());
         }
         self.take(pair, one, two)
-    }
-
-    /// What these costs say of the orders of so many chains of a key.
-    fn take_key(
-        &mut self,
-        before: &Costs,
-        costs: &Costs,
-        key: usize,
-        count: usize,
-    ) -> Result<(), AllocError> {
-        for first in 0..count {
-            for second in first.saturating_add(1)..count {
-                self.take_pair(before, costs, count, Pair { key, first, second })?;
-            }
-        }
-        Ok(())
     }
 }
 
@@ -105,13 +79,15 @@ fn found_by(
     before: &Costs,
     costs: &Costs,
 ) -> Result<Found, AllocError> {
-    let mut found = Found {
-        both: None,
-        words: 0,
-        kept: Vec::new(alloc),
-    };
+    let (both, kept) = (None, Vec::new(alloc));
+    let mut found = Found { both, kept };
     for key in 0..chains.history().keys() {
-        found.take_key(before, costs, key, chains_at(chains, key).len())?;
+        let count = chains_at(chains, key).len();
+        for first in 0..count {
+            for second in first.saturating_add(1)..count {
+                found.take_pair(before, costs, Pair { key, first, second })?;
+            }
+        }
     }
     Ok(found)
 }
@@ -155,7 +131,7 @@ pub fn rounds_of(alloc: Global, chains: &Chains<'_>) -> Result<Option<Rounds>, A
         let limit = kept.len();
         let costs = Costs::of(alloc, chains, &hops, limit)?;
         let found = found_by(alloc, chains, &before, &costs)?;
-        if let Some(last) = found.both {
+        if let Some((last, _)) = found.both {
             return Ok(Some(Rounds { hops, kept, last }));
         }
         for (order, cost) in &found.kept {

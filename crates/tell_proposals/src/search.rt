@@ -1,7 +1,7 @@
 //! The cheapest walks from a node.
 
 use crate::claim::Claim;
-use crate::hops::{Hops, Kind};
+use crate::hops::{Hops, Kind, node_at};
 use serializability::NodeIx;
 use std::alloc::{AllocError, Global};
 
@@ -35,14 +35,12 @@ pub struct Search {
 }
 
 /// What is known of a place that was not reached.
-fn unreached() -> Reached {
-    Reached {
-        cost: FAR,
-        from: 0,
-        kind: Kind::On,
-        kept: None,
-    }
-}
+const UNREACHED: Reached = Reached {
+    cost: FAR,
+    from: 0,
+    kind: Kind::On,
+    kept: None,
+};
 
 impl Search {
     /// One among so many places.
@@ -52,30 +50,25 @@ impl Search {
             open.push(Vec::new(alloc))?;
         }
         Ok(Search {
-            reached: vec![in alloc; unreached(); places]?,
+            reached: vec![in alloc; UNREACHED; places]?,
             open,
         })
     }
 
     /// What the cheapest walk to a place costs.
     pub fn cost(&self, place: usize) -> usize {
-        match self.reached.get(place) {
-            Some(reached) => reached.cost,
-            None => FAR,
-        }
+        self.reached.get(place).map_or(FAR, |reached| reached.cost)
     }
 
     /// Notes that a place was reached, where that is cheaper than before.
     fn reach(&mut self, place: usize, reached: Reached) -> Result<(), AllocError> {
-        let Some(known) = self.reached.get_mut(place) else {
-            return Ok(());
-        };
-        if known.cost <= reached.cost {
-            return Ok(());
-        }
-        *known = reached;
-        if let Some(places) = self.open.get_mut(reached.cost) {
-            places.push(place)?;
+        if let Some(known) = self.reached.get_mut(place)
+            && reached.cost < known.cost
+        {
+            *known = reached;
+            if let Some(places) = self.open.get_mut(reached.cost) {
+                places.push(place)?;
+            }
         }
         Ok(())
     }
@@ -93,9 +86,8 @@ impl Search {
         }
         for hop in hops.from(place) {
             if hop.kept.is_none_or(|kept| kept < limit) {
-                let cost = cost.saturating_add(hop.cost);
                 let reached = Reached {
-                    cost,
+                    cost: cost.saturating_add(hop.cost),
                     from: place,
                     kind: hop.kind,
                     kept: hop.kept,
@@ -114,16 +106,11 @@ impl Search {
     /// Finds the cheapest walks from a node by what the log shows and the first `limit` kept
     /// orders.
     pub fn run(&mut self, hops: &Hops, start: NodeIx, limit: usize) -> Result<(), AllocError> {
-        for place in 0..self.reached.len() {
-            if let Some(reached) = self.reached.get_mut(place) {
-                *reached = unreached();
-            }
-        }
+        self.reached.fill(UNREACHED);
         let reached = Reached {
             cost: 0,
             from: start.get(),
-            kind: Kind::On,
-            kept: None,
+            ..UNREACHED
         };
         self.reach(start.get(), reached)?;
         for cost in 0..FAR {
@@ -147,7 +134,7 @@ impl Search {
     ) -> Result<Walk, AllocError> {
         let mut nodes = Vec::new(alloc);
         let mut kept = Vec::new(alloc);
-        let mut claim = Claim::none();
+        let mut claim = Claim::default();
         let mut place = end.get();
         nodes.push(end)?;
         for _ in 0..self.reached.len() {
@@ -162,10 +149,8 @@ impl Search {
             if place == start.get() {
                 break;
             }
-            if place <= hops.nodes {
-                if let Some(node) = NodeIx::new(place) {
-                    nodes.push(node)?;
-                }
+            if place < hops.nodes {
+                nodes.push(node_at(place))?;
             }
         }
         nodes.push(start)?;

@@ -4,7 +4,6 @@ use Rattle.std.specs.Prelude.{map, codes, slice_get}
 use Rattle.std.proofs.lemmas.Option.{slice_get_within}
 use Rattle.session_log.specs.Text.{ClientSession, Transaction, view, view_txn}
 use Rattle.session_log.specs.declared.session.Op.TheVariants.{Write}
-use Rattle.session_log.specs.declared.session.Txn.{Txn}
 use Rattle.session_log.specs.declared.session.Session.{Session}
 use Rattle.log_definitions.specs.Unknown.{ops_in}
 use Rattle.log_definitions.specs.WellFormed.{log_lines}
@@ -41,50 +40,24 @@ pub wrote_told : (n : ℕ) (ss : List ClientSession) (read : ℕ) (key : List �
     → new ≡ old ++ wrote_text read key session place t begin i → Appends old new (IsWriterTold n ss read key wid)
 wrote_told n ss read key wid session place begin i t old new w e = record { text = wrote_text read key session place t begin i; added = e; told = wrote session place begin i t w }
 
--- what was found stands, once its session and its transaction are looked up again
-looked_up : (n : ℕ) (sessions : List Session) (keys : Keys) (key : List ℕ) (wid : ℕ) (w : WriteAt) (s : Session) (t : Txn) (P : Session → Txn → Type 0) (f : Finds n sessions keys key wid w) → slice_get sessions w.session ≡ Some s
-    → slice_get s.txns.items w.txn ≡ Some t → P f.session f.txn → P s t
-looked_up n sessions keys key wid w s t P f p q h =
-    let session : f.session ≡ s = let among = f.among in cc in
-    let moved : slice_get s.txns.items w.txn ≡ Some f.txn = ap (λ (x : Session). slice_get x.txns.items w.txn) (sym session) ∙ f.stands in
-    let txn : f.txn ≡ t = cc in
-    subst (λ (x : Session). P x t) session (subst (λ (y : Txn). P f.session y) txn h)
+-- the write that was found, as an operation of its transaction
+pub record IsOpFound (n : ℕ) (ss : List ClientSession) (w : WriteAt) : Type 0 where
+  pub below : w.op < length w.txn.now.ops.items
+  pub room : w.begin + 2 + length w.txn.now.ops.items ≤ n + length (log_lines ss)
 
--- the write that was found, as an operation of the transaction
-pub record IsOpFound (n : ℕ) (ss : List ClientSession) (w : WriteAt) (t : Txn) : Type 0 where
-  pub below : w.op < length t.ops.items
-  pub room : w.begin + 2 + length t.ops.items ≤ n + length (log_lines ss)
+pub op_found : (n : ℕ) (sessions : List Session) (keys : Keys) (key : List ℕ) (wid : ℕ) (w : WriteAt) → Finds n sessions keys key wid w → IsOpFound n (map view sessions) w
+op_found n sessions keys key wid w f = record {
+  below = slice_get_within w.txn.now.ops.items w.op (Write f.written wid) f.write.writes;
+  room = begins_within n (map view sessions) w.session w.place (view_txn w.txn.now) w.begin f.write.begins;
+}
 
-pub op_found : (n : ℕ) (sessions : List Session) (keys : Keys) (key : List ℕ) (wid : ℕ) (w : WriteAt) (s : Session) (t : Txn) → Finds n sessions keys key wid w → slice_get sessions w.session ≡ Some s
-    → slice_get s.txns.items w.txn ≡ Some t → IsOpFound n (map view sessions) w t
-op_found n sessions keys key wid w s t f p q =
-    let at = f.write in
-    looked_up n sessions keys key wid w s t (λ x y. IsOpFound n (map view sessions) w y) f p q (record {
-      below = slice_get_within f.txn.ops.items w.op (Write f.written wid) at.writes;
-      room = begins_within n (map view sessions) f.session.number (w.txn + 1) (view_txn f.txn) w.begin at.begins;
-    })
+pub this_write : (n : ℕ) (sessions : List Session) (key : List ℕ) (wid : ℕ) (w : WriteAt) → Finds n sessions This key wid w → IsWriteAt n (map view sessions) key wid w.session w.place (view_txn w.txn.now) w.begin w.op
+this_write n sessions key wid w f = subst (λ k. IsWriteAt n (map view sessions) k wid w.session w.place (view_txn w.txn.now) w.begin w.op) (sym (among_this key f.written f.among)) f.write
 
-pub this_write : (n : ℕ) (sessions : List Session) (key : List ℕ) (wid : ℕ) (w : WriteAt) (s : Session) (t : Txn) → Finds n sessions This key wid w → slice_get sessions w.session ≡ Some s → slice_get s.txns.items w.txn ≡ Some t
-    → IsWriteAt n (map view sessions) key wid s.number (w.txn + 1) (view_txn t) w.begin w.op
-this_write n sessions key wid w s t f p q =
-    let ss = map view sessions in
-    looked_up n sessions This key wid w s t (λ x y. IsWriteAt n ss key wid x.number (w.txn + 1) (view_txn y) w.begin w.op) f p q
-    (subst (λ k. IsWriteAt n ss k wid f.session.number (w.txn + 1) (view_txn f.txn) w.begin w.op) (sym (among_this key f.written f.is)) f.write)
-
--- the first write of an identity under any key, and that key
-pub record IsFirstFound (n : ℕ) (ss : List ClientSession) (wid : ℕ) (w : WriteAt) (s : Session) (t : Txn) : Type 0 where
-  pub other : List ℕ
-  pub write : IsFirstWriteAt n ss other wid s.number (w.txn + 1) (view_txn t) w.begin w.op
-
-pub any_write : (n : ℕ) (sessions : List Session) (key : List ℕ) (wid : ℕ) (w : WriteAt) (s : Session) (t : Txn) → Finds n sessions Any key wid w → slice_get sessions w.session ≡ Some s → slice_get s.txns.items w.txn ≡ Some t
-    → IsFirstFound n (map view sessions) wid w s t
-any_write n sessions key wid w s t f p q =
-    let at = f.write in
-    let ops = ops_in at.begins.before ++ (txn_ops at.begins.earlier ++ take w.op f.txn.ops.items) in
-    looked_up n sessions Any key wid w s t (λ x y. IsFirstFound n (map view sessions) wid w x y) f p q (record {
-      other = f.written;
-      write = record { write = f.write; first = none_anywhere key wid ops f.first };
-    })
+pub any_write : (n : ℕ) (sessions : List Session) (key : List ℕ) (wid : ℕ) (w : WriteAt) (f : Finds n sessions Any key wid w) → IsFirstWriteAt n (map view sessions) f.written wid w.session w.place (view_txn w.txn.now) w.begin w.op
+any_write n sessions key wid w f =
+    let begins = f.write.begins in
+    record { write = f.write; first = none_anywhere key wid (ops_in begins.before ++ (txn_ops begins.earlier ++ take w.op w.txn.now.ops.items)) f.first }
 
 -- ---- a read
 -- the rest of a read's line

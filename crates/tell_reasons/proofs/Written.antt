@@ -1,6 +1,6 @@
 -- Where an identity is written: what a pass over the sessions knows.
-use Rattle.std.proofs.Common.{◌≡◌, ℕ, ◌+◌, ◌<◌, ◌≤◌, true, false, List, [], ◌∷◌, ◌++◌, length, take, drop, get_or, None, Some, refl, sym, ap, ◌∙◌, subst, inl, inr, arith, length-append, eqb, eqb-true, eq-eqb}
-use Rattle.std.specs.Prelude.{map, position, slice_get}
+use Rattle.std.proofs.Common.{◌≡◌, ℕ, ◌+◌, ◌<◌, ◌≤◌, true, false, List, [], ◌∷◌, ◌++◌, length, take, drop, get_or, None, Some, refl, sym, ap, ◌∙◌, subst, inl, inr, arith, length-append, eqb, eqb-true, eq-eqb, Bor}
+use Rattle.std.specs.Prelude.{map, position}
 use Rattle.std.specs.List.{flat_map, Contains}
 use Rattle.std.proofs.lemmas.Bool.{false≢true, and_parts, and_from}
 use Rattle.std.proofs.lemmas.List.{append-nil, length-map, length-take-le, get_or-take}
@@ -118,27 +118,27 @@ txn_within s i x h at =
     let one = length-append (txn_lines (view_txn x)) (flat_map txn_lines behind) in
     omega (arith, all, one)
 
-pub write_within : (n : ℕ) (s : Session) (keys : Keys) (key : List ℕ) (wid i line j at : ℕ) (x : Txn) → i < length s.txns.items → x ≡ get_or s.txns.items i x → IsBefore n keys key wid s.txns.items i line → Some j ≡ position (is_write_as keys key wid) x.ops.items
-    → FindsIn n s keys key wid (record { session = at; txn = i; begin = line; op = j })
-write_within n s keys key wid i line j at x h is b e =
+pub write_within : (n : ℕ) (s : Session) (keys : Keys) (key : List ℕ) (wid i line j : ℕ) (x : Bor Txn) → i < length s.txns.items → x.now ≡ get_or s.txns.items i x.now → IsBefore n keys key wid s.txns.items i line → Some j ≡ position (is_write_as keys key wid) x.now.ops.items
+    → FindsIn n s keys key wid (record { session = s.number; place = i + 1; txn = x; begin = line; op = j })
+write_within n s keys key wid i line j x h is b e =
     let before = take i s.txns.items in
+    let ops = x.now.ops.items in
     let p = is_write_as keys key wid in
     let d = Write key wid in
-    let f = position-Some p x.ops.items j d (sym e) in
-    let is_sought = is_write_only keys key wid (get_or x.ops.items j d) f.1 in
+    let f = position-Some p ops j d (sym e) in
+    let is_sought = is_write_only keys key wid (get_or ops j d) f.1 in
     record {
       written = is_sought.written;
-      txn = x;
-      stands = slice_get-get_or s.txns.items i x h ∙ ap (λ y. Some y) (sym is);
+      number = refl;
       write = record {
         earlier = map view_txn before;
         later = map view_txn (drop (i + 1) s.txns.items);
-        txns = cut view_txn s.txns.items i x h is;
+        txns = cut view_txn s.txns.items i x.now h is;
         stands = let size = length-map before view_txn in let count = length-take-le i s.txns.items (omega (arith, h)) in omega (arith, size, count);
         begins = b.begins;
         among = is_sought.among;
-        writes = slice_get-get_or x.ops.items j d f.0 ∙ ap (λ o. Some o) is_sought.is;
-        first = none-append keys key wid (txn_ops (map view_txn before)) (take j x.ops.items) b.none (no_earlier keys key wid x.ops.items j (sym e));
+        writes = slice_get-get_or ops j d f.0 ∙ ap (λ o. Some o) is_sought.is;
+        first = none-append keys key wid (txn_ops (map view_txn before)) (take j ops) b.none (no_earlier keys key wid ops j (sym e));
       };
     }
 
@@ -173,16 +173,13 @@ session_within sessions i x h at =
     omega (arith, all, one)
 
 pub write_beyond : (n : ℕ) (sessions : List Session) (keys : Keys) (key : List ℕ) (wid i line : ℕ) (x : Session) (w : WriteAt) → i < length sessions → x ≡ get_or sessions i x → IsBeyond n keys key wid sessions i line
-    → FindsIn line x keys key wid w → w.session ≡ i → Finds n sessions keys key wid w
-write_beyond n sessions keys key wid i line x w h is b r at =
+    → FindsIn line x keys key wid w → Finds n sessions keys key wid w
+write_beyond n sessions keys key wid i line x w h is b r =
     let write = r.write in
-    let behind = txn_ops write.earlier ++ take w.op r.txn.ops.items in
+    let behind = txn_ops write.earlier ++ take w.op w.txn.now.ops.items in
     record {
       written = r.written;
-      session = x;
-      txn = r.txn;
-      among = ap (λ k. slice_get sessions k) at ∙ slice_get-get_or sessions i x h ∙ ap (λ y. Some y) (sym is);
-      stands = r.stands;
+      among = write.among;
       write = record {
         begins = record {
           before = map view (take i sessions);
@@ -191,13 +188,12 @@ write_beyond n sessions keys key wid i line x w h is b r at =
           earlier = write.earlier;
           later = write.later;
           sessions = cut view sessions i x h is;
-          number = refl;
+          number = r.number;
           txns = write.txns;
           stands = write.stands;
           begins = let lines = b.begins in let begins = write.begins in omega (arith, lines, begins);
         };
         writes = write.writes;
       };
-      is = write.among;
       first = none-append keys key wid (ops_in (map view (take i sessions))) behind b.none write.first;
     }

@@ -6,7 +6,6 @@ use Rattle.std.specs.Str.{bytes_eq}
 use Rattle.session_log.specs.Text.{ClientSession, Transaction, txn_lines, view, view_txn}
 use Rattle.session_log.specs.declared.session.Op.{Op}
 use Rattle.session_log.specs.declared.session.Op.TheVariants.{Read, Write}
-use Rattle.session_log.specs.declared.session.Txn.{Txn}
 use Rattle.session_log.specs.declared.session.Session.{Session}
 use Rattle.log_definitions.specs.Unknown.{ops_in}
 use Rattle.tell_reasons.specs.declared.writes.Keys.{Keys}
@@ -46,21 +45,16 @@ pub record IsWriteIn (n : ℕ) (s : ClientSession) (keys : Keys) (key : List ℕ
 pub record FindsIn (n : ℕ) (s : Session) (keys : Keys) (key : List ℕ) (wid : ℕ)
     (w : WriteAt) : Type 0 where
   pub written : List ℕ
-  pub txn : Txn
-  pub stands : slice_get s.txns.items w.txn ≡ Some txn
-  pub write : IsWriteIn n (view s) keys key wid written (w.txn + 1) (view_txn txn) w.begin w.op
+  pub number : s.number ≡ w.session
+  pub write : IsWriteIn n (view s) keys key wid written w.place (view_txn w.txn.now) w.begin w.op
 
 -- the write that was found in the sessions, the first of which begins at line n: the first that is
 -- sought
 pub record Finds (n : ℕ) (sessions : List Session) (keys : Keys) (key : List ℕ) (wid : ℕ)
     (w : WriteAt) : Type 0 where
   pub written : List ℕ
-  pub session : Session
-  pub txn : Txn
-  pub among : slice_get sessions w.session ≡ Some session
-  pub stands : slice_get session.txns.items w.txn ≡ Some txn
-  pub is : is_among keys key written ≡ true
-  pub write : IsWriteAt n (map view sessions) written wid session.number (w.txn + 1)
-      (view_txn txn) w.begin w.op
+  pub among : is_among keys key written ≡ true
+  pub write : IsWriteAt n (map view sessions) written wid w.session w.place (view_txn w.txn.now)
+      w.begin w.op
   pub first : IsNoneWrite keys key wid (ops_in write.begins.before
-      ++ (flat_map (λ t. t.ops) write.begins.earlier ++ take w.op (view_txn txn).ops))
+      ++ (flat_map (λ t. t.ops) write.begins.earlier ++ take w.op (view_txn w.txn.now).ops))

@@ -14,7 +14,7 @@ ghost use Rattle.tell_reasons.specs.Anomalies.{Appends, IsRead, last_position, d
 ghost use Rattle.tell_reasons.specs.Anomalies.{IsReadTold, IsBadReadTold, IsUpdateTold};
 ghost use Rattle.tell_reasons.specs.Anomalies.{IsAnomalyTold, IsDoneTold, IsBeforeTold};
 
-use crate::pieces::{
+use crate::phrases::{
     key_at, line_of, op_count, put_does, put_key_and_wid, put_named, put_op_in_line, put_wid,
     wid_at,
 };

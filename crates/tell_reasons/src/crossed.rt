@@ -6,7 +6,7 @@ ghost use Rattle.reason_laws.specs.Crossed.{AreCrossed};
 ghost use Rattle.tell_reasons.specs.Crossed.{CanTellPair, beside_text, pair_text, row_text};
 ghost use Rattle.tell_reasons.specs.Crossed.{crossing_text};
 
-use crate::pieces::{put_does, put_key_and_wid, put_op_in_line};
+use crate::phrases::{put_does, put_key_and_wid, put_op_in_line};
 use log_lines::PlacedHistory;
 use reason_laws::{Crossing, PairRead};
 use serializability::NodeIx;

@@ -13,7 +13,7 @@ ghost use Rattle.tell_reasons.specs.Reasons.{before_text, reason_text, origin_te
 ghost use Rattle.tell_reasons.specs.Reasons.{end_in_line, in_line, op_at};
 ghost use Rattle.tell_reasons.specs.Edges.{why_text, comes_text, comes_by};
 
-use crate::pieces::{
+use crate::phrases::{
     begin_of, end_of, put_does, put_in_line, put_key_and_wid, put_named, put_number,
     put_op_in_line, put_wid, wid_at,
 };

@@ -6,7 +6,7 @@
 mod anomalies;
 mod crossed;
 mod edge;
-mod pieces;
+mod phrases;
 mod places;
 mod versions;
 mod why;
@@ -16,6 +16,6 @@ mod writes;
 pub use anomalies::put_anomaly;
 pub use crossed::put_crossing;
 pub use edge::put_edge;
-pub use pieces::{put_key, put_key_and_wid, put_named, put_number, put_op_in_line};
+pub use phrases::{put_key, put_key_and_wid, put_named, put_number, put_op_in_line};
 pub use versions::{left_at, put_since, put_versions};
 pub use why::{ChainOrder, Why};

@@ -9,7 +9,7 @@ ghost use Rattle.tell_reasons.specs.Events.{is_write_in, is_read_in, is_other_in
 ghost use Rattle.tell_reasons.specs.Anomalies as spec;
 ghost use Rattle.tell_reasons.specs.Anomalies.{last_position, next_position};
 
-use crate::pieces::{event_at, key_of, wid_of};
+use crate::phrases::{event_at, key_of, wid_of};
 use serializability::{Event, NodeIx};
 use session_history::History;
 use session_log::Op;
@@ -136,10 +136,7 @@ pub fn first_read_among(events: &[Event], key: usize) -> Option<usize>
 pub fn first_read(history: &History, node: NodeIx, key: usize) -> Option<usize>
     ensures place { result ≡ position (is_read_in key) ((log_of history.now).ops node) }
 {
-    history
-        .events_of(node)
-        .iter()
-        .position(|event| reads(*event, key))
+    first_read_among(history.events_of(node), key)
 }
 
 /// Whether an operation writes the key.

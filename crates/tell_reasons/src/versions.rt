@@ -9,7 +9,7 @@ ghost use Rattle.tell_reasons.specs.Versions.{version_at, version_text, versions
 ghost use Rattle.tell_reasons.specs.Versions.{behind_text, if_text, other_text, would_text};
 ghost use Rattle.tell_reasons.specs.Versions.{since_at, since_text, had_at, held_text};
 
-use crate::pieces::{put_does, put_key, put_named, put_number, put_op_in_line, put_wid, wid_at};
+use crate::phrases::{put_does, put_key, put_named, put_number, put_op_in_line, put_wid, wid_at};
 use crate::places::{first_read_among, last_among};
 use crate::why::ChainOrder;
 use log_lines::PlacedHistory;

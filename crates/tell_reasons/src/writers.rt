@@ -14,10 +14,10 @@ ghost use Rattle.tell_reasons.specs.Anomalies.{Appends, IsWriterTold, not_here_t
 ghost use Rattle.tell_reasons.specs.Anomalies.{other_write_text, elsewhere_text};
 ghost use Rattle.tell_reasons.specs.Anomalies.{overwrote_text, wrote_text, verb_text};
 
-use crate::pieces::{put_in_line, put_number};
+use crate::phrases::{put_in_line, put_number};
 use crate::places::next_write;
-use crate::writes::{Keys, op_among, session_at, txn_at, write_at};
-use session_log::{Op, Outcome, Session, Txn};
+use crate::writes::{Keys, WriteAt, op_among, write_at};
+use session_log::{Op, Outcome, Session};
 use std::alloc::AllocError;
 
 /// Appends the name of a transaction.
@@ -147,23 +147,20 @@ fn put_written(
     out: &mut Vec<u8>,
     read: usize,
     key: &[u8],
-    session: u16,
-    place: usize,
-    txn: &Txn,
-    begin: usize,
-    op: usize,
+    write: &WriteAt<'_>,
 ) -> Result<(), AllocError>
-    requires op { op < length txn.now.ops.items }
-    requires room { begin + 1 + length txn.now.ops.items < 2 ^ 63 }
-    ensures text { OnOk result (out.new.items ≡ out.old.items
-        ++ wrote_text read key.now session place (view_txn txn.now) begin op) }
+    requires op { write.now.op < length write.now.txn.now.ops.items }
+    requires room { write.now.begin + 1 + length write.now.txn.now.ops.items < 2 ^ 63 }
+    ensures text { OnOk result (out.new.items ≡ out.old.items ++ wrote_text read key.now
+        write.now.session write.now.place (view_txn write.now.txn.now) write.now.begin write.now.op) }
 {
+    let ops = &write.txn.ops;
+    let first = write.begin + 1;
     out.extend_from_slice(b", which ")?;
-    put_place(out, session, place)?;
-    put_verb_in_line(out, read, begin, begin + 1 + op)?;
-    let again = next_write(&txn.ops, key, op);
-    put_overwrote(out, &txn.ops, begin, again)?;
-    put_outcome(out, txn.outcome, begin + 1 + txn.ops.len())?;
+    put_place(out, write.session, write.place)?;
+    put_verb_in_line(out, read, write.begin, first + write.op)?;
+    put_overwrote(out, ops, write.begin, next_write(ops, key, write.op))?;
+    put_outcome(out, write.txn.outcome, first + ops.len())?;
     Ok(())
 }
 
@@ -177,21 +174,18 @@ fn put_not_here(out: &mut Vec<u8>, key: &[u8]) -> Result<(), AllocError>
     Ok(())
 }
 
-/// Appends that a transaction wrote this in a line.
-fn put_other_write(
-    out: &mut Vec<u8>,
-    session: u16,
-    place: usize,
-    op: &Op,
-    line: usize,
-) -> Result<(), AllocError>
+/// Appends which transaction wrote the identity, and to which key.
+fn put_other_write(out: &mut Vec<u8>, write: &WriteAt<'_>) -> Result<(), AllocError>
+    requires op { write.now.op < length write.now.txn.now.ops.items }
+    requires room { write.now.begin + 1 + length write.now.txn.now.ops.items < 2 ^ 63 }
     ensures text { OnOk result (out.new.items ≡ out.old.items
-        ++ other_write_text session place (Some op.now) line) }
+        ++ other_write_text write.now.session write.now.place
+        (slice_get write.now.txn.now.ops.items write.now.op) (write.now.begin + 1 + write.now.op)) }
 {
-    put_place(out, session, place)?;
+    put_place(out, write.session, write.place)?;
     out.extend_from_slice(b" wrote ")?;
-    put_op(out, op)?;
-    put_in_line(out, line)
+    put_op(out, op_among(&write.txn.ops, write.op))?;
+    put_in_line(out, write.begin + 1 + write.op)
 }
 
 /// Appends that no transaction wrote what was read to this key, and which operation of a
@@ -199,16 +193,16 @@ fn put_other_write(
 fn put_written_elsewhere(
     out: &mut Vec<u8>,
     key: &[u8],
-    session: u16,
-    place: usize,
-    op: &Op,
-    line: usize,
+    write: &WriteAt<'_>,
 ) -> Result<(), AllocError>
+    requires op { write.now.op < length write.now.txn.now.ops.items }
+    requires room { write.now.begin + 1 + length write.now.txn.now.ops.items < 2 ^ 63 }
     ensures text { OnOk result (out.new.items ≡ out.old.items
-        ++ elsewhere_text key.now session place (Some op.now) line) }
+        ++ elsewhere_text key.now write.now.session write.now.place
+        (slice_get write.now.txn.now.ops.items write.now.op) (write.now.begin + 1 + write.now.op)) }
 {
     put_not_here(out, key)?;
-    put_other_write(out, session, place, op, line)
+    put_other_write(out, write)
 }
 
 /// Appends which transaction wrote, to another key, an identity that is not 0 and that none wrote
@@ -228,14 +222,7 @@ fn put_elsewhere(
         (IsWriterTold first (map view sessions.now) read key.now wid)) }
 {
     match write_at(sessions, first, Keys::Any, key, wid) {
-        Some(write) => {
-            let session = session_at(sessions, write.session);
-            let txn = txn_at(session, write.txn);
-            let place = write.txn + 1;
-            let op = op_among(&txn.ops, write.op);
-            let line = write.begin + 1 + write.op;
-            put_written_elsewhere(out, key, session.number, place, op, line)
-        }
+        Some(write) => put_written_elsewhere(out, key, &write),
         None => put_text(out, b", which no transaction wrote"),
     }
 }
@@ -256,21 +243,7 @@ fn put_wrote(
         (IsWriterTold first (map view sessions.now) read key.now wid)) }
 {
     match write_at(sessions, first, Keys::This, key, wid) {
-        Some(write) => {
-            let session = session_at(sessions, write.session);
-            let txn = txn_at(session, write.txn);
-            let place = write.txn + 1;
-            put_written(
-                out,
-                read,
-                key,
-                session.number,
-                place,
-                txn,
-                write.begin,
-                write.op,
-            )
-        }
+        Some(write) => put_written(out, read, key, &write),
         None => put_elsewhere(out, first, sessions, read, key, wid),
     }
 }

@@ -21,34 +21,18 @@ pub enum Keys {
     Any,
 }
 
-/// Where a write stands.
+/// A write that was found.
 #[derive(Clone, Copy)]
-pub struct WriteAt {
-    /// The place of its session among the sessions, from 0.
-    pub session: usize,
-    /// The place of its transaction among those of the session, from 0.
-    pub txn: usize,
+pub struct WriteAt<'a> {
+    /// The number of its session.
+    pub session: u16,
+    /// The place of its transaction in the session, from 1.
+    pub place: usize,
+    pub txn: &'a Txn,
     /// The line at which the transaction begins.
     pub begin: usize,
     /// The place of the write among the transaction's operations, from 0.
     pub op: usize,
-}
-
-/// A session.
-pub fn session_at(sessions: &[Session], at: usize) -> &Session
-    requires { at < length sessions.now }
-    ensures { slice_get sessions.now at ≡ Some result.now }
-{
-    &sessions[at]
-}
-
-/// A transaction of a session.
-pub fn txn_at(session: &Session, at: usize) -> &Txn
-    requires { at < length session.now.txns.items }
-    ensures item { slice_get session.now.txns.items at ≡ Some result.now }
-    ensures few { at + 1 < 2 ^ 64 }
-{
-    &session.txns[at]
 }
 
 /// An operation.
@@ -89,19 +73,17 @@ fn write_among(ops: &[Op], keys: Keys, key: &[u8], wid: u64) -> Option<usize>
     ops.iter().position(|op| is_write_as(op, keys, key, wid))
 }
 
-/// The first write of this identity, under the key or under any, in the session at this place,
-/// which begins at line `first`.
-fn write_in(
-    session: &Session,
-    at: usize,
+/// The first write of this identity, under the key or under any, in a session, which begins at line
+/// `first`.
+fn write_in<'a>(
+    session: &'a Session,
     first: usize,
     keys: Keys,
     key: &[u8],
     wid: u64,
-) -> Option<WriteAt>
+) -> Option<WriteAt<'a>>
     requires room { first + length (session_lines (view session.now)) < 2 ^ 63 }
     ensures found { IfSome result (FindsIn first session.now keys key.now wid) }
-    ensures at { IfSome result (λ w. w.session ≡ at) }
     ensures none { IfNone result
         (IsNoneWrite keys key.now wid (flat_map (λ t. t.ops) (view session.now).txns)) }
 {
@@ -109,8 +91,9 @@ fn write_in(
     for (earlier, txn) in session.txns.iter().enumerate() {
         if let Some(op) = write_among(&txn.ops, keys, key, wid) {
             return Some(WriteAt {
-                session: at,
-                txn: earlier,
+                session: session.number,
+                place: earlier + 1,
+                txn,
                 begin,
                 op,
             });
@@ -122,20 +105,20 @@ fn write_in(
 
 /// The first write of this identity, under the key or under any, where the first session begins at
 /// line `first`.
-pub fn write_at(
-    sessions: &[Session],
+pub fn write_at<'a>(
+    sessions: &'a [Session],
     first: usize,
     keys: Keys,
     key: &[u8],
     wid: u64,
-) -> Option<WriteAt>
+) -> Option<WriteAt<'a>>
     requires room { first + length (log_lines (map view sessions.now)) < 2 ^ 63 }
     ensures found { IfSome result (Finds first sessions.now keys key.now wid) }
     ensures none { IfNone result (IsNoneWrite keys key.now wid (ops_in (map view sessions.now))) }
 {
     let mut line = first;
-    for (at, session) in sessions.iter().enumerate() {
-        if let Some(write) = write_in(session, at, line, keys, key, wid) {
+    for session in sessions {
+        if let Some(write) = write_in(session, line, keys, key, wid) {
             return Some(write);
         }
         line += session_line_count(session);

@@ -48,8 +48,8 @@ pub record NoStepHas (log : Log) (steps : List ChainOrder) (e : Edge) : Type 0 w
   pub none : (o : ChainOrder) → Contains steps o → Contains (edges_in log o) e → ⊥
 
 -- Why a stands before b: by a reason in the log, of the first kind that has one, with the least
--- operations; where the log has none, by the first step
--- that puts it so, and the order that it is; and where no step does, by what was decided.
+-- operations; where the log has none, by the first step that puts it so, and the order that it is;
+-- and where no step does, by what was decided.
 abbrev pub IsWhy : List ClientSession → List ChainOrder → List ChainOrder → ℕ → ℕ → Why → Type 0
 IsWhy ss steps decided a b (Known r) = IsReason ss a b r × IsOfFirstKind ss a b r × IsLeast ss a b r
 IsWhy ss steps decided a b (Forced k o) = HaveNone ss a b × IsFirstWith (log_of ss) steps k o (a, b)

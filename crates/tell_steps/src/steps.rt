@@ -55,45 +55,6 @@ fn put_step(
     put_edges(items, basis, answers, numbers, &post.walk)
 }
 
-/// Appends the step that tells an entry, if it is marked.
-fn put_if_marked(
-    items: &mut Vec<Item>,
-    orders: &mut Vec<ChainOrder>,
-    basis: &LogAndGrounds<'_>,
-    answers: &mut [Option<Option<Reason>>],
-    numbers: &mut [usize],
-    marks: &[bool],
-    entry: usize,
-    post: &Refutation,
-) -> Result<(), AllocError>
-    requires basis { IsBasis basis.now }
-    requires answers { AreAnswers basis.now.history.now answers.old }
-    requires numbers { length numbers.old ≡ length basis.now.grounds.now.kept.items }
-    requires marks { length marks.now ≡ length basis.now.grounds.now.kept.items }
-    requires entry { entry < length basis.now.grounds.now.kept.items }
-    requires step { IsStep basis.now.history.now basis.now.grounds.now.kept.items entry post.now }
-    requires covered { is_set marks.now entry ≡ true → IsCovered basis.now.history.now
-        (sides_by basis.now) marks.now post.now.walk
-        (length post.now.walk) }
-    ensures answers { AreAnswers basis.now.history.now answers.new }
-    ensures numbers { length numbers.new ≡ length numbers.old }
-    ensures told { OnOk result ((posts : List Posted) → slice_get posts entry ≡ Some post.now →
-        spec.AreTold basis.now.history.now basis.now.grounds.now.kept.items posts marks.now numbers.old
-        orders.old.items entry items.old.items →
-        spec.AreTold basis.now.history.now basis.now.grounds.now.kept.items posts marks.now numbers.new
-        orders.new.items (entry + 1) items.new.items) }
-{
-    let needed = marks[entry];
-    if needed {
-        let count = orders.len();
-        let order = basis.grounds.kept[entry];
-        put_step(items, basis, answers, numbers, count + 1, order, post)?;
-        numbers[entry] = count;
-        orders.push(basis.grounds.kept[entry])?;
-    }
-    Ok(())
-}
-
 /// The steps that tell the marked entries.
 pub fn told_steps(
     basis: &LogAndGrounds<'_>,
@@ -120,17 +81,23 @@ pub fn told_steps(
     let mut table = vec![in basis.alloc; 0; entries.len()]?;
     let numbers = table.as_mut_slice();
     for (entry, found) in entries.iter().enumerate() {
-        let post = &found.post;
-        put_if_marked(
+        let needed = marks[entry];
+        if !needed {
+            continue;
+        }
+        let count = orders.len();
+        let order = basis.grounds.kept[entry];
+        put_step(
             &mut items,
-            &mut orders,
             basis,
             answers,
             numbers,
-            marks,
-            entry,
-            post,
+            count + 1,
+            order,
+            &found.post,
         )?;
+        numbers[entry] = count;
+        orders.push(basis.grounds.kept[entry])?;
     }
     Ok(Told {
         orders,

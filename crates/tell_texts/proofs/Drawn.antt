@@ -1,8 +1,9 @@
 -- Boxes of nodes, with the labels of their operations, and arrows.
-use Rattle.std.proofs.Common.{◌≡◌, ℕ, zero, suc, ◌+◌, ◌-◌, ◌<◌, Bool, List, [], ◌∷◌, ◌++◌, length, get_or, take, Some, refl, sym, ap, ◌∙◌, subst, arith}
+use Rattle.std.proofs.Common.{◌≡◌, ℕ, zero, suc, ◌+◌, ◌-◌, ◌<◌, Bool, false, List, [], ◌∷◌, ◌++◌, length, get_or, take, Some, refl, sym, ap, ◌∙◌, subst, arith}
 use Rattle.std.specs.Prelude.{if◌then◌else◌, slice_get}
 use Rattle.std.specs.List.{filter, flat_map, range_with_len}
-use Rattle.std.proofs.lemmas.List.{length-map}
+use Rattle.std.proofs.lemmas.List.{get_or_read, length-map}
+use Rattle.std.proofs.lemmas.Option.{unwrap_or-slice_get}
 use Rattle.session_log.specs.Text.{ClientSession}
 use Rattle.session_log.specs.declared.session.Op.{Op}
 use Rattle.session_log.specs.declared.session.Op.TheVariants.{Read, Write}
@@ -22,9 +23,11 @@ pub labels_none : (log : PlacedHistory) (v : ℕ) (test : ℕ → Bool) → op_l
 unfolding op_labels
 labels_none log v test = refl
 
-pub labels_more : (log : PlacedHistory) (v : ℕ) (test : ℕ → Bool) (k : ℕ) → op_labels log v test (k + 1) ≡ op_labels log v test k ++ (if test k then op_label log v k else [])
+pub labels_more : (log : PlacedHistory) (v : ℕ) (marks : List Bool) (k : ℕ) (t : Bool) → k < length marks → t ≡ get_or marks k t → op_labels log v (is_marked marks) (k + 1) ≡ op_labels log v (is_marked marks) k ++ (if t then op_label log v k else [])
 unfolding op_labels
-labels_more log v test k = passed_more (op_label log v) test 0 k k (omega arith)
+labels_more log v marks k t lt read =
+    passed_more (op_label log v) (is_marked marks) 0 k k (omega arith)
+    ∙ ap (λ u. op_labels log v (is_marked marks) k ++ (if u then op_label log v k else [])) (unwrap_or-slice_get marks k false ∙ sym (get_or_read marks k t lt read false))
 
 -- the marked operations are those that items name
 pub labels_marked : (log : PlacedHistory) (items : List Item) (v : ℕ) (marks : List Bool) → AreMarks (length (ops_of log.history.now v)) (names items v) marks → op_labels log v (is_marked marks) (length marks) ≡ op_labels log v (names items v) (length (ops_of log.history.now v))
@@ -68,6 +71,11 @@ pub arrows_more : (log : PlacedHistory) (items : List Item) (i : ℕ) (d : Item)
 unfolding arrows
 arrows_more log items i d lt = mapped_more (arrow log) items i d lt
 
-pub arrows_none : (log : PlacedHistory) (items : List Item) → arrows log (take 0 items) ≡ []
+pub arrows_none : (log : PlacedHistory) → arrows log [] ≡ []
 unfolding arrows
-arrows_none log items = refl
+arrows_none log = refl
+
+-- ---- for loops
+pub ruleset label_steps = (labels_none, labels_more)
+
+pub ruleset arrow_steps = (arrows_none, arrows_more)

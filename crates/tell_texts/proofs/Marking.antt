@@ -3,6 +3,7 @@ use Rattle.std.proofs.Common.{◌≡◌, ℕ, zero, suc, ◌+◌, ◌<◌, Bool,
 use Rattle.std.specs.Prelude.{replicate, All}
 use Rattle.std.specs.Option.{option_map, unwrap_or}
 use Rattle.std.specs.List.{flat_map, list_any, AllByRecursion}
+use Rattle.std.proofs.Math.Bool.{or_assoc, or-false}
 use Rattle.std.proofs.lemmas.Bool.{eqb-true, eqb-false}
 use Rattle.std.proofs.lemmas.List.{get_or-replicate, get_or_read, length-append, length-replicate, take_more}
 use Rattle.std.proofs.lemmas.List.Elements.{All-from_recursion}
@@ -26,21 +27,11 @@ use Rattle.tell_texts.specs.Graphs.{AreWithin, AddsMarks, AddsNamed, AreMarks, A
 use Rattle.tell_texts.specs.Texts.{IsTellable, AreTellable}
 use Rattle.tell_texts.proofs.Pieces.{mapped_more}
 
--- ---- or
-or_assoc : (a b c : Bool) → ((a || b) || c) ≡ (a || (b || c))
-or_assoc true b c = refl
-or_assoc false b c = refl
-
-or_false : (a : Bool) → (a || false) ≡ a
-or_false true = refl
-or_false false = refl
-
 -- ---- the last element of a list, and the others
 slice_get-last : {X : Type 0} (xs : List X) (n : ℕ) (x : X) → length xs ≡ n → slice_get (xs ++ x ∷ []) n ≡ Some x
 slice_get-last [] zero x e = refl
-slice_get-last [] (suc n) x e = absurd (omega arith)
-slice_get-last (y ∷ xs) zero x e = absurd (omega arith)
 slice_get-last (y ∷ xs) (suc n) x e = slice_get-last xs n x (omega arith)
+slice_get-last _ _ x e = absurd (omega (arith, e))
 
 slice_get-before : {X : Type 0} (xs : List X) (i : ℕ) (x : X) → i < length xs → slice_get (xs ++ x ∷ []) i ≡ slice_get xs i
 slice_get-before [] i x lt = absurd (omega arith)
@@ -79,10 +70,7 @@ adds_where p q old new e h = record { long = h.long; each = λ i lt. h.each i lt
 pub adds_both : (p q : ℕ → Bool) (old mid new : List Bool) → AddsMarks p old mid → AddsMarks q mid new → AddsMarks (λ i. p i || q i) old new
 adds_both p q old mid new h k = record {
   long = k.long ∙ h.long;
-  each = λ i lt.
-      k.each i (omega (arith, h.long, lt))
-      ∙ ap (λ t. t || q i) (h.each i lt)
-      ∙ or_assoc (is_marked old i) (p i) (q i);
+  each = λ i lt. k.each i (omega (arith, h.long, lt)) ∙ ap (λ t. t || q i) (h.each i lt) ∙ or_assoc (is_marked old i) (p i) (q i);
 }
 
 -- over marks of which none is set yet
@@ -108,17 +96,14 @@ pub parts_more : (items : List Item) (i : ℕ) (d : Item) (old mid new : List Bo
 parts_more items i d old mid new lt h k =
     let one = get_or items i d in
     adds_where (λ v. takes_part (take i items) v || is_edge_of v one) (takes_part (take (i + 1) items)) old new
-    (λ v. ap (λ t. takes_part (take i items) v || t) (sym (or_false (is_edge_of v one)))
+    (λ v. ap (λ t. takes_part (take i items) v || t) (sym (or-false (is_edge_of v one)))
     ∙ sym (list_any-append (is_edge_of v) (take i items) (one ∷ []))
     ∙ ap (list_any (is_edge_of v)) (sym (take_more items i d lt)))
     (adds_both (takes_part (take i items)) (λ v. is_edge_of v one) old mid new h k)
 
 has_nodes : (ss : List ClientSession) (i : Item) → IsTellable ss i → HasNodes ((log_of ss).nodes + 1) i
-has_nodes ss (item.Step number o a b) h = tt
-has_nodes ss (item.Edge a b w) h = let first = within ss a h.0 in let second = within ss b h.1 in (omega (arith, first), omega (arith, second))
-has_nodes ss (item.Cycle start edges) h = tt
-has_nodes ss (item.Decided depth o) h = tt
-has_nodes ss (item.Leaves count) h = tt
+has_nodes ss (item.Edge a b w) h = (omega (arith, within ss a h.0), omega (arith, within ss b h.1))
+has_nodes ss _ h = tt
 
 each_has_nodes : (ss : List ClientSession) (items : List Item) → AreTellable ss items → AllByRecursion (HasNodes ((log_of ss).nodes + 1)) items
 each_has_nodes ss [] h = tt
@@ -175,30 +160,21 @@ rows_added ss n items old new h long k = record {
 
 -- ---- what reasons name is there
 op_within : (ss : List ClientSession) (test : ℕ → ℕ → Bool) (table : List (Vec Bool Global)) (a i : ℕ) (op : Op) → AreRows ss ((log_of ss).nodes + 1) test table → IsNode ss a → IsOpAt ss a i op → i < length (row table a)
-op_within ss test table a i op rows node h =
-    let low = within ss a node in
-    let long = (rows.each a (omega (arith, low))).long in
-    let below = slice_get_within (ops_of ss a) i op h in
-    omega (arith, long, below)
+op_within ss test table a i op rows node h = omega (arith, (rows.each a (omega (arith, within ss a node))).long, slice_get_within (ops_of ss a) i op h)
 
 reason_within : (ss : List ClientSession) (test : ℕ → ℕ → Bool) (table : List (Vec Bool Global)) (a b : ℕ) (r : Reason) → AreRows ss ((log_of ss).nodes + 1) test table → IsNode ss a → IsNode ss b → IsReason ss a b r → AreWithin (reason_names a b r) table
-reason_within ss test table a b reason.Session rows first second h = record { each = tt }
 reason_within ss test table a b (reason.Read written read) rows first second h = record { each = (op_within ss test table a written _ rows first h.writes, (op_within ss test table b read _ rows second h.reads, tt)) }
 reason_within ss test table a b (reason.Overwritten read overwrites) rows first second h = record { each = (op_within ss test table a read _ rows first h.reads.read, (op_within ss test table b overwrites _ rows second h.writes, tt)) }
 reason_within ss test table a b (reason.Initial read begins) rows first second h = record { each = (op_within ss test table a read _ rows first h.reads.read, (op_within ss test table b begins _ rows second h.writes, tt)) }
-reason_within ss test table a b reason.Moments rows first second h = record { each = tt }
+reason_within ss test table a b _ rows first second h = record { each = tt }
 
 why_within : (ss : List ClientSession) (test : ℕ → ℕ → Bool) (table : List (Vec Bool Global)) (a b : ℕ) (w : Why) → AreRows ss ((log_of ss).nodes + 1) test table → IsNode ss a → IsNode ss b → CanTell ss a b w → AreWithin (why_names a b w) table
 why_within ss test table a b (why.Known r) rows first second h = reason_within ss test table a b r rows first second h
-why_within ss test table a b (why.Forced k o) rows first second h = record { each = tt }
-why_within ss test table a b (why.Chosen o) rows first second h = record { each = tt }
+why_within ss test table a b _ rows first second h = record { each = tt }
 
 item_within : (ss : List ClientSession) (test : ℕ → ℕ → Bool) (table : List (Vec Bool Global)) (i : Item) → AreRows ss ((log_of ss).nodes + 1) test table → IsTellable ss i → AreWithin (item_names i) table
-item_within ss test table (item.Step number o a b) rows h = record { each = tt }
 item_within ss test table (item.Edge a b w) rows h = why_within ss test table a b w rows h.0 h.1 h.2
-item_within ss test table (item.Cycle start edges) rows h = record { each = tt }
-item_within ss test table (item.Decided depth o) rows h = record { each = tt }
-item_within ss test table (item.Leaves count) rows h = record { each = tt }
+item_within ss test table _ rows h = record { each = tt }
 
 pub items_within : (ss : List ClientSession) (test : ℕ → ℕ → Bool) (table : List (Vec Bool Global)) (items : List Item) → AreRows ss ((log_of ss).nodes + 1) test table → AreTellable ss items → AreWithin (flat_map item_names items) table
 items_within ss test table [] rows h = record { each = tt }

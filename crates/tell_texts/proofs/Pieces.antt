@@ -1,35 +1,27 @@
 -- Texts of what stands in a list or a range, one piece more.
-use Rattle.std.proofs.Common.{◌≡◌, ℕ, zero, suc, ◌+◌, ◌*◌, ◌<◌, ◌≤◌, Bool, true, false, List, [], ◌∷◌, ◌++◌, length, get_or, take, refl, sym, ap, ◌∙◌, arith, append_assoc}
+use Rattle.std.proofs.Common.{◌≡◌, ℕ, zero, suc, ◌+◌, ◌*◌, ◌<◌, ◌≤◌, Bool, true, false, cond, List, [], ◌∷◌, ◌++◌, length, get_or, take, refl, sym, ap, ◌∙◌, arith, append_assoc}
 use Rattle.std.specs.Prelude.{if◌then◌else◌, replicate, codes, Result, Ok, Err, OnOk}
 use Rattle.std.specs.List.{filter, flat_map, range_with_len}
-use Rattle.std.proofs.lemmas.List.{append-nil, take_more, replicate-append-replicate}
+use Rattle.std.proofs.lemmas.List.{append-nil, map-id, take_more, replicate-append-replicate}
+use Rattle.std.proofs.lemmas.List.FromFn.{filter_of_map_range_with_len_more}
 use Rattle.std.proofs.lemmas.List.Concat.{flat_map-append}
-use Rattle.std.proofs.lemmas.List.Elements.{filter-append}
 use Rattle.tell_texts.specs.Texts.{indent}
 use Rattle.tell_texts.specs.Graphs.{quoted}
 
 -- ---- ranges
-pub range_last : (a k : ℕ) → range_with_len a (k + 1) ≡ range_with_len a k ++ (a + k) ∷ []
-range_last a zero = let e : a ≡ a + 0 = omega arith in ap (λ n. n ∷ []) e
-range_last a (suc k) =
-    let e : (a + 1) + k ≡ a + suc k = omega arith in
-    let two : suc k + 1 ≡ suc (k + 1) = omega arith in
-    ap (range_with_len a) two ∙ ap (λ l. a ∷ l) (range_last (a + 1) k) ∙ ap (λ n. a ∷ (range_with_len (a + 1) k ++ n ∷ [])) e
-
 -- of one element, where it passes
-of_one : {X : Type 0} (f : ℕ → List X) (p : ℕ → Bool) (n : ℕ) (t : Bool) → p n ≡ t → flat_map f (filter p (n ∷ [])) ≡ (if t then f n else [])
-of_one f p n true e = rw e (append-nil (f n))
-of_one f p n false e = rw e refl
+of_one : {X : Type 0} (f : ℕ → List X) (n : ℕ) (t : Bool) → flat_map f (cond t (n ∷ []) []) ≡ (if t then f n else [])
+of_one f n true = append-nil (f n)
+of_one f n false = refl
 
 -- of those that pass among the numbers of a range, one number more
 pub passed_more : {X : Type 0} (f : ℕ → List X) (p : ℕ → Bool) (a k n : ℕ) → a + k ≡ n → flat_map f (filter p (range_with_len a (k + 1))) ≡ flat_map f (filter p (range_with_len a k)) ++ (if p n then f n else [])
 passed_more f p a k n e =
-    let front = range_with_len a k in
-    let last : range_with_len a (k + 1) ≡ front ++ n ∷ [] = range_last a k ∙ ap (λ v. front ++ v ∷ []) e in
-    ap (λ l. flat_map f (filter p l)) last
-    ∙ ap (flat_map f) (filter-append p front (n ∷ []))
-    ∙ flat_map-append f (filter p front) (filter p (n ∷ []))
-    ∙ ap (λ l. flat_map f (filter p front) ++ l) (of_one f p n (p n) refl)
+    let one = cond (p n) (n ∷ []) [] in
+    let front = filter p (range_with_len a k) in
+    let last : filter p (range_with_len a (k + 1)) ≡ front ++ one =
+    ap (filter p) (sym (map-id (range_with_len a (k + 1)))) ∙ filter_of_map_range_with_len_more p (λ x. x) a k n e ∙ ap (λ l. filter p l ++ one) (map-id (range_with_len a k)) in
+    ap (flat_map f) last ∙ flat_map-append f front one ∙ ap (λ l. flat_map f front ++ l) (of_one f n (p n))
 
 -- two tests that agree on a range
 pub filter_range_same : (p q : ℕ → Bool) (a n : ℕ) → ((i : ℕ) → a ≤ i → i < a + n → p i ≡ q i) → filter p (range_with_len a n) ≡ filter q (range_with_len a n)
@@ -54,11 +46,11 @@ indent_more k =
 
 -- a text to which a piece is appended
 pub appended : {X : Type 0} (old now new piece next : List X) (all : List X) → now ≡ old ++ all → new ≡ now ++ piece → next ≡ all ++ piece → new ≡ old ++ next
-appended old now new piece next all h p e = p ∙ ap (λ l. l ++ piece) h ∙ append_assoc old all piece ∙ ap (λ l. old ++ l) (sym e)
+appended old now new piece next all h p e = grind (arith, append_assoc)
 
 -- ---- texts of pieces that are written one behind the other
 pub add_piece : (old all now piece new : List ℕ) → now ≡ old ++ all → new ≡ now ++ piece → new ≡ old ++ (all ++ piece)
-add_piece old all now piece new h p = p ∙ ap (λ l. l ++ piece) h ∙ append_assoc old all piece
+add_piece old all now piece new h p = grind (arith, append_assoc)
 
 -- a word and a name
 pub add_named : (old all now word name new : List ℕ) → now ≡ old ++ all → new ≡ now ++ (word ++ name) → new ≡ old ++ (all ++ word ++ name)

@@ -1,6 +1,6 @@
 -- An explanation as a graph in the language of Graphviz: a box for each transaction that takes
--- part, with those of its operations that
--- reasons name, in their lines, and an arrow for each edge, labelled and coloured by its kind.
+-- part, with those of its operations that reasons name, in their lines, and an arrow for each edge,
+-- labelled and coloured by its kind.
 use Rattle.std.specs.Prelude.{◌≡◌, ℕ, ◌+◌, ◌<◌, ◌==◌, ◌&&◌, ◌||◌, Bool, false, List, [], ◌∷◌, ◌++◌}
 use Rattle.std.specs.Prelude.{length, codes, decimal, slice_get, unwrap_or, Option, None, Some, Vec}
 use Rattle.std.specs.List.{filter, flat_map, list_any, range_with_len, AllByRecursion}

@@ -84,6 +84,7 @@ fn put_kind(
 }
 
 /// Appends the arrow of an edge.
+#[tactic(auto, using(reason_laws::proofs::Numbers::within))]
 fn put_arrow(
     out: &mut Vec<u8>,
     log: &PlacedHistory<'_>,
@@ -119,6 +120,7 @@ fn put_where_edge(out: &mut Vec<u8>, log: &PlacedHistory<'_>, item: Item) -> Res
 }
 
 /// Appends the arrows of the edges.
+#[tactic(auto, using(std::proofs::lemmas::Grind::common_steps, crate::proofs::Drawn::arrow_steps))]
 pub fn put_arrows(
     out: &mut Vec<u8>,
     log: &PlacedHistory<'_>,

@@ -78,6 +78,7 @@ fn put_where_marked(
 }
 
 /// Appends the labels of the marked operations of a node.
+#[tactic(auto, using(std::proofs::lemmas::Grind::common_steps, crate::proofs::Drawn::label_steps))]
 fn put_op_labels(
     out: &mut Vec<u8>,
     log: &PlacedHistory<'_>,
@@ -95,6 +96,7 @@ fn put_op_labels(
 }
 
 /// Appends the box of a node, of whose operations these are marked.
+#[tactic(auto, using(reason_laws::proofs::Numbers::within))]
 fn put_box(
     out: &mut Vec<u8>,
     log: &PlacedHistory<'_>,

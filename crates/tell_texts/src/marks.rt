@@ -37,11 +37,7 @@ fn mark_nodes(nodes: &mut [bool], item: Item)
     ensures adds { AddsMarks (λ v. spec.is_edge_of v item) nodes.old nodes.new }
 {
     match item {
-        Item::Edge {
-            first,
-            second,
-            why: _,
-        } => {
+        Item::Edge { first, second, .. } => {
             mark_node(nodes, first);
             mark_node(nodes, second);
         }

@@ -13,6 +13,7 @@ use tell_reasons::{ChainOrder, put_edge, put_named, put_number, put_since, put_v
 use tell_steps::Item;
 
 /// Appends two blanks for each choice that is decided.
+#[tactic(auto, using(std::proofs::Common::append_assoc, crate::proofs::Pieces::indent_more))]
 fn put_indent(out: &mut Vec<u8>, depth: usize) -> Result<(), AllocError>
     ensures text { OnOk result (out.new.items ≡ out.old.items ++ spec.indent depth) }
 {
@@ -23,6 +24,7 @@ fn put_indent(out: &mut Vec<u8>, depth: usize) -> Result<(), AllocError>
 }
 
 /// Appends the line that says which of two versions of a key comes first by a forced step.
+#[tactic(auto, using(std::proofs::Common::append_assoc))]
 fn put_forced(
     out: &mut Vec<u8>,
     log: &PlacedHistory<'_>,
@@ -63,6 +65,7 @@ fn put_reader(
 }
 
 /// Appends the lines of a forced step, behind which its walk stands.
+#[tactic(auto, using(std::proofs::Common::append_assoc))]
 fn put_step(
     out: &mut Vec<u8>,
     log: &PlacedHistory<'_>,
@@ -82,6 +85,7 @@ fn put_step(
 }
 
 /// Appends the line that says which of two versions of a key is supposed to come first.
+#[tactic(auto, using(std::proofs::Common::append_assoc))]
 fn put_order(
     out: &mut Vec<u8>,
     log: &PlacedHistory<'_>,

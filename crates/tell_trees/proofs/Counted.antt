@@ -1,15 +1,17 @@
 -- A tree that is told depth first has its leaves told, up to the greatest number.
-use Rattle.std.proofs.Common.{◌≡◌, ◌⊎◌, ℕ, zero, suc, ◌+◌, ◌<◌, ◌≤◌, Bool, true, false, cond, eqb, ltb, List, [], ◌∷◌, ◌++◌, length, Some, refl, sym, ap, ◌∙◌, subst, inl, inr, append_assoc, arith}
+use Rattle.std.proofs.Common.{◌≡◌, ◌⊎◌, ℕ, zero, suc, ◌+◌, ◌<◌, ◌≤◌, cond, eqb, ltb, List, [], ◌∷◌, ◌++◌, length, Some, refl, sym, ap, ◌∙◌, subst, inl, inr, append_assoc, arith}
 use Rattle.std.specs.Prelude.{slice_get, is_some, count_by}
-use Rattle.std.proofs.lemmas.Bool.{cases_eq, cases_lt, cases_order, lt-ltb, le-ltb, eq-eqb, ne_eqb}
+use Rattle.std.proofs.lemmas.Bool.{cases_eq}
+use Rattle.std.proofs.lemmas.Bool.Decides.{nat_tests}
+use Rattle.std.proofs.lemmas.List.{length-append, length_push}
 use Rattle.std.proofs.lemmas.List.Sums.{sum_by-cons}
 use Rattle.serializability.specs.Polygraph.{Polygraph}
-use Rattle.branch_search.specs.declared.tree.CubeDecision.{CubeDecision}
-use Rattle.branch_search.specs.declared.tree.Growth.{Growth}
-use Rattle.branch_search.specs.declared.tree.Growth.TheVariants.{Leaf, Inner}
-use Rattle.branch_search.specs.declared.tree.TreeNode.{TreeNode}
-use Rattle.branch_search.specs.Trees.{IsRefutationTree}
-use Rattle.branch_search.proofs.Lists.{some_is, within, append_at}
+use Rattle.cube_laws.specs.declared.tree.CubeDecision.{CubeDecision}
+use Rattle.cube_laws.specs.declared.tree.Growth.{Growth}
+use Rattle.cube_laws.specs.declared.tree.Growth.TheVariants.{Leaf, Inner}
+use Rattle.cube_laws.specs.declared.tree.TreeNode.{TreeNode}
+use Rattle.cube_laws.specs.Trees.{IsRefutationTree}
+use Rattle.cube_laws.proofs.Lists.{some_is, within, append_at}
 use Rattle.pruning_laws.specs.declared.side.Side.{Side}
 use Rattle.pruning_laws.specs.declared.side.Side.TheVariants.{One, Two}
 use Rattle.tell_trees.specs.declared.visits.Visit.{Visit}
@@ -32,14 +34,8 @@ abbrev below : List TreeNode → ℕ → ℕ → ℕ
 below [] k i = 0
 below (x ∷ xs) k i = cond (eqb k i) (grown x.growth (below xs (suc k))) (below xs (suc k) i)
 
-cond_yes : {X : Type 0} (b : Bool) (x y : X) → b ≡ true → cond b x y ≡ x
-cond_yes b x y e = ap (λ t. cond t x y) e
-
-cond_no : {X : Type 0} (b : Bool) (x y : X) → b ≡ false → cond b x y ≡ y
-cond_no b x y e = ap (λ t. cond t x y) e
-
 below_other : (x : TreeNode) (xs : List TreeNode) (k i : ℕ) → k < i → below (x ∷ xs) k i ≡ below xs (suc k) i
-below_other x xs k i lt = cond_no (eqb k i) (grown x.growth (below xs (suc k))) (below xs (suc k) i) (ne_eqb k i (λ e. (omega (arith, lt, e))))
+below_other x xs k i lt = grind (arith, nat_tests)
 
 -- the children of a node stand behind it
 abbrev AreLater : ℕ → Growth → Type 0
@@ -48,19 +44,18 @@ AreLater k (Inner c first second) = (k < first) × (k < second)
 
 grown_same : (g : Growth) (k : ℕ) (f h : ℕ → ℕ) → AreLater k g → ((i : ℕ) → k < i → f i ≡ h i) → grown g f ≡ grown g h
 grown_same (Leaf line) k f h later same = refl
-grown_same (Inner c first second) k f h later same = (let a = same first later.0 in let b = same second later.1 in omega (arith, a, b))
+grown_same (Inner c first second) k f h later same = omega (arith, same first later.0, same second later.1)
 
 later_less : (g : Growth) (k j : ℕ) → k ≤ j → AreLater j g → AreLater k g
 later_less (Leaf line) k j le later = tt
-later_less (Inner c first second) k j le later = (let a = later.0 in let b = later.1 in (omega (arith, le, a), omega (arith, le, b)))
+later_less (Inner c first second) k j le later = (omega (arith, le, later.0), omega (arith, le, later.1))
 
 below_at : (xs : List TreeNode) (k j : ℕ) (x : TreeNode) → slice_get xs j ≡ Some x → AreLater (k + j) x.growth → below xs k (k + j) ≡ grown x.growth (below xs k)
 below_at [] k j x at later = absurd (cc)
 below_at (y ∷ ys) k zero x at later =
-    let is = some_is y x at in
-    let here : k ≡ k + 0 = omega arith in
-    cond_yes (eqb k (k + 0)) (grown y.growth (below ys (suc k))) (below ys (suc k) (k + 0)) (eq-eqb k (k + 0) here)
-    ∙ ap (λ (z : TreeNode). grown z.growth (below ys (suc k))) is
+    let here : below (y ∷ ys) k (k + 0) ≡ grown y.growth (below ys (suc k)) = grind (arith, nat_tests) in
+    here
+    ∙ ap (λ (z : TreeNode). grown z.growth (below ys (suc k))) (some_is y x at)
     ∙ grown_same x.growth k (below ys (suc k)) (below (y ∷ ys) k) (later_less x.growth k (k + 0) (omega arith) later) (λ i lt. sym (below_other y ys k i lt))
 below_at (y ∷ ys) k (suc j) x at later =
     let n : k + suc j ≡ suc k + j = omega arith in
@@ -82,73 +77,30 @@ module _ (f : ℕ → ℕ) where
   of_before i k (x ∷ xs) = cond (ltb x.parent i) (f k) 0 + of_before i (suc k) xs
 
   one_more : (p i v : ℕ) → cond (ltb p (suc i)) v 0 ≡ cond (ltb p i) v 0 + cond (eqb p i) v 0
-  one_more p i v = elim (cases_order p i) [
-    | inl e ↦ (
-        let a = cond_yes (ltb p (suc i)) v 0 (lt-ltb p (suc i) (omega (arith, e))) in
-        let b = cond_no (ltb p i) v 0 (le-ltb p i (omega (arith, e))) in
-        let c = cond_yes (eqb p i) v 0 (eq-eqb p i e) in
-        omega (arith, a, b, c))
-    | inr o ↦ elim o [
-      | inl lt ↦ (
-          let a = cond_yes (ltb p (suc i)) v 0 (lt-ltb p (suc i) (omega (arith, lt))) in
-          let b = cond_yes (ltb p i) v 0 (lt-ltb p i lt) in
-          let c = cond_no (eqb p i) v 0 (ne_eqb p i (λ e. (omega (arith, lt, e)))) in
-          omega (arith, a, b, c))
-      | inr gt ↦ (
-          let a = cond_no (ltb p (suc i)) v 0 (le-ltb p (suc i) (omega (arith, gt))) in
-          let b = cond_no (ltb p i) v 0 (le-ltb p i (omega (arith, gt))) in
-          let c = cond_no (eqb p i) v 0 (ne_eqb p i (λ e. (omega (arith, gt, e)))) in
-          omega (arith, a, b, c))
-    ]
-  ]
+  one_more p i v = grind (arith, nat_tests)
 
   before_more : (i k : ℕ) (xs : List TreeNode) → of_before (suc i) k xs ≡ of_before i k xs + of_parent i k xs
   before_more i k [] = refl
-  before_more i k (x ∷ xs) = (let h = one_more x.parent i (f k) in let r = before_more i (suc k) xs in omega (arith, h, r))
+  before_more i k (x ∷ xs) = omega (arith, one_more x.parent i (f k), before_more i (suc k) xs)
 
   before_none : (k : ℕ) (xs : List TreeNode) → of_before 0 k xs ≡ 0
   before_none k [] = refl
-  before_none k (x ∷ xs) = (let h = cond_no (ltb x.parent 0) (f k) 0 (le-ltb x.parent 0 (omega arith)) in let r = before_none (suc k) xs in omega (arith, h, r))
+  before_none k (x ∷ xs) = grind (arith, nat_tests, before_none (suc k) xs)
 
   none_of : (i k : ℕ) (xs : List TreeNode) → ((j : ℕ) (x : TreeNode) → slice_get xs j ≡ Some x → x.parent ≡ i → ⊥) → of_parent i k xs ≡ 0
   none_of i k [] none = refl
-  none_of i k (x ∷ xs) none =
-      (let h = cond_no (eqb x.parent i) (f k) 0 (ne_eqb x.parent i (none 0 x refl)) in
-      let r = none_of i (suc k) xs (λ j y at. none (suc j) y at) in
-      omega (arith, h, r))
+  none_of i k (x ∷ xs) none = grind (arith, nat_tests, none 0 x refl, none_of i (suc k) xs (λ j y at. none (suc j) y at))
 
   -- what a node adds, where it is numbered k or later
   abbrev from_on : ℕ → ℕ → ℕ
   from_on k a = cond (ltb a k) 0 (f a)
-
-  from_same : (k a : ℕ) → (k ≡ a → ⊥) → from_on (suc k) a ≡ from_on k a
-  from_same k a ne = elim (cases_lt a k) [
-    | inl lt ↦ (
-        let x = cond_yes (ltb a (suc k)) 0 (f a) (lt-ltb a (suc k) (omega (arith, lt))) in
-        let y = cond_yes (ltb a k) 0 (f a) (lt-ltb a k lt) in
-        omega (arith, x, y))
-    | inr ge ↦ (
-        let more : suc k ≤ a = elim (cases_eq k a) [ inl e ↦ absurd (ne e) | inr _ ↦ elim (cases_lt k a) [ inl lt ↦ (omega (arith, lt)) | inr le ↦ absurd (ne (omega (arith, le, ge))) ] ] in
-        let x = cond_no (ltb a (suc k)) 0 (f a) (le-ltb a (suc k) more) in
-        let y = cond_no (ltb a k) 0 (f a) (le-ltb a k ge) in
-        omega (arith, x, y))
-  ]
-
-  from_here : (k a : ℕ) → k ≡ a → (from_on (suc k) a ≡ 0) × (from_on k a ≡ f k)
-  from_here k a e = (
-    cond_yes (ltb a (suc k)) 0 (f a) (lt-ltb a (suc k) (omega (arith, e))),
-    cond_no (ltb a k) 0 (f a) (le-ltb a k (omega (arith, e))) ∙ ap f (sym e),
-  )
 
   -- two nodes alone have this parent
   two_of : (i a b k : ℕ) (xs : List TreeNode) → (a ≡ b → ⊥) → a < k + length xs → b < k + length xs
       → ((j : ℕ) (x : TreeNode) → slice_get xs j ≡ Some x → x.parent ≡ i → (k + j ≡ a) ⊎ (k + j ≡ b))
       → ((j : ℕ) (x : TreeNode) → slice_get xs j ≡ Some x → (k + j ≡ a) ⊎ (k + j ≡ b) → x.parent ≡ i)
       → of_parent i k xs ≡ from_on k a + from_on k b
-  two_of i a b k [] apart la lb only both =
-      (let x = cond_yes (ltb a k) 0 (f a) (lt-ltb a k (omega (arith, la))) in
-      let y = cond_yes (ltb b k) 0 (f b) (lt-ltb b k (omega (arith, lb))) in
-      omega (arith, x, y))
+  two_of i a b k [] apart la lb only both = grind (arith, nat_tests)
   two_of i a b k (x ∷ xs) apart la lb only both =
       let next : (j : ℕ) → suc k + j ≡ k + suc j = λ j. omega arith in
       let start : k + 0 ≡ k = omega arith in
@@ -156,22 +108,12 @@ module _ (f : ℕ → ℕ) where
       (λ j y at e. elim (only (suc j) y at e) [ inl p ↦ inl (next j ∙ p) | inr p ↦ inr (next j ∙ p) ])
       (λ j y at e. both (suc j) y at (elim e [ inl p ↦ inl (sym (next j) ∙ p) | inr p ↦ inr (sym (next j) ∙ p) ])) in
       elim (cases_eq k a) [
-        | inl ka ↦ (
-            let own = cond_yes (eqb x.parent i) (f k) 0 (eq-eqb x.parent i (both 0 x refl (inl (start ∙ ka)))) in
-            let p = from_here k a ka in let p0 = p.0 in let p1 = p.1 in
-            let q = from_same k b (λ kb. apart (sym ka ∙ kb)) in
-            omega (arith, own, rest, p0, p1, q))
+        | inl ka ↦ grind (arith, nat_tests, rest, both 0 x refl (inl (start ∙ ka)))
         | inr na ↦ elim (cases_eq k b) [
-          | inl kb ↦ (
-              let own = cond_yes (eqb x.parent i) (f k) 0 (eq-eqb x.parent i (both 0 x refl (inr (start ∙ kb)))) in
-              let p = from_here k b kb in let p0 = p.0 in let p1 = p.1 in
-              let q = from_same k a na in
-              omega (arith, own, rest, p0, p1, q))
+          | inl kb ↦ grind (arith, nat_tests, rest, both 0 x refl (inr (start ∙ kb)))
           | inr nb ↦ (
-              let own = cond_no (eqb x.parent i) (f k) 0 (ne_eqb x.parent i (λ e. elim (only 0 x refl e) [ inl p ↦ na (sym start ∙ p) | inr p ↦ nb (sym start ∙ p) ])) in
-              let p = from_same k a na in
-              let q = from_same k b nb in
-              omega (arith, own, rest, p, q))
+              let other : x.parent ≡ i → ⊥ = λ e. elim (only 0 x refl e) [ inl p ↦ na (sym start ∙ p) | inr p ↦ nb (sym start ∙ p) ] in
+              grind (arith, nat_tests, rest, other))
         ]
       ]
 
@@ -201,11 +143,7 @@ module _ (p : Polygraph) (nodes : List TreeNode) (t : IsRefutationTree p nodes) 
     there_at j = subst (λ l. slice_get l (suc i + j) ≡ slice_get xs j) whole (append_at front (x ∷ xs) (suc i + j) (suc j) (omega arith))
 
     size : length nodes ≡ suc i + length xs
-    size = ap length (sym whole) ∙ joined front (x ∷ xs) ∙ omega arith
-      where
-        joined : (a b : List TreeNode) → length (a ++ b) ≡ length a + length b
-        joined [] b = omega arith
-        joined (y ∷ a) b = (let r = joined a b in omega (arith, r))
+    size = ap length (sym whole) ∙ length-append front (x ∷ xs) ∙ omega arith
 
     children : (g : Growth) → x.growth ≡ g → grown g f ≡ one_where_leaf g + of_parent f i (suc i) xs
     children (Leaf line) is =
@@ -230,9 +168,7 @@ module _ (p : Polygraph) (nodes : List TreeNode) (t : IsRefutationTree p nodes) 
           | inl k ↦ ap (λ (z : TreeNode). z.parent) (some_is y s.one.node (sym at ∙ sym (there_at j) ∙ ap (slice_get nodes) k ∙ s.one.here)) ∙ s.one.parent
           | inr k ↦ ap (λ (z : TreeNode). z.parent) (some_is y s.two.node (sym at ∙ sym (there_at j) ∙ ap (slice_get nodes) k ∙ s.two.here)) ∙ s.two.parent
         ]) in
-        let a = cond_no (ltb first (suc i)) 0 (f first) (le-ltb first (suc i) (let l = s.one.later in omega (arith, l))) in
-        let b = cond_no (ltb second (suc i)) 0 (f second) (le-ltb second (suc i) (let l = s.two.later in omega (arith, l))) in
-        omega (arith, two, a, b)
+        grind (arith, nat_tests, two, s.one.later, s.two.later)
 
     own : f i ≡ one_where_leaf x.growth + of_parent f i (suc i) xs
     own = leaves_at i x here ∙ children x.growth refl
@@ -246,27 +182,15 @@ module _ (p : Polygraph) (nodes : List TreeNode) (t : IsRefutationTree p nodes) 
       let i = length front in
       let at = here front x xs whole in
       let b = t.below i x (omega (arith, is, low)) at in
-      let more : suc n ≡ length (front ++ x ∷ []) = ap suc is ∙ sym (longer front) in
+      let more : suc n ≡ length (front ++ x ∷ []) = omega (arith, is, length_push front x) in
       let rest = behind (front ++ x ∷ []) xs (suc n) more (append_assoc front (x ∷ []) xs ∙ whole) (omega arith) in
       let split = before_more f n (suc n) xs in
       let mine : f n ≡ one_where_leaf x.growth + of_parent f n (suc n) xs = subst (λ k. f k ≡ one_where_leaf x.growth + of_parent f k (suc k) xs) (sym is) (own front x xs whole) in
-      let first = cond_yes (ltb x.parent n) (f n) 0 (lt-ltb x.parent n (let lt = b.before in omega (arith, lt, is))) in
-      let count = count_cons x xs in
-      omega (arith, rest, split, mine, first, count)
-    where
-      longer : (a : List TreeNode) → length (a ++ x ∷ []) ≡ suc (length a)
-      longer [] = refl
-      longer (y ∷ a) = ap suc (longer a)
+      grind (arith, nat_tests, rest, split, mine, is, b.before, count_cons x xs)
 
   root_leaves : (xs : List TreeNode) → xs ≡ nodes → f 0 ≡ leaf_count xs
-  root_leaves [] is = absurd (let at = within nodes 0 t.root.node t.root.here in let none = ap length is in omega (arith, at, none))
-  root_leaves (x ∷ xs) is =
-      let rest = behind (x ∷ []) xs 1 refl is (omega arith) in
-      let split = before_more f 0 1 xs in
-      let none = before_none f 1 xs in
-      let mine = own [] x xs is in
-      let count = count_cons x xs in
-      omega (arith, rest, split, none, mine, count)
+  root_leaves [] is = absurd (omega (arith, within nodes 0 t.root.node t.root.here, ap length is))
+  root_leaves (x ∷ xs) is = omega (arith, behind (x ∷ []) xs 1 refl is (omega arith), before_more f 0 1 xs, before_none f 1 xs, own [] x xs is, count_cons x xs)
 
   -- ---- so many are told
   told_below : {i n k : ℕ} {vs : List Visit} → IsVisited nodes i n k vs → n ≤ MAX_LEAVES → ((k ≡ n + f i) × (n + f i ≤ MAX_LEAVES)) ⊎ ((k ≡ MAX_LEAVES) × (MAX_LEAVES ≤ n + f i))
@@ -276,31 +200,19 @@ module _ (p : Polygraph) (nodes : List TreeNode) (t : IsRefutationTree p nodes) 
   told_below (visited.split v n m k x c first second one two of is a b) le =
       let both : f v.node ≡ f first + f second = leaves_at v.node x of.here ∙ ap (λ g. grown g f) is in
       elim (told_below a le) [
-        | inl p ↦ (let p0 = p.0 in let p1 = p.1 in elim (told_below b (omega (arith, p0, p1))) [
-          | inl q ↦ (let q0 = q.0 in let q1 = q.1 in inl (omega (arith, both, p0, q0), omega (arith, both, p0, q1)))
-          | inr q ↦ (let q0 = q.0 in let q1 = q.1 in inr (q0, omega (arith, both, p0, q1)))
-        ])
-        | inr p ↦ (let p0 = p.0 in let p1 = p.1 in elim (told_below b (omega (arith, p0))) [
-          | inl q ↦ (let q0 = q.0 in let q1 = q.1 in inr (omega (arith, p0, q0, q1), omega (arith, both, p1)))
-          | inr q ↦ (let q0 = q.0 in inr (q0, omega (arith, both, p1)))
-        ])
+        | inl p ↦ elim (told_below b (omega (arith, p.0, p.1))) [
+          | inl q ↦ inl (omega (arith, both, p.0, q.0), omega (arith, both, p.0, q.1))
+          | inr q ↦ inr (q.0, omega (arith, both, p.0, q.1))
+        ]
+        | inr p ↦ elim (told_below b (omega (arith, p.0))) [
+          | inl q ↦ inr (omega (arith, p.0, q.0, q.1), omega (arith, both, p.1))
+          | inr q ↦ inr (q.0, omega (arith, both, p.1))
+        ]
       ]
   told_below (visited.left_out v x of) le = inr (refl, omega arith)
 
   pub told_count : (last : ℕ) (vs : List Visit) → IsVisited nodes 0 0 last vs → last ≡ told_leaves (leaf_count nodes)
-  told_count last vs v =
-      let all = root_leaves nodes refl in
-      elim (told_below v (omega arith)) [
-        | inl p ↦ (
-            let p0 = p.0 in let p1 = p.1 in
-            let few = cond_no (ltb MAX_LEAVES (leaf_count nodes)) MAX_LEAVES (leaf_count nodes) (le-ltb MAX_LEAVES (leaf_count nodes) (omega (arith, all, p1))) in
-            omega (arith, all, p0, few))
-        | inr p ↦ (
-            let p0 = p.0 in let p1 = p.1 in
-            elim (cases_lt MAX_LEAVES (leaf_count nodes)) [
-              | inl lt ↦ (let many = cond_yes (ltb MAX_LEAVES (leaf_count nodes)) MAX_LEAVES (leaf_count nodes) (lt-ltb MAX_LEAVES (leaf_count nodes) lt) in omega (arith, p0, many))
-              | inr ge ↦ (
-                  let few = cond_no (ltb MAX_LEAVES (leaf_count nodes)) MAX_LEAVES (leaf_count nodes) (le-ltb MAX_LEAVES (leaf_count nodes) ge) in
-                  omega (arith, all, p0, p1, ge, few))
-            ])
-      ]
+  told_count last vs v = elim (told_below v (omega arith)) [
+    | inl p ↦ grind (arith, nat_tests, root_leaves nodes refl, p.0, p.1)
+    | inr p ↦ grind (arith, nat_tests, root_leaves nodes refl, p.0, p.1)
+  ]

@@ -1,9 +1,11 @@
 -- What the edges of a cube's cycle rest on.
-use Rattle.std.proofs.Common.{Bor, ◌≡◌, ◌⊎◌, ℕ, zero, suc, ◌<◌, Bool, true, false, cond, List, [], ◌∷◌, ◌++◌, length, map, Option, Some, None, refl, sym, ap, ◌∙◌, subst, inl, inr, arith}
+use Rattle.std.proofs.Common.{Bor, ◌≡◌, ◌⊎◌, ℕ, ◌<◌, Bool, true, false, cond, List, [], ◌∷◌, ◌++◌, length, map, Option, Some, None, refl, sym, ap, ◌∙◌, subst, inl, inr, arith}
 use Rattle.std.specs.Prelude.{slice_get, slice_index, slice_index_or, IfSome, option_and_then}
 use Rattle.std.specs.Option.{option_map_or}
 use Rattle.std.specs.List.{All, Contains, filter_map, cons_option}
 use Rattle.std.proofs.lemmas.Bool.{false≢true, or_cases}
+use Rattle.std.proofs.lemmas.List.{length-append}
+use Rattle.std.proofs.lemmas.Option.{get_or_from_slice_get}
 use Rattle.std.proofs.lemmas.List.Elements.{All-nil, All-cons, All-head, All-tail, All-same, All-map, All-weaker, All-contains, Contains-append_right}
 use Rattle.session_log.specs.Text.{ClientSession}
 use Rattle.serializability.specs.Log.{Log}
@@ -26,11 +28,11 @@ use Rattle.cube_laws.specs.Steps.{is_cycle}
 use Rattle.cube_machine.specs.Sides.{side_in, cube_edges}
 use Rattle.side_edges.proofs.Listed.{edge_append}
 use Rattle.cube_machine.proofs.Edges.{under_is}
-use Rattle.branch_search.specs.declared.tree.Growth.{Growth}
-use Rattle.branch_search.specs.declared.tree.Growth.TheVariants.{Leaf, Inner}
-use Rattle.branch_search.specs.declared.tree.TreeNode.{TreeNode}
-use Rattle.branch_search.specs.Trees.{cube_of}
-use Rattle.branch_search.proofs.Lists.{some_is, some_map, map_length}
+use Rattle.cube_laws.specs.declared.tree.Growth.{Growth}
+use Rattle.cube_laws.specs.declared.tree.Growth.TheVariants.{Leaf, Inner}
+use Rattle.cube_laws.specs.declared.tree.TreeNode.{TreeNode}
+use Rattle.cube_laws.specs.Trees.{cube_of}
+use Rattle.cube_laws.proofs.Lists.{some_map, map_length}
 use Rattle.tell_reasons.specs.declared.why.ChainOrder.{ChainOrder}
 use Rattle.tell_steps.specs.View.{StepsView}
 use Rattle.tell_steps.specs.Orders.{choice_of}
@@ -47,36 +49,16 @@ use Rattle.tell_trees.specs.Visits.{cycle_in, line_of}
 use Rattle.tell_trees.proofs.Facts.{cube_among}
 
 -- ---- the steps of a walk
-head_is : (a b : ℕ) (xs ys : List ℕ) → a ∷ xs ≡ b ∷ ys → a ≡ b
-head_is a b xs ys e = cc
-
-tail_is : (a b : ℕ) (xs ys : List ℕ) → a ∷ xs ≡ b ∷ ys → xs ≡ ys
-tail_is a b xs ys e = cc
-
 no_more : (x : ℕ) (front back : List ℕ) (a b : ℕ) → x ∷ [] ≡ front ++ a ∷ b ∷ back → ⊥
-no_more x [] back a b e = let t = tail_is x a [] (b ∷ back) e in cc
-no_more x (y ∷ []) back a b e = let t = tail_is x y [] (a ∷ b ∷ back) e in cc
-no_more x (y ∷ z ∷ front) back a b e = let t = tail_is x y [] (z ∷ (front ++ a ∷ b ∷ back)) e in cc
-
-pair_same : (edges : List Edge) (u v a b : ℕ) → u ≡ a → v ≡ b → Contains edges (u, v) → Contains edges (a, b)
-pair_same edges u v a b p q c = subst (λ (z : ℕ). Contains edges (a, z)) q (subst (λ (z : ℕ). Contains edges (z, v)) p c)
+no_more x front back a b e = omega (arith, ap length e, length-append front (a ∷ b ∷ back))
 
 walk_step : (edges : List Edge) (u v : ℕ) (inner front back : List ℕ) (a b : ℕ) → Walk edges u inner v → u ∷ (inner ++ v ∷ []) ≡ front ++ a ∷ b ∷ back → Contains edges (a, b)
-walk_step edges u v [] [] back a b w e =
-    let t = tail_is u a (v ∷ []) (b ∷ back) e in
-    pair_same edges u v a b (head_is u a (v ∷ []) (b ∷ back) e) (head_is v b [] back t) w
-walk_step edges u v [] (y ∷ front) back a b w e = absurd (no_more v front back a b (tail_is u y (v ∷ []) (front ++ a ∷ b ∷ back) e))
-walk_step edges u v (x ∷ inner) [] back a b w e =
-    let t = tail_is u a (x ∷ (inner ++ v ∷ [])) (b ∷ back) e in
-    pair_same edges u x a b (head_is u a (x ∷ (inner ++ v ∷ [])) (b ∷ back) e) (head_is x b (inner ++ v ∷ []) back t) w.0
-walk_step edges u v (x ∷ inner) (y ∷ front) back a b w e = walk_step edges x v inner front back a b w.1 (tail_is u y (x ∷ (inner ++ v ∷ [])) (front ++ a ∷ b ∷ back) e)
+walk_step edges u v [] [] back a b w e = let one : u ≡ a = cc in let two : v ≡ b = cc in rw (sym one, sym two) w
+walk_step edges u v [] (y ∷ front) back a b w e = absurd (no_more v front back a b (cc))
+walk_step edges u v (x ∷ inner) [] back a b w e = let one : u ≡ a = cc in let two : x ≡ b = cc in rw (sym one, sym two) w.0
+walk_step edges u v (x ∷ inner) (y ∷ front) back a b w e = walk_step edges x v inner front back a b w.1 (cc)
 
 -- ---- the sides of a cube
-at_index : {A : Type 0} (xs : List A) (k : ℕ) (x d : A) → slice_get xs k ≡ Some x → slice_index_or xs k d ≡ x
-at_index [] k x d e = absurd (cc)
-at_index (y ∷ ys) zero x d e = some_is y x e
-at_index (y ∷ ys) (suc k) x d e = at_index ys k x d e
-
 edges_sided : (log : Log) (o : ChainOrder) (s : Side) → edges_of (choice_of log o) s ≡ edges_in log (sided s o)
 edges_sided log o One = refl
 edges_sided log o Two = refl
@@ -86,7 +68,7 @@ module _ (log : Log) (p : Polygraph) (orders : List ChainOrder) (h : AreOrdersOf
   side_found d None at e t = absurd (false≢true t)
   side_found d (Some c) at e t =
       let r = some_map (choice_of log) orders d.0 c (ap (λ (cs : List Choice). slice_get cs d.0) h.sides ∙ at) in
-      let same : edges_of c d.1 ≡ edges_in log (order_at orders d) = ap (λ (z : Choice). edges_of z d.1) (sym r.2) ∙ edges_sided log r.0 d.1 ∙ ap (λ (z : ChainOrder). edges_in log (sided d.1 z)) (sym (at_index orders d.0 r.0 no_order r.1)) in
+      let same : edges_of c d.1 ≡ edges_in log (order_at orders d) = ap (λ (z : Choice). edges_of z d.1) (sym r.2) ∙ edges_sided log r.0 d.1 ∙ ap (λ (z : ChainOrder). edges_in log (sided d.1 z)) (sym (get_or_from_slice_get orders d.0 r.0 no_order r.1)) in
       subst (λ (es : List Edge). Contains es e) same (edge_in (edges_of c d.1) e t)
 
   pub cube_edge : (cube : Cube) (e : Edge) → has_edge (cube_edges p cube) e ≡ true → (o : ChainOrder) × (Contains (map (order_at orders) cube) o × Contains (edges_in log o) e)

@@ -7,11 +7,11 @@ use Rattle.serializability.specs.Polygraph.{Polygraph}
 use Rattle.pruning_laws.specs.declared.side.Side.{Side}
 use Rattle.pruning_laws.specs.declared.side.Side.TheVariants.{One, Two}
 use Rattle.pruning_laws.specs.Ledger.{Entry}
-use Rattle.branch_search.specs.declared.tree.CubeDecision.{CubeDecision}
-use Rattle.branch_search.specs.declared.tree.TreeNode.{TreeNode}
-use Rattle.branch_search.specs.Trees.{cube_below, cube_of, IsChild, IsRefutationTree}
-use Rattle.branch_search.proofs.Lists.{some_is, within}
-use Rattle.branch_search.proofs.Upward.{cube_under, cube_top}
+use Rattle.cube_laws.specs.declared.tree.CubeDecision.{CubeDecision}
+use Rattle.cube_laws.specs.declared.tree.TreeNode.{TreeNode}
+use Rattle.cube_laws.specs.Trees.{cube_below, cube_of, IsChild, IsRefutationTree}
+use Rattle.cube_laws.proofs.Lists.{some_is, within}
+use Rattle.cube_laws.proofs.Upward.{cube_under, cube_top}
 use Rattle.tell_trees.specs.Visits.{IsTree, DecidesAmong}
 
 -- a node that decides a choice beyond its parent's cube

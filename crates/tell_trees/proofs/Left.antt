@@ -13,9 +13,9 @@ use Rattle.prune_ledger.specs.Ledger.{edges_after, AreShown}
 use Rattle.prune_ledger.specs.Pruned.{kept_by, posts_in, Remainder}
 use Rattle.prune_ledger.specs.declared.ledger.LedgerEntry.{LedgerEntry}
 use Rattle.reduction.specs.Outcome.{IsOpenHistory}
-use Rattle.branch_search.specs.declared.tree.TreeNode.{TreeNode}
-use Rattle.branch_search.specs.Trees.{IsRefutationTree}
-use Rattle.branch_search.proofs.Lists.{within, map_length}
+use Rattle.cube_laws.specs.declared.tree.TreeNode.{TreeNode}
+use Rattle.cube_laws.specs.Trees.{IsRefutationTree}
+use Rattle.cube_laws.proofs.Lists.{within, map_length}
 use Rattle.tell_reasons.specs.declared.why.ChainOrder.{ChainOrder}
 use Rattle.tell_steps.specs.View.{StepsView}
 use Rattle.tell_steps.specs.Orders.{choice_of}

@@ -1,8 +1,9 @@
 -- The orders that a ledger leaves open.
 use Rattle.std.proofs.Common.{◌≡◌, ℕ, ◌+◌, ◌<◌, Bool, true, false, cond, eqb, ◌&&◌, ◌||◌, List, [], ◌∷◌, length, map, refl, sym, ap, ◌∙◌, subst, arith}
+use Rattle.std.proofs.Math.Bool.{or_assoc, or_comm, or-false}
+use Rattle.std.proofs.lemmas.Bool.Decides.{nat_tests}
 use Rattle.std.specs.Prelude.{slice_index_or, Result, Ok, Err, IfOk}
 use Rattle.std.specs.List.{All, list_any}
-use Rattle.std.proofs.lemmas.Bool.{false≢true}
 use Rattle.std.proofs.lemmas.List.Elements.{All-nil, All-cons, All-head, All-tail}
 use Rattle.serializability.specs.Log.{Log}
 use Rattle.serializability.specs.Polygraph.{Choice}
@@ -19,21 +20,8 @@ use Rattle.tell_steps.specs.Steps.{IsOrder}
 use Rattle.tell_trees.specs.Orders.{AreOrdersOf, names_choice, AreFlags, unsettled_from}
 
 -- ---- a side is kept where an entry speaks of its choice
-or_assoc : (a b c : Bool) → ((a || b) || c) ≡ (a || (b || c))
-or_assoc true b c = refl
-or_assoc false b c = refl
-
-or_comm : (a b : Bool) → (a || b) ≡ (b || a)
-or_comm true true = refl
-or_comm true false = refl
-or_comm false true = refl
-or_comm false false = refl
-
 either_way : (a b c d : Bool) → ((a || b) || (c || d)) ≡ ((a || c) || (b || d))
-either_way true b c d = refl
-either_way false true true d = refl
-either_way false true false d = refl
-either_way false false c d = refl
+either_way a b c d = grind (arith, nat_tests)
 
 either_side : (b : Bool) (s : Side) → ((b && same_side s One) || (b && same_side s Two)) ≡ b
 either_side true One = refl
@@ -56,19 +44,14 @@ named_after kept (x ∷ xs) c =
     ∙ sym (or_assoc (names_choice xs c) (eqb x.post.choice c) (named_in kept c))
     ∙ ap (λ b. b || named_in kept c) (or_comm (names_choice xs c) (eqb x.post.choice c))
 
-or_none : (b : Bool) → (b || false) ≡ b
-or_none true = refl
-or_none false = refl
-
 pub settled_is : (entries : List LedgerEntry) (c : ℕ) → (sides_in (kept_by entries) c One || sides_in (kept_by entries) c Two) ≡ names_choice entries c
-settled_is entries c = kept_named (kept_by entries) c ∙ named_after [] entries c ∙ or_none (names_choice entries c)
+settled_is entries c = kept_named (kept_by entries) c ∙ named_after [] entries c ∙ or-false (names_choice entries c)
 
 -- ---- the orders that are left
 left_cond : (log : Log) (a b : Bool) (o : ChainOrder) (xs : List ChainOrder) (ys : List Choice) → a ≡ b → map (choice_of log) xs ≡ ys → map (choice_of log) (cond a xs (o ∷ xs)) ≡ cond b ys (choice_of log o ∷ ys)
 left_cond log true true o xs ys e f = f
-left_cond log true false o xs ys e f = absurd (false≢true (sym e))
-left_cond log false true o xs ys e f = absurd (false≢true e)
 left_cond log false false o xs ys e f = ap (λ l. choice_of log o ∷ l) f
+left_cond log _ _ o xs ys e f = absurd (cc)
 
 left_sides : (log : Log) (flags : List Bool) (sides : Sides) (n c : ℕ) (os : List ChainOrder) → ((k : ℕ) → k < n → slice_index_or flags k false ≡ (sides k One || sides k Two)) → c + length os ≡ n → map (choice_of log) (unsettled_from flags c os) ≡ open_from sides c (map (choice_of log) os)
 left_sides log flags sides n c [] agree e = refl

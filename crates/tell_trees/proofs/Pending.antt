@@ -1,5 +1,6 @@
 -- What is left to visit of a tree.
 use Rattle.std.proofs.Common.{◌≡◌, ℕ, zero, suc, ◌+◌, ◌-◌, ◌<◌, ◌≤◌, Bool, true, false, List, [], ◌∷◌, ◌++◌, length, get_or, Some, refl, sym, ap, ◌∙◌, subst, append_assoc, arith}
+use Rattle.std.proofs.lemmas.List.{append-nil}
 use Rattle.std.specs.Prelude.{slice_get, nat_lt}
 use Rattle.std.proofs.lemmas.Bool.{lt-ltb, le-ltb}
 use Rattle.std.proofs.lemmas.Option.{slice_get-get_or}
@@ -7,21 +8,17 @@ use Rattle.std.specs.List.{All}
 use Rattle.std.proofs.lemmas.List.Elements.{All-nil, All-cons, All-append, All-pop}
 use Rattle.pruning_laws.specs.declared.side.Side.{Side}
 use Rattle.pruning_laws.specs.declared.side.Side.TheVariants.{One, Two}
-use Rattle.branch_search.specs.declared.tree.Growth.{Growth}
-use Rattle.branch_search.specs.declared.tree.Growth.TheVariants.{Leaf, Inner}
-use Rattle.branch_search.specs.declared.tree.TreeNode.{TreeNode}
-use Rattle.branch_search.specs.Trees.{cube_of, IsChild}
-use Rattle.branch_search.proofs.Lists.{within, there}
+use Rattle.cube_laws.specs.declared.tree.Growth.{Growth}
+use Rattle.cube_laws.specs.declared.tree.Growth.TheVariants.{Leaf, Inner}
+use Rattle.cube_laws.specs.declared.tree.TreeNode.{TreeNode}
+use Rattle.cube_laws.specs.Trees.{cube_of, IsChild}
+use Rattle.cube_laws.proofs.Lists.{within, there}
 use Rattle.tell_trees.specs.declared.visits.Waiting.{Waiting}
 use Rattle.tell_trees.specs.declared.visits.Visit.{Visit}
 use Rattle.tell_trees.specs.declared.TheConstants.{MAX_LEAVES}
 use Rattle.tell_trees.specs.Visits.{IsTree, IsAbove, leaves_in, children_of, IsVisitOf, IsVisited}
 use Rattle.tell_trees.specs.Visits as visited
 use Rattle.tell_trees.proofs.Facts.{root_cube, root_here, child_cube, cube_short}
-
-append_nil : {A : Type 0} (xs : List A) → xs ++ [] ≡ xs
-append_nil [] = refl
-append_nil (x ∷ xs) = ap (λ l. x ∷ l) (append_nil xs)
 
 -- ---- how much there is to do: a node weighs more than two later ones
 abbrev pub weight : ℕ → ℕ
@@ -30,12 +27,12 @@ weight (suc n) = weight n + (weight n + weight n)
 
 weight_some : (n : ℕ) → 0 < weight n
 weight_some zero = omega arith
-weight_some (suc n) = let r = weight_some n in omega (arith, r)
+weight_some (suc n) = omega (arith, weight_some n)
 
 weight_le : (a b : ℕ) → a ≤ b → weight a ≤ weight b
-weight_le zero b le = let r = weight_some b in omega (arith, r)
+weight_le zero b le = omega (arith, weight_some b)
 weight_le (suc a) zero le = absurd (omega (arith, le))
-weight_le (suc a) (suc b) le = let r = weight_le a b (omega (arith, le)) in omega (arith, r)
+weight_le (suc a) (suc b) le = omega (arith, weight_le a b (omega (arith, le)))
 
 abbrev pub load : ℕ → List Waiting → ℕ
 load count [] = 0
@@ -43,18 +40,15 @@ load count (p ∷ ps) = weight (count - p.node) + load count ps
 
 pub load_append : (count : ℕ) (ps qs : List Waiting) → load count (ps ++ qs) ≡ load count ps + load count qs
 load_append count [] qs = omega arith
-load_append count (p ∷ ps) qs = let r = load_append count ps qs in omega (arith, r)
+load_append count (p ∷ ps) qs = omega (arith, load_append count ps qs)
 
 lighter : (count i a b : ℕ) → i < count → i < a → i < b → weight (count - a) + weight (count - b) < weight (count - i)
 lighter count i a b lt la lb = by_rest (count - i - 1) (omega (arith, lt))
   where
     by_rest : (n : ℕ) → count - i ≡ suc n → weight (count - a) + weight (count - b) < weight (count - i)
     by_rest n e =
-        let x = weight_le (count - a) n (omega (arith, e, la)) in
-        let y = weight_le (count - b) n (omega (arith, e, lb)) in
         let z : weight (count - i) ≡ weight n + (weight n + weight n) = ap weight e in
-        let s = weight_some n in
-        omega (arith, x, y, z, s)
+        omega (arith, weight_le (count - a) n (omega (arith, e, la)), weight_le (count - b) n (omega (arith, e, lb)), z, weight_some n)
 
 -- ---- what the waiting nodes still give, the last of them first
 abbrev pub ArePending : List TreeNode → List Waiting → ℕ → ℕ → List Visit → Type 0
@@ -83,7 +77,7 @@ pub record IsUnderway (nodes : List TreeNode) (waiting : List Waiting) (leaves :
 
 module _ (nodes : List TreeNode) where
   pub push_top : (ps : List Waiting) (p : Waiting) (n m k : ℕ) (one rest : List Visit) → IsVisited nodes p.node n m one → ArePending nodes ps m k rest → ArePending nodes (ps ++ p ∷ []) n k (one ++ rest)
-  push_top [] p n m k one rest v h = (n, [], one, (refl, refl), subst (λ z. IsVisited nodes p.node n z one) h.0 v, ap (λ l. one ++ l) h.1 ∙ append_nil one)
+  push_top [] p n m k one rest v h = (n, [], one, (refl, refl), subst (λ z. IsVisited nodes p.node n z one) h.0 v, ap (λ l. one ++ l) h.1 ∙ append-nil one)
   push_top (q ∷ qs) p n m k one rest v h =
       (h.0, one ++ h.1, h.2, push_top qs p n m h.0 one h.1 v h.3, h.4, ap (λ l. one ++ l) h.5 ∙ sym (append_assoc one h.1 h.2))
 
@@ -94,7 +88,7 @@ module _ (nodes : List TreeNode) where
     after = [];
     top = subst (λ z. IsVisited nodes p.node z k h.2) (sym h.3.0) h.4;
     below = (refl, refl);
-    whole = h.5 ∙ ap (λ l. l ++ h.2) h.3.1 ∙ sym (append_nil h.2);
+    whole = h.5 ∙ ap (λ l. l ++ h.2) h.3.1 ∙ sym (append-nil h.2);
   }
   pop_top (q ∷ qs) p n k rest h =
       let r = pop_top qs p n h.0 h.1 h.3 in
@@ -111,18 +105,14 @@ module _ (nodes : List TreeNode) where
   pub finished : (leaves : ℕ) (waiting : List Waiting) (visits : List Visit) → waiting ≡ [] → IsUnderway nodes waiting leaves visits → IsVisited nodes 0 0 leaves visits
   finished leaves waiting visits e u =
       let pending : ArePending nodes waiting leaves leaves [] = subst (λ (ps : List Waiting). ArePending nodes ps leaves leaves []) (sym e) (refl, refl) in
-      subst (λ (vs : List Visit). IsVisited nodes 0 0 leaves vs) (append_nil visits) (u.whole leaves [] pending)
-
-  append_one : (xs : List Visit) (x : Visit) (ys : List Visit) → (xs ++ x ∷ []) ++ ys ≡ xs ++ (x ∷ ys)
-  append_one [] x ys = refl
-  append_one (z ∷ zs) x ys = ap (λ l. z ∷ l) (append_one zs x ys)
+      subst (λ (vs : List Visit). IsVisited nodes 0 0 leaves vs) (append-nil visits) (u.whole leaves [] pending)
 
   -- one place is taken, and this comes of it at once
   goes_on : (ps : List Waiting) (p : Waiting) (n m : ℕ) (visits : List Visit) (v : Visit) → All (IsPlace nodes) ps → m ≤ MAX_LEAVES → IsUnderway nodes (ps ++ p ∷ []) n visits → IsVisited nodes p.node n m (v ∷ []) → IsUnderway nodes ps m (visits ++ v ∷ [])
   goes_on ps p n m visits v places few u one = record {
     places = places;
     few = few;
-    whole = λ k rest pending. subst (λ (vs : List Visit). IsVisited nodes 0 0 k vs) (sym (append_one visits v rest)) (u.whole k (v ∷ rest) (push_top ps p n m k (v ∷ []) rest one pending));
+    whole = λ k rest pending. subst (λ (vs : List Visit). IsVisited nodes 0 0 k vs) (sym (append_assoc visits (v ∷ []) rest)) (u.whole k (v ∷ rest) (push_top ps p n m k (v ∷ []) rest one pending));
   }
 
   rest_places : (ps : List Waiting) (p : Waiting) → All (IsPlace nodes) (ps ++ p ∷ []) → All (IsPlace nodes) ps
@@ -148,7 +138,7 @@ module _ (nodes : List TreeNode) where
     told_growth ps p n visits x (Leaf line) lt u at is =
         let v : Visit = record { node = p.node; depth = p.depth; is_told = true } in
         let one : IsVisited nodes p.node n (n + 1) (v ∷ []) = visited.leaf v n x line lt (visit_of p true x (top_place ps p u.places) at) is in
-        subst (λ (l : List Waiting). IsUnderway nodes l (n + 1) (visits ++ v ∷ [])) (sym (append_nil ps)) (goes_on ps p n (n + 1) visits v (rest_places ps p u.places) (omega (arith, lt)) u one)
+        subst (λ (l : List Waiting). IsUnderway nodes l (n + 1) (visits ++ v ∷ [])) (sym (append-nil ps)) (goes_on ps p n (n + 1) visits v (rest_places ps p u.places) (omega (arith, lt)) u one)
     told_growth ps p n visits x (Inner c first second) lt u at is =
         let v : Visit = record { node = p.node; depth = p.depth; is_told = true } in
         let a : Waiting = record { node = first; depth = p.depth + 1 } in
@@ -163,7 +153,7 @@ module _ (nodes : List TreeNode) where
         let r = pop_top ps b q.mid k q.after q.below in
         let one : IsVisited nodes p.node n r.mid (v ∷ (q.own ++ r.own)) = visited.split v n q.mid r.mid x c first second q.own r.own (visit_of p true x h at) is q.top r.top in
         let same : (q.own ++ r.own) ++ r.after ≡ rest = append_assoc q.own r.own r.after ∙ ap (λ l. q.own ++ l) (sym r.whole) ∙ sym q.whole in
-        subst (λ (vs : List Visit). IsVisited nodes 0 0 k vs) (ap (λ l. visits ++ v ∷ l) same ∙ sym (append_one visits v rest))
+        subst (λ (vs : List Visit). IsVisited nodes 0 0 k vs) (ap (λ l. visits ++ v ∷ l) same ∙ sym (append_assoc visits (v ∷ []) rest))
         (u.whole k (v ∷ ((q.own ++ r.own) ++ r.after)) (push_top ps p n r.mid k (v ∷ (q.own ++ r.own)) r.after one r.below)) in
         let under : IsUnderway nodes (ps ++ b ∷ a ∷ []) n (visits ++ v ∷ []) = record {
           places = All-append (IsPlace nodes) ps (b ∷ a ∷ []) (rest_places ps p u.places) children;
@@ -180,7 +170,7 @@ module _ (nodes : List TreeNode) where
         let place : IsPlace nodes root = record { here = root_here t.poly nodes t.shown; depth = sym empty } in
         let whole : (k : ℕ) (rest : List Visit) → ArePending nodes (root ∷ []) 0 k rest → IsVisited nodes 0 0 k ([] ++ rest) = λ k rest pending.
         let r = pop_top [] root 0 k rest pending in
-        subst (λ (vs : List Visit). IsVisited nodes 0 0 k vs) (sym (r.whole ∙ ap (λ l. r.own ++ l) r.below.1 ∙ append_nil r.own)) (subst (λ z. IsVisited nodes 0 0 z r.own) r.below.0 r.top) in
+        subst (λ (vs : List Visit). IsVisited nodes 0 0 k vs) (sym (r.whole ∙ ap (λ l. r.own ++ l) r.below.1 ∙ append-nil r.own)) (subst (λ z. IsVisited nodes 0 0 z r.own) r.below.0 r.top) in
         let under : IsUnderway nodes (root ∷ []) 0 [] = record { places = All-cons (IsPlace nodes) root [] place (All-nil (IsPlace nodes)); few = omega arith; whole = whole } in
         subst (λ (vs : List Visit). IsUnderway nodes waiting 0 vs) (sym f) (subst (λ (l : List Waiting). IsUnderway nodes l 0 []) (sym e) under)
 
@@ -205,10 +195,7 @@ module _ (nodes : List TreeNode) where
           by_growth (Leaf line) is = tt
           by_growth (Inner c first second) is =
               let s = t.shown.inner p.node x c first second at is in
-              let later = s.one.later in
-              let r = cube_short t.poly nodes t.shown p.node x at in
-              let depth = top.depth in
-              omega (arith, later, r, depth)
+              omega (arith, s.one.later, cube_short t.poly nodes t.shown p.node x at, top.depth)
 
       pub told_next : (next : List Waiting) (n now : ℕ) (more : List Visit) → leaves < MAX_LEAVES → next ≡ ps ++ children_of (p.depth + 1) (get_or nodes p.node d).growth → n ≡ leaves_in (get_or nodes p.node d).growth → now ≡ leaves + n
           → more ≡ visits ++ record { node = p.node; depth = p.depth; is_told = nat_lt leaves MAX_LEAVES } ∷ [] → IsUnderway nodes next now more
@@ -226,15 +213,13 @@ module _ (nodes : List TreeNode) where
       children_light (Leaf line) is = weight_some (length nodes - p.node)
       children_light (Inner c first second) is =
           let s = t.shown.inner p.node x c first second at is in
-          let r = lighter (length nodes) p.node second first top.here s.two.later s.one.later in
-          omega (arith, r)
+          omega (arith, lighter (length nodes) p.node second first top.here s.two.later s.one.later)
 
       pub told_lighter : (next : List Waiting) → next ≡ ps ++ children_of (p.depth + 1) (get_or nodes p.node d).growth → load (length nodes) next < load (length nodes) waiting
       told_lighter next next_is =
           let a = ap (load (length nodes)) e ∙ load_append (length nodes) ps (p ∷ []) in
           let b = ap (load (length nodes)) next_is ∙ load_append (length nodes) ps (children_of (p.depth + 1) x.growth) in
-          let c = children_light x.growth refl in
-          omega (arith, a, b, c)
+          omega (arith, a, b, children_light x.growth refl)
 
     pub left_next : (waiting ps : List Waiting) (p : Waiting) (leaves : ℕ) (visits : List Visit) → waiting ≡ ps ++ p ∷ [] → IsUnderway nodes waiting leaves visits → (next : List Waiting) (now : ℕ) (more : List Visit) → MAX_LEAVES ≤ leaves → next ≡ ps → now ≡ leaves
         → more ≡ visits ++ record { node = p.node; depth = p.depth; is_told = nat_lt leaves MAX_LEAVES } ∷ [] → IsUnderway nodes next now more
@@ -256,6 +241,4 @@ module _ (nodes : List TreeNode) where
     pub left_lighter : (waiting ps next : List Waiting) (p : Waiting) → waiting ≡ ps ++ p ∷ [] → next ≡ ps → load (length nodes) next < load (length nodes) waiting
     left_lighter waiting ps next p e next_is =
         let a = ap (load (length nodes)) e ∙ load_append (length nodes) ps (p ∷ []) in
-        let b = ap (load (length nodes)) next_is in
-        let s = weight_some (length nodes - p.node) in
-        omega (arith, a, b, s)
+        omega (arith, a, ap (load (length nodes)) next_is, weight_some (length nodes - p.node))

@@ -1,10 +1,11 @@
 -- What is appended for visited nodes.
 use Rattle.std.proofs.Common.{◌≡◌, ℕ, ◌+◌, ◌-◌, ◌<◌, List, [], ◌∷◌, ◌++◌, length, map, get_or, Option, Some, None, refl, sym, ap, ◌∙◌, subst, append_assoc, arith}
+use Rattle.std.proofs.lemmas.List.{append-nil, length-append}
 use Rattle.std.specs.Prelude.{slice_get, IfSome, option_and_then}
-use Rattle.branch_search.specs.declared.tree.CubeDecision.{CubeDecision}
-use Rattle.branch_search.specs.declared.tree.TreeNode.{TreeNode}
+use Rattle.cube_laws.specs.declared.tree.CubeDecision.{CubeDecision}
+use Rattle.cube_laws.specs.declared.tree.TreeNode.{TreeNode}
 use Rattle.std.specs.Option.{option_map}
-use Rattle.branch_search.proofs.Lists.{some_is, there}
+use Rattle.cube_laws.proofs.Lists.{some_is, there}
 use Rattle.tell_reasons.specs.declared.why.ChainOrder.{ChainOrder}
 use Rattle.tell_steps.specs.View.{StepsView}
 use Rattle.tell_steps.specs.Lines.{TellsLine}
@@ -19,23 +20,12 @@ use Rattle.tell_trees.specs.Visits.{IsTree, DecidesAmong, line_of}
 use Rattle.tell_trees.proofs.Facts.{up_cube, up_before, up_end}
 use Rattle.tell_trees.proofs.Tellings.{told_more}
 
-append_nil : {A : Type 0} (xs : List A) → xs ++ [] ≡ xs
-append_nil [] = refl
-append_nil (x ∷ xs) = ap (λ l. x ∷ l) (append_nil xs)
-
-length_append : {A : Type 0} (xs ys : List A) → length (xs ++ ys) ≡ length xs + length ys
-length_append [] ys = omega arith
-length_append (x ∷ xs) ys = let r = length_append xs ys in omega (arith, r)
-
 -- ---- a cycle
 round_length : (line : List ℕ) (r : IsRound line) → length line ≡ length r.inner + 1 + 1
-round_length line r =
-    let a = ap length r.shape in
-    let b = length_append r.inner (r.start ∷ []) in
-    omega (arith, a, b)
+round_length line r = omega (arith, ap length r.shape, length-append r.inner (r.start ∷ []))
 
 pub round_long : (line : List ℕ) → IsRound line → 1 < length line
-round_long line r = let a = round_length line r in omega (arith, a)
+round_long line r = omega (arith, round_length line r)
 
 pub cycle_added : (s : StepsView) (decided : List ChainOrder) (line : List ℕ) (old mid now : List Item) (start : ℕ) → CanTell s decided line → start ≡ get_or line 0 start → mid ≡ old ++ item.Cycle start (length line - 1) ∷ []
     → TellsLine s decided line mid now → AddsLeaf s decided (Some line) old now
@@ -63,7 +53,7 @@ leaf_added s decided same o line old now e f a = subst (λ (z : Option (List ℕ
 
 pub no_leaf_added : (s : StepsView) (decided : List ChainOrder) (o : Option (List ℕ)) (old : List Item) → None ≡ o → AddsLeaf s decided o old old
 no_leaf_added s decided o old e =
-    let none : AddsLeaf s decided None old old = record { cycle = []; added = sym (append_nil old); told = refl } in
+    let none : AddsLeaf s decided None old old = record { cycle = []; added = sym (append-nil old); told = refl } in
     subst (λ (z : Option (List ℕ)). AddsLeaf s decided z old old) e none
 
 -- ---- a visited node
@@ -93,7 +83,7 @@ visit_put s orders nodes v o old mid now lt e mid_is a =
 -- ---- visited nodes
 pub none_added : (s : StepsView) (orders : List ChainOrder) (nodes : List TreeNode) (visits : List Visit) (old : List Item) → visits ≡ [] → AddsVisits s orders nodes visits old old
 none_added s orders nodes visits old e =
-    let none : AddsVisits s orders nodes [] old old = record { own = []; added = sym (append_nil old); told = refl } in
+    let none : AddsVisits s orders nodes [] old old = record { own = []; added = sym (append-nil old); told = refl } in
     subst (λ (vs : List Visit). AddsVisits s orders nodes vs old old) (sym e) none
 
 pub more_added : (s : StepsView) (orders : List ChainOrder) (nodes : List TreeNode) (front more : List Visit) (v : Visit) (old mid now : List Item) → more ≡ front ++ v ∷ [] → AddsVisits s orders nodes front old mid → AddsVisit s orders nodes v mid now → AddsVisits s orders nodes more old now
@@ -115,10 +105,10 @@ module _ (orders : List ChainOrder) (nodes : List TreeNode) (t : IsTree nodes) (
     parent_is = some_is parent here.0.parent (up ∙ ap (λ (z : Option TreeNode). option_map (λ (x : TreeNode). x.parent) z) here.1.0)
 
     pub parent_lower : parent < i
-    parent_lower = let before = up_before nodes t i here.0 d here.1.0 here.1.1 in let same = parent_is in omega (arith, before, same)
+    parent_lower = omega (arith, up_before nodes t i here.0 d here.1.0 here.1.1, parent_is)
 
     pub parent_within : parent < length nodes
-    parent_within = let lower = parent_lower in omega (arith, lower, within_nodes)
+    parent_within = omega (arith, parent_lower, within_nodes)
 
     pub orders_up : (before after whole : List ChainOrder) (o : ChainOrder) → o ≡ order_at orders (d.choice, d.side) → after ≡ before ++ o ∷ [] → before ++ decided_at orders nodes i ≡ whole → after ++ decided_at orders nodes parent ≡ whole
     orders_up before after whole o is after_is h =
@@ -134,4 +124,4 @@ module _ (orders : List ChainOrder) (nodes : List TreeNode) (t : IsTree nodes) (
   pub orders_end : (before whole : List ChainOrder) → None ≡ option_and_then (λ (x : TreeNode). x.decision) (slice_get nodes i) → before ++ decided_at orders nodes i ≡ whole → before ≡ whole
   orders_end before whole e h =
       let r = decided_by nodes i None within_nodes e in
-      sym (append_nil before) ∙ ap (λ l. before ++ l) (sym (ap (map (order_at orders)) (up_end nodes t i r.0 r.1.0 r.1.1))) ∙ h
+      sym (append-nil before) ∙ ap (λ l. before ++ l) (sym (ap (map (order_at orders)) (up_end nodes t i r.0 r.1.0 r.1.1))) ∙ h

@@ -1,16 +1,17 @@
 -- What is told of a tree's nodes, depth first, is the tree told.
 use Rattle.std.proofs.Common.{◌≡◌, ℕ, ◌+◌, ◌-◌, ◌<◌, Bool, true, false, cond, List, [], ◌∷◌, ◌++◌, length, map, Option, Some, None, refl, sym, ap, ◌∙◌, subst, append_assoc, arith}
+use Rattle.std.proofs.lemmas.List.{append-nil}
 use Rattle.std.specs.Prelude.{slice_get, option_and_then}
 use Rattle.std.specs.List.{All}
 use Rattle.serializability.specs.Polygraph.{Polygraph}
 use Rattle.pruning_laws.specs.declared.side.Side.{Side}
 use Rattle.pruning_laws.specs.declared.side.Side.TheVariants.{One, Two}
 use Rattle.log_definitions.specs.Numbers.{log_of}
-use Rattle.branch_search.specs.declared.tree.Growth.{Growth}
-use Rattle.branch_search.specs.declared.tree.Growth.TheVariants.{Leaf, Inner}
-use Rattle.branch_search.specs.declared.tree.TreeNode.{TreeNode}
-use Rattle.branch_search.specs.Trees.{cube_of, IsChild, IsRefutationTree}
-use Rattle.branch_search.proofs.Lists.{some_is}
+use Rattle.cube_laws.specs.declared.tree.Growth.{Growth}
+use Rattle.cube_laws.specs.declared.tree.Growth.TheVariants.{Leaf, Inner}
+use Rattle.cube_laws.specs.declared.tree.TreeNode.{TreeNode}
+use Rattle.cube_laws.specs.Trees.{cube_of, IsChild, IsRefutationTree}
+use Rattle.cube_laws.proofs.Lists.{some_is}
 use Rattle.tell_reasons.specs.declared.why.ChainOrder.{ChainOrder}
 use Rattle.tell_steps.specs.View.{StepsView}
 use Rattle.tell_steps.specs.Steps.{turned, IsOrder, IsCycleTold}
@@ -25,13 +26,9 @@ use Rattle.tell_trees.specs.Visits.{cycle_in, line_of, IsVisitOf, IsVisited}
 use Rattle.tell_trees.specs.Visits as visited
 use Rattle.tell_trees.proofs.Facts.{child_cube, root_decides, root_cube}
 
-append_nil : {A : Type 0} (xs : List A) → xs ++ [] ≡ xs
-append_nil [] = refl
-append_nil (x ∷ xs) = ap (λ l. x ∷ l) (append_nil xs)
-
 module _ (s : StepsView) (orders : List ChainOrder) (nodes : List TreeNode) where
   pub told_more : (vs : List Visit) (v : Visit) (a b : List Item) → AreVisitsTold s orders nodes vs a → IsVisitTold s orders nodes v b → AreVisitsTold s orders nodes (vs ++ v ∷ []) (a ++ b)
-  told_more [] v a b e h = (b, [], h, refl, ap (λ l. l ++ b) e ∙ sym (append_nil b))
+  told_more [] v a b e h = (b, [], h, refl, ap (λ l. l ++ b) e ∙ sym (append-nil b))
   told_more (w ∷ ws) v a b g h = (g.0, g.1 ++ b, g.2, told_more ws v g.1 b g.3 h, ap (λ l. l ++ b) g.4 ∙ append_assoc g.0 g.1 b)
 
   pub record IsSplitTold (xs ys : List Visit) (items : List Item) : Type 0 where
@@ -96,7 +93,7 @@ module _ (s : StepsView) (orders : List ChainOrder) (nodes : List TreeNode) wher
           node = own.node;
           here = own.here;
           after = own.after;
-          whole = h.4 ∙ (λ i. own_items v x true h.0 own.after of own refl i ++ h.3 i) ∙ append_nil (decision_items orders (length (cube_of nodes v.node)) own.node.decision ++ own.after);
+          whole = h.4 ∙ (λ i. own_items v x true h.0 own.after of own refl i ++ h.3 i) ∙ append-nil (decision_items orders (length (cube_of nodes v.node)) own.node.decision ++ own.after);
           cube = told.leaf (length (cube_of nodes v.node)) (decided_at orders nodes v.node) n own.after lt
               (cycle_told (decided_at orders nodes v.node) (line_of nodes v) line own.after (leaf_line v x true (Leaf line) of g) own.leaf);
         }
@@ -111,7 +108,7 @@ module _ (s : StepsView) (orders : List ChainOrder) (nodes : List TreeNode) wher
         let L = length (cube_of nodes v.node) in
         let front : parts.front ≡ item.Decided L o ∷ a.after = a.whole ∙ ap (λ l. l ++ a.after) (child_decides v.node c One first split.one a.node a.here) in
         let back : parts.back ≡ item.Decided L (turned o) ∷ b.after = b.whole ∙ ap (λ l. l ++ b.after) (child_decides v.node c Two second split.two b.node b.here) in
-        let first_items : h.0 ≡ decision_items orders L own.node.decision = own_items v x true h.0 [] of own none ∙ append_nil (decision_items orders L own.node.decision) in
+        let first_items : h.0 ≡ decision_items orders L own.node.decision = own_items v x true h.0 [] of own none ∙ append-nil (decision_items orders L own.node.decision) in
         let rest_items : h.1 ≡ (item.Decided L o ∷ a.after) ++ (item.Decided L (turned o) ∷ b.after) = parts.whole ∙ (λ i. front i ++ back i) in
         record {
           node = own.node;
@@ -128,7 +125,7 @@ module _ (s : StepsView) (orders : List ChainOrder) (nodes : List TreeNode) wher
           node = own.node;
           here = own.here;
           after = [];
-          whole = h.4 ∙ (λ i. own_items v x false h.0 [] of own none i ++ h.3 i) ∙ append_nil (decision_items orders (length (cube_of nodes v.node)) own.node.decision ++ []);
+          whole = h.4 ∙ (λ i. own_items v x false h.0 [] of own none i ++ h.3 i) ∙ append-nil (decision_items orders (length (cube_of nodes v.node)) own.node.decision ++ []);
           cube = told.left_out (length (cube_of nodes v.node)) (decided_at orders nodes v.node);
         }
 

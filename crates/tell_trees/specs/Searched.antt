@@ -8,8 +8,8 @@ use Rattle.log_definitions.specs.Numbers.{log_of}
 use Rattle.prune_ledger.specs.Ledger.{edges_after}
 use Rattle.prune_ledger.specs.Pruned.{kept_by}
 use Rattle.prune_ledger.specs.declared.ledger.LedgerEntry.{LedgerEntry}
-use Rattle.branch_search.specs.declared.tree.TreeNode.{TreeNode}
-use Rattle.branch_search.specs.Trees.{IsRefutationTree}
+use Rattle.cube_laws.specs.declared.tree.TreeNode.{TreeNode}
+use Rattle.cube_laws.specs.Trees.{IsRefutationTree}
 use Rattle.tell_reasons.specs.declared.why.ChainOrder.{ChainOrder}
 use Rattle.tell_trees.specs.Orders.{AreOrdersOf}
 

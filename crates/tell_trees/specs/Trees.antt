@@ -9,10 +9,9 @@ use Rattle.tell_steps.specs.declared.item.Item.TheVariants as item
 use Rattle.tell_trees.specs.declared.TheConstants.{MAX_LEAVES}
 
 -- A cube, in which these orders of chains are decided, the newest first, told behind so many
--- leaves, and so many with its own: it has a
--- cycle; or two chains of a key are split into their two orders, of which each makes a cube that is
--- told in turn; or it is left out,
--- behind the greatest number of leaves.
+-- leaves, and so many with its own: it has a cycle; or two chains of a key are split into their two
+-- orders, of which each makes a cube that is told in turn; or it is left out, behind the greatest
+-- number of leaves.
 pub data IsCubeTold (ss : List ClientSession) (steps : List ChainOrder) : ℕ → List ChainOrder → ℕ
     → ℕ → List Item → Type 0 where
   leaf : (depth : ℕ) (decided : List ChainOrder) (n : ℕ) (items : List Item) → n < MAX_LEAVES

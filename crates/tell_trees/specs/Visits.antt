@@ -3,11 +3,11 @@ use Rattle.std.specs.Prelude.{◌≡◌, ℕ, ◌+◌, ◌<◌, if◌then◌else
 use Rattle.std.specs.Prelude.{false, Option, None, Some, is_some, length, count_by, slice_get}
 use Rattle.std.specs.Prelude.{option_and_then}
 use Rattle.serializability.specs.Polygraph.{Polygraph}
-use Rattle.branch_search.specs.declared.tree.CubeDecision.{CubeDecision}
-use Rattle.branch_search.specs.declared.tree.Growth.{Growth}
-use Rattle.branch_search.specs.declared.tree.Growth.TheVariants.{Leaf, Inner}
-use Rattle.branch_search.specs.declared.tree.TreeNode.{TreeNode}
-use Rattle.branch_search.specs.Trees.{IsRefutationTree, cube_of}
+use Rattle.cube_laws.specs.declared.tree.CubeDecision.{CubeDecision}
+use Rattle.cube_laws.specs.declared.tree.Growth.{Growth}
+use Rattle.cube_laws.specs.declared.tree.Growth.TheVariants.{Leaf, Inner}
+use Rattle.cube_laws.specs.declared.tree.TreeNode.{TreeNode}
+use Rattle.cube_laws.specs.Trees.{IsRefutationTree, cube_of}
 use Rattle.tell_trees.specs.declared.visits.Waiting.{Waiting}
 use Rattle.tell_trees.specs.declared.visits.Visit.{Visit}
 use Rattle.tell_trees.specs.declared.TheConstants.{MAX_LEAVES}
@@ -57,8 +57,8 @@ pub record IsVisitOf (nodes : List TreeNode) (told : Bool) (x : TreeNode) (v : V
   pub told_is : v.is_told ≡ told
 
 -- A node, behind so many leaves that are told, and with its own, and the nodes below it: a leaf; an
--- inner node and then the nodes below
--- its first and those below its second child; or a node that is left out, with all below it.
+-- inner node and then the nodes below its first and those below its second child; or a node that is
+-- left out, with all below it.
 pub data IsVisited (nodes : List TreeNode) : ℕ → ℕ → ℕ → List Visit → Type 0 where
   leaf : (v : Visit) (n : ℕ) (x : TreeNode) (line : List ℕ) → n < MAX_LEAVES
       → IsVisitOf nodes true x v → x.growth ≡ Leaf line →

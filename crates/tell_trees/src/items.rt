@@ -14,7 +14,7 @@ ghost use Rattle.tell_trees.specs.Trees.{leaves_items};
 ghost use Rattle.tell_trees.specs.Visits.{IsTree, DecidesAmong, line_of};
 
 use crate::visits::{Visit, told_line};
-use branch_search::{CubeDecision, TreeNode};
+use cube_laws::{CubeDecision, TreeNode};
 use pruning_laws::Side;
 use serializability::NodeIx;
 use std::alloc::{AllocError, Global};

@@ -7,7 +7,7 @@ ghost use Rattle.tell_trees.specs.Visits.{IsTree, IsVisited, IsAbove, cycle_in, 
 ghost use Rattle.tell_trees.specs.Visits.{leaves_in, children_of, line_of};
 
 use crate::MAX_LEAVES;
-use branch_search::{Growth, TreeNode};
+use cube_laws::{Growth, TreeNode};
 use serializability::NodeIx;
 use std::alloc::{AllocError, Global};
 
@@ -61,11 +61,7 @@ fn enter(waiting: &mut Vec<Waiting>, growth: &Growth, depth: usize) -> Result<us
 {
     match growth {
         Growth::Leaf(_) => Ok(1),
-        Growth::Inner {
-            choice: _,
-            first,
-            second,
-        } => {
+        Growth::Inner { first, second, .. } => {
             let (first, second) = (*first, *second);
             let depth = depth + 1;
             waiting.push(Waiting {
@@ -88,14 +84,7 @@ pub fn count_leaves(nodes: &[TreeNode]) -> usize
 fn is_leaf(growth: &Growth) -> bool
     ensures { result ≡ is_some (cycle_in growth.now) }
 {
-    match growth {
-        Growth::Leaf(_) => true,
-        Growth::Inner {
-            choice: _,
-            first: _,
-            second: _,
-        } => false,
-    }
+    matches!(growth, Growth::Leaf(_))
 }
 
 /// The cycle of a visited node, where it is a leaf that is told.
@@ -108,11 +97,7 @@ pub fn told_line(nodes: &[TreeNode], visit: Visit) -> Option<&[NodeIx]>
     }
     match &nodes[visit.node].growth {
         Growth::Leaf(line) => Some(line.nodes()),
-        Growth::Inner {
-            choice: _,
-            first: _,
-            second: _,
-        } => None,
+        Growth::Inner { .. } => None,
     }
 }
 

@@ -12,15 +12,15 @@ use Rattle.cube_laws.proofs.Nodes.{get_below, each_at}
 use Rattle.cube_laws.proofs.Alive.{no_cycle}
 use Rattle.cube_laws.proofs.Fits.{KeepsCube, cube_opening, cube_split}
 use Rattle.pruning_laws.proofs.Ledgers.{same_is, same_itself}
-use Rattle.branch_search.specs.declared.tree.CubeDecision.{CubeDecision}
-use Rattle.branch_search.specs.declared.tree.Growth.{Growth}
-use Rattle.branch_search.specs.declared.tree.Growth.TheVariants.{Leaf, Inner}
-use Rattle.branch_search.specs.declared.tree.TreeNode.{TreeNode}
-use Rattle.branch_search.specs.Trees.{cube_below, cube_of, IsChild, IsSplit, IsBelow, IsRoot, IsRefutationTree}
+use Rattle.cube_laws.specs.declared.tree.CubeDecision.{CubeDecision}
+use Rattle.cube_laws.specs.declared.tree.Growth.{Growth}
+use Rattle.cube_laws.specs.declared.tree.Growth.TheVariants.{Leaf, Inner}
+use Rattle.cube_laws.specs.declared.tree.TreeNode.{TreeNode}
+use Rattle.cube_laws.specs.Trees.{cube_below, cube_of, IsChild, IsSplit, IsBelow, IsRoot, IsRefutationTree}
 use Rattle.tree_checks.specs.Checks.{decides_side, is_child, has_child, is_below, is_root, is_grown, is_sound}
-use Rattle.branch_search.proofs.Lists.{some_is, within}
-use Rattle.branch_search.proofs.Growths.{first_is, second_is}
-use Rattle.branch_search.proofs.Upward.{cube_under, cube_top}
+use Rattle.cube_laws.proofs.Lists.{some_is, within}
+use Rattle.cube_laws.proofs.Growths.{first_is, second_is}
+use Rattle.cube_laws.proofs.Upward.{cube_under, cube_top}
 
 lt_from : (a b : ℕ) → a < b → nat_lt a b ≡ true
 lt_from a b lt = lt-ltb a b lt

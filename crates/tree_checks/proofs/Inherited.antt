@@ -9,10 +9,10 @@ use Rattle.cube_laws.specs.Cubes.{Cube, is_decided, edges_under}
 use Rattle.cube_machine.specs.Sides.{side_in, cube_edges}
 use Rattle.side_edges.proofs.Listed.{edge_append}
 use Rattle.cube_machine.proofs.Edges.{under_is}
-use Rattle.branch_search.specs.declared.tree.CubeDecision.{CubeDecision}
-use Rattle.branch_search.specs.declared.tree.TreeNode.{TreeNode}
-use Rattle.branch_search.specs.Trees.{cube_below, cube_of}
-use Rattle.branch_search.proofs.Upward.{cube_under, cube_top, cube_past}
+use Rattle.cube_laws.specs.declared.tree.CubeDecision.{CubeDecision}
+use Rattle.cube_laws.specs.declared.tree.TreeNode.{TreeNode}
+use Rattle.cube_laws.specs.Trees.{cube_below, cube_of}
+use Rattle.cube_laws.proofs.Upward.{cube_under, cube_top, cube_past}
 use Rattle.tree_checks.specs.Checks.{decides, adds}
 
 -- ---- what a cube decides, on the way up

@@ -6,15 +6,15 @@ ghost use Rattle.std.specs.Option.{option_copied};
 ghost use Rattle.serializability.specs.Polygraph.{Fits};
 ghost use Rattle.pruning_laws.specs.Ledger.{same_side};
 ghost use Rattle.cube_machine.specs.Sides.{cube_edges};
-ghost use Rattle.branch_search.specs.declared.tree.TreeNode.{TreeNode};
+ghost use Rattle.cube_laws.specs.declared.tree.TreeNode.{TreeNode};
 ghost use Rattle.known_graph.specs.Tests.{has_edge, leads};
 ghost use Rattle.cube_laws.specs.Cubes.{is_decided, edges_under};
 ghost use Rattle.cube_laws.specs.Steps.{is_cycle};
-ghost use Rattle.branch_search.specs.Trees.{cube_of, IsRefutationTree};
+ghost use Rattle.cube_laws.specs.Trees.{cube_of, IsRefutationTree};
 ghost use Rattle.tree_checks.specs.Checks.{decides, decides_side, adds, is_child, has_child};
 ghost use Rattle.tree_checks.specs.Checks.{is_below, is_root, is_split, is_grown, is_sound};
 
-use branch_search::{CubeDecision, Growth, Tree, TreeNode};
+use cube_laws::{CubeDecision, Growth, Tree, TreeNode};
 use polygraph::{ChoiceIx, Polygraph};
 use pruning_laws::Side;
 use reach_laws::Edge;

@@ -18,8 +18,8 @@ judge-requires-clause-pieces g c κs within =
     of_log c.args.log.now (map view c.args.sessions.items) (map view c.deref-3.result.now) c.in_ok-pieces.pieces c.requires.long
     (ap (map view) c.deref-3.ensures.value ∙ c.in_ok-sessions.ensures.resolved) c.in_ok-pieces.ensures.pieces
 
-pub told_of-requires-clause-pieces : goal.told_of-requires-clause-pieces
-told_of-requires-clause-pieces g c κs within =
+pub piece_reason-requires-clause-pieces : goal.piece_reason-requires-clause-pieces
+piece_reason-requires-clause-pieces g c κs within =
     of_log c.args.log.now (map view c.args.sessions.items) (map view c.deref-3.result.now) c.in_ok-pieces.pieces c.requires.long
     (ap (map view) c.deref-3.ensures.value ∙ c.in_ok-sessions.ensures.resolved) c.in_ok-pieces.ensures.pieces
 

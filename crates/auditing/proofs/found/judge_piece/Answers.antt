@@ -1,7 +1,7 @@
 use Rattle.std.proofs.Common.{map, subst, sym}
 use Rattle.session_log.specs.Text.{view}
 use Rattle.piece_laws.specs.Logs.{IsLog}
-use Rattle.branch_search.proofs.Lists.{there}
+use Rattle.cube_laws.proofs.Lists.{there}
 use Rattle.auditing.proofs.Joining.{found_of_piece}
 use Rattle.auditing.proofs.Verdicts.{log_at}
 use Rattle.auditing.proofs.found.judge_piece.Goals as goal

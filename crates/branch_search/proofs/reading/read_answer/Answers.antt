@@ -2,7 +2,7 @@ use Rattle.std.proofs.Common.{◌∙◌, sym, subst}
 use Rattle.desk.specs.History.{IsLegal}
 use Rattle.cube_laws.specs.State.{opening_state}
 use Rattle.cube_laws.specs.Steps.{next_of, reply_of}
-use Rattle.branch_search.proofs.Lists.{some_is}
+use Rattle.cube_laws.proofs.Lists.{some_is}
 use Rattle.branch_search.proofs.Ends.{spent_at}
 use Rattle.branch_search.proofs.reading.read_answer.Goals as goal
 

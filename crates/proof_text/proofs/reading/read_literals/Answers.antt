@@ -1,12 +1,8 @@
 use Rattle.proof_text.specs.Numbers.{number_of, numbers_of, literal_of}
-use Rattle.proof_text.proofs.UpToZero.{at_end, at_bad}
+use Rattle.proof_text.proofs.UpToZero.{at_bad}
 use Rattle.proof_text.proofs.reading.read_literals.Goals as goal
 
 pub returns-in_default-literal_of : goal.returns-in_default-literal_of
 returns-in_default-literal_of c =
     at_bad number_of (literal_of c.args.variables) (numbers_of c.args.words.now) c.loop-number.literals.items c.loop-number.words c.next_number.new.self c.loop-number.invariant
     c.in-Some.number c.in-Some.ensures.number c.in-Some.ensures.rest c.if-number-eq0.false (cc)
-
-pub returns-in_default : goal.returns-in_default
-returns-in_default c =
-    at_end number_of (literal_of c.args.variables) (numbers_of c.args.words.now) c.loop-number.literals.items c.loop-number.words c.next_number.new.self c.loop-number.invariant (cc)

@@ -1,12 +1,8 @@
-use Rattle.std.proofs.Common.{sym, ap}
+use Rattle.std.proofs.Common.{ap}
 use Rattle.std.proofs.lemmas.List.{take_rest}
 use Rattle.proof_text.specs.Words.{stated}
-use Rattle.proof_text.specs.Forms.{first_line}
 use Rattle.proof_text.proofs.Cutting.{lines_at}
 use Rattle.proof_text.proofs.words.cut_line.Goals as goal
-
-pub returns-in-Some-clause-first : goal.returns-in-Some-clause-first
-returns-in-Some-clause-first c = sym (ap first_line (lines_at c.args.text.now c.in-Some.end c.in-Some.ensures))
 
 pub returns-in-Some-clause-lines : goal.returns-in-Some-clause-lines
 returns-in-Some-clause-lines c = λ n. rw take_rest (ap (stated n) (lines_at c.args.text.now c.in-Some.end c.in-Some.ensures))

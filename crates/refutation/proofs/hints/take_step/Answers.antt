@@ -1,7 +1,7 @@
-use Rattle.std.proofs.Common.{◌≡◌, refl, ◌+◌, ◌∷◌, ◌∙◌, sym, ap, get_or, drop, length, add-one}
+use Rattle.std.proofs.Common.{◌≡◌, ◌+◌, ◌∷◌, ◌∙◌, sym, ap, get_or, drop, length, add-one}
 use Rattle.std.proofs.Math.Seq.{drop-cons}
 use Rattle.refutation.specs.Hinted.{hinted}
-use Rattle.refutation.proofs.Units.{hinted_nothing, length_assumed}
+use Rattle.refutation.proofs.Units.{hinted_nothing}
 use Rattle.refutation.proofs.hints.take_step.Goals as goal
 
 pub returns-in-Nothing-clause-exactly : goal.returns-in-Nothing-clause-exactly
@@ -12,11 +12,3 @@ returns-in-Nothing-clause-exactly c =
     let shown = rw c.in-Nothing.is at c.in_ok-show.ensures.shown in
     sym (hinted_nothing hint rest c.loop-hint.checker.clauses c.loop-hint.checker.known shown.left)
     ∙ (ap (λ hs. hinted hs c.loop-hint.checker.clauses c.loop-hint.checker.known) (sym next) ∙ c.loop-hint.invariant.rest)
-
-pub loop-hint-init : goal.loop-hint-init
-loop-hint-init c = record {
-  clauses = c.begin.ensures.clauses;
-  step = c.in_ok-begin.ensures.step;
-  known = length_assumed c.args.step.now (length c.args.checker.now.known) c.begin.new.self.known c.in_ok-begin.ensures.known;
-  rest = rw (c.in_ok-begin.ensures.known, c.begin.ensures.clauses) refl;
-}

@@ -1,6 +1,6 @@
 use Rattle.std.proofs.Common.{ap, ◌∙◌}
 use Rattle.std.proofs.lemmas.Result.{IfOk-weaker}
-use Rattle.tell_runs.specs.Runs.{joined_items}
+use Rattle.tell_decision.specs.Runs.{joined_items}
 use Rattle.tell_decision.proofs.Premises.{round_told}
 use Rattle.tell_decision.proofs.cycles.cycle_items.Goals as goal
 

@@ -1,8 +1,8 @@
 use Rattle.std.proofs.Common.{sym, ap, ◌∙◌, subst}
 use Rattle.std.proofs.lemmas.Result.{IfOk-weaker}
 use Rattle.tell_steps.specs.Steps.{IsDeadTold}
-use Rattle.tell_runs.specs.Runs.{joined_items}
-use Rattle.tell_runs.proofs.Told.{dead_joined}
+use Rattle.tell_decision.specs.Runs.{joined_items}
+use Rattle.tell_decision.proofs.RunsTold.{dead_joined}
 use Rattle.tell_decision.proofs.steps.dead_items.Goals as goal
 
 pub returns : goal.returns

@@ -2,8 +2,8 @@ use Rattle.std.proofs.Common.{sym, ap, ◌∙◌, subst}
 use Rattle.std.proofs.lemmas.Result.{IfOk-weaker}
 use Rattle.tell_trees.specs.Trees.{IsTreeTold}
 use Rattle.tell_trees.specs.Visits.{leaf_count}
-use Rattle.tell_runs.specs.Runs.{joined_items}
-use Rattle.tell_runs.proofs.Told.{tree_joined}
+use Rattle.tell_decision.specs.Runs.{joined_items}
+use Rattle.tell_decision.proofs.RunsTold.{tree_joined}
 use Rattle.tell_decision.proofs.steps.tree_items.Goals as goal
 
 pub returns : goal.returns

@@ -14,7 +14,7 @@ returns-in-Some-clause-found c =
     let h : i < length s.txns.items = omega (arith, size, c.loop-earlier-test.true) in
     let at : x ≡ get_or s.txns.items i x = cc (all, c.txn-item.is) in
     let e : Some c.in-Some.op ≡ position (is_write_as c.args.keys c.args.key.now c.args.wid) x.ops.items = cc (c.in-Some.ensures, c.deref.ensures.value) in
-    write_within c.args.first s c.args.keys c.args.key.now c.args.wid i c.loop-earlier.begin c.in-Some.op c.args.at x h at c.loop-earlier.invariant e
+    write_within c.args.first s c.args.keys c.args.key.now c.args.wid i c.loop-earlier.begin c.in-Some.op _ h at c.loop-earlier.invariant e
 
 pub txn_line_count-begin-requires : goal.txn_line_count-begin-requires
 txn_line_count-begin-requires c =

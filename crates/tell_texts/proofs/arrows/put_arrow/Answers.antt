@@ -1,16 +1,9 @@
 use Rattle.std.proofs.Common.{◌++◌, [], ◌∷◌, ap, ◌∙◌}
 use Rattle.std.specs.Prelude.{codes}
-use Rattle.reason_laws.proofs.Numbers.{within}
 use Rattle.tell_reasons.specs.Reasons.{named}
 use Rattle.tell_texts.specs.Graphs.{why_kind, why_colour}
 use Rattle.tell_texts.proofs.Pieces.{add_piece, add_named, arrow_parts}
 use Rattle.tell_texts.proofs.arrows.put_arrow.Goals as goal
-
-pub put_named-requires : goal.put_named-requires
-put_named-requires c = record { known = within c.args.log.now.history.now c.args.first c.requires.first }
-
-pub put_named-requires-2 : goal.put_named-requires-2
-put_named-requires-2 c = record { known = within c.args.log.now.history.now c.args.second c.requires.second }
 
 pub returns : goal.returns
 returns c =

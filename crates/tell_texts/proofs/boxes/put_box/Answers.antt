@@ -1,18 +1,11 @@
 use Rattle.std.proofs.Common.{◌++◌, [], ◌∷◌, length, ap, ◌∙◌}
 use Rattle.std.specs.Prelude.{codes}
 use Rattle.log_definitions.specs.Serial.{ops_of}
-use Rattle.reason_laws.proofs.Numbers.{within}
 use Rattle.tell_reasons.specs.Reasons.{named}
 use Rattle.tell_texts.specs.Graphs.{names, op_labels}
 use Rattle.tell_texts.proofs.Pieces.{add_piece, add_named, box_parts}
 use Rattle.tell_texts.proofs.Drawn.{labels_marked}
 use Rattle.tell_texts.proofs.boxes.put_box.Goals as goal
-
-pub put_named-requires : goal.put_named-requires
-put_named-requires c = record { known = within c.args.log.now.history.now c.args.node c.requires.node }
-
-pub put_named-requires-2 : goal.put_named-requires-2
-put_named-requires-2 c = record { known = within c.args.log.now.history.now c.args.node c.requires.node }
 
 pub returns : goal.returns
 returns c =

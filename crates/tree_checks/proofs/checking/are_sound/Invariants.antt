@@ -1,6 +1,6 @@
 use Rattle.std.proofs.Common.{◌≡◌, ℕ, ◌<◌, true, Some}
 use Rattle.std.specs.Prelude.{slice_get}
-use Rattle.branch_search.specs.declared.tree.TreeNode.{TreeNode}
+use Rattle.cube_laws.specs.declared.tree.TreeNode.{TreeNode}
 use Rattle.tree_checks.specs.Checks.{is_sound}
 use Rattle.tree_checks.proofs.checking.are_sound.Given as goal
 

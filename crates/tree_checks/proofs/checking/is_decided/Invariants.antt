@@ -1,6 +1,6 @@
 use Rattle.std.proofs.Common.{◌≡◌}
 use Rattle.cube_laws.specs.Cubes.{is_decided}
-use Rattle.branch_search.specs.Trees.{cube_of}
+use Rattle.cube_laws.specs.Trees.{cube_of}
 use Rattle.tree_checks.proofs.checking.is_decided.Given as goal
 
 abbrev pub invariant-loop-node : goal.invariant-loop-node

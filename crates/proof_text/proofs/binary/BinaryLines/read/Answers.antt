@@ -1,14 +1,9 @@
-use Rattle.std.proofs.Common.{◌+◌, ◌^◌, ◌<◌, ◌∷◌, length, Some, None, arith, sym, ap, ◌∙◌}
-use Rattle.std.proofs.lemmas.Bool.{eqb-true, eqb-false}
+use Rattle.std.proofs.Common.{◌+◌, ◌^◌, ◌<◌, length, None, arith, sym, ap, ◌∙◌}
+use Rattle.std.proofs.lemmas.Bool.{eqb-false}
 use Rattle.proof_text.specs.Binary.{binary_words, behind_line, binary_step}
-use Rattle.proof_text.specs.Steps.{drat_clause, steps_by}
-use Rattle.proof_text.proofs.Packing.{steps_at, steps_none, steps_first, behind_within}
+use Rattle.proof_text.specs.Steps.{steps_by}
+use Rattle.proof_text.proofs.Packing.{steps_at, steps_first, behind_within}
 use Rattle.proof_text.proofs.binary.BinaryLines.read.Goals as goal
-
-pub returns-then-is_empty : goal.returns-then-is_empty
-returns-then-is_empty c =
-    ap (steps_by (binary_step c.args.variables)) (sym c.self.view_is)
-    ∙ steps_none c.args.variables c.self.inside.number c.self.inside.rest.now (eqb-true (length c.self.inside.rest.now) 0 (sym c.is_empty.ensures ∙ c.if-is_empty.true))
 
 pub invariant_of-self : goal.invariant_of-self
 invariant_of-self c =
@@ -16,15 +11,6 @@ invariant_of-self c =
     let behind = rw c.in-Some.is at c.in_ok-action.ensures.rest in
     behind_within c.self.inside.rest.now c.of-words.result (binary_words c.bytes-self-inside.result.now) c.self.inside.number (2 ^ 63) some c.of-words.ensures
     (c.bytes-self-inside.ensures ∙ behind) c.self.invariant
-
-pub returns-in-Some : goal.returns-in-Some
-returns-in-Some c =
-    let some : 0 < length c.self.inside.rest.now = omega (arith, eqb-false (length c.self.inside.rest.now) 0 (sym c.is_empty.ensures ∙ c.if-is_empty.false)) in
-    let step = rw c.in-Some.is at c.in_ok-action.ensures.step in
-    let behind = rw c.in-Some.is at c.in_ok-action.ensures.rest in
-    ap (steps_by (binary_step c.args.variables)) (sym c.self.view_is)
-    ∙ (steps_first c.args.variables c.self.inside.number c.self.inside.rest.now c.of-words.result (Some (drat_clause c.in-Some.action c.read_step.new.literals.items)) some c.of-words.ensures step
-    ∙ ap (λ ws. (c.self.inside.number, Some (drat_clause c.in-Some.action c.read_step.new.literals.items)) ∷ steps_at c.args.variables (c.self.inside.number + 1) ws) (sym (c.bytes-self-inside.ensures ∙ behind)))
 
 pub returns-in-None : goal.returns-in-None
 returns-in-None c =

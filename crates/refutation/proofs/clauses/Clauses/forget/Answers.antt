@@ -1,6 +1,7 @@
 use Rattle.std.proofs.Common.{◌∙◌, ap, None, slice_set}
-use Rattle.refutation.proofs.Stores.{clauses_without}
+use Rattle.std.proofs.lemmas.List.{map-set}
+use Rattle.refutation.specs.Stored.{clause_in}
 use Rattle.refutation.proofs.clauses.Clauses.forget.Goals as goal
 
 pub returns-then-number-len : goal.returns-then-number-len
-returns-then-number-len c = clauses_without c.self.inside.literals.items c.self.inside.spans.items c.args.number ∙ ap (λ cs. slice_set cs c.args.number None) c.self.view_is
+returns-then-number-len c = map-set (clause_in c.self.inside.literals.items) c.self.inside.spans.items c.args.number None ∙ ap (λ cs. slice_set cs c.args.number None) c.self.view_is

@@ -1,7 +1,7 @@
-use Rattle.std.proofs.Common.{rules, ◌≡◌, ◌++◌, ◌∷◌, [], Some, length, ◌∙◌, ap}
+use Rattle.std.proofs.Common.{rules, ◌≡◌, ◌++◌, length, ◌∙◌, ap}
 use Rattle.std.specs.Vec.{vec_len}
 use Rattle.refutation.specs.Stored.{clauses_in, AreWithin}
-use Rattle.refutation.proofs.Stores.{clauses_before, clause_pushed, within_pushed, on_err}
+use Rattle.refutation.proofs.Stores.{clauses_before, within_pushed, on_err}
 use Rattle.refutation.proofs.clauses.Clauses.push.Goals as goal
 
 pub returns-in_err-push-clause-same : goal.returns-in_err-push-clause-same
@@ -19,13 +19,3 @@ invariant_of-self-2 c =
     let within : AreWithin (length c.extend_from_slice.new.self.items) c.push.new.self.items =
     rw (c.in_ok-extend_from_slice.ensures.items, c.in_ok-push.ensures.items) (within_pushed c.self.inside.literals.items c.args.clause.now c.self.inside.spans.items (record { start = c.len-start.result; end = c.len-end.result }) c.self.invariant start end) in
     within
-
-pub returns-clause-pushed : goal.returns-clause-pushed
-returns-clause-pushed c =
-    let start : c.len-start.result ≡ length c.self.inside.literals.items = search rules in
-    let end : c.len-end.result ≡ length (c.self.inside.literals.items ++ c.args.clause.now) =
-    let whole : vec_len c.extend_from_slice.new.self ≡ length c.extend_from_slice.new.self.items = search rules in
-    c.len-end.ensures ∙ (whole ∙ ap length c.in_ok-extend_from_slice.ensures.items) in
-    let all : clauses_in c.extend_from_slice.new.self.items c.push.new.self.items ≡ clauses_in c.self.inside.literals.items c.self.inside.spans.items ++ Some c.args.clause.now ∷ [] =
-    rw (c.in_ok-extend_from_slice.ensures.items, c.in_ok-push.ensures.items) (clause_pushed c.self.inside.literals.items c.args.clause.now c.self.inside.spans.items (record { start = c.len-start.result; end = c.len-end.result }) c.self.invariant start end) in
-    all ∙ ap (λ cs. cs ++ Some c.args.clause.now ∷ []) c.self.view_is

@@ -1,0 +1,59 @@
+use Rattle.std.proofs.Common.{◌≡◌, ◌+◌, ◌-◌, ◌++◌, length, sym, refl, ap, ◌∙◌, arith, length-append}
+use Rattle.std.proofs.lemmas.Bool.{eqb-true}
+use Rattle.session_log.specs.Lines.{lines, bytes_of}
+use Rattle.session_log.specs.Blocks.{blocks_of}
+use Rattle.session_log.specs.Version.{header_text, first_line, version_of, body_of}
+use Rattle.session_log.proofs.Versions.{header_and_body, header_room}
+use Rattle.session_log.proofs.Cutting.{blocks_from, start_blocks, block_ends, block_goes_on, blocks_end, len_split}
+use Rattle.long_reading.proofs.blocks.cut_body.Goals as goal
+use Rattle.long_reading.proofs.blocks.cut_body.Goals.{then-starts_session+in_ok-push, else-starts_session}
+
+pub overflow_sub-at : goal.overflow_sub-at
+overflow_sub-at c =
+    let log = ap length (header_and_body c.args.log.now) ∙ length-append (header_text (version_of c.args.log.now)) (body_of c.args.log.now) in
+    let whole = ap length c.requires.body in
+    omega (arith, log, whole, c.next_line.ensures.shorter)
+
+pub loop-rest-init : goal.loop-rest-init
+loop-rest-init c =
+    let body = c.next_line.result.0.now in
+    let ended = c.next_line.result.1 in
+    let rest = c.next_line.result.2.now in
+    let v = c.args.version in
+    let is = c.next_line.ensures.line in
+    let log = ap length (header_and_body c.args.log.now) ∙ length-append (header_text (version_of c.args.log.now)) (body_of c.args.log.now) in
+    let header : length c.header-start.result.now ≡ length (header_text (version_of c.args.log.now)) = ap length (c.header-start.ensures ∙ ap header_text c.requires.version) in
+    let first : c.first_line-line.result ≡ first_line (version_of c.args.log.now) = c.first_line-line.ensures ∙ ap first_line c.requires.version in
+    let whole = ap length c.requires.body in
+    let len = len_split c.args.body.now (bytes_of (body, ended)) rest c.next_line.ensures.text in
+    let at : length c.args.log.now - length rest ≡ length c.header-start.result.now + length (bytes_of (body, ended)) = omega (arith, log, header, whole, len) in
+    let room = header_room (version_of c.args.log.now) in
+    record {
+      done = ap (λ o. o ++ blocks_from v (length c.header-start.result.now) c.first_line-line.result (length c.args.log.now - length rest) (c.first_line-line.result + 1) (lines rest)) c.new-found.ensures.items ∙ start_blocks v c.args.log.now (body, ended) (lines rest) (length c.header-start.result.now) c.first_line-line.result (length c.args.log.now - length rest) (c.first_line-line.result + 1) c.requires.version (ap lines (sym c.requires.body) ∙ is) header first at refl;
+      place = omega (arith, log, whole, len);
+      room = omega (arith, at, header, first, room, len, c.next_line.ensures.shorter);
+    }
+
+pub loop-rest-preserved : goal.loop-rest-preserved
+loop-rest-preserved c =
+    let body = c.next_line-in-loop-rest.result.0.now in
+    let ended = c.next_line-in-loop-rest.result.1 in
+    let rest = c.next_line-in-loop-rest.result.2.now in
+    let is = c.next_line-in-loop-rest.ensures.line in
+    let len = len_split c.loop-rest.rest.now (bytes_of (body, ended)) rest c.next_line-in-loop-rest.ensures.text in
+    let moved : length c.args.log.now - length rest ≡ c.loop-rest.at + length (bytes_of (body, ended)) = omega (arith, len, c.loop-rest.invariant.place) in
+    record {
+      done = elim c.if-starts_session.branch [
+        | then-starts_session+in_ok-push w ↦
+            let yes = sym c.starts_session.ensures ∙ w.if-starts_session.true in
+            rw (w.start-is, w.line-is) (block_ends c.args.version c.loop-rest.start c.loop-rest.line c.loop-rest.at c.loop-rest.n (body, ended) (lines rest) (lines c.loop-rest.rest.now) c.loop-rest.found.items c.if-starts_session.found.items (blocks_of c.args.log.now) (length c.args.log.now - length rest) (c.loop-rest.n + 1) c.loop-rest.invariant.done is yes (rw w.found-is w.in_ok-push.ensures.items) moved refl)
+        | else-starts_session w ↦
+            let no = sym c.starts_session.ensures ∙ w.if-starts_session.false in
+            rw (w.start-is, w.line-is, w.found-is) (block_goes_on c.args.version c.loop-rest.start c.loop-rest.line c.loop-rest.at c.loop-rest.n (body, ended) (lines rest) (lines c.loop-rest.rest.now) c.loop-rest.found.items (blocks_of c.args.log.now) (length c.args.log.now - length rest) (c.loop-rest.n + 1) c.loop-rest.invariant.done is no moved refl)
+      ];
+      place = omega (arith, len, c.loop-rest.invariant.place);
+      room = omega (arith, len, c.loop-rest.invariant.place, c.loop-rest.invariant.room, c.next_line-in-loop-rest.ensures.shorter);
+    }
+
+pub returns : goal.returns
+returns c = c.in_ok-push-2.ensures.items ∙ blocks_end c.args.version c.loop-rest.start c.loop-rest.line c.loop-rest.at c.loop-rest.n c.loop-rest.rest.now c.loop-rest.found.items (blocks_of c.args.log.now) c.loop-rest.invariant.done (sym (eqb-true (length c.loop-rest.rest.now) 0 (sym c.is_empty.ensures ∙ c.loop-rest-test.false)))

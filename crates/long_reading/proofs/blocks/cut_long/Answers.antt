@@ -1,0 +1,15 @@
+use Rattle.std.proofs.Common.{length, sym, ◌∙◌}
+use Rattle.std.proofs.lemmas.Bool.{eqb-true}
+use Rattle.session_log.proofs.Versions.{header_fits, body_behind}
+use Rattle.session_log.proofs.Cutting.{no_blocks}
+use Rattle.long_reading.proofs.blocks.cut_long.Goals as goal
+
+pub split_at-requires : goal.split_at-requires
+split_at-requires c = header_fits c.args.log.now c.header.result.now c.of-version.result c.of-version.ensures c.header.ensures
+
+pub cut_body-requires-clause-body : goal.cut_body-requires-clause-body
+cut_body-requires-clause-body c = c.split_at.ensures.back ∙ body_behind c.args.log.now c.header.result.now c.of-version.result c.of-version.ensures c.header.ensures
+
+pub returns-then-is_empty-clause-blocks : goal.returns-then-is_empty-clause-blocks
+returns-then-is_empty-clause-blocks c =
+    c.new.ensures.items ∙ no_blocks c.args.log.now c.split_at.result.1.now (sym (eqb-true (length c.split_at.result.1.now) 0 (sym c.is_empty.ensures ∙ c.if-is_empty.true))) (c.split_at.ensures.back ∙ body_behind c.args.log.now c.header.result.now c.of-version.result c.of-version.ensures c.header.ensures)

@@ -1,3 +1,0 @@
-pub mod Backs
-pub mod Lines
-pub mod Told
