@@ -109,7 +109,7 @@ fn spans(alloc: Global, lines: &Lines, parts: &[Part]) -> Result<String, AllocEr
     let mut out = String::new(alloc);
     let mut separator = "";
     for part in parts {
-        let span = lines.span_of(part);
+        let span = lines.span_of(part)?;
         let (session, first, last) = (span.session, span.first, span.last);
         let (begin, end) = (span.begin, span.end);
         write!(

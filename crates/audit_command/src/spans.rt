@@ -1,20 +1,12 @@
 //! Where transactions lie in a log.
 
 use cutting::Part;
-use session_log::{Session, Txn, Version};
+use session_log::{Session, Version};
 use std::alloc::{AllocError, Global};
+use tell_pieces::{begin_line, place_of, session_lines};
 
 /// Of how many sessions it is told where the piece lies.
 const LISTED: usize = 20;
-
-/// How many lines transactions have.
-fn line_count(txns: &[Txn]) -> usize {
-    let mut count: usize = 0;
-    for txn in txns {
-        count = count.saturating_add(txn.ops.len()).saturating_add(2);
-    }
-    count
-}
 
 /// The lines of a log.
 #[derive(Drop)]
@@ -42,41 +34,33 @@ impl<'a> Lines<'a> {
         version: Version,
         sessions: &'a [Session],
     ) -> Result<Lines<'a>, AllocError> {
-        let mut begins = Vec::new(alloc);
-        let mut line = version.first_line();
-        for session in sessions {
-            begins.push(line)?;
-            line = line
-                .saturating_add(1)
-                .saturating_add(line_count(&session.txns));
-        }
+        let begins = session_lines(alloc, version, sessions)?;
         Ok(Lines { sessions, begins })
     }
 
-    /// The line at which a transaction begins before which so many stand in this session.
-    pub fn begin_of(&self, session: usize, before: usize) -> usize {
+    /// The line at which a transaction begins before which so many stand in this session, or that
+    /// behind the last of them.
+    pub fn begin_of(&self, session: usize, before: usize) -> Result<usize, AllocError> {
         let earlier = self
             .sessions
             .get(session)
             .and_then(|it| it.txns.get(..before))
-            .map_or(0, |earlier| line_count(earlier));
-        self.begins
-            .get(session)
-            .map_or(0, |begin| begin.saturating_add(1).saturating_add(earlier))
+            .unwrap_or(&[]);
+        begin_line(earlier, self.begins.get(session).copied().unwrap_or(0))
     }
 
     /// Where a part lies.
-    pub fn span_of(&self, part: &Part) -> Span {
-        let begin = self.begin_of(part.session, part.before);
-        Span {
+    pub fn span_of(&self, part: &Part) -> Result<Span, AllocError> {
+        let last = part.before.saturating_add(part.txns.len());
+        let begin = self.begin_of(part.session, part.before)?;
+        let behind = self.begin_of(part.session, last)?;
+        Ok(Span {
             session: part.number,
-            first: part.before.saturating_add(1),
-            last: part.before.saturating_add(part.txns.len()),
+            first: place_of(part, 0),
+            last,
             begin,
-            end: begin
-                .saturating_add(line_count(part.txns))
-                .saturating_sub(1),
-        }
+            end: behind.saturating_sub(1),
+        })
     }
 }
 
@@ -94,7 +78,7 @@ pub fn spans_text(alloc: Global, lines: &Lines, parts: &[Part]) -> Result<String
     let mut text = String::from_str(alloc, "transactions")?;
     for (i, part) in parts.iter().take(LISTED).enumerate() {
         text.push_str(if i > 0 { ", " } else { " " })?;
-        text.push_str(&span_text(alloc, lines.span_of(part))?)?;
+        text.push_str(&span_text(alloc, lines.span_of(part)?)?)?;
     }
     let more = parts.len().saturating_sub(LISTED);
     if more > 0 {

@@ -62,7 +62,7 @@ fn uncut_text(alloc: Global, lines: &Lines, parts: &[Part]) -> Result<String, Al
     for part in parts {
         if let Some(node) = open_node(part.txns) {
             let before = part.before.saturating_add(node);
-            let line = lines.begin_of(part.session, before);
+            let line = lines.begin_of(part.session, before)?;
             let session = part.number;
             let place = before.saturating_add(1);
             return format!(in alloc; "; {session}.{place} (line {line}) has no known end");
