@@ -1,2 +1,2 @@
-mod Changed
+pub mod Changed
 mod Counted
