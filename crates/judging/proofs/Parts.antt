@@ -1,0 +1,46 @@
+-- Parts of a log whose outcomes are known.
+use Rattle.std.proofs.Common.{◌≡◌, ◌≢◌, List, refl, sym, ◌∙◌}
+use Rattle.std.specs.List.{AllByRecursion}
+use Rattle.session_log.specs.Text.{ClientSession, Transaction, IsLegal}
+use Rattle.session_log.specs.declared.session.Outcome.TheVariants.{Unknown}
+use Rattle.log_definitions.specs.Unknown.{resolved}
+use Rattle.log_definitions.proofs.OnlyTaken.{some_where_serial}
+use Rattle.piece_laws.specs.Logs.{IsSoundLog, IsLog}
+use Rattle.part_laws.specs.Parts.{IsTxnPart, IsSessionPart, IsPart}
+use Rattle.part_laws.proofs.Thinned.{thinned_same, each_thinned}
+use Rattle.part_laws.proofs.Sessions.{txns_of_part}
+use Rattle.part_laws.proofs.Orders.{no_order_of_part}
+use Rattle.part_laws.proofs.Logs.{part_is_log}
+use Rattle.deciding.specs.Decides.{HasNoOrder}
+use Rattle.judging.proofs.Resolved.{serial_resolved, some_order, resolved_is_log}
+
+abbrev IsLearnt : Transaction → Type 0
+IsLearnt t = t.outcome ≢ Unknown
+
+pub part_log : (ss part : List ClientSession) → IsLog ss → IsPart ss part → IsLog part
+part_log ss part log h =
+    let is = part_is_log ss part log.legal log.sound h in
+    record {
+      legal = is.0;
+      sound = is.1;
+      learnt = each_thinned IsTxnPart IsLearnt IsLearnt (λ t u r k e. k (sym r.outcome ∙ e)) (txns_of_part h.sessions) log.learnt;
+    }
+
+same_txn : (t : Transaction) → IsTxnPart t t
+same_txn t = record { ops = thinned_same (λ o p. o ≡ p) (λ o. refl) t.ops; outcome = refl; begun = refl; ended = refl }
+
+same_session : (s : ClientSession) → IsSessionPart s s
+same_session s = record { number = refl; txns = thinned_same IsTxnPart same_txn s.txns }
+
+-- all of it is a part
+pub part_itself : (ss : List ClientSession) → IsPart ss ss
+part_itself ss = record { sessions = thinned_same IsSessionPart same_session ss; reads = λ key wid read wrote. wrote }
+
+-- a part of the resolved log that has no order leaves the log none
+pub none_of_part : (ss part : List ClientSession) → AllByRecursion IsLegal ss → IsSoundLog ss → IsPart (resolved ss) part → HasNoOrder part → HasNoOrder ss
+none_of_part ss part legal sound h un = record {
+  none = λ order s.
+      (let own = some_order ss order legal sound s in
+      let some = some_where_serial (resolved ss) (own.0, serial_resolved ss own.0 own.1) in
+      no_order_of_part (resolved ss) part (resolved_is_log ss legal sound).sound h un.none some.0 some.1);
+}

@@ -1,0 +1,8 @@
+use Rattle.std.proofs.Common.{◌≡◌, map}
+use Rattle.session_log.specs.Text.{view}
+use Rattle.judging.specs.Without.{session_without}
+use Rattle.judging.proofs.Changed.{changed}
+use Rattle.judging.proofs.moments.leave_out_of_each.Given as goal
+
+abbrev pub invariant-loop-session : goal.invariant-loop-session
+invariant-loop-session l = map view l.sessions ≡ changed session_without l.session-index (map view l.initial.sessions)

@@ -1,0 +1,97 @@
+-- What is said of a log of any length.
+use Rattle.std.specs.Prelude.{◌≡◌, ◌≢◌, ℕ, List, map, Some, None}
+use Rattle.session_log.specs.Text.{ClientSession, view}
+use Rattle.serializability.specs.Anomalies.{anomaly_of}
+use Rattle.log_definitions.specs.Unknown.{resolved}
+use Rattle.log_definitions.specs.Serial.{IsSerialOrder}
+use Rattle.log_definitions.specs.Numbers.{log_of}
+use Rattle.piece_laws.specs.Logs.{HasOrder}
+use Rattle.part_laws.specs.Parts.{IsPart}
+use Rattle.polygraph.specs.declared.fault.PolyFault.TheVariants as poly_fault
+use Rattle.prune_ledger.specs.declared.ledger.Ledger.{Ledger}
+use Rattle.prune_ledger.specs.Pruned.{Remainder}
+use Rattle.cube_laws.specs.declared.tree.TreeNode.{TreeNode}
+use Rattle.reduction.specs.Outcome.{IsDeadHistory, IsReduceFault}
+use Rattle.branch_search.specs.declared.answer.Answer.TheVariants.{Unknown}
+use Rattle.deciding.specs.Decides.{HasNoOrder, IsSearched, IsCycleOf, IsRefutedBy}
+use Rattle.judging.specs.Limits.{IsOver}
+use Rattle.judging.specs.declared.judged.Finding.{Finding}
+use Rattle.judging.specs.declared.judged.Finding.TheVariants.{Anomaly, Cycle, Dead, Refuted}
+use Rattle.judging.specs.declared.judged.Why.{Why}
+use Rattle.judging.specs.declared.judged.Why.TheVariants.{Spent, TooLarge, TooManyChoices}
+use Rattle.judging.specs.declared.judged.Why.TheVariants.{NotBegun}
+use Rattle.judging.specs.declared.means.JudgeMeans.{JudgeMeans}
+use Rattle.judging.specs.declared.judged.Tried.{Tried}
+use Rattle.judging.specs.declared.judged.Tried.TheVariants.{Nothing, NotSerial}
+use Rattle.judging.specs.declared.judged.Tried.TheVariants.{PartSerial, PartOpen}
+use Rattle.judging.specs.declared.judged.Verdict.{Verdict}
+use Rattle.judging.specs.declared.judged.Verdict.TheVariants.{Serializable}
+use Rattle.judging.specs.declared.judged.Verdict.TheVariants.{NotSerializable, Undecided}
+
+-- ---- a log that is judged by itself
+
+-- what stands against a log: the anomaly that is reported; a cycle of what is known; a ledger of
+-- pruning, which ends in a cycle; or a tree that refutes every cube
+abbrev pub Finds : List ClientSession → Finding → Type 0
+Finds ss (Anomaly a) = anomaly_of (log_of ss) ≡ Some a
+Finds ss Cycle = (line : List ℕ) × IsCycleOf ss line
+Finds ss Dead = (ledger : Ledger) × IsDeadHistory ss ledger
+Finds ss Refuted = (budget : ℕ) × (left : Remainder) × (tree : List TreeNode)
+    × IsRefutedBy budget ss left tree
+
+-- no order of the log's committed and of any unknown transactions explains it, and why
+pub record IsRefutedLog (ss : List ClientSession) (finding : Finding) : Type 0 where
+  pub none : HasNoOrder ss
+  pub found : Finds ss finding
+
+-- why a log is not decided: its search closed as many cubes as it may, and found nothing; it has
+-- too many of something; its chains have too many choices; or a time was set, of which no more is
+-- said
+abbrev pub IsUndecidedBy : JudgeMeans → List ClientSession → Why → Type 0
+IsUndecidedBy m ss (Spent closed) = (closed ≡ m.deciding.budget)
+    × IsSearched m.deciding.budget ss (Unknown closed)
+IsUndecidedBy m ss (TooLarge which) = IsOver ss which
+IsUndecidedBy m ss TooManyChoices = IsReduceFault ss poly_fault.TooManyChoices
+IsUndecidedBy m ss NotBegun = m.deadline ≢ None
+
+-- ---- the whole
+
+-- it is a part of the log, whose unknown outcomes are resolved; it has no order, and why
+pub record IsRefutedPart (ss part : List ClientSession) (finding : Finding) : Type 0 where
+  pub is_part : IsPart (resolved ss) part
+  pub refuted : IsRefutedLog part finding
+
+-- a part of the log that has an order, or that is not decided, and why
+pub record IsSerialPart (ss part : List ClientSession) : Type 0 where
+  pub is_part : IsPart (resolved ss) part
+  pub order : HasOrder part
+
+pub record IsOpenPart (m : JudgeMeans) (ss part : List ClientSession) (why : Why) : Type 0 where
+  pub is_part : IsPart (resolved ss) part
+  pub undecided : IsUndecidedBy m part why
+
+-- what became of what was proposed
+abbrev pub IsTried : JudgeMeans → List ClientSession → Tried → Type 0
+IsTried m ss Nothing = Unit {0}
+IsTried m ss NotSerial = Unit {0}
+IsTried m ss PartSerial = (part : List ClientSession) × IsSerialPart ss part
+IsTried m ss (PartOpen why) = (part : List ClientSession) × IsOpenPart m ss part why
+
+-- That this is a serial order of the log, of the committed and of the taken transactions; that no
+-- order of the committed and of any unknown ones explains it, since this part of it has none; or
+-- that it is not decided: then the log itself was searched in vain, or is too large to be.
+abbrev pub IsVerdict : JudgeMeans → List ClientSession → Verdict → Type 0
+IsVerdict m ss (Serializable order) = IsSerialOrder ss order.items
+IsVerdict m ss (NotSerializable told) = HasNoOrder ss
+    × IsRefutedPart ss (map view told.part.items) told.finding
+IsVerdict m ss (Undecided why tried) = IsUndecidedBy m ss why × IsTried m ss tried
+
+-- ---- a log that `check` takes
+
+-- why it is not decided: its search closed as many cubes as it may, and found nothing; or its chains
+-- have too many choices
+abbrev pub IsInVain : JudgeMeans → List ClientSession → Why → Type 0
+IsInVain m ss (Spent closed) = (closed ≡ m.deciding.budget)
+    × IsSearched m.deciding.budget ss (Unknown closed)
+IsInVain m ss TooManyChoices = IsReduceFault ss poly_fault.TooManyChoices
+IsInVain m ss _ = ⊥

@@ -1,0 +1,101 @@
+//! What is found of a log that is judged by itself.
+
+ghost use Rattle.std.specs.Prelude.{◌≡◌, List, IfOk, map};
+ghost use Rattle.session_log.specs.Text.{ClientSession, view};
+ghost use Rattle.session_log.specs.declared.fault.LogFault.TheVariants.{OverLimit};
+ghost use Rattle.piece_laws.specs.Logs.{IsLog};
+ghost use Rattle.deciding.specs.Decides.{Decides};
+ghost use Rattle.judging.specs.Finds.{IsFound, IsLimitOrMemory};
+ghost use Rattle.judging.specs.declared.means.JudgeMeans.{JudgeMeans};
+
+use crate::copies::copy_log;
+use crate::judged::{Finding, Why};
+use crate::limits::size_limit;
+use crate::means::JudgeMeans;
+use deciding::{Decision, decide};
+use desk::gate::OpenGate;
+use polygraph::PolyFault;
+use session_history::{History, NodeLine};
+use session_log::{Limit, LogFault, Session, Version};
+use std::alloc::{AllocError, Global};
+use std::sync::Wait;
+use std::thread::Threads;
+use std::time::Clock;
+
+/// What is found of a log.
+#[derive(Drop)]
+pub enum Found {
+    /// It has this serial order.
+    Serial(NodeLine),
+    /// It has none.
+    Refuted(Finding),
+    /// It is not decided.
+    Undecided(Why),
+}
+
+/// What a decision says of a log.
+fn found_by(decision: Decision) -> Found
+    ensures { (m : JudgeMeans) (ss : List ClientSession) → Decides m.deciding.budget ss decision
+        → IsFound m ss result }
+{
+    match decision {
+        Decision::Serial(order) => Found::Serial(order),
+        Decision::Anomalous(anomaly) => Found::Refuted(Finding::Anomaly(anomaly)),
+        Decision::Cyclic(_) => Found::Refuted(Finding::Cycle),
+        Decision::Dead(_) => Found::Refuted(Finding::Dead),
+        Decision::Refuted { .. } => Found::Refuted(Finding::Refuted),
+        Decision::Spent { closed } => Found::Undecided(Why::Spent { closed }),
+    }
+}
+
+/// What is decided of a history.
+fn found_of<R: Threads + Wait + Clock + Sync>(
+    rt: &R,
+    alloc: Global,
+    history: &History,
+    means: &JudgeMeans,
+) -> Result<Found, AllocError>
+    ensures { IfOk result (IsFound means.now history.now) }
+{
+    match decide(rt, alloc, history, &means.deciding, &OpenGate) {
+        Ok(decision) => Ok(found_by(decision)),
+        Err(PolyFault::TooManyChoices) => Ok(Found::Undecided(Why::TooManyChoices)),
+        Err(PolyFault::Memory) => Err(AllocError),
+    }
+}
+
+/// The limit that a log passes that has this fault, or that memory was refused.
+fn passed_limit(fault: LogFault) -> Result<Limit, AllocError>
+    requires { IsLimitOrMemory fault }
+    ensures { IfOk result (λ which. fault ≡ OverLimit which) }
+{
+    match fault {
+        LogFault::OverLimit { which } => Ok(which),
+        LogFault::Memory => Err(AllocError),
+        _ => unreachable!(),
+    }
+}
+
+/// What is found of a log that can be judged by itself.
+pub fn judge_log<R: Threads + Wait + Clock + Sync>(
+    rt: &R,
+    alloc: Global,
+    log: &[Session],
+    means: &JudgeMeans,
+) -> Result<Found, AllocError>
+    requires log { IsLog (map view log.now) }
+    ensures { IfOk result (IsFound means.now (map view log.now)) }
+{
+    if means.is_over(rt) {
+        return Ok(Found::Undecided(Why::NotBegun));
+    }
+    if let Some(which) = size_limit(alloc, log)? {
+        return Ok(Found::Undecided(Why::TooLarge { which }));
+    }
+    match History::build(alloc, Version::One, copy_log(alloc, log)?) {
+        Ok(history) => found_of(rt, alloc, &history, means),
+        Err(fault) => Ok(Found::Undecided(Why::TooLarge {
+            which: passed_limit(fault)?,
+        })),
+    }
+}
