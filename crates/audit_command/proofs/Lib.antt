@@ -1,2 +1,2 @@
-pub mod Audits
-pub mod Largest
+mod Counting
+mod Appended

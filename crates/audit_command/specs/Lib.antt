@@ -1,2 +1,5 @@
+pub mod Counts
+pub mod Words
+pub mod Places
 pub mod Report
-pub mod Audited
+pub mod Objects

@@ -1,67 +1,129 @@
--- The texts of `audit`, as far as they are promised.
-use Rattle.std.specs.Prelude.{◌≡◌, ℕ, ◌+◌, ◌<◌, Bool, true, false, List, [], ◌∷◌, ◌++◌, codes}
-use Rattle.std.specs.Prelude.{decimal}
-use Rattle.serializability.specs.declared.anomaly.Anomaly.{Anomaly}
-use Rattle.serializability.specs.declared.anomaly.Anomaly.TheVariants as anomaly
-use Rattle.serializability.specs.declared.anomaly.ReadAnomaly.{ReadAnomaly}
-use Rattle.serializability.specs.declared.anomaly.ReadAnomaly.TheVariants as read
-use Rattle.cobra_answers.specs.Verdicts.{read_title}
-use Rattle.cobra_answers.specs.declared.status.Status.{Status}
-use Rattle.cobra_answers.specs.declared.status.Status.TheVariants as status
-use Rattle.auditing.specs.declared.judged.Finding.{Finding}
-use Rattle.auditing.specs.declared.judged.Finding.TheVariants as finding
-use Rattle.auditing.specs.declared.verdict.Verdict.{Verdict}
-use Rattle.auditing.specs.declared.verdict.Verdict.TheVariants as verdict
-use Rattle.call_options.specs.declared.report_form.ReportForm.{ReportForm}
-use Rattle.call_options.specs.declared.report_form.ReportForm.TheVariants.{Text, Json}
-use Rattle.audit_command.specs.declared.totals.Totals.{Totals}
+-- The report as text.
+use Rattle.std.specs.Prelude.{ℕ, ◌==◌, nat_lt, Bool, true, false, if◌then◌else◌, List, [], ◌∷◌, ◌++◌}
+use Rattle.std.specs.Prelude.{length, codes, decimal, count_by, Option, Some, None}
+use Rattle.std.specs.List.{flat_map}
+use Rattle.std.specs.String.{string_bytes}
+use Rattle.std.specs.Prelude.{String}
+use Rattle.std.specs.declared.alloc.Global.{Global}
+use Rattle.audit_command.specs.Words.{code_number, finding_title, word_text}
+use Rattle.audit_command.specs.declared.told.ToldTxn.{ToldTxn}
+use Rattle.audit_command.specs.declared.told.ToldPart.{ToldPart}
+use Rattle.audit_command.specs.declared.told.Word.{Word}
+use Rattle.audit_command.specs.declared.told.Answer.{Answer}
+use Rattle.audit_command.specs.declared.told.Answer.TheVariants as answer
+use Rattle.audit_command.specs.declared.told.Totals.{Totals}
+use Rattle.audit_command.specs.declared.told.Told.{Told}
 
--- how a command ends that tells a verdict
-abbrev pub status_of : Verdict → Status
-status_of verdict.Serializable = status.Done
-status_of (verdict.NotSerializable r) = status.NotSerializable
-status_of (verdict.TooFew committed asked) = status.Unknown
-status_of (verdict.Undecided n) = status.Unknown
+-- a number behind a text
+unfoldable pub field : List ℕ → ℕ → List ℕ
+field text n = text ++ decimal n
 
-abbrev pub verdict_word : Verdict → List ℕ
-verdict_word verdict.Serializable = codes "serializable"
-verdict_word (verdict.NotSerializable r) = codes "not serializable"
-verdict_word (verdict.TooFew committed asked) = codes "unknown"
-verdict_word (verdict.Undecided n) = codes "unknown"
+-- a line
+abbrev pub line_of : String Global → List ℕ
+line_of text = string_bytes text ++ 10 ∷ []
 
--- the first line, with its LF, of a log that has so many pieces
-abbrev pub first_line : ℕ → Verdict → List ℕ
-first_line all verdict.Serializable = codes "serializable\n"
-first_line all (verdict.NotSerializable r) = codes "not serializable\n"
-first_line all (verdict.TooFew committed asked) = codes "unknown: " ++ decimal committed
-    ++ codes " committed, " ++ decimal asked ++ codes " asked for\n"
-first_line all (verdict.Undecided n) = codes "unknown: " ++ decimal n ++ codes " of " ++ decimal all
-    ++ codes " pieces not decided\n"
-
--- the code of a finding and its name, or its name alone
-abbrev pub anomaly_title : Anomaly → List ℕ
-anomaly_title (anomaly.Read kind v op) = read_title kind
-anomaly_title (anomaly.LostUpdate x u a b) = codes "A7 lost update"
-
-abbrev pub finding_title : Finding → List ℕ
-finding_title (finding.Anomaly a) = anomaly_title a
-finding_title finding.Cycle = codes "A8 cycle of known edges"
-finding_title finding.Dead = codes "A9 pruning ends in a cycle"
-finding_title finding.Refuted = codes "every cube is refuted"
-
--- the line behind the first, where a piece is refuted: which of how many, from 1, and what was
--- found of it
-abbrev pub piece_line : ℕ → Verdict → List ℕ
-piece_line all (verdict.NotSerializable r) = codes "piece " ++ decimal
-    (r.piece + 1) ++ codes " of " ++ decimal all ++ codes ": " ++ finding_title r.finding ++ 10 ∷ []
-piece_line all _ = []
+abbrev pub lines_of : List (String Global) → List ℕ
+lines_of texts = flat_map line_of texts
 
 -- a word, a space and a number, as a line
 abbrev pub count_line : List ℕ → ℕ → List ℕ
-count_line word n = word ++ 32 ∷ decimal n ++ 10 ∷ []
+count_line word n = word ++ field (codes " ") n ++ 10 ∷ []
 
-abbrev pub counts_text : Totals → List ℕ
-counts_text t =
+-- how many committed transactions there are, and how many must be
+unfoldable pub too_few : ℕ → ℕ → List ℕ
+too_few committed asked = field [] committed ++ field (codes " committed, ") asked
+    ++ codes " asked for"
+
+abbrev pub first_line : Answer → List ℕ
+first_line answer.Serializable = codes "serializable\n"
+first_line (answer.NotSerializable parts) = codes "not serializable\n"
+first_line (answer.TooFew committed asked) = codes "unknown: " ++ too_few committed asked ++ 10 ∷ []
+first_line (answer.Undecided reason advice) = codes "unknown: " ++ line_of reason
+
+-- ---- a part without an order
+
+-- the name of a transaction: its session, a dot, and its place
+abbrev pub name_of : ToldTxn → List ℕ
+name_of t = field [] t.session ++ field (codes ".") t.place
+
+-- its name and its lines
+abbrev pub txn_text : ToldTxn → List ℕ
+txn_text t = name_of t ++ field (codes " (lines ") t.first ++ field (codes " to ") t.last
+    ++ codes ")"
+
+-- texts with a comma and a space between them
+abbrev pub behind_comma : List ToldTxn → List ℕ
+behind_comma [] = []
+behind_comma (t ∷ ts) = codes ", " ++ txn_text t ++ behind_comma ts
+
+abbrev pub txns_text : List ToldTxn → List ℕ
+txns_text [] = []
+txns_text (t ∷ ts) = txn_text t ++ behind_comma ts
+
+abbrev pub noun_of : ℕ → List ℕ
+noun_of n = if n == 1 then codes " transaction: " else codes " transactions: "
+
+-- how many transactions it has, and what was found of it
+abbrev pub heading_of : ToldPart → List ℕ
+heading_of p = field (codes "part of ") (length p.txns.items) ++ noun_of (length p.txns.items)
+    ++ finding_title p.refuted.finding ++ 10 ∷ []
+
+-- which they are
+abbrev pub listed : List ToldTxn → List ℕ
+listed txns = codes "transactions " ++ txns_text txns ++ 10 ∷ []
+
+-- these, and why it has no order
+unfoldable pub part_text : ToldPart → List ℕ
+part_text p = heading_of p ++ listed p.txns.items ++ lines_of p.why.items
+
+-- so many of the parts have the code of this number, or none
+abbrev pub code_count : List ToldPart → ℕ → ℕ
+code_count parts n = count_by (λ p. code_number p.refuted.finding == n) parts
+
+unfoldable pub code_line : List ToldPart → ℕ → List ℕ
+code_line parts n = if code_count parts n == 0 then [] else field (codes "A") n
+    ++ count_line [] (code_count parts n)
+
+unfoldable pub uncoded_line : List ToldPart → List ℕ
+uncoded_line parts = if code_count parts 0 == 0 then [] else count_line (codes "no code")
+    (code_count parts 0)
+
+-- a line for each code that a part has, and one for those without
+abbrev pub codes_text : List ToldPart → List ℕ
+codes_text parts = code_line parts 1 ++ code_line parts 2 ++ code_line parts 3 ++ code_line parts 4
+    ++ code_line parts 5 ++ code_line parts 6 ++ code_line parts 7 ++ code_line parts 8
+    ++ code_line parts 9 ++ uncoded_line parts
+
+abbrev pub parts_text : List ToldPart → List ℕ
+parts_text parts = flat_map part_text parts
+
+-- ---- the whole
+
+abbrev pub codes_where : ℕ → List ToldPart → List ℕ
+codes_where faults parts = if nat_lt 1 faults then codes_text parts else []
+
+-- the lines behind the first; those of codes where several parts were asked for
+unfoldable pub middle_text : ℕ → Answer → List ℕ
+middle_text faults (answer.NotSerializable parts) = parts_text parts.items
+    ++ codes_where faults parts.items
+middle_text faults (answer.Undecided reason advice) = lines_of advice.items
+middle_text faults _ = []
+
+unfoldable pub without_text : Option Word → List ℕ
+without_text None = []
+without_text (Some word) = codes "without moments " ++ word_text word ++ 10 ∷ []
+
+-- so many transactions has the first part that is told
+abbrev pub first_size : List ToldPart → ℕ
+first_size [] = 0
+first_size (p ∷ ps) = length p.txns.items
+
+abbrev pub part_size : Answer → ℕ
+part_size (answer.NotSerializable parts) = first_size parts.items
+part_size _ = 0
+
+unfoldable pub counts_text : Totals → ℕ → List ℕ
+counts_text t part =
     count_line (codes "sessions") t.counts.sessions
     ++ count_line (codes "committed") t.counts.committed
     ++ count_line (codes "aborted") t.counts.aborted
@@ -69,60 +131,13 @@ counts_text t =
     ++ count_line (codes "taken") t.taken
     ++ count_line (codes "keys") t.counts.keys
     ++ count_line (codes "operations") t.counts.operations
-    ++ count_line (codes "pieces") t.pieces
-    ++ count_line (codes "largest") t.largest
+    ++ count_line (codes "part") part
 
--- ---- JSON
+abbrev pub behind_first : ℕ → Told → List ℕ
+behind_first faults told = middle_text faults told.answer ++ without_text told.without_moments
+    ++ counts_text told.totals (part_size told.answer)
 
--- the code of a finding, or null
-abbrev pub read_code : ReadAnomaly → List ℕ
-read_code read.Unknown = codes "\"A1\""
-read_code read.Aborted = codes "\"A2\""
-read_code read.Intermediate = codes "\"A3\""
-read_code read.OwnWriteMissed = codes "\"A4\""
-read_code read.Future = codes "\"A5\""
-read_code read.Split = codes "\"A6\""
-
-abbrev pub anomaly_code : Anomaly → List ℕ
-anomaly_code (anomaly.Read kind v op) = read_code kind
-anomaly_code (anomaly.LostUpdate x u a b) = codes "\"A7\""
-
-abbrev pub finding_code : Finding → List ℕ
-finding_code (finding.Anomaly a) = anomaly_code a
-finding_code finding.Cycle = codes "\"A8\""
-finding_code finding.Dead = codes "\"A9\""
-finding_code finding.Refuted = codes "null"
-
--- the beginning of an object: the verdict, and behind it the code and the piece, null where there
--- is none
-abbrev pub object_front : Verdict → List ℕ
-object_front v = codes "{\"verdict\":\"" ++ verdict_word v ++ codes "\""
-
-abbrev pub object_finding : Verdict → List ℕ
-object_finding (verdict.NotSerializable r) = codes ",\"code\":" ++ finding_code r.finding
-    ++ codes ",\"piece\":" ++ decimal (r.piece + 1)
-object_finding _ = codes ",\"code\":null,\"piece\":null"
-
--- ---- the whole
-
--- In text form: the first line; and, where not that alone is asked for, the finding, then lines of
--- which nothing is said, then the counts.
--- As an object: its verdict; and, where not that alone is asked for, code and piece, and then what
--- nothing is said of.
-abbrev pub IsReport : ReportForm → Bool → ℕ → Verdict → Totals → List ℕ → Type 0
-IsReport Text true all v t text = text ≡ first_line all v
-IsReport Text false all v t text = (middle : List ℕ)
-    × (text ≡ first_line all v ++ piece_line all v ++ middle ++ counts_text t)
-IsReport Json true all v t text = text ≡ object_front v ++ codes "}\n"
-IsReport Json false all v t text = (rest : List ℕ)
-    × (text ≡ object_front v ++ object_finding v ++ rest)
-
--- what is said of a refused log: nothing, or an object
-abbrev pub IsRefusal : ReportForm → List ℕ → Type 0
-IsRefusal Text text = text ≡ []
-IsRefusal Json text = (rest : List ℕ) × (text ≡ codes "{\"verdict\":\"refused\"" ++ rest)
-
--- the piece that is refuted is one of so many
-abbrev pub NamesOneOf : ℕ → Verdict → Type 0
-NamesOneOf all (verdict.NotSerializable r) = r.piece < all
-NamesOneOf all _ = Unit {0}
+-- the report where so many parts were asked for; the first line alone where it is to be quiet
+abbrev pub report_text : ℕ → Bool → Told → List ℕ
+report_text faults quiet told = first_line told.answer
+    ++ (if quiet then [] else behind_first faults told)

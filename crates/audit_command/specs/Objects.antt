@@ -1,0 +1,140 @@
+-- The report as one object of JSON.
+use Rattle.std.specs.Prelude.{ℕ, ◌==◌, ◌/◌, ◌%◌, ◌+◌, nat_lt, Bool, true, false, if◌then◌else◌, List, []}
+use Rattle.std.specs.Prelude.{◌∷◌, ◌++◌, codes, decimal, Option, Some, None}
+use Rattle.std.specs.List.{flat_map}
+use Rattle.std.specs.String.{string_bytes}
+use Rattle.std.specs.Prelude.{String}
+use Rattle.std.specs.declared.alloc.Global.{Global}
+use Rattle.audit_command.specs.Words.{code_number, word_text, word_of}
+use Rattle.audit_command.specs.Report.{field, too_few}
+use Rattle.audit_command.specs.declared.told.ToldTxn.{ToldTxn}
+use Rattle.audit_command.specs.declared.told.ToldPart.{ToldPart}
+use Rattle.audit_command.specs.declared.told.Word.{Word}
+use Rattle.audit_command.specs.declared.told.Answer.{Answer}
+use Rattle.audit_command.specs.declared.told.Answer.TheVariants as answer
+use Rattle.audit_command.specs.declared.told.Totals.{Totals}
+use Rattle.audit_command.specs.declared.told.Told.{Told}
+
+-- ---- values
+
+-- a digit of base 16
+abbrev pub hex_digit : ℕ → ℕ
+hex_digit n = if nat_lt n 10 then 48 + n else 87 + n
+
+-- a byte as it stands between quotes
+abbrev pub escaped_byte : ℕ → List ℕ
+escaped_byte b =
+    if b == 34 then codes "\\\"" else
+    if b == 92 then codes "\\\\" else
+    if nat_lt b 32 then codes "\\u00" ++ hex_digit (b / 16) ∷ hex_digit (b % 16) ∷ [] else b ∷ []
+
+-- a text between quotes
+abbrev pub escaped : List ℕ → List ℕ
+escaped text = flat_map escaped_byte text
+
+abbrev pub quoted : List ℕ → List ℕ
+quoted text = 34 ∷ escaped text ++ 34 ∷ []
+
+abbrev pub quoted_or_null : Option (String Global) → List ℕ
+quoted_or_null None = codes "null"
+quoted_or_null (Some text) = quoted (string_bytes text)
+
+abbrev pub word_or_null : Option Word → List ℕ
+word_or_null None = codes "null"
+word_or_null (Some word) = 34 ∷ word_text word ++ 34 ∷ []
+
+abbrev pub code_value : ℕ → List ℕ
+code_value n = if n == 0 then codes "null" else field (codes "\"A") n ++ 34 ∷ []
+
+-- values with commas between them, in brackets
+abbrev pub behind_comma : {X : Type 0} → (X → List ℕ) → List X → List ℕ
+behind_comma value [] = []
+behind_comma value (x ∷ xs) = 44 ∷ value x ++ behind_comma value xs
+
+abbrev pub joined : {X : Type 0} → (X → List ℕ) → List X → List ℕ
+joined value [] = []
+joined value (x ∷ xs) = value x ++ behind_comma value xs
+
+abbrev pub list_value : {X : Type 0} → (X → List ℕ) → List X → List ℕ
+list_value value xs = 91 ∷ joined value xs ++ 93 ∷ []
+
+-- ---- a part without an order
+
+abbrev pub txn_object : ToldTxn → List ℕ
+txn_object t = field (codes "{\"transaction\":\"") t.session ++ field (codes ".") t.place
+    ++ field (codes "\",\"lines\":[") t.first
+    ++ field (codes ",") t.last ++ codes "]}"
+
+abbrev pub line_value : String Global → List ℕ
+line_value text = quoted (string_bytes text)
+
+-- its code, its name in the field, its transactions, and why, where that is asked for
+unfoldable pub part_values : ToldPart → List ℕ
+part_values p = codes "\"code\":" ++ code_value (code_number p.refuted.finding)
+    ++ codes ",\"known_as\":" ++ quoted_or_null p.known_as
+    ++ codes ",\"part\":" ++ list_value txn_object p.txns.items
+
+unfoldable pub explanation_value : List (String Global) → List ℕ
+explanation_value lines = codes ",\"explanation\":" ++ list_value line_value lines
+
+unfoldable pub why_values : Bool → ToldPart → List ℕ
+why_values explain p = if explain then explanation_value p.why.items else []
+
+abbrev pub part_object : Bool → ToldPart → List ℕ
+part_object explain p = 123 ∷ part_values p ++ why_values explain p ++ 125 ∷ []
+
+-- ---- the whole
+
+-- the values of the first part; nulls where there is none
+unfoldable pub first_values : Bool → List ToldPart → List ℕ
+first_values explain [] = codes "\"code\":null,\"known_as\":null,\"part\":[]"
+first_values explain (p ∷ ps) = part_values p ++ why_values explain p
+
+abbrev pub parts_of : Answer → List ToldPart
+parts_of (answer.NotSerializable parts) = parts.items
+parts_of _ = []
+
+abbrev pub reason_value : Answer → List ℕ
+reason_value (answer.TooFew committed asked) = 34 ∷ too_few committed asked ++ 34 ∷ []
+reason_value (answer.Undecided reason advice) = quoted (string_bytes reason)
+reason_value _ = codes "null"
+
+unfoldable pub count_values : Totals → List ℕ
+count_values t =
+    field (codes ",\"sessions\":") t.counts.sessions
+    ++ field (codes ",\"committed\":") t.counts.committed
+    ++ field (codes ",\"aborted\":") t.counts.aborted
+    ++ field (codes ",\"unknown\":") t.counts.unknown
+    ++ field (codes ",\"taken\":") t.taken
+    ++ field (codes ",\"keys\":") t.counts.keys
+    ++ field (codes ",\"operations\":") t.counts.operations
+
+unfoldable pub version_value : List ℕ → List ℕ
+version_value version = codes ",\"version\":" ++ quoted version ++ codes "}\n"
+
+unfoldable pub verdict_value : Word → List ℕ
+verdict_value word = codes "{\"verdict\":\"" ++ word_text word ++ codes "\""
+
+unfoldable pub without_value : Option Word → List ℕ
+without_value word = codes ",\"without_moments\":" ++ word_or_null word
+
+unfoldable pub faults_value : Bool → List ToldPart → List ℕ
+faults_value explain parts = codes ",\"faults\":" ++ list_value (part_object explain) parts
+
+unfoldable pub why_unknown : Answer → List ℕ
+why_unknown a = codes ",\"reason\":" ++ reason_value a
+
+-- what stands behind the verdict
+abbrev pub rest_of_object : Bool → List ℕ → Told → List ℕ
+rest_of_object explain version told = 44 ∷ first_values explain (parts_of told.answer)
+    ++ without_value told.without_moments ++ faults_value explain (parts_of told.answer)
+    ++ why_unknown told.answer ++ count_values told.totals ++ version_value version
+
+abbrev pub behind_verdict : Bool → Bool → List ℕ → Told → List ℕ
+behind_verdict explain quiet version told = if quiet then codes "}\n" else rest_of_object explain
+    version told
+
+-- the object; the verdict alone where it is to be quiet
+abbrev pub report_object : Bool → Bool → List ℕ → Told → List ℕ
+report_object explain quiet version told = verdict_value (word_of told.answer)
+    ++ behind_verdict explain quiet version told

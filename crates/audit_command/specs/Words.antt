@@ -1,0 +1,64 @@
+-- The words for what stands against a part, and for verdicts.
+use Rattle.std.specs.Prelude.{ℕ, List, codes}
+use Rattle.serializability.specs.declared.anomaly.Anomaly.{Anomaly}
+use Rattle.serializability.specs.declared.anomaly.Anomaly.TheVariants as anomaly
+use Rattle.serializability.specs.declared.anomaly.ReadAnomaly.{ReadAnomaly}
+use Rattle.serializability.specs.declared.anomaly.ReadAnomaly.TheVariants as read
+use Rattle.cobra_answers.specs.Verdicts.{read_title}
+use Rattle.cobra_answers.specs.declared.status.Status.{Status}
+use Rattle.cobra_answers.specs.declared.status.Status.TheVariants as status
+use Rattle.judging.specs.declared.judged.Finding.{Finding}
+use Rattle.judging.specs.declared.judged.Finding.TheVariants as finding
+use Rattle.audit_command.specs.declared.told.Word.{Word}
+use Rattle.audit_command.specs.declared.told.Word.TheVariants as word
+use Rattle.audit_command.specs.declared.told.Answer.{Answer}
+use Rattle.audit_command.specs.declared.told.Answer.TheVariants as answer
+
+-- the number behind the A of a code, or 0
+abbrev pub read_number : ReadAnomaly → ℕ
+read_number read.Unknown = 1
+read_number read.Aborted = 2
+read_number read.Intermediate = 3
+read_number read.OwnWriteMissed = 4
+read_number read.Future = 5
+read_number read.Split = 6
+
+abbrev pub anomaly_number : Anomaly → ℕ
+anomaly_number (anomaly.Read kind v op) = read_number kind
+anomaly_number (anomaly.LostUpdate x u a b) = 7
+
+abbrev pub code_number : Finding → ℕ
+code_number (finding.Anomaly a) = anomaly_number a
+code_number finding.Cycle = 8
+code_number finding.Dead = 9
+code_number finding.Refuted = 0
+
+-- the code of a finding and its name, or its name alone
+abbrev pub anomaly_title : Anomaly → List ℕ
+anomaly_title (anomaly.Read kind v op) = read_title kind
+anomaly_title (anomaly.LostUpdate x u a b) = codes "A7 lost update"
+
+abbrev pub finding_title : Finding → List ℕ
+finding_title (finding.Anomaly a) = anomaly_title a
+finding_title finding.Cycle = codes "A8 cycle of known edges"
+finding_title finding.Dead = codes "A9 pruning ends in a cycle"
+finding_title finding.Refuted = codes "every cube is refuted"
+
+-- a verdict in words
+abbrev pub word_text : Word → List ℕ
+word_text word.Serializable = codes "serializable"
+word_text word.NotSerializable = codes "not serializable"
+word_text word.Unknown = codes "unknown"
+
+abbrev pub word_of : Answer → Word
+word_of answer.Serializable = word.Serializable
+word_of (answer.NotSerializable parts) = word.NotSerializable
+word_of (answer.TooFew committed asked) = word.Unknown
+word_of (answer.Undecided reason advice) = word.Unknown
+
+-- how a command ends that tells this
+abbrev pub status_of : Answer → Status
+status_of answer.Serializable = status.Done
+status_of (answer.NotSerializable parts) = status.NotSerializable
+status_of (answer.TooFew committed asked) = status.Unknown
+status_of (answer.Undecided reason advice) = status.Unknown

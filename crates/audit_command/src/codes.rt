@@ -1,0 +1,87 @@
+//! The words for what stands against a part, and for verdicts.
+
+ghost use Rattle.std.specs.Prelude.{◌≡◌};
+ghost use Rattle.audit_command.specs.Words.{read_number, anomaly_number, code_number};
+ghost use Rattle.audit_command.specs.Words.{anomaly_title, finding_title, word_text, word_of};
+
+use crate::told::{Answer, Word};
+use cobra_answers::read_title;
+use judging::Finding;
+use session_history::{Anomaly, ReadAnomaly};
+
+fn read_number(kind: ReadAnomaly) -> usize
+    ensures number { result ≡ read_number kind }
+{
+    match kind {
+        ReadAnomaly::Unknown => 1,
+        ReadAnomaly::Aborted => 2,
+        ReadAnomaly::Intermediate => 3,
+        ReadAnomaly::OwnWriteMissed => 4,
+        ReadAnomaly::Future => 5,
+        ReadAnomaly::Split => 6,
+    }
+}
+
+fn anomaly_number(anomaly: Anomaly) -> usize
+    ensures number { result ≡ anomaly_number anomaly }
+{
+    match anomaly {
+        Anomaly::Read { kind, .. } => read_number(kind),
+        Anomaly::LostUpdate { .. } => 7,
+    }
+}
+
+/// The number of the code of a finding, 1 to 9; 0 where it has none.
+pub fn code_number(finding: Finding) -> usize
+    ensures number { result ≡ code_number finding }
+{
+    match finding {
+        Finding::Anomaly(anomaly) => anomaly_number(anomaly),
+        Finding::Cycle => 8,
+        Finding::Dead => 9,
+        Finding::Refuted => 0,
+    }
+}
+
+fn anomaly_title(anomaly: Anomaly) -> &'static str
+    ensures title { result.now ≡ anomaly_title anomaly }
+{
+    match anomaly {
+        Anomaly::Read { kind, .. } => read_title(kind),
+        Anomaly::LostUpdate { .. } => "A7 lost update",
+    }
+}
+
+/// The code of a finding and its name, or its name alone.
+pub fn finding_title(finding: Finding) -> &'static str
+    ensures title { result.now ≡ finding_title finding }
+{
+    match finding {
+        Finding::Anomaly(anomaly) => anomaly_title(anomaly),
+        Finding::Cycle => "A8 cycle of known edges",
+        Finding::Dead => "A9 pruning ends in a cycle",
+        Finding::Refuted => "every cube is refuted",
+    }
+}
+
+/// The words of a verdict.
+pub fn word_text(word: Word) -> &'static str
+    ensures text { result.now ≡ word_text word }
+{
+    match word {
+        Word::Serializable => "serializable",
+        Word::NotSerializable => "not serializable",
+        Word::Unknown => "unknown",
+    }
+}
+
+/// The verdict of an answer.
+pub fn word_of(answer: &Answer) -> Word
+    ensures word { result ≡ word_of answer.now }
+{
+    match answer {
+        Answer::Serializable => Word::Serializable,
+        Answer::NotSerializable(_) => Word::NotSerializable,
+        Answer::TooFew { .. } | Answer::Undecided { .. } => Word::Unknown,
+    }
+}

@@ -1,0 +1,115 @@
+//! How much a log of any length holds.
+
+ghost use Rattle.std.specs.Prelude.{◌≡◌, ◌+◌, ◌-◌, ◌^◌, ◌<◌, ◌++◌, ◌∷◌, [], List, length, map, min};
+ghost use Rattle.std.specs.Prelude.{count_by, IfOk, OnOk, IsTrue};
+ghost use Rattle.std.specs.List.{flat_map};
+ghost use Rattle.session_log.specs.Text.{view, view_txn};
+ghost use Rattle.session_log.specs.declared.session.Op.{Op};
+ghost use Rattle.log_definitions.specs.Unknown.{txns_in, ops_in, is_committed, is_unknown};
+ghost use Rattle.log_definitions.specs.WellFormed.{is_aborted, keys_in, key_of};
+ghost use Rattle.audit_command.specs.Counts.{AreCounts, HasKeys};
+
+use session_history::Tally;
+use session_log::{Key, Op, Session, Txn};
+use std::alloc::{AllocError, Global};
+use std::collections::BTreeSet;
+
+/// How much a log holds.
+#[derive(Clone, Copy, Debug, PartialEq, Eq)]
+pub struct LogCounts {
+    pub sessions: usize,
+    /// The transactions that the log says are committed.
+    pub committed: usize,
+    pub aborted: usize,
+    /// Those whose outcome the client was not told.
+    pub unknown: usize,
+    pub keys: usize,
+    pub operations: usize,
+}
+
+/// Whether each number is below `usize::MAX`, as it is of all that memory holds.
+fn is_exact(tally: Tally) -> bool
+    ensures { IsTrue result → ((tally.committed < 2 ^ 64 - 1) × (tally.aborted < 2 ^ 64 - 1)
+        × (tally.unknown < 2 ^ 64 - 1) × (tally.operations < 2 ^ 64 - 1)) }
+{
+    tally.committed < usize::MAX
+        && tally.aborted < usize::MAX
+        && tally.unknown < usize::MAX
+        && tally.operations < usize::MAX
+}
+
+/// The key of an operation.
+fn key_of(op: &Op) -> &Key
+    ensures { result.now ≡ key_of op.now }
+{
+    match op {
+        Op::Read { key, wid: _ } | Op::Write { key, wid: _ } => key,
+    }
+}
+
+/// Adds the key of an operation, where it is new. Keys are found by comparison, so that no choice
+/// of them makes the search long.
+fn add_key(alloc: Global, keys: &mut BTreeSet<Key>, op: &Op) -> Result<(), AllocError>
+    ensures { (before : List Op) → HasKeys before keys.old
+        → OnOk result (HasKeys (before ++ op.now ∷ []) keys.new) }
+{
+    let key = key_of(op);
+    if !keys.contains(key) {
+        keys.insert(key.to_owned_key(alloc)?)?;
+    }
+    Ok(())
+}
+
+/// Adds those of a transaction.
+fn add_keys_of(alloc: Global, keys: &mut BTreeSet<Key>, txn: &Txn) -> Result<(), AllocError>
+    ensures { (before : List Op) → HasKeys before keys.old
+        → OnOk result (HasKeys (before ++ (view_txn txn.now).ops) keys.new) }
+{
+    for op in &txn.ops {
+        add_key(alloc, keys, op)?;
+    }
+    Ok(())
+}
+
+/// Adds those of a session.
+fn add_session(alloc: Global, keys: &mut BTreeSet<Key>, session: &Session) -> Result<(), AllocError>
+    ensures { (before : List Op) → HasKeys before keys.old →
+        OnOk result (HasKeys (before ++ flat_map (λ t. t.ops) (view session.now).txns) keys.new) }
+{
+    for txn in &session.txns {
+        add_keys_of(alloc, keys, txn)?;
+    }
+    Ok(())
+}
+
+/// How many keys these sessions have.
+fn key_count(alloc: Global, sessions: &[Session]) -> Result<usize, AllocError>
+    ensures { IfOk result (λ count. count ≡ length (keys_in (map view sessions.now))) }
+{
+    let mut keys = BTreeSet::new(alloc);
+    for session in sessions {
+        add_session(alloc, &mut keys, session)?;
+    }
+    Ok(keys.len())
+}
+
+/// How much these sessions hold.
+///
+/// # Errors
+/// Where memory was refused, and where a number is `usize::MAX`, of which no memory holds as many.
+pub fn count_log(alloc: Global, sessions: &[Session]) -> Result<LogCounts, AllocError>
+    ensures counts { IfOk result (AreCounts (map view sessions.now)) }
+{
+    let tally = Tally::of(sessions);
+    if !is_exact(tally) {
+        return Err(AllocError);
+    }
+    Ok(LogCounts {
+        sessions: sessions.len(),
+        committed: tally.committed,
+        aborted: tally.aborted,
+        unknown: tally.unknown,
+        keys: key_count(alloc, sessions)?,
+        operations: tally.operations,
+    })
+}

@@ -1,0 +1,276 @@
+//! The report as text.
+
+ghost use Rattle.std.specs.Prelude.{◌≡◌, ◌++◌, ◌<◌, OnOk, IfOk, length};
+ghost use Rattle.audit_command.specs.Report.{first_line, txn_text, txns_text, noun_of, part_text};
+ghost use Rattle.audit_command.specs.Report.{behind_comma, code_count, code_line, uncoded_line, codes_text};
+ghost use Rattle.audit_command.specs.Report.{middle_text, without_text, part_size, counts_text};
+ghost use Rattle.audit_command.specs.Report.{parts_text, first_size, report_text, too_few, heading_of};
+ghost use Rattle.audit_command.specs.Report.{listed, codes_where, behind_first};
+
+use crate::codes::{code_number, finding_title, word_text};
+use crate::lines::{put, put_count, put_line, put_lines, put_name, put_number};
+use crate::told::{Answer, Told, ToldPart, ToldTxn, Totals, Word};
+use std::alloc::{AllocError, Global};
+
+/// Appends how many committed transactions there are, and how many must be.
+#[tactic(auto, unfolding(crate::specs::Report::too_few))]
+pub fn put_too_few(out: &mut Vec<u8>, committed: usize, asked: usize) -> Result<(), AllocError>
+    ensures put { OnOk result (out.new.items ≡ out.old.items ++ too_few committed asked) }
+{
+    put_number(out, b"", committed)?;
+    put_number(out, b" committed, ", asked)?;
+    put(out, b" asked for")?;
+    Ok(())
+}
+
+fn put_first_line(out: &mut Vec<u8>, answer: &Answer) -> Result<(), AllocError>
+    ensures put { OnOk result (out.new.items ≡ out.old.items ++ first_line answer.now) }
+{
+    match answer {
+        Answer::Serializable => put(out, b"serializable\n"),
+        Answer::NotSerializable(_) => put(out, b"not serializable\n"),
+        Answer::TooFew { committed, asked } => {
+            put(out, b"unknown: ")?;
+            put_too_few(out, *committed, *asked)?;
+            put(out, b"\n")
+        }
+        Answer::Undecided { reason, .. } => {
+            put(out, b"unknown: ")?;
+            put_line(out, reason)
+        }
+    }
+}
+
+/// Appends the name and the lines of a transaction.
+fn put_txn(out: &mut Vec<u8>, txn: ToldTxn) -> Result<(), AllocError>
+    ensures put { OnOk result (out.new.items ≡ out.old.items ++ txn_text txn) }
+{
+    put_name(out, txn)?;
+    put_number(out, b" (lines ", txn.first)?;
+    put_number(out, b" to ", txn.last)?;
+    put(out, b")")
+}
+
+/// Appends transactions, each behind a comma.
+fn put_behind_comma(out: &mut Vec<u8>, txns: &[ToldTxn]) -> Result<(), AllocError>
+    ensures put { OnOk result (out.new.items ≡ out.old.items ++ behind_comma txns.now) }
+{
+    for txn in txns {
+        put(out, b", ")?;
+        put_txn(out, *txn)?;
+    }
+    Ok(())
+}
+
+fn put_txns(out: &mut Vec<u8>, txns: &[ToldTxn]) -> Result<(), AllocError>
+    ensures put { OnOk result (out.new.items ≡ out.old.items ++ txns_text txns.now) }
+{
+    match txns {
+        [] => Ok(()),
+        [first, behind @ ..] => {
+            put_txn(out, *first)?;
+            put_behind_comma(out, behind)
+        }
+    }
+}
+
+/// The word for so many transactions.
+fn noun_of(count: usize) -> &'static [u8]
+    ensures noun { result.now ≡ noun_of count }
+{
+    if count == 1 {
+        b" transaction: "
+    } else {
+        b" transactions: "
+    }
+}
+
+/// Appends how many transactions a part has, and what was found of it.
+fn put_heading(out: &mut Vec<u8>, part: &ToldPart) -> Result<(), AllocError>
+    ensures put { OnOk result (out.new.items ≡ out.old.items ++ heading_of part.now) }
+{
+    put_number(out, b"part of ", part.txns.len())?;
+    put(out, noun_of(part.txns.len()))?;
+    put(out, finding_title(part.refuted.finding).as_bytes())?;
+    put(out, b"\n")
+}
+
+/// Appends the line of a part's transactions.
+fn put_listed(out: &mut Vec<u8>, txns: &[ToldTxn]) -> Result<(), AllocError>
+    ensures put { OnOk result (out.new.items ≡ out.old.items ++ listed txns.now) }
+{
+    put(out, b"transactions ")?;
+    put_txns(out, txns)?;
+    put(out, b"\n")
+}
+
+#[tactic(auto, unfolding(crate::specs::Report::part_text))]
+fn put_part(out: &mut Vec<u8>, part: &ToldPart) -> Result<(), AllocError>
+    ensures put { OnOk result (out.new.items ≡ out.old.items ++ part_text part.now) }
+{
+    put_heading(out, part)?;
+    put_listed(out, &part.txns)?;
+    put_lines(out, &part.why)
+}
+
+/// How many of the parts have the code of this number.
+fn code_count(parts: &[ToldPart], number: usize) -> usize
+    ensures count { result ≡ code_count parts.now number }
+{
+    let of_code = |part: &&ToldPart| code_number(part.refuted.finding) == number;
+    parts.iter().filter(of_code).count()
+}
+
+/// Appends a line that says how many parts have the code of this number, where one has.
+#[tactic(auto, unfolding(crate::specs::Report::code_line))]
+fn put_code(out: &mut Vec<u8>, parts: &[ToldPart], number: usize) -> Result<(), AllocError>
+    ensures put { OnOk result (out.new.items ≡ out.old.items ++ code_line parts.now number) }
+{
+    let count = code_count(parts, number);
+    if count == 0 {
+        return Ok(());
+    }
+    put_number(out, b"A", number)?;
+    put_count(out, b"", count)
+}
+
+/// Appends a line that says how many parts have no code, where one has none.
+#[tactic(auto, unfolding(crate::specs::Report::uncoded_line))]
+fn put_uncoded(out: &mut Vec<u8>, parts: &[ToldPart]) -> Result<(), AllocError>
+    ensures put { OnOk result (out.new.items ≡ out.old.items ++ uncoded_line parts.now) }
+{
+    let count = code_count(parts, 0);
+    if count == 0 {
+        return Ok(());
+    }
+    put_count(out, b"no code", count)
+}
+
+fn put_codes(out: &mut Vec<u8>, parts: &[ToldPart]) -> Result<(), AllocError>
+    ensures put { OnOk result (out.new.items ≡ out.old.items ++ codes_text parts.now) }
+{
+    put_code(out, parts, 1)?;
+    put_code(out, parts, 2)?;
+    put_code(out, parts, 3)?;
+    put_code(out, parts, 4)?;
+    put_code(out, parts, 5)?;
+    put_code(out, parts, 6)?;
+    put_code(out, parts, 7)?;
+    put_code(out, parts, 8)?;
+    put_code(out, parts, 9)?;
+    put_uncoded(out, parts)
+}
+
+/// Appends the lines of codes, where several parts were asked for.
+fn put_codes_where(
+    out: &mut Vec<u8>,
+    faults: usize,
+    parts: &[ToldPart],
+) -> Result<(), AllocError>
+    ensures put { OnOk result (out.new.items ≡ out.old.items ++ codes_where faults parts.now) }
+{
+    if faults > 1 {
+        put_codes(out, parts)
+    } else {
+        Ok(())
+    }
+}
+
+fn put_parts(out: &mut Vec<u8>, parts: &[ToldPart]) -> Result<(), AllocError>
+    ensures put { OnOk result (out.new.items ≡ out.old.items ++ parts_text parts.now) }
+{
+    for part in parts {
+        put_part(out, part)?;
+    }
+    Ok(())
+}
+
+/// Appends the lines behind the first, where so many parts were asked for.
+#[tactic(auto, unfolding(crate::specs::Report::middle_text))]
+fn put_middle(out: &mut Vec<u8>, faults: usize, answer: &Answer) -> Result<(), AllocError>
+    ensures put { OnOk result (out.new.items ≡ out.old.items ++ middle_text faults answer.now) }
+{
+    match answer {
+        Answer::NotSerializable(parts) => {
+            put_parts(out, parts)?;
+            put_codes_where(out, faults, parts)
+        }
+        Answer::Undecided { advice, .. } => put_lines(out, advice),
+        Answer::Serializable | Answer::TooFew { .. } => Ok(()),
+    }
+}
+
+#[tactic(auto, unfolding(crate::specs::Report::without_text))]
+fn put_without(out: &mut Vec<u8>, word: Option<Word>) -> Result<(), AllocError>
+    ensures put { OnOk result (out.new.items ≡ out.old.items ++ without_text word) }
+{
+    match word {
+        None => Ok(()),
+        Some(word) => {
+            put(out, b"without moments ")?;
+            put(out, word_text(word).as_bytes())?;
+            put(out, b"\n")
+        }
+    }
+}
+
+/// How many transactions the first part has.
+fn part_size(answer: &Answer) -> usize
+    ensures size { result ≡ part_size answer.now }
+{
+    match answer {
+        Answer::NotSerializable(parts) => first_size(parts),
+        Answer::Serializable | Answer::TooFew { .. } | Answer::Undecided { .. } => 0,
+    }
+}
+
+fn first_size(parts: &[ToldPart]) -> usize
+    ensures size { result ≡ first_size parts.now }
+{
+    match parts {
+        [] => 0,
+        [first, ..] => first.txns.len(),
+    }
+}
+
+#[tactic(auto, unfolding(crate::specs::Report::counts_text))]
+fn put_counts(out: &mut Vec<u8>, totals: &Totals, part: usize) -> Result<(), AllocError>
+    ensures put { OnOk result (out.new.items ≡ out.old.items ++ counts_text totals.now part) }
+{
+    let counts = totals.counts;
+    put_count(out, b"sessions", counts.sessions)?;
+    put_count(out, b"committed", counts.committed)?;
+    put_count(out, b"aborted", counts.aborted)?;
+    put_count(out, b"unknown", counts.unknown)?;
+    put_count(out, b"taken", totals.taken)?;
+    put_count(out, b"keys", counts.keys)?;
+    put_count(out, b"operations", counts.operations)?;
+    put_count(out, b"part", part)
+}
+
+/// Appends what stands behind the first line, where so many parts were asked for.
+fn put_behind_first(out: &mut Vec<u8>, faults: usize, told: &Told) -> Result<(), AllocError>
+    ensures put { OnOk result (out.new.items ≡ out.old.items ++ behind_first faults told.now) }
+{
+    put_middle(out, faults, &told.answer)?;
+    put_without(out, told.without_moments)?;
+    put_counts(out, &told.totals, part_size(&told.answer))?;
+    Ok(())
+}
+
+/// The report, where so many parts were asked for; its first line alone, where it is to be quiet.
+pub fn report_text(
+    alloc: Global,
+    faults: usize,
+    quiet: bool,
+    told: &Told,
+) -> Result<Vec<u8>, AllocError>
+    ensures report { IfOk result (λ text. text.items ≡ report_text faults quiet told.now) }
+{
+    let mut out = Vec::new(alloc);
+    put_first_line(&mut out, &told.answer)?;
+    if !quiet {
+        put_behind_first(&mut out, faults, told)?;
+    }
+    Ok(out)
+}

@@ -1,0 +1,64 @@
+//! What is told of a log.
+
+use crate::counts::LogCounts;
+use judging::RefutedPart;
+
+/// A transaction of the log: the number of its session, its place there from 1, and its first and
+/// its last line.
+#[derive(Clone, Copy, Debug, PartialEq, Eq)]
+pub struct ToldTxn {
+    pub session: usize,
+    pub place: usize,
+    pub first: usize,
+    pub last: usize,
+}
+
+/// A part of the log that has no serial order.
+#[derive(Drop)]
+pub struct ToldPart {
+    pub refuted: RefutedPart,
+    /// Its transactions in the log.
+    pub txns: Vec<ToldTxn>,
+    /// What the field calls such a fault, where it has a name.
+    pub known_as: Option<String>,
+    /// Why it has no order, in lines, where that is asked for.
+    pub why: Vec<String>,
+}
+
+/// The verdict, in a word.
+#[derive(Clone, Copy, Debug, PartialEq, Eq)]
+pub enum Word {
+    Serializable,
+    NotSerializable,
+    Unknown,
+}
+
+/// The verdict on the log, and what belongs to it.
+#[derive(Drop)]
+pub enum Answer {
+    /// It has a serial order.
+    Serializable,
+    /// It has none, since these parts, at least one, have none.
+    NotSerializable(Vec<ToldPart>),
+    /// It has fewer committed transactions than it must have.
+    TooFew { committed: usize, asked: usize },
+    /// It is not decided: why, and in lines what may help.
+    Undecided { reason: String, advice: Vec<String> },
+}
+
+/// How much the log holds.
+#[derive(Clone, Copy, Debug, PartialEq, Eq)]
+pub struct Totals {
+    pub counts: LogCounts,
+    /// The transactions of unknown outcome that count as committed.
+    pub taken: usize,
+}
+
+/// What is told of a log.
+#[derive(Drop)]
+pub struct Told {
+    pub answer: Answer,
+    /// The verdict on the log as if it stated no moments, where that is another question.
+    pub without_moments: Option<Word>,
+    pub totals: Totals,
+}
