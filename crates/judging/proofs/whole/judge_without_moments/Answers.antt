@@ -3,7 +3,7 @@ use Rattle.session_log.specs.Text.{view}
 use Rattle.piece_laws.specs.Logs.{IsLog}
 use Rattle.judging.proofs.Without.{log_without}
 use Rattle.judging.proofs.Verdicts.{of_each_without}
-use Rattle.judging.proofs.judging.judge_without_moments.Goals as goal
+use Rattle.judging.proofs.whole.judge_without_moments.Goals as goal
 
 pub judge-requires-clause-log : goal.judge-requires-clause-log
 judge-requires-clause-log g c κs within =

@@ -7,7 +7,7 @@ use Rattle.log_definitions.specs.Unknown.{ops_in}
 use Rattle.log_definitions.specs.WellFormed.{written}
 use Rattle.piece_laws.specs.Logs.{IsLog}
 use Rattle.judging.proofs.Resolved.{resolved_is_log}
-use Rattle.judging.proofs.judging.judge_whole.Goals as goal
+use Rattle.judging.proofs.whole.judge_whole.Goals as goal
 
 pub resolve-requires-clause-writes : goal.resolve-requires-clause-writes
 resolve-requires-clause-writes g c =

@@ -3,7 +3,7 @@ use Rattle.session_log.specs.Text.{ClientSession, view}
 use Rattle.session_log.specs.Faults.{IsFault}
 use Rattle.log_definitions.specs.WellFormed.{list_fault}
 use Rattle.judging.proofs.Over.{limit_or_memory, over_limit}
-use Rattle.judging.proofs.found.judge_log.Goals as goal
+use Rattle.judging.proofs.found.see_log.Goals as goal
 
 pub passed_limit-requires : goal.passed_limit-requires
 passed_limit-requires g c =

@@ -6,7 +6,7 @@ use Rattle.log_parts.specs.Picked.{flags_view}
 use Rattle.judging.specs.Finds.{IsFound}
 use Rattle.judging.proofs.Parts.{part_log}
 use Rattle.judging.proofs.Verdicts.{found_part}
-use Rattle.judging.proofs.judging.judge_part.Goals as goal
+use Rattle.judging.proofs.trial.try_part.Goals as goal
 
 pub judge_log-requires-clause-log : goal.judge_log-requires-clause-log
 judge_log-requires-clause-log g c κs within =
