@@ -1,7 +1,10 @@
 -- What is said of resolved sessions is said of those that they come from.
-use Rattle.std.proofs.Common.{◌≡◌, List, map, sym, ap, ◌∙◌, subst}
+use Rattle.std.proofs.Common.{◌≡◌, ℕ, List, Vec, map, sym, ap, ◌∙◌, subst}
 use Rattle.std.specs.Prelude.{Result, Ok, Err, IfOk}
 use Rattle.std.specs.List.{AllByRecursion}
+use Rattle.std.specs.declared.alloc.Global.{Global}
+use Rattle.log_definitions.specs.Serial.{IsSerialOrder}
+use Rattle.log_definitions.proofs.Members.{each_weaker}
 use Rattle.session_log.specs.Text.{ClientSession, IsLegal, view}
 use Rattle.serializability.specs.Log.{Log}
 use Rattle.log_definitions.specs.Unknown.{resolved}
@@ -11,25 +14,22 @@ use Rattle.prune_ledger.specs.Pruned.{Remainder}
 use Rattle.serializability.specs.Polygraph.{Polygraph}
 use Rattle.reduction.specs.Chained.{HasItsOrders, IsUnpruned}
 use Rattle.reduction.specs.Outcome.{IsOpenHistory}
-use Rattle.deciding.specs.Decides.{HasNoOrder}
 use Rattle.judging.specs.declared.means.JudgeMeans.{JudgeMeans}
-use Rattle.judging.specs.declared.judged.Finding.{Finding}
 use Rattle.judging.specs.declared.judged.Why.{Why}
 use Rattle.judging.specs.declared.judged.Why.TheVariants.{Spent, TooLarge, TooManyChoices, NotBegun}
 use Rattle.judging.specs.declared.judged.Tried.{Tried}
 use Rattle.judging.specs.declared.judged.Tried.TheVariants.{Nothing, NotSerial, PartSerial, PartOpen}
-use Rattle.judging.specs.declared.judged.Shown.TheVariants.{Proposed, Found}
+use Rattle.judging.specs.declared.judged.RefutedPart.{RefutedPart}
 use Rattle.judging.specs.declared.judged.Verdict.{Verdict}
 use Rattle.judging.specs.declared.judged.Verdict.TheVariants.{Serializable, NotSerializable, Undecided}
-use Rattle.judging.specs.Judges.{IsRefutedLog, IsUndecidedBy, IsRefutedPart, IsTried, IsVerdict}
-use Rattle.judging.specs.declared.found.Found.{Found as FoundLog}
-use Rattle.judging.specs.declared.found.Found.TheVariants as found
-use Rattle.judging.specs.Finds.{IsFound, IsFoundPart}
+use Rattle.judging.specs.Judges.{IsRefutedLog, IsUndecidedBy, IsTried, IsVerdict}
+use Rattle.judging.specs.Made.{IsMadeOf, IsMade, IsToldPart}
+use Rattle.judging.specs.Finds.{IsSaid}
 use Rattle.judging.specs.Without.{without_moments}
 use Rattle.judging.proofs.Without.{legal_without, sound_without, resolved_without}
 use Rattle.judging.proofs.Resolved.{twice, known, serial_resolved, serial_of_resolved, log_resolved}
 use Rattle.judging.proofs.Shorter.{over_resolved}
-use Rattle.judging.proofs.Parts.{part_itself, none_of_part}
+use Rattle.judging.proofs.Parts.{part_log, part_itself, none_of_part}
 
 -- ---- undecided
 orders_of_resolved : (ss : List ClientSession) (p : Polygraph) → HasItsOrders (resolved ss) p → HasItsOrders ss p
@@ -59,37 +59,74 @@ tried_of_resolved m ss NotSerial h = tt
 tried_of_resolved m ss PartSerial (part, h) = (part, record { is_part = part_once ss part h.is_part; order = h.order })
 tried_of_resolved m ss (PartOpen why) (part, h) = (part, record { is_part = part_once ss part h.is_part; undecided = h.undecided })
 
--- ---- verdicts
-pub verdict_of_resolved : (m : JudgeMeans) (ss : List ClientSession) (v : Verdict) → AllByRecursion IsLegal ss → IsSoundLog ss → IsVerdict m (resolved ss) v → IsVerdict m ss v
-verdict_of_resolved m ss (Serializable Proposed) legal sound (order, h) = (order, serial_of_resolved ss order h)
-verdict_of_resolved m ss (Serializable (Found order)) legal sound h = serial_of_resolved ss order h
-verdict_of_resolved m ss (NotSerializable part which finding) legal sound (no_order, h) =
-    let is_part = part_once ss (map view part.items) h.is_part in
-    (none_of_part ss (map view part.items) legal sound is_part h.refuted.none, record { is_part = is_part; refuted = h.refuted })
-verdict_of_resolved m ss (Undecided why tried) legal sound (h, t) = (undecided_of_resolved m ss why legal h, tried_of_resolved m ss tried t)
+-- ---- parts that are told
+pub told_of_resolved : (ss : List ClientSession) (told : RefutedPart) → AllByRecursion IsLegal ss → IsSoundLog ss → IsToldPart (resolved ss) told → IsToldPart ss told
+told_of_resolved ss told legal sound h =
+    let part = map view told.part.items in
+    let is_part = part_once ss part h.part.is_part in
+    record {
+      none = none_of_part ss part legal sound is_part h.part.refuted.none;
+      part = record { is_part = is_part; refuted = h.part.refuted };
+      made = subst (λ l. IsMadeOf l told) (twice ss) h.made;
+    }
+
+pub each_told : (ss known : List ClientSession) (parts : List RefutedPart) → AllByRecursion IsLegal ss → IsSoundLog ss → known ≡ resolved ss → AllByRecursion (IsToldPart known) parts → AllByRecursion (IsToldPart ss) parts
+each_told ss known parts legal sound same h =
+    each_weaker (IsToldPart known) (IsToldPart ss) (λ told t. told_of_resolved ss told legal sound (subst (λ l. IsToldPart l told) same t)) parts h
 
 -- ---- of a log whose outcomes are known
 part_of_known : (ss part : List ClientSession) → IsLog ss → IsPart ss part → IsPart (resolved ss) part
 part_of_known ss part log h = subst (λ l. IsPart l part) (sym (known ss log)) h
 
-refuted_by_part : (ss part : List ClientSession) (finding : Finding) → IsLog ss → IsPart ss part → IsRefutedLog part finding → HasNoOrder ss × IsRefutedPart ss part finding
-refuted_by_part ss part finding log h refuted =
+pub told_by_part : (ss : List ClientSession) (told : RefutedPart) → IsLog ss → IsPart ss (map view told.part.items) → IsMadeOf ss told → IsRefutedLog (map view told.part.items) told.finding → IsToldPart ss told
+told_by_part ss told log h made refuted =
+    let part = map view told.part.items in
     let is_part = part_of_known ss part log h in
-    (none_of_part ss part log.legal log.sound is_part refuted.none, record { is_part = is_part; refuted = refuted })
+    record {
+      none = none_of_part ss part log.legal log.sound is_part refuted.none;
+      part = record { is_part = is_part; refuted = refuted };
+      made = subst (λ l. IsMadeOf l told) (sym (known ss log)) made;
+    }
 
-pub found_part : (m : JudgeMeans) (ss part : List ClientSession) (f : FoundLog) → IsLog ss → IsPart ss part → IsFound m part f → IsFoundPart m ss part f
-found_part m ss part (found.Serial order) log h serial = record { is_part = part_of_known ss part log h; order = (order, serial) }
-found_part m ss part (found.Refuted finding) log h refuted = refuted_by_part ss part finding log h refuted
-found_part m ss part (found.Undecided why) log h undecided = record { is_part = part_of_known ss part log h; undecided = undecided }
+pub told_whole : (ss : List ClientSession) (told : RefutedPart) → IsLog ss → map view told.part.items ≡ ss → IsMadeOf ss told → IsRefutedLog ss told.finding → IsToldPart ss told
+told_whole ss told log same made refuted =
+    told_by_part ss told log (subst (IsPart ss) (sym same) (part_itself ss)) made (subst (λ l. IsRefutedLog l told.finding) (sym same) refuted)
 
-pub refuted_itself : (ss same : List ClientSession) (finding : Finding) → IsLog ss → same ≡ ss → IsRefutedLog ss finding → HasNoOrder ss × IsRefutedPart ss same finding
-refuted_itself ss same finding log e refuted = refuted_by_part ss same finding log (subst (IsPart ss) (sym e) (part_itself ss)) (subst (λ l. IsRefutedLog l finding) (sym e) refuted)
+pub serial_part : (m : JudgeMeans) (ss part : List ClientSession) (order : List ℕ) → IsLog ss → IsPart ss part → IsSerialOrder part order → IsTried m ss PartSerial
+serial_part m ss part order log h serial = (part, record { is_part = part_of_known ss part log h; order = (order, serial) })
+
+pub open_part : (m : JudgeMeans) (ss part : List ClientSession) (why : Why) → IsLog ss → IsPart ss part → IsUndecidedBy m part why → IsTried m ss (PartOpen why)
+open_part m ss part why log h undecided = (part, record { is_part = part_of_known ss part log h; undecided = undecided })
+
+-- the part that is told is a log
+pub told_is_log : (ss : List ClientSession) (told : RefutedPart) → IsLog ss → IsToldPart ss told → IsLog (map view told.part.items)
+told_is_log ss told log h = part_log ss (map view told.part.items) log (subst (λ l. IsPart l (map view told.part.items)) (known ss log) h.part.is_part)
+
+-- ---- verdicts
+pub verdict_of_resolved : (m : JudgeMeans) (ss : List ClientSession) (v : Verdict) → AllByRecursion IsLegal ss → IsSoundLog ss → IsSaid m (resolved ss) v → IsVerdict m ss v
+verdict_of_resolved m ss (Serializable order) legal sound h = serial_of_resolved ss order.items h
+verdict_of_resolved m ss (NotSerializable told) legal sound h = let t = told_of_resolved ss told legal sound h in (t.none, t.part)
+verdict_of_resolved m ss (Undecided why tried) legal sound (h, t) = (undecided_of_resolved m ss why legal h, tried_of_resolved m ss tried t)
+
+pub made_of_known : (m : JudgeMeans) (ss : List ClientSession) (v : Verdict) → IsLog ss → IsSaid m ss v → IsMade ss v
+made_of_known m ss (Serializable order) log h = tt
+made_of_known m ss (NotSerializable told) log h = subst (λ l. IsMadeOf l told) (known ss log) h.made
+made_of_known m ss (Undecided why tried) log h = tt
 
 -- ---- of sessions that a log's are when they are resolved
-pub of_each : {E : Type 0} (m : JudgeMeans) (known : List ClientSession) (r : Result Verdict E) → IfOk r (IsVerdict m known)
+pub of_each : {E : Type 0} (m : JudgeMeans) (known : List ClientSession) (r : Result Verdict E) → IfOk r (IsSaid m known)
     → IfOk r (λ verdict. (ss : List ClientSession) → AllByRecursion IsLegal ss → IsSoundLog ss → known ≡ resolved ss → IsVerdict m ss verdict)
-of_each m known (Ok v) h = λ ss legal sound same. verdict_of_resolved m ss v legal sound (subst (λ l. IsVerdict m l v) same h)
+of_each m known (Ok v) h = λ ss legal sound same. verdict_of_resolved m ss v legal sound (subst (λ l. IsSaid m l v) same h)
 of_each m known (Err e) h = tt
+
+pub made_if_ok : {E : Type 0} (m : JudgeMeans) (known : List ClientSession) (r : Result Verdict E) → IsLog known → IfOk r (IsSaid m known) → IfOk r (IsMade known)
+made_if_ok m known (Ok v) log h = made_of_known m known v log h
+made_if_ok m known (Err e) log h = tt
+
+pub each_if_ok : {E : Type 0} (known : List ClientSession) (r : Result (Vec RefutedPart Global) E) → IfOk r (λ parts. AllByRecursion (IsToldPart known) parts.items)
+    → IfOk r (λ parts. (ss : List ClientSession) → AllByRecursion IsLegal ss → IsSoundLog ss → known ≡ resolved ss → AllByRecursion (IsToldPart ss) parts.items)
+each_if_ok known (Ok parts) h = λ ss legal sound same. each_told ss known parts.items legal sound same h
+each_if_ok known (Err e) h = tt
 
 -- ---- of sessions without their moments
 pub of_each_without : {E : Type 0} (m : JudgeMeans) (now old : List ClientSession) (r : Result Verdict E) → now ≡ without_moments old

@@ -8,14 +8,14 @@ ghost use Rattle.deciding.specs.Decides.{Decides};
 ghost use Rattle.judging.specs.Finds.{IsFound, IsLimitOrMemory};
 ghost use Rattle.judging.specs.declared.means.JudgeMeans.{JudgeMeans};
 
-use crate::copies::copy_log;
 use crate::judged::{Finding, Why};
 use crate::limits::size_limit;
 use crate::means::JudgeMeans;
 use deciding::{Decision, decide};
 use desk::gate::OpenGate;
+use log_parts::copy_log;
 use polygraph::PolyFault;
-use session_history::{History, NodeLine};
+use session_history::{Anomaly, History, NodeIx, NodeLine};
 use session_log::{Limit, LogFault, Session, Version};
 use std::alloc::{AllocError, Global};
 use std::sync::Wait;
@@ -48,19 +48,63 @@ fn found_by(decision: Decision) -> Found
     }
 }
 
+/// What is found of a log.
+#[derive(Drop)]
+pub struct Seen {
+    pub found: Found,
+    /// Nodes that show that it has no order, where some few do. No contract speaks of them.
+    pub nodes: Vec<NodeIx>,
+}
+
+/// The nodes of an anomaly.
+fn anomaly_nodes(alloc: Global, anomaly: Anomaly) -> Result<Vec<NodeIx>, AllocError> {
+    let mut nodes = Vec::new(alloc);
+    match anomaly {
+        Anomaly::Read { node, .. } => nodes.push(node)?,
+        Anomaly::LostUpdate { first, second, .. } => {
+            nodes.push(first)?;
+            nodes.push(second)?;
+        }
+    }
+    Ok(nodes)
+}
+
+/// The nodes that show that there is no order, where some few do.
+fn nodes_of(alloc: Global, decision: &Decision) -> Result<Vec<NodeIx>, AllocError> {
+    match decision {
+        Decision::Anomalous(anomaly) => anomaly_nodes(alloc, *anomaly),
+        Decision::Cyclic(line) => line.to_vec(alloc),
+        _ => Ok(Vec::new(alloc)),
+    }
+}
+
 /// What is decided of a history.
-fn found_of<R: Threads + Wait + Clock + Sync>(
+fn seen_of<R: Threads + Wait + Clock + Sync>(
     rt: &R,
     alloc: Global,
     history: &History,
     means: &JudgeMeans,
-) -> Result<Found, AllocError>
-    ensures { IfOk result (IsFound means.now history.now) }
+) -> Result<Seen, AllocError>
+    ensures { IfOk result (λ seen. IsFound means.now history.now seen.found) }
 {
     match decide(rt, alloc, history, &means.deciding, &OpenGate) {
-        Ok(decision) => Ok(found_by(decision)),
-        Err(PolyFault::TooManyChoices) => Ok(Found::Undecided(Why::TooManyChoices)),
+        Ok(decision) => {
+            let nodes = nodes_of(alloc, &decision)?;
+            let found = found_by(decision);
+            Ok(Seen { found, nodes })
+        }
+        Err(PolyFault::TooManyChoices) => Ok(undecided(alloc, Why::TooManyChoices)),
         Err(PolyFault::Memory) => Err(AllocError),
+    }
+}
+
+/// That it is not decided.
+fn undecided(alloc: Global, why: Why) -> Seen
+    ensures { result.found ≡ Found.Undecided why }
+{
+    Seen {
+        found: Found::Undecided(why),
+        nodes: Vec::new(alloc),
     }
 }
 
@@ -76,6 +120,30 @@ fn passed_limit(fault: LogFault) -> Result<Limit, AllocError>
     }
 }
 
+/// What is found of a log that can be judged by itself, and the nodes that show it.
+pub fn see_log<R: Threads + Wait + Clock + Sync>(
+    rt: &R,
+    alloc: Global,
+    log: &[Session],
+    means: &JudgeMeans,
+) -> Result<Seen, AllocError>
+    requires log { IsLog (map view log.now) }
+    ensures { IfOk result (λ seen. IsFound means.now (map view log.now) seen.found) }
+{
+    if means.is_over(rt) {
+        return Ok(undecided(alloc, Why::NotBegun));
+    }
+    if let Some(which) = size_limit(alloc, log)? {
+        return Ok(undecided(alloc, Why::TooLarge { which }));
+    }
+    match History::build(alloc, Version::One, copy_log(alloc, log)?) {
+        Ok(history) => seen_of(rt, alloc, &history, means),
+        Err(fault) => Ok(undecided(alloc, Why::TooLarge {
+            which: passed_limit(fault)?,
+        })),
+    }
+}
+
 /// What is found of a log that can be judged by itself.
 pub fn judge_log<R: Threads + Wait + Clock + Sync>(
     rt: &R,
@@ -86,16 +154,5 @@ pub fn judge_log<R: Threads + Wait + Clock + Sync>(
     requires log { IsLog (map view log.now) }
     ensures { IfOk result (IsFound means.now (map view log.now)) }
 {
-    if means.is_over(rt) {
-        return Ok(Found::Undecided(Why::NotBegun));
-    }
-    if let Some(which) = size_limit(alloc, log)? {
-        return Ok(Found::Undecided(Why::TooLarge { which }));
-    }
-    match History::build(alloc, Version::One, copy_log(alloc, log)?) {
-        Ok(history) => found_of(rt, alloc, &history, means),
-        Err(fault) => Ok(Found::Undecided(Why::TooLarge {
-            which: passed_limit(fault)?,
-        })),
-    }
+    Ok(see_log(rt, alloc, log, means)?.found)
 }

@@ -1,40 +1,32 @@
-//! A log, judged by what is proposed of it.
+//! A log whose outcomes are known, judged by what is proposed of it.
 
-ghost use Rattle.std.specs.Prelude.{◌≡◌, Bool, List, map, IfOk};
+ghost use Rattle.std.specs.Prelude.{◌≡◌, List, map, IfOk, IfSome};
 ghost use Rattle.std.specs.List.{AllByRecursion};
 ghost use Rattle.session_log.specs.Text.{ClientSession, IsLegal, view};
+ghost use Rattle.log_definitions.specs.Serial.{IsSerialOrder};
 ghost use Rattle.log_definitions.specs.Unknown.{resolved};
 ghost use Rattle.piece_laws.specs.Logs.{IsSoundLog, IsLog};
-ghost use Rattle.log_parts.specs.Picked.{flags_view, chosen};
-ghost use Rattle.judging.specs.Judges.{IsUndecidedBy, IsTried, IsVerdict};
-ghost use Rattle.judging.specs.Finds.{IsAttempt, IsFoundPart, IsWhole};
-ghost use Rattle.judging.specs.Made.{IsMade, IsToldIn, IsToldWhole, flags_of};
-ghost use Rattle.judging.specs.Without.{without_moments};
-ghost use Rattle.judging.specs.declared.means.JudgeMeans.{JudgeMeans};
+ghost use Rattle.judging.specs.Judges.{IsRefutedLog, IsUndecidedBy, IsTried, IsVerdict};
+ghost use Rattle.judging.specs.Finds.{IsAttempt, IsSaid, IsWhole};
+ghost use Rattle.judging.specs.Made.{IsMade, IsToldPart};
 
-use crate::copies::copy_log;
-use crate::found::{Found, judge_log};
-use crate::judged::{Shown, Tried, Verdict, Which, Why};
+use crate::flags::{copy_flags, count_flags};
+use crate::found::{Found, Seen, see_log};
+use crate::judged::{Finding, RefutedPart, Tried, Verdict, Why};
 use crate::means::JudgeMeans;
-use crate::moments::leave_out_moments;
-use known_outcomes::resolve;
-use log_parts::part_of;
-use order_checks::explains;
+use crate::trial::{Attempt, Trial, try_part};
+use crate::shrinking::smaller;
+use log_parts::copy_log;
+use order_checks::is_serial;
+use progress::{Progress, Stage};
+use proposals::Proposal;
+use session_history::{NodeIx, NodeLine};
 use session_log::Session;
 use std::alloc::{AllocError, Global};
+use std::io::Eprint;
 use std::sync::Wait;
 use std::thread::Threads;
 use std::time::Clock;
-use proposals::{Proposal, propose};
-
-/// What trying a proposal gives.
-#[derive(Drop)]
-pub enum Attempt {
-    /// The log is decided.
-    Done(Verdict),
-    /// It is not, and this became of the proposal.
-    Open(Tried),
-}
 
 /// What is found of a log as a whole.
 #[derive(Drop)]
@@ -45,38 +37,25 @@ pub enum Whole {
     Open(Why),
 }
 
-/// What a proposed order says of a log.
-fn judge_order(alloc: Global, sessions: &[Session], picks: &[usize]) -> Result<Attempt, AllocError>
+/// The proposed order, where it is serial.
+fn judge_order(
+    alloc: Global,
+    sessions: &[Session],
+    order: &[usize],
+) -> Result<Option<Vec<usize>>, AllocError>
     requires log { IsLog (map view sessions.now) }
-    ensures attempt { (m : JudgeMeans) → IfOk result (IsAttempt m (map view sessions.now)) }
-    ensures made { (flags : List (List Bool)) →
-        IfOk result (IsToldIn flags (map view sessions.now)) }
+    ensures { IfOk result (λ found. IfSome found (λ order.
+        IsSerialOrder (map view sessions.now) order.items)) }
 {
-    if explains(alloc, sessions, picks)? {
-        return Ok(Attempt::Done(Verdict::Serializable(Shown::Proposed)));
+    let mut copy = Vec::new(alloc);
+    copy.extend_from_slice(order)?;
+    if is_serial(alloc, sessions, &copy)? {
+        return Ok(Some(copy));
     }
-    Ok(Attempt::Open(Tried::NotSerial))
+    Ok(None)
 }
 
-/// What is said where this is found of a part.
-fn told(part: Vec<Session>, found: Found) -> Attempt
-    ensures attempt { (m : JudgeMeans) (ss : List ClientSession)
-        → IsFoundPart m ss (map view part.items) found → IsAttempt m ss result }
-    ensures made { (flags : List (List Bool)) (known : List ClientSession)
-        → map view part.items ≡ chosen flags known → IsToldIn flags known result }
-{
-    match found {
-        Found::Refuted(finding) => Attempt::Done(Verdict::NotSerializable {
-            part,
-            which: Which::Flagged,
-            finding,
-        }),
-        Found::Serial(_) => Attempt::Open(Tried::PartSerial),
-        Found::Undecided(why) => Attempt::Open(Tried::PartOpen(why)),
-    }
-}
-
-/// What the part of these flags says of a log, whose outcomes are known.
+/// What the part of these flags says of a log. Where it has no order, it is made smaller.
 pub fn judge_part<R: Threads + Wait + Clock + Sync>(
     rt: &R,
     alloc: Global,
@@ -85,31 +64,49 @@ pub fn judge_part<R: Threads + Wait + Clock + Sync>(
     means: &JudgeMeans,
 ) -> Result<Attempt, AllocError>
     requires log { IsLog (map view sessions.now) }
-    ensures attempt { IfOk result (IsAttempt means.now (map view sessions.now)) }
-    ensures made { IfOk result (IsToldIn (flags_view flags.now) (map view sessions.now)) }
+    ensures { IfOk result (IsAttempt means.now (map view sessions.now)) }
 {
-    let part = part_of(alloc, sessions, flags)?;
-    let found = judge_log(rt, alloc, &part, means)?;
-    Ok(told(part, found))
+    let Trial { attempt, nodes } = try_part(rt, alloc, sessions, copy_flags(alloc, flags)?, means)?;
+    match attempt {
+        Attempt::Refuted(told) => {
+            let less = smaller(rt, alloc, sessions, told, &nodes, means)?;
+            Ok(Attempt::Refuted(less))
+        }
+        Attempt::Open(tried) => Ok(Attempt::Open(tried)),
+    }
 }
 
-/// What a proposal says of a log, but for a part in which the finder stuck.
-fn judge_proposal<R: Threads + Wait + Clock + Sync>(
+/// The numbers of the nodes of a line.
+fn numbers_of(alloc: Global, line: &NodeLine) -> Result<Vec<usize>, AllocError>
+    ensures { IfOk result (λ numbers. numbers.items ≡ line.now) }
+{
+    let mut numbers = Vec::new(alloc);
+    for node in line.nodes() {
+        numbers.push(node.get())?;
+    }
+    Ok(numbers)
+}
+
+/// All of a log, which has no order, or a smaller part of it.
+fn refuted_whole<R: Threads + Wait + Clock + Sync>(
     rt: &R,
     alloc: Global,
     sessions: &[Session],
-    proposal: &Proposal,
+    finding: Finding,
+    nodes: &[NodeIx],
     means: &JudgeMeans,
-) -> Result<Attempt, AllocError>
+) -> Result<RefutedPart, AllocError>
     requires log { IsLog (map view sessions.now) }
-    ensures attempt { IfOk result (IsAttempt means.now (map view sessions.now)) }
-    ensures made { IfOk result (IsToldIn (flags_of proposal.now) (map view sessions.now)) }
+    requires refuted { IsRefutedLog (map view sessions.now) finding }
+    ensures { IfOk result (IsToldPart (map view sessions.now)) }
 {
-    match proposal {
-        Proposal::Order(picks) => judge_order(alloc, sessions, picks),
-        Proposal::Part(flags) => judge_part(rt, alloc, sessions, flags, means),
-        Proposal::Stuck(_) | Proposal::None => Ok(Attempt::Open(Tried::Nothing)),
-    }
+    let part = copy_log(alloc, sessions)?;
+    let told = RefutedPart {
+        part,
+        flags: None,
+        finding,
+    };
+    smaller(rt, alloc, sessions, told, nodes, means)
 }
 
 /// What is found of a log that is decided as a whole. Where it has no order, it is a part of itself.
@@ -120,19 +117,17 @@ fn judge_small<R: Threads + Wait + Clock + Sync>(
     means: &JudgeMeans,
 ) -> Result<Whole, AllocError>
     requires log { IsLog (map view sessions.now) }
-    ensures whole { IfOk result (IsWhole means.now (map view sessions.now)) }
-    ensures made { (flags : List (List Bool)) →
-        IfOk result (IsToldWhole flags (map view sessions.now)) }
+    ensures { IfOk result (IsWhole means.now (map view sessions.now)) }
 {
-    match judge_log(rt, alloc, sessions, means)? {
-        Found::Serial(order) => Ok(Whole::Done(Verdict::Serializable(Shown::Found(order)))),
+    let Seen { found, nodes } = see_log(rt, alloc, sessions, means)?;
+    match found {
+        Found::Serial(line) => {
+            let order = numbers_of(alloc, &line)?;
+            Ok(Whole::Done(Verdict::Serializable(order)))
+        }
         Found::Refuted(finding) => {
-            let part = copy_log(alloc, sessions)?;
-            Ok(Whole::Done(Verdict::NotSerializable {
-                part,
-                which: Which::Whole,
-                finding,
-            }))
+            let told = refuted_whole(rt, alloc, sessions, finding, &nodes, means)?;
+            Ok(Whole::Done(Verdict::NotSerializable(told)))
         }
         Found::Undecided(why) => Ok(Whole::Open(why)),
     }
@@ -152,17 +147,71 @@ fn judge_stuck<R: Threads + Wait + Clock + Sync>(
     requires log { IsLog (map view sessions.now) }
     requires why { IsUndecidedBy means.now (map view sessions.now) why }
     requires tried { IsTried means.now (map view sessions.now) tried }
-    ensures verdict { IfOk result (IsVerdict means.now (map view sessions.now)) }
-    ensures made { IfOk result (IsMade proposal.now (map view sessions.now)) }
+    ensures { IfOk result (IsSaid means.now (map view sessions.now)) }
 {
     match (proposal, why) {
-        (Proposal::Stuck(flags), Why::TooLarge { .. }) => {
-            match judge_part(rt, alloc, sessions, flags, means)? {
-                Attempt::Done(verdict) => Ok(verdict),
+        (Proposal::Stuck(stuck), Why::TooLarge { .. }) => {
+            match judge_part(rt, alloc, sessions, &stuck.around, means)? {
+                Attempt::Refuted(told) => Ok(Verdict::NotSerializable(told)),
                 Attempt::Open(tried) => Ok(Verdict::Undecided { why, tried }),
             }
         }
         _ => Ok(Verdict::Undecided { why, tried }),
+    }
+}
+
+/// What is said of a log of which nothing proposed says anything.
+fn judge_rest<R: Threads + Wait + Clock + Sync>(
+    rt: &R,
+    alloc: Global,
+    sessions: &[Session],
+    proposal: &Proposal,
+    tried: Tried,
+    means: &JudgeMeans,
+) -> Result<Verdict, AllocError>
+    requires log { IsLog (map view sessions.now) }
+    requires tried { IsTried means.now (map view sessions.now) tried }
+    ensures { IfOk result (IsSaid means.now (map view sessions.now)) }
+{
+    match judge_small(rt, alloc, sessions, means)? {
+        Whole::Done(verdict) => Ok(verdict),
+        Whole::Open(why) => judge_stuck(rt, alloc, sessions, proposal, why, tried, means),
+    }
+}
+
+/// What a proposed order says, and what else is to be said where it is none.
+fn judge_by_order<R: Threads + Wait + Clock + Sync>(
+    rt: &R,
+    alloc: Global,
+    sessions: &[Session],
+    order: &[usize],
+    proposal: &Proposal,
+    means: &JudgeMeans,
+) -> Result<Verdict, AllocError>
+    requires log { IsLog (map view sessions.now) }
+    ensures { IfOk result (IsSaid means.now (map view sessions.now)) }
+{
+    match judge_order(alloc, sessions, order)? {
+        Some(order) => Ok(Verdict::Serializable(order)),
+        None => judge_rest(rt, alloc, sessions, proposal, Tried::NotSerial, means),
+    }
+}
+
+/// What a proposed part says, and what else is to be said where it says nothing.
+fn judge_by_part<R: Threads + Wait + Clock + Sync>(
+    rt: &R,
+    alloc: Global,
+    sessions: &[Session],
+    flags: &[Vec<bool>],
+    proposal: &Proposal,
+    means: &JudgeMeans,
+) -> Result<Verdict, AllocError>
+    requires log { IsLog (map view sessions.now) }
+    ensures { IfOk result (IsSaid means.now (map view sessions.now)) }
+{
+    match judge_part(rt, alloc, sessions, flags, means)? {
+        Attempt::Refuted(told) => Ok(Verdict::NotSerializable(told)),
+        Attempt::Open(tried) => judge_rest(rt, alloc, sessions, proposal, tried, means),
     }
 }
 
@@ -175,88 +224,44 @@ fn judge_known<R: Threads + Wait + Clock + Sync>(
     means: &JudgeMeans,
 ) -> Result<Verdict, AllocError>
     requires log { IsLog (map view sessions.now) }
-    ensures verdict { IfOk result (IsVerdict means.now (map view sessions.now)) }
-    ensures made { IfOk result (IsMade proposal.now (map view sessions.now)) }
+    ensures { IfOk result (IsSaid means.now (map view sessions.now)) }
 {
-    let tried = match judge_proposal(rt, alloc, sessions, proposal, means)? {
-        Attempt::Done(verdict) => return Ok(verdict),
-        Attempt::Open(tried) => tried,
-    };
-    match judge_small(rt, alloc, sessions, means)? {
-        Whole::Done(verdict) => Ok(verdict),
-        Whole::Open(why) => judge_stuck(rt, alloc, sessions, proposal, why, tried, means),
+    match proposal {
+        Proposal::Order(order) => judge_by_order(rt, alloc, sessions, order, proposal, means),
+        Proposal::Part(flags) => judge_by_part(rt, alloc, sessions, flags, proposal, means),
+        Proposal::Stuck(_) | Proposal::NotTried(_) => {
+            judge_rest(rt, alloc, sessions, proposal, Tried::Nothing, means)
+        }
     }
+}
+
+/// Tells how many transactions are searched, where a part is proposed.
+fn tell_search<R: Clock + Eprint, P: Progress>(rt: &R, proposal: &Proposal, progress: &mut P) {
+    let flags = match proposal {
+        Proposal::Part(flags) => flags,
+        Proposal::Stuck(stuck) => &stuck.around,
+        Proposal::Order(_) | Proposal::NotTried(_) => return,
+    };
+    let transactions = count_flags(flags);
+    progress.tell(rt, Stage::Searching { transactions });
 }
 
 /// What is said of a log by what is proposed of its sessions with their outcomes known, which are
 /// these. Whatever is proposed, what is said is so.
-pub fn judge<R: Threads + Wait + Clock + Sync>(
+pub fn judge<R: Threads + Wait + Clock + Eprint + Sync, P: Progress>(
     rt: &R,
     alloc: Global,
     sessions: &[Session],
     proposal: &Proposal,
     means: &JudgeMeans,
+    progress: &mut P,
 ) -> Result<Verdict, AllocError>
     requires log { IsLog (map view sessions.now) }
     ensures verdict { IfOk result (λ verdict. (ss : List ClientSession) → AllByRecursion IsLegal ss
         → IsSoundLog ss → map view sessions.now ≡ resolved ss
         → IsVerdict means.now ss verdict) }
-    ensures made { IfOk result (IsMade proposal.now (map view sessions.now)) }
+    ensures made { IfOk result (IsMade (map view sessions.now)) }
 {
+    tell_search(rt, proposal, progress);
     judge_known(rt, alloc, sessions, proposal, means)
-}
-
-/// A log that was judged.
-#[derive(Drop)]
-pub struct Judged {
-    /// Its sessions, with their outcomes known.
-    pub sessions: Vec<Session>,
-    /// What was proposed of them.
-    pub proposal: Proposal,
-    pub verdict: Verdict,
-}
-
-/// Judges a log of any length.
-pub fn judge_whole<R: Threads + Wait + Clock + Sync>(
-    rt: &R,
-    alloc: Global,
-    sessions: Vec<Session>,
-    means: &JudgeMeans,
-) -> Result<Judged, AllocError>
-    requires legal { AllByRecursion IsLegal (map view sessions.items) }
-    requires sound { IsSoundLog (map view sessions.items) }
-    ensures resolved { IfOk result (λ judged. map view judged.sessions.items
-        ≡ resolved (map view sessions.items)) }
-    ensures verdict { IfOk result (λ judged.
-        IsVerdict means.now (map view sessions.items) judged.verdict) }
-    ensures made { IfOk result (λ judged.
-        IsMade judged.proposal (map view judged.sessions.items) judged.verdict) }
-{
-    let sessions = resolve(alloc, sessions)?;
-    let proposal = propose(alloc, &sessions)?;
-    let verdict = judge(rt, alloc, &sessions, &proposal, means)?;
-    Ok(Judged {
-        sessions,
-        proposal,
-        verdict,
-    })
-}
-
-/// Judges a log once more as if it stated no moments. These are its sessions with their outcomes
-/// known, and their moments are left out of them.
-pub fn judge_without_moments<R: Threads + Wait + Clock + Sync>(
-    rt: &R,
-    alloc: Global,
-    sessions: &mut Vec<Session>,
-    means: &JudgeMeans,
-) -> Result<Verdict, AllocError>
-    requires log { IsLog (map view sessions.old.items) }
-    ensures left { map view sessions.new.items ≡ without_moments (map view sessions.old.items) }
-    ensures verdict { IfOk result (λ verdict. (ss : List ClientSession) → AllByRecursion IsLegal ss
-        → IsSoundLog ss → map view sessions.old.items ≡ resolved ss
-        → IsVerdict means.now (without_moments ss) verdict) }
-{
-    leave_out_moments(sessions);
-    let proposal = propose(alloc, sessions)?;
-    judge(rt, alloc, sessions, &proposal, means)
 }

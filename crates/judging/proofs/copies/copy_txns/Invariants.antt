@@ -1,6 +1,0 @@
-use Rattle.std.proofs.Common.{◌≡◌, map, take}
-use Rattle.session_log.specs.Text.{view_txn}
-use Rattle.judging.proofs.copies.copy_txns.Given as goal
-
-abbrev pub invariant-loop-txn : goal.invariant-loop-txn
-invariant-loop-txn l = map view_txn l.new.items ≡ map view_txn (take l.txn-index l.txns)

@@ -1,0 +1,8 @@
+use Rattle.std.proofs.Common.{map}
+use Rattle.std.specs.List.{AllByRecursion}
+use Rattle.session_log.specs.Text.{view}
+use Rattle.judging.specs.Made.{IsToldPart}
+use Rattle.judging.proofs.more.more_of_known.Given as goal
+
+abbrev pub invariant-loop : goal.invariant-loop
+invariant-loop l = AllByRecursion (IsToldPart (map view l.sessions)) l.parts.items

@@ -1,0 +1,21 @@
+use Rattle.std.proofs.Common.{◌∷◌, List, map, sym, subst}
+use Rattle.session_log.specs.Text.{view}
+use Rattle.session_log.specs.declared.session.Session.{Session}
+use Rattle.serializability.proofs.Places.{Apart-from_IsDistinct}
+use Rattle.serializability.proofs.Listed.{IsDistinct-from_Apart}
+use Rattle.log_definitions.specs.Unknown.{ops_in}
+use Rattle.log_definitions.specs.WellFormed.{written}
+use Rattle.piece_laws.specs.Logs.{IsLog}
+use Rattle.judging.proofs.Resolved.{resolved_is_log}
+use Rattle.judging.proofs.whole.judge_whole.Goals as goal
+
+pub resolve-requires-clause-writes : goal.resolve-requires-clause-writes
+resolve-requires-clause-writes g c =
+    let ops = written (ops_in (map view c.args.sessions.items)) in
+    let all = Apart-from_IsDistinct (0 ∷ ops) c.requires.sound.writes in
+    IsDistinct-from_Apart ops all.1
+
+pub judge-requires-clause-log : goal.judge-requires-clause-log
+judge-requires-clause-log g c κs within =
+    let P : List Session → Type 0 = λ l. IsLog (map view l) in
+    subst P (sym c.deref-2.ensures.value) (subst IsLog (sym c.in_ok-sessions.ensures.resolved) (resolved_is_log (map view c.args.sessions.items) c.requires.legal c.requires.sound))

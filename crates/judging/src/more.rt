@@ -1,0 +1,124 @@
+//! Further parts of a log that have no order.
+
+ghost use Rattle.std.specs.Prelude.{◌≡◌, List, map, IfOk, IfSome};
+ghost use Rattle.std.specs.List.{AllByRecursion};
+ghost use Rattle.session_log.specs.Text.{ClientSession, IsLegal, view};
+ghost use Rattle.log_definitions.specs.Unknown.{resolved};
+ghost use Rattle.piece_laws.specs.Logs.{IsSoundLog, IsLog};
+ghost use Rattle.judging.specs.Made.{IsToldPart};
+
+use crate::flags::{all_flags, flags_in_whole, join_flags, set_flag};
+use crate::judged::RefutedPart;
+use crate::judging::judge_part;
+use crate::means::JudgeMeans;
+use crate::trial::Attempt;
+use progress::Progress;
+use proposals::{Flags, Proposal, propose};
+use session_log::{Op, Session, Txn};
+use std::alloc::{AllocError, Global};
+use std::io::Eprint;
+use std::sync::Wait;
+use std::thread::Threads;
+use std::time::Clock;
+
+fn has_read(txn: &Txn) -> bool {
+    txn.ops.iter().any(|op| matches!(op, Op::Read { .. }))
+}
+
+/// The last transaction of a part that reads, by the indices of its session and of itself; the first
+/// of all where none does.
+fn last_reader(part: &[Session]) -> (usize, usize) {
+    let mut last = (0, 0);
+    for (i, session) in part.iter().enumerate() {
+        for (place, txn) in session.txns.iter().enumerate() {
+            if has_read(txn) {
+                last = (i, place);
+            }
+        }
+    }
+    last
+}
+
+/// Leaves out the transaction of a part whose reads show that it has no order.
+fn leave_out_shown(
+    alloc: Global,
+    sessions: &[Session],
+    left_out: &mut Flags,
+    told: &RefutedPart,
+) -> Result<(), AllocError> {
+    let mut few = all_flags(alloc, &told.part, false)?;
+    set_flag(&mut few, last_reader(&told.part), true);
+    match &told.flags {
+        Some(flags) => join_flags(left_out, &flags_in_whole(alloc, sessions, flags, &few)?),
+        None => join_flags(left_out, &few),
+    }
+    Ok(())
+}
+
+/// A part that has no order, of the transactions that are not left out, where one is found.
+fn next_part<R: Threads + Wait + Clock + Eprint + Sync, P: Progress>(
+    rt: &R,
+    alloc: Global,
+    sessions: &[Session],
+    left_out: &[Vec<bool>],
+    means: &JudgeMeans,
+    progress: &mut P,
+) -> Result<Option<RefutedPart>, AllocError>
+    requires log { IsLog (map view sessions.now) }
+    ensures { IfOk result (λ found. IfSome found (IsToldPart (map view sessions.now))) }
+{
+    let proposal = propose(rt, alloc, sessions, left_out, &means.proposing(), progress)?;
+    let Proposal::Part(flags) = &proposal else {
+        return Ok(None);
+    };
+    match judge_part(rt, alloc, sessions, flags, means)? {
+        Attempt::Refuted(told) => Ok(Some(told)),
+        Attempt::Open(_) => Ok(None),
+    }
+}
+
+/// Further parts of a log whose outcomes are known.
+fn more_of_known<R: Threads + Wait + Clock + Eprint + Sync, P: Progress>(
+    rt: &R,
+    alloc: Global,
+    sessions: &[Session],
+    first: &RefutedPart,
+    count: usize,
+    means: &JudgeMeans,
+    progress: &mut P,
+) -> Result<Vec<RefutedPart>, AllocError>
+    requires log { IsLog (map view sessions.now) }
+    ensures { IfOk result (λ parts. AllByRecursion (IsToldPart (map view sessions.now)) parts.items) }
+{
+    let mut left_out = all_flags(alloc, sessions, false)?;
+    leave_out_shown(alloc, sessions, &mut left_out, first)?;
+    let mut parts = Vec::new(alloc);
+    for _ in 0..count {
+        let Some(told) = next_part(rt, alloc, sessions, &left_out, means, progress)? else {
+            break;
+        };
+        leave_out_shown(alloc, sessions, &mut left_out, &told)?;
+        parts.push(told)?;
+    }
+    Ok(parts)
+}
+
+/// Further parts of a log that have no order, so many at most, where this is the first: each is
+/// looked for among the transactions that do not show one that was found. These are the log's
+/// sessions with their outcomes known.
+pub fn more_parts<R: Threads + Wait + Clock + Eprint + Sync, P: Progress>(
+    rt: &R,
+    alloc: Global,
+    sessions: &[Session],
+    first: &RefutedPart,
+    count: usize,
+    means: &JudgeMeans,
+    progress: &mut P,
+) -> Result<Vec<RefutedPart>, AllocError>
+    requires log { IsLog (map view sessions.now) }
+    ensures told { IfOk result (λ parts. (ss : List ClientSession) → AllByRecursion IsLegal ss
+        → IsSoundLog ss → map view sessions.now ≡ resolved ss
+        → AllByRecursion (IsToldPart ss) parts.items) }
+{
+    more_of_known(rt, alloc, sessions, first, count, means, progress)
+}

@@ -1,0 +1,223 @@
+//! A part that has no order, made smaller. What is left out is tried, and no contract speaks of it;
+//! what is told in the end is decided once more.
+
+ghost use Rattle.std.specs.Prelude.{map, IfOk};
+ghost use Rattle.session_log.specs.Text.{view};
+ghost use Rattle.piece_laws.specs.Logs.{IsLog};
+ghost use Rattle.judging.specs.Made.{IsToldPart};
+
+use crate::flags::{
+    all_flags, copy_flags, count_flags, flags_in_whole, flags_of_nodes, places_of, set_flag, with_writers,
+};
+use crate::judged::RefutedPart;
+use crate::means::JudgeMeans;
+use crate::trial::{Attempt, Trial, try_part};
+use cube_machine::Budget;
+use proposals::Flags;
+use session_history::NodeIx;
+use session_log::Session;
+use std::alloc::{AllocError, Global};
+use std::sync::Wait;
+use std::thread::Threads;
+use std::time::Clock;
+
+/// So much work is done: a decision of so many transactions is so much and `DECISION` more.
+const WORK: usize = 40_000;
+const DECISION: usize = 100;
+/// So many cubes are closed in a decision.
+const CUBES: usize = 1_000;
+/// So often the way goes on to what decided it, and so often chunks are halved.
+const ROUNDS: usize = 10;
+
+/// Decides the part of these flags. The answer is its nodes that show that it has no order, as far
+/// as they are known, or `None` where it has one or is not decided.
+fn nodes_against<R: Threads + Wait + Clock + Sync>(
+    rt: &R,
+    alloc: Global,
+    log: &[Session],
+    flags: &[Vec<bool>],
+    means: &JudgeMeans,
+    work: &mut usize,
+) -> Result<Option<Vec<NodeIx>>, AllocError>
+    requires log { IsLog (map view log.now) }
+{
+    let cost = count_flags(flags).saturating_add(DECISION);
+    if *work < cost {
+        return Ok(None);
+    }
+    *work -= cost;
+    let Trial { attempt, nodes } = try_part(rt, alloc, log, copy_flags(alloc, flags)?, means)?;
+    match attempt {
+        Attempt::Refuted(_) => Ok(Some(nodes)),
+        Attempt::Open(_) => Ok(None),
+    }
+}
+
+/// The transactions of these nodes, or these and whom they read from, where they have no order.
+fn narrowed<R: Threads + Wait + Clock + Sync>(
+    rt: &R,
+    alloc: Global,
+    log: &[Session],
+    flags: &[Vec<bool>],
+    nodes: &[NodeIx],
+    means: &JudgeMeans,
+    work: &mut usize,
+) -> Result<Option<(Flags, Vec<NodeIx>)>, AllocError>
+    requires log { IsLog (map view log.now) }
+{
+    let few = flags_of_nodes(alloc, log, flags, nodes)?;
+    if let Some(found) = nodes_against(rt, alloc, log, &few, means, work)? {
+        return Ok(Some((few, found)));
+    }
+    let more = with_writers(alloc, log, &few)?;
+    let found = nodes_against(rt, alloc, log, &more, means, work)?;
+    Ok(found.map(|found| (more, found)))
+}
+
+/// Goes on to the transactions that decided it, as long as they are fewer.
+fn narrow<R: Threads + Wait + Clock + Sync>(
+    rt: &R,
+    alloc: Global,
+    log: &[Session],
+    flags: &mut Flags,
+    nodes: &[NodeIx],
+    means: &JudgeMeans,
+    work: &mut usize,
+) -> Result<(), AllocError>
+    requires log { IsLog (map view log.now) }
+{
+    let mut nodes = nodes.to_vec(alloc)?;
+    for _ in 0..ROUNDS {
+        if nodes.is_empty() {
+            break;
+        }
+        let Some((few, next)) = narrowed(rt, alloc, log, flags, &nodes, means, work)? else {
+            break;
+        };
+        if count_flags(&few) >= count_flags(flags) {
+            break;
+        }
+        *flags = few;
+        nodes = next;
+    }
+    Ok(())
+}
+
+/// Leaves out so many transactions at once, where the others have no order.
+fn leave_out_chunks<R: Threads + Wait + Clock + Sync>(
+    rt: &R,
+    alloc: Global,
+    log: &[Session],
+    flags: &mut Flags,
+    size: usize,
+    means: &JudgeMeans,
+    work: &mut usize,
+) -> Result<(), AllocError>
+    requires log { IsLog (map view log.now) }
+{
+    let places = places_of(alloc, flags)?;
+    for i in 0..places.len() {
+        let start = i.saturating_mul(size);
+        if start >= places.len() {
+            break;
+        }
+        let mut less = copy_flags(alloc, flags)?;
+        for place in places.iter().skip(start).take(size) {
+            set_flag(&mut less, *place, false);
+        }
+        if nodes_against(rt, alloc, log, &less, means, work)?.is_some() {
+            *flags = less;
+        }
+    }
+    Ok(())
+}
+
+/// Leaves out halves, quarters and so on, and in the end each transaction in turn.
+fn leave_out<R: Threads + Wait + Clock + Sync>(
+    rt: &R,
+    alloc: Global,
+    log: &[Session],
+    flags: &mut Flags,
+    means: &JudgeMeans,
+    work: &mut usize,
+) -> Result<(), AllocError>
+    requires log { IsLog (map view log.now) }
+{
+    let mut size = count_flags(flags) / 2;
+    for _ in 0..ROUNDS {
+        if size == 0 {
+            break;
+        }
+        leave_out_chunks(rt, alloc, log, flags, size, means, work)?;
+        size /= 2;
+    }
+    Ok(())
+}
+
+/// What a decision may use here.
+fn means_of(means: &JudgeMeans) -> JudgeMeans {
+    let mut few = *means;
+    if let Some(budget) = Budget::new(means.deciding.budget.get().min(CUBES)) {
+        few.deciding.budget = budget;
+    }
+    few
+}
+
+/// Some transactions of a log that have no order, where these nodes show that it has none.
+fn shrink<R: Threads + Wait + Clock + Sync>(
+    rt: &R,
+    alloc: Global,
+    log: &[Session],
+    nodes: &[NodeIx],
+    means: &JudgeMeans,
+) -> Result<Flags, AllocError>
+    requires log { IsLog (map view log.now) }
+{
+    let means = means_of(means);
+    let mut work = WORK;
+    let mut flags = all_flags(alloc, log, true)?;
+    narrow(rt, alloc, log, &mut flags, nodes, &means, &mut work)?;
+    leave_out(rt, alloc, log, &mut flags, &means, &mut work)?;
+    Ok(flags)
+}
+
+/// Fewer transactions of a part that is told, by the whole log.
+fn fewer<R: Threads + Wait + Clock + Sync>(
+    rt: &R,
+    alloc: Global,
+    sessions: &[Session],
+    told: &RefutedPart,
+    nodes: &[NodeIx],
+    means: &JudgeMeans,
+) -> Result<Flags, AllocError>
+    requires log { IsLog (map view sessions.now) }
+    requires told { IsToldPart (map view sessions.now) told.now }
+{
+    let few = shrink(rt, alloc, &told.part, nodes, means)?;
+    match &told.flags {
+        Some(flags) => flags_in_whole(alloc, sessions, flags, &few),
+        None => Ok(few),
+    }
+}
+
+/// A part that is told of a log whose outcomes are known, or a smaller one of its transactions that
+/// has no order either.
+pub fn smaller<R: Threads + Wait + Clock + Sync>(
+    rt: &R,
+    alloc: Global,
+    sessions: &[Session],
+    told: RefutedPart,
+    nodes: &[NodeIx],
+    means: &JudgeMeans,
+) -> Result<RefutedPart, AllocError>
+    requires log { IsLog (map view sessions.now) }
+    requires told { IsToldPart (map view sessions.now) told }
+    ensures { IfOk result (IsToldPart (map view sessions.now)) }
+{
+    let flags = fewer(rt, alloc, sessions, &told, nodes, means)?;
+    let Trial { attempt, .. } = try_part(rt, alloc, sessions, flags, means)?;
+    match attempt {
+        Attempt::Refuted(less) => Ok(less),
+        Attempt::Open(_) => Ok(told),
+    }
+}

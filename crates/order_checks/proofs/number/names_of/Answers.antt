@@ -1,0 +1,40 @@
+use Rattle.std.proofs.Common.{◌+◌, ◌++◌, List, map, sym, ap, ◌∙◌}
+use Rattle.std.specs.Prelude.{drop}
+use Rattle.std.proofs.lemmas.List.{drop_all}
+use Rattle.session_log.specs.Text.{view, view_txn}
+use Rattle.session_log.specs.declared.session.Session.{Session}
+use Rattle.session_log.specs.declared.session.Txn.{Txn}
+use Rattle.log_definitions.specs.Serial.{Committed}
+use Rattle.piece_laws.proofs.Left.{IsLearnt, split}
+use Rattle.piece_laws.proofs.Shifted.{nodes_are}
+use Rattle.order_checks.specs.Left.{nodes_from}
+use Rattle.order_checks.specs.Numbered.{nodes_of, names_of}
+use Rattle.order_checks.proofs.Lists.{item, get_drop, append_more, append_mapped, append_none}
+use Rattle.order_checks.proofs.number.names_of.Goals as goal
+
+pub loop-session-preserved : goal.loop-session-preserved
+loop-session-preserved c =
+    let sessions = c.args.sessions.now in
+    let i = c.loop-session.session-index in
+    let session = c.session-item.result in
+    let names = c.loop-session.names.items in
+    let rest = nodes_of (map view (drop (i + 1) sessions)) in
+    let here = nodes_from session.number 0 (map view_txn session.txns.items) in
+    let at = item sessions i session c.loop-session-test.true c.session-item.is in
+    ap (λ l. l ++ names_of rest) c.in_ok-add_names.ensures
+    ∙ ap (λ (l : List Txn). (names ++ names_of (nodes_from session.number 0 (map view_txn l))) ++ names_of rest) c.deref.ensures.value
+    ∙ append_more names (names_of here) (names_of rest)
+    ∙ ap (λ l. names ++ l) (sym (append_mapped (λ (n : Committed). (n.session, n.place)) here rest))
+    ∙ ap (λ (l : List Session). names ++ names_of (nodes_of (map view l))) (sym (get_drop sessions i session at))
+    ∙ c.loop-session.invariant
+
+pub returns : goal.returns
+returns c learnt =
+    let sessions = c.args.sessions.now in
+    let ss = map view sessions in
+    let i = c.loop-session.session-index in
+    let names = c.loop-session.names.items in
+    append_none names
+    ∙ ap (λ (l : List Session). names ++ names_of (nodes_of (map view l))) (sym (drop_all i sessions c.loop-session-test.false))
+    ∙ c.loop-session.invariant
+    ∙ ap (λ (l : List Committed). names_of l) (sym (nodes_are ss (split IsLearnt ss learnt)))
