@@ -1,5 +1,7 @@
+pub mod Audited
 pub mod Counts
-pub mod Words
+pub mod Objects
 pub mod Places
 pub mod Report
-pub mod Objects
+pub mod Words
+pub mod Orders

@@ -5,6 +5,8 @@ use Rattle.std.specs.List.{flat_map}
 use Rattle.std.specs.String.{string_bytes}
 use Rattle.std.specs.Prelude.{String}
 use Rattle.std.specs.declared.alloc.Global.{Global}
+use Rattle.session_log.specs.declared.fault.LogFault.{LogFault}
+use Rattle.fault_words.specs.Codes.{code_of, line_of}
 use Rattle.audit_command.specs.Words.{code_number, word_text, word_of}
 use Rattle.audit_command.specs.Report.{field, too_few}
 use Rattle.audit_command.specs.declared.told.ToldTxn.{ToldTxn}
@@ -138,3 +140,27 @@ behind_verdict explain quiet version told = if quiet then codes "}\n" else rest_
 abbrev pub report_object : Bool → Bool → List ℕ → Told → List ℕ
 report_object explain quiet version told = verdict_value (word_of told.answer)
     ++ behind_verdict explain quiet version told
+
+-- ---- a refused log
+
+abbrev pub number_or_null : Option ℕ → List ℕ
+number_or_null None = codes "null"
+number_or_null (Some n) = field [] n
+
+unfoldable pub code_of_fault : LogFault → List ℕ
+code_of_fault f = codes ",\"code\":\"" ++ code_of f ++ codes "\""
+
+unfoldable pub line_of_fault : LogFault → List ℕ
+line_of_fault f = codes ",\"line\":" ++ number_or_null (line_of f)
+
+unfoldable pub words_value : List ℕ → List ℕ
+words_value words = codes ",\"words\":" ++ quoted words
+
+-- the object; the verdict alone where it is to be quiet
+abbrev pub behind_refused : Bool → LogFault → List ℕ → List ℕ → List ℕ
+behind_refused quiet f words version = if quiet then codes "}\n" else code_of_fault f
+    ++ line_of_fault f ++ words_value words ++ version_value version
+
+abbrev pub refusal_object : Bool → LogFault → List ℕ → List ℕ → List ℕ
+refusal_object quiet f words version = codes "{\"verdict\":\"refused\""
+    ++ behind_refused quiet f words version

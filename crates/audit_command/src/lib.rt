@@ -1,18 +1,36 @@
 //! The command `audit`: what is said of a log of any length, over the bytes of the log.
 //!
-//! Called by `cobra_poly`. It opens no file and reads no word of the command line.
+//! Called by `cobra_poly`. It opens no file, reads no word of the command line and writes nothing:
+//! what is to be written is its answer.
+//!
+//! # What is promised
+//!
+//! The verdict is that on the whole log. Each part that is told is one of the log and has no order;
+//! its code is what was found of it, and the names and the lines of its transactions are the log's.
+//! The text is exactly that of what is told, but for the words of an explanation, of a reason and of
+//! what may help. The part as a log, and the order, are those of the verdict.
 #![tactic(auto)]
 
 mod codes;
+mod command;
 mod counts;
+mod explaining;
+mod files;
+mod known;
 mod lines;
 mod object;
+mod options;
+mod outcome;
 mod places;
+mod refusals;
 mod report;
+mod telling;
 mod told;
+mod totals;
+mod undecided;
+mod without;
 
-pub use counts::{LogCounts, count_log};
-pub use object::report_object;
-pub use places::told_txns;
-pub use report::report_text;
-pub use told::{Answer, Told, ToldPart, ToldTxn, Totals, Word};
+pub use command::audit;
+pub use files::PartFile;
+pub use options::AuditOptions;
+pub use outcome::{Audited, Refusal};

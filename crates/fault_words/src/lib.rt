@@ -5,7 +5,7 @@
 //!
 //! The fault and its line come from those who read the log. The words are made from that line, and
 //! from the lines before it, as far as it can be seen there what is wrong. No contract says what
-//! they are; each call is proved to be safe and to return.
+//! they are; the code and the line are those of the fault.
 #![tactic(auto)]
 
 mod form;

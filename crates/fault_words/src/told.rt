@@ -1,5 +1,10 @@
 //! A fault in words.
 
+ghost use Rattle.std.specs.Prelude.{◌≡◌, ◌++◌, IfOk, codes};
+ghost use Rattle.std.specs.String.{string_bytes};
+ghost use Rattle.fault_words.specs.Codes.{limit_code, code_of, line_of, place_of, joined};
+ghost use Rattle.fault_words.specs.Codes.{IsRefusalLine};
+
 use crate::form::{Number, Wrong, first_word, wrong_form};
 use crate::lines::{LogLine, earlier_line, line_at};
 use crate::numbers::NumberFault;
@@ -11,8 +16,22 @@ use session_log::{
 };
 use std::alloc::{AllocError, Global};
 
+fn limit_code(which: Limit) -> &'static str
+    ensures code { result.now ≡ limit_code which }
+{
+    match which {
+        Limit::LogBytes => "L7 log-bytes",
+        Limit::Sessions => "L7 sessions",
+        Limit::Operations => "L7 operations",
+        Limit::Committed => "L7 committed",
+        Limit::Keys => "L7 keys",
+    }
+}
+
 /// The code of a fault, as the table of faults has it, and of a limit its name.
-pub fn code_of(fault: LogFault) -> &'static str {
+pub fn code_of(fault: LogFault) -> &'static str
+    ensures code { result.now ≡ code_of fault }
+{
     match fault {
         LogFault::BadLine { .. } => "L1",
         LogFault::SessionTwice { .. } => "L2",
@@ -20,13 +39,7 @@ pub fn code_of(fault: LogFault) -> &'static str {
         LogFault::OpenTransaction { .. } => "L4",
         LogFault::WriteZero { .. } => "L5",
         LogFault::WriteTwice { .. } => "L6",
-        LogFault::OverLimit { which } => match which {
-            Limit::LogBytes => "L7 log-bytes",
-            Limit::Sessions => "L7 sessions",
-            Limit::Operations => "L7 operations",
-            Limit::Committed => "L7 committed",
-            Limit::Keys => "L7 keys",
-        },
+        LogFault::OverLimit { which } => limit_code(which),
         LogFault::Memory => "L8",
         LogFault::UnknownNotLast { .. } => "L9",
         LogFault::EndsBeforeBegin { .. } => "L10",
@@ -34,7 +47,9 @@ pub fn code_of(fault: LogFault) -> &'static str {
 }
 
 /// The line of a fault, where it has one.
-pub fn line_of(fault: LogFault) -> Option<usize> {
+pub fn line_of(fault: LogFault) -> Option<usize>
+    ensures line { result ≡ line_of fault }
+{
     match fault {
         LogFault::BadLine { line }
         | LogFault::SessionTwice { line }
@@ -219,6 +234,26 @@ pub fn words_of(alloc: Global, log: &[u8], fault: LogFault) -> Result<String, Al
     String::from_str(alloc, words)
 }
 
+/// The name of a log, with the line behind it where there is one.
+fn place_of(alloc: Global, name: &str, line: Option<usize>) -> Result<String, AllocError>
+    ensures place { IfOk result (λ text. string_bytes text ≡ place_of name.now line) }
+{
+    match line {
+        Some(line) => format!(in alloc; "{name}:{line}"),
+        None => String::from_str(alloc, name),
+    }
+}
+
+fn joined(alloc: Global, place: &str, words: &str, code: &str) -> Result<String, AllocError>
+    ensures line { IfOk result (λ text. string_bytes text ≡ joined place.now words.now code.now) }
+{
+    let mut line = format!(in alloc; "{place}: {words}")?;
+    line.push_str(" (")?;
+    line.push_str(code)?;
+    line.push_str(")")?;
+    Ok(line)
+}
+
 /// The line that a compiler would print of a log of this name that has this fault: `FILE:LINE:
 /// WORDS (CODE)`, without a line feed, and without the line where the fault has none.
 pub fn refusal(
@@ -226,11 +261,11 @@ pub fn refusal(
     name: &str,
     log: &[u8],
     fault: LogFault,
-) -> Result<String, AllocError> {
+) -> Result<String, AllocError>
+    ensures refusal { IfOk result (λ text. IsRefusalLine name.now fault (string_bytes text)) }
+{
     let words = words_of(alloc, log, fault)?;
     let code = code_of(fault);
-    match line_of(fault) {
-        Some(line) => format!(in alloc; "{name}:{line}: {words} ({code})"),
-        None => format!(in alloc; "{name}: {words} ({code})"),
-    }
+    let place = place_of(alloc, name, line_of(fault))?;
+    joined(alloc, &place, &words, code)
 }

@@ -1,0 +1,186 @@
+-- What `audit` makes of a log of any length.
+use Rattle.std.specs.Prelude.{◌≡◌, ℕ, ◌-◌, ◌<◌, ◌≤◌, ◌||◌, Bool, true, false, not, IsTrue, if◌then◌else◌}
+use Rattle.std.specs.Prelude.{List, [], ◌∷◌, length, map, count_by, Option, Some, None, is_some, Vec}
+use Rattle.std.specs.List.{list_any, AllByRecursion}
+use Rattle.std.specs.declared.alloc.Global.{Global}
+use Rattle.session_log.specs.Text.{ClientSession, Transaction, view, least_version, log_text}
+use Rattle.session_log.specs.Version.{first_line, version_of}
+use Rattle.session_log.specs.declared.fault.LogFault.{LogFault}
+use Rattle.session_log.specs.declared.fault.LogFault.TheVariants.{Memory}
+use Rattle.log_definitions.specs.Unknown.{txns_in, is_committed, resolved}
+use Rattle.log_definitions.specs.Serial.{IsSerialOrder}
+use Rattle.long_log_definitions.specs.LongLog.{IsLongLog, IsLongLogFault}
+use Rattle.piece_laws.specs.Logs.{HasOrder}
+use Rattle.order_text.specs.Text.{order_text}
+use Rattle.deciding.specs.Decides.{HasNoOrder}
+use Rattle.call_options.specs.declared.report_form.ReportForm.{ReportForm}
+use Rattle.call_options.specs.declared.report_form.ReportForm.TheVariants.{Text, Json}
+use Rattle.judging.specs.Judges.{IsVerdict}
+use Rattle.judging.specs.Made.{IsToldPart}
+use Rattle.judging.specs.Without.{without_moments}
+use Rattle.judging.specs.declared.judged.Why.{Why}
+use Rattle.judging.specs.declared.judged.Tried.{Tried}
+use Rattle.judging.specs.declared.judged.Verdict.TheVariants as verdict
+use Rattle.judging.specs.declared.means.JudgeMeans.{JudgeMeans}
+use Rattle.audit_command.specs.Counts.{AreCounts}
+use Rattle.audit_command.specs.Words.{status_of}
+use Rattle.audit_command.specs.Places.{told_by}
+use Rattle.audit_command.specs.Report.{report_text}
+use Rattle.audit_command.specs.Objects.{report_object, refusal_object}
+use Rattle.audit_command.specs.declared.options.AuditOptions.{AuditOptions}
+use Rattle.audit_command.specs.declared.told.ToldPart.{ToldPart}
+use Rattle.audit_command.specs.declared.told.Word.{Word}
+use Rattle.audit_command.specs.declared.told.Word.TheVariants as word
+use Rattle.audit_command.specs.declared.told.Answer.{Answer}
+use Rattle.audit_command.specs.declared.told.Answer.TheVariants as answer
+use Rattle.audit_command.specs.declared.told.Totals.{Totals}
+use Rattle.audit_command.specs.declared.told.Told.{Told}
+use Rattle.audit_command.specs.declared.telling.Answered.{Answered}
+use Rattle.audit_command.specs.declared.files.PartFile.{PartFile}
+use Rattle.audit_command.specs.declared.known.Known.{Known}
+use Rattle.audit_command.specs.declared.outcome.Audited.{Audited}
+use Rattle.audit_command.specs.declared.outcome.Refusal.{Refusal}
+
+-- the sessions that are judged: without their moments, where that is asked for
+abbrev pub seen : Bool → List ClientSession → List ClientSession
+seen no_moments ss = if no_moments then without_moments ss else ss
+
+-- the committed transactions
+abbrev pub nodes_in : List ClientSession → ℕ
+nodes_in ss = count_by is_committed (txns_in ss)
+
+-- the counts; the taken transactions are the nodes that no commit made
+pub record AreTotals (ss : List ClientSession) (t : Totals) : Type 0 where
+  pub counts : AreCounts ss t.counts
+  pub taken : t.taken ≡ nodes_in (resolved ss) - nodes_in ss
+
+-- ---- the answer
+
+-- it is told of a part of the log that it has no order, and so the log has none; its transactions
+-- are told by their names and lines in the log, whose first session begins at line n
+pub record IsPartTold (n : ℕ) (ss : List ClientSession) (p : ToldPart) : Type 0 where
+  pub part : IsToldPart ss p.refuted
+  pub txns : p.txns.items ≡ told_by p.refuted.flags n (resolved ss)
+
+abbrev pub AreToldParts : ℕ → List ClientSession → List ToldPart → Type 0
+AreToldParts n ss parts = AllByRecursion (IsPartTold n ss) parts
+
+-- it is not decided, and why
+abbrev pub IsOpen : JudgeMeans → List ClientSession → Type 0
+IsOpen m ss = (why : Why) × (tried : Tried) × IsVerdict m ss (verdict.Undecided why tried)
+
+-- That the sessions have a serial order, and at least so many are committed; that they have none,
+-- since each of these parts, of which there is one at least, has none; that fewer are committed, and
+-- how many; or that they are not decided.
+abbrev pub IsAnswer : JudgeMeans → ℕ → ℕ → List ClientSession → Answer → Type 0
+IsAnswer m least n ss answer.Serializable = HasOrder ss × (least ≤ nodes_in ss)
+IsAnswer m least n ss (answer.NotSerializable parts) = (0 < length parts.items)
+    × AreToldParts n ss parts.items
+IsAnswer m least n ss (answer.TooFew committed asked) = (committed ≡ nodes_in ss)
+    × (asked ≡ least) × (committed < least)
+IsAnswer m least n ss (answer.Undecided reason advice) = IsOpen m ss × (least ≤ nodes_in ss)
+
+-- ---- the same without moments
+
+-- whether a transaction states a moment
+abbrev pub states_moment : Transaction → Bool
+states_moment t = is_some t.begun || is_some t.ended
+
+abbrev pub some_state : List Transaction → Bool
+some_state ts = list_any states_moment ts
+
+abbrev pub states_moments : List ClientSession → Bool
+states_moments ss = list_any (λ s. some_state s.txns) ss
+
+-- whether it is another question what holds without them
+abbrev pub asks_without : List ClientSession → Answer → Bool
+asks_without ss (answer.NotSerializable parts) = states_moments ss
+asks_without ss _ = false
+
+-- the word is the verdict on these sessions
+abbrev pub IsWord : JudgeMeans → List ClientSession → Word → Type 0
+IsWord m ss word.Serializable = HasOrder ss
+IsWord m ss word.NotSerializable = HasNoOrder ss
+IsWord m ss word.Unknown = IsOpen m ss
+
+abbrev pub IsWithout : JudgeMeans → List ClientSession → Answer → Option Word → Type 0
+IsWithout m ss a None = asks_without ss a ≡ false
+IsWithout m ss a (Some w) = (asks_without ss a ≡ true) × IsWord m (without_moments ss) w
+
+-- ---- files
+
+-- the part that is told first, where it is asked for
+abbrev pub first_part : List ToldPart → Option (List ClientSession)
+first_part [] = None
+first_part (p ∷ ps) = Some (map view p.refuted.part.items)
+
+abbrev pub part_asked : Bool → Answer → Option (List ClientSession)
+part_asked true (answer.NotSerializable parts) = first_part parts.items
+part_asked _ _ = None
+
+-- the text of the part as a log
+abbrev pub IsPartFile : Option (List ClientSession) → Option PartFile → Type 0
+IsPartFile None None = Unit {0}
+IsPartFile (Some part) (Some file) = file.log.items ≡ log_text (least_version part) part
+IsPartFile _ _ = ⊥
+
+abbrev pub order_asked : Bool → Answer → Bool
+order_asked true answer.Serializable = true
+order_asked _ _ = false
+
+-- the text of a serial order, where it is asked for
+abbrev pub IsOrderFile : List ClientSession → Bool → Option (Vec ℕ Global) → Type 0
+IsOrderFile ss false None = Unit {0}
+IsOrderFile ss true (Some text) = (order : List ℕ) × IsSerialOrder ss order
+    × (text.items ≡ order_text ss order)
+IsOrderFile ss _ _ = ⊥
+
+-- the answer is so, and so is the order beside it
+pub record IsAnswered (o : AuditOptions) (n : ℕ) (ss : List ClientSession) (a : Answered)
+    : Type 0 where
+  pub answer : IsAnswer o.means o.at_least n ss a.answer
+  pub order : IsOrderFile ss (order_asked o.order a.answer) a.order
+
+-- what is known of a judged log: its sessions with their outcomes known, the answer, the counts, and
+-- the part as a log
+pub record IsKnown (o : AuditOptions) (n : ℕ) (ss : List ClientSession) (k : Known) : Type 0 where
+  pub resolved : map view k.sessions.items ≡ resolved ss
+  pub answered : IsAnswered o n ss k.answered
+  pub totals : AreTotals ss k.totals
+  pub part : IsPartFile (part_asked o.part k.answered.answer) k.part
+
+-- ---- the whole
+
+-- the text in the form that is asked for
+abbrev pub text_in : ReportForm → AuditOptions → Told → List ℕ
+text_in Text o told = report_text o.faults o.quiet told
+text_in Json o told = report_object o.explain o.quiet o.version.now told
+
+-- the log is one, what is told of it is so, and the text is that of what is told
+pub record IsAudited (o : AuditOptions) (log : List ℕ) (a : Audited) : Type 0 where
+  pub sessions : List ClientSession
+  pub long : IsLongLog log sessions
+  pub told : Told
+  pub answer : IsAnswer o.means o.at_least (first_line (version_of log)) (seen o.no_moments sessions)
+      told.answer
+  pub without : IsWithout o.means (seen o.no_moments sessions) told.answer told.without_moments
+  pub totals : AreTotals (seen o.no_moments sessions) told.totals
+  pub ends : a.reply.status ≡ status_of told.answer
+  pub text : a.reply.text.items ≡ text_in o.form o told
+  pub part : IsPartFile (part_asked o.part told.answer) a.part
+  pub order : IsOrderFile (seen o.no_moments sessions) (order_asked o.order told.answer) a.order
+
+-- what is said of a refused log: nothing, or an object, in which the words are free
+abbrev pub IsRefusal : ReportForm → AuditOptions → LogFault → List ℕ → Type 0
+IsRefusal Text o f text = text ≡ []
+IsRefusal Json o f text = (words : List ℕ)
+    × (text ≡ refusal_object o.quiet f words o.version.now)
+
+abbrev pub IsSaid : AuditOptions → LogFault → List ℕ → Type 0
+IsSaid o Memory text = text ≡ []
+IsSaid o f text = IsRefusal o.form o f text
+
+-- the log is no long log, with this fault, and that is said; at want of memory nothing is
+pub record IsRefused (o : AuditOptions) (log : List ℕ) (r : Refusal) : Type 0 where
+  pub fault : IsLongLogFault log r.fault
+  pub says : IsSaid o r.fault r.text.items

@@ -1,0 +1,159 @@
+//! The command `audit`.
+
+ghost use Rattle.std.specs.Prelude.{◌≡◌, map, IfOk, IfErr};
+ghost use Rattle.session_log.specs.Text.{view};
+ghost use Rattle.session_log.specs.Version.{version_of};
+ghost use Rattle.long_log_definitions.specs.LongLog.{IsLongLog, IsLongLogFault};
+ghost use Rattle.audit_command.specs.Words.{status_of};
+ghost use Rattle.audit_command.specs.Audited.{seen, text_in, IsAudited, IsRefused};
+
+use crate::known::{Known, know};
+use crate::object::report_object;
+use crate::options::AuditOptions;
+use crate::outcome::{Audited, Refusal};
+use crate::refusals::refusal;
+use crate::report::report_text;
+use crate::telling::Answered;
+use crate::told::{Answer, Told};
+use crate::without::{state_moments, without_moments};
+use call_options::ReportForm;
+use cobra_answers::{Reply, Status};
+use judging::leave_out_moments;
+use long_reading::read_long_log;
+use progress::Progress;
+use session_log::{LogFault, Session, Version};
+use std::alloc::{AllocError, Global};
+use std::io::Eprint;
+use std::sync::Wait;
+use std::thread::Threads;
+use std::time::Clock;
+
+/// How a command ends that tells this.
+fn status_of(answer: &Answer) -> Status
+    ensures status { result ≡ status_of answer.now }
+{
+    match answer {
+        Answer::Serializable => Status::Done,
+        Answer::NotSerializable(_) => Status::NotSerializable,
+        Answer::TooFew { .. } | Answer::Undecided { .. } => Status::Unknown,
+    }
+}
+
+/// The sessions that are judged.
+fn seen(sessions: Vec<Session>, no_moments: bool) -> Vec<Session>
+    ensures seen { map view result.items ≡ seen no_moments (map view sessions.items) }
+{
+    let mut sessions = sessions;
+    if no_moments {
+        leave_out_moments(&mut sessions);
+    }
+    sessions
+}
+
+/// The text in the form that is asked for.
+fn text_of(
+    alloc: Global,
+    options: &AuditOptions<'_>,
+    told: &Told,
+) -> Result<Vec<u8>, AllocError>
+    ensures text { IfOk result (λ text. text.items
+        ≡ text_in options.now.form options.now told.now) }
+{
+    match options.form {
+        ReportForm::Text => report_text(alloc, options.faults, options.quiet, told),
+        ReportForm::Json => {
+            report_object(alloc, options.explain, options.quiet, options.version, told)
+        }
+    }
+}
+
+/// How the command ends that tells this, and what it writes.
+fn reply_of(
+    alloc: Global,
+    options: &AuditOptions<'_>,
+    told: &Told,
+) -> Result<Reply, AllocError>
+    ensures ends { IfOk result (λ reply. reply.status ≡ status_of told.now.answer) }
+    ensures text { IfOk result (λ reply. reply.text.items
+        ≡ text_in options.now.form options.now told.now) }
+{
+    Ok(Reply {
+        status: status_of(&told.answer),
+        text: text_of(alloc, options, told)?,
+    })
+}
+
+/// What an audit of a long log of these sessions comes to.
+fn audit_sessions<R: Threads + Wait + Clock + Eprint + Sync, P: Progress>(
+    rt: &R,
+    alloc: Global,
+    log: &[u8],
+    version: Version,
+    sessions: Vec<Session>,
+    options: &AuditOptions<'_>,
+    progress: &mut P,
+) -> Result<Audited, AllocError>
+    requires long { IsLongLog log.now (map view sessions.items) }
+    requires version { version ≡ version_of log.now }
+    ensures audited { IfOk result (IsAudited options.now log.now) }
+{
+    let sessions = seen(sessions, options.no_moments);
+    let states = state_moments(&sessions);
+    let Known {
+        sessions,
+        answered,
+        totals,
+        part,
+    } = know(rt, alloc, version, sessions, options, progress)?;
+    let Answered { answer, order } = answered;
+    let without_moments = without_moments(rt, alloc, &answer, states, sessions, &options.means, progress)?;
+    let told = Told {
+        answer,
+        without_moments,
+        totals,
+    };
+    let reply = reply_of(alloc, options, &told)?;
+    Ok(Audited { reply, part, order })
+}
+
+/// Why a log is refused, and what is said of that; nothing at want of memory.
+fn refused(
+    alloc: Global,
+    log: &[u8],
+    fault: LogFault,
+    options: &AuditOptions<'_>,
+) -> Refusal
+    requires fault { IsLongLogFault log.now fault }
+    ensures refused { IsRefused options.now log.now result }
+{
+    match refusal(alloc, options, log, fault) {
+        Ok(text) => Refusal { fault, text },
+        Err(AllocError) => Refusal::memory(alloc),
+    }
+}
+
+/// Says of a log of any length whether it has a serial order.
+///
+/// # Errors
+/// The log's first fault, with the object that says so, where one is asked for; want of memory.
+pub fn audit<R: Threads + Wait + Clock + Eprint + Sync, P: Progress>(
+    rt: &R,
+    alloc: Global,
+    log: &[u8],
+    options: &AuditOptions<'_>,
+    progress: &mut P,
+) -> Result<Audited, Refusal>
+    ensures audited { IfOk result (IsAudited options.now log.now) }
+    ensures refused { IfErr result (IsRefused options.now log.now) }
+{
+    match read_long_log(rt, alloc, log, options.means.deciding.workers) {
+        Ok((version, sessions)) => {
+            match audit_sessions(rt, alloc, log, version, sessions, options, progress) {
+                Ok(audit) => Ok(audit),
+                Err(AllocError) => Err(Refusal::memory(alloc)),
+            }
+        }
+        Err(LogFault::Memory) => Err(Refusal::memory(alloc)),
+        Err(fault) => Err(refused(alloc, log, fault, options)),
+    }
+}

@@ -1,0 +1,103 @@
+//! What is said of a refused log.
+
+ghost use Rattle.std.specs.Prelude.{◌≡◌, ◌++◌, ◌≢◌, OnOk, IfOk, codes};
+ghost use Rattle.session_log.specs.declared.fault.LogFault.TheVariants.{Memory};
+ghost use Rattle.audit_command.specs.Objects.{number_or_null, code_of_fault, line_of_fault};
+ghost use Rattle.audit_command.specs.Objects.{words_value, behind_refused, refusal_object};
+ghost use Rattle.audit_command.specs.Audited.{IsRefusal};
+
+use crate::lines::{put, put_number};
+use crate::object::{put_quoted, put_version};
+use crate::options::AuditOptions;
+use call_options::ReportForm;
+use fault_words::{code_of, line_of, words_of};
+use session_log::LogFault;
+use std::alloc::{AllocError, Global};
+
+fn put_number_or_null(out: &mut Vec<u8>, number: Option<usize>) -> Result<(), AllocError>
+    ensures put { OnOk result (out.new.items ≡ out.old.items ++ number_or_null number) }
+{
+    match number {
+        None => put(out, b"null"),
+        Some(number) => put_number(out, b"", number),
+    }
+}
+
+#[tactic(auto, unfolding(crate::specs::Objects::code_of_fault))]
+fn put_code(out: &mut Vec<u8>, fault: LogFault) -> Result<(), AllocError>
+    ensures put { OnOk result (out.new.items ≡ out.old.items ++ code_of_fault fault) }
+{
+    put(out, b",\"code\":\"")?;
+    put(out, code_of(fault).as_bytes())?;
+    put(out, b"\"")
+}
+
+#[tactic(auto, unfolding(crate::specs::Objects::line_of_fault))]
+fn put_line(out: &mut Vec<u8>, fault: LogFault) -> Result<(), AllocError>
+    ensures put { OnOk result (out.new.items ≡ out.old.items ++ line_of_fault fault) }
+{
+    put(out, b",\"line\":")?;
+    put_number_or_null(out, line_of(fault))
+}
+
+#[tactic(auto, unfolding(crate::specs::Objects::words_value))]
+fn put_words(out: &mut Vec<u8>, words: &[u8]) -> Result<(), AllocError>
+    ensures put { OnOk result (out.new.items ≡ out.old.items ++ words_value words.now) }
+{
+    put(out, b",\"words\":")?;
+    put_quoted(out, words)
+}
+
+/// Appends what stands behind the verdict.
+fn put_behind(
+    out: &mut Vec<u8>,
+    quiet: bool,
+    fault: LogFault,
+    words: &[u8],
+    version: &str,
+) -> Result<(), AllocError>
+    ensures put { OnOk result (out.new.items ≡ out.old.items
+        ++ behind_refused quiet fault words.now version.now) }
+{
+    if quiet {
+        return put(out, b"}\n");
+    }
+    put_code(out, fault)?;
+    put_line(out, fault)?;
+    put_words(out, words)?;
+    put_version(out, version)
+}
+
+fn refusal_object(
+    alloc: Global,
+    quiet: bool,
+    fault: LogFault,
+    words: &[u8],
+    version: &str,
+) -> Result<Vec<u8>, AllocError>
+    ensures object { IfOk result (λ text. text.items
+        ≡ refusal_object quiet fault words.now version.now) }
+{
+    let mut out = Vec::from_slice(alloc, b"{\"verdict\":\"refused\"")?;
+    put_behind(&mut out, quiet, fault, words, version)?;
+    Ok(out)
+}
+
+/// What is said of a refused log in place of a report: nothing, or an object.
+pub fn refusal(
+    alloc: Global,
+    options: &AuditOptions<'_>,
+    log: &[u8],
+    fault: LogFault,
+) -> Result<Vec<u8>, AllocError>
+    ensures refusal { IfOk result (λ text. IsRefusal options.now.form options.now fault
+        text.items) }
+{
+    match options.form {
+        ReportForm::Text => Ok(Vec::new(alloc)),
+        ReportForm::Json => {
+            let words = words_of(alloc, log, fault)?;
+            refusal_object(alloc, options.quiet, fault, words.as_bytes(), options.version)
+        }
+    }
+}

@@ -1,0 +1,236 @@
+//! What is told of a judged log.
+
+ghost use Rattle.std.specs.Prelude.{◌≡◌, List, map, IfOk, OnOk};
+ghost use Rattle.std.specs.List.{AllByRecursion};
+ghost use Rattle.session_log.specs.Text.{ClientSession, IsLegal, view};
+ghost use Rattle.session_log.specs.Version.{first_line};
+ghost use Rattle.log_definitions.specs.Unknown.{resolved};
+ghost use Rattle.piece_laws.specs.Logs.{IsSoundLog, IsLog};
+ghost use Rattle.judging.specs.Judges.{IsVerdict};
+ghost use Rattle.judging.specs.Made.{IsMade, IsToldPart};
+ghost use Rattle.log_definitions.specs.Serial.{IsSerialOrder};
+ghost use Rattle.audit_command.specs.Audited.{nodes_in, IsPartTold, AreToldParts, IsAnswered};
+ghost use Rattle.audit_command.specs.Audited.{IsOrderFile};
+
+use crate::explaining::explain_part;
+use crate::files::order_file;
+use crate::options::AuditOptions;
+use crate::places::told_txns;
+use crate::told::{Answer, ToldPart};
+use crate::undecided::{advice_lines, reason_text};
+use judging::{RefutedPart, Tried, Verdict, Why, more_parts};
+use progress::Progress;
+use proposals::Proposal;
+use session_log::{Session, Version};
+use std::alloc::{AllocError, Global};
+use std::io::Eprint;
+use std::sync::Wait;
+use std::thread::Threads;
+use std::time::Clock;
+
+/// An answer, and the text of the serial order, where there is one and it is asked for.
+#[derive(Drop)]
+pub struct Answered {
+    pub answer: Answer,
+    pub order: Option<Vec<u8>>,
+}
+
+/// A judged log: its version, its sessions with their outcomes known, and what was proposed.
+#[derive(Clone, Copy)]
+pub struct JudgedLog<'a> {
+    pub version: Version,
+    pub sessions: &'a [Session],
+    pub proposal: &'a Proposal,
+}
+
+/// A part, told.
+fn told_part<R: Threads + Wait + Clock + Sync>(
+    rt: &R,
+    alloc: Global,
+    log: &JudgedLog<'_>,
+    refuted: RefutedPart,
+    options: &AuditOptions<'_>,
+) -> Result<ToldPart, AllocError>
+    ensures told { (ss : List ClientSession) → map view log.now.sessions.now ≡ resolved ss
+        → IsToldPart ss refuted → IfOk result (IsPartTold (first_line log.now.version) ss) }
+{
+    let txns = told_txns(alloc, log.version, log.sessions, &refuted.flags)?;
+    let explained = explain_part(rt, alloc, &refuted.part, &options.means)?;
+    let why = if options.explain {
+        explained.lines
+    } else {
+        Vec::new(alloc)
+    };
+    Ok(ToldPart {
+        refuted,
+        txns,
+        known_as: explained.known_as,
+        why,
+    })
+}
+
+/// Appends parts, told.
+fn add_parts<R: Threads + Wait + Clock + Sync>(
+    rt: &R,
+    alloc: Global,
+    log: &JudgedLog<'_>,
+    parts: Vec<RefutedPart>,
+    options: &AuditOptions<'_>,
+    told: &mut Vec<ToldPart>,
+) -> Result<(), AllocError>
+    ensures told { (ss : List ClientSession) → map view log.now.sessions.now ≡ resolved ss
+        → AllByRecursion (IsToldPart ss) parts.items
+        → AreToldParts (first_line log.now.version) ss told.old.items
+        → OnOk result (AreToldParts (first_line log.now.version) ss told.new.items) }
+{
+    for part in parts {
+        told.push(told_part(rt, alloc, log, part, options)?)?;
+    }
+    Ok(())
+}
+
+/// The parts that are told: this one, and further ones where several are asked for.
+fn told_parts<R: Threads + Wait + Clock + Eprint + Sync, P: Progress>(
+    rt: &R,
+    alloc: Global,
+    log: &JudgedLog<'_>,
+    first: RefutedPart,
+    options: &AuditOptions<'_>,
+    progress: &mut P,
+) -> Result<Vec<ToldPart>, AllocError>
+    requires log { IsLog (map view log.now.sessions.now) }
+    ensures told { (ss : List ClientSession) → AllByRecursion IsLegal ss → IsSoundLog ss
+        → map view log.now.sessions.now ≡ resolved ss → IsToldPart ss first
+        → IfOk result (λ told. AreToldParts (first_line log.now.version) ss told.items) }
+{
+    let count = options.faults.saturating_sub(1);
+    let more = more_parts(rt, alloc, log.sessions, &first, count, &options.means, progress)?;
+    let mut told = Vec::new(alloc);
+    told.push(told_part(rt, alloc, log, first, options)?)?;
+    add_parts(rt, alloc, log, more, options, &mut told)?;
+    Ok(told)
+}
+
+/// The text of an order, where it is asked for.
+fn asked_order(
+    alloc: Global,
+    log: &JudgedLog<'_>,
+    order: &[usize],
+    is_asked: bool,
+) -> Result<Option<Vec<u8>>, AllocError>
+    requires log { IsLog (map view log.now.sessions.now) }
+    ensures order { (ss : List ClientSession) → map view log.now.sessions.now ≡ resolved ss
+        → IsSerialOrder ss order.now → IfOk result (IsOrderFile ss is_asked) }
+{
+    if is_asked {
+        Ok(Some(order_file(alloc, log.sessions, order)?))
+    } else {
+        Ok(None)
+    }
+}
+
+/// That too few transactions are committed.
+fn too_few(committed: usize, options: &AuditOptions<'_>) -> Answered {
+    Answered {
+        answer: Answer::TooFew {
+            committed,
+            asked: options.at_least,
+        },
+        order: None,
+    }
+}
+
+/// The answer where this is a serial order.
+fn serial_answer(
+    alloc: Global,
+    log: &JudgedLog<'_>,
+    order: &[usize],
+    committed: usize,
+    options: &AuditOptions<'_>,
+) -> Result<Answered, AllocError>
+    requires log { IsLog (map view log.now.sessions.now) }
+    ensures answered { (ss : List ClientSession) → map view log.now.sessions.now ≡ resolved ss
+        → IsSerialOrder ss order.now → committed ≡ nodes_in ss
+        → IfOk result (IsAnswered options.now (first_line log.now.version) ss) }
+{
+    if committed < options.at_least {
+        return Ok(too_few(committed, options));
+    }
+    Ok(Answered {
+        answer: Answer::Serializable,
+        order: asked_order(alloc, log, order, options.order)?,
+    })
+}
+
+/// The answer where the log is not decided.
+fn open_answer(
+    alloc: Global,
+    log: &JudgedLog<'_>,
+    why: Why,
+    tried: Tried,
+    committed: usize,
+    options: &AuditOptions<'_>,
+) -> Result<Answered, AllocError>
+    ensures answered { (ss : List ClientSession)
+        → IsVerdict options.now.means ss (Verdict.Undecided why tried) → committed ≡ nodes_in ss
+        → IfOk result (IsAnswered options.now (first_line log.now.version) ss) }
+{
+    if committed < options.at_least {
+        return Ok(too_few(committed, options));
+    }
+    Ok(Answered {
+        answer: Answer::Undecided {
+            reason: reason_text(alloc, log.proposal, why, tried)?,
+            advice: advice_lines(alloc, log.version, log.sessions, log.proposal, why)?,
+        },
+        order: None,
+    })
+}
+
+/// The answer where a part has no order.
+fn refuted_answer<R: Threads + Wait + Clock + Eprint + Sync, P: Progress>(
+    rt: &R,
+    alloc: Global,
+    log: &JudgedLog<'_>,
+    first: RefutedPart,
+    options: &AuditOptions<'_>,
+    progress: &mut P,
+) -> Result<Answered, AllocError>
+    requires log { IsLog (map view log.now.sessions.now) }
+    ensures answered { (ss : List ClientSession) → AllByRecursion IsLegal ss → IsSoundLog ss
+        → map view log.now.sessions.now ≡ resolved ss → IsToldPart ss first
+        → IfOk result (IsAnswered options.now (first_line log.now.version) ss) }
+{
+    let parts = told_parts(rt, alloc, log, first, options, progress)?;
+    Ok(Answered {
+        answer: Answer::NotSerializable(parts),
+        order: None,
+    })
+}
+
+/// The answer to a judged log, of which so many transactions are committed.
+pub fn answer_of<R: Threads + Wait + Clock + Eprint + Sync, P: Progress>(
+    rt: &R,
+    alloc: Global,
+    log: &JudgedLog<'_>,
+    verdict: Verdict,
+    committed: usize,
+    options: &AuditOptions<'_>,
+    progress: &mut P,
+) -> Result<Answered, AllocError>
+    requires log { IsLog (map view log.now.sessions.now) }
+    ensures answered { (ss : List ClientSession) → AllByRecursion IsLegal ss → IsSoundLog ss
+        → map view log.now.sessions.now ≡ resolved ss → IsVerdict options.now.means ss verdict
+        → IsMade (resolved ss) verdict → committed ≡ nodes_in ss
+        → IfOk result (IsAnswered options.now (first_line log.now.version) ss) }
+{
+    match verdict {
+        Verdict::NotSerializable(first) => {
+            refuted_answer(rt, alloc, log, first, options, progress)
+        }
+        Verdict::Serializable(order) => serial_answer(alloc, log, &order, committed, options),
+        Verdict::Undecided { why, tried } => {
+            open_answer(alloc, log, why, tried, committed, options)
+        }
+    }
+}

@@ -1,0 +1,61 @@
+//! How much a log holds.
+
+ghost use Rattle.std.specs.Prelude.{◌≡◌, List, map, count_by, IfOk};
+ghost use Rattle.session_log.specs.Text.{ClientSession, view, view_txn};
+ghost use Rattle.log_definitions.specs.Unknown.{is_committed, resolved};
+ghost use Rattle.audit_command.specs.Counts.{AreCounts};
+ghost use Rattle.audit_command.specs.Audited.{nodes_in, AreTotals};
+
+use crate::counts::LogCounts;
+use crate::told::Totals;
+use session_log::{Outcome, Session, Txn};
+use std::alloc::AllocError;
+
+/// Whether the transaction is committed.
+fn is_committed(txn: &Txn) -> bool
+    ensures { result ≡ is_committed (view_txn txn.now) }
+{
+    match txn.outcome {
+        Outcome::Commit => true,
+        Outcome::Abort | Outcome::Unknown => false,
+    }
+}
+
+/// How many of the transactions are committed.
+fn nodes_among(txns: &[Txn]) -> usize
+    ensures { result ≡ count_by is_committed (map view_txn txns.now) }
+{
+    let mut nodes = 0;
+    for txn in txns {
+        if is_committed(txn) {
+            nodes += 1;
+        }
+    }
+    nodes
+}
+
+/// How many transactions of the sessions are committed. A number that memory has no room for is
+/// told as want of it.
+fn nodes_in(sessions: &[Session]) -> Result<usize, AllocError>
+    ensures { IfOk result (λ n. n ≡ nodes_in (map view sessions.now)) }
+{
+    let mut nodes: usize = 0;
+    for session in sessions {
+        nodes = nodes
+            .checked_add(nodes_among(&session.txns))
+            .ok_or(AllocError)?;
+    }
+    Ok(nodes)
+}
+
+/// How much a log holds that has these counts, and these sessions once outcomes are known.
+pub fn totals_of(counts: LogCounts, known: &[Session]) -> Result<Totals, AllocError>
+    ensures totals { IfOk result (λ t. (ss : List ClientSession) → AreCounts ss counts
+        → map view known.now ≡ resolved ss → AreTotals ss t) }
+{
+    let nodes = nodes_in(known)?;
+    Ok(Totals {
+        counts,
+        taken: nodes.saturating_sub(counts.committed),
+    })
+}
