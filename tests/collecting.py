@@ -67,7 +67,7 @@ def main():
         checks, path, refused = Checks(os.path.abspath(sys.argv[1]), folder), os.path.join(folder, 'log'), 0
         for run in range(RUNS):
             for words in ([], ['--moments', 'all'], WEAK):
-                subprocess.run([sys.executable, COLLECTOR, *SIZE, *words, path], check=True, timeout=600)
+                subprocess.run([sys.executable, COLLECTOR, '--overwrite', *SIZE, *words, path], check=True, timeout=600)
                 with open(path, 'rb') as file:
                     log = file.read()
                 if words == WEAK:
