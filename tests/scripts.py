@@ -77,7 +77,13 @@ class Copy:
         got = self.call('prove')
         self.expect('prove by a link', got[:2] == (0, '') and 'these sources are proved' in got[2], got)
         self.refused('check', './run check good.log', 'good.log')
-        self.refused('prove', '--jobs', '--help')
+        self.refused('prove', '--jobs', '--what')
+        for name in ('solve', 'prove', 'check'):
+            got = self.call(name, '--help')
+            self.expect('%s --help' % name, got[0] == 0 and './' + name in got[1] and not got[2], got)
+        for word, status, said in (('--help', 0, b"Graphviz's dot"), ('five_reasons', 2, b'has drawn nothing')):
+            ran = subprocess.run([os.path.join(self.top, 'tools', 'pictures.sh'), word], stdout=subprocess.PIPE, stderr=subprocess.STDOUT)
+            self.expect('pictures.sh %s' % word, ran.returncode == status and said in ran.stdout, ran)
         self.refused('install', 'no \'good.log\'', 'good.log')
         for name in SCRIPTS:
             alone = self.file(name, '')
@@ -90,6 +96,27 @@ class Copy:
         with open(path, 'w') as out:
             out.write(text)
         return path
+
+    # ---- the words of a solver
+
+    def solvers(self):
+        """Where the files of the formula and of the proof stand among the words of a solver."""
+        solver = self.file('a solver', '#!/bin/sh\nshift $(($1 - 1))\nhead -n 1 "$2" | grep -q "^p cnf" && echo s SATISFIABLE\n')
+        os.chmod(solver, 0o755)
+        for words in ("'%s' 1", "'%s' 1 {formula} {proof}", "'%s' 2 {proof} {formula}", "'%s' 2 {proof}", "'%s' 1 {formula} | cat", "'%s' 2 x '{formula}'"):
+            got = self.call('solve', self.log, '--solver', words % solver)
+            # a word in quotes is no file
+            wanted = AROUND if words.endswith("'{formula}'") else 0
+            self.expect('solve --solver "%s"' % words, got[0] == wanted and ('serializable\n' in got[1]) == (wanted == 0), got)
+        unproved = self.shell('echo "$(unproved_program "$(sum_of_sources)")"')
+        hidden = self.proved + ' hidden'
+        os.makedirs(os.path.dirname(unproved))
+        shutil.copy(self.proved, unproved)
+        os.rename(self.proved, hidden)
+        got = self.call('run', 'check', self.log)
+        self.expect('an unproved program is named once', got[0] == 0 and not got[2], got)
+        os.rename(hidden, self.proved)
+        shutil.rmtree(os.path.dirname(unproved))
 
     # ---- signals
 
@@ -321,6 +348,7 @@ def main():
     with tempfile.TemporaryDirectory() as folder:
         copy = Copy(program, folder)
         copy.links()
+        copy.solvers()
         copy.signals()
         copy.stamps(program)
         manual(copy, copy.proved)

@@ -104,6 +104,8 @@ class Program:
         status, told, said = self.ask(text, 'explain', '--strategy', 'forced', '--workers', '1', *words)
         if status != NOT_SERIALIZABLE:
             verdict, hint = told.split('\n')[0], ''
+            if status == SERIALIZABLE and verdict == 'serializable':
+                raise Stop('this log is serializable: it has an order, which check prints, and so there is no fault to tell')
             if 'L7' in said:
                 hint = 'audit names the piece that is not serializable, and pieces --piece K hands it out'
             words = "explain does not say 'not serializable', but (status %d): %s" % (status, verdict)
