@@ -61,14 +61,14 @@ def identity_of(seen):
     return wid
 
 
-def clock_of_machine():
-    """Microseconds of a clock that all processes of this machine share, and that nobody sets."""
-    return time.monotonic_ns() // 1000
-
-
 def clock_of_day():
-    """Microseconds since 1970, by this machine's clock: for clients on several machines, whose clocks are kept together."""
+    """Microseconds since 1970, by this machine's clock."""
     return time.time_ns() // 1000
+
+
+def clock_of_machine():
+    """Microseconds of a clock that all processes of this machine share, no other machine has, and nobody sets."""
+    return time.monotonic_ns() // 1000
 
 
 def holds_something(path):
@@ -116,7 +116,7 @@ class Recorder:
     unknown        the same of those behind which nobody knows whether it was committed
     patience       seconds that clients wait at a barrier for the others, before they go on without it
     clock          whole numbers that never fall, one clock for all clients; microseconds since now where it is not given, and of a share
-                   `clock_of_machine`. Clients on several machines take `clock_of_day`"""
+                   `clock_of_day`. Where this may be set during a run, processes of one machine take `clock_of_machine`"""
 
     def __init__(self, path, barrier_every=200, moments='barriers', aborted=(), unknown=(), patience=10, clock=None, overwrite=False,
                  share=None):
@@ -136,7 +136,7 @@ class Recorder:
         self._check_free_path()
         self.barriers = []
         alone = lambda: (time.monotonic_ns() - began) // 1000
-        self._clock, self._last = clock or (clock_of_machine if share else alone), 0
+        self._clock, self._last = clock or (clock_of_day if share else alone), 0
         self._is_shared, self._share = share is not None, share or (1, 1)
         if not isinstance(self._clock(), int) or self._clock() < 0:
             raise Misuse('a clock gives whole numbers from 0, as time.monotonic_ns does, and not %r' % (self._clock(),))
@@ -283,8 +283,9 @@ class Recorder:
         """A reading of the clock, greater than each one before: so what is read first is the lesser, on any clock. Where other processes
         read it too, a beginning is not said to be later than it was, and an end not to be earlier."""
         if self._is_shared:
-            self._last = max(self._clock(), self._last)
-            return self._last + is_end
+            now = self._clock()
+            self._last = max(self._last, now + 1)
+            return self._last if is_end else now
         self._last = max(self._clock(), self._last + 1)
         return self._last
 

@@ -12,7 +12,7 @@ COLLECT = os.path.join(os.path.dirname(HERE), 'collect')
 JOIN = os.path.join(COLLECT, 'join.py')
 sys.path[:0] = [COLLECT, HERE]
 import reference
-from recorder import Recorder, clock_of_day, clock_of_machine
+from recorder import Recorder, clock_of_machine
 
 PROCESSES, THREADS, TRANSACTIONS = 3, 2, 12
 # How wrong a clock is, in microseconds: more than a run takes.
@@ -112,7 +112,7 @@ class Checks:
 def runs(checks):
     """Sound runs are serializable, with true moments and with none; where clocks are wrong, with as much slack."""
     for seed in range(4):
-        for words in ({'moments': 'all'}, {'moments': None}, {'moments': 'all', 'clocks': [clock_of_day] * PROCESSES}):
+        for words in ({'moments': 'all'}, {'moments': None}, {'moments': 'all', 'clocks': [clock_of_machine] * PROCESSES}):
             logs = checks.run(seed, **words)
             checks.expect(checks.judged(logs) == 0, 'run %d with %s is refused' % (seed, words))
             parts = [reference.read_log(checks.text(log)) for log in logs]
