@@ -1,7 +1,7 @@
 #!/usr/bin/env python3
 """scripts.py PROGRAM: the scripts around the program, and what `--version` and the manual page tell.
 
-In a copy of the repository PROGRAM stands as what was proved there. ./run, ./solve, ./prove, ./install and ./check are called from elsewhere,
+In a copy of the repository PROGRAM stands as what was proved there. ./run, ./solve, ./prove, ./install, ./check and ./package are called from elsewhere,
 by a symbolic link to a link to them, and as single files; ./solve is ended by signals, while it reads, and while a solver runs that starts
 a process of its own; ./install is asked for what stands and for what does not; stamps are written, and refused; docs/cobra_poly.1 must have what `--help`
 says of each command; tools/proof_times.txt must have each crate that the program stands on. Last line: 'scripts: N passed, M failed'."""
@@ -13,7 +13,7 @@ sys.path.insert(0, os.path.join(TOP, 'tools'))
 import prove_program
 
 AROUND, LATE = 70, 120
-SCRIPTS = ('run', 'solve', 'prove', 'install', 'check')
+SCRIPTS = ('run', 'solve', 'prove', 'install', 'check', 'package')
 UNSTAMPED = b'(commit unknown, not stamped)'
 # A solver that starts a process of its own, names both in a file, and ends by a signal alone.
 ENDLESS = '''#!/bin/sh
@@ -78,7 +78,7 @@ class Copy:
         self.expect('prove by a link', got[:2] == (0, '') and 'these sources are proved' in got[2], got)
         self.refused('check', './run check good.log', 'good.log')
         self.refused('prove', '--jobs', '--what')
-        for name in ('solve', 'prove', 'check'):
+        for name in ('solve', 'prove', 'check', 'package'):
             got = self.call(name, '--help')
             self.expect('%s --help' % name, got[0] == 0 and './' + name in got[1] and not got[2], got)
         for word, status, said in (('--help', 0, b"Graphviz's dot"), ('five_reasons', 2, b'has drawn nothing')):

@@ -466,7 +466,7 @@ class Page:
 
 def beside(name):
     """The text of a file that stands beside this script."""
-    with open(os.path.join(os.path.dirname(os.path.abspath(__file__)), name), encoding='utf-8') as file:
+    with open(os.path.join(os.path.dirname(os.path.realpath(__file__)), name), encoding='utf-8') as file:
         return file.read()
 
 
