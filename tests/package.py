@@ -130,6 +130,7 @@ class Checks:
         call('cobra_poly-shrink', example('busy_store.log'), '-o', 'small.log', says='3 of 9 transactions')
         call(os.path.join(home, 'collect', 'sqlite.py'), '--transactions', '50', '--keys', '5', 'honest.log')
         call('cobra_poly', 'audit', '--quiet', 'honest.log', says='serializable')
+        call(example('quickstart.sh'), 'quick', says='the page is quick/why.html')
         call('cobra_poly-join', 'honest.log', '-o', 'joined.log')
         self.expect(content(os.path.join(work, 'joined.log')) == content(os.path.join(work, 'honest.log')), '%s: join' % what)
         for name in ('recorder.go', 'Recorder.java'):
