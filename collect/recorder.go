@@ -4,7 +4,7 @@
 //	run, err := recorder.New("run.log", recorder.Options{})
 //	session := run.Session()                             // one for each client, which is a goroutine
 //	txn := session.Begin()                               // before its first statement is sent
-//	txn.Read("stock/7", recorder.Identity(store.Get("stock/7")))   // behind the answer; 0 where there was nothing
+//	txn.Read("stock/7", recorder.Identity(store.Get("stock/7")))   // behind the answer: a text, and whether there was one
 //	wid := txn.Write("stock/7")                          // before the statement: an identity to keep beside the value
 //	store.Put("stock/7", fmt.Sprintf("%d red", wid))
 //	txn.Commit()                                         // behind the store's answer; or txn.Abort(), or txn.Unknown()
@@ -63,8 +63,11 @@ func Name(key string) string {
 	return "sha:" + hex.EncodeToString(sum[:])[:60]
 }
 
-// Identity gives the identity with which a text begins that a store gave back.
-func Identity(text string) uint64 {
+// Identity gives the identity with which a text begins that a store gave back; 0 where it found nothing.
+func Identity(text string, found bool) uint64 {
+	if !found {
+		return 0
+	}
 	wid, err := strconv.ParseUint(strings.TrimSuffix(firstWord.FindString(text), " "), 10, 64)
 	if err != nil {
 		misuse("a value begins with its identity, and not as %q", text)

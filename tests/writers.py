@@ -1,7 +1,7 @@
 #!/usr/bin/env python3
 """writers.py PROGRAM: collect/recorder.go and collect/Recorder.java, against collect/recorder.py.
 
-All of them get the same script of events, whose clock is part of it: sessions that begin, leave and come back, outcomes of each kind, odd
+First the lines that docs/COLLECTING.md has for each are compiled and run. Then all get the same script of events, whose clock is part of it: sessions that begin, leave and come back, outcomes of each kind, odd
 keys, writes that are refused, shares, files that are there already, and what a harness may do wrong. What comes of each event, the warnings
 and the logs must be the same, byte for byte. Then threads of each language use a small store at once, whose log PROGRAM must find to be
 serializable; and a log of which each language wrote a share must fit together. A language whose compiler is not installed is passed over,
@@ -10,7 +10,7 @@ with a line that says so. Last line: 'writers: N passed, M failed'.
 The events, one a line: open OUT all|none K N yes|no (N 0: no share; whether OUT may be replaced), clock N, name KEY, text UTF-16 KEY,
 session S, begin S, read S KEY SEEN, before S KEY SEEN W, write S KEY W, refused S W, commit S, abort S, unknown S, leave S, close, load OUT
 THREADS TRANSACTIONS. A KEY is hexadecimal, or - for none; SEEN is none, @W, or text: and hexadecimal."""
-import contextlib, io, os, random, shutil, subprocess, sys, tempfile
+import contextlib, io, os, random, re, shutil, subprocess, sys, tempfile
 
 HERE = os.path.dirname(os.path.abspath(__file__))
 COLLECT, WRITERS = os.path.join(os.path.dirname(HERE), 'collect'), os.path.join(HERE, 'writers')
@@ -82,30 +82,69 @@ class InPython:
                     yield 'misuse'
 
 
+GO_PAGE = '''package main
+
+import (
+	"fmt"
+	"writers/recorder"
+)
+
+type stored map[string]string
+
+func (it stored) Get(key string) (string, bool) { value, found := it[key]; return value, found }
+func (it stored) Put(key, value string)         { it[key] = value }
+
+func main() {
+	store := stored{}
+%s
+	fmt.Println(warnings, err)
+}
+'''
+JAVA_PAGE = '''public final class Page {
+    public static void main(String[] arguments) throws java.io.IOException {
+        java.util.Map<String, String> store = new java.util.HashMap<>();
+%s
+    }
+}
+'''
+# What the lines of the page write, but for moments.
+PAGE_LOG = b'log 3\nsession 1\nbegin\nr stock/7 0\nw stock/7 1001\ncommit\n'
+
+
+def page_of(language):
+    """The lines that docs/COLLECTING.md has for a language."""
+    with open(os.path.join(os.path.dirname(HERE), 'docs', 'COLLECTING.md'), encoding='utf-8') as file:
+        return re.search('^```%s\n(.*?)^```' % language, file.read(), re.M | re.S)[1]
+
+
 def in_go(folder):
-    """The words that start the writer in Go; nothing where it cannot be compiled here."""
+    """The words that start the writer in Go, and the lines of the page; nothing where there is no compiler."""
     if not shutil.which('go'):
         return None
     top, program = os.path.join(folder, 'go'), os.path.join(folder, 'in_go')
     os.makedirs(os.path.join(top, 'recorder'))
     shutil.copy(os.path.join(COLLECT, 'recorder.go'), os.path.join(top, 'recorder'))
     shutil.copy(os.path.join(WRITERS, 'main.go'), top)
-    with open(os.path.join(top, 'go.mod'), 'w') as module:
-        module.write('module writers\n\ngo 1.18\n')
+    os.mkdir(os.path.join(top, 'page'))
+    for name, text in (('go.mod', 'module writers\n\ngo 1.18\n'), ('page/page.go', GO_PAGE % page_of('go'))):
+        with open(os.path.join(top, name), 'w') as out:
+            out.write(text)
     environment = dict(os.environ, GOFLAGS='-mod=mod', GOPROXY='off', GOCACHE=os.path.join(folder, 'cache'), GO111MODULE='on', CGO_ENABLED='0')
-    for words in (['vet', './...'], ['build', '-o', program, '.']):
+    for words in (['vet', './...'], ['build', '-o', program, '.'], ['build', '-o', program + '_page', './page']):
         subprocess.run(['go', *words], cwd=top, env=environment, stdin=subprocess.DEVNULL, check=True, timeout=600)
-    return [program]
+    return [program], [program + '_page']
 
 
 def in_java(folder):
     """The same of the one in Java."""
     if not shutil.which('javac') or not shutil.which('java'):
         return None
-    sources = [os.path.join(COLLECT, 'Recorder.java'), os.path.join(WRITERS, 'Main.java')]
+    sources = [os.path.join(COLLECT, 'Recorder.java'), os.path.join(WRITERS, 'Main.java'), os.path.join(folder, 'Page.java')]
+    with open(sources[-1], 'w') as out:
+        out.write(JAVA_PAGE % page_of('java'))
     classes = os.path.join(folder, 'java')
     subprocess.run(['javac', '-Xlint:-options', '--release', '8', '-encoding', 'UTF-8', '-d', classes, *sources], stdin=subprocess.DEVNULL, check=True, timeout=600)
-    return ['java', '-XX:+UseSerialGC', '-cp', classes, 'Main']
+    return [['java', '-XX:+UseSerialGC', '-cp', classes, name] for name in ('Main', 'Page')]
 
 
 LANGUAGES = {'Go': (in_go, 'golang-go'), 'Java': (in_java, 'default-jdk-headless')}
@@ -195,6 +234,14 @@ class Checks:
             yield from script(seed, self.path(language, str(seed - seed % 5 // 4)))
         yield from worth(self.path(language, 'worth'))
 
+    def page(self, language, words):
+        """The page's own lines, which write run.log where they are run."""
+        at = self.path(language + ' page')
+        os.mkdir(at)
+        ran = subprocess.run(words, cwd=at, stdin=subprocess.DEVNULL, stdout=subprocess.PIPE, stderr=subprocess.PIPE, timeout=120)
+        log = re.sub(rb'(begin|commit) [0-9]+', rb'\1', self.text(os.path.join(at, 'run.log')) or b'')
+        self.expect(ran.returncode == 0 and log == PAGE_LOG, '%s: the page: %s %s' % (language, ran, log))
+
     def told(self, words, lines):
         ran = subprocess.run(words, input=''.join(line + '\n' for line in lines).encode(), stdout=subprocess.PIPE, stderr=subprocess.PIPE, timeout=600)
         self.expect(ran.returncode == 0, '%s ended with %d: %s' % (words[0], ran.returncode, ran.stderr.decode()[-1000:]))
@@ -242,11 +289,13 @@ def main():
     with tempfile.TemporaryDirectory() as folder:
         checks, started = Checks(os.path.abspath(sys.argv[1]), folder), {'Python': None}
         for language, (compile_it, package) in LANGUAGES.items():
-            words = compile_it(folder)
-            if words is None:
+            compiled = compile_it(folder)
+            if compiled is None:
                 print('writers: note: %s is passed over, since its compiler (%s) is not installed' % (language, package))
                 continue
+            words, page = compiled
             started[language] = words
+            checks.page(language, page)
             checks.compare(language, words)
             checks.load(language, words)
         checks.shares(started)

@@ -38,11 +38,11 @@ func identity(name string) uint64 {
 func seen(word string) uint64 {
 	switch {
 	case word == "none":
-		return 0
+		return recorder.Identity("", false)
 	case word[0] == '@':
 		return identity(word[1:])
 	}
-	return recorder.Identity(key(strings.TrimPrefix(word, "text:")))
+	return recorder.Identity(key(strings.TrimPrefix(word, "text:")), true)
 }
 
 func do(words []string) string {
@@ -122,11 +122,8 @@ func load(path string, threads, count int) {
 				lock.Lock()
 				for operation := 0; operation < 3; operation++ {
 					key := fmt.Sprint("k", dice.Intn(5))
-					if value, found := values[key]; found {
-						txn.Read(key, recorder.Identity(value))
-					} else {
-						txn.Read(key, 0)
-					}
+					value, found := values[key]
+					txn.Read(key, recorder.Identity(value, found))
 					if dice.Intn(2) == 0 {
 						values[key] = fmt.Sprintf("%d red", txn.Write(key))
 					}
