@@ -7,7 +7,7 @@ the methods of its class Store anew, and end with
 
 Nothing of this is proved."""
 import argparse, concurrent.futures, os, random, socket, sys, time
-from recorder import Misuse, Recorder
+from recorder import Recorder, holds_something
 
 COLOURS = ('red', 'green', 'deleted')
 # A new connection is tried for so many seconds.
@@ -149,6 +149,8 @@ def parse(document, levels, address, options):
     arguments = parser.parse_args()
     if min(arguments.sessions, arguments.keys) < 1 or min(arguments.transactions, arguments.pause, arguments.barrier, arguments.kill) < 0:
         parser.error('a number is too small')
+    if holds_something(arguments.out) and not arguments.overwrite:
+        parser.error('%s is there already, and may be a log that is still needed: take another name, or --overwrite' % arguments.out)
     arguments.run = 'cobra_%x_%x' % (int(time.time()), os.getpid())
     return arguments
 
@@ -166,11 +168,8 @@ def main(document, levels, address=None, options={}):
     arguments = parse(document, levels, address, options)
     store_class = levels[arguments.level]
     moments = None if arguments.moments == 'none' else arguments.moments
-    try:
-        run = Recorder(arguments.out, barrier_every=moments and arguments.barrier or None, moments=moments, aborted=store_class.aborted,
-                       unknown=store_class.lost, overwrite=arguments.overwrite)
-    except (Misuse, OSError) as fault:
-        sys.exit('%s: %s' % (os.path.basename(sys.argv[0]), fault))
+    run = Recorder(arguments.out, barrier_every=moments and arguments.barrier or None, moments=moments, aborted=store_class.aborted,
+                   unknown=store_class.lost, overwrite=arguments.overwrite)
     store_class.prepare(arguments)
     try:
         with run, concurrent.futures.ThreadPoolExecutor(arguments.sessions) as pool:
