@@ -11,6 +11,8 @@ from recorder import holds_something
 
 DOES_NOT_FIT, AROUND, MOST = 65, 70, 2 ** 64 - 1
 ENDS = re.compile(rb'(commit|abort|unknown)\b')
+TWICE = {b'w': ('the identity', 'have all processes the same N, and each a K of its own?'),
+         b's': ('the session', 'is a log named twice, or had two processes one share?')}
 MOMENT = re.compile(rb'(begin|commit) ([0-9]+)\n')
 
 
@@ -50,33 +52,34 @@ class Joined:
 
     def take(self, path, out):
         """Writes the lines of a log behind its version to a file."""
-        is_open, last, times = False, b'', []
+        is_open, number, times = False, 0, []
         with open(path, 'rb') as log:
             for number, line in enumerate(log, 1):
-                at, word, last = '%s:%d' % (path, number), line[:2], line
-                if number == 1 and line.startswith(b'log '):
-                    continue
-                if not line.endswith(b'\n'):
-                    raise Stop('%s: this line has no end: its run died, or goes on' % at)
+                word = line[:2]
                 if word == b'w ':
-                    self.stands_once(self.written, line, at, 'the identity', 'have all processes the same N, and each a K of its own?')
+                    self.stands_once(self.written, line, path, number)
                 elif word == b'r ':
                     self.wanted.add(line.rpartition(b' ')[2])
                 elif word == b'se':
-                    self.stands_once(self.sessions, line, at, 'the session', 'is a log named twice, or had two processes one share?')
+                    self.stands_once(self.sessions, line, path, number)
+                elif number == 1 and word == b'lo':
+                    continue
                 else:
                     is_open = not ENDS.match(line)
                     line = self.widened(line, times)
                 out.write(line)
+        if not line.endswith(b'\n'):
+            raise Stop('%s:%d: this line has no end: its run died, or goes on' % (path, number))
         if is_open:
             raise Stop('%s: its last transaction has no end: its run died, or goes on' % path)
         if times:
             self.times.append((min(times), max(times), path))
 
-    def stands_once(self, seen, line, at, what, why):
+    def stands_once(self, seen, line, path, number):
         word = line.rpartition(b' ')[2]
         if word in seen:
-            raise Stop('%s: %s %s stands in %s already: %s' % (at, what, word.decode().strip(), first_place(self.paths, line[:1], word), why))
+            what, why = TWICE[line[:1]]
+            raise Stop('%s:%d: %s %s stands in %s already: %s' % (path, number, what, word.decode().strip(), first_place(self.paths, line[:1], word), why))
         seen.add(word)
 
     def widened(self, line, times):
