@@ -5,7 +5,7 @@ In a copy of the repository PROGRAM stands as what was proved there. ./run, ./so
 by a symbolic link to a link to them, and as single files; ./solve is ended by signals, while it reads, and while a solver runs that starts
 a process of its own; ./install is asked for what stands and for what does not; stamps are written, and refused; docs/cobra_poly.1 must have what `--help`
 says of each command; tools/proof_times.txt must have each crate that the program stands on. Last line: 'scripts: N passed, M failed'."""
-import os, re, shutil, signal, subprocess, sys, tempfile, time
+import os, re, shutil, signal, subprocess, sys, tarfile, tempfile, time
 
 HERE = os.path.dirname(os.path.abspath(__file__))
 TOP = os.path.dirname(HERE)
@@ -182,6 +182,13 @@ class Copy:
         self.expect('who may use what', [os.stat(it).st_mode & 0o777 for it in (program, page)] == [0o755, 0o644])
         ran = subprocess.run([program, 'check', self.log], stdout=subprocess.PIPE, env={}, cwd='/', timeout=LATE)
         self.expect('the program runs elsewhere', ran.returncode == 0 and ran.stdout.startswith(b'serializable\n'), ran)
+        into, kit = os.path.join(self.folder, 'packages'), subprocess.run(['rt', 'version'], stdout=subprocess.PIPE).stdout.decode().strip()
+        got = self.call('package', '--into', into)
+        made = sorted(os.listdir(into)) if os.path.isdir(into) else []
+        self.expect('package', got[0] == 0 and made == ['SHA256SUMS', 'cobra-poly-1.0.0-linux-x86_64.tar.gz', 'cobra-poly_1.0.0_amd64.deb'], (got, made))
+        with tarfile.open(os.path.join(into, made[1])) as tar:
+            text = tar.extractfile('cobra-poly-1.0.0/share/cobra-poly/PROVED').read().decode()
+        self.expect('PROVED', wanted['proved'] in text and 'kit that proved it: %s\n' % kit in text, text)
         # Where nothing is proved: a refusal, and what was installed stays.
         unproved = self.proved.replace(os.sep + 'proved' + os.sep, os.sep + 'unproved' + os.sep)
         os.makedirs(os.path.dirname(unproved))

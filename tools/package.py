@@ -45,7 +45,7 @@ BY_KIT = '''kit that proved it: %(kit)s
 Proved was the program, from the bytes of its input to the bytes of its answer, as docs/PROMISES.md says, by the proofs of these crates:
 %(crates)s
 Trusted are that kit (prover, compilers, and the statements of its own crates), LLVM, and the C library. To see it again: take the sources of
-the program's commit and that kit, and run ./prove, which ends well only where every proof holds.
+the program's commit and that kit, and run ./prove, which ends well only where every proof holds.%(changed)s
 '''
 BY_NONE = '''
 Nothing says that this program was proved: it may have been built without proofs, or by other means than ./prove.
@@ -128,7 +128,8 @@ class Tree:
             path = os.path.join(TOP, name)
             self.files[HOME + '/' + name] = (content(path), 0o755 if os.access(path, os.X_OK) else 0o644)
         is_proved = version.endswith(', proved)') and kit
-        what = BY_KIT % {'kit': kit, 'crates': lines_of(crates_of_program())} if is_proved else BY_NONE
+        changed = '\nThese were not the sources of that commit alone: the + says that some were changed since.' if '+, ' in version else ''
+        what = BY_KIT % {'kit': kit, 'crates': lines_of(crates_of_program()), 'changed': changed} if is_proved else BY_NONE
         text = PROVED % {'version': version, 'sum': hashlib.sha256(binary).hexdigest(), 'commit': commit(), 'what': what}
         self.files[HOME + '/PROVED'] = (text.encode(), 0o644)
         for name, leads in COMMANDS.items():
