@@ -7,7 +7,7 @@ the methods of its class Store anew, and end with
 
 Nothing of this is proved."""
 import argparse, concurrent.futures, os, random, socket, sys, time
-from recorder import Recorder
+from recorder import Recorder, holds_something
 
 COLOURS = ('red', 'green', 'deleted')
 # A new connection is tried for so many seconds.
@@ -140,6 +140,7 @@ def parse(document, levels, address, options):
     parser.add_argument('--barrier', type=int, default=200, metavar='N', help='a barrier behind so many transactions, 0: none: %(default)s')
     parser.add_argument('--moments', choices=('all', 'barriers', 'none'), default='barriers',
                         help="'all' for a store that promises strict serializability: %(default)s")
+    parser.add_argument('--overwrite', action='store_true', help='replace OUT where it is there already')
     for option, how in options.items():
         parser.add_argument(option, **how)
     parser.set_defaults(kill=0)
@@ -148,6 +149,8 @@ def parse(document, levels, address, options):
     arguments = parser.parse_args()
     if min(arguments.sessions, arguments.keys) < 1 or min(arguments.transactions, arguments.pause, arguments.barrier, arguments.kill) < 0:
         parser.error('a number is too small')
+    if holds_something(arguments.out) and not arguments.overwrite:
+        parser.error('%s is there already, and may be a log that is still needed: take another name, or --overwrite' % arguments.out)
     arguments.run = 'cobra_%x_%x' % (int(time.time()), os.getpid())
     return arguments
 
@@ -166,7 +169,7 @@ def main(document, levels, address=None, options={}):
     store_class = levels[arguments.level]
     moments = None if arguments.moments == 'none' else arguments.moments
     run = Recorder(arguments.out, barrier_every=moments and arguments.barrier or None, moments=moments, aborted=store_class.aborted,
-                   unknown=store_class.lost)
+                   unknown=store_class.lost, overwrite=arguments.overwrite)
     store_class.prepare(arguments)
     try:
         with run, concurrent.futures.ThreadPoolExecutor(arguments.sessions) as pool:

@@ -13,7 +13,8 @@ It gives out sessions, identities and moments, and sets barriers: every so many 
 transaction open, so that the log can be cut there. Nothing of it is proved; it needs Python's standard library alone, 3.8 or later."""
 import atexit, collections, hashlib, itertools, operator, os, re, shutil, sys, tempfile, threading, time
 
-# An identity is a count times CLIENTS plus its client's number: its last three digits are the client.
+# An identity is a count times CLIENTS plus its client's number: its last three digits are the client. Of N processes that write one log the
+# K-th has every N-th count and every N-th session, from K on.
 CLIENTS, MAX_SESSION, MAX_IDENTITY = 1000, 65535, 2 ** 64 - 1
 # So many lines of a client may stand in memory before they go to its file.
 BUFFER = 4096
@@ -60,15 +61,37 @@ def identity_of(seen):
     return wid
 
 
+def clock_of_day():
+    """Microseconds since 1970, by this machine's clock."""
+    return time.time_ns() // 1000
+
+
+def clock_of_machine():
+    """Microseconds of a clock that all processes of this machine share, no other machine has, and nobody sets."""
+    return time.monotonic_ns() // 1000
+
+
+def holds_something(path):
+    """Whether a log that is written there would replace what somebody may need."""
+    return os.path.exists(path) and (not os.path.isfile(path) or os.path.getsize(path) > 0)
+
+
 class _Part:
     """One client's part of the log: a file, the lines that are not in it yet, and how many identities this client has given out."""
 
-    def __init__(self, number, folder):
+    def __init__(self, number, folder, share):
         self.number, self.path, self.size, self.lines, self.writes = number, os.path.join(folder, str(number)), 0, [], 0
+        self._first, self._step = share
 
     def identity(self):
         self.writes += 1
-        return self.writes * CLIENTS + self.number
+        return ((self.writes - 1) * self._step + self._first) * CLIENTS + self.number
+
+    def count_of(self, wid):
+        """The how manyth identity of this client it is, or 0 where it is none."""
+        count, client = divmod(wid, CLIENTS)
+        place, other = divmod(count - self._first, self._step)
+        return 0 if client != self.number or other or place < 0 else place + 1
 
     def flush(self):
         data = ''.join(self.lines).encode('ascii')
@@ -83,32 +106,45 @@ class _Part:
 class Recorder:
     """The log of one run, which `close` writes to `path`. It may be used by any number of threads.
 
+    overwrite      whether a file that stands there may be replaced: else a recorder for it is refused
+    share          (K, N) for the K-th of N processes that write one log, each to a path of its own; join.py joins them. Barriers are those
+                   of one process, so it goes with barrier_every=None, and moments='all' or None
     barrier_every  after so many transactions of all clients together there is a barrier; None: only where `barrier` asks for one
     moments        'all': when each transaction began and was committed, for a store that promises strict serializability; 'barriers': no
                    more of this than that what ended before a barrier came before what began behind it; None: no moments, and no barriers
     aborted        exceptions that say that a transaction was rolled back; where one leaves a transaction's block, it goes no further
     unknown        the same of those behind which nobody knows whether it was committed
     patience       seconds that clients wait at a barrier for the others, before they go on without it
-    clock          whole numbers that never fall, one clock for all clients; microseconds since now where it is not given"""
+    clock          whole numbers that never fall, one clock for all clients; microseconds since now where it is not given, and of a share
+                   `clock_of_day`. Where this may be set during a run, processes of one machine take `clock_of_machine`"""
 
-    def __init__(self, path, barrier_every=200, moments='barriers', aborted=(), unknown=(), patience=10, clock=None):
+    def __init__(self, path, barrier_every=200, moments='barriers', aborted=(), unknown=(), patience=10, clock=None, overwrite=False,
+                 share=None):
         if moments not in ('all', 'barriers', None):
             raise Misuse("moments are 'all', 'barriers' or None, and not %r" % (moments,))
         if barrier_every is not None and not (isinstance(barrier_every, int) and barrier_every >= 1):
             raise Misuse('barrier_every is a whole number from 1, or None, and not %r' % (barrier_every,))
         if moments is None and barrier_every is not None:
             raise Misuse('a barrier is told by moments: with moments=None goes barrier_every=None')
+        if share is not None and (barrier_every is not None or moments == 'barriers'):
+            raise Misuse("barriers are those of one process: with share=(K, N) go barrier_every=None, and moments='all' or None")
+        if share is not None and not (isinstance(share, tuple) and len(share) == 2 and all(isinstance(it, int) for it in share)
+                                      and 1 <= share[0] <= share[1] <= MAX_SESSION):
+            raise Misuse('a share is a pair of whole numbers, (K, N) for the K-th of N processes, and not %r' % (share,))
         began = time.monotonic_ns()
-        self.path = os.path.abspath(os.fspath(path))
+        self.path, self._may_replace = os.path.abspath(os.fspath(path)), overwrite
+        self._check_free_path()
         self.barriers = []
-        self._clock, self._last = clock or (lambda: (time.monotonic_ns() - began) // 1000), 0
+        alone = lambda: (time.monotonic_ns() - began) // 1000
+        self._clock, self._last = clock or (clock_of_day if share else alone), 0
+        self._is_shared, self._share = share is not None, share or (1, 1)
         if not isinstance(self._clock(), int) or self._clock() < 0:
             raise Misuse('a clock gives whole numbers from 0, as time.monotonic_ns does, and not %r' % (self._clock(),))
         self._barrier_every, self._moments, self._patience = barrier_every, moments, patience
         self._named = self._outcomes(abort=aborted, unknown=unknown)
         # All that follows is read and changed with this lock held.
         self._turn = threading.Condition()
-        self._numbers, self._parts, self._idle = itertools.count(1), [], []
+        self._numbers, self._parts, self._idle = itertools.count(*self._share), [], []
         self._open, self._due, self._setter, self._ended, self._unseen = {}, False, None, 0, {}
         self._counts, self._strange, self._left_open, self._warnings = collections.Counter(), None, [], None
         # what a piece of the log has so far, and the most that one had
@@ -140,14 +176,14 @@ class Recorder:
             if not self._idle:
                 if len(self._parts) == CLIENTS - 1:
                     raise Misuse('more than %d sessions at once: leave a session when its client ends' % len(self._parts))
-                self._parts.append(_Part(len(self._parts) + 1, self._folder))
+                self._parts.append(_Part(len(self._parts) + 1, self._folder, self._share))
                 self._idle.append(self._parts[-1])
             return Session(self, self._idle.pop(), look)
 
     def barrier(self):
         """Asks for a barrier: no client begins a transaction before none is open."""
-        if self._moments is None:
-            raise Misuse('a barrier is told by moments, and this recorder states none')
+        if self._moments is None or self._is_shared:
+            raise Misuse('a barrier is told by moments, and this recorder states none, or is one of several')
         with self._turn:
             self._check_open()
             self._due = True
@@ -179,9 +215,15 @@ class Recorder:
             print('recorder: %s: close() was not called, and is called now' % self.path, file=sys.stderr)
             self.close()
 
+    def _check_free_path(self, told=''):
+        if not self._may_replace and holds_something(self.path):
+            raise Misuse('%s is there already, and may be a log that is still needed: take another name, or overwrite=True%s' % (
+                self.path, told))
+
     def _check_open(self):
         if os.getpid() != self._process:
-            raise Misuse('this recorder belongs to process %d, and this is another one: clients are threads of one process' % self._process)
+            raise Misuse('this recorder belongs to process %d, and this is another one: give each process one of its own, with share=(K, N)'
+                         % self._process)
         if self._closed:
             raise Misuse('the recorder is closed: let all clients end before close()')
 
@@ -194,15 +236,18 @@ class Recorder:
             for part in self._parts:
                 with open(part.path, 'rb') as file:
                     shutil.copyfileobj(file, log)
+        atexit.unregister(self._at_exit)
+        self._check_free_path('; this run is in ' + new)
         os.replace(new, self.path)
         shutil.rmtree(self._folder, ignore_errors=True)
-        atexit.unregister(self._at_exit)
 
     def _worth_little(self):
         counts = self._counts
         ended = counts['commit'] + counts['abort'] + counts['unknown']
         if not counts['commit']:
             yield 'no transaction was committed, so there is nothing to judge'
+        elif self._is_shared:
+            pass  # where clients meet, the other processes may tell
         elif counts['sessions'] < 2:
             yield 'there is one session alone: a fault shows where clients meet'
         elif not counts['reads']:
@@ -228,14 +273,19 @@ class Recorder:
         self._end_piece()
         for name, most in PIECE.items():
             # with all moments it is cut wherever nothing is under way
-            if self._most[name] > most and self._moments != 'all':
+            if self._most[name] > most and self._moments != 'all' and not self._is_shared:
                 yield '%d %s %s, and audit judges no more than %d at once: let there be more barriers' % (
                     self._most[name], name, 'between two barriers' if self.barriers else 'without a barrier', most)
 
     # What follows is called with the lock held.
 
-    def _moment(self):
-        """A reading of the clock, greater than each one before: so what is read first is the lesser, on any clock."""
+    def _moment(self, is_end=False):
+        """A reading of the clock, greater than each one before: so what is read first is the lesser, on any clock. Where other processes
+        read it too, a beginning is not said to be later than it was, and an end not to be earlier."""
+        if self._is_shared:
+            now = self._clock()
+            self._last = max(self._last, now + 1)
+            return self._last if is_end else now
         self._last = max(self._clock(), self._last + 1)
         return self._last
 
@@ -249,7 +299,7 @@ class Recorder:
         if session.number is None:
             number = next(self._numbers)
             if number > MAX_SESSION:
-                raise Misuse('a log has at most %d sessions' % MAX_SESSION)
+                raise Misuse('a log has at most %d sessions, those of all processes together' % MAX_SESSION)
             session.number, session._place, session._since = number, 0, 0
             self._counts['sessions'] += 1
             txn._lines.append('session %d\n' % session.number)
@@ -271,7 +321,7 @@ class Recorder:
         txn.outcome, session._txn = outcome, None
         del self._open[txn]
         part.lines += txn._lines
-        part.lines.append('commit %d\n' % self._moment() if outcome == 'commit' and self._moments else outcome + '\n')
+        part.lines.append('commit %d\n' % self._moment(is_end=True) if outcome == 'commit' and self._moments else outcome + '\n')
         self._counts[outcome] += 1
         self._piece['transactions'] += outcome != 'abort'
         self._piece['sessions'].add(session.number)
@@ -369,8 +419,7 @@ class Session:
         self.close()
 
     def _is_own(self, wid):
-        writes, client = divmod(wid, CLIENTS)
-        return client == self._part.number and writes >= self._first_write
+        return self._part.count_of(wid) >= self._first_write
 
     def _check_free(self):
         self._run._check_open()
@@ -404,9 +453,9 @@ class Transaction:
         self._looked.add(name)
         if wid:
             self._reads[name] = wid
-            writes, client = divmod(wid, CLIENTS)
-            parts = self._run._parts
-            if not (0 < client <= len(parts) and 0 < writes <= parts[client - 1].writes):
+            parts, client = self._run._parts, wid % CLIENTS
+            # of several processes join.py sees what nobody wrote
+            if not (0 < client <= len(parts) and 0 < parts[client - 1].count_of(wid) <= parts[client - 1].writes or self._run._is_shared):
                 self._run._strange = self._run._strange or (self.name, name, wid)
 
     def write(self, key):

@@ -67,7 +67,7 @@ def main():
         checks, path, refused = Checks(os.path.abspath(sys.argv[1]), folder), os.path.join(folder, 'log'), 0
         for run in range(RUNS):
             for words in ([], ['--moments', 'all'], WEAK):
-                subprocess.run([sys.executable, COLLECTOR, *SIZE, *words, path], check=True, timeout=600)
+                subprocess.run([sys.executable, COLLECTOR, '--overwrite', *SIZE, *words, path], check=True, timeout=600)
                 with open(path, 'rb') as file:
                     log = file.read()
                 if words == WEAK:
@@ -79,6 +79,9 @@ def main():
                     name = ' '.join(['log %d' % run, *words])
                     checks.sound(name, log)
                     checks.sound(name + ' with unknown outcomes', unlearnt(log))
+        again = subprocess.run([sys.executable, COLLECTOR, *SIZE, path], stdout=subprocess.PIPE, stderr=subprocess.PIPE, timeout=600)
+        with open(path, 'rb') as file:
+            checks.expect(again.returncode == 2 and b'--overwrite' in again.stderr and file.read() == log, 'a log that is there is replaced')
         checks.expect(refused > 0, 'no log of the weak store was refused')
         checks.expect(not checks.audits or checks.pieces > 1, 'no log was cut')
         print('collecting: SQLite %s, %d of %d logs of the weak store were refused; at most %d pieces' % (sqlite3.sqlite_version, refused, RUNS, checks.pieces))

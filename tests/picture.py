@@ -247,6 +247,9 @@ class Checks:
             file.write(text if isinstance(text, bytes) else text.encode())
         return path
 
+    def audit(self, *words):
+        return subprocess.run([self.program, 'audit', *words], stdout=subprocess.PIPE, stderr=subprocess.PIPE).stdout
+
     def pages(self, logs):
         """The page of each of these logs that is refuted, with its name, the log, and what `explain` says of it."""
         for name, text in logs:
@@ -280,9 +283,11 @@ class Checks:
         page, whole = os.path.join(self.folder, 'none.html'), lambda name: os.path.join(generate.EXAMPLES, name)
         skew = whole('write_skew.log')
         for words, status, said in (
-            ([whole('two_writers.log')], AROUND, 'serializable'), ([whole('unknown_not_last.log')], 2, 'refused: L9 line 6'),
+            ([whole('two_writers.log')], AROUND, 'this log is serializable'), ([whole('unknown_not_last.log')], 2, 'refused: L9 line 6'),
             ([whole('there_is_none.log')], AROUND, 'there_is_none.log'), ([skew, '--program', '/there/is/none'], AROUND, '/there/is/none'),
             ([skew, '--program', shutil.which('false')], AROUND, 'it is empty'), ([skew, '--explained', skew], AROUND, 'not serializable'),
+            ([skew, '--explained', self.put('audited', self.audit(skew))], AROUND, 'this is what audit says'),
+            ([skew, '--explained', self.put('json', self.audit(skew, '--format', 'json'))], AROUND, 'this is what audit says'),
             ([skew, '--explained', self.put('cut', 'not serializable: A8 cycle of known edges\n')], AROUND, 'breaks off'),
             ([skew, '--explained', self.put('more', 'not serializable: A9 pruning ends in a cycle\nso it is\n')], AROUND, 'so it is'),
             ([skew, '--explained', self.put('other', subprocess.run([self.program, 'explain', '-'], input=log['long_fork.log'], stdout=subprocess.PIPE).stdout)], AROUND, 'another log'),
@@ -293,6 +298,10 @@ class Checks:
             self.expect(answer[0] == status and said in answer[2] and not os.path.exists(page), '%r: %r, wanted status %d and %r' % (words, answer, status, said))
         answer = self.call('--help')
         self.expect(answer[0] == 0 and '--explained' in answer[1], '--help: %r' % (answer,))
+        itself = self.put('log.html', log['write_skew.log'])
+        for words in ([itself], [skew, '--explained', itself, '-o', itself]):
+            answer = self.call(*words, '--program', self.program)
+            self.expect(answer[0] == AROUND and open(itself, 'rb').read() == log['write_skew.log'], 'a page in place of its log: %r' % (answer,))
         # by ./run's way: the program is asked, and two pages of one log are the same
         pages = [os.path.join(self.folder, name) for name in ('one.html', 'two.html')]
         self.expect(all(self.call(whole('long_fork.log'), '-o', page, '--program', self.program)[0] == 0 for page in pages), 'no page')

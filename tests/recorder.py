@@ -469,8 +469,9 @@ def misuse(checks):
     given = [
         (dict(moments='some'), "'all', 'barriers' or None"), (dict(barrier_every=0), 'from 1'), (dict(moments=None), 'barrier_every=None'),
         (dict(aborted='Lost'), 'no class of exceptions'), (dict(aborted=Lost, unknown=(Lost,)), 'named for both'),
-        (dict(clock=time.time), 'whole numbers'),
-    ]
+        (dict(clock=time.time), 'whole numbers'), (dict(share=(1, 2)), 'those of one process'),
+        (dict(share=(1, 2), barrier_every=None), 'those of one process'), (dict(share=(1, 2), moments='all'), 'those of one process'),
+    ] + [(dict(share=it, barrier_every=None, moments='all'), 'a pair of whole numbers') for it in (2, (0, 1), (3, 2), (1, 2, 3), ('1', '2'))]
     for words, said in given:
         checks.misused(lambda: Recorder(checks.path('misuse'), **words), said, 'Recorder(%s)' % words)
     with quiet() as told, Recorder(checks.path('misuse')) as run:
@@ -500,6 +501,31 @@ def misuse(checks):
     with open(checks.path('misuse'), 'rb') as log:
         checks.expect(log.read().split(b'\n')[:4] == [b'log 3', b'session 1', b'begin', b'w x 1001'], 'the log of a misused recorder')
     checks.expect(run.close() == run.close(), 'closed again')
+
+
+def kept(checks):
+    """No log is lost: neither one that was there before, nor one that another run has put there meanwhile."""
+    path = checks.path('kept')
+    def log():
+        with open(path, 'rb') as file:
+            return file.read()
+
+    open(path, 'w').close()
+    with quiet():
+        first, second = Recorder(path), Recorder(path)
+        first.session().transaction().write('x')
+        second.session().transaction().write('y')
+        first.close()
+        text = log()
+        checks.misused(lambda: Recorder(path), 'is there already', 'a log is there')
+        checks.misused(second.close, 'this run is in ' + second._folder, 'a log has come meanwhile')
+        with open(os.path.join(second._folder, 'log'), 'rb') as file:
+            checks.expect(log() == text and b'w y 1001' in file.read(), 'both logs are kept')
+        checks.misused(lambda: Recorder(checks.folder, overwrite=False), 'is there already', 'a folder')
+        os.remove(path)
+        checks.expect(second.close() and b'w y 1001' in log() and not os.path.exists(second._folder), 'closed once more')
+        Recorder(path, overwrite=True).close()
+    checks.expect(log() == b'log 3\n', 'a log that may be replaced')
 
 
 def several_in_one_thread(checks):
@@ -563,7 +589,7 @@ def outcomes(checks):
     ]
     for place, (client, outcome, fault) in enumerate(cases):
         with quiet():
-            run = Recorder(checks.path('outcome'), aborted=(Aborted, Slow), unknown=Lost)
+            run = Recorder(checks.path('outcome'), aborted=(Aborted, Slow), unknown=Lost, overwrite=True)
             with run.session() as session:
                 raised = None
                 try:
@@ -587,7 +613,7 @@ def stuck(checks):
                     txn.write('y')
 
     for what, client, patience in (('dies', None, 60), ('hangs', threading.Event(), 0.3), ('idles', threading.Event(), 60)):
-        run, began = Recorder(checks.path('stuck'), barrier_every=4, patience=patience), threading.Event()
+        run, began = Recorder(checks.path('stuck'), barrier_every=4, patience=patience, overwrite=True), threading.Event()
 
         def work():
             session = run.session()
@@ -652,7 +678,7 @@ def memory(checks):
 def worth(checks):
     """What `close` warns of."""
     def log(*sessions, **words):
-        run = Recorder(checks.path('worth'), **words)
+        run = Recorder(checks.path('worth'), overwrite=True, **words)
         for operations in sessions:
             with run.session() as session:
                 for kind, key, what in operations:
@@ -683,7 +709,7 @@ def worth(checks):
     checks.expect('1002 transactions without a barrier' in log(many, [own], barrier_every=None), 'no barrier')
     checks.expect('1001 transactions between two barriers' in log(many, [own], barrier_every=1001), 'barriers far from each other')
     checks.expect(not any('at once:' in log(many, [own], **words) for words in ({}, {'barrier_every': None, 'moments': 'all'})), 'a long run')
-    run = Recorder(checks.path('worth'), barrier_every=None)
+    run = Recorder(checks.path('worth'), barrier_every=None, overwrite=True)
     with run.session() as first, run.session() as second:
         with first.transaction() as txn, second.transaction() as other:
             wid = txn.write('x')
@@ -795,7 +821,7 @@ def quiet():
         yield told
 
 
-PARTS = (page, names, misuse, outcomes, stuck, memory, worth, processes, sound_runs, certain_cuts, broken_runs, real_time)
+PARTS = (page, names, misuse, kept, outcomes, stuck, memory, worth, processes, sound_runs, certain_cuts, broken_runs, real_time)
 
 
 def main():

@@ -1,11 +1,11 @@
 #!/usr/bin/env python3
 """scripts.py PROGRAM: the scripts around the program, and what `--version` and the manual page tell.
 
-In a copy of the repository PROGRAM stands as what was proved there. ./run, ./solve, ./prove, ./install and ./check are called from elsewhere,
+In a copy of the repository PROGRAM stands as what was proved there. ./run, ./solve, ./prove, ./install, ./check and ./package are called from elsewhere,
 by a symbolic link to a link to them, and as single files; ./solve is ended by signals, while it reads, and while a solver runs that starts
 a process of its own; ./install is asked for what stands and for what does not; stamps are written, and refused; docs/cobra_poly.1 must have what `--help`
 says of each command; tools/proof_times.txt must have each crate that the program stands on. Last line: 'scripts: N passed, M failed'."""
-import os, re, shutil, signal, subprocess, sys, tempfile, time
+import os, re, shutil, signal, subprocess, sys, tarfile, tempfile, time
 
 HERE = os.path.dirname(os.path.abspath(__file__))
 TOP = os.path.dirname(HERE)
@@ -13,7 +13,7 @@ sys.path.insert(0, os.path.join(TOP, 'tools'))
 import prove_program
 
 AROUND, LATE = 70, 120
-SCRIPTS = ('run', 'solve', 'prove', 'install', 'check')
+SCRIPTS = ('run', 'solve', 'prove', 'install', 'check', 'package')
 UNSTAMPED = b'(commit unknown, not stamped)'
 # A solver that starts a process of its own, names both in a file, and ends by a signal alone.
 ENDLESS = '''#!/bin/sh
@@ -77,7 +77,13 @@ class Copy:
         got = self.call('prove')
         self.expect('prove by a link', got[:2] == (0, '') and 'these sources are proved' in got[2], got)
         self.refused('check', './run check good.log', 'good.log')
-        self.refused('prove', '--jobs', '--help')
+        self.refused('prove', '--jobs', '--what')
+        for name in ('solve', 'prove', 'check', 'package'):
+            got = self.call(name, '--help')
+            self.expect('%s --help' % name, got[0] == 0 and './' + name in got[1] and not got[2], got)
+        for word, status, said in (('--help', 0, b"Graphviz's dot"), ('five_reasons', 2, b'has drawn nothing')):
+            ran = subprocess.run([os.path.join(self.top, 'tools', 'pictures.sh'), word], stdout=subprocess.PIPE, stderr=subprocess.STDOUT)
+            self.expect('pictures.sh %s' % word, ran.returncode == status and said in ran.stdout, ran)
         self.refused('install', 'no \'good.log\'', 'good.log')
         for name in SCRIPTS:
             alone = self.file(name, '')
@@ -90,6 +96,27 @@ class Copy:
         with open(path, 'w') as out:
             out.write(text)
         return path
+
+    # ---- the words of a solver
+
+    def solvers(self):
+        """Where the files of the formula and of the proof stand among the words of a solver."""
+        solver = self.file('a solver', '#!/bin/sh\nshift $(($1 - 1))\nhead -n 1 "$2" | grep -q "^p cnf" && echo s SATISFIABLE\n')
+        os.chmod(solver, 0o755)
+        for words in ("'%s' 1", "'%s' 1 {formula} {proof}", "'%s' 2 {proof} {formula}", "'%s' 2 {proof}", "'%s' 1 {formula} | cat", "'%s' 2 x '{formula}'"):
+            got = self.call('solve', self.log, '--solver', words % solver)
+            # a word in quotes is no file
+            wanted = AROUND if words.endswith("'{formula}'") else 0
+            self.expect('solve --solver "%s"' % words, got[0] == wanted and ('serializable\n' in got[1]) == (wanted == 0), got)
+        unproved = self.shell('echo "$(unproved_program "$(sum_of_sources)")"')
+        hidden = self.proved + ' hidden'
+        os.makedirs(os.path.dirname(unproved))
+        shutil.copy(self.proved, unproved)
+        os.rename(self.proved, hidden)
+        got = self.call('run', 'check', self.log)
+        self.expect('an unproved program is named once', got[0] == 0 and not got[2], got)
+        os.rename(hidden, self.proved)
+        shutil.rmtree(os.path.dirname(unproved))
 
     # ---- signals
 
@@ -155,6 +182,13 @@ class Copy:
         self.expect('who may use what', [os.stat(it).st_mode & 0o777 for it in (program, page)] == [0o755, 0o644])
         ran = subprocess.run([program, 'check', self.log], stdout=subprocess.PIPE, env={}, cwd='/', timeout=LATE)
         self.expect('the program runs elsewhere', ran.returncode == 0 and ran.stdout.startswith(b'serializable\n'), ran)
+        into, kit = os.path.join(self.folder, 'packages'), subprocess.run(['rt', 'version'], stdout=subprocess.PIPE).stdout.decode().strip()
+        got = self.call('package', '--into', into)
+        made = sorted(os.listdir(into)) if os.path.isdir(into) else []
+        self.expect('package', got[0] == 0 and made == ['SHA256SUMS', 'cobra-poly-1.0.0-linux-x86_64.tar.gz', 'cobra-poly_1.0.0_amd64.deb'], (got, made))
+        with tarfile.open(os.path.join(into, made[1])) as tar:
+            text = tar.extractfile('cobra-poly-1.0.0/share/cobra-poly/PROVED').read().decode()
+        self.expect('PROVED', wanted['proved'] in text and 'kit that proved it: %s\n' % kit in text, text)
         # Where nothing is proved: a refusal, and what was installed stays.
         unproved = self.proved.replace(os.sep + 'proved' + os.sep, os.sep + 'unproved' + os.sep)
         os.makedirs(os.path.dirname(unproved))
@@ -321,6 +355,7 @@ def main():
     with tempfile.TemporaryDirectory() as folder:
         copy = Copy(program, folder)
         copy.links()
+        copy.solvers()
         copy.signals()
         copy.stamps(program)
         manual(copy, copy.proved)

@@ -144,7 +144,7 @@ class Checks:
         python, name, *address = collector
         keys = 40 if transactions < 1000 else 300
         pause = '0.3' if transactions < 1000 else '0'
-        size = ['--transactions', str(transactions), '--keys', str(keys), '--pause', pause, '--seed', str(seed)]
+        size = ['--transactions', str(transactions), '--keys', str(keys), '--pause', pause, '--seed', str(seed), '--overwrite']
         return run([python, os.path.join(TOP, 'collect', name), *address, *words, *size, self.log], timeout=600)
 
     def judged(self):

@@ -466,7 +466,7 @@ class Page:
 
 def beside(name):
     """The text of a file that stands beside this script."""
-    with open(os.path.join(os.path.dirname(os.path.abspath(__file__)), name), encoding='utf-8') as file:
+    with open(os.path.join(os.path.dirname(os.path.realpath(__file__)), name), encoding='utf-8') as file:
         return file.read()
 
 
@@ -495,6 +495,8 @@ def page_of(text, said, name):
         explanation = told.read(said)
     except told.Unread as fault:
         raise scripts.Stop(str(fault))
+    if explanation.verdict == 'not serializable' or explanation.verdict.startswith('{'):
+        raise scripts.Stop('this is what audit says, and a picture is drawn of what explain says: without --explained the program is asked')
     if explanation.code is None:
         raise scripts.Stop("this explanation does not say 'not serializable': %s" % (explanation.verdict or 'it is empty'))
     history = History(scripts.Log(text))
@@ -514,9 +516,11 @@ def main():
     text = scripts.text_of_file(given.log)
     said = scripts.text_of_file(given.explained) if given.explained else scripts.Program(given.program).explain(text)
     page = page_of(text, said, os.path.basename(given.log))
-    path = given.page or os.path.splitext(given.log)[0] + '.html'
+    path, html = given.page or os.path.splitext(given.log)[0] + '.html', page.html()
+    if os.path.exists(path) and any(os.path.samefile(path, it) for it in (given.log, given.explained) if it):
+        raise scripts.Stop('the page would replace %s, of which it is made: name another one by -o' % path)
     with open(path, 'w', encoding='utf-8', newline='\n') as out:
-        out.write(page.html())
+        out.write(html)
     print('%s: %s' % (page.explanation.verdict, path))
 
 

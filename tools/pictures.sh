@@ -1,6 +1,11 @@
 #!/usr/bin/env bash
-# Draws the graphs that README.md shows, from what the program itself writes: tools/pictures.sh, with Graphviz's dot.
+# Draws the graphs that README.md shows, from what the program itself writes, into docs/: tools/pictures.sh, with Graphviz's dot.
 set -eu
+case $* in
+    '') ;;
+    --help) sed -n '2,/^set/s/^# //p' "$0"; exit ;;
+    *) echo "pictures.sh: it takes no words but --help, and has drawn nothing" >&2; exit 2 ;;
+esac
 top=$(cd "$(dirname "${BASH_SOURCE[0]}")/.." && pwd)
 command -v dot > /dev/null || { echo "pictures.sh: there is no command dot, of Graphviz" >&2; exit 70; }
 for log in five_reasons; do

@@ -1,8 +1,11 @@
 """What scripts around the program share: a log by its lines, a call of the program, and how a script ends."""
 import os, subprocess, sys, traceback
 
-TOP = os.path.dirname(os.path.dirname(os.path.abspath(__file__)))
+TOP = os.path.dirname(os.path.dirname(os.path.realpath(__file__)))
 RUN = os.path.join(TOP, 'run')
+if not os.path.exists(RUN):
+    # as a package has it
+    RUN = os.path.normpath(os.path.join(TOP, '..', '..', 'bin', 'cobra_poly'))
 # What goes wrong around the program has this status; 0 to 5 are the program's.
 AROUND = 70
 SERIALIZABLE, NOT_SERIALIZABLE, REFUSED, UNKNOWN, OUT_OF_MEMORY, DEVICE_FAILED = range(6)
@@ -104,6 +107,8 @@ class Program:
         status, told, said = self.ask(text, 'explain', '--strategy', 'forced', '--workers', '1', *words)
         if status != NOT_SERIALIZABLE:
             verdict, hint = told.split('\n')[0], ''
+            if status == SERIALIZABLE and verdict == 'serializable':
+                raise Stop('this log is serializable: it has an order, which check prints, and so there is no fault to tell')
             if 'L7' in said:
                 hint = 'audit names the piece that is not serializable, and pieces --piece K hands it out'
             words = "explain does not say 'not serializable', but (status %d): %s" % (status, verdict)

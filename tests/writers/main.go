@@ -1,0 +1,163 @@
+// Does to collect/recorder.go what the lines of standard input say, and prints for each line what came of it. tests/writers.py says what the
+// lines are.
+package main
+
+import (
+	"bufio"
+	"encoding/hex"
+	"fmt"
+	"math/rand"
+	"os"
+	"strings"
+	"sync"
+	"time"
+
+	"writers/recorder"
+)
+
+var (
+	run          *recorder.Recorder
+	now          int64
+	sessions     = map[string]*recorder.Session{}
+	transactions = map[string]*recorder.Transaction{}
+	identities   = map[string]uint64{}
+)
+
+func key(word string) string {
+	bytes, _ := hex.DecodeString(strings.TrimPrefix(word, "-"))
+	return string(bytes)
+}
+
+func identity(name string) uint64 {
+	if wid, found := identities[name]; found {
+		return wid
+	}
+	return 999
+}
+
+func seen(word string) uint64 {
+	switch {
+	case word == "none":
+		return recorder.Identity("", false)
+	case word[0] == '@':
+		return identity(word[1:])
+	}
+	return recorder.Identity(key(strings.TrimPrefix(word, "text:")), true)
+}
+
+func do(words []string) string {
+	switch words[0] {
+	case "open":
+		var k, n int
+		fmt.Sscan(words[3]+" "+words[4], &k, &n)
+		options := recorder.Options{NoMoments: words[2] == "none", Overwrite: words[5] == "yes", Clock: func() int64 { return now }}
+		if n > 0 {
+			options.Share = [2]int{k, n}
+		}
+		opened, err := recorder.New(words[1], options)
+		if err != nil {
+			return "fault"
+		}
+		run = opened
+	case "clock":
+		fmt.Sscan(words[1], &now)
+	case "name":
+		return recorder.Name(key(words[1]))
+	case "text":
+		return recorder.Name(key(words[2]))
+	case "session":
+		sessions[words[1]] = run.Session()
+	case "begin":
+		transactions[words[1]] = sessions[words[1]].Begin()
+		return transactions[words[1]].Name
+	case "read":
+		transactions[words[1]].Read(key(words[2]), seen(words[3]))
+	case "before":
+		transactions[words[1]].ReadBefore(key(words[2]), seen(words[3]), identity(words[4]))
+	case "write":
+		identities[words[3]] = transactions[words[1]].Write(key(words[2]))
+		return fmt.Sprint(identities[words[3]])
+	case "refused":
+		transactions[words[1]].Refused(identity(words[2]))
+	case "commit":
+		transactions[words[1]].Commit()
+	case "abort":
+		transactions[words[1]].Abort()
+	case "unknown":
+		transactions[words[1]].Unknown()
+	case "leave":
+		sessions[words[1]].Leave()
+	case "close":
+		warnings, err := run.Close()
+		if err != nil {
+			return "fault"
+		}
+		return "warnings: " + strings.Join(warnings, " | ")
+	case "load":
+		var threads, count int
+		fmt.Sscan(words[2]+" "+words[3], &threads, &count)
+		load(words[1], threads, count)
+	}
+	return "ok"
+}
+
+// load has goroutines use a small store at once, in which a transaction holds all others back, but not while it begins and ends.
+func load(path string, threads, count int) {
+	its, err := recorder.New(path, recorder.Options{})
+	if err != nil {
+		panic(err)
+	}
+	var lock sync.Mutex
+	var all sync.WaitGroup
+	values := map[string]string{}
+	for number := 0; number < threads; number++ {
+		all.Add(1)
+		go func(dice *rand.Rand) {
+			defer all.Done()
+			session := its.Session()
+			defer session.Leave()
+			for turn := 0; turn < count; turn++ {
+				txn := session.Begin()
+				time.Sleep(time.Duration(dice.Intn(200)) * time.Microsecond)
+				lock.Lock()
+				for operation := 0; operation < 3; operation++ {
+					key := fmt.Sprint("k", dice.Intn(5))
+					value, found := values[key]
+					txn.Read(key, recorder.Identity(value, found))
+					if dice.Intn(2) == 0 {
+						values[key] = fmt.Sprintf("%d red", txn.Write(key))
+					}
+				}
+				lock.Unlock()
+				if dice.Intn(20) == 0 {
+					txn.Unknown()
+				} else {
+					txn.Commit()
+				}
+			}
+		}(rand.New(rand.NewSource(int64(number))))
+	}
+	all.Wait()
+	if _, err := its.Close(); err != nil {
+		panic(err)
+	}
+}
+
+func told(words []string) (answer string) {
+	defer func() {
+		if fault := recover(); fault != nil {
+			if _, is := fault.(recorder.Misuse); !is {
+				panic(fault)
+			}
+			answer = "misuse"
+		}
+	}()
+	return do(words)
+}
+
+func main() {
+	lines := bufio.NewScanner(os.Stdin)
+	for lines.Scan() {
+		fmt.Println(told(strings.Split(lines.Text(), " ")))
+	}
+}
