@@ -138,9 +138,12 @@ pub fn see_log<R: Threads + Wait + Clock + Sync>(
     }
     match History::build(alloc, Version::One, copy_log(alloc, log)?) {
         Ok(history) => seen_of(rt, alloc, &history, means),
-        Err(fault) => Ok(undecided(alloc, Why::TooLarge {
-            which: passed_limit(fault)?,
-        })),
+        Err(fault) => Ok(undecided(
+            alloc,
+            Why::TooLarge {
+                which: passed_limit(fault)?,
+            },
+        )),
     }
 }
 

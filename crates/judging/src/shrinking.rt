@@ -7,7 +7,8 @@ ghost use Rattle.piece_laws.specs.Logs.{IsLog};
 ghost use Rattle.judging.specs.Made.{IsToldPart};
 
 use crate::flags::{
-    all_flags, copy_flags, count_flags, flags_in_whole, flags_of_nodes, places_of, set_flag, with_writers,
+    all_flags, copy_flags, count_flags, flags_in_whole, flags_of_nodes, places_of, set_flag,
+    with_writers,
 };
 use crate::judged::RefutedPart;
 use crate::means::JudgeMeans;
@@ -23,6 +24,7 @@ use std::time::Clock;
 
 /// So much work is done: a decision of so many transactions is so much and `DECISION` more.
 const WORK: usize = 40_000;
+
 const DECISION: usize = 100;
 /// So many cubes are closed in a decision.
 const CUBES: usize = 1_000;

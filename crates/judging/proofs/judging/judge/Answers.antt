@@ -8,5 +8,5 @@ returns g c =
     let ss = map view c.args.sessions.now in
     record {
       verdict = of_each c.args.means.now ss c.judge_known.result c.judge_known.ensures;
-      made = made_if_ok c.args.means.now ss c.judge_known.result c.requires c.judge_known.ensures;
+      made = made_if_ok c.args.means.now ss c.judge_known.result c.requires.log c.judge_known.ensures;
     }

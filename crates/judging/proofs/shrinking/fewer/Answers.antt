@@ -1,0 +1,11 @@
+use Rattle.std.proofs.Common.{List, map, sym, subst}
+use Rattle.session_log.specs.Text.{view}
+use Rattle.session_log.specs.declared.session.Session.{Session}
+use Rattle.piece_laws.specs.Logs.{IsLog}
+use Rattle.judging.proofs.Verdicts.{told_is_log}
+use Rattle.judging.proofs.shrinking.fewer.Goals as goal
+
+pub shrink-requires-clause-log : goal.shrink-requires-clause-log
+shrink-requires-clause-log g c κs within =
+    let P : List Session → Type 0 = λ l. IsLog (map view l) in
+    subst P (sym c.deref.ensures.value) (told_is_log (map view c.args.sessions.now) c.args.told.now c.requires.log c.requires.told)
