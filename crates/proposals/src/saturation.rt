@@ -1,9 +1,9 @@
 //! Rules are applied until nothing comes of them.
 
 use crate::by_lane::ByLane;
-use crate::clocks::{Clocks, sweep};
+use crate::clocks::{Clocks, copy_row, sweep};
 use crate::known::{Edge, Graph};
-use crate::lists::number;
+use crate::lists::{Entry, at, lists_of, number, put};
 use crate::rules::{Facts, Share, found_in};
 use crate::versions::Versions;
 use crate::watch::Watch;
@@ -62,14 +62,32 @@ impl Known {
     }
 
     /// Adds an edge, where it says something new.
-    fn add(&mut self, edge: Edge) -> Result<(), AllocError> {
+    fn add(&mut self, edge: Edge, row: &mut [u32]) -> Result<(), AllocError> {
         let from = self.graph.point(edge.from);
         if edge.from == edge.to || self.clocks.is_behind(edge.to, from) {
             return Ok(());
         }
-        self.clocks.raise_to(edge.to, from);
-        self.clocks.set_fresh(edge.from);
+        copy_row(row, self.clocks.row(edge.from));
+        self.clocks.raise_by(edge.to, row);
         self.graph.edges.push(edge)?;
+        Ok(())
+    }
+
+    /// Adds what was found: edges from points that come late first, since others often follow.
+    fn add_found(&mut self, alloc: Global, found: &[Edge]) -> Result<(), AllocError> {
+        let ranks = ranks_of(alloc, &self.order)?;
+        let mut entries = Vec::with_capacity(alloc, found.len())?;
+        for (i, edge) in found.iter().enumerate() {
+            let (list, item) = (at(&ranks, edge.from), number(i));
+            entries.push(Entry { list, item })?;
+        }
+        let by_rank = lists_of(alloc, number(ranks.len()), &entries)?;
+        let mut row = vec![in alloc; 0; self.clocks.lanes()]?;
+        for i in by_rank.items().iter().rev() {
+            if let Some(edge) = found.get(*i as usize) {
+                self.add(*edge, row.as_mut_slice())?;
+            }
+        }
         Ok(())
     }
 
@@ -90,12 +108,7 @@ impl Known {
         };
         let found = found_by_all(rt, alloc, facts, shares)?;
         self.clocks.clear_grown();
-        for part in found {
-            for edge in &part? {
-                self.add(*edge)?;
-            }
-        }
-        Ok(())
+        self.add_found(alloc, &joined(alloc, found)?)
     }
 
     /// Adds what comes of the rules, until nothing does.
@@ -125,6 +138,28 @@ impl Known {
         }
         Ok(Saturated::Whole)
     }
+}
+
+/// Of each point where it stands in this order.
+fn ranks_of(alloc: Global, order: &[u32]) -> Result<Vec<u32>, AllocError> {
+    let mut ranks = vec![in alloc; 0; order.len()]?;
+    for (i, point) in order.iter().enumerate() {
+        put(ranks.as_mut_slice(), *point, number(i));
+    }
+    Ok(ranks)
+}
+
+/// What was found in all shares.
+fn joined(
+    alloc: Global,
+    found: Vec<Result<Vec<Edge>, AllocError>>,
+) -> Result<Vec<Edge>, AllocError> {
+    let mut all = Vec::new(alloc);
+    for part in found {
+        let mut part = part?;
+        all.append(&mut part)?;
+    }
+    Ok(all)
 }
 
 /// What the rules say of the nodes of each share.
