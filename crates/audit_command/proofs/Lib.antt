@@ -1,2 +1,4 @@
 mod Counting
 mod Appended
+mod Names
+mod Parts

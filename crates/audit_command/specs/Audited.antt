@@ -6,7 +6,6 @@ use Rattle.std.specs.declared.alloc.Global.{Global}
 use Rattle.session_log.specs.Text.{ClientSession, Transaction, view, least_version, log_text}
 use Rattle.session_log.specs.Version.{first_line, version_of}
 use Rattle.session_log.specs.declared.fault.LogFault.{LogFault}
-use Rattle.session_log.specs.declared.fault.LogFault.TheVariants.{Memory}
 use Rattle.log_definitions.specs.Unknown.{txns_in, is_committed, resolved}
 use Rattle.log_definitions.specs.Serial.{IsSerialOrder}
 use Rattle.long_log_definitions.specs.LongLog.{IsLongLog, IsLongLogFault}
@@ -40,6 +39,7 @@ use Rattle.audit_command.specs.declared.files.PartFile.{PartFile}
 use Rattle.audit_command.specs.declared.known.Known.{Known}
 use Rattle.audit_command.specs.declared.outcome.Audited.{Audited}
 use Rattle.audit_command.specs.declared.outcome.Refusal.{Refusal}
+use Rattle.audit_command.specs.declared.outcome.Refusal.TheVariants as refusal
 
 -- the sessions that are judged: without their moments, where that is asked for
 abbrev pub seen : Bool → List ClientSession → List ClientSession
@@ -114,9 +114,9 @@ abbrev pub first_part : List ToldPart → Option (List ClientSession)
 first_part [] = None
 first_part (p ∷ ps) = Some (map view p.refuted.part.items)
 
-abbrev pub part_asked : Bool → Answer → Option (List ClientSession)
-part_asked true (answer.NotSerializable parts) = first_part parts.items
-part_asked _ _ = None
+abbrev pub part_asked : Answer → Bool → Option (List ClientSession)
+part_asked (answer.NotSerializable parts) asked = if asked then first_part parts.items else None
+part_asked _ asked = None
 
 -- the text of the part as a log
 abbrev pub IsPartFile : Option (List ClientSession) → Option PartFile → Type 0
@@ -124,9 +124,9 @@ IsPartFile None None = Unit {0}
 IsPartFile (Some part) (Some file) = file.log.items ≡ log_text (least_version part) part
 IsPartFile _ _ = ⊥
 
-abbrev pub order_asked : Bool → Answer → Bool
-order_asked true answer.Serializable = true
-order_asked _ _ = false
+abbrev pub order_asked : Answer → Bool → Bool
+order_asked answer.Serializable asked = asked
+order_asked _ asked = false
 
 -- the text of a serial order, where it is asked for
 abbrev pub IsOrderFile : List ClientSession → Bool → Option (Vec ℕ Global) → Type 0
@@ -139,7 +139,7 @@ IsOrderFile ss _ _ = ⊥
 pub record IsAnswered (o : AuditOptions) (n : ℕ) (ss : List ClientSession) (a : Answered)
     : Type 0 where
   pub answer : IsAnswer o.means o.at_least n ss a.answer
-  pub order : IsOrderFile ss (order_asked o.order a.answer) a.order
+  pub order : IsOrderFile ss (order_asked a.answer o.order) a.order
 
 -- what is known of a judged log: its sessions with their outcomes known, the answer, the counts, and
 -- the part as a log
@@ -147,7 +147,7 @@ pub record IsKnown (o : AuditOptions) (n : ℕ) (ss : List ClientSession) (k : K
   pub resolved : map view k.sessions.items ≡ resolved ss
   pub answered : IsAnswered o n ss k.answered
   pub totals : AreTotals ss k.totals
-  pub part : IsPartFile (part_asked o.part k.answered.answer) k.part
+  pub part : IsPartFile (part_asked k.answered.answer o.part) k.part
 
 -- ---- the whole
 
@@ -167,8 +167,8 @@ pub record IsAudited (o : AuditOptions) (log : List ℕ) (a : Audited) : Type 0 
   pub totals : AreTotals (seen o.no_moments sessions) told.totals
   pub ends : a.reply.status ≡ status_of told.answer
   pub text : a.reply.text.items ≡ text_in o.form o told
-  pub part : IsPartFile (part_asked o.part told.answer) a.part
-  pub order : IsOrderFile (seen o.no_moments sessions) (order_asked o.order told.answer) a.order
+  pub part : IsPartFile (part_asked told.answer o.part) a.part
+  pub order : IsOrderFile (seen o.no_moments sessions) (order_asked told.answer o.order) a.order
 
 -- what is said of a refused log: nothing, or an object, in which the words are free
 abbrev pub IsRefusal : ReportForm → AuditOptions → LogFault → List ℕ → Type 0
@@ -176,11 +176,7 @@ IsRefusal Text o f text = text ≡ []
 IsRefusal Json o f text = (words : List ℕ)
     × (text ≡ refusal_object o.quiet f words o.version.now)
 
-abbrev pub IsSaid : AuditOptions → LogFault → List ℕ → Type 0
-IsSaid o Memory text = text ≡ []
-IsSaid o f text = IsRefusal o.form o f text
-
--- the log is no long log, with this fault, and that is said; at want of memory nothing is
-pub record IsRefused (o : AuditOptions) (log : List ℕ) (r : Refusal) : Type 0 where
-  pub fault : IsLongLogFault log r.fault
-  pub says : IsSaid o r.fault r.text.items
+-- memory was refused; or the log is no long log, with this fault, and that is said
+abbrev pub IsRefused : AuditOptions → List ℕ → Refusal → Type 0
+IsRefused o log refusal.Memory = Unit {0}
+IsRefused o log (refusal.Log f text) = IsLongLogFault log f × IsRefusal o.form o f text.items

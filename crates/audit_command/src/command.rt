@@ -116,7 +116,7 @@ fn audit_sessions<R: Threads + Wait + Clock + Eprint + Sync, P: Progress>(
     Ok(Audited { reply, part, order })
 }
 
-/// Why a log is refused, and what is said of that; nothing at want of memory.
+/// Why a log is refused, and what is said of that.
 fn refused(
     alloc: Global,
     log: &[u8],
@@ -127,8 +127,8 @@ fn refused(
     ensures refused { IsRefused options.now log.now result }
 {
     match refusal(alloc, options, log, fault) {
-        Ok(text) => Refusal { fault, text },
-        Err(AllocError) => Refusal::memory(alloc),
+        Ok(text) => Refusal::Log { fault, text },
+        Err(AllocError) => Refusal::Memory,
     }
 }
 
@@ -150,10 +150,10 @@ pub fn audit<R: Threads + Wait + Clock + Eprint + Sync, P: Progress>(
         Ok((version, sessions)) => {
             match audit_sessions(rt, alloc, log, version, sessions, options, progress) {
                 Ok(audit) => Ok(audit),
-                Err(AllocError) => Err(Refusal::memory(alloc)),
+                Err(AllocError) => Err(Refusal::Memory),
             }
         }
-        Err(LogFault::Memory) => Err(Refusal::memory(alloc)),
+        Err(LogFault::Memory) => Err(Refusal::Memory),
         Err(fault) => Err(refused(alloc, log, fault, options)),
     }
 }

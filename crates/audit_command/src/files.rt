@@ -143,6 +143,7 @@ fn name_at(names: &[(u16, usize)], number: usize) -> (usize, usize)
     (usize::from(session), place)
 }
 
+#[tactic(auto, unfolding(crate::specs::Report::field))]
 fn put_name_line(out: &mut Vec<u8>, name: (usize, usize)) -> Result<(), AllocError>
     ensures put { OnOk result (out.new.items ≡ out.old.items ++ name_line name) }
 {

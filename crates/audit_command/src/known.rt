@@ -56,11 +56,17 @@ fn asked_part(
     answer: &Answer,
     is_asked: bool,
 ) -> Result<Option<PartFile>, AllocError>
-    ensures file { IfOk result (IsPartFile (part_asked is_asked answer.now)) }
+    ensures file { IfOk result (IsPartFile (part_asked answer.now is_asked)) }
 {
-    match (is_asked, answer) {
-        (true, Answer::NotSerializable(parts)) => first_file(alloc, version, sessions, parts),
-        _ => Ok(None),
+    match answer {
+        Answer::NotSerializable(parts) => {
+            if is_asked {
+                first_file(alloc, version, sessions, parts)
+            } else {
+                Ok(None)
+            }
+        }
+        Answer::Serializable | Answer::TooFew { .. } | Answer::Undecided { .. } => Ok(None),
     }
 }
 

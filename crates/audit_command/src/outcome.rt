@@ -1,13 +1,8 @@
 //! What an audit comes to.
 
-ghost use Rattle.std.specs.Prelude.{ℕ, List};
-ghost use Rattle.audit_command.specs.Audited.{IsRefused};
-ghost use Rattle.audit_command.specs.declared.options.AuditOptions.{AuditOptions};
-
 use crate::files::PartFile;
 use cobra_answers::Reply;
 use session_log::LogFault;
-use std::alloc::Global;
 
 /// What an audit comes to.
 #[derive(Drop)]
@@ -19,21 +14,11 @@ pub struct Audited {
     pub order: Option<Vec<u8>>,
 }
 
-/// Why a log is refused, and what is said of that.
+/// Why there is no answer.
 #[derive(Drop)]
-pub struct Refusal {
-    pub fault: LogFault,
-    pub text: Vec<u8>,
-}
-
-impl Refusal {
+pub enum Refusal {
     /// Memory was refused.
-    pub fn memory(alloc: Global) -> Refusal
-        ensures memory { (o : AuditOptions) (log : List ℕ) → IsRefused o log result }
-    {
-        Refusal {
-            fault: LogFault::Memory,
-            text: Vec::new(alloc),
-        }
-    }
+    Memory,
+    /// The log is refused, and this is said of it.
+    Log { fault: LogFault, text: Vec<u8> },
 }

@@ -1,6 +1,6 @@
 //! What is told of a judged log.
 
-ghost use Rattle.std.specs.Prelude.{◌≡◌, List, map, IfOk, OnOk};
+ghost use Rattle.std.specs.Prelude.{◌≡◌, ◌<◌, ◌≤◌, ℕ, List, length, map, IfOk, OnOk};
 ghost use Rattle.std.specs.List.{AllByRecursion};
 ghost use Rattle.session_log.specs.Text.{ClientSession, IsLegal, view};
 ghost use Rattle.session_log.specs.Version.{first_line};
@@ -12,7 +12,7 @@ ghost use Rattle.log_definitions.specs.Serial.{IsSerialOrder};
 ghost use Rattle.audit_command.specs.Audited.{nodes_in, IsPartTold, AreToldParts, IsAnswered};
 ghost use Rattle.audit_command.specs.Audited.{IsOrderFile};
 
-use crate::explaining::explain_part;
+use crate::explaining::{Explained, explain_part};
 use crate::files::order_file;
 use crate::options::AuditOptions;
 use crate::places::told_txns;
@@ -55,21 +55,21 @@ fn told_part<R: Threads + Wait + Clock + Sync>(
         → IsToldPart ss refuted → IfOk result (IsPartTold (first_line log.now.version) ss) }
 {
     let txns = told_txns(alloc, log.version, log.sessions, &refuted.flags)?;
-    let explained = explain_part(rt, alloc, &refuted.part, &options.means)?;
+    let Explained { lines, known_as } = explain_part(rt, alloc, &refuted.part, &options.means)?;
     let why = if options.explain {
-        explained.lines
+        lines
     } else {
         Vec::new(alloc)
     };
     Ok(ToldPart {
         refuted,
         txns,
-        known_as: explained.known_as,
+        known_as,
         why,
     })
 }
 
-/// Appends parts, told.
+/// Appends parts, told, the last one first.
 fn add_parts<R: Threads + Wait + Clock + Sync>(
     rt: &R,
     alloc: Global,
@@ -82,8 +82,13 @@ fn add_parts<R: Threads + Wait + Clock + Sync>(
         → AllByRecursion (IsToldPart ss) parts.items
         → AreToldParts (first_line log.now.version) ss told.old.items
         → OnOk result (AreToldParts (first_line log.now.version) ss told.new.items) }
+    ensures more { OnOk result (length told.old.items ≤ length told.new.items) }
 {
-    for part in parts {
+    let mut left = parts;
+    'parts: for _ in 0..left.len() {
+        let Some(part) = left.pop() else {
+            break 'parts;
+        };
         told.push(told_part(rt, alloc, log, part, options)?)?;
     }
     Ok(())
@@ -102,6 +107,7 @@ fn told_parts<R: Threads + Wait + Clock + Eprint + Sync, P: Progress>(
     ensures told { (ss : List ClientSession) → AllByRecursion IsLegal ss → IsSoundLog ss
         → map view log.now.sessions.now ≡ resolved ss → IsToldPart ss first
         → IfOk result (λ told. AreToldParts (first_line log.now.version) ss told.items) }
+    ensures some { IfOk result (λ told. 0 < length told.items) }
 {
     let count = options.faults.saturating_sub(1);
     let more = more_parts(rt, alloc, log.sessions, &first, count, &options.means, progress)?;
@@ -130,7 +136,11 @@ fn asked_order(
 }
 
 /// That too few transactions are committed.
-fn too_few(committed: usize, options: &AuditOptions<'_>) -> Answered {
+fn too_few(committed: usize, options: &AuditOptions<'_>) -> Answered
+    requires few { committed < options.now.at_least }
+    ensures answered { (n : ℕ) (ss : List ClientSession) → committed ≡ nodes_in ss
+        → IsAnswered options.now n ss result }
+{
     Answered {
         answer: Answer::TooFew {
             committed,

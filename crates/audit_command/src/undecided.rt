@@ -75,6 +75,13 @@ fn flags_of(
     Ok(flags)
 }
 
+/// The name and the lines of a transaction.
+fn txn_words(alloc: Global, txn: ToldTxn) -> Result<String, AllocError> {
+    let (session, place) = (txn.session, txn.place);
+    let (first, last) = (txn.first, txn.last);
+    format!(in alloc; "{session}.{place} (lines {first} to {last})")
+}
+
 /// The transactions that could not be placed, in a line.
 fn waiting_text(
     alloc: Global,
@@ -83,16 +90,12 @@ fn waiting_text(
     stuck: &Stuck,
 ) -> Result<String, AllocError> {
     let flags = Some(flags_of(alloc, sessions, &stuck.waiting)?);
+    let txns = told_txns(alloc, version, sessions, &flags)?;
     let mut text = String::from_str(alloc, "not placed:")?;
     let mut separator = " ";
-    for txn in told_txns(alloc, version, sessions, &flags)? {
-        let ToldTxn {
-            session,
-            place,
-            first,
-            last,
-        } = txn;
-        write!(text, "{separator}{session}.{place} (lines {first} to {last})")?;
+    for txn in &txns {
+        text.push_str(separator)?;
+        text.push_str(&txn_words(alloc, *txn)?)?;
         separator = ", ";
     }
     Ok(text)

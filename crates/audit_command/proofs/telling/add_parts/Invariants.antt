@@ -1,0 +1,17 @@
+use Rattle.std.proofs.Common.{◌≡◌, ◌≤◌, List, map, length}
+use Rattle.std.specs.List.{AllByRecursion}
+use Rattle.session_log.specs.Text.{ClientSession, view}
+use Rattle.session_log.specs.Version.{first_line}
+use Rattle.log_definitions.specs.Unknown.{resolved}
+use Rattle.judging.specs.Made.{IsToldPart}
+use Rattle.audit_command.specs.Audited.{AreToldParts}
+use Rattle.audit_command.proofs.telling.add_parts.Given as goal
+
+abbrev pub invariant-parts : goal.invariant-parts
+invariant-parts g l = record {
+  told : (ss : List ClientSession) → map view l.log.sessions.now ≡ resolved ss
+      → AllByRecursion (IsToldPart ss) l.fn.parts.items
+      → AreToldParts (first_line l.log.version) ss l.fn.told.items
+      → AllByRecursion (IsToldPart ss) l.left.items × AreToldParts (first_line l.log.version) ss l.told.items;
+  more : length l.fn.told.items ≤ length l.told.items;
+}
