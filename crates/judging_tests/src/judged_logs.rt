@@ -53,7 +53,8 @@ fn known_log<R: Threads + Abort + Sync>(rt: &R, alloc: Global, text: &str) -> Ve
 /// next; the last two read the same where they are to lose an update.
 fn chain_text(alloc: Global, count: u64, lost: bool) -> Result<String, AllocError> {
     let mut text = String::new(alloc);
-    for wid in 1..count + 1 {
+    for i in 0..count {
+        let wid = i.saturating_add(1);
         let back = if lost && wid == count { 2 } else { 1 };
         let read = wid.saturating_sub(back);
         write!(
