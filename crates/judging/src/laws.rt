@@ -6,7 +6,7 @@ ghost use Rattle.session_log.specs.Text.{ClientSession, IsLegal};
 ghost use Rattle.session_log.specs.declared.fault.Limit.{Limit};
 ghost use Rattle.log_definitions.specs.Unknown.{resolved};
 ghost use Rattle.log_definitions.specs.WellFormed.{IsWellFormed};
-ghost use Rattle.log_definitions.specs.Serial.{IsSerialOrder};
+ghost use Rattle.log_definitions.specs.Serial.{committed_in, IsSerialOrder};
 ghost use Rattle.log_definitions.specs.Numbers.{log_of};
 ghost use Rattle.piece_laws.specs.Logs.{IsSoundLog, IsLog};
 ghost use Rattle.judging.specs.Limits.{IsOver};
@@ -38,9 +38,10 @@ pub fn resolved_is_log()
         → IsLog (resolved ss) }
 {}
 
-/// They have the same serial orders, and are the same log by their nodes.
+/// They have the same serial orders, the same nodes, and are the same log by their nodes.
 pub fn resolved_is_the_same()
     ensures orders { (ss : List ClientSession) (order : List ℕ)
         → (IsSerialOrder ss order ↔ IsSerialOrder (resolved ss) order) }
+    ensures nodes { (ss : List ClientSession) → committed_in (resolved ss) ≡ committed_in ss }
     ensures log { (ss : List ClientSession) → log_of (resolved ss) ≡ log_of ss }
 {}

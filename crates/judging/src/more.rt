@@ -7,7 +7,7 @@ ghost use Rattle.log_definitions.specs.Unknown.{resolved};
 ghost use Rattle.piece_laws.specs.Logs.{IsSoundLog, IsLog};
 ghost use Rattle.judging.specs.Made.{IsToldPart};
 
-use crate::flags::{all_flags, flags_in_whole, join_flags, set_flag};
+use crate::flags::{all_flags, count_flags, flags_in_whole, join_flags, set_flag};
 use crate::judged::RefutedPart;
 use crate::judging::judge_part;
 use crate::means::JudgeMeans;
@@ -39,20 +39,22 @@ fn last_reader(part: &[Session]) -> (usize, usize) {
     last
 }
 
-/// Leaves out the transaction of a part whose reads show that it has no order.
+/// Leaves out the transaction of a part whose reads show that it has no order. The answer is whether
+/// it was not left out before.
 fn leave_out_shown(
     alloc: Global,
     sessions: &[Session],
     left_out: &mut Flags,
     told: &RefutedPart,
-) -> Result<(), AllocError> {
+) -> Result<bool, AllocError> {
+    let before = count_flags(left_out);
     let mut few = all_flags(alloc, &told.part, false)?;
     set_flag(&mut few, last_reader(&told.part), true);
     match &told.flags {
         Some(flags) => join_flags(left_out, &flags_in_whole(alloc, sessions, flags, &few)?),
         None => join_flags(left_out, &few),
     }
-    Ok(())
+    Ok(count_flags(left_out) > before)
 }
 
 /// A part that has no order, of the transactions that are not left out, where one is found.
@@ -97,7 +99,9 @@ fn more_of_known<R: Threads + Wait + Clock + Eprint + Sync, P: Progress>(
         let Some(told) = next_part(rt, alloc, sessions, &left_out, means, progress)? else {
             break;
         };
-        leave_out_shown(alloc, sessions, &mut left_out, &told)?;
+        if !leave_out_shown(alloc, sessions, &mut left_out, &told)? {
+            break;
+        }
         parts.push(told)?;
     }
     Ok(parts)

@@ -53,7 +53,8 @@ fn known_log<R: Threads + Abort + Sync>(rt: &R, alloc: Global, text: &str) -> Ve
 /// next; the last two read the same where they are to lose an update.
 fn chain_text(alloc: Global, count: u64, lost: bool) -> Result<String, AllocError> {
     let mut text = String::new(alloc);
-    for wid in 1..count + 1 {
+    for i in 0..count {
+        let wid = i.saturating_add(1);
         let back = if lost && wid == count { 2 } else { 1 };
         let read = wid.saturating_sub(back);
         write!(
@@ -188,19 +189,14 @@ fn large_logs_with_an_order(rt: HostRuntime) {
     see_open(&rt, &verdict, LARGE, Tried::PartOpen(LARGE));
 }
 
-/// A lost update among the last of them.
+/// A lost update among the last of them; and a read of what nobody wrote, which stays in the part of
+/// its transaction.
 #[test]
 fn large_logs_with_none(rt: HostRuntime) {
     let alloc = rt.alloc();
     let bad = chain(&rt, alloc, 100, true);
     see_part(&rt, &said(&rt, alloc, &bad, &part(&rt, alloc, 100, 90)), 3);
     see_part(&rt, &said(&rt, alloc, &bad, &stuck(&rt, alloc, 100, 50)), 3);
-}
-
-/// A read of what nobody wrote stays in the part of its transaction.
-#[test]
-fn nobody_wrote_it(rt: HostRuntime) {
-    let alloc = rt.alloc();
     let mut text = chain_text(alloc, 99, false).expect(&rt, "memory");
     text.push_str("session 100\nbegin\nr x 777\ncommit\n")
         .expect(&rt, "memory");

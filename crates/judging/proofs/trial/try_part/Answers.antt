@@ -1,4 +1,4 @@
-use Rattle.std.proofs.Common.{List, map, sym, ap, ◌∙◌, subst}
+use Rattle.std.proofs.Common.{◌≡◌, List, map, sym, subst}
 use Rattle.session_log.specs.Text.{view}
 use Rattle.session_log.specs.declared.session.Session.{Session}
 use Rattle.piece_laws.specs.Logs.{IsLog}
@@ -18,5 +18,5 @@ returns g c =
     let m = c.args.means.now in
     let P : List Session → Type 0 = λ l. IsFound m (map view l) c.in_ok-seen.seen.found in
     c.told.ensures m ss c.requires.log (c.in_ok-part.ensures.part c.requires.log.sound)
-    (c.in_ok-part.ensures.exact ∙ ap (λ l. chosen (flags_view l) ss) c.deref.ensures.value)
+    (subst (λ l. map view c.in_ok-part.part.items ≡ chosen (flags_view l) ss) c.deref.ensures.value c.in_ok-part.ensures.exact)
     (subst P c.deref-2.ensures.value c.in_ok-seen.ensures)
