@@ -1,0 +1,168 @@
+use desk::seat_no::Workers;
+use order_checks::is_serial;
+use progress::{Progress, Stage};
+use proposals::{Flags, Proposal, ProposeMeans, propose};
+use session_log::{Key, Op, Outcome, Session, Txn};
+use std::alloc::Global;
+use std::io::Eprint;
+use std::process::Abort;
+use std::test::*;
+use std::thread::Threads;
+use std::time::Clock;
+
+/// Nobody is told anything.
+#[derive(Drop)]
+struct Silence;
+
+impl Progress for Silence {
+    fn tell<R: Eprint + Clock>(&mut self, _rt: &R, _stage: Stage) {}
+}
+
+fn key(rt: &impl Abort, alloc: Global, name: &str) -> Key {
+    let made = Key::new(alloc, name.as_bytes()).expect(rt, "memory");
+    made.expect(rt, "a key")
+}
+
+fn read(rt: &impl Abort, alloc: Global, name: &str, wid: u64) -> Op {
+    Op::Read {
+        key: key(rt, alloc, name),
+        wid,
+    }
+}
+
+fn write(rt: &impl Abort, alloc: Global, name: &str, wid: u64) -> Op {
+    Op::Write {
+        key: key(rt, alloc, name),
+        wid,
+    }
+}
+
+fn txn(rt: &impl Abort, alloc: Global, one: Op, other: Op, outcome: Outcome) -> Txn {
+    let mut ops = Vec::new(alloc);
+    ops.push(one).expect(rt, "memory");
+    ops.push(other).expect(rt, "memory");
+    Txn {
+        ops,
+        outcome,
+        begun: None,
+        ended: None,
+    }
+}
+
+fn session(rt: &impl Abort, alloc: Global, number: u16, txn: Txn) -> Session {
+    let mut txns = Vec::new(alloc);
+    txns.push(txn).expect(rt, "memory");
+    Session { number, txns }
+}
+
+fn both(rt: &impl Abort, alloc: Global, one: Txn, other: Txn) -> Vec<Session> {
+    let mut all = Vec::new(alloc);
+    all.push(session(rt, alloc, 3, one)).expect(rt, "memory");
+    all.push(session(rt, alloc, 7, other)).expect(rt, "memory");
+    all
+}
+
+/// What two workers propose of these, with these left out.
+fn proposed<R: Abort + Threads + Clock + Eprint + Sync>(
+    rt: &R,
+    alloc: Global,
+    sessions: &[Session],
+    left_out: &[Vec<bool>],
+) -> Proposal {
+    let means = ProposeMeans {
+        workers: Workers::new(2).expect(rt, "a number of workers"),
+        deadline: None,
+    };
+    propose(rt, alloc, sessions, left_out, &means, &mut Silence).expect(rt, "memory")
+}
+
+/// No transaction.
+fn none(alloc: Global) -> Flags {
+    Vec::new(alloc)
+}
+
+/// The transaction of the first session.
+fn the_first(rt: &impl Abort, alloc: Global) -> Flags {
+    let mut flags = Vec::new(alloc);
+    flags
+        .push(vec![in alloc; true; 1].expect(rt, "memory"))
+        .expect(rt, "memory");
+    flags
+}
+
+/// Whether this is an order that explains the sessions.
+fn is_right_order(
+    rt: &impl Abort,
+    alloc: Global,
+    sessions: &[Session],
+    proposal: &Proposal,
+) -> bool {
+    match proposal {
+        Proposal::Order(order) => is_serial(alloc, sessions, order).expect(rt, "memory"),
+        _ => false,
+    }
+}
+
+/// Whether this is a part of these transactions of the two sessions.
+fn is_part(proposal: &Proposal, first: bool, second: bool) -> bool {
+    match proposal {
+        Proposal::Part(flags) => {
+            flags.len() == 2
+                && flags[0].as_slice() == [first].as_slice()
+                && flags[1].as_slice() == [second].as_slice()
+        }
+        _ => false,
+    }
+}
+
+/// The first reads what the second writes, and the second reads 0.
+fn chain(rt: &impl Abort, alloc: Global, wid: u64, outcome: Outcome) -> Vec<Session> {
+    let (x, y) = (read(rt, alloc, "x", wid), write(rt, alloc, "y", 2));
+    let reader = txn(rt, alloc, x, y, Outcome::Commit);
+    let (y, x) = (read(rt, alloc, "y", 0), write(rt, alloc, "x", 1));
+    let writer = txn(rt, alloc, y, x, outcome);
+    both(rt, alloc, reader, writer)
+}
+
+/// Both read 0 of x and write it.
+fn lost_update(rt: &impl Abort, alloc: Global) -> Vec<Session> {
+    let (x, y) = (read(rt, alloc, "x", 0), write(rt, alloc, "x", 1));
+    let one = txn(rt, alloc, x, y, Outcome::Commit);
+    let (x, y) = (read(rt, alloc, "x", 0), write(rt, alloc, "x", 2));
+    let other = txn(rt, alloc, x, y, Outcome::Commit);
+    both(rt, alloc, one, other)
+}
+
+#[test]
+fn an_order_is_found(rt: HostRuntime) {
+    let alloc = rt.alloc();
+    let all = chain(&rt, alloc, 1, Outcome::Commit);
+    let proposal = proposed(&rt, alloc, &all, &none(alloc));
+    assert!(rt; is_right_order(&rt, alloc, &all, &proposal));
+}
+
+#[test]
+fn a_read_from_an_aborted_transaction_is_a_part(rt: HostRuntime) {
+    let alloc = rt.alloc();
+    let all = chain(&rt, alloc, 1, Outcome::Abort);
+    let proposal = proposed(&rt, alloc, &all, &none(alloc));
+    assert!(rt; is_part(&proposal, true, true));
+}
+
+#[test]
+fn a_read_of_what_nobody_wrote_is_a_part_of_its_own(rt: HostRuntime) {
+    let alloc = rt.alloc();
+    let all = chain(&rt, alloc, 7, Outcome::Commit);
+    let proposal = proposed(&rt, alloc, &all, &none(alloc));
+    assert!(rt; is_part(&proposal, true, false));
+}
+
+#[test]
+fn a_lost_update_is_a_part_unless_one_is_left_out(rt: HostRuntime) {
+    let alloc = rt.alloc();
+    let all = lost_update(&rt, alloc);
+    let proposal = proposed(&rt, alloc, &all, &none(alloc));
+    assert!(rt; is_part(&proposal, true, true));
+    let proposal = proposed(&rt, alloc, &all, &the_first(&rt, alloc));
+    assert!(rt; matches!(proposal, Proposal::Order(_)));
+}
