@@ -1,3 +1,3 @@
 pub mod Matched
 pub mod Added
-pub mod Laws
+pub mod Whole

@@ -25,11 +25,7 @@ fn is_flagged(flags: &[bool], at: usize) -> bool
 fn txns_at(part: &[Session], at: usize) -> &[Txn]
     ensures { map view_txn result.now ≡ spec.first_txns (drop at (map view part.now)) }
 {
-    if at < part.len() {
-        &part[at].txns
-    } else {
-        &[]
-    }
+    if at < part.len() { &part[at].txns } else { &[] }
 }
 
 /// Appends where a transaction stands that is at this place in its session and begins at this line,
@@ -74,7 +70,15 @@ fn session_places(
     let mut rows = Vec::with_capacity(alloc, left.len())?;
     let mut line = first + 1;
     for (at, txn) in session.txns.iter().enumerate() {
-        add_txn(alloc, &mut rows, txn, is_flagged(flags, at), left, at + 1, line)?;
+        add_txn(
+            alloc,
+            &mut rows,
+            txn,
+            is_flagged(flags, at),
+            left,
+            at + 1,
+            line,
+        )?;
         line += txn_line_count(txn);
     }
     Ok(rows)

@@ -29,12 +29,7 @@ fn is_next(op: &Op, kept: &[Op], next: usize) -> bool
 }
 
 /// The lines of the operations that stay of these, of which the first stands in line `first`.
-fn lines_of(
-    alloc: Global,
-    ops: &[Op],
-    kept: &[Op],
-    first: usize,
-) -> Result<Vec<usize>, AllocError>
+fn lines_of(alloc: Global, ops: &[Op], kept: &[Op], first: usize) -> Result<Vec<usize>, AllocError>
     requires room { first + length ops.now < 2 ^ 64 }
     ensures lines { IfOk result (λ lines. (known : ℕ → Bool)
         → kept.now ≡ filter (stays known) ops.now → lines.items ≡ staying known first ops.now) }

@@ -1,4 +1,4 @@
-use Rattle.part_places.proofs.Laws.{fits}
+use Rattle.part_places.proofs.Whole.{fits}
 use Rattle.part_places.proofs.laws.part_fits.Goals as goal
 
 pub returns : goal.returns

@@ -1,4 +1,4 @@
-use Rattle.part_places.proofs.Laws.{in_text}
+use Rattle.part_places.proofs.Whole.{in_text}
 use Rattle.part_places.proofs.laws.part_is_in_text.Goals as goal
 
 pub returns : goal.returns

@@ -10,7 +10,7 @@ use Rattle.session_log.specs.declared.session.Op.{Op}
 use Rattle.log_definitions.specs.WellFormed.{log_lines}
 use Rattle.part_laws.specs.Chosen.{stays, thin, thin_txn, flagged}
 use Rattle.log_parts.specs.Picked.{flag_of, picked, with_txns}
-use Rattle.log_lines.specs.Rows.{TxnRow, Table, Fits, op_counts, op_counts_in, line_at}
+use Rattle.log_lines.specs.Rows.{TxnRow, Table, Fits, op_counts, line_at}
 use Rattle.log_lines.specs.Places.{BeginsAt, IsLineOf, StandsAt}
 use Rattle.log_lines.proofs.Texts.{begin_line, operation_line, ending_line}
 use Rattle.part_places.specs.PartRows.{staying, part_row, flagged_rows, with_rows, part_table, IsInText}
@@ -82,17 +82,17 @@ session_in : (known : ℕ → Bool) (flags : List (List Bool)) (n : ℕ) (ss : L
 session_in known flags n [] a of rows e g = cc
 session_in known [] n (s ∷ ss) a of rows e g = cc
 session_in known (f ∷ flags) n (s ∷ ss) a of rows e g =
-    go (flagged (flag_of f) 1 s.txns) (flagged_rows known (flag_of f) 1 (n + 1) s.txns) a refl refl (row_counts known (flag_of f) 1 (n + 1) s.txns) e g
+    go (λ k e g. session_in known flags (n + length (session_lines s)) ss k of rows e g) (flagged (flag_of f) 1 s.txns) (flagged_rows known (flag_of f) 1 (n + 1) s.txns) a refl refl (row_counts known (flag_of f) 1 (n + 1) s.txns) e g
   where
     rest : Table
     rest = part_table known flags (n + length (session_lines s)) ss
 
-    go : (ts : List Transaction) (rs : List TxnRow) (k : ℕ) → ts ≡ flagged (flag_of f) 1 s.txns → rs ≡ flagged_rows known (flag_of f) 1 (n + 1) s.txns → counts rs ≡ counts_in (map (thin_txn known) ts)
+    go : ((k : ℕ) → slice_get (thin known (picked flags ss)) k ≡ Some of → slice_get rest k ≡ Some rows → SessionIn known (n + length (session_lines s)) ss of rows) → (ts : List Transaction) (rs : List TxnRow) (k : ℕ) → ts ≡ flagged (flag_of f) 1 s.txns → rs ≡ flagged_rows known (flag_of f) 1 (n + 1) s.txns → counts rs ≡ counts_in (map (thin_txn known) ts)
         → slice_get (thin known (with_txns s.number ts ++ picked flags ss)) k ≡ Some of → slice_get (with_rows rs ++ rest) k ≡ Some rows → SessionIn known n (s ∷ ss) of rows
-    go [] [] k te re c e g = behind known n s ss of rows (session_in known flags (n + length (session_lines s)) ss k of rows e g)
-    go [] (r ∷ rs) k te re c e g = cc
-    go (t ∷ ts) [] k te re c e g = cc
-    go (t ∷ ts) (r ∷ rs) zero te re c e g =
+    go again [] [] k te re c e g = behind known n s ss of rows (again k e g)
+    go again [] (r ∷ rs) k te re c e g = cc
+    go again (t ∷ ts) [] k te re c e g = cc
+    go again (t ∷ ts) (r ∷ rs) zero te re c e g =
         let same : record { number = s.number; txns = map (thin_txn known) (t ∷ ts) } ≡ of = cc in
         let here : r ∷ rs ≡ rows = cc in
         let at : n + 1 ≡ n + 0 + 1 = omega arith in
@@ -106,7 +106,7 @@ session_in known (f ∷ flags) n (s ∷ ss) a of rows e g =
           txns = ap (λ (x : ClientSession). x.txns) (sym same) ∙ ap (map (thin_txn known)) te;
           has = sym here ∙ re ∙ ap (λ k. flagged_rows known (flag_of f) 1 k s.txns) at;
         }
-    go (t ∷ ts) (r ∷ rs) (suc k) te re c e g = behind known n s ss of rows (session_in known flags (n + length (session_lines s)) ss k of rows e g)
+    go again (t ∷ ts) (r ∷ rs) (suc k) te re c e g = behind known n s ss of rows (again k e g)
 
 -- ---- the transaction of the whole
 record TxnIn (known : ℕ → Bool) (place line : ℕ) (ts : List Transaction) (t : Transaction) (row : TxnRow) : Type 0 where
@@ -133,13 +133,14 @@ further known place line x ts t row h =
 txn_in : (known flags : ℕ → Bool) (place line : ℕ) (ts : List Transaction) (i : ℕ) (t : Transaction) (row : TxnRow) → slice_get (map (thin_txn known) (flagged flags place ts)) i ≡ Some t → slice_get (flagged_rows known flags place line ts) i ≡ Some row
     → TxnIn known place line ts t row
 txn_in known flags place line [] i t row e g = cc
-txn_in known flags place line (x ∷ ts) i t row e g = go (flags place) i e g
+txn_in known flags place line (x ∷ ts) i t row e g = go (λ k e g. txn_in known flags (place + 1) (line + length (txn_lines x)) ts k t row e g) (flags place) i e g
   where
     rest : List TxnRow
     rest = flagged_rows known flags (place + 1) (line + length (txn_lines x)) ts
 
-    go : (b : Bool) (k : ℕ) → slice_get (map (thin_txn known) (cond b (x ∷ flagged flags (place + 1) ts) (flagged flags (place + 1) ts))) k ≡ Some t → slice_get (cond b (part_row known place line x ∷ rest) rest) k ≡ Some row → TxnIn known place line (x ∷ ts) t row
-    go true zero e g =
+    go : ((k : ℕ) → slice_get (map (thin_txn known) (flagged flags (place + 1) ts)) k ≡ Some t → slice_get rest k ≡ Some row → TxnIn known (place + 1) (line + length (txn_lines x)) ts t row)
+        → (b : Bool) (k : ℕ) → slice_get (map (thin_txn known) (cond b (x ∷ flagged flags (place + 1) ts) (flagged flags (place + 1) ts))) k ≡ Some t → slice_get (cond b (part_row known place line x ∷ rest) rest) k ≡ Some row → TxnIn known place line (x ∷ ts) t row
+    go again true zero e g =
         let same : thin_txn known x ≡ t = cc in
         let here : part_row known place line x ≡ row = cc in
         let at : place ≡ place + 0 = omega arith in
@@ -152,8 +153,8 @@ txn_in known flags place line (x ∷ ts) i t row e g = go (flags place) i e g
           left = sym same;
           has = sym here ∙ ap (λ k. part_row known k line x) at ∙ ap (λ k. part_row known (place + 0) k x) begins;
         }
-    go true (suc k) e g = further known place line x ts t row (txn_in known flags (place + 1) (line + length (txn_lines x)) ts k t row e g)
-    go false k e g = further known place line x ts t row (txn_in known flags (place + 1) (line + length (txn_lines x)) ts k t row e g)
+    go again true (suc k) e g = further known place line x ts t row (again k e g)
+    go again false k e g = further known place line x ts t row (again k e g)
 
 -- ---- the operation of the whole
 record OpIn (known : ℕ → Bool) (line : ℕ) (os : List Op) (i : ℕ) (o : Op) : Type 0 where
@@ -163,18 +164,24 @@ record OpIn (known : ℕ → Bool) (line : ℕ) (os : List Op) (i : ℕ) (o : Op
 
 op_in : (known : ℕ → Bool) (line : ℕ) (os : List Op) (i : ℕ) (o : Op) → slice_get (filter (stays known) os) i ≡ Some o → OpIn known line os i o
 op_in known line [] i o e = cc
-op_in known line (x ∷ os) i o e = go (stays known x) i refl e
+op_in known line (x ∷ os) i o e = go (λ k e. op_in known (line + 1) os k o e) (stays known x) i refl e
   where
-    later : (k j : ℕ) → slice_get (filter (stays known) os) k ≡ Some o → (rest : get_or (staying known (line + 1) os) k 0 ≡ get_or (staying known line (x ∷ os)) j 0) → OpIn known line (x ∷ os) j o
-    later k j e same =
-        let h = op_in known (line + 1) os k o e in
+    Behind : Type 0
+    Behind = (k : ℕ) → slice_get (filter (stays known) os) k ≡ Some o → OpIn known (line + 1) os k o
+
+    later : Behind → (k j : ℕ) → slice_get (filter (stays known) os) k ≡ Some o → get_or (staying known (line + 1) os) k 0 ≡ get_or (staying known line (x ∷ os)) j 0 → OpIn known line (x ∷ os) j o
+    later again k j e same =
+        let h = again k e in
         let next : line + 1 + h.at ≡ line + suc h.at = omega arith in
         record { at = suc h.at; stands = h.stands; has = sym same ∙ h.has ∙ next }
 
-    go : (b : Bool) (k : ℕ) → stays known x ≡ b → slice_get (cond b (x ∷ filter (stays known) os) (filter (stays known) os)) k ≡ Some o → OpIn known line (x ∷ os) k o
-    go true zero t e = record { at = 0; stands = e; has = ap (λ b. get_or (cond b (line ∷ staying known (line + 1) os) (staying known (line + 1) os)) 0 0) t ∙ (let same : line ≡ line + 0 = omega arith in same) }
-    go true (suc k) t e = later k (suc k) e (sym (ap (λ b. get_or (cond b (line ∷ staying known (line + 1) os) (staying known (line + 1) os)) (suc k) 0) t))
-    go false k f e = later k k e (sym (ap (λ b. get_or (cond b (line ∷ staying known (line + 1) os) (staying known (line + 1) os)) k 0) f))
+    lines : Bool → List ℕ
+    lines b = cond b (line ∷ staying known (line + 1) os) (staying known (line + 1) os)
+
+    go : Behind → (b : Bool) (k : ℕ) → stays known x ≡ b → slice_get (cond b (x ∷ filter (stays known) os) (filter (stays known) os)) k ≡ Some o → OpIn known line (x ∷ os) k o
+    go again true zero t e = record { at = 0; stands = e; has = ap (λ b. get_or (lines b) 0 0) t ∙ (let same : line ≡ line + 0 = omega arith in same) }
+    go again true (suc k) t e = later again k (suc k) e (sym (ap (λ b. get_or (lines b) (suc k) 0) t))
+    go again false k f e = later again k k e (sym (ap (λ b. get_or (lines b) k 0) f))
 
 -- ---- in the text
 record IsOfWhole (known : ℕ → Bool) (n : ℕ) (ss : List ClientSession) (session : ℕ) (t : Transaction) (row : TxnRow) : Type 0 where
@@ -215,14 +222,16 @@ pub in_text : (text : List ℕ) (ss : List ClientSession) → AllByRecursion IsL
     → StandsAt (thin known (picked flags ss)) (part_table known flags (first_line (version_of text)) ss) session place t row
     → IsInText text t row × ((whole : Transaction) × BeginsAt (first_line (version_of text)) ss session row.place whole row.begin)
 in_text text ss legal same known flags session place t row h =
-    let w = of_whole known flags (first_line (version_of text)) ss session place t row h in
-    (record {
-      begin = subst (λ b. IsLineOf text row.begin (Begin b)) (sym (ap (λ (x : Transaction). x.begun) w.left)) (begin_line text ss legal same session row.place row.begin w.whole w.begins);
-      operations = λ i op e. (
-          let o = op_in known (row.begin + 1) w.whole.ops i op (ap (λ (x : Transaction). slice_get x.ops i) (sym w.left) ∙ e) in
-          let line : line_at row i ≡ row.begin + 1 + o.at = ap (λ l. get_or l i 0) w.ops ∙ o.has in
-          subst (λ k. IsLineOf text k (op_line op)) (sym line) (operation_line text ss legal same session row.place row.begin w.whole w.begins o.at op o.stands));
-      end =
-          subst (λ (x : Transaction). IsLineOf text row.end (end_line x.outcome x.ended)) (sym w.left)
-          (subst (λ k. IsLineOf text k (end_line w.whole.outcome w.whole.ended)) (sym w.end) (ending_line text ss legal same session row.place row.begin w.whole w.begins));
-    }, (w.whole, w.begins))
+    let w = of_whole known flags (first_line (version_of text)) ss session place t row h in (
+      record {
+        begin = subst (λ b. IsLineOf text row.begin (Begin b)) (sym (ap (λ (x : Transaction). x.begun) w.left)) (begin_line text ss legal same session row.place row.begin w.whole w.begins);
+        operations = λ i op e. (
+            let o = op_in known (row.begin + 1) w.whole.ops i op (ap (λ (x : Transaction). slice_get x.ops i) (sym w.left) ∙ e) in
+            let line : line_at row i ≡ row.begin + 1 + o.at = ap (λ l. get_or l i 0) w.ops ∙ o.has in
+            subst (λ k. IsLineOf text k (op_line op)) (sym line) (operation_line text ss legal same session row.place row.begin w.whole w.begins o.at op o.stands));
+        end =
+            subst (λ (x : Transaction). IsLineOf text row.end (end_line x.outcome x.ended)) (sym w.left)
+            (subst (λ k. IsLineOf text k (end_line w.whole.outcome w.whole.ended)) (sym w.end) (ending_line text ss legal same session row.place row.begin w.whole w.begins));
+      },
+      (w.whole, w.begins),
+    )
