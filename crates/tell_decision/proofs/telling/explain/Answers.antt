@@ -6,8 +6,8 @@ use Rattle.log_lines.proofs.Own.{own_fits}
 use Rattle.deciding.specs.Decides.{IsDecided}
 use Rattle.tell_decision.proofs.telling.explain.Goals as goal
 
-pub of-log-requires : goal.of-log-requires
-of-log-requires c =
+pub of-requires : goal.of-requires
+of-requires c =
     let ss = c.args.history.now in
     let first = first_line c.args.version in
     let own : rows_of c.in_ok-places.places ≡ own_places first ss = c.in_ok-places.ensures.own ∙ ap (own_places first) c.sessions.ensures.sessions in
