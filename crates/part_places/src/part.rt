@@ -7,7 +7,7 @@ ghost use Rattle.session_log.specs.Version.{first_line};
 ghost use Rattle.log_definitions.specs.WellFormed.{log_lines};
 ghost use Rattle.part_laws.specs.Chosen.{flagged, thin, thin_txn};
 ghost use Rattle.log_parts.specs.Picked.{flag_of, flags_view, picked};
-ghost use Rattle.log_lines.specs.Rows.{view_place, rows_of};
+ghost use Rattle.log_lines.specs.Rows.{view_place, rows_of, Fits};
 ghost use Rattle.part_places.specs.PartRows as spec;
 
 use crate::txn::txn_place;
@@ -131,6 +131,9 @@ pub fn part_places(
         ≡ thin known (picked (flags_view flags.now) (map view sessions.now))
         → rows_of places ≡ spec.part_table known (flags_view flags.now) (first_line version)
         (map view sessions.now)) }
+    ensures fits { IfOk result (λ places. (known : ℕ → Bool) → map view part.now
+        ≡ thin known (picked (flags_view flags.now) (map view sessions.now))
+        → Fits (map view part.now) (rows_of places)) }
 {
     let mut table = Vec::with_capacity(alloc, part.len())?;
     let mut line = version.first_line();

@@ -1,13 +1,15 @@
 use Rattle.std.proofs.Common.{◌≡◌, List, ◌+◌, Bool, length, drop, map, sym, ap, ◌∙◌, subst, arith, length-append, Vec}
-use Rattle.session_log.specs.Text.{view, session_lines}
+use Rattle.session_log.specs.Text.{ClientSession, view, session_lines}
 use Rattle.log_definitions.specs.WellFormed.{log_lines}
 use Rattle.session_log.specs.Version.{first_line}
-use Rattle.log_parts.specs.Picked.{flag_of}
+use Rattle.part_laws.specs.Chosen.{thin}
+use Rattle.log_parts.specs.Picked.{flag_of, flags_view, picked}
 use Rattle.log_parts.proofs.Steps.{item, get_drop}
-use Rattle.log_lines.specs.Rows.{view_place}
+use Rattle.log_lines.specs.Rows.{Table, Fits, view_place}
 use Rattle.log_lines.specs.declared.places.TxnPlace.{TxnPlace}
 use Rattle.part_places.specs.PartRows.{AddsRows}
-use Rattle.part_places.proofs.Added.{IsTable, table_more, table_past}
+use Rattle.part_places.proofs.Added.{IsTable, table_more, table_past, whole_table}
+use Rattle.part_places.proofs.Whole.{fits}
 use Rattle.part_places.proofs.part.part_places.Goals.{then-at-flags+in_ok-add_session, else-at-flags}
 use Rattle.part_places.proofs.part.part_places.Goals as goal
 
@@ -43,3 +45,14 @@ loop-at-preserved c =
           ]));
       room = omega (arith, count, before, c.session_line_count-line.ensures);
     }
+
+pub returns-clause-fits : goal.returns-clause-fits
+returns-clause-fits c = λ known same. (
+    let sessions = c.args.sessions.now in
+    let flags = c.args.flags.now in
+    let part = map view c.args.part.now in
+    let first = first_line c.args.version in
+    let table = map (λ s. map view_place s.items) c.loop-at.table.items in
+    let whole = whole_table known flags sessions part first table c.loop-at.line c.loop-at.at c.loop-at-test.false (c.loop-at.invariant.rows known same) in
+    let all = fits known (flags_view flags) first (map view sessions) in
+    subst (λ (ss : List ClientSession). Fits ss table) (sym same) (subst (λ (t : Table). Fits (thin known (picked (flags_view flags) (map view sessions))) t) (sym whole) all))
