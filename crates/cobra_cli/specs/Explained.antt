@@ -3,6 +3,7 @@ use Rattle.std.specs.Prelude.{◌≡◌, ℕ, List, [], ◌++◌, codes}
 use Rattle.session_log.specs.Text.{ClientSession}
 use Rattle.session_log.specs.Version.{first_line}
 use Rattle.session_log.specs.declared.version.Version.{Version}
+use Rattle.log_lines.specs.Rows.{own_places}
 use Rattle.deciding.specs.Decides.{Decides}
 use Rattle.deciding.specs.declared.decision.Decision.{Decision}
 use Rattle.deciding.specs.declared.decision.Decision.TheVariants.{Serial, Anomalous, Cyclic, Dead}
@@ -44,7 +45,7 @@ advice_text format (Spent closed) = head format advice advice
 pub record IsDecisionText (v : Version) (format : Format) (ss : List ClientSession) (d : Decision)
     (text : List ℕ) : Type 0 where
   pub why : List ℕ
-  pub explained : IsExplained format (first_line v) ss d why
+  pub explained : IsExplained format (own_places (first_line v) ss) ss d why
   pub told : text ≡ head format (verdict_text ss d)
       (first_text d (verdict_text ss d)) ++ advice_text format d ++ why
 

@@ -1,3 +1,3 @@
 pub mod Texts
-pub mod OneMore
+pub mod Own
 pub mod Nodes

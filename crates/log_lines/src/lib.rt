@@ -1,12 +1,14 @@
-//! At which lines of a log its transactions and their operations stand.
+//! Where the transactions of a log and their operations stand: in which place of their session, and
+//! at which lines.
 //!
 //! Called by the crates that tell. It knows no anomaly, no edge and no text but its lines' numbers.
 #![tactic(auto)]
 
-mod begins;
 mod counts;
 pub mod laws;
 mod placed;
+mod places;
 
 pub use counts::{session_line_count, txn_line_count};
 pub use placed::PlacedHistory;
+pub use places::{LogPlaces, TxnPlace};

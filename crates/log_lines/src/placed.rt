@@ -1,49 +1,86 @@
-//! A history, and the lines of its log at which its transactions begin.
+//! A history, and where its transactions stand in a log.
 
-ghost use Rattle.std.specs.Prelude.{◌≡◌, ◌+◌, ◌<◌, ◌^◌, length, IfOk};
-ghost use Rattle.session_log.specs.Version.{first_line};
+ghost use Rattle.std.specs.Prelude.{◌≡◌, ◌++◌, map, length, OnOk, IfOk};
+ghost use Rattle.session_log.specs.Text.{view, view_txn};
 ghost use Rattle.log_definitions.specs.Unknown.{taken};
-ghost use Rattle.log_definitions.specs.WellFormed.{log_lines};
-ghost use Rattle.log_lines.specs.Places.{AreBeginLines};
-ghost use Rattle.log_lines.specs.Computed.{begins_in};
+ghost use Rattle.log_lines.specs.Rows.{Fits, view_place, rows_of};
+ghost use Rattle.log_lines.specs.NodeRows.{node_row, node_rows, node_table};
 
-use crate::begins::begin_lines;
-use session_history::History;
-use session_log::Version;
+use crate::places::{LogPlaces, TxnPlace};
+use session_history::{History, is_node};
+use session_log::{Session, Txn};
 use std::alloc::{AllocError, Global};
 
-/// A history, and the lines of its log, from 1, at which its transactions begin.
+/// A history, and where its transactions stand in a log: in its own, or in one of which it is a
+/// part.
 #[derive(Drop)]
 pub struct PlacedHistory<'a> {
     pub history: &'a History,
-    /// The line at which the first session begins.
-    pub first: usize,
-    /// Element `v - 1` is the line at which node `v` begins.
-    pub begins: Vec<usize>,
-    pub ghost few: { first + length (log_lines history.now) < 2 ^ 63 },
-    pub ghost lines: { begins.items ≡ begins_in (taken history.now) first history.now },
+    pub places: &'a LogPlaces,
+    /// Element `v - 1` is where node `v` stands.
+    pub nodes: Vec<&'a TxnPlace>,
+    pub ghost fits: { Fits history.now (rows_of places.now) },
+    pub ghost rows: { map (λ p. view_place p.now) nodes.items
+        ≡ node_table (taken history.now) history.now (rows_of places.now) },
+}
+
+/// Appends where a transaction stands, where it is a node.
+fn add_node<'a>(
+    nodes: &mut Vec<&'a TxnPlace>,
+    txn: &Txn,
+    is_taken: bool,
+    place: &'a TxnPlace,
+) -> Result<(), AllocError>
+    ensures { OnOk result (map (λ p. view_place p.now) nodes.new.items
+        ≡ map (λ p. view_place p.now) nodes.old.items
+        ++ node_row is_taken (view_txn txn.now) (view_place place.now)) }
+{
+    if is_node(txn, is_taken) {
+        nodes.push(place)?;
+    }
+    Ok(())
+}
+
+/// Appends where the nodes of a session stand.
+fn add_nodes<'a>(
+    nodes: &mut Vec<&'a TxnPlace>,
+    txns: &[Txn],
+    is_taken: bool,
+    places: &'a [TxnPlace],
+) -> Result<(), AllocError>
+    requires fits { length places.now ≡ length txns.now }
+    ensures { OnOk result (map (λ p. view_place p.now) nodes.new.items
+        ≡ map (λ p. view_place p.now) nodes.old.items
+        ++ node_rows is_taken (map view_txn txns.now) (map view_place places.now)) }
+{
+    for (at, txn) in txns.iter().enumerate() {
+        add_node(nodes, txn, is_taken, &places[at])?;
+    }
+    Ok(())
 }
 
 impl<'a> PlacedHistory<'a> {
-    /// A history in its log, which is of this version.
-    #[tactic(auto, using(crate::proofs::Nodes::are_begin_lines))]
+    /// A history, and where its transactions stand.
     pub fn of(
         alloc: Global,
-        version: Version,
         history: &'a History,
+        places: &'a LogPlaces,
     ) -> Result<PlacedHistory<'a>, AllocError>
-        requires room { length (log_lines history.now) + 2 < 2 ^ 63 }
+        requires fits { Fits history.now (rows_of places.now) }
         ensures history { IfOk result (λ log. log.history.now ≡ history.now) }
-        ensures first { IfOk result (λ log. log.first ≡ first_line version) }
-        ensures begins { IfOk result (λ log.
-            AreBeginLines (first_line version) history.now log.begins.items) }
+        ensures places { IfOk result (λ log. rows_of log.places.now
+            ≡ rows_of places.now) }
     {
-        let first = version.first_line();
-        let begins = begin_lines(alloc, history, first)?;
+        let mut nodes = Vec::with_capacity(alloc, history.committed())?;
+        let sessions = history.sessions();
+        for (at, session) in sessions.iter().enumerate() {
+            let is_taken = history.taken(usize::from(session.number));
+            add_nodes(&mut nodes, &session.txns, is_taken, &places.sessions[at])?;
+        }
         Ok(PlacedHistory {
             history,
-            first,
-            begins,
+            places,
+            nodes,
         })
     }
 }

@@ -4,7 +4,7 @@ use Rattle.std.specs.Prelude.{Option, None, Some, IfSome}
 use Rattle.std.specs.List.{flat_map}
 use Rattle.session_log.specs.Text.{ClientSession}
 use Rattle.serializability.specs.declared.anomaly.Anomaly.{Anomaly}
-use Rattle.log_lines.specs.Places.{AreBeginLines}
+use Rattle.log_lines.specs.Rows.{Table, rows_of}
 use Rattle.deciding.specs.declared.decision.Decision.{Decision}
 use Rattle.deciding.specs.declared.decision.Decision.TheVariants.{Serial, Anomalous, Cyclic, Dead}
 use Rattle.deciding.specs.declared.decision.Decision.TheVariants.{Refuted, Spent}
@@ -72,7 +72,7 @@ abbrev pub empty_text : Format → List ℕ
 empty_text Text = []
 empty_text Dot = codes "strict digraph explanation {\nnode [shape=box];\n}\n"
 
--- `from` is the line of the log's first session
+-- the reads that show an anomaly
 pub record IsAnomalyExplained (format : Format) (log : PlacedHistory) (a : Anomaly)
     (text : List ℕ) : Type 0 where
   pub lines : List ℕ
@@ -126,11 +126,10 @@ IsWhy format log (Dead ledger) text = IsDeadWritten format log text
 IsWhy format log (Refuted left tree) text = IsTreeWritten (leaf_count tree) format log text
 IsWhy format log (Spent closed) text = text ≡ empty_text format
 
--- the log of these sessions, the first of which begins at this line, and why, in its lines
-pub record IsExplained (format : Format) (from : ℕ) (ss : List ClientSession) (d : Decision)
+-- why, in the places and lines of this table
+pub record IsExplained (format : Format) (table : Table) (ss : List ClientSession) (d : Decision)
     (text : List ℕ) : Type 0 where
   pub log : PlacedHistory
   pub sessions : log.history.now ≡ ss
-  pub lines : AreBeginLines from ss log.begins.items
-  pub first : log.first ≡ from
+  pub places : rows_of log.places.now ≡ table
   pub why : IsWhy format log d text

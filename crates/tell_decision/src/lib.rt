@@ -13,4 +13,4 @@ mod telling;
 mod written;
 
 pub use call_options::Format;
-pub use telling::explain;
+pub use telling::{explain, explain_placed};

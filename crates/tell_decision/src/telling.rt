@@ -3,13 +3,14 @@
 ghost use Rattle.std.specs.Prelude.{◌≡◌, ◌+◌, ◌<◌, ◌^◌, length, IfOk};
 ghost use Rattle.session_log.specs.Version.{first_line};
 ghost use Rattle.log_definitions.specs.WellFormed.{log_lines};
+ghost use Rattle.log_lines.specs.Rows.{own_places};
 ghost use Rattle.deciding.specs.Decides.{IsDecided};
 ghost use Rattle.tell_decision.specs.Explained.{empty_text, IsWhy, IsExplained};
 
 use crate::explained::{explain_anomaly, explain_cycle, explain_dead, explain_tree};
 use call_options::Format;
 use deciding::Decision;
-use log_lines::PlacedHistory;
+use log_lines::{LogPlaces, PlacedHistory};
 use session_history::History;
 use session_log::Version;
 use std::alloc::{AllocError, Global};
@@ -24,8 +25,11 @@ fn empty(format: Format) -> &'static [u8]
     }
 }
 
-/// Why a decision stands.
-fn why(
+/// Why a decision about a history stands, in the places and lines that its transactions have: the
+/// operations that show an anomaly; of each edge of a cycle the reason; the forced steps that
+/// pruning's cycle needs, and the cycle; the steps that a tree needs, and the tree. Nothing, or a
+/// graph without boxes, of an order and of a spent budget.
+pub fn explain_placed(
     alloc: Global,
     log: &PlacedHistory<'_>,
     format: Format,
@@ -43,10 +47,7 @@ fn why(
     }
 }
 
-/// Why a decision about a history stands, in the lines of its log, which is of this version: the
-/// operations that show an anomaly; of each edge of a cycle the reason; the forced steps that
-/// pruning's cycle needs, and the cycle; the steps that a tree needs, and the tree. Nothing, or a
-/// graph without boxes, of an order and of a spent budget.
+/// Why a decision about a history stands, in the lines of its log, which is of this version.
 pub fn explain(
     alloc: Global,
     version: Version,
@@ -56,9 +57,10 @@ pub fn explain(
 ) -> Result<Vec<u8>, AllocError>
     requires room { length (log_lines history.now) + 2 < 2 ^ 63 }
     requires decided { IsDecided history.now decision.now }
-    ensures explained { IfOk result (λ text. IsExplained format (first_line version)
-        history.now decision.now text.items) }
+    ensures explained { IfOk result (λ text. IsExplained format
+        (own_places (first_line version) history.now) history.now decision.now text.items) }
 {
-    let log = PlacedHistory::of(alloc, version, history)?;
-    why(alloc, &log, format, decision)
+    let places = LogPlaces::own(alloc, version, history.sessions())?;
+    let log = PlacedHistory::of(alloc, history, &places)?;
+    explain_placed(alloc, &log, format, decision)
 }

@@ -1,28 +1,30 @@
 -- Where an identity is written: what a pass over the sessions knows.
-use Rattle.std.proofs.Common.{◌≡◌, ℕ, ◌+◌, ◌<◌, ◌≤◌, true, false, List, [], ◌∷◌, ◌++◌, length, take, drop, get_or, None, Some, refl, sym, ap, ◌∙◌, subst, inl, inr, arith, length-append, eqb, eqb-true, eq-eqb, Bor}
-use Rattle.std.specs.Prelude.{map, position}
+use Rattle.std.proofs.Common.{◌≡◌, ℕ, ◌+◌, ◌<◌, true, false, List, [], ◌∷◌, ◌++◌, length, take, get_or, None, Some, refl, sym, ap, ◌∙◌, subst, inl, inr, arith, eqb, eqb-true, eq-eqb, Bor, Vec}
+use Rattle.std.specs.Prelude.{map, position, slice_get}
 use Rattle.std.specs.List.{flat_map, Contains}
+use Rattle.std.specs.Option.{option_map}
+use Rattle.std.specs.declared.alloc.Global.{Global}
 use Rattle.std.proofs.lemmas.Bool.{false≢true, and_parts, and_from}
-use Rattle.std.proofs.lemmas.List.{append-nil, length-map, length-take-le, get_or-take}
-use Rattle.std.proofs.lemmas.Option.{slice_get-get_or}
+use Rattle.std.proofs.lemmas.List.{append-nil, length-map, length-take-le, get_or-take, take-map}
+use Rattle.std.proofs.lemmas.Option.{slice_get-get_or, slice_get-map}
 use Rattle.std.proofs.lemmas.List.Concat.{flat_map-append}
 use Rattle.std.proofs.lemmas.List.Elements.{Contains-append_cases}
 use Rattle.std.proofs.lemmas.List.Quantifiers.{position-Some}
 use Rattle.std.proofs.lemmas.Slice.Eq.{bytes_eq-Decides}
-use Rattle.session_log.specs.Text.{ClientSession, Transaction, view, view_txn, txn_lines, session_lines}
+use Rattle.session_log.specs.Text.{ClientSession, Transaction, view, view_txn}
 use Rattle.session_log.specs.declared.session.Op.{Op}
 use Rattle.session_log.specs.declared.session.Op.TheVariants.{Read, Write}
 use Rattle.session_log.specs.declared.session.Txn.{Txn}
 use Rattle.session_log.specs.declared.session.Session.{Session}
 use Rattle.log_definitions.specs.Unknown.{txns_in, ops_in}
-use Rattle.log_definitions.specs.WellFormed.{log_lines}
+use Rattle.log_lines.specs.Rows.{Fits, view_place}
+use Rattle.log_lines.specs.declared.places.TxnPlace.{TxnPlace}
 use Rattle.tell_reasons.specs.Anomalies.{IsUnwritten}
 use Rattle.tell_reasons.specs.Writes.{is_among, is_write_as, IsNoneWrite, FindsIn, Finds}
 use Rattle.tell_reasons.specs.declared.writes.Keys.{Keys}
 use Rattle.tell_reasons.specs.declared.writes.Keys.TheVariants.{This, Any}
 use Rattle.tell_reasons.specs.declared.writes.WriteAt.{WriteAt}
-use Rattle.tell_reasons.proofs.Begun.{lines-append, txns-append}
-use Rattle.tell_reasons.proofs.Found.{front, cut, none_at}
+use Rattle.tell_reasons.proofs.Found.{front, at_place, none_at}
 
 -- ---- one operation
 pub among_itself : (keys : Keys) (key : List ℕ) → is_among keys key key ≡ true
@@ -89,111 +91,103 @@ none_anywhere key wid ops h = λ written. h.none written refl
 abbrev pub txn_ops : List Transaction → List Op
 txn_ops txns = flat_map (λ t. t.ops) txns
 
--- the transactions in front of place i take up the lines before this one, and none of them has the write
-pub record IsBefore (n : ℕ) (keys : Keys) (key : List ℕ) (wid : ℕ) (txns : List Txn) (i line : ℕ) : Type 0 where
-  pub begins : line ≡ n + 1 + length (flat_map txn_lines (map view_txn (take i txns)))
-  pub none : IsNoneWrite keys key wid (flat_map (λ t. t.ops) (map view_txn (take i txns)))
-
-pub before_more : (n : ℕ) (keys : Keys) (key : List ℕ) (wid : ℕ) (txns : List Txn) (i line : ℕ) (x : Txn) → i < length txns → x ≡ get_or txns i x → IsBefore n keys key wid txns i line → None ≡ position (is_write_as keys key wid) x.ops.items
-    → IsBefore n keys key wid txns (i + 1) (line + length (txn_lines (view_txn x)))
-before_more n keys key wid txns i line x h at b e =
+pub before_more : (keys : Keys) (key : List ℕ) (wid : ℕ) (txns : List Txn) (i : ℕ) (x : Txn) → i < length txns → x ≡ get_or txns i x → IsNoneWrite keys key wid (txn_ops (map view_txn (take i txns))) → None ≡ position (is_write_as keys key wid) x.ops.items
+    → IsNoneWrite keys key wid (txn_ops (map view_txn (take (i + 1) txns)))
+before_more keys key wid txns i x h at b e =
     let before = map view_txn (take i txns) in
-    let more = front view_txn txns i x h at in
-    let lines = ap (λ ts. length (flat_map txn_lines ts)) more ∙ txns-append before (view_txn x ∷ []) in
-    let one = ap (λ ls. length ls) (append-nil (txn_lines (view_txn x))) in
     let ops : txn_ops (map view_txn (take (i + 1) txns)) ≡ txn_ops before ++ x.ops.items =
-    ap txn_ops more ∙ flat_map-append (λ t. t.ops) before (view_txn x ∷ []) ∙ ap (λ l. txn_ops before ++ l) (append-nil x.ops.items) in
-    record {
-      begins = omega (arith, lines, one, b.begins);
-      none = subst (λ l. IsNoneWrite keys key wid l) (sym ops) (none-append keys key wid (txn_ops before) x.ops.items b.none (no_write keys key wid x.ops.items e));
-    }
+    ap txn_ops (front view_txn txns i x h at) ∙ flat_map-append (λ t. t.ops) before (view_txn x ∷ []) ∙ ap (λ l. txn_ops before ++ l) (append-nil x.ops.items) in
+    subst (λ l. IsNoneWrite keys key wid l) (sym ops) (none-append keys key wid (txn_ops before) x.ops.items b (no_write keys key wid x.ops.items e))
 
--- the lines of one transaction stand in those of the session
-pub txn_within : (s : Session) (i : ℕ) (x : Txn) → i < length s.txns.items → x ≡ get_or s.txns.items i x
-    → 1 + length (flat_map txn_lines (map view_txn (take i s.txns.items))) + length (txn_lines (view_txn x)) ≤ length (session_lines (view s))
-txn_within s i x h at =
-    let before = map view_txn (take i s.txns.items) in
-    let behind = map view_txn (drop (i + 1) s.txns.items) in
-    let all = ap (λ ts. length (flat_map txn_lines ts)) (cut view_txn s.txns.items i x h at) ∙ txns-append before (view_txn x ∷ behind) in
-    let one = length-append (txn_lines (view_txn x)) (flat_map txn_lines behind) in
-    omega (arith, all, one)
+-- each transaction has a row with a line for each operation
+abbrev pub FitsTxns : List Txn → List TxnPlace → Type 0
+FitsTxns txns places = map (λ row. length row.ops) (map view_place places) ≡ map (λ t. length t.ops) (map view_txn txns)
 
-pub write_within : (n : ℕ) (s : Session) (keys : Keys) (key : List ℕ) (wid i line j : ℕ) (x : Bor Txn) → i < length s.txns.items → x.now ≡ get_or s.txns.items i x.now → IsBefore n keys key wid s.txns.items i line → Some j ≡ position (is_write_as keys key wid) x.now.ops.items
-    → FindsIn n s keys key wid (record { session = s.number; place = i + 1; txn = x; begin = line; op = j })
-write_within n s keys key wid i line j x h is b e =
-    let before = take i s.txns.items in
+pub same_length : {X Y Z : Type 0} (f : X → Z) (g : Y → Z) (xs : List X) (ys : List Y) → map f xs ≡ map g ys → length xs ≡ length ys
+same_length f g xs ys e = sym (length-map xs f) ∙ ap (λ l. length l) e ∙ length-map ys g
+
+same_at : {X Y Z : Type 0} (f : X → Z) (g : Y → Z) (xs : List X) (ys : List Y) (i : ℕ) (x : X) (y : Y) → map f xs ≡ map g ys → slice_get xs i ≡ Some x → slice_get ys i ≡ Some y → f x ≡ g y
+same_at f g xs ys i x y e at at' =
+    let same : Some (f x) ≡ Some (g y) = sym (slice_get-map f xs i ∙ ap (option_map f) at) ∙ ap (λ l. slice_get l i) e ∙ slice_get-map g ys i ∙ ap (option_map g) at' in
+    cc
+
+pub places_long : (txns : List Txn) (places : List TxnPlace) → FitsTxns txns places → length places ≡ length txns
+places_long txns places fits =
+    sym (length-map places view_place) ∙ same_length (λ row. length row.ops) (λ t. length t.ops) (map view_place places) (map view_txn txns) fits ∙ length-map txns view_txn
+
+pub write_within : (number : ℕ) (txns : List Txn) (places : List TxnPlace) (keys : Keys) (key : List ℕ) (wid i j : ℕ) (x : Bor Txn) (p : Bor TxnPlace) → i < length txns → x.now ≡ get_or txns i x.now → i < length places → p.now ≡ get_or places i p.now
+    → FitsTxns txns places → IsNoneWrite keys key wid (txn_ops (map view_txn (take i txns))) → Some j ≡ position (is_write_as keys key wid) x.now.ops.items
+    → FindsIn number txns places keys key wid (record { session = number; txn = x; place = p; op = j })
+write_within number txns places keys key wid i j x p h is h' is' fits b e =
     let ops = x.now.ops.items in
-    let p = is_write_as keys key wid in
+    let passes = is_write_as keys key wid in
     let d = Write key wid in
-    let f = position-Some p ops j d (sym e) in
+    let f = position-Some passes ops j d (sym e) in
     let is_sought = is_write_only keys key wid (get_or ops j d) f.1 in
+    let txn = at_place view_txn txns i x.now h is in
+    let has = at_place view_place places i p.now h' is' in
     record {
       written = is_sought.written;
-      number = refl;
-      write = record {
-        earlier = map view_txn before;
-        later = map view_txn (drop (i + 1) s.txns.items);
-        txns = cut view_txn s.txns.items i x.now h is;
-        stands = let size = length-map before view_txn in let count = length-take-le i s.txns.items (omega (arith, h)) in omega (arith, size, count);
-        begins = b.begins;
-        among = is_sought.among;
-        writes = slice_get-get_or ops j d f.0 ∙ ap (λ o. Some o) is_sought.is;
-        first = none-append keys key wid (txn_ops (map view_txn before)) (take j ops) b.none (no_earlier keys key wid ops j (sym e));
-      };
+      index = i;
+      session = refl;
+      txn = txn;
+      has = has;
+      lines = same_at (λ row. length row.ops) (λ t. length t.ops) (map view_place places) (map view_txn txns) i (view_place p.now) (view_txn x.now) fits has txn;
+      among = is_sought.among;
+      writes = slice_get-get_or ops j d f.0 ∙ ap (λ o. Some o) is_sought.is;
+      first = subst (λ (ts : List Transaction). IsNoneWrite keys key wid (txn_ops ts ++ take j ops)) (sym (take-map view_txn i txns))
+          (none-append keys key wid (txn_ops (map view_txn (take i txns))) (take j ops) b (no_earlier keys key wid ops j (sym e)));
     }
 
 -- ---- the sessions
-pub record IsBeyond (n : ℕ) (keys : Keys) (key : List ℕ) (wid : ℕ) (sessions : List Session) (i line : ℕ) : Type 0 where
-  pub begins : line ≡ n + length (log_lines (map view (take i sessions)))
-  pub none : IsNoneWrite keys key wid (ops_in (map view (take i sessions)))
+abbrev pub FitsSessions : List Session → List (Vec TxnPlace Global) → Type 0
+FitsSessions sessions tables = Fits (map view sessions) (map (λ s. map view_place s.items) tables)
+
+pub tables_long : (sessions : List Session) (tables : List (Vec TxnPlace Global)) → FitsSessions sessions tables → length tables ≡ length sessions
+tables_long sessions tables fits =
+    sym (length-map tables (λ s. map view_place s.items))
+    ∙ same_length (λ rows. map (λ row. length row.ops) rows) (λ s. map (λ t. length t.ops) s.txns) (map (λ s. map view_place s.items) tables) (map view sessions) fits
+    ∙ length-map sessions view
+
+pub fits_at : (sessions : List Session) (tables : List (Vec TxnPlace Global)) (i : ℕ) (x : Session) (rows : Vec TxnPlace Global) → FitsSessions sessions tables → i < length sessions → x ≡ get_or sessions i x → i < length tables → rows ≡ get_or tables i rows → FitsTxns x.txns.items rows.items
+fits_at sessions tables i x rows fits h is h' is' =
+    same_at (λ rows. map (λ row. length row.ops) rows) (λ s. map (λ t. length t.ops) s.txns) (map (λ s. map view_place s.items) tables) (map view sessions) i (map view_place rows.items) (view x) fits
+    (at_place (λ (s : Vec TxnPlace Global). map view_place s.items) tables i rows h' is') (at_place view sessions i x h is)
 
 ops-append : (a b : List ClientSession) → ops_in (a ++ b) ≡ ops_in a ++ ops_in b
 ops-append a b = ap txn_ops (flat_map-append (λ s. s.txns) a b) ∙ flat_map-append (λ t. t.ops) (txns_in a) (txns_in b)
 
-pub beyond_more : (n : ℕ) (keys : Keys) (key : List ℕ) (wid : ℕ) (sessions : List Session) (i line : ℕ) (x : Session) → i < length sessions → x ≡ get_or sessions i x → IsBeyond n keys key wid sessions i line
-    → IsNoneWrite keys key wid (flat_map (λ t. t.ops) (map view_txn x.txns.items)) → IsBeyond n keys key wid sessions (i + 1) (line + length (session_lines (view x)))
-beyond_more n keys key wid sessions i line x h at b e =
+pub beyond_more : (keys : Keys) (key : List ℕ) (wid : ℕ) (sessions : List Session) (i : ℕ) (x : Session) → i < length sessions → x ≡ get_or sessions i x → IsNoneWrite keys key wid (ops_in (map view (take i sessions)))
+    → IsNoneWrite keys key wid (txn_ops (map view_txn x.txns.items)) → IsNoneWrite keys key wid (ops_in (map view (take (i + 1) sessions)))
+beyond_more keys key wid sessions i x h at b e =
     let before = map view (take i sessions) in
-    let more = front view sessions i x h at in
-    let lines = ap (λ ss. length (log_lines ss)) more ∙ lines-append before (view x ∷ []) in
-    let one = ap (λ ls. length ls) (append-nil (session_lines (view x))) in
-    let ops = ap ops_in more ∙ ops-append before (view x ∷ []) ∙ ap (λ ts. ops_in before ++ txn_ops ts) (append-nil (map view_txn x.txns.items)) in
-    record {
-      begins = omega (arith, lines, one, b.begins);
-      none = subst (λ l. IsNoneWrite keys key wid l) (sym ops) (none-append keys key wid (ops_in before) (txn_ops (map view_txn x.txns.items)) b.none e);
-    }
+    let ops = ap ops_in (front view sessions i x h at) ∙ ops-append before (view x ∷ []) ∙ ap (λ ts. ops_in before ++ txn_ops ts) (append-nil (map view_txn x.txns.items)) in
+    subst (λ l. IsNoneWrite keys key wid l) (sym ops) (none-append keys key wid (ops_in before) (txn_ops (map view_txn x.txns.items)) b e)
 
-pub session_within : (sessions : List Session) (i : ℕ) (x : Session) → i < length sessions → x ≡ get_or sessions i x
-    → length (log_lines (map view (take i sessions))) + length (session_lines (view x)) ≤ length (log_lines (map view sessions))
-session_within sessions i x h at =
-    let before = map view (take i sessions) in
-    let behind = map view (drop (i + 1) sessions) in
-    let all = ap (λ ss. length (log_lines ss)) (cut view sessions i x h at) ∙ lines-append before (view x ∷ behind) in
-    let one = length-append (session_lines (view x)) (log_lines behind) in
-    omega (arith, all, one)
-
-pub write_beyond : (n : ℕ) (sessions : List Session) (keys : Keys) (key : List ℕ) (wid i line : ℕ) (x : Session) (w : WriteAt) → i < length sessions → x ≡ get_or sessions i x → IsBeyond n keys key wid sessions i line
-    → FindsIn line x keys key wid w → Finds n sessions keys key wid w
-write_beyond n sessions keys key wid i line x w h is b r =
-    let write = r.write in
-    let behind = txn_ops write.earlier ++ take w.op w.txn.now.ops.items in
+pub write_beyond : (sessions : List Session) (tables : List (Vec TxnPlace Global)) (keys : Keys) (key : List ℕ) (wid i : ℕ) (x : Session) (rows : Vec TxnPlace Global) (w : WriteAt) → i < length sessions → x ≡ get_or sessions i x → i < length tables → rows ≡ get_or tables i rows
+    → IsNoneWrite keys key wid (ops_in (map view (take i sessions))) → FindsIn x.number x.txns.items rows.items keys key wid w → Finds (map view sessions) (map (λ s. map view_place s.items) tables) keys key wid w
+write_beyond sessions tables keys key wid i x rows w h is h' is' b r =
+    let inner = txn_ops (take r.index (map view_txn x.txns.items)) ++ take w.op w.txn.now.ops.items in
     record {
       written = r.written;
-      among = write.among;
+      place = r.index + 1;
+      among = r.among;
       write = record {
-        begins = record {
-          before = map view (take i sessions);
+        stands = record {
+          at = i;
+          index = r.index;
           of = view x;
-          after = map view (drop (i + 1) sessions);
-          earlier = write.earlier;
-          later = write.later;
-          sessions = cut view sessions i x h is;
-          number = r.number;
-          txns = write.txns;
-          stands = write.stands;
-          begins = let lines = b.begins in let begins = write.begins in omega (arith, lines, begins);
+          rows = map view_place rows.items;
+          sessions = at_place view sessions i x h is;
+          tables = at_place (λ (s : Vec TxnPlace Global). map view_place s.items) tables i rows h' is';
+          number = r.session;
+          stands = refl;
+          txn = r.txn;
+          has = r.has;
+          lines = r.lines;
         };
-        writes = write.writes;
+        writes = r.writes;
       };
-      first = none-append keys key wid (ops_in (map view (take i sessions))) behind b.none write.first;
+      first = subst (λ (ss : List ClientSession). IsNoneWrite keys key wid (ops_in ss ++ inner)) (sym (take-map view i sessions))
+          (none-append keys key wid (ops_in (map view (take i sessions))) inner b r.first);
     }

@@ -1,6 +1,5 @@
 -- How an anomaly is told: the reads that show it, who wrote what they name, and what their
--- transactions did with the key besides. `n` is the line of the first session; operations count
--- from 0.
+-- transactions did with the key besides. Operations count from 0.
 use Rattle.std.specs.Prelude.{◌≡◌, ◌≢◌, ℕ, ◌+◌, ◌-◌, ◌&&◌, ◌==◌, not, Bool, false, List, [], ◌∷◌}
 use Rattle.std.specs.Prelude.{◌++◌, length, take, drop, reverse, position, codes, slice_get, Option}
 use Rattle.std.specs.Prelude.{None, Some, nat_lt, if◌then◌else◌}
@@ -17,8 +16,9 @@ use Rattle.serializability.specs.declared.anomaly.Anomaly.TheVariants as anomaly
 use Rattle.log_definitions.specs.Unknown.{ops_in}
 use Rattle.log_definitions.specs.Serial.{ops_of}
 use Rattle.order_text.specs.Text.{name_text}
-use Rattle.log_lines.specs.Places.{BeginsAt}
-use Rattle.log_lines.specs.Placed.{begin_in}
+use Rattle.log_lines.specs.Rows.{TxnRow, Table, line_at}
+use Rattle.log_lines.specs.Places.{StandsAt}
+use Rattle.log_lines.specs.Placed.{table_in, op_line_in}
 use Rattle.log_lines.specs.declared.placed.PlacedHistory.{PlacedHistory}
 use Rattle.tell_reasons.specs.Reasons.{key_bytes, named, in_line, op_at, op_in_line, key_and_wid}
 use Rattle.tell_reasons.specs.Reasons.{wid_text, reads_text}
@@ -52,18 +52,18 @@ pub record IsRead (op : Option Op) : Type 0 where
   pub is : op ≡ Some (Read key wid)
 
 -- ---- who wrote what a read names
--- operation i of the transaction t, which stands at this place of this session and begins at this
--- line, is the write
-pub record IsWriteAt (n : ℕ) (ss : List ClientSession) (key : List ℕ) (wid session place : ℕ)
-    (t : Transaction) (begin i : ℕ) : Type 0 where
-  pub begins : BeginsAt n ss session place t begin
+-- operation i of the transaction t, which stands at this place of this session and has this row, is
+-- the write
+pub record IsWriteAt (ss : List ClientSession) (table : Table) (key : List ℕ)
+    (wid session place : ℕ) (t : Transaction) (row : TxnRow) (i : ℕ) : Type 0 where
+  pub stands : StandsAt ss table session place t row
   pub writes : slice_get t.ops i ≡ Some (Write key wid)
 
 -- the transaction wrote the key again
-abbrev pub overwrote_text : List Op → ℕ → Option ℕ → List ℕ
-overwrote_text ops begin None = []
-overwrote_text ops begin (Some i) = codes " and overwrote with " ++ wid_text
-    (slice_get ops i) ++ in_line (begin + 1 + i)
+abbrev pub overwrote_text : List Op → TxnRow → Option ℕ → List ℕ
+overwrote_text ops row None = []
+overwrote_text ops row (Some i) = codes " and overwrote with " ++ wid_text
+    (slice_get ops i) ++ in_line (line_at row i)
 
 -- it is not committed
 abbrev pub outcome_text : Outcome → ℕ → List ℕ
@@ -81,12 +81,12 @@ verb_text read begin written = if is_early read begin written then
     codes " writes itself only later" else codes " wrote"
 
 -- what stands in line `read` was written by operation i of this transaction
-abbrev pub wrote_text : ℕ → List ℕ → ℕ → ℕ → Transaction → ℕ → ℕ → List ℕ
-wrote_text read key session place t begin i =
-    codes ", which " ++ name_text (session, place) ++ verb_text read begin (begin + 1 + i)
-    ++ in_line (begin + 1 + i)
-    ++ overwrote_text t.ops begin (next_position (is_write_of key) t.ops i)
-    ++ outcome_text t.outcome (begin + 1 + length t.ops)
+abbrev pub wrote_text : ℕ → List ℕ → ℕ → Transaction → TxnRow → ℕ → List ℕ
+wrote_text read key session t row i =
+    codes ", which " ++ name_text (session, row.place) ++ verb_text read row.begin (line_at row i)
+    ++ in_line (line_at row i)
+    ++ overwrote_text t.ops row (next_position (is_write_of key) t.ops i)
+    ++ outcome_text t.outcome row.end
 
 -- nobody wrote it to this key
 abbrev pub not_here_text : List ℕ → List ℕ
@@ -108,28 +108,29 @@ IsUnwritten wid ops = (key : List ℕ) → ¬ Contains ops (Write key wid)
 
 -- the write is the first of this identity, under any key, in the order of sessions, transactions
 -- and operations
-pub record IsFirstWriteAt (n : ℕ) (ss : List ClientSession) (key : List ℕ)
-    (wid session place : ℕ) (t : Transaction) (begin i : ℕ) : Type 0 where
-  pub write : IsWriteAt n ss key wid session place t begin i
-  pub first : IsUnwritten wid (ops_in write.begins.before
-      ++ (flat_map (λ earlier. earlier.ops) write.begins.earlier ++ take i t.ops))
+pub record IsFirstWriteAt (ss : List ClientSession) (table : Table) (key : List ℕ)
+    (wid session place : ℕ) (t : Transaction) (row : TxnRow) (i : ℕ) : Type 0 where
+  pub write : IsWriteAt ss table key wid session place t row i
+  pub first : IsUnwritten wid (ops_in (take write.stands.at ss)
+      ++ (flat_map (λ earlier. earlier.ops) (take write.stands.index write.stands.of.txns)
+      ++ take i t.ops))
 
 -- who wrote what the read in line `read` names, this identity of this key: nobody where no
 -- operation of any transaction writes the identity under any key, and elsewhere where one does, but
 -- none under this key
-pub data IsWriterTold (n : ℕ) (ss : List ClientSession) (read : ℕ) (key : List ℕ) (wid : ℕ)
-    : List ℕ → Type 0 where
-  initial : wid ≡ 0 → IsWriterTold n ss read key wid (codes ", the initial value")
+pub data IsWriterTold (ss : List ClientSession) (table : Table) (read : ℕ) (key : List ℕ)
+    (wid : ℕ) : List ℕ → Type 0 where
+  initial : wid ≡ 0 → IsWriterTold ss table read key wid (codes ", the initial value")
   nobody : wid ≢ 0 → IsUnwritten wid (ops_in ss)
-      → IsWriterTold n ss read key wid (codes ", which no transaction wrote")
+      → IsWriterTold ss table read key wid (codes ", which no transaction wrote")
   elsewhere : wid ≢ 0 → ¬ Contains (ops_in ss) (Write key wid)
-      → (other : List ℕ) (session place begin i : ℕ) (t : Transaction)
-      → IsFirstWriteAt n ss other wid session place t begin i
-      → IsWriterTold n ss read key wid
-      (elsewhere_text key session place (slice_get t.ops i) (begin + 1 + i))
-  wrote : (session place begin i : ℕ) (t : Transaction)
-      → IsWriteAt n ss key wid session place t begin i
-      → IsWriterTold n ss read key wid (wrote_text read key session place t begin i)
+      → (other : List ℕ) (session place i : ℕ) (t : Transaction) (row : TxnRow)
+      → IsFirstWriteAt ss table other wid session place t row i
+      → IsWriterTold ss table read key wid
+      (elsewhere_text key session row.place (slice_get t.ops i) (line_at row i))
+  wrote : (session place i : ℕ) (t : Transaction) (row : TxnRow)
+      → IsWriteAt ss table key wid session place t row i
+      → IsWriterTold ss table read key wid (wrote_text read key session t row i)
 
 -- ---- a read
 -- operation i of node v is a read; its line says this of it, and then who wrote what it read
@@ -138,7 +139,7 @@ pub record IsReadTold (log : PlacedHistory) (v i : ℕ) (said text : List ℕ) :
   pub wid : ℕ
   pub writer : List ℕ
   pub reads : op_at log.history.now v i ≡ Some (Read key wid)
-  pub told : IsWriterTold log.first log.history.now (begin_in log v + 1 + i) key wid writer
+  pub told : IsWriterTold log.history.now (table_in log) (op_line_in log v i) key wid writer
   pub whole : text ≡ said ++ writer ++ 10 ∷ []
 
 -- what node v did before, by operation i

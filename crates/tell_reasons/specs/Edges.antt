@@ -1,5 +1,4 @@
--- How it is told why one node stands before another, in a line. `begin v` is the line at which node
--- v begins, from 1.
+-- How it is told why one node stands before another, in a line.
 use Rattle.std.specs.Prelude.{ℕ, ◌+◌, List, [], ◌∷◌, ◌++◌, codes, decimal, Option, None}
 use Rattle.std.specs.Prelude.{Some}
 use Rattle.tell_reasons.specs.declared.why.ChainOrder.{ChainOrder}

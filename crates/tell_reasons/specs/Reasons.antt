@@ -1,8 +1,7 @@
--- How it is told why one node stands before another, in the log's own lines. The operations of a
--- node stand in the lines behind that at which it begins, and then the line that ends it.
--- Operations count from 0.
+-- How it is told why one node stands before another, in the log's own lines. Operations count from
+-- 0.
 use Rattle.std.specs.Prelude.{ℕ, ◌+◌, ◌<◌, ◌≤◌, ◌^◌, ◌==◌, if◌then◌else◌, List, [], ◌∷◌, ◌++◌}
-use Rattle.std.specs.Prelude.{length, codes, decimal, slice_get, unwrap_or, Option, None}
+use Rattle.std.specs.Prelude.{codes, decimal, slice_get, unwrap_or, Option, None}
 use Rattle.std.specs.Prelude.{Some}
 use Rattle.session_log.specs.Text.{ClientSession}
 use Rattle.session_log.specs.declared.session.Op.{Op}
@@ -12,7 +11,7 @@ use Rattle.log_definitions.specs.Serial.{session_of, ops_of, begun_of, ended_of}
 use Rattle.log_definitions.specs.Numbers.{log_of}
 use Rattle.session_history.specs.Tables.{name_in}
 use Rattle.order_text.specs.Text.{name_text}
-use Rattle.log_lines.specs.Placed.{begin_in}
+use Rattle.log_lines.specs.Placed.{place_in, begin_in, op_line_in, end_line_in}
 use Rattle.log_lines.specs.declared.placed.PlacedHistory.{PlacedHistory}
 use Rattle.reasons.specs.Given.{IsReason}
 use Rattle.reasons.specs.declared.reason.Reason.{Reason}
@@ -22,7 +21,7 @@ use Rattle.tell_reasons.specs.declared.why.Why.TheVariants as why
 
 -- a node's name, as messages have it
 abbrev pub named : PlacedHistory → ℕ → List ℕ
-named log v = name_text (name_in log.history.now v)
+named log v = name_text ((name_in log.history.now v).0, place_in log v)
 
 abbrev pub in_line : ℕ → List ℕ
 in_line k = codes " (line " ++ decimal k ++ codes ")"
@@ -32,11 +31,11 @@ abbrev pub op_at : List ClientSession → ℕ → ℕ → Option Op
 op_at ss v i = slice_get (ops_of ss v) i
 
 abbrev pub op_in_line : PlacedHistory → ℕ → ℕ → List ℕ
-op_in_line log v i = in_line (begin_in log v + 1 + i)
+op_in_line log v i = in_line (op_line_in log v i)
 
 -- the line that ends node v
 abbrev pub end_in_line : PlacedHistory → ℕ → List ℕ
-end_in_line log v = in_line (begin_in log v + 1 + length (ops_of log.history.now v))
+end_in_line log v = in_line (end_line_in log v)
 
 -- an operation's key and identity, with a space between; its key; its identity
 abbrev pub key_and_wid : Option Op → List ℕ

@@ -1,13 +1,15 @@
 -- Where an identity is written.
-use Rattle.std.specs.Prelude.{◌≡◌, ℕ, ◌+◌, ◌==◌, ◌&&◌, Bool, true, false, List, ◌∷◌, ◌++◌, length}
+use Rattle.std.specs.Prelude.{◌≡◌, ℕ, ◌==◌, ◌&&◌, Bool, true, false, List, ◌++◌, length}
 use Rattle.std.specs.Prelude.{map, take, Some, slice_get}
 use Rattle.std.specs.List.{flat_map, Contains}
 use Rattle.std.specs.Str.{bytes_eq}
-use Rattle.session_log.specs.Text.{ClientSession, Transaction, txn_lines, view, view_txn}
+use Rattle.session_log.specs.Text.{ClientSession, view_txn}
 use Rattle.session_log.specs.declared.session.Op.{Op}
 use Rattle.session_log.specs.declared.session.Op.TheVariants.{Read, Write}
-use Rattle.session_log.specs.declared.session.Session.{Session}
+use Rattle.session_log.specs.declared.session.Txn.{Txn}
 use Rattle.log_definitions.specs.Unknown.{ops_in}
+use Rattle.log_lines.specs.Rows.{Table, view_place}
+use Rattle.log_lines.specs.declared.places.TxnPlace.{TxnPlace}
 use Rattle.tell_reasons.specs.declared.writes.Keys.{Keys}
 use Rattle.tell_reasons.specs.declared.writes.Keys.TheVariants.{This, Any}
 use Rattle.tell_reasons.specs.declared.writes.WriteAt.{WriteAt}
@@ -28,33 +30,33 @@ pub record IsNoneWrite (keys : Keys) (key : List ℕ) (wid : ℕ) (ops : List Op
   pub none : (written : List ℕ) → is_among keys key written ≡ true
       → ¬ Contains ops (Write written wid)
 
--- operation i of the transaction t, which stands at this place of the session and begins at this
--- line, is the first write that is sought there; the session itself begins at line n
-pub record IsWriteIn (n : ℕ) (s : ClientSession) (keys : Keys) (key : List ℕ) (wid : ℕ)
-    (written : List ℕ) (place : ℕ) (t : Transaction) (begin i : ℕ) : Type 0 where
-  pub earlier : List Transaction
-  pub later : List Transaction
-  pub txns : s.txns ≡ earlier ++ t ∷ later
-  pub stands : place ≡ length earlier + 1
-  pub begins : begin ≡ n + 1 + length (flat_map txn_lines earlier)
-  pub among : is_among keys key written ≡ true
-  pub writes : slice_get t.ops i ≡ Some (Write written wid)
-  pub first : IsNoneWrite keys key wid (flat_map (λ t. t.ops) earlier ++ take i t.ops)
+-- its transaction's place has a line for each operation
+abbrev pub HasLines : WriteAt → Type 0
+HasLines w = length w.place.now.ops.items ≡ length w.txn.now.ops.items
 
--- the write that was found in a session
-pub record FindsIn (n : ℕ) (s : Session) (keys : Keys) (key : List ℕ) (wid : ℕ)
+-- the write that was found among a session's transactions, which have these places: the first that
+-- is sought
+pub record FindsIn (number : ℕ) (txns : List Txn) (places : List TxnPlace) (keys : Keys)
+    (key : List ℕ) (wid : ℕ) (w : WriteAt) : Type 0 where
+  pub written : List ℕ
+  pub index : ℕ
+  pub session : number ≡ w.session
+  pub txn : slice_get (map view_txn txns) index ≡ Some (view_txn w.txn.now)
+  pub has : slice_get (map view_place places) index ≡ Some (view_place w.place.now)
+  pub lines : HasLines w
+  pub among : is_among keys key written ≡ true
+  pub writes : slice_get w.txn.now.ops.items w.op ≡ Some (Write written wid)
+  pub first : IsNoneWrite keys key wid (flat_map (λ t. t.ops) (take index (map view_txn txns))
+      ++ take w.op w.txn.now.ops.items)
+
+-- the write that was found in the sessions, which have this table: the first that is sought
+pub record Finds (ss : List ClientSession) (table : Table) (keys : Keys) (key : List ℕ) (wid : ℕ)
     (w : WriteAt) : Type 0 where
   pub written : List ℕ
-  pub number : s.number ≡ w.session
-  pub write : IsWriteIn n (view s) keys key wid written w.place (view_txn w.txn.now) w.begin w.op
-
--- the write that was found in the sessions, the first of which begins at line n: the first that is
--- sought
-pub record Finds (n : ℕ) (sessions : List Session) (keys : Keys) (key : List ℕ) (wid : ℕ)
-    (w : WriteAt) : Type 0 where
-  pub written : List ℕ
+  pub place : ℕ
   pub among : is_among keys key written ≡ true
-  pub write : IsWriteAt n (map view sessions) written wid w.session w.place (view_txn w.txn.now)
-      w.begin w.op
-  pub first : IsNoneWrite keys key wid (ops_in write.begins.before
-      ++ (flat_map (λ t. t.ops) write.begins.earlier ++ take w.op (view_txn w.txn.now).ops))
+  pub write : IsWriteAt ss table written wid w.session place (view_txn w.txn.now)
+      (view_place w.place.now) w.op
+  pub first : IsNoneWrite keys key wid (ops_in (take write.stands.at ss)
+      ++ (flat_map (λ t. t.ops) (take write.stands.index write.stands.of.txns)
+      ++ take w.op w.txn.now.ops.items))

@@ -43,7 +43,7 @@ fn put_source(out: &mut Vec<u8>, log: &PlacedHistory<'_>, at: OpAt) -> Result<()
     let line = line_of(log, at.node, at.op);
     let key = key_at(log.history, at.node, at.op);
     let wid = wid_at(log.history, at.node, at.op);
-    put_writer(out, log.first, log.history.sessions(), line, key, wid)?;
+    put_writer(out, log, line, key, wid)?;
     put_text(out, b"\n")?;
     Ok(())
 }

@@ -5,7 +5,9 @@ ghost use Rattle.std.specs.Prelude.{OnOk};
 ghost use Rattle.reason_laws.specs.Reasons.{IsNode};
 ghost use Rattle.log_definitions.specs.Serial.{ops_of};
 ghost use Rattle.log_definitions.specs.Numbers.{log_of};
-ghost use Rattle.log_lines.specs.Placed.{begin_in};
+ghost use Rattle.log_lines.specs.Rows.{view_place};
+ghost use Rattle.log_lines.specs.Placed.{row_in, place_in, begin_in, op_line_in, end_line_in};
+ghost use Rattle.order_text.specs.Text.{name_text};
 ghost use Rattle.session_history.specs.Rows.{event_key};
 ghost use Rattle.tell_reasons.specs.Events.{event_wid};
 ghost use Rattle.tell_reasons.specs.Reasons as spec;
@@ -13,8 +15,7 @@ ghost use Rattle.tell_reasons.specs.Reasons.{named, in_line, op_at, op_in_line, 
 ghost use Rattle.tell_reasons.specs.Reasons.{key_and_wid, does_text};
 
 use itoa::Buffer;
-use log_lines::PlacedHistory;
-use order_text::put_name;
+use log_lines::{PlacedHistory, TxnPlace};
 use serializability::{Event, NodeIx};
 use session_history::History;
 use std::alloc::AllocError;
@@ -28,6 +29,35 @@ pub fn put_number(out: &mut Vec<u8>, number: u64) -> Result<(), AllocError>
     Ok(())
 }
 
+/// Appends the name of a transaction.
+pub fn put_place(out: &mut Vec<u8>, session: u16, place: usize) -> Result<(), AllocError>
+    ensures text { OnOk result (out.new.items ≡ out.old.items ++ name_text (session, place)) }
+{
+    put_number(out, u64::from(session))?;
+    out.push(b'.')?;
+    put_number(out, place as u64)
+}
+
+/// Where a node stands.
+fn row_of<'a>(log: &PlacedHistory<'a>, node: NodeIx) -> &'a TxnPlace
+    requires node { IsNode log.now.history.now node }
+    ensures row { view_place result.now ≡ row_in log.now node }
+{
+    log.nodes[node.get() - 1]
+}
+
+/// The place of a node in its session; that of node 0 is 0.
+fn place_of(log: &PlacedHistory<'_>, node: NodeIx) -> usize
+    requires known { node ≤ (log_of log.now.history.now).nodes }
+    ensures place { result ≡ place_in log.now node }
+{
+    if node.get() == 0 {
+        0
+    } else {
+        row_of(log, node).place
+    }
+}
+
 /// Appends a word, and the name of a node.
 pub fn put_named(
     out: &mut Vec<u8>,
@@ -39,7 +69,8 @@ pub fn put_named(
     ensures text { OnOk result (out.new.items ≡ out.old.items ++ (word.now ++ named log.now node)) }
 {
     out.extend_from_slice(word)?;
-    put_name(out, log.history, node)
+    let name = log.history.name_of(node);
+    put_place(out, name.session, place_of(log, node))
 }
 
 /// Appends a line of the log, as ` (line 12)`.
@@ -53,21 +84,19 @@ pub fn put_in_line(out: &mut Vec<u8>, line: usize) -> Result<(), AllocError>
 }
 
 /// The line at which a node begins.
-#[tactic(auto, using(crate::proofs::Begun::begin_listed))]
 pub fn begin_of(log: &PlacedHistory<'_>, node: NodeIx) -> usize
     requires node { IsNode log.now.history.now node }
     ensures line { result ≡ begin_in log.now node }
 {
-    log.begins[node.get() - 1]
+    row_of(log, node).begin
 }
 
 /// The line of an operation of a node.
-#[tactic(auto, using(crate::proofs::Begun::has_op, crate::proofs::Begun::line_fits))]
 pub fn line_of(log: &PlacedHistory<'_>, node: NodeIx, op: usize) -> usize
     requires op { op < length (ops_of log.now.history.now node) }
-    ensures line { result ≡ begin_in log.now node + 1 + op }
+    ensures line { result ≡ op_line_in log.now node op }
 {
-    begin_of(log, node) + 1 + op
+    row_of(log, node).ops[op]
 }
 
 /// Appends the line of an operation of a node.
@@ -110,13 +139,11 @@ pub fn op_count(history: &History, node: NodeIx) -> usize
 }
 
 /// The line that ends a node.
-#[tactic(auto, using(crate::proofs::Begun::line_fits))]
 pub fn end_of(log: &PlacedHistory<'_>, node: NodeIx) -> usize
     requires node { IsNode log.now.history.now node }
-    ensures line { result ≡ begin_in log.now node + 1 + length (ops_of log.now.history.now node) }
+    ensures line { result ≡ end_line_in log.now node }
 {
-    let count = op_count(log.history, node);
-    begin_of(log, node) + 1 + count
+    row_of(log, node).end
 }
 
 /// An operation of a node.

@@ -1,33 +1,24 @@
 //! Who wrote what a read names, in the log's own lines.
 
-ghost use Rattle.std.specs.Prelude.{◌≡◌, ◌≢◌, ◌+◌, ◌<◌, ◌^◌, ◌++◌, Some};
-ghost use Rattle.std.specs.Prelude.{length, map, slice_get, codes, OnOk, IfSome};
-ghost use Rattle.session_log.specs.Text.{view, view_txn};
+ghost use Rattle.std.specs.Prelude.{◌≡◌, ◌≢◌, ◌<◌, ◌++◌, Some, length, slice_get, codes, OnOk};
+ghost use Rattle.std.specs.Prelude.{IfSome};
+ghost use Rattle.session_log.specs.Text.{view_txn};
 ghost use Rattle.log_definitions.specs.Unknown.{ops_in};
-ghost use Rattle.log_definitions.specs.WellFormed.{log_lines};
-ghost use Rattle.order_text.specs.Text.{name_text};
+ghost use Rattle.log_lines.specs.Rows.{view_place, line_at, rows_of};
 ghost use Rattle.tell_reasons.specs.declared.writes.Keys.TheVariants.{This};
 ghost use Rattle.tell_reasons.specs.Reasons.{in_line, key_and_wid, wid_text};
-ghost use Rattle.tell_reasons.specs.Writes.{IsNoneWrite};
+ghost use Rattle.tell_reasons.specs.Writes.{IsNoneWrite, HasLines};
 ghost use Rattle.tell_reasons.specs.Anomalies as spec;
 ghost use Rattle.tell_reasons.specs.Anomalies.{Appends, IsWriterTold, not_here_text};
 ghost use Rattle.tell_reasons.specs.Anomalies.{other_write_text, elsewhere_text};
 ghost use Rattle.tell_reasons.specs.Anomalies.{overwrote_text, wrote_text, verb_text};
 
-use crate::phrases::{put_in_line, put_number};
+use crate::phrases::{put_in_line, put_number, put_place};
 use crate::places::next_write;
 use crate::writes::{Keys, WriteAt, op_among, write_at};
-use session_log::{Op, Outcome, Session};
+use log_lines::{PlacedHistory, TxnPlace};
+use session_log::{Op, Outcome};
 use std::alloc::AllocError;
-
-/// Appends the name of a transaction.
-fn put_place(out: &mut Vec<u8>, session: u16, place: usize) -> Result<(), AllocError>
-    ensures text { OnOk result (out.new.items ≡ out.old.items ++ name_text (session, place)) }
-{
-    put_number(out, u64::from(session))?;
-    out.push(b'.')?;
-    put_number(out, place as u64)
-}
 
 /// Appends the identity that an operation names.
 fn put_op_wid(out: &mut Vec<u8>, op: &Op) -> Result<(), AllocError>
@@ -59,32 +50,45 @@ fn put_with_line(out: &mut Vec<u8>, word: &[u8], line: usize) -> Result<(), Allo
     put_in_line(out, line)
 }
 
-/// Appends that a transaction that begins at this line wrote the key again by this operation.
-fn put_again(out: &mut Vec<u8>, ops: &[Op], begin: usize, again: usize) -> Result<(), AllocError>
+/// The line of an operation of a transaction.
+fn line_among(place: &TxnPlace, op: usize) -> usize
+    requires { op < length place.now.ops.items }
+    ensures { result ≡ line_at (view_place place.now) op }
+{
+    place.ops[op]
+}
+
+/// Appends that a transaction that stands here wrote the key again by this operation.
+fn put_again(
+    out: &mut Vec<u8>,
+    ops: &[Op],
+    place: &TxnPlace,
+    again: usize,
+) -> Result<(), AllocError>
     requires again { again < length ops.now }
-    requires room { begin + 1 + length ops.now < 2 ^ 63 }
+    requires lines { length place.now.ops.items ≡ length ops.now }
     ensures text { OnOk result (out.new.items ≡ out.old.items ++ (codes " and overwrote with "
-        ++ wid_text (slice_get ops.now again) ++ in_line (begin + 1 + again))) }
+        ++ wid_text (slice_get ops.now again) ++ in_line (line_at (view_place place.now) again))) }
 {
     out.extend_from_slice(b" and overwrote with ")?;
     put_op_wid(out, op_among(ops, again))?;
-    put_in_line(out, begin + 1 + again)
+    put_in_line(out, line_among(place, again))
 }
 
-/// Appends that a transaction that begins at this line wrote the key again, where it did.
+/// Appends that a transaction that stands here wrote the key again, where it did.
 fn put_overwrote(
     out: &mut Vec<u8>,
     ops: &[Op],
-    begin: usize,
+    place: &TxnPlace,
     again: Option<usize>,
 ) -> Result<(), AllocError>
     requires again { IfSome again (λ i. i < length ops.now) }
-    requires room { begin + 1 + length ops.now < 2 ^ 63 }
+    requires lines { length place.now.ops.items ≡ length ops.now }
     ensures text { OnOk result (out.new.items ≡ out.old.items
-        ++ overwrote_text ops.now begin again) }
+        ++ overwrote_text ops.now (view_place place.now) again) }
 {
     match again {
-        Some(again) => put_again(out, ops, begin, again),
+        Some(again) => put_again(out, ops, place, again),
         None => Ok(()),
     }
 }
@@ -150,17 +154,18 @@ fn put_written(
     write: &WriteAt<'_>,
 ) -> Result<(), AllocError>
     requires op { write.now.op < length write.now.txn.now.ops.items }
-    requires room { write.now.begin + 1 + length write.now.txn.now.ops.items < 2 ^ 63 }
+    requires lines { HasLines write.now }
     ensures text { OnOk result (out.new.items ≡ out.old.items ++ wrote_text read key.now
-        write.now.session write.now.place (view_txn write.now.txn.now) write.now.begin write.now.op) }
+        write.now.session (view_txn write.now.txn.now) (view_place write.now.place.now)
+        write.now.op) }
 {
     let ops = &write.txn.ops;
-    let first = write.begin + 1;
+    let place = write.place;
     out.extend_from_slice(b", which ")?;
-    put_place(out, write.session, write.place)?;
-    put_verb_in_line(out, read, write.begin, first + write.op)?;
-    put_overwrote(out, ops, write.begin, next_write(ops, key, write.op))?;
-    put_outcome(out, write.txn.outcome, first + ops.len())?;
+    put_place(out, write.session, place.place)?;
+    put_verb_in_line(out, read, place.begin, line_among(place, write.op))?;
+    put_overwrote(out, ops, place, next_write(ops, key, write.op))?;
+    put_outcome(out, write.txn.outcome, place.end)?;
     Ok(())
 }
 
@@ -177,15 +182,16 @@ fn put_not_here(out: &mut Vec<u8>, key: &[u8]) -> Result<(), AllocError>
 /// Appends which transaction wrote the identity, and to which key.
 fn put_other_write(out: &mut Vec<u8>, write: &WriteAt<'_>) -> Result<(), AllocError>
     requires op { write.now.op < length write.now.txn.now.ops.items }
-    requires room { write.now.begin + 1 + length write.now.txn.now.ops.items < 2 ^ 63 }
+    requires lines { HasLines write.now }
     ensures text { OnOk result (out.new.items ≡ out.old.items
-        ++ other_write_text write.now.session write.now.place
-        (slice_get write.now.txn.now.ops.items write.now.op) (write.now.begin + 1 + write.now.op)) }
+        ++ other_write_text write.now.session write.now.place.now.place
+        (slice_get write.now.txn.now.ops.items write.now.op)
+        (line_at (view_place write.now.place.now) write.now.op)) }
 {
-    put_place(out, write.session, write.place)?;
+    put_place(out, write.session, write.place.place)?;
     out.extend_from_slice(b" wrote ")?;
     put_op(out, op_among(&write.txn.ops, write.op))?;
-    put_in_line(out, write.begin + 1 + write.op)
+    put_in_line(out, line_among(write.place, write.op))
 }
 
 /// Appends that no transaction wrote what was read to this key, and which operation of a
@@ -196,10 +202,11 @@ fn put_written_elsewhere(
     write: &WriteAt<'_>,
 ) -> Result<(), AllocError>
     requires op { write.now.op < length write.now.txn.now.ops.items }
-    requires room { write.now.begin + 1 + length write.now.txn.now.ops.items < 2 ^ 63 }
+    requires lines { HasLines write.now }
     ensures text { OnOk result (out.new.items ≡ out.old.items
-        ++ elsewhere_text key.now write.now.session write.now.place
-        (slice_get write.now.txn.now.ops.items write.now.op) (write.now.begin + 1 + write.now.op)) }
+        ++ elsewhere_text key.now write.now.session write.now.place.now.place
+        (slice_get write.now.txn.now.ops.items write.now.op)
+        (line_at (view_place write.now.place.now) write.now.op)) }
 {
     put_not_here(out, key)?;
     put_other_write(out, write)
@@ -209,19 +216,17 @@ fn put_written_elsewhere(
 /// to this key, or that none did.
 fn put_elsewhere(
     out: &mut Vec<u8>,
-    first: usize,
-    sessions: &[Session],
+    log: &PlacedHistory<'_>,
     read: usize,
     key: &[u8],
     wid: u64,
 ) -> Result<(), AllocError>
-    requires room { first + length (log_lines (map view sessions.now)) < 2 ^ 63 }
     requires nonzero { wid ≢ 0 }
-    requires none { IsNoneWrite This key.now wid (ops_in (map view sessions.now)) }
+    requires none { IsNoneWrite This key.now wid (ops_in log.now.history.now) }
     ensures told { OnOk result (Appends out.old.items out.new.items
-        (IsWriterTold first (map view sessions.now) read key.now wid)) }
+        (IsWriterTold log.now.history.now (rows_of log.now.places.now) read key.now wid)) }
 {
-    match write_at(sessions, first, Keys::Any, key, wid) {
+    match write_at(log, Keys::Any, key, wid) {
         Some(write) => put_written_elsewhere(out, key, &write),
         None => put_text(out, b", which no transaction wrote"),
     }
@@ -231,39 +236,35 @@ fn put_elsewhere(
 /// is not 0.
 fn put_wrote(
     out: &mut Vec<u8>,
-    first: usize,
-    sessions: &[Session],
+    log: &PlacedHistory<'_>,
     read: usize,
     key: &[u8],
     wid: u64,
 ) -> Result<(), AllocError>
-    requires room { first + length (log_lines (map view sessions.now)) < 2 ^ 63 }
     requires nonzero { wid ≢ 0 }
     ensures told { OnOk result (Appends out.old.items out.new.items
-        (IsWriterTold first (map view sessions.now) read key.now wid)) }
+        (IsWriterTold log.now.history.now (rows_of log.now.places.now) read key.now wid)) }
 {
-    match write_at(sessions, first, Keys::This, key, wid) {
+    match write_at(log, Keys::This, key, wid) {
         Some(write) => put_written(out, read, key, &write),
-        None => put_elsewhere(out, first, sessions, read, key, wid),
+        None => put_elsewhere(out, log, read, key, wid),
     }
 }
 
 /// Appends who wrote what a read in line `read` names.
 pub fn put_writer(
     out: &mut Vec<u8>,
-    first: usize,
-    sessions: &[Session],
+    log: &PlacedHistory<'_>,
     read: usize,
     key: &[u8],
     wid: u64,
 ) -> Result<(), AllocError>
-    requires room { first + length (log_lines (map view sessions.now)) < 2 ^ 63 }
     ensures told { OnOk result (Appends out.old.items out.new.items
-        (IsWriterTold first (map view sessions.now) read key.now wid)) }
+        (IsWriterTold log.now.history.now (rows_of log.now.places.now) read key.now wid)) }
 {
     if wid == 0 {
         put_text(out, b", the initial value")
     } else {
-        put_wrote(out, first, sessions, read, key, wid)
+        put_wrote(out, log, read, key, wid)
     }
 }

@@ -1,16 +1,16 @@
 //! Where an identity is written, by a pass over the sessions.
 
-ghost use Rattle.std.specs.Prelude.{◌≡◌, ◌+◌, ◌<◌, ◌^◌, Some, length, map, position, slice_get};
+ghost use Rattle.std.specs.Prelude.{◌≡◌, ◌<◌, Some, length, map, position, slice_get};
 ghost use Rattle.std.specs.Prelude.{IfSome, IfNone};
 ghost use Rattle.std.specs.List.{flat_map};
-ghost use Rattle.session_log.specs.Text.{view, session_lines};
+ghost use Rattle.session_log.specs.Text.{view_txn};
 ghost use Rattle.log_definitions.specs.Unknown.{ops_in};
-ghost use Rattle.log_definitions.specs.WellFormed.{log_lines};
+ghost use Rattle.log_lines.specs.Rows.{view_place, rows_of};
 ghost use Rattle.tell_reasons.specs.Writes as spec;
 ghost use Rattle.tell_reasons.specs.Writes.{IsNoneWrite, FindsIn, Finds};
 
-use log_lines::{session_line_count, txn_line_count};
-use session_log::{Op, Session, Txn};
+use log_lines::{PlacedHistory, TxnPlace};
+use session_log::{Op, Txn};
 
 /// Under which keys a write of an identity is sought.
 #[derive(Clone, Copy)]
@@ -26,11 +26,9 @@ pub enum Keys {
 pub struct WriteAt<'a> {
     /// The number of its session.
     pub session: u16,
-    /// The place of its transaction in the session, from 1.
-    pub place: usize,
     pub txn: &'a Txn,
-    /// The line at which the transaction begins.
-    pub begin: usize,
+    /// Where the transaction stands.
+    pub place: &'a TxnPlace,
     /// The place of the write among the transaction's operations, from 0.
     pub op: usize,
 }
@@ -73,55 +71,54 @@ fn write_among(ops: &[Op], keys: Keys, key: &[u8], wid: u64) -> Option<usize>
     ops.iter().position(|op| is_write_as(op, keys, key, wid))
 }
 
-/// The first write of this identity, under the key or under any, in a session, which begins at line
-/// `first`.
+/// The first write of this identity, under the key or under any, among the transactions of a
+/// session, which stand here.
 fn write_in<'a>(
-    session: &'a Session,
-    first: usize,
+    session: u16,
+    txns: &'a [Txn],
+    places: &'a [TxnPlace],
     keys: Keys,
     key: &[u8],
     wid: u64,
 ) -> Option<WriteAt<'a>>
-    requires room { first + length (session_lines (view session.now)) < 2 ^ 63 }
-    ensures found { IfSome result (FindsIn first session.now keys key.now wid) }
+    requires fits { map (λ row. length row.ops) (map view_place places.now)
+        ≡ map (λ t. length t.ops) (map view_txn txns.now) }
+    ensures found { IfSome result (FindsIn session txns.now places.now keys key.now wid) }
     ensures none { IfNone result
-        (IsNoneWrite keys key.now wid (flat_map (λ t. t.ops) (view session.now).txns)) }
+        (IsNoneWrite keys key.now wid (flat_map (λ t. t.ops) (map view_txn txns.now))) }
 {
-    let mut begin = first + 1;
-    for (earlier, txn) in session.txns.iter().enumerate() {
+    for (at, txn) in txns.iter().enumerate() {
         if let Some(op) = write_among(&txn.ops, keys, key, wid) {
+            let place = &places[at];
             return Some(WriteAt {
-                session: session.number,
-                place: earlier + 1,
+                session,
                 txn,
-                begin,
+                place,
                 op,
             });
         }
-        begin += txn_line_count(txn);
     }
     None
 }
 
-/// The first write of this identity, under the key or under any, where the first session begins at
-/// line `first`.
+/// The first write of this identity, under the key or under any.
 pub fn write_at<'a>(
-    sessions: &'a [Session],
-    first: usize,
+    log: &PlacedHistory<'a>,
     keys: Keys,
     key: &[u8],
     wid: u64,
 ) -> Option<WriteAt<'a>>
-    requires room { first + length (log_lines (map view sessions.now)) < 2 ^ 63 }
-    ensures found { IfSome result (Finds first sessions.now keys key.now wid) }
-    ensures none { IfNone result (IsNoneWrite keys key.now wid (ops_in (map view sessions.now))) }
+    ensures found { IfSome result
+        (Finds log.now.history.now (rows_of log.now.places.now) keys key.now wid) }
+    ensures none { IfNone result (IsNoneWrite keys key.now wid (ops_in log.now.history.now)) }
 {
-    let mut line = first;
-    for session in sessions {
-        if let Some(write) = write_in(session, line, keys, key, wid) {
+    let sessions = log.history.sessions();
+    let places = &log.places.sessions;
+    for (at, session) in sessions.iter().enumerate() {
+        let rows = &places[at];
+        if let Some(write) = write_in(session.number, &session.txns, rows, keys, key, wid) {
             return Some(write);
         }
-        line += session_line_count(session);
     }
     None
 }

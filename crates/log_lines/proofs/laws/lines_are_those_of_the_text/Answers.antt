@@ -1,9 +1,10 @@
-use Rattle.log_lines.proofs.Texts.{begin_line, operation_line, ending_line}
+use Rattle.log_lines.proofs.Own.{own_row_of, own_begin, own_operation, own_end}
 use Rattle.log_lines.proofs.laws.lines_are_those_of_the_text.Goals as goal
 
 pub returns : goal.returns
 returns c = record {
-  begin = λ text ss legal whole session place line t b. begin_line text ss legal whole session place line t b;
-  operation = λ text ss legal whole session place line t b i op e. operation_line text ss legal whole session place line t b i op e;
-  end = λ text ss legal whole session place line t b. ending_line text ss legal whole session place line t b;
+  place = λ n ss session place t row h. (own_row_of n ss session place t row h).stands;
+  begin = λ text ss legal whole session place t row h. own_begin text ss legal whole session place t row h;
+  operation = λ text ss legal whole session place t row h i op e. own_operation text ss legal whole session place t row h i op e;
+  end = λ text ss legal whole session place t row h. own_end text ss legal whole session place t row h;
 }

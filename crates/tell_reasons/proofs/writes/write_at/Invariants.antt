@@ -1,5 +1,8 @@
-use Rattle.tell_reasons.proofs.Written.{IsBeyond}
+use Rattle.std.proofs.Common.{map, take}
+use Rattle.session_log.specs.Text.{view}
+use Rattle.log_definitions.specs.Unknown.{ops_in}
+use Rattle.tell_reasons.specs.Writes.{IsNoneWrite}
 use Rattle.tell_reasons.proofs.writes.write_at.Given as goal
 
-abbrev pub invariant-loop-session : goal.invariant-loop-session
-invariant-loop-session l = IsBeyond l.first l.keys l.key l.wid l.sessions l.session-index l.line
+abbrev pub invariant-loop-at : goal.invariant-loop-at
+invariant-loop-at l = IsNoneWrite l.keys l.key l.wid (ops_in (map view (take l.at l.sessions)))

@@ -1,6 +1,6 @@
 use Rattle.std.proofs.Common.{sym, subst}
 use Rattle.reduction.specs.Outcome.{IsCyclicHistory}
-use Rattle.tell_decision.proofs.telling.why.Goals as goal
+use Rattle.tell_decision.proofs.telling.explain_placed.Goals as goal
 
 pub explain_anomaly-requires : goal.explain_anomaly-requires
 explain_anomaly-requires c = record { reported = (rw c.in-Anomalous.is at c.requires.decided.decides).1 }

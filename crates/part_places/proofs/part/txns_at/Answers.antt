@@ -1,0 +1,13 @@
+use Rattle.std.proofs.Common.{map, sym, ap, ◌∙◌}
+use Rattle.session_log.specs.Text.{view, view_txn}
+use Rattle.session_log.specs.declared.session.Session.{Session}
+use Rattle.log_parts.proofs.Steps.{item, get_map, get_drop}
+use Rattle.part_places.specs.PartRows.{first_txns}
+use Rattle.part_places.proofs.part.txns_at.Goals as goal
+
+pub returns-then-at-part : goal.returns-then-at-part
+returns-then-at-part c =
+    let part = c.args.part.now in
+    let x = c.index-part-at.result in
+    let at = item part c.args.at x c.if-at-part.true c.index-part-at.is in
+    ap (map view_txn) c.deref.ensures.value ∙ ap (λ (s : Session). map view_txn s.txns.items) (sym c.index-part-at.is) ∙ sym (ap first_txns (get_drop (map view part) c.args.at (view x) (get_map view part c.args.at x at)))

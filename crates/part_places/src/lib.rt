@@ -1,0 +1,10 @@
+//! Where the transactions of a part of a log, and their operations, stand in the whole log.
+//!
+//! It knows no anomaly and not who chooses the part.
+#![tactic(auto)]
+
+pub mod laws;
+mod part;
+mod txn;
+
+pub use part::part_places;
