@@ -256,12 +256,7 @@ fn joined(alloc: Global, place: &str, words: &str, code: &str) -> Result<String,
 
 /// The line that a compiler would print of a log of this name that has this fault: `FILE:LINE:
 /// WORDS (CODE)`, without a line feed, and without the line where the fault has none.
-pub fn refusal(
-    alloc: Global,
-    name: &str,
-    log: &[u8],
-    fault: LogFault,
-) -> Result<String, AllocError>
+pub fn refusal(alloc: Global, name: &str, log: &[u8], fault: LogFault) -> Result<String, AllocError>
     ensures refusal { IfOk result (λ text. IsRefusalLine name.now fault (string_bytes text)) }
 {
     let words = words_of(alloc, log, fault)?;
