@@ -2,3 +2,4 @@ mod Counting
 mod Appended
 mod Names
 mod Parts
+mod Resolved

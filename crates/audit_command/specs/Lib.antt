@@ -5,3 +5,4 @@ pub mod Places
 pub mod Report
 pub mod Words
 pub mod Orders
+pub mod Resolved

@@ -13,14 +13,14 @@ use session_log::{Session, Txn, Version};
 use std::alloc::{AllocError, Global};
 
 /// A sum, which is told as want of memory where it is too large for any.
-fn sum(one: usize, other: usize) -> Result<usize, AllocError>
+pub fn sum(one: usize, other: usize) -> Result<usize, AllocError>
     ensures sum { IfOk result (λ sum. sum ≡ one + other) }
 {
     one.checked_add(other).ok_or(AllocError)
 }
 
 /// The line behind a transaction that begins at this one.
-fn behind(txn: &Txn, line: usize) -> Result<usize, AllocError>
+pub fn behind(txn: &Txn, line: usize) -> Result<usize, AllocError>
     ensures line { IfOk result (λ behind. behind ≡ line + length (txn_lines (view_txn txn.now))) }
 {
     sum(sum(line, txn.ops.len())?, 2)

@@ -11,6 +11,7 @@ ghost use Rattle.judging.specs.Made.{IsMade, IsToldPart};
 ghost use Rattle.log_definitions.specs.Serial.{IsSerialOrder};
 ghost use Rattle.audit_command.specs.Audited.{nodes_in, IsPartTold, AreToldParts, IsAnswered};
 ghost use Rattle.audit_command.specs.Audited.{IsOrderFile};
+ghost use Rattle.audit_command.specs.Resolved.{IsResolved, IsPartOf, IsPartOfVerdict};
 
 use crate::explaining::{Explained, explain_part};
 use crate::files::order_file;
@@ -51,11 +52,14 @@ fn told_part<R: Threads + Wait + Clock + Sync>(
     refuted: RefutedPart,
     options: &AuditOptions<'_>,
 ) -> Result<ToldPart, AllocError>
+    requires part { IsPartOf (map view log.now.sessions.now) refuted }
     ensures told { (ss : List ClientSession) → map view log.now.sessions.now ≡ resolved ss
         → IsToldPart ss refuted → IfOk result (IsPartTold (first_line log.now.version) ss) }
 {
     let txns = told_txns(alloc, log.version, log.sessions, &refuted.flags)?;
-    let Explained { lines, known_as } = explain_part(rt, alloc, &refuted.part, &options.means)?;
+    let means = &options.means.deciding;
+    let Explained { lines, known_as } =
+        explain_part(rt, alloc, log.version, log.sessions, &refuted, means)?;
     let why = if options.explain {
         lines
     } else {
@@ -78,6 +82,7 @@ fn add_parts<R: Threads + Wait + Clock + Sync>(
     options: &AuditOptions<'_>,
     told: &mut Vec<ToldPart>,
 ) -> Result<(), AllocError>
+    requires parts { AllByRecursion (IsPartOf (map view log.now.sessions.now)) parts.items }
     ensures told { (ss : List ClientSession) → map view log.now.sessions.now ≡ resolved ss
         → AllByRecursion (IsToldPart ss) parts.items
         → AreToldParts (first_line log.now.version) ss told.old.items
@@ -104,6 +109,8 @@ fn told_parts<R: Threads + Wait + Clock + Eprint + Sync, P: Progress>(
     progress: &mut P,
 ) -> Result<Vec<ToldPart>, AllocError>
     requires log { IsLog (map view log.now.sessions.now) }
+    requires known { IsResolved (map view log.now.sessions.now) }
+    requires first { IsPartOf (map view log.now.sessions.now) first }
     ensures told { (ss : List ClientSession) → AllByRecursion IsLegal ss → IsSoundLog ss
         → map view log.now.sessions.now ≡ resolved ss → IsToldPart ss first
         → IfOk result (λ told. AreToldParts (first_line log.now.version) ss told.items) }
@@ -207,6 +214,8 @@ fn refuted_answer<R: Threads + Wait + Clock + Eprint + Sync, P: Progress>(
     progress: &mut P,
 ) -> Result<Answered, AllocError>
     requires log { IsLog (map view log.now.sessions.now) }
+    requires known { IsResolved (map view log.now.sessions.now) }
+    requires first { IsPartOf (map view log.now.sessions.now) first }
     ensures answered { (ss : List ClientSession) → AllByRecursion IsLegal ss → IsSoundLog ss
         → map view log.now.sessions.now ≡ resolved ss → IsToldPart ss first
         → IfOk result (IsAnswered options.now (first_line log.now.version) ss) }
@@ -229,6 +238,8 @@ pub fn answer_of<R: Threads + Wait + Clock + Eprint + Sync, P: Progress>(
     progress: &mut P,
 ) -> Result<Answered, AllocError>
     requires log { IsLog (map view log.now.sessions.now) }
+    requires known { IsResolved (map view log.now.sessions.now) }
+    requires told { IsPartOfVerdict (map view log.now.sessions.now) verdict }
     ensures answered { (ss : List ClientSession) → AllByRecursion IsLegal ss → IsSoundLog ss
         → map view log.now.sessions.now ≡ resolved ss → IsVerdict options.now.means ss verdict
         → IsMade (resolved ss) verdict → committed ≡ nodes_in ss

@@ -1,12 +1,15 @@
 //! A call of `audit`.
 
 use crate::ending::Ending;
+use crate::files::write_file;
 use crate::input::log_name;
-use audit_command::{AuditOptions, audit};
-use auditing::{AuditMeans, Deadline, Progress, SoFar};
-use cobra_cli::{Fault, Status};
-use cobra_words::{AuditWords, Request};
+use audit_command::{AuditOptions, Audited, PartFile, Refusal, audit};
+use cobra_cli::{Status, Stop, tell};
+use cobra_words::{AuditWords, Request, VERSION};
+use deciding::Means;
 use dimacs::Counted;
+use judging::JudgeMeans;
+use progress::{Deadline, Progress, Stage};
 use std::alloc::Global;
 use std::io::{Eprint, Write};
 use std::rt::Runtime;
@@ -39,18 +42,33 @@ impl EachSecond {
     }
 }
 
+/// How many hundredths so many of so many are.
+fn percent(part: usize, whole: usize) -> usize {
+    match whole {
+        0 => 100,
+        _ => part.saturating_mul(100) / whole,
+    }
+}
+
+/// Tells a stage.
+fn tell_stage<R: Eprint>(rt: &R, stage: Stage) {
+    let _ = match stage {
+        Stage::Read { transactions } => eprintln!(rt; "read {transactions} transactions"),
+        Stage::Round(round) => eprintln!(rt; "round {round}"),
+        Stage::Merging { placed, nodes } => {
+            let percent = percent(placed, nodes);
+            eprintln!(rt; "merging {percent}%")
+        }
+        Stage::Searching { transactions } => {
+            eprintln!(rt; "searching {transactions} transactions")
+        }
+    };
+}
+
 impl Progress for EachSecond {
-    fn tell<R: Eprint + Clock>(&mut self, rt: &R, so_far: SoFar) {
+    fn tell<R: Eprint + Clock>(&mut self, rt: &R, stage: Stage) {
         if self.is_asked && self.is_due(rt) {
-            let SoFar {
-                pieces,
-                judged,
-                refuted,
-                undecided,
-            } = so_far;
-            let _ = eprintln!(rt;
-                "judged {judged} of {pieces} pieces, {refuted} refuted, {undecided} undecided"
-            );
+            tell_stage(rt, stage);
         }
     }
 }
@@ -58,25 +76,59 @@ impl Progress for EachSecond {
 /// What a call asks for that began then.
 fn options_of<'a>(
     request: &Request<'a>,
-    words: &AuditWords,
+    words: &AuditWords<'a>,
     start: Option<Instant>,
 ) -> AuditOptions<'a> {
     let limits = start.zip(words.seconds);
     let deadline = limits.map(|(start, seconds)| Deadline { start, seconds });
+    let deciding = Means {
+        workers: request.workers,
+        strategy: request.strategy,
+        budget: request.budget,
+    };
     AuditOptions {
-        means: AuditMeans {
-            workers: request.workers,
-            strategy: request.strategy,
-            budget: request.budget,
-            deadline,
-        },
-        size: words.size,
+        means: JudgeMeans { deciding, deadline },
         at_least: words.at_least,
+        faults: words.faults,
+        no_moments: words.no_moments,
+        explain: words.explain,
+        part: words.part.is_some(),
+        order: words.order.is_some(),
         form: words.format,
         quiet: words.quiet,
-        explain: words.explain,
-        file: request.log,
+        version: VERSION,
     }
+}
+
+/// Writes the part as a log, and its map beside it.
+fn write_part<R: Runtime>(
+    rt: &R,
+    alloc: Global,
+    path: &str,
+    part: &PartFile,
+) -> Result<(), Ending> {
+    write_file(rt, alloc, path, &part.log)?;
+    let map = format!(in alloc; "{path}.map")?;
+    write_file(rt, alloc, &map, &part.map)
+}
+
+/// Tells what an audit comes to, and then writes the files that are asked for.
+fn tell_audited<R: Runtime, W: Write>(
+    rt: &R,
+    alloc: Global,
+    audited: &Audited,
+    words: &AuditWords<'_>,
+    sink: &mut Counted<W>,
+) -> Result<Status, Ending> {
+    let status = tell(sink, &audited.reply)?;
+    sink.writer.flush().map_err(|_| Stop::Output)?;
+    if let (Some(path), Some(part)) = (words.part, &audited.part) {
+        write_part(rt, alloc, path, part)?;
+    }
+    if let (Some(path), Some(order)) = (words.order, &audited.order) {
+        write_file(rt, alloc, path, order)?;
+    }
+    Ok(status)
 }
 
 /// Says of a long log whether it has a serial order. The call began then.
@@ -85,7 +137,7 @@ pub fn audit_log<R: Runtime + Threads + Wait + Sync, W: Write>(
     alloc: Global,
     log: &[u8],
     request: &Request<'_>,
-    words: &AuditWords,
+    words: &AuditWords<'_>,
     start: Option<Instant>,
     sink: &mut Counted<W>,
 ) -> Result<Status, Ending> {
@@ -94,11 +146,14 @@ pub fn audit_log<R: Runtime + Threads + Wait + Sync, W: Write>(
         is_asked: words.progress,
         last: start,
     };
-    let told = audit(rt, alloc, log, &options, &mut progress, sink);
-    if let Err(Fault::Log(fault)) = told {
-        // An object may have been written that says so.
-        let _ = sink.writer.flush();
-        return Err(Ending::refused(alloc, log_name(request), log, fault));
+    match audit(rt, alloc, log, &options, &mut progress) {
+        Ok(audited) => tell_audited(rt, alloc, &audited, words, sink),
+        Err(Refusal::Memory) => Err(Ending::memory()),
+        Err(Refusal::Log { fault, text }) => {
+            // An object may be written that says so.
+            let written = sink.writer.write_all(&text);
+            let _ = written.and_then(|()| sink.writer.flush());
+            Err(Ending::refused(alloc, log_name(request), log, fault))
+        }
     }
-    Ok(told?)
 }

@@ -4,6 +4,7 @@
 mod audit_call;
 mod ending;
 mod explain_call;
+mod files;
 mod input;
 mod pieces_call;
 

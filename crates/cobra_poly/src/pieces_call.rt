@@ -1,6 +1,7 @@
 //! A call of `pieces`.
 
 use crate::ending::Ending;
+use crate::files::write_file;
 use crate::input::log_name;
 use cobra_cli::{Status, Stop};
 use cobra_words::{PiecesWord, Request};
@@ -48,12 +49,6 @@ fn path_of(alloc: Global, directory: &str, number: usize, count: usize) -> Resul
     }
     path.push_str(&digits)?;
     Ok(path)
-}
-
-fn write_file<R: Runtime>(rt: &R, alloc: Global, path: &str, bytes: &[u8]) -> Result<(), Ending> {
-    fs::create(rt, path)
-        .and_then(|mut file| file.write_all(bytes))
-        .map_err(|error| Ending::unusable(alloc, path, error))
 }
 
 /// Writes the log and the map of a piece.

@@ -67,11 +67,11 @@ Answers, by exit status:
 /// What `audit` answers, by exit status.
 pub const AUDIT: &str = "\
 Answers, by exit status:
-  0  serializable, then a line each of a word and a number: what the log and its pieces hold
-  1  not serializable: then the piece that has no serial order, its code where it has one, and its
-     transactions; then the numbers
+  0  serializable, then a line each of a word and a number: what the log holds
+  1  not serializable: then a part that no serial order explains, its code where it has one, and its
+     transactions; where the log states moments, what holds without them; then the numbers
   2  refused: FILE:LINE: WORDS (CODE), the fault of the log, L1 to L7, L9 or L10; or usage
-  3  unknown: and why, pieces that are not decided or fewer lines commit than asked for; then the numbers
+  3  unknown: and why, what was not decided or fewer lines commit than asked for; then the numbers
   4  out of memory
   5  device failed: a file and the reason, or output";
 

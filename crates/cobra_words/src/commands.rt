@@ -7,7 +7,7 @@ use std::alloc::{AllocError, Global};
 
 /// The version that `--version` prints. Where a built program is kept, its commit and whether it
 /// was proved are written over what stands in brackets here, in as many bytes (`tools/stamp.py`).
-const VERSION: &str = "1.0.0 (commit unknown, not stamped)";
+pub const VERSION: &str = "1.0.0 (commit unknown, not stamped)";
 
 /// A command that several workers take part in, with the log as its last word.
 fn with_workers<'a>(alloc: Global, command: Command<'a>) -> Result<Command<'a>, AllocError> {
@@ -86,18 +86,26 @@ fn explain<'a>(alloc: Global) -> Result<Command<'a>, AllocError> {
     with_search(alloc, command, CHECK_DEFAULTS)
 }
 
-fn audit<'a>(alloc: Global) -> Result<Command<'a>, AllocError> {
-    let command = Command::new(alloc, "audit")
-        .about("Decide whether some serial order explains a log of any length, piece by piece")
-        .after_help(answers::AUDIT)
-        .arg(options::size(alloc))?
-        .arg(options::at_least(alloc))?
-        .arg(options::seconds(alloc))?
-        .arg(options::explain(alloc))?
+/// Such a command that reports.
+fn with_report<'a>(alloc: Global, command: Command<'a>) -> Result<Command<'a>, AllocError> {
+    command
         .arg(options::report_format(alloc))?
         .arg(options::quiet(alloc))?
-        .arg(options::progress(alloc))?;
-    with_search(alloc, command, AUDIT_DEFAULTS)
+        .arg(options::seconds(alloc))?
+        .arg(options::progress(alloc))
+}
+
+fn audit<'a>(alloc: Global) -> Result<Command<'a>, AllocError> {
+    let command = Command::new(alloc, "audit")
+        .about("Decide whether some serial order explains a log of any length")
+        .after_help(answers::AUDIT)
+        .arg(options::explain(alloc))?
+        .arg(options::faults(alloc))?
+        .arg(options::part(alloc))?
+        .arg(options::order(alloc))?
+        .arg(options::no_moments(alloc))?
+        .arg(options::at_least(alloc))?;
+    with_search(alloc, with_report(alloc, command)?, AUDIT_DEFAULTS)
 }
 
 fn pieces<'a>(alloc: Global) -> Result<Command<'a>, AllocError> {

@@ -10,6 +10,7 @@ mod reading;
 mod request;
 
 pub use call_options::Format;
+pub use commands::VERSION;
 pub use cube_machine::StrategyName;
 pub use reading::words_of;
 pub use request::{AuditWords, Command, PiecesWord, Request, Words};

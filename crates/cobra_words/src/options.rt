@@ -91,12 +91,33 @@ pub fn at_least<'a>(alloc: Global) -> Arg<'a> {
 
 pub fn seconds<'a>(alloc: Global) -> Arg<'a> {
     valued(alloc, "seconds", "N")
-        .help("Begin no further piece so many seconds after the start, 1 to 1000000")
+        .help("Begin nothing further so many seconds after the start, 1 to 1000000")
         .value_parser(clap::value_parser!(u32).range(1..=1_000_000))
 }
 
 pub fn explain<'a>(alloc: Global) -> Arg<'a> {
     flag(alloc, "explain").help("Say why no serial order explains the log")
+}
+
+pub fn faults<'a>(alloc: Global) -> Arg<'a> {
+    valued(alloc, "faults", "N")
+        .help("Tell up to N parts that no serial order explains, 1 to 1000, and how many have each code")
+        .value_parser(clap::value_parser!(u16).range(1..=1000))
+        .default_value("1")
+}
+
+pub fn part<'a>(alloc: Global) -> Arg<'a> {
+    valued(alloc, "part", "FILE").help(
+        "Write the part that no serial order explains as a log, and into FILE.map the line of the log for each of its lines",
+    )
+}
+
+pub fn order<'a>(alloc: Global) -> Arg<'a> {
+    valued(alloc, "order", "FILE").help("Write the serial order, a line SESSION PLACE for each transaction")
+}
+
+pub fn no_moments<'a>(alloc: Global) -> Arg<'a> {
+    flag(alloc, "no-moments").help("Judge the log as if it stated no moments")
 }
 
 pub fn report_format<'a>(alloc: Global) -> Arg<'a> {

@@ -50,12 +50,15 @@ fn size_of(matches: &ArgMatches<'_>) -> Option<usize> {
     matches.get_one::<u16>("size").map(usize::from)
 }
 
-fn audit_of(matches: &ArgMatches<'_>) -> AuditWords {
+fn audit_of<'a>(matches: &ArgMatches<'a>) -> AuditWords<'a> {
     AuditWords {
-        size: size_of(matches),
         at_least: matches.get_one::<u32>("at-least").unwrap_or(1) as usize,
+        faults: matches.get_one::<u16>("faults").map_or(1, usize::from),
         seconds: matches.get_one::<u32>("seconds"),
+        no_moments: matches.get_flag("no-moments"),
         explain: matches.get_flag("explain"),
+        part: matches.get_str("part"),
+        order: matches.get_str("order"),
         format: report_of(matches),
         quiet: matches.get_flag("quiet"),
         progress: matches.get_flag("progress"),

@@ -30,8 +30,8 @@ pub enum Command<'a> {
     Explain {
         format: Format,
     },
-    /// Decide whether some serial order explains a log of any length, piece by piece.
-    Audit(AuditWords),
+    /// Decide whether some serial order explains a log of any length.
+    Audit(AuditWords<'a>),
     /// Cut the log into pieces, of at least so many transactions where this is stated.
     Pieces {
         size: Option<usize>,
@@ -41,15 +41,21 @@ pub enum Command<'a> {
 
 /// What is asked of `audit` alone.
 #[derive(Clone, Copy, Debug)]
-pub struct AuditWords {
-    /// How many transactions a piece is to have at least, where this is stated.
-    pub size: Option<usize>,
+pub struct AuditWords<'a> {
     /// How many committed transactions the log must have.
     pub at_least: usize,
-    /// For how many seconds pieces are begun, where that is limited.
+    /// How many parts without an order are told at most.
+    pub faults: usize,
+    /// For how many seconds something further is begun, where that is limited.
     pub seconds: Option<u32>,
+    /// The log is judged as if it stated no moments.
+    pub no_moments: bool,
     /// Why no serial order explains the log is to be said.
     pub explain: bool,
+    /// The file into which the told part goes as a log.
+    pub part: Option<&'a str>,
+    /// The file into which the serial order goes.
+    pub order: Option<&'a str>,
     pub format: ReportForm,
     /// The first line alone is asked for.
     pub quiet: bool,

@@ -66,8 +66,9 @@ fn refused_words(rt: HostRuntime) {
         "cobra_poly verify log",
         "cobra_poly verify --order o --workers 4 log",
         "cobra_poly verify --order o --plain log",
-        "cobra_poly audit --size 0 log",
-        "cobra_poly audit --size 901 log",
+        "cobra_poly audit --size 900 log",
+        "cobra_poly audit --faults 0 log",
+        "cobra_poly audit --faults 1001 log",
         "cobra_poly audit --seconds 0 log",
         "cobra_poly audit --format dot log",
         "cobra_poly audit --plain log",
@@ -242,15 +243,16 @@ fn words_of_explain(rt: HostRuntime) {
     }
 }
 
-/// The size, the least number of commits and the seconds of a call, and its budget, where it is one
-/// of `audit`.
-fn audit_asked(request: &Request<'_>) -> Option<(Option<usize>, usize, Option<u32>, usize)> {
+/// What a call of `audit` asks for: the least number of commits, of faults, the seconds, the budget,
+/// and whether moments are left out.
+fn audit_asked(request: &Request<'_>) -> Option<(usize, usize, Option<u32>, usize, bool)> {
     match &request.command {
         Command::Audit(words) => Some((
-            words.size,
             words.at_least,
+            words.faults,
             words.seconds,
             request.budget.get(),
+            words.no_moments,
         )),
         _ => None,
     }
@@ -261,7 +263,7 @@ fn see_audit(
     rt: &impl Abort,
     alloc: Global,
     line: &str,
-    wanted: (Option<usize>, usize, Option<u32>, usize),
+    wanted: (usize, usize, Option<u32>, usize, bool),
 ) {
     let words = words(rt, alloc, line);
     assert!(rt;
@@ -273,14 +275,29 @@ fn see_audit(
 #[test]
 fn words_of_audit(rt: HostRuntime) {
     for (line, wanted) in [
-        ("cobra_poly audit log", (None, 1, None, 100_000)),
+        ("cobra_poly audit log", (1, 1, None, 100_000, false)),
         (
-            "cobra_poly audit --size 900 --at-least 100 --seconds 60 --budget 1",
-            (Some(900), 100, Some(60), 1),
+            "cobra_poly audit --faults 9 --at-least 100 --seconds 60 --budget 1 --no-moments",
+            (100, 9, Some(60), 1, true),
         ),
     ] {
         see_audit(&rt, rt.alloc(), line, wanted);
     }
+}
+
+/// Whether a call is one of `audit` that asks for these files.
+fn asks_for_files(request: &Request<'_>, part: &str, order: &str) -> bool {
+    match &request.command {
+        Command::Audit(words) => words.part == Some(part) && words.order == Some(order),
+        _ => false,
+    }
+}
+
+#[test]
+fn files_of_audit(rt: HostRuntime) {
+    let words = words(&rt, rt.alloc(), "cobra_poly audit --part some.log --order an.order log");
+    let request = request(&rt, rt.alloc(), &words);
+    assert!(rt; asks_for_files(&request, "some.log", "an.order"));
 }
 
 /// Whether a call is one of `pieces` that asks for the log of this one, or into this directory.

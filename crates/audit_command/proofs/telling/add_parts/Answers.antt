@@ -1,21 +1,30 @@
-use Rattle.std.proofs.Common.{◌∷◌, [], length, length-append, sym, ap, subst, arith}
+use Rattle.std.proofs.Common.{◌∷◌, [], map, length, length-append, sym, ap, subst, arith}
 use Rattle.std.specs.List.{AllByRecursion}
+use Rattle.session_log.specs.Text.{view}
 use Rattle.session_log.specs.Version.{first_line}
 use Rattle.judging.specs.Made.{IsToldPart}
 use Rattle.audit_command.specs.Audited.{IsPartTold, AreToldParts}
+use Rattle.audit_command.specs.Resolved.{IsPartOf}
 use Rattle.audit_command.proofs.Parts.{all_front, all_more}
 use Rattle.audit_command.proofs.telling.add_parts.Goals as goal
+
+pub told_part-requires-clause-part : goal.told_part-requires-clause-part
+told_part-requires-clause-part g c κs within =
+    let known = map view c.args.log.now.sessions.now in
+    (all_front (IsPartOf known) c.pop.new.self.items c.in-Some.part (subst (AllByRecursion (IsPartOf known)) c.in-Some.ensures.items c.parts.invariant.parts)).1
 
 pub parts-preserved : goal.parts-preserved
 parts-preserved g c =
     let n = first_line c.args.log.now.version in
     let told = c.parts.told.items in
     let new = c.in_ok-told_part.field-0 in
+    let known = map view c.args.log.now.sessions.now in
     let grown = c.in_ok-push.ensures.items in
     record {
       told = λ ss e all old. (
           let was = c.parts.invariant.told ss e all old in
           let split = all_front (IsToldPart ss) c.pop.new.self.items c.in-Some.part (subst (AllByRecursion (IsToldPart ss)) c.in-Some.ensures.items was.0) in
           (split.0, subst (AreToldParts n ss) (sym grown) (all_more (IsPartTold n ss) told new was.1 (c.in_ok-told_part.ensures.told ss e split.1))));
+      parts = (all_front (IsPartOf known) c.pop.new.self.items c.in-Some.part (subst (AllByRecursion (IsPartOf known)) c.in-Some.ensures.items c.parts.invariant.parts)).0;
       more = omega (arith, c.parts.invariant.more, ap length grown, length-append told (new ∷ []));
     }

@@ -5,6 +5,7 @@ use Rattle.session_log.specs.Version.{first_line}
 use Rattle.log_definitions.specs.Unknown.{resolved}
 use Rattle.judging.specs.Made.{IsToldPart}
 use Rattle.audit_command.specs.Audited.{AreToldParts}
+use Rattle.audit_command.specs.Resolved.{IsPartOf}
 use Rattle.audit_command.proofs.telling.add_parts.Given as goal
 
 abbrev pub invariant-parts : goal.invariant-parts
@@ -13,5 +14,6 @@ invariant-parts g l = record {
       → AllByRecursion (IsToldPart ss) l.fn.parts.items
       → AreToldParts (first_line l.log.version) ss l.fn.told.items
       → AllByRecursion (IsToldPart ss) l.left.items × AreToldParts (first_line l.log.version) ss l.told.items;
+  parts : AllByRecursion (IsPartOf (map view l.log.sessions.now)) l.left.items;
   more : length l.fn.told.items ≤ length l.told.items;
 }

@@ -1,0 +1,35 @@
+-- What telling a part needs of it, from what is known of it.
+use Rattle.std.proofs.Common.{◌≡◌, List, [], ◌∷◌, map, sym, subst}
+use Rattle.std.specs.List.{AllByRecursion}
+use Rattle.session_log.specs.Text.{ClientSession, IsLegal, view}
+use Rattle.log_definitions.specs.Unknown.{resolved}
+use Rattle.piece_laws.specs.Logs.{IsSoundLog, IsLog}
+use Rattle.part_laws.proofs.Logs.{part_is_log}
+use Rattle.judging.specs.Judges.{IsVerdict}
+use Rattle.judging.specs.Made.{IsToldPart, IsMadeOf, IsMade}
+use Rattle.judging.specs.declared.means.JudgeMeans.{JudgeMeans}
+use Rattle.judging.specs.declared.judged.RefutedPart.{RefutedPart}
+use Rattle.judging.specs.declared.judged.Verdict.{Verdict}
+use Rattle.judging.specs.declared.judged.Verdict.TheVariants.{Serializable, NotSerializable, Undecided}
+use Rattle.judging.proofs.Resolved.{resolved_is_log}
+use Rattle.audit_command.specs.Resolved.{IsResolved, IsPartOf, IsPartOfVerdict}
+
+pub log_of_known : (known : List ClientSession) → IsResolved known → IsLog known
+log_of_known known k = subst IsLog (sym k.is) (resolved_is_log k.ss k.legal k.sound)
+
+pub told_of : (known : List ClientSession) (k : IsResolved known) (told : RefutedPart) → IsToldPart k.ss told → IsPartOf known told
+told_of known k told h =
+    let log = resolved_is_log k.ss k.legal k.sound in
+    record {
+      legal = (part_is_log (resolved k.ss) (map view told.part.items) log.legal log.sound h.part.is_part).0;
+      made = subst (λ l. IsMadeOf l told) (sym k.is) h.made;
+    }
+
+pub all_told_of : (known : List ClientSession) (k : IsResolved known) (parts : List RefutedPart) → AllByRecursion (IsToldPart k.ss) parts → AllByRecursion (IsPartOf known) parts
+all_told_of known k [] h = tt
+all_told_of known k (p ∷ ps) h = (told_of known k p h.0, all_told_of known k ps h.1)
+
+pub verdict_part : (m : JudgeMeans) (known : List ClientSession) (k : IsResolved known) (v : Verdict) → IsVerdict m k.ss v → IsMade (resolved k.ss) v → IsPartOfVerdict known v
+verdict_part m known k (NotSerializable told) h made = told_of known k told (record { none = h.0; part = h.1; made = made })
+verdict_part m known k (Serializable order) h made = tt
+verdict_part m known k (Undecided why tried) h made = tt

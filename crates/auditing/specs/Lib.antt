@@ -1,3 +1,0 @@
-pub mod Audits
-pub mod Counts
-pub mod Findings
