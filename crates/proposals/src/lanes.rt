@@ -275,7 +275,16 @@ fn put_by_lane(
     let versions = rearrange_versions(alloc, versions, &order)?;
     rearrange_graph(alloc, &mut graph, &order)?;
     graph.place_points(alloc, &spans)?;
-    Ok(Given::Lanes(versions, graph))
+    Ok(fitting(versions, graph))
+}
+
+/// Nodes by lane, where their clocks have not too many numbers.
+fn fitting(versions: Versions, graph: Graph) -> Given {
+    let (nodes, lanes) = (versions.nodes.len(), graph.lanes as usize);
+    if graph.points.len().saturating_mul(lanes) > MAX_ENTRIES {
+        return Given::TooLarge { nodes, lanes };
+    }
+    Given::Lanes(versions, graph)
 }
 
 /// Gives lanes to sessions.
@@ -287,7 +296,7 @@ pub fn give_lanes(
     let spans = spans_of(alloc, &versions)?;
     if spans.len() <= FEW {
         graph.place_points(alloc, &spans)?;
-        return Ok(Given::Lanes(versions, graph));
+        return Ok(fitting(versions, graph));
     }
     match share(alloc, &graph, spans)? {
         Shared::Spans(spans) => put_by_lane(alloc, versions, graph, spans),
