@@ -184,9 +184,12 @@ def check_told(sessions, text, part):
 
 
 def leaner(sessions, part):
-    """A transaction without which the part has no order either, or None."""
-    resolved = pieces_model.resolved(sessions)
-    return next((name for name in part.lines if len(part.lines) > 1 and
+    """A transaction without which the part has no order either, or None. One stays that wrote to another key what nobody wrote to the key
+    of an unknown read."""
+    resolved, its = pieces_model.resolved(sessions), dict(reference.named(sessions))
+    read = {op[2] for name in part.lines for op in its[name].ops if op[0] == 'r'} if part.code == 'A1' else set()
+    wrote = lambda name: {op[2] for op in its[name].ops if op[0] == 'w'}
+    return next((name for name in part.lines if len(part.lines) > 1 and not wrote(name) & read and
                  orders(part_of(resolved, set(part.lines) - {name})) is False), None)
 
 
