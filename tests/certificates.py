@@ -156,10 +156,11 @@ def check_order(sessions, said):
 # ---- the part
 
 def part_of(sessions, names):
-    """The part of these transactions, with their names: of resolved sessions, all writes and each read that the law keeps."""
-    written = {op[1:] for _, it in reference.named(sessions) for op in it.ops if op[0] == 'w'}
-    here = {op[1:] for name, it in reference.named(sessions) if name in names for op in it.ops if op[0] == 'w'}
-    stays = lambda op: op[0] == 'w' or op[2] == 0 or op[1:] in here or op[1:] not in written
+    """The part of these transactions, with their names: of resolved sessions, all writes,
+    and each read of 0, of an identity that they write, or of one that nobody in the log writes."""
+    written = {op[2] for _, it in reference.named(sessions) for op in it.ops if op[0] == 'w'}
+    here = {op[2] for name, it in reference.named(sessions) if name in names for op in it.ops if op[0] == 'w'}
+    stays = lambda op: op[0] == 'w' or op[2] == 0 or op[2] in here or op[2] not in written
     kept = [(number, [((number, place), it._replace(ops=[op for op in it.ops if stays(op)]))
                       for place, it in enumerate(its, 1) if (number, place) in names]) for number, its in sessions]
     return [(number, its) for number, its in kept if its]
@@ -184,12 +185,9 @@ def check_told(sessions, text, part):
 
 
 def leaner(sessions, part):
-    """A transaction without which the part has no order either, or None. One stays that wrote to another key what nobody wrote to the key
-    of an unknown read."""
-    resolved, its = pieces_model.resolved(sessions), dict(reference.named(sessions))
-    read = {op[2] for name in part.lines for op in its[name].ops if op[0] == 'r'} if part.code == 'A1' else set()
-    wrote = lambda name: {op[2] for op in its[name].ops if op[0] == 'w'}
-    return next((name for name in part.lines if len(part.lines) > 1 and not wrote(name) & read and
+    """A transaction without which the part has no order either, or None."""
+    resolved = pieces_model.resolved(sessions)
+    return next((name for name in part.lines if len(part.lines) > 1 and
                  orders(part_of(resolved, set(part.lines) - {name})) is False), None)
 
 

@@ -17,7 +17,8 @@ from certificates import Answer, call, must
 from reference import Transaction
 
 PLACES, SEED, SHOWN, LANES = 5, 1, 20, min(4, os.cpu_count())
-CLIENTS, MOST = 16, 6
+# A part that one fault shows has so many transactions at most; one of a long fork alone has five.
+CLIENTS, MOST, MOST_OF_FORK = 16, 6, 10
 # How many of the moments are stated.
 STATED = {'moments': 1, 'some moments': 0.8, 'no moments': 0}
 
@@ -34,6 +35,8 @@ def ops_of(rnd, keys, store, fresh):
         key = keys[int(len(keys) * rnd.random() ** 2)]
         if rnd.random() < 0.65:
             ops.append(('r', key, view.get(key, store.get(key, 0))))
+        if rnd.random() < 0.1 and ops:
+            ops.append(('r', ops[0][1], view.get(ops[0][1], store.get(ops[0][1], 0))))
         if rnd.random() < 0.5:
             view[key] = next(fresh)
             ops.append(('w', key, view[key]))
@@ -195,10 +198,9 @@ def planted_read(ran, rnd, kind, near):
 
 
 def planted_keys(ran, rnd, those, near):
-    """The transactions, some of which near this place also do this with keys of their own; and their places. The first one stands in front."""
+    """The transactions, some of which near this place also do this with keys of their own, one behind the other; and their places."""
     committed = sorted([place for place, it in enumerate(ran) if it.outcome == 'commit'], key=lambda place: abs(place - near))[:60]
-    first, *others = rnd.sample(committed, len(those))
-    places = [min(first, *others)] + rnd.sample(sorted({first, *others} - {min(first, *others)}), len(those) - 1)
+    places = sorted(rnd.sample(committed, len(those)))
     base = 2 * 10 ** 9 + 10 * near
     for place, ops in zip(places, those):
         for op in ops:
@@ -222,9 +224,9 @@ def tell(program, path, text, words=(), faults=1):
     return Answer(call(program, 'audit', *words, *['--faults', str(faults)] * (faults > 1), *files, path), faults)
 
 
-def check_part(program, path, text, sessions, part, has_files=True):
-    """That a part is one, and what it is; gives what is met in its explanation."""
-    must(len(part.lines) <= MOST, 'a part of %d transactions' % len(part.lines))
+def check_part(program, path, text, sessions, part, most, has_files=True):
+    """That a part is one, of so many transactions at most; gives what is met in its explanation."""
+    must(len(part.lines) <= most, 'a part of %d transactions' % len(part.lines))
     law = certificates.check_told(sessions, text, part)
     left = certificates.leaner(sessions, part)
     must(left is None, 'the part %r has no order without %r' % (list(part.lines), left))
@@ -266,25 +268,25 @@ class Long:
         must({names[place] for place in places} & set(part.lines), 'the part %r has none of %r' % (list(part.lines), [names[place] for place in places]))
         must(kind[0] != 'A' or kind == 'A7' or part.code == kind, 'the code is %r' % part.code)
         self.met['%s as %s, %d' % (kind, part.code, len(part.lines))] += 1
-        self.met.update(check_part(self.program, self.path, text, sessions, part))
+        self.met.update(check_part(self.program, self.path, text, sessions, part, MOST_OF_FORK if kind == FORK[0] else MOST))
 
     def with_faults(self):
         """One fault of each kind that a read shows by itself, each a tenth of the log behind the other."""
-        ran, places = self.ran, set()
+        ran, places, kinds = self.ran, set(), []
         for n, kind in enumerate(self.rnd.sample([kind for kind in KINDS if 'moments' not in kind or self.stated == 'moments'], 9)):
             found = planted(ran, self.rnd, kind, int((n + 0.5) / 9 * (len(ran) - 1)))
             if found and not found[1] & places:
                 ran, places = found[0], places | found[1]
+                kinds.append((kind, found[1]))
         sessions, names, text = self.text_of(ran)
         answer = tell(self.program, self.path, text, ['--explain'], 100)
         must(answer.first == 'not serializable', 'says %r' % answer.first)
         for n, part in enumerate(answer.parts):
             must({names[place] for place in places} & set(part.lines), 'the part %r has nothing that was planted' % list(part.lines))
-            check_part(self.program, self.path, text, sessions, part, n == 0)
-        sizes = [len(part.lines) for part in answer.parts]
-        self.met['faults told of 9: %d' % len(answer.parts)] += 1
-        must(sizes[0] == min(sizes), 'the first part is not the least: %r' % sizes)
-        must(len(answer.parts) >= 7, 'tells %d parts' % len(answer.parts))
+            check_part(self.program, self.path, text, sessions, part, MOST_OF_FORK, n == 0)
+        told = {name for part in answer.parts for name in part.lines}
+        left = [(kind, [names[place] for place in these]) for kind, these in kinds if not {names[place] for place in these} & told]
+        must(not left, 'planted and not told: %r' % left)
 
 
 def judged(job):
