@@ -1,5 +1,5 @@
 -- What telling a part needs of it, from what is known of it.
-use Rattle.std.proofs.Common.{◌≡◌, List, [], ◌∷◌, map, sym, subst}
+use Rattle.std.proofs.Common.{◌≡◌, Bool, true, false, List, [], ◌∷◌, map, sym, subst}
 use Rattle.std.specs.List.{AllByRecursion}
 use Rattle.session_log.specs.Text.{ClientSession, IsLegal, view}
 use Rattle.log_definitions.specs.Unknown.{resolved}
@@ -12,6 +12,8 @@ use Rattle.judging.specs.declared.judged.RefutedPart.{RefutedPart}
 use Rattle.judging.specs.declared.judged.Verdict.{Verdict}
 use Rattle.judging.specs.declared.judged.Verdict.TheVariants.{Serializable, NotSerializable, Undecided}
 use Rattle.judging.proofs.Resolved.{resolved_is_log}
+use Rattle.judging.proofs.Without.{legal_without, sound_without}
+use Rattle.audit_command.specs.Audited.{seen}
 use Rattle.audit_command.specs.Resolved.{IsResolved, IsPartOf, IsPartOfVerdict}
 
 pub log_of_known : (known : List ClientSession) → IsResolved known → IsLog known
@@ -33,3 +35,12 @@ pub verdict_part : (m : JudgeMeans) (known : List ClientSession) (k : IsResolved
 verdict_part m known k (NotSerializable told) h made = told_of known k told (record { none = h.0; part = h.1; made = made })
 verdict_part m known k (Serializable order) h made = tt
 verdict_part m known k (Undecided why tried) h made = tt
+
+-- ---- sessions that are judged without their moments
+pub seen_legal : (b : Bool) (ss : List ClientSession) → AllByRecursion IsLegal ss → AllByRecursion IsLegal (seen b ss)
+seen_legal true ss legal = legal_without ss legal
+seen_legal false ss legal = legal
+
+pub seen_sound : (b : Bool) (ss : List ClientSession) → AllByRecursion IsLegal ss → IsSoundLog ss → IsSoundLog (seen b ss)
+seen_sound true ss legal sound = sound_without ss legal sound
+seen_sound false ss legal sound = sound

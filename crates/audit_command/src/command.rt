@@ -51,11 +51,7 @@ fn seen(sessions: Vec<Session>, no_moments: bool) -> Vec<Session>
 }
 
 /// The text in the form that is asked for.
-fn text_of(
-    alloc: Global,
-    options: &AuditOptions<'_>,
-    told: &Told,
-) -> Result<Vec<u8>, AllocError>
+fn text_of(alloc: Global, options: &AuditOptions<'_>, told: &Told) -> Result<Vec<u8>, AllocError>
     ensures text { IfOk result (λ text. text.items
         ≡ text_in options.now.form options.now told.now) }
 {
@@ -68,11 +64,7 @@ fn text_of(
 }
 
 /// How the command ends that tells this, and what it writes.
-fn reply_of(
-    alloc: Global,
-    options: &AuditOptions<'_>,
-    told: &Told,
-) -> Result<Reply, AllocError>
+fn reply_of(alloc: Global, options: &AuditOptions<'_>, told: &Told) -> Result<Reply, AllocError>
     ensures ends { IfOk result (λ reply. reply.status ≡ status_of told.now.answer) }
     ensures text { IfOk result (λ reply. reply.text.items
         ≡ text_in options.now.form options.now told.now) }
@@ -106,7 +98,15 @@ fn audit_sessions<R: Threads + Wait + Clock + Eprint + Sync, P: Progress>(
         part,
     } = know(rt, alloc, version, sessions, options, progress)?;
     let Answered { answer, order } = answered;
-    let without_moments = without_moments(rt, alloc, &answer, states, sessions, &options.means, progress)?;
+    let without_moments = without_moments(
+        rt,
+        alloc,
+        &answer,
+        states,
+        sessions,
+        &options.means,
+        progress,
+    )?;
     let told = Told {
         answer,
         without_moments,
@@ -117,12 +117,7 @@ fn audit_sessions<R: Threads + Wait + Clock + Eprint + Sync, P: Progress>(
 }
 
 /// Why a log is refused, and what is said of that.
-fn refused(
-    alloc: Global,
-    log: &[u8],
-    fault: LogFault,
-    options: &AuditOptions<'_>,
-) -> Refusal
+fn refused(alloc: Global, log: &[u8], fault: LogFault, options: &AuditOptions<'_>) -> Refusal
     requires fault { IsLongLogFault log.now fault }
     ensures refused { IsRefused options.now log.now result }
 {

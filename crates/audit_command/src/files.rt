@@ -37,12 +37,7 @@ fn is_same(one: &Op, other: &Op) -> bool {
 }
 
 /// Appends the lines of a transaction, of which these operations are kept.
-fn put_txn_map(
-    out: &mut Vec<u8>,
-    txn: &Txn,
-    kept: &[Op],
-    begin: usize,
-) -> Result<(), AllocError> {
+fn put_txn_map(out: &mut Vec<u8>, txn: &Txn, kept: &[Op], begin: usize) -> Result<(), AllocError> {
     put_map_line(out, begin)?;
     let mut next: usize = 0;
     let mut line = begin;
@@ -87,7 +82,9 @@ fn behind(session: &Session, line: usize) -> usize {
 /// Whether a transaction of these sessions states a moment, so that their text has a header.
 fn has_header(sessions: &[Session]) -> bool {
     let states = |txn: &Txn| txn.begun.is_some() || txn.ended.is_some();
-    sessions.iter().any(|session| session.txns.iter().any(states))
+    sessions
+        .iter()
+        .any(|session| session.txns.iter().any(states))
 }
 
 /// For each line of the part's text that of the whole log, of these sessions and of this version.
@@ -154,11 +151,7 @@ fn put_name_line(out: &mut Vec<u8>, name: (usize, usize)) -> Result<(), AllocErr
 }
 
 /// A line for each number of an order.
-fn names_text(
-    alloc: Global,
-    names: &[(u16, usize)],
-    order: &[usize],
-) -> Result<Vec<u8>, AllocError>
+fn names_text(alloc: Global, names: &[(u16, usize)], order: &[usize]) -> Result<Vec<u8>, AllocError>
     ensures text { IfOk result (λ text. text.items ≡ names_text names.now order.now) }
 {
     let mut out = Vec::new(alloc);

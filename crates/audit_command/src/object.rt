@@ -21,7 +21,11 @@ fn hex_digit(value: u8) -> u8
     requires { value < 16 }
     ensures digit { result ≡ hex_digit value }
 {
-    if value < 10 { b'0' + value } else { b'a' - 10 + value }
+    if value < 10 {
+        b'0' + value
+    } else {
+        b'a' - 10 + value
+    }
 }
 
 /// Appends a byte as it stands between quotes.
@@ -316,12 +320,7 @@ fn put_why_unknown(out: &mut Vec<u8>, answer: &Answer) -> Result<(), AllocError>
 }
 
 /// Appends what stands behind the verdict.
-fn put_rest(
-    out: &mut Vec<u8>,
-    explain: bool,
-    version: &str,
-    told: &Told,
-) -> Result<(), AllocError>
+fn put_rest(out: &mut Vec<u8>, explain: bool, version: &str, told: &Told) -> Result<(), AllocError>
     ensures put { OnOk result (out.new.items ≡ out.old.items
         ++ rest_of_object explain version.now told.now) }
 {

@@ -97,7 +97,13 @@ pub fn refusal(
         ReportForm::Text => Ok(Vec::new(alloc)),
         ReportForm::Json => {
             let words = words_of(alloc, log, fault)?;
-            refusal_object(alloc, options.quiet, fault, words.as_bytes(), options.version)
+            refusal_object(
+                alloc,
+                options.quiet,
+                fault,
+                words.as_bytes(),
+                options.version,
+            )
         }
     }
 }

@@ -162,11 +162,7 @@ fn put_codes(out: &mut Vec<u8>, parts: &[ToldPart]) -> Result<(), AllocError>
 }
 
 /// Appends the lines of codes, where several parts were asked for.
-fn put_codes_where(
-    out: &mut Vec<u8>,
-    faults: usize,
-    parts: &[ToldPart],
-) -> Result<(), AllocError>
+fn put_codes_where(out: &mut Vec<u8>, faults: usize, parts: &[ToldPart]) -> Result<(), AllocError>
     ensures put { OnOk result (out.new.items ≡ out.old.items ++ codes_where faults parts.now) }
 {
     if faults > 1 {

@@ -58,8 +58,14 @@ fn told_part<R: Threads + Wait + Clock + Sync>(
 {
     let txns = told_txns(alloc, log.version, log.sessions, &refuted.flags)?;
     let means = &options.means.deciding;
-    let Explained { lines, known_as } =
-        explain_part(rt, alloc, log.version, log.sessions, &refuted, means)?;
+    let Explained { lines, known_as } = explain_part(
+        rt,
+        alloc,
+        log.version,
+        log.sessions,
+        &refuted,
+        means,
+    )?;
     let why = if options.explain {
         lines
     } else {
@@ -117,7 +123,15 @@ fn told_parts<R: Threads + Wait + Clock + Eprint + Sync, P: Progress>(
     ensures some { IfOk result (λ told. 0 < length told.items) }
 {
     let count = options.faults.saturating_sub(1);
-    let more = more_parts(rt, alloc, log.sessions, &first, count, &options.means, progress)?;
+    let more = more_parts(
+        rt,
+        alloc,
+        log.sessions,
+        &first,
+        count,
+        &options.means,
+        progress,
+    )?;
     let mut told = Vec::new(alloc);
     told.push(told_part(rt, alloc, log, first, options)?)?;
     add_parts(rt, alloc, log, more, options, &mut told)?;

@@ -101,7 +101,9 @@ pub fn explain<'a>(alloc: Global) -> Arg<'a> {
 
 pub fn faults<'a>(alloc: Global) -> Arg<'a> {
     valued(alloc, "faults", "N")
-        .help("Tell up to N parts that no serial order explains, 1 to 1000, and how many have each code")
+        .help(
+            "Tell up to N parts that no serial order explains, 1 to 1000, and how many have each code",
+        )
         .value_parser(clap::value_parser!(u16).range(1..=1000))
         .default_value("1")
 }
@@ -113,7 +115,9 @@ pub fn part<'a>(alloc: Global) -> Arg<'a> {
 }
 
 pub fn order<'a>(alloc: Global) -> Arg<'a> {
-    valued(alloc, "order", "FILE").help("Write the serial order, a line SESSION PLACE for each transaction")
+    valued(alloc, "order", "FILE").help(
+        "Write the serial order, a line SESSION PLACE for each transaction",
+    )
 }
 
 pub fn no_moments<'a>(alloc: Global) -> Arg<'a> {

@@ -295,7 +295,11 @@ fn asks_for_files(request: &Request<'_>, part: &str, order: &str) -> bool {
 
 #[test]
 fn files_of_audit(rt: HostRuntime) {
-    let words = words(&rt, rt.alloc(), "cobra_poly audit --part some.log --order an.order log");
+    let words = words(
+        &rt,
+        rt.alloc(),
+        "cobra_poly audit --part some.log --order an.order log",
+    );
     let request = request(&rt, rt.alloc(), &words);
     assert!(rt; asks_for_files(&request, "some.log", "an.order"));
 }

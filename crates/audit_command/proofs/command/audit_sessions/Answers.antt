@@ -1,0 +1,63 @@
+use Rattle.std.proofs.Common.{◌≡◌, map, sym, ap, ◌∙◌, subst}
+use Rattle.std.specs.List.{AllByRecursion}
+use Rattle.session_log.specs.Text.{IsLegal, view}
+use Rattle.piece_laws.specs.Logs.{IsSoundLog, IsLog}
+use Rattle.long_log_definitions.proofs.Texts.{sound_where_long}
+use Rattle.judging.proofs.Resolved.{resolved_is_log}
+use Rattle.session_log.specs.Version.{first_line, version_of}
+use Rattle.audit_command.specs.Audited.{seen, states_moments, IsAnswer, IsWithout, AreTotals, IsOrderFile, order_asked}
+use Rattle.audit_command.proofs.Resolved.{seen_legal, seen_sound}
+use Rattle.audit_command.proofs.command.audit_sessions.Goals as goal
+
+pub know-requires-clause-legal : goal.know-requires-clause-legal
+know-requires-clause-legal g c κs within =
+    let ss = map view c.args.sessions.items in
+    let log = sound_where_long c.args.log.now ss c.requires.long in
+    subst (AllByRecursion IsLegal) (sym c.seen-sessions.ensures.seen) (seen_legal c.args.options.now.no_moments ss log.0)
+
+pub know-requires-clause-sound : goal.know-requires-clause-sound
+know-requires-clause-sound g c κs within =
+    let ss = map view c.args.sessions.items in
+    let log = sound_where_long c.args.log.now ss c.requires.long in
+    subst IsSoundLog (sym c.seen-sessions.ensures.seen) (seen_sound c.args.options.now.no_moments ss log.0 log.1)
+
+pub without_moments-requires-clause-log : goal.without_moments-requires-clause-log
+without_moments-requires-clause-log g c κs within =
+    let ss = map view c.args.sessions.items in
+    let no_moments = c.args.options.now.no_moments in
+    let log = sound_where_long c.args.log.now ss c.requires.long in
+    let legal = subst (AllByRecursion IsLegal) (sym c.seen-sessions.ensures.seen) (seen_legal no_moments ss log.0) in
+    let sound = subst IsSoundLog (sym c.seen-sessions.ensures.seen) (seen_sound no_moments ss log.0 log.1) in
+    subst IsLog (sym c.in_ok-sessions.ensures.known.resolved) (resolved_is_log (map view c.seen-sessions.result.items) legal sound)
+
+pub returns : goal.returns
+returns g c =
+    let o = c.args.options.now in
+    let text = c.args.log.now in
+    let ss = map view c.args.sessions.items in
+    let judged = map view c.seen-sessions.result.items in
+    let e : judged ≡ seen o.no_moments ss = c.seen-sessions.ensures.seen in
+    let log = sound_where_long text ss c.requires.long in
+    let legal = subst (AllByRecursion IsLegal) (sym e) (seen_legal o.no_moments ss log.0) in
+    let sound = subst IsSoundLog (sym e) (seen_sound o.no_moments ss log.0 log.1) in
+    let known = c.in_ok-sessions.ensures.known in
+    let states = c.state_moments-states.ensures.states ∙ ap (λ l. states_moments (map view l)) c.deref.ensures.value in
+    let answer = c.in_ok-sessions.field-0.answered.answer in
+    let word = c.in_ok-without_moments.without_moments in
+    let totals = c.in_ok-sessions.field-0.totals in
+    let order = c.in_ok-sessions.field-0.answered.order in
+    let numbered = subst (λ n. IsAnswer o.means o.at_least n judged answer) (ap first_line c.requires.version) known.answered.answer in
+    record {
+      audited = record {
+        sessions = ss;
+        long = c.requires.long;
+        told = record { answer = answer; without_moments = word; totals = totals };
+        answer = subst (λ l. IsAnswer o.means o.at_least (first_line (version_of text)) l answer) e numbered;
+        without = subst (λ l. IsWithout o.means l answer word) e (c.in_ok-without_moments.ensures.word judged legal sound known.resolved states);
+        totals = subst (λ l. AreTotals l totals) e known.totals;
+        ends = c.in_ok-reply.ensures.ends;
+        text = c.in_ok-reply.ensures.text;
+        part = known.part;
+        order = subst (λ l. IsOrderFile l (order_asked answer o.order) order) e known.answered.order;
+      };
+    }
