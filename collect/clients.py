@@ -137,8 +137,8 @@ def parse(document, levels, address, options):
                         help='of R + W + U operations so many are reads, writes, and writes behind a read of the key: %(default)s')
     parser.add_argument('--pause', type=float, default=1, metavar='MS', help='at most so many milliseconds between operations: %(default)s')
     parser.add_argument('--seed', type=int, default=random.randrange(10 ** 9), metavar='N', help='of what the clients try: a random one')
-    parser.add_argument('--barrier', type=int, default=200, metavar='N', help='a barrier behind so many transactions, 0: none: %(default)s')
-    parser.add_argument('--moments', choices=('all', 'barriers', 'none'), default='barriers',
+    parser.add_argument('--barrier', type=int, default=0, metavar='N', help='for pieces: a barrier behind so many transactions; 0: none')
+    parser.add_argument('--moments', choices=('all', 'none'), default='none',
                         help="'all' for a store that promises strict serializability: %(default)s")
     parser.add_argument('--overwrite', action='store_true', help='replace OUT where it is there already')
     for option, how in options.items():
@@ -168,7 +168,7 @@ def main(document, levels, address=None, options={}):
     arguments = parse(document, levels, address, options)
     store_class = levels[arguments.level]
     moments = None if arguments.moments == 'none' else arguments.moments
-    run = Recorder(arguments.out, barrier_every=moments and arguments.barrier or None, moments=moments, aborted=store_class.aborted,
+    run = Recorder(arguments.out, barrier_every=arguments.barrier or None, moments=moments, aborted=store_class.aborted,
                    unknown=store_class.lost, overwrite=arguments.overwrite)
     store_class.prepare(arguments)
     try:

@@ -9,8 +9,8 @@
             store.put('stock/7', '%d red' % wid)
     run.close()                                                   # writes run.log, and warns of what makes it worth little
 
-It gives out sessions, identities and moments, and sets barriers: every so many transactions it holds all clients back until none has a
-transaction open, so that the log can be cut there. Nothing of it is proved; it needs Python's standard library alone, 3.8 or later."""
+It gives out sessions, identities and, where that is asked for, moments. It sets barriers only where it is told to: these are for a log that
+is to be cut into pieces. Nothing of it is proved; it needs Python's standard library alone, 3.8 or later."""
 import atexit, collections, hashlib, itertools, operator, os, re, shutil, sys, tempfile, threading, time
 
 # An identity is a count times CLIENTS plus its client's number: its last three digits are the client. Of N processes that write one log the
@@ -18,7 +18,7 @@ import atexit, collections, hashlib, itertools, operator, os, re, shutil, sys, t
 CLIENTS, MAX_SESSION, MAX_IDENTITY = 1000, 65535, 2 ** 64 - 1
 # So many lines of a client may stand in memory before they go to its file.
 BUFFER = 4096
-# What `audit` judges at once: a piece of the log, between two barriers.
+# The most that a piece of the log holds, which lies between two barriers.
 PIECE = {'transactions': 1000, 'sessions': 64}
 PLAIN_KEY = re.compile(rb'(?!hex:|sha:)[A-Za-z0-9_.:/-]{1,64}\Z')
 # So often the keys of unknown transactions are read before a barrier.
@@ -107,25 +107,27 @@ class Recorder:
     """The log of one run, which `close` writes to `path`. It may be used by any number of threads.
 
     overwrite      whether a file that stands there may be replaced: else a recorder for it is refused
-    share          (K, N) for the K-th of N processes that write one log, each to a path of its own; join.py joins them. Barriers are those
-                   of one process, so it goes with barrier_every=None, and moments='all' or None
-    barrier_every  after so many transactions of all clients together there is a barrier; None: only where `barrier` asks for one
-    moments        'all': when each transaction began and was committed, for a store that promises strict serializability; 'barriers': no
-                   more of this than that what ended before a barrier came before what began behind it; None: no moments, and no barriers
+    share          (K, N) for the K-th of N processes that write one log, each to a path of its own; join.py joins them. It goes with
+                   no barriers, which are those of one process
+    moments        'all': when each transaction began and was committed, for a store that promises strict serializability; None: no moments;
+                   'barriers': no more than that what ended before a barrier came before what began behind it
+    barrier_every  for a log that is to be cut into pieces: after so many transactions of all clients together no client begins one before
+                   none is open. A barrier is told by moments, so 'barriers' stands for moments=None then. None: no barriers, but those that
+                   `barrier` asks for
     aborted        exceptions that say that a transaction was rolled back; where one leaves a transaction's block, it goes no further
     unknown        the same of those behind which nobody knows whether it was committed
     patience       seconds that clients wait at a barrier for the others, before they go on without it
     clock          whole numbers that never fall, one clock for all clients; microseconds since now where it is not given, and of a share
                    `clock_of_day`. Where this may be set during a run, processes of one machine take `clock_of_machine`"""
 
-    def __init__(self, path, barrier_every=200, moments='barriers', aborted=(), unknown=(), patience=10, clock=None, overwrite=False,
+    def __init__(self, path, barrier_every=None, moments=None, aborted=(), unknown=(), patience=10, clock=None, overwrite=False,
                  share=None):
         if moments not in ('all', 'barriers', None):
             raise Misuse("moments are 'all', 'barriers' or None, and not %r" % (moments,))
         if barrier_every is not None and not (isinstance(barrier_every, int) and barrier_every >= 1):
             raise Misuse('barrier_every is a whole number from 1, or None, and not %r' % (barrier_every,))
-        if moments is None and barrier_every is not None:
-            raise Misuse('a barrier is told by moments: with moments=None goes barrier_every=None')
+        if moments is None and barrier_every is not None and share is None:
+            moments = 'barriers'
         if share is not None and (barrier_every is not None or moments == 'barriers'):
             raise Misuse("barriers are those of one process: with share=(K, N) go barrier_every=None, and moments='all' or None")
         if share is not None and not (isinstance(share, tuple) and len(share) == 2 and all(isinstance(it, int) for it in share)
@@ -272,9 +274,8 @@ class Recorder:
             yield '%d barriers stand behind unknown outcomes that were not looked for: give each session a look' % counts['blind']
         self._end_piece()
         for name, most in PIECE.items():
-            # with all moments it is cut wherever nothing is under way
-            if self._most[name] > most and self._moments != 'all' and not self._is_shared:
-                yield '%d %s %s, and audit judges no more than %d at once: let there be more barriers' % (
+            if self._most[name] > most and self._moments == 'barriers':
+                yield '%d %s %s, and a piece has no more than %d: let there be more barriers' % (
                     self._most[name], name, 'between two barriers' if self.barriers else 'without a barrier', most)
 
     # What follows is called with the lock held.

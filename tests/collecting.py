@@ -1,17 +1,16 @@
 #!/usr/bin/env python3
 """collecting.py PROGRAM: logs that collect/sqlite.py collects from real SQLite databases, as docs/COLLECTING.md says.
 
-Logs of the sound store, with barriers and with all moments, must be serializable where `check` can tell, also where the outcome of each session's
-last committed transaction is said to be unknown, and `verify` must accept the order; of the logs of the store that is broken on purpose one
-at least must be refused. Where the program has `audit`, it must say so too, also where it cuts the logs as often as it can. Where this
+Logs of the sound store, without moments, with all of them, and with barriers, must be serializable where `check` can tell, also where the
+outcome of each session's last committed transaction is said to be unknown, and `verify` must accept the order; of the logs of the store that
+is broken on purpose one at least must be refused. `audit` must say so too, also without moments. A log with barriers has pieces. Where this
 Python has no sqlite3 nothing is run, and a line says so. Last line: 'collecting: N passed, M failed'."""
 import os, re, subprocess, sys, tempfile
 
 TOP = os.path.dirname(os.path.dirname(os.path.abspath(__file__)))
 COLLECTOR, RUNS = os.path.join(TOP, 'collect', 'sqlite.py'), 3
-# `audit` of a log as one piece, and of one that is cut as often as it can be.
-AUDITS = [], ['--size', '1']
-SIZE, WEAK = ['--transactions', '320', '--keys', '10', '--pause', '2'], ['--level', 'weak']
+AUDITS = [], ['--no-moments']
+SIZE, WEAK, BARRIERS = ['--transactions', '320', '--keys', '10', '--pause', '2'], ['--level', 'weak'], ['--barrier', '50']
 
 
 def unlearnt(log):
@@ -24,7 +23,6 @@ def unlearnt(log):
 class Checks:
     def __init__(self, program, folder):
         self.program, self.order = program, os.path.join(folder, 'order')
-        self.audits = AUDITS if b' audit' in self.call(b'', '--help')[1] else ()
         self.passed, self.failed, self.pieces = 0, 0, 0
 
     def call(self, log, *words):
@@ -38,13 +36,11 @@ class Checks:
 
     def audited(self, name, log, right):
         """What `audit` says must be this, or that it cannot tell."""
-        for words in self.audits:
+        for words in AUDITS:
             status, said = self.call(log, 'audit', *words)
             verdict = said.partition(b'\n')[0]
             holds = status == 3 and verdict.startswith(b'unknown: ') or (status, verdict) == right
             self.expect(holds, '%s: %s: %d %r' % (name, ' '.join(['audit', *words]), status, said[:80]))
-            pieces = re.search(rb'^pieces (\d+)$', said, re.M)
-            self.pieces = max(self.pieces, int(pieces.group(1)) if pieces else 0)
 
     def sound(self, name, log):
         self.audited(name, log, (0, b'serializable'))
@@ -66,7 +62,7 @@ def main():
     with tempfile.TemporaryDirectory() as folder:
         checks, path, refused = Checks(os.path.abspath(sys.argv[1]), folder), os.path.join(folder, 'log'), 0
         for run in range(RUNS):
-            for words in ([], ['--moments', 'all'], WEAK):
+            for words in ([], ['--moments', 'all'], BARRIERS, WEAK):
                 subprocess.run([sys.executable, COLLECTOR, '--overwrite', *SIZE, *words, path], check=True, timeout=600)
                 with open(path, 'rb') as file:
                     log = file.read()
@@ -78,12 +74,14 @@ def main():
                 else:
                     name = ' '.join(['log %d' % run, *words])
                     checks.sound(name, log)
+                    if words == BARRIERS:
+                        checks.pieces = max(checks.pieces, checks.call(log, 'pieces', '--size', '1')[1].count(b'\n'))
                     checks.sound(name + ' with unknown outcomes', unlearnt(log))
         again = subprocess.run([sys.executable, COLLECTOR, *SIZE, path], stdout=subprocess.PIPE, stderr=subprocess.PIPE, timeout=600)
         with open(path, 'rb') as file:
             checks.expect(again.returncode == 2 and b'--overwrite' in again.stderr and file.read() == log, 'a log that is there is replaced')
         checks.expect(refused > 0, 'no log of the weak store was refused')
-        checks.expect(not checks.audits or checks.pieces > 1, 'no log was cut')
+        checks.expect(checks.pieces > 1, 'no log was cut')
         print('collecting: SQLite %s, %d of %d logs of the weak store were refused; at most %d pieces' % (sqlite3.sqlite_version, refused, RUNS, checks.pieces))
     print('collecting: %d passed, %d failed' % (checks.passed, checks.failed))
     return 1 if checks.failed else 0

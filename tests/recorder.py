@@ -467,14 +467,14 @@ def real_time(checks):
 def misuse(checks):
     """What a harness may do wrong, and what it hears."""
     given = [
-        (dict(moments='some'), "'all', 'barriers' or None"), (dict(barrier_every=0), 'from 1'), (dict(moments=None), 'barrier_every=None'),
+        (dict(moments='some'), "'all', 'barriers' or None"), (dict(barrier_every=0), 'from 1'),
         (dict(aborted='Lost'), 'no class of exceptions'), (dict(aborted=Lost, unknown=(Lost,)), 'named for both'),
-        (dict(clock=time.time), 'whole numbers'), (dict(share=(1, 2)), 'those of one process'),
-        (dict(share=(1, 2), barrier_every=None), 'those of one process'), (dict(share=(1, 2), moments='all'), 'those of one process'),
-    ] + [(dict(share=it, barrier_every=None, moments='all'), 'a pair of whole numbers') for it in (2, (0, 1), (3, 2), (1, 2, 3), ('1', '2'))]
+        (dict(clock=time.time), 'whole numbers'), (dict(share=(1, 2), barrier_every=5), 'those of one process'),
+        (dict(share=(1, 2), moments='barriers'), 'those of one process'), (dict(share=(1, 2), barrier_every=5, moments='all'), 'those of one process'),
+    ] + [(dict(share=it, moments='all'), 'a pair of whole numbers') for it in (2, (0, 1), (3, 2), (1, 2, 3), ('1', '2'))]
     for words, said in given:
         checks.misused(lambda: Recorder(checks.path('misuse'), **words), said, 'Recorder(%s)' % words)
-    with quiet() as told, Recorder(checks.path('misuse')) as run:
+    with quiet() as told, Recorder(checks.path('misuse'), barrier_every=200) as run:
         session, other = run.session(), run.session()
         txn = session.transaction()
         wid = txn.write('x')
@@ -530,7 +530,7 @@ def kept(checks):
 
 def several_in_one_thread(checks):
     """Without barriers one thread may have several clients."""
-    with Recorder(checks.path('one'), barrier_every=None) as run:
+    with Recorder(checks.path('one'), moments='barriers') as run:
         transactions = [run.session().transaction() for _ in range(3)]
         wid = transactions[0].write(b'k\xff')
         for txn in transactions:
@@ -699,16 +699,17 @@ def worth(checks):
         ((), 'no transaction was committed'), (([('abort', 0, 0)],), 'no transaction was committed'), (([write],), 'one session'),
         (([write], [nothing]), 'no read names a write'), (([write, own], [write]), 'no client read what another'),
         (([write], [own]), 'no two transactions'),
-        (([write, own], [write, ('r', 'x', 55001)]), 'nobody wrote in this run'), (([write],) * 65, '65 sessions'),
+        (([write, own], [write, ('r', 'x', 55001)]), 'nobody wrote in this run'),
         (([('abort', 0, 0)] * 20 + [write], [own]), 'aborted'),
         (([('unknown', 0, 0)] * 20 + [write], [own]), 'unknown outcome'),
     ):
         found = log(*sessions)
         checks.expect(said in found, '%s: %s' % (said, found))
     many = [write] * 1001
-    checks.expect('1002 transactions without a barrier' in log(many, [own], barrier_every=None), 'no barrier')
+    checks.expect('1002 transactions without a barrier' in log(many, [own], moments='barriers'), 'no barrier')
+    checks.expect('65 sessions' in log(*([write],) * 65, barrier_every=200), 'many sessions between two barriers')
     checks.expect('1001 transactions between two barriers' in log(many, [own], barrier_every=1001), 'barriers far from each other')
-    checks.expect(not any('at once:' in log(many, [own], **words) for words in ({}, {'barrier_every': None, 'moments': 'all'})), 'a long run')
+    checks.expect(not any('let there be more' in log(many, [own], **words) for words in ({}, {'moments': 'all'})), 'a long run')
     run = Recorder(checks.path('worth'), barrier_every=None, overwrite=True)
     with run.session() as first, run.session() as second:
         with first.transaction() as txn, second.transaction() as other:

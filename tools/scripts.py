@@ -110,7 +110,7 @@ class Program:
             if status == SERIALIZABLE and verdict == 'serializable':
                 raise Stop('this log is serializable: it has an order, which check prints, and so there is no fault to tell')
             if 'L7' in said:
-                hint = 'audit names the piece that is not serializable, and pieces --piece K hands it out'
+                hint = 'audit --part FILE writes the few transactions that are not serializable as a log'
             words = "explain does not say 'not serializable', but (status %d): %s" % (status, verdict)
             raise Stop('\n'.join(filter(None, [words, said, hint])), status or AROUND)
         return told
