@@ -3,14 +3,14 @@
 
 Logs of the sound store, with barriers and with all moments, must be serializable where `check` can tell, also where the outcome of each session's
 last committed transaction is said to be unknown, and `verify` must accept the order; of the logs of the store that is broken on purpose one
-at least must be refused. Where the program has `audit`, it must say so too, also where it cuts the logs as often as it can. Where this
+at least must be refused. `audit` must say so too, with moments and without them. Where this
 Python has no sqlite3 nothing is run, and a line says so. Last line: 'collecting: N passed, M failed'."""
 import os, re, subprocess, sys, tempfile
 
 TOP = os.path.dirname(os.path.dirname(os.path.abspath(__file__)))
 COLLECTOR, RUNS = os.path.join(TOP, 'collect', 'sqlite.py'), 3
-# `audit` of a log as one piece, and of one that is cut as often as it can be.
-AUDITS = [], ['--size', '1']
+# `audit` of a log, and of one as if it stated no moments.
+AUDITS = [], ['--no-moments']
 SIZE, WEAK = ['--transactions', '320', '--keys', '10', '--pause', '2'], ['--level', 'weak']
 
 
@@ -24,8 +24,7 @@ def unlearnt(log):
 class Checks:
     def __init__(self, program, folder):
         self.program, self.order = program, os.path.join(folder, 'order')
-        self.audits = AUDITS if b' audit' in self.call(b'', '--help')[1] else ()
-        self.passed, self.failed, self.pieces = 0, 0, 0
+        self.passed, self.failed = 0, 0
 
     def call(self, log, *words):
         ran = subprocess.run([self.program, *words], input=log, stdout=subprocess.PIPE, stderr=subprocess.PIPE, timeout=600)
@@ -37,14 +36,12 @@ class Checks:
             print('FAILED', name)
 
     def audited(self, name, log, right):
-        """What `audit` says must be this, or that it cannot tell."""
-        for words in self.audits:
+        """What `audit` says must be this; without moments a log may be serializable too."""
+        for words in AUDITS:
             status, said = self.call(log, 'audit', *words)
             verdict = said.partition(b'\n')[0]
-            holds = status == 3 and verdict.startswith(b'unknown: ') or (status, verdict) == right
+            holds = (status, verdict) in (right, (0, b'serializable') if words else right)
             self.expect(holds, '%s: %s: %d %r' % (name, ' '.join(['audit', *words]), status, said[:80]))
-            pieces = re.search(rb'^pieces (\d+)$', said, re.M)
-            self.pieces = max(self.pieces, int(pieces.group(1)) if pieces else 0)
 
     def sound(self, name, log):
         self.audited(name, log, (0, b'serializable'))
@@ -83,8 +80,7 @@ def main():
         with open(path, 'rb') as file:
             checks.expect(again.returncode == 2 and b'--overwrite' in again.stderr and file.read() == log, 'a log that is there is replaced')
         checks.expect(refused > 0, 'no log of the weak store was refused')
-        checks.expect(not checks.audits or checks.pieces > 1, 'no log was cut')
-        print('collecting: SQLite %s, %d of %d logs of the weak store were refused; at most %d pieces' % (sqlite3.sqlite_version, refused, RUNS, checks.pieces))
+        print('collecting: SQLite %s, %d of %d logs of the weak store were refused' % (sqlite3.sqlite_version, refused, RUNS))
     print('collecting: %d passed, %d failed' % (checks.passed, checks.failed))
     return 1 if checks.failed else 0
 
