@@ -2,13 +2,12 @@
 """engines.py PROGRAM [--transactions N]: the pieces of a long log, judged by GNU parallel as docs/SCALE.md says, and by `audit`.
 
 A log of 50,000 transactions is made by bench/long_log.py, and a shorter one without an order. The pieces are written by `pieces --into`,
-each is judged by `check`, several at once, and the answers must be those of `audit`: as many pieces, a whole that is serializable exactly
-where each piece is, and else the least piece that is refused. Where GNU parallel cannot be had the test says so and is passed
+each is judged by `audit`, several at once, and `audit` of the whole log must say the same: it is serializable exactly where each piece is. Where GNU parallel cannot be had the test says so and is passed
 over. Last line: 'engines: N passed, M failed'."""
 import argparse, contextlib, os, re, shutil, subprocess, sys, tempfile, time
 
 TOP = os.path.dirname(os.path.dirname(os.path.abspath(__file__)))
-CHECK, LANES = ['check', '--strategy', 'forced', '--budget', '100000', '--workers', '1'], '4'
+AUDIT, LANES = ['audit', '--at-least', '0', '--workers', '1'], '4'
 
 
 def run(*words, **how):
@@ -33,7 +32,7 @@ class Checks:
         """A made log, and its pieces in a directory."""
         log, into = os.path.join(self.folder, name + '.log'), os.path.join(self.folder, name)
         subprocess.run([sys.executable, os.path.join(TOP, 'bench', 'long_log.py'), log, *words], check=True)
-        ran = run(self.program, 'pieces', '--into', into, log)
+        ran = run(self.program, 'pieces', '--size', '900', '--into', into, log)
         self.expect(ran.returncode == 0 and not ran.stdout, '%s: pieces: status %d, %s' % (name, ran.returncode, ran.stdout))
         return log, sorted(os.path.join(into, file) for file in os.listdir(into) if file.endswith('.log'))
 
@@ -43,7 +42,7 @@ class Checks:
             with contextlib.suppress(FileNotFoundError):
                 os.remove(path[:-3] + 'answer')
         began = time.monotonic()
-        ran = run('parallel', '--will-cite', '--jobs', LANES, *halt, self.program, *CHECK, '{}', '>', '{.}.answer', ':::', *pieces)
+        ran = run('parallel', '--will-cite', '--jobs', LANES, *halt, self.program, *AUDIT, '{}', '>', '{.}.answer', ':::', *pieces)
         answers = {n: first_line(path[:-3] + 'answer') for n, path in enumerate(pieces, 1) if os.path.exists(path[:-3] + 'answer')}
         print('engines: %s: %d of %d pieces by parallel in %.1f s' % (name, len(answers), len(pieces), time.monotonic() - began))
         return ran.returncode, answers
@@ -60,14 +59,11 @@ class Checks:
         audit = run(self.program, 'audit', log)
         print('engines: %s: by audit in %.1f s' % (name, time.monotonic() - began))
         verdict, _, rest = audit.stdout.partition('\n')
-        counts = dict(re.findall(r'^(\w+) (\d+)$', rest, re.M))
-        self.expect(counts.get('pieces') == str(len(pieces)), '%s: %s pieces by audit, %d files' % (name, counts.get('pieces'), len(pieces)))
         if is_serializable:
             self.expect((audit.returncode, verdict) == (0, 'serializable'), '%s: audit says %s' % (name, verdict))
             return
         self.expect((audit.returncode, verdict) == (1, 'not serializable'), '%s: audit says %s' % (name, verdict))
-        told = re.match(r'piece (\d+) of (\d+): ', rest)
-        self.expect(told and told.groups() == (str(min(refused or [0])), str(len(pieces))), '%s: audit says %s, parallel %s' % (name, rest.partition('\n')[0], refused))
+        self.expect(re.match(r'part of [1-9] transactions?: ', rest), '%s: audit says %s' % (name, rest.partition('\n')[0]))
         # as soon as one is refused no other one is begun
         status, answers = self.judge(name + ', until one is refused', pieces, '--halt', 'soon,fail=1')
         self.expect(status != 0 and len(answers) < len(pieces), '%s: parallel ends with %d and %d answers' % (name, status, len(answers)))

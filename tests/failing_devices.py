@@ -94,8 +94,8 @@ LONG = 'audit', 'pieces'
 FAULTS = {'READ_FAILS': 'Input/output error (os error 5)', 'OPEN_FAILS': 'Input/output error (os error 5)',
           'WRITE_FAILS': 'No space left on device (os error 28)', 'WRITE_TAKES_NONE': 'failed to write whole buffer'}
 AUDITED = {
-    'shop.log': ([], ['--size', '1', '--explain'], ['--size', '1', '--format', 'json']),
-    'overlap_in_time.log': (['--size', '1'], ['--at-least', '9', '--format', 'json']), 'empty.log': ([], ['--quiet']),
+    'shop.log': ([], ['--no-moments', '--explain'], ['--faults', '9', '--format', 'json']),
+    'overlap_in_time.log': ([], ['--at-least', '9', '--format', 'json']), 'empty.log': ([], ['--quiet']),
     'crossed_readers.log': (['--explain'], ['--budget', '1']), 'unwritten_read.log': (['--explain', '--quiet'],),
     'own_write_missed.log': (['--format', 'json'],), 'ends_before_it_begins.log': (['--format', 'json'],)}
 CUT = {'shop.log': ([], ['--size', '1'], ['--size', '1', '--piece', '2']), 'unknown_chain.log': (['--piece', '1'],), 'empty.log': ([],)}

@@ -119,7 +119,7 @@ def main():
         into = os.path.join(folder, 'pieces')
         calls += [[command, '--workers', '4', paths['log']] for command in ('audit', 'pieces')]
         for log in examples('shop'):
-            calls += [['audit', '--size', '1', *words, log] for words in (['--workers', '1'], ['--workers', '4', '--explain'], ['--workers', '4', '--format', 'json'])]
+            calls += [['audit', *words, log] for words in (['--workers', '1'], ['--workers', '4', '--explain'], ['--workers', '4', '--format', 'json'])]
             calls += [['pieces', '--size', '1', *words, log] for words in (['--workers', '1'], ['--workers', '4', '--piece', '2'], ['--workers', '4', '--into', into])]
         calls += [['audit', '--workers', '1', *words, log] for words in (['--explain'], ['--budget', '1']) for log in examples('crossed_readers')]
         calls += [['audit', '--workers', '4', '--format', 'json', log] for log in examples('ends_before_it_begins')]

@@ -4,8 +4,8 @@
 PostgreSQL and Redis are started here, as a user that is not root, with all that they have in a temporary folder and on a socket in it;
 where a package of Debian's is missing it is installed, and what cannot be had is passed over, with a note. At each level where a store
 promises to be serializable each log must be found so, also where connections are cut; of each level below some log must be refused.
-Logs are judged by `audit`, where the program has it, and then a long one of each sound level is too; for each level a line says how many
-transactions, seconds and pieces there were. Last line: 'stores: N passed, M failed'."""
+Logs are judged by `audit`, and a long one of each sound level is too; each must be decided. For each level a line says how many
+transactions and seconds there were. Last line: 'stores: N passed, M failed'."""
 import contextlib, os, pwd, re, shutil, subprocess, sys, tempfile, time
 
 TOP = os.path.dirname(os.path.dirname(os.path.abspath(__file__)))
@@ -14,8 +14,6 @@ PACKAGES = {'initdb': 'postgresql-15', 'redis-server': 'redis-server', 'psycopg2
 ALONE = 'flock', '--no-fork', '/var/lib/apt'
 # PostgreSQL starts for no root; nobody is somebody everywhere.
 USER = 'nobody'
-# How a log is judged: by `audit`, where the program has it, and then a large one is too.
-CHECK, AUDIT = ('check', '--strategy', 'forced'), ('audit',)
 SMALL, LARGE = 500, 20000
 # How many runs of one way there are, but only one when a busy machine has spent so many seconds; and how many runs a store that is not
 # serializable may take until one is refused.
@@ -132,7 +130,6 @@ STORES = {
 class Checks:
     def __init__(self, program, folder):
         self.program, self.log = program, os.path.join(folder, 'log')
-        self.has_audit = ' audit' in run([program, '--help']).stdout
         self.late, self.passed, self.failed = time.monotonic() + SECONDS, 0, 0
 
     def expect(self, holds, name):
@@ -150,22 +147,20 @@ class Checks:
     def judged(self):
         """The status and the first line of what the program says of the log; whether they belong together; and its figures."""
         began = time.monotonic()
-        ran = run([self.program, *(AUDIT if self.has_audit else CHECK), self.log], timeout=600)
+        ran = run([self.program, 'audit', self.log], timeout=600)
         figures = ', judged in %.1f s' % (time.monotonic() - began)
         said, _, rest = ran.stdout.partition('\n')
-        if not self.has_audit:
-            return ran.returncode, said, True, figures
         right = {0: said == 'serializable', 1: said == 'not serializable', 3: said.startswith('unknown: ')}.get(ran.returncode, False)
         counts = dict(re.findall(r'^(\w+) (\d+)$', rest, re.M))
-        told = [counts.get(name, '?') for name in ('committed', 'taken', 'pieces', 'largest')]
-        figures = ', %s committed, %s taken, pieces: %s, the largest of %s' % tuple(told) + figures
+        told = [counts.get(name, '?') for name in ('committed', 'taken', 'part')]
+        figures = ', %s committed, %s taken, a part of %s' % tuple(told) + figures
         return ran.returncode, said, right and '?' not in told, figures
 
     def way(self, store, collector, words, is_serializable):
-        """Runs of one way, small ones, and where the program takes it a large one."""
+        """Runs of one way, small ones, and where it must be serializable a large one."""
         name, decided, refused, answers = ' '.join([store, *words]), False, False, []
         runs = [(seed, SMALL) for seed in range(RUNS if is_serializable else TRIES)]
-        if self.has_audit and is_serializable and '--moments' not in words:
+        if is_serializable and '--moments' not in words:
             runs.insert(1, (RUNS, LARGE))
         for seed, count in runs:
             began = time.monotonic()
@@ -184,10 +179,10 @@ class Checks:
             self.expect(right, '%s: status %d, %s' % (name, status, answers[-1]))
             self.expect(unknown == 0 or '--kill' in words, '%s: %d unknown' % (name, unknown))
             refused = refused or status == 1
-            # unknown is no answer
             decided = decided or status == 0
+            self.expect(status != 3, '%s: %s' % (name, said))
             if is_serializable:
-                self.expect(status in (0, 3), '%s: status %d, %s' % (name, status, said))
+                self.expect(status == 0, '%s: status %d, %s' % (name, status, said))
             elif refused:
                 break
         self.expect(decided if is_serializable else refused, '%s: %s' % (name, answers))
