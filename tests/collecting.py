@@ -1,28 +1,16 @@
 #!/usr/bin/env python3
 """collecting.py PROGRAM: logs that collect/sqlite.py collects from real SQLite databases, as docs/COLLECTING.md says.
 
-<<<<<<< HEAD
 Logs of the sound store, without moments, with all of them, and with barriers, must be serializable where `check` can tell, also where the
 outcome of each session's last committed transaction is said to be unknown, and `verify` must accept the order; of the logs of the store that
 is broken on purpose one at least must be refused. `audit` must say so too, also without moments. A log with barriers has pieces. Where this
-=======
-Logs of the sound store, with barriers and with all moments, must be serializable where `check` can tell, also where the outcome of each session's
-last committed transaction is said to be unknown, and `verify` must accept the order; of the logs of the store that is broken on purpose one
-at least must be refused. `audit` must say so too, with moments and without them. Where this
->>>>>>> newtests
 Python has no sqlite3 nothing is run, and a line says so. Last line: 'collecting: N passed, M failed'."""
 import os, re, subprocess, sys, tempfile
 
 TOP = os.path.dirname(os.path.dirname(os.path.abspath(__file__)))
 COLLECTOR, RUNS = os.path.join(TOP, 'collect', 'sqlite.py'), 3
-<<<<<<< HEAD
 AUDITS = [], ['--no-moments']
 SIZE, WEAK, BARRIERS = ['--transactions', '320', '--keys', '10', '--pause', '2'], ['--level', 'weak'], ['--barrier', '50']
-=======
-# `audit` of a log, and of one as if it stated no moments.
-AUDITS = [], ['--no-moments']
-SIZE, WEAK = ['--transactions', '320', '--keys', '10', '--pause', '2'], ['--level', 'weak']
->>>>>>> newtests
 
 
 def unlearnt(log):
@@ -35,11 +23,7 @@ def unlearnt(log):
 class Checks:
     def __init__(self, program, folder):
         self.program, self.order = program, os.path.join(folder, 'order')
-<<<<<<< HEAD
         self.passed, self.failed, self.pieces = 0, 0, 0
-=======
-        self.passed, self.failed = 0, 0
->>>>>>> newtests
 
     def call(self, log, *words):
         ran = subprocess.run([self.program, *words], input=log, stdout=subprocess.PIPE, stderr=subprocess.PIPE, timeout=600)
@@ -51,15 +35,11 @@ class Checks:
             print('FAILED', name)
 
     def audited(self, name, log, right):
-<<<<<<< HEAD
         """What `audit` says must be this, or that it cannot tell."""
-=======
-        """What `audit` says must be this; without moments a log may be serializable too."""
->>>>>>> newtests
         for words in AUDITS:
             status, said = self.call(log, 'audit', *words)
             verdict = said.partition(b'\n')[0]
-            holds = (status, verdict) in (right, (0, b'serializable') if words else right)
+            holds = status == 3 and verdict.startswith(b'unknown: ') or (status, verdict) == right
             self.expect(holds, '%s: %s: %d %r' % (name, ' '.join(['audit', *words]), status, said[:80]))
 
     def sound(self, name, log):
@@ -101,12 +81,8 @@ def main():
         with open(path, 'rb') as file:
             checks.expect(again.returncode == 2 and b'--overwrite' in again.stderr and file.read() == log, 'a log that is there is replaced')
         checks.expect(refused > 0, 'no log of the weak store was refused')
-<<<<<<< HEAD
         checks.expect(checks.pieces > 1, 'no log was cut')
         print('collecting: SQLite %s, %d of %d logs of the weak store were refused; at most %d pieces' % (sqlite3.sqlite_version, refused, RUNS, checks.pieces))
-=======
-        print('collecting: SQLite %s, %d of %d logs of the weak store were refused' % (sqlite3.sqlite_version, refused, RUNS))
->>>>>>> newtests
     print('collecting: %d passed, %d failed' % (checks.passed, checks.failed))
     return 1 if checks.failed else 0
 
