@@ -537,8 +537,8 @@ class Telling:
         return 'decided', {self.log.said_of_kept(edge, *order[:2], 'is supposed to come'): order for order in decided if edge in self.log.side(*order)}
 
 
-def judge(text, checked, explained):
-    """What is met in an explanation, of which the first lines have to be these; else Wrong."""
+def judge(text, checked, explained, log=None):
+    """What is met in an explanation, of which the first lines have to be these; else Wrong. Names and lines are those of this log."""
     told(explained[:len(checked)] == checked, 'the first lines are not those of check')
     told(explained.endswith('\n'), 'the last line does not end')
     first, lines = checked.split('\n')[0], explained[len(checked):].split('\n')[:-1]
@@ -548,7 +548,7 @@ def judge(text, checked, explained):
     if first == 'serializable':
         told(not lines, 'more lines than check')
         return collections.Counter(['serializable'])
-    code, log = 'tree' if first == EVERY_CUBE else first.split(' ')[2], Log(text)
+    code, log = 'tree' if first == EVERY_CUBE else first.split(' ')[2], log or Log(text)
     met = collections.Counter([code])
     if code in ('tree', 'A9'):
         telling = Telling(log, lines, code)

@@ -164,3 +164,16 @@ behind_refused quiet f words version = if quiet then codes "}\n" else code_of_fa
 abbrev pub refusal_object : Bool → LogFault → List ℕ → List ℕ → List ℕ
 refusal_object quiet f words version = codes "{\"verdict\":\"refused\""
     ++ behind_refused quiet f words version
+
+-- ---- a log that cannot be read
+unfoldable pub why_failed : List ℕ → List ℕ
+why_failed reason = codes ",\"reason\":" ++ quoted reason
+
+abbrev pub behind_failed : Bool → List ℕ → List ℕ → List ℕ
+behind_failed quiet reason version = if quiet then codes "}\n" else why_failed reason
+    ++ version_value version
+
+-- the object; the verdict alone where it is to be quiet
+abbrev pub failure_object : Bool → List ℕ → List ℕ → List ℕ
+failure_object quiet reason version = codes "{\"verdict\":\"failed\""
+    ++ behind_failed quiet reason version

@@ -34,3 +34,4 @@ pub use command::audit;
 pub use files::PartFile;
 pub use options::AuditOptions;
 pub use outcome::{Audited, Refusal};
+pub use refusals::failure_object;

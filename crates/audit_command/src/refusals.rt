@@ -1,9 +1,10 @@
-//! What is said of a refused log.
+//! What is said of a log that is refused, or cannot be read.
 
 ghost use Rattle.std.specs.Prelude.{◌≡◌, ◌++◌, ◌≢◌, OnOk, IfOk, codes};
 ghost use Rattle.session_log.specs.declared.fault.LogFault.TheVariants.{Memory};
 ghost use Rattle.audit_command.specs.Objects.{number_or_null, code_of_fault, line_of_fault};
 ghost use Rattle.audit_command.specs.Objects.{words_value, behind_refused, refusal_object};
+ghost use Rattle.audit_command.specs.Objects.{why_failed, behind_failed, failure_object};
 ghost use Rattle.audit_command.specs.Audited.{IsRefusal};
 
 use crate::lines::{put, put_number};
@@ -106,4 +107,43 @@ pub fn refusal(
             )
         }
     }
+}
+
+/// What is said of a log that could not be read, for this reason.
+pub fn failure_object(
+    alloc: Global,
+    quiet: bool,
+    reason: &str,
+    version: &str,
+) -> Result<Vec<u8>, AllocError>
+    ensures object { IfOk result (λ text. text.items
+        ≡ failure_object quiet reason.now version.now) }
+{
+    let mut out = Vec::from_slice(alloc, b"{\"verdict\":\"failed\"")?;
+    put_behind_failed(&mut out, quiet, reason, version)?;
+    Ok(out)
+}
+
+#[tactic(auto, unfolding(crate::specs::Objects::why_failed))]
+fn put_why_failed(out: &mut Vec<u8>, reason: &str) -> Result<(), AllocError>
+    ensures put { OnOk result (out.new.items ≡ out.old.items ++ why_failed reason.now) }
+{
+    put(out, b",\"reason\":")?;
+    put_quoted(out, reason.as_bytes())
+}
+
+fn put_behind_failed(
+    out: &mut Vec<u8>,
+    quiet: bool,
+    reason: &str,
+    version: &str,
+) -> Result<(), AllocError>
+    ensures put { OnOk result (out.new.items ≡ out.old.items
+        ++ behind_failed quiet reason.now version.now) }
+{
+    if quiet {
+        return put(out, b"}\n");
+    }
+    put_why_failed(out, reason)?;
+    put_version(out, version)
 }

@@ -79,7 +79,7 @@ fn told_part<R: Threads + Wait + Clock + Sync>(
     })
 }
 
-/// Appends parts, told, the last one first.
+/// Appends parts, told.
 fn add_parts<R: Threads + Wait + Clock + Sync>(
     rt: &R,
     alloc: Global,
@@ -105,7 +105,17 @@ fn add_parts<R: Threads + Wait + Clock + Sync>(
     Ok(())
 }
 
-/// The parts that are told: this one, and further ones where several are asked for.
+/// Puts parts into the order of their sizes, the least one first.
+fn put_least_first(told: &mut Vec<ToldPart>) -> Result<(), AllocError>
+    ensures told { (n : ℕ) (ss : List ClientSession) → AreToldParts n ss told.old.items
+        → AreToldParts n ss told.new.items }
+    ensures as_many { length told.new.items ≡ length told.old.items }
+{
+    told.sort_by_key(|part| part.txns.len())
+}
+
+/// The parts that are told, the least one first: this one, and further ones where several are asked
+/// for.
 fn told_parts<R: Threads + Wait + Clock + Eprint + Sync, P: Progress>(
     rt: &R,
     alloc: Global,
@@ -135,6 +145,7 @@ fn told_parts<R: Threads + Wait + Clock + Eprint + Sync, P: Progress>(
     let mut told = Vec::new(alloc);
     told.push(told_part(rt, alloc, log, first, options)?)?;
     add_parts(rt, alloc, log, more, options, &mut told)?;
+    put_least_first(&mut told)?;
     Ok(told)
 }
 

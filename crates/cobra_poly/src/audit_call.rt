@@ -3,10 +3,11 @@
 use crate::ending::Ending;
 use crate::files::write_file;
 use crate::input::log_name;
-use audit_command::{AuditOptions, Audited, PartFile, Refusal, audit};
+use audit_command::{AuditOptions, Audited, PartFile, Refusal, audit, failure_object};
+use call_options::ReportForm;
 use cobra_answers::tell;
 use cobra_cli::{Status, Stop};
-use cobra_words::{AuditWords, Request, VERSION};
+use cobra_words::{AuditWords, Command, Request, VERSION};
 use deciding::Means;
 use dimacs::Counted;
 use judging::JudgeMeans;
@@ -155,6 +156,24 @@ pub fn audit_log<R: Runtime + Threads + Wait + Sync, W: Write>(
             let written = sink.writer.write_all(&text);
             let _ = written.and_then(|()| sink.writer.flush());
             Err(Ending::refused(alloc, log_name(request), log, fault))
+        }
+    }
+}
+
+/// Says in an object, where one is asked for, that the log could not be read.
+pub fn tell_failure<W: Write>(
+    alloc: Global,
+    request: &Request<'_>,
+    ending: &Ending,
+    sink: &mut Counted<W>,
+) {
+    let (Command::Audit(words), Ending::Told { line, .. }) = (&request.command, ending) else {
+        return;
+    };
+    if let ReportForm::Json = words.format {
+        if let Ok(text) = failure_object(alloc, words.quiet, line, VERSION) {
+            let written = sink.writer.write_all(&text);
+            let _ = written.and_then(|()| sink.writer.flush());
         }
     }
 }

@@ -8,7 +8,7 @@ mod files;
 mod input;
 mod pieces_call;
 
-use crate::audit_call::audit_log;
+use crate::audit_call::{audit_log, tell_failure};
 use crate::ending::{Ending, USAGE, report};
 use crate::explain_call::explain_log;
 use crate::input::{read_file, read_log_bytes};
@@ -81,8 +81,14 @@ fn run<R: Runtime + Threads + Wait + Sync, I: Read + Drop, W: Write + Drop>(
     input: I,
     output: W,
 ) -> Result<Status, Ending> {
-    let log = read_log_bytes(rt, alloc, request, input)?;
     let mut sink = Counted::new(output);
+    let log = match read_log_bytes(rt, alloc, request, input) {
+        Ok(log) => log,
+        Err(ending) => {
+            tell_failure(alloc, request, &ending, &mut sink);
+            return Err(ending);
+        }
+    };
     let status = run_on(rt, alloc, &log, request, start, &mut sink)?;
     sink.writer.flush().map_err(|_| Stop::Output)?;
     Ok(status)

@@ -1,0 +1,288 @@
+"""What `audit` answers, read word for word, and its certificates, each looked at by a plain program that shares nothing with it: the serial
+order of `--order`, the part of `--part`, the counts, the explanation, and the object of JSON."""
+import json, os, re, subprocess, sys
+
+HERE = os.path.dirname(os.path.abspath(__file__))
+sys.path.insert(0, HERE)
+import explained, pieces_model, reference
+
+COUNTS = ('sessions', 'committed', 'aborted', 'unknown', 'taken', 'keys', 'operations', 'part')
+TITLES = {'A1 unknown read', 'A2 aborted read', 'A3 intermediate read', 'A4 own write missed', 'A5 future read', 'A6 split read', 'A7 lost update',
+          'A8 cycle of known edges', 'A9 pruning ends in a cycle', 'every cube is refuted'}
+STATUS = {'serializable': 0, 'not serializable': 1, 'unknown': 3, 'refused': 2}
+HEADING = re.compile(r'part of (\d+) transactions?: (.+)')
+TRANSACTION = re.compile(r'(\d+)\.(\d+) \(lines (\d+) to (\d+)\)')
+OBJECT = ['verdict', 'code', 'known_as', 'part', 'explanation', 'without_moments', 'faults', 'reason', *COUNTS[:-1], 'version']
+# Of parts of so many nodes all orders are tried.
+TRIED = 9
+LATE = 600
+
+
+class Wrong(Exception):
+    """What is wrong with an answer."""
+
+
+def must(holds, words):
+    if not holds:
+        raise Wrong(words)
+
+
+def call(program, *words, text=b''):
+    """The status, and what is said on both outputs."""
+    ran = subprocess.run([program, *words], input=text, stdout=subprocess.PIPE, stderr=subprocess.PIPE, timeout=LATE)
+    return ran.returncode, ran.stdout.decode(), ran.stderr.decode()
+
+
+# ---- a log of any length
+
+def read_long(text):
+    """The sessions of a log of any length."""
+    kept = dict(reference.LIMITS)
+    try:
+        reference.LIMITS.update(bytes=2 ** 30, sessions=65535, operations=10 ** 9, committed=10 ** 9, keys=10 ** 9)
+        return reference.read_log(text)
+    finally:
+        reference.LIMITS.update(kept)
+
+
+def lines_of(sessions, text):
+    """The line of each transaction's `begin` and of its end, by its name."""
+    line, found = 1 if reference.version_of(text) == 1 else 2, {}
+    for number, transactions in sessions:
+        line += 1
+        for place, it in enumerate(transactions, 1):
+            found[number, place] = line, line + len(it.ops) + 1
+            line += len(it.ops) + 2
+    return found
+
+
+def without_moments(sessions):
+    return [(number, [it._replace(begun=None, ended=None) for it in its]) for number, its in sessions]
+
+
+def states_moments(sessions):
+    return any(moment is not None for _, it in reference.named(sessions) for moment in (it.begun, it.ended))
+
+
+def counted(sessions):
+    """A plain count of what a log holds."""
+    named = [it for _, it in reference.named(sessions)]
+    ops = [op for it in named for op in it.ops]
+    of = lambda outcome: sum(it.outcome == outcome for it in named)
+    return dict(sessions=len(sessions), committed=of('commit'), aborted=of('abort'), unknown=of('unknown'),
+                taken=len(reference.taken_of(sessions)), keys=len({op[1] for op in ops}), operations=len(ops))
+
+
+# ---- an answer in text
+
+class Part:
+    """A part that is told: what was found of it, its transactions with their lines, and why it has no order."""
+
+    def __init__(self, heading, listed, why):
+        count, self.title = HEADING.fullmatch(heading).groups()
+        must(self.title in TITLES, 'why the part is refuted: %r' % self.title)
+        self.code = self.title.split()[0] if self.title[0] == 'A' else None
+        found = [tuple(map(int, each)) for each in TRANSACTION.findall(listed)]
+        self.lines = {(number, place): (first, last) for number, place, first, last in found}
+        said = ['%d.%d (lines %d to %d)' % each for each in found]
+        must(found and listed == 'transactions ' + ', '.join(said), 'the transactions: %r' % listed)
+        must(int(count) == len(found) == len(self.lines), 'says %s transactions, tells %d' % (count, len(self.lines)))
+        must(('transaction:' in heading) == (len(found) == 1), 'the noun: %r' % heading)
+        self.why = why
+
+
+class Answer:
+    """An answer in text: its first line, what stands between, and the counts."""
+
+    def __init__(self, answer, faults=1):
+        self.status, said, error = answer
+        must(error == '', 'says on standard error %r' % error)
+        must(said.endswith('\n'), 'has no line feed at its end')
+        self.first, *rest = said[:-1].split('\n')
+        self.verdict = self.first.split(':')[0]
+        must(self.status == STATUS.get(self.verdict), 'status %d, says %r' % (self.status, self.first))
+        middle, tail = rest[:-len(COUNTS)], [line.split(' ') for line in rest[-len(COUNTS):]]
+        must([pair[0] for pair in tail] == list(COUNTS) and all(len(pair) == 2 and pair[1].isdecimal() for pair in tail), 'counts %r' % tail)
+        self.counts = {name: int(number) for name, number in tail}
+        self.parts, self.codes, self.without, self.advice = [], [], None, []
+        if self.verdict == 'not serializable':
+            self.refuted(middle, faults)
+        elif self.verdict == 'unknown':
+            self.advice = middle
+        else:
+            must(not middle, 'between the first line and the counts %r' % middle)
+        must(self.counts['part'] == (len(self.parts[0].lines) if self.parts else 0), 'the count of the part %d' % self.counts['part'])
+
+    def refuted(self, middle, faults):
+        if middle and middle[-1].startswith('without moments '):
+            self.without = middle.pop()[len('without moments '):]
+            must(self.without in STATUS and self.without != 'refused', 'without moments %r' % self.without)
+        heads = [place for place, line in enumerate(middle) if HEADING.fullmatch(line)]
+        must(heads[:1] == [0] and len(heads) <= faults, 'told of the parts: %r' % middle)
+        while faults > 1 and re.fullmatch(r'(A[1-9]|no code) [1-9][0-9]*', middle[-1]):
+            self.codes.insert(0, middle.pop())
+        self.parts = [Part(middle[at], middle[at + 1], middle[at + 2:end]) for at, end in zip(heads, heads[1:] + [len(middle)])]
+        codes = sorted(part.code or 'no code' for part in self.parts)
+        wanted = ['%s %d' % (code, codes.count(code)) for code in dict.fromkeys(codes)]
+        must(self.codes == (wanted if faults > 1 else []), 'codes %r, wanted %r' % (self.codes, wanted))
+
+
+def check_counts(answer, sessions):
+    plain, got = counted(sessions), answer.counts
+    must({name: got[name] for name in plain} == plain, 'counts %r, wanted %r' % (got, plain))
+
+
+# ---- the serial order
+
+def check_order(sessions, said):
+    """That this text of `--order` is a serial order of the committed and the taken transactions, by a replay of it."""
+    named, taken = dict(reference.named(sessions)), reference.taken_of(sessions)
+    nodes = {name for name, it in named.items() if it.outcome == 'commit' or name in taken}
+    must(re.fullmatch('([1-9][0-9]* [1-9][0-9]*\n)*', said), 'the order has other lines')
+    order = [tuple(map(int, line.split(' '))) for line in said.split('\n')[:-1]]
+    must(len(order) == len(nodes) and set(order) == nodes, 'the order has other transactions')
+    last, begun, store = {}, -1, {}
+    for number, place in order:
+        it = named[number, place]
+        must(last.get(number, 0) < place, '%d.%d stands behind a later one of its session' % (number, place))
+        must(it.ended is None or it.ended >= begun, '%d.%d ended before one began that stands before it' % (number, place))
+        last[number], begun = place, max(begun, -1 if it.begun is None else it.begun)
+        for kind, key, wid in it.ops:
+            must(kind == 'w' or store.get(key, 0) == wid, '%d.%d reads %s %d, which holds %d' % (number, place, key, wid, store.get(key, 0)))
+            if kind == 'w':
+                store[key] = wid
+
+
+# ---- the part
+
+def part_of(sessions, names):
+    """The part of these transactions, with their names: of resolved sessions, all writes,
+    and each read of 0, of an identity that they write, or of one that nobody in the log writes."""
+    written = {op[2] for _, it in reference.named(sessions) for op in it.ops if op[0] == 'w'}
+    here = {op[2] for name, it in reference.named(sessions) if name in names for op in it.ops if op[0] == 'w'}
+    stays = lambda op: op[0] == 'w' or op[2] == 0 or op[2] in here or op[2] not in written
+    kept = [(number, [((number, place), it._replace(ops=[op for op in it.ops if stays(op)]))
+                      for place, it in enumerate(its, 1) if (number, place) in names]) for number, its in sessions]
+    return [(number, its) for number, its in kept if its]
+
+
+def orders(part):
+    """Whether a part has an order, by all of them; None where it is too large for that."""
+    if sum(it.outcome == 'commit' for _, its in part for _, it in its) > TRIED:
+        return None
+    return pieces_model.has_order([(number, [it for _, it in its]) for number, its in part])
+
+
+def check_told(sessions, text, part):
+    """That a part that is told is one, of these transactions in these lines, and has no order; gives the part."""
+    lines, resolved = lines_of(sessions, text), pieces_model.resolved(sessions)
+    for name, both in part.lines.items():
+        must(lines.get(name) == both, '%d.%d stands in lines %r, and not in %r' % (*name, lines.get(name), both))
+    must(list(part.lines) == [name for name in lines if name in part.lines], 'transactions in another order')
+    law = part_of(resolved, part.lines)
+    must(not orders(law), 'the part has an order')
+    return law
+
+
+def leaner(sessions, part):
+    """A transaction without which the part has no order either, or None."""
+    resolved = pieces_model.resolved(sessions)
+    return next((name for name in part.lines if len(part.lines) > 1 and
+                 orders(part_of(resolved, set(part.lines) - {name})) is False), None)
+
+
+def check_files(sessions, text, law, path):
+    """That the files of `--part` are the text of this part and the lines that the whole log has for its lines; gives both."""
+    with open(path, 'rb') as log, open(path + '.map') as numbers:
+        said, numbers = log.read(), [int(line) for line in numbers]
+    plain = [(number, [it for _, it in its]) for number, its in law]
+    must(reference.read_log(said) == plain, 'the file of the part is %r, wanted %r' % (said, plain))
+    must(reference.version_of(said) == reference.least_version(plain), 'the version of the part: %r' % said[:6])
+    lines, whole = said.decode().split('\n')[:-1], text.decode().split('\n')
+    must(len(lines) == len(numbers) and all(a < b for a, b in zip(numbers, numbers[1:])), 'the map has lines %r' % numbers)
+    bounds, place = lines_of(sessions, text), iter([it for _, its in law for it in its])
+    name = 0, 0
+    for line, number in zip(lines, numbers):
+        word, there = line.split(' ')[0], whole[number - 1]
+        if word == 'begin':
+            name, _ = next(place)
+        if word in ('begin', 'commit', 'abort'):
+            must(number == bounds[name][word != 'begin'], 'the map has %d for the %s of %d.%d' % (number, word, *name))
+            must(there in (line, word) or there.startswith('%s ' % word) or there == 'unknown', 'line %d is %r, the part has %r' % (number, there, line))
+        elif word == 'log':
+            must(number == 1, 'the map has %d for the header' % number)
+        else:
+            must(there == line, 'line %d is %r, the part has %r' % (number, there, line))
+            must(word == 'session' or bounds[name][0] < number < bounds[name][1], 'line %d is not of %d.%d' % (number, *name))
+    return said, numbers
+
+
+def whole_names(law):
+    """The whole log's name of each transaction of the part, by its name there."""
+    return {'%d.%d' % (number, place): '%d.%d' % name for number, its in law for place, (name, _) in enumerate(its, 1)}
+
+
+def renamed(checked, names):
+    """What `check` says of a part, with these names."""
+    for form in (explained.READ, explained.UPDATE):
+        found = form.match(checked)
+        if found:
+            groups = [n for n in range(1, form.groups + 1) if found[n] in names and (form is explained.READ or n > 1)]
+            for n in reversed(groups):
+                checked = checked[:found.start(n)] + names[found[n]] + checked[found.end(n):]
+    return re.sub(r'(?m)^cycle .*$', lambda line: ' '.join(names.get(word, word) for word in line[0].split(' ')), checked)
+
+
+def check_code(program, said, part):
+    """That `check` says of the part's file what is told of it; gives what it says."""
+    checked = call(program, 'check', '--strategy', 'forced', '--workers', '1', text=said)
+    must(checked[0] == 1 and checked[1].startswith('not serializable: ' + part.title), '`check` says of the part %r, told is %r' % (checked, part.title))
+    return checked[1]
+
+
+def check_explained(said, numbers, law, checked, why):
+    """That the lines behind a part explain it, in the names and lines of the whole log; gives what is met there."""
+    log, names = explained.Log(said), whole_names(law)
+    for it in log.transactions:
+        it.name = names[it.name]
+        it.place, it.begin, it.end = int(it.name.split('.')[1]), numbers[it.begin - 1], numbers[it.end - 1]
+        it.ops = [op._replace(line=numbers[op.line - 1]) for op in it.ops]
+    log.named = {it.name: it for it in log.transactions}
+    checked = renamed(checked, names)
+    try:
+        return explained.judge(said, checked, checked + ''.join(line + '\n' for line in why), log)
+    except explained.Wrong as wrong:
+        raise Wrong('the explanation %r: %s' % (why, wrong))
+
+
+# ---- the object
+
+def once(pairs):
+    must(len({name for name, _ in pairs}) == len(pairs), 'JSON: a key twice: %r' % [name for name, _ in pairs])
+    return dict(pairs)
+
+
+def part_said(part):
+    return [{'transaction': '%d.%d' % name, 'lines': list(both)} for name, both in part.lines.items()]
+
+
+def check_object(answer, said, explain=False):
+    """JSON says what text says."""
+    status, line, error = said
+    must((status, error) == (answer.status, ''), 'JSON: status %d, standard error %r' % (status, error))
+    must(line.endswith('}\n') and line.count('\n') == 1, 'JSON: not one line: %r' % line)
+    it = json.loads(line, object_pairs_hook=once)
+    told = explain and answer.parts
+    must(list(it) == [name for name in OBJECT if name != 'explanation' or told], 'JSON: names %r' % list(it))
+    must({name: it[name] for name in COUNTS[:-1]} == {name: answer.counts[name] for name in COUNTS[:-1]}, 'JSON: counts %r' % it)
+    must((it['verdict'], it['without_moments']) == (answer.verdict, answer.without), 'JSON: %r' % it)
+    must(it['reason'] == (answer.first.split(': ', 1)[1] if answer.verdict == 'unknown' else None), 'JSON: reason %r' % it['reason'])
+    must(len(it['faults']) == len(answer.parts), 'JSON: %d faults' % len(it['faults']))
+    for part, each in zip(answer.parts, it['faults']):
+        must((each['code'], each['part']) == (part.code, part_said(part)), 'JSON: fault %r' % each)
+        must(each.get('explanation') == (part.why if explain else None), 'JSON: explanation %r' % each)
+        known = [line[len('known as: '):] for line in part.why if line.startswith('known as: ')]
+        must(not explain or each['known_as'] == (known or [None])[0], 'JSON: known as %r' % each['known_as'])
+    first = it['faults'][0] if it['faults'] else dict(code=None, known_as=None, part=[])
+    must({name: it.get(name) for name in first} == first, 'JSON: the first fault stands otherwise in front')
+    return it
