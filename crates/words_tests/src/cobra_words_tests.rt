@@ -293,15 +293,19 @@ fn asks_for_files(request: &Request<'_>, part: &str, order: &str) -> bool {
     }
 }
 
+/// Words are a call of `audit` that asks for these files.
+fn see_files(rt: &impl Abort, alloc: Global, line: &str, part: &str, order: &str) {
+    let words = words(rt, alloc, line);
+    assert!(rt;
+        asks_for_files(&request(rt, alloc, &words), part, order),
+        "{line}"
+    );
+}
+
 #[test]
 fn files_of_audit(rt: HostRuntime) {
-    let words = words(
-        &rt,
-        rt.alloc(),
-        "cobra_poly audit --part some.log --order an.order log",
-    );
-    let request = request(&rt, rt.alloc(), &words);
-    assert!(rt; asks_for_files(&request, "some.log", "an.order"));
+    let line = "cobra_poly audit --part some.log --order an.order log";
+    see_files(&rt, rt.alloc(), line, "some.log", "an.order");
 }
 
 /// Whether a call is one of `pieces` that asks for the log of this one, or into this directory.
