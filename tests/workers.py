@@ -8,13 +8,13 @@ cycle of known edges, of these as text and as a graph.
 
 Logs of a hundred examples one behind the other, of which none, one or several are refuted, go through `audit`, with each number of workers
 from 1 to 16: the first line, the status and what the part is refuted by must be those that the log was made for, and the answers equal. Then a small library that stands before the C library's allocator holds each worker back, once it has asked for memory often enough
-in a round of pieces, until four have: so it is seen that four judge at once, and that three never pass for four. That needs a C compiler;
-what was seen is said. With --version-1 no log is cut. Last line: 'workers: N passed, M failed'."""
-import glob, os, subprocess, sys, tempfile
+in a round of judging, until four have: so it is seen that four judge at once, and that three never pass for four. That needs a C compiler;
+what was seen is said. With --version-1 none of that is tried. Last line: 'workers: N passed, M failed'."""
+import glob, os, random, subprocess, sys, tempfile
 
 HERE = os.path.dirname(os.path.abspath(__file__))
 sys.path.insert(0, HERE)
-import generate, reference
+import generate, long_logs, reference
 from refused_memory import c_compiler
 
 WORKERS = ['1', '3', '4', '16']
@@ -56,7 +56,7 @@ MANY = {n: name for n, name in zip((19, 36, 37, 66, 100), ('write_skew', 'forced
 AUDITED = {
     'none refuted': ({}, [], 'serializable', 0), 'one refuted': ({71: 'lost_update'}, [], 'not serializable', 1),
     'one refuted, the last': ({PIECES: 'crossed_readers'}, [], 'not serializable', 1), 'several refuted': (MANY, [], 'not serializable', 1),
-    'several refuted behind one that is not decided': ({**MANY, **SPENT}, ['--budget', '1'], 'not serializable', 1)}
+    'several refuted, the least budget': (MANY, ['--budget', '1'], 'not serializable', 1)}
 EACH_FORM = ['1', '4', '16']
 # Counts the rounds in which threads were started, in a file, and in another one those in which so many were at work at once, from a round on.
 GATE = r'''
@@ -163,27 +163,22 @@ def marks(path):
 
 
 def at_once(program, folder, compiler):
-    """Whether four workers judge at once: in each round of `audit` that `pieces`, which reads and cuts the same log, has not."""
+    """Whether four workers judge at once: in some round of `audit` behind that in which the log is read, and three in none."""
     source, library, log = (os.path.join(folder, name) for name in ('gate.c', 'gate.so', 'many.log'))
-    for path, data in ((source, GATE.encode()), (log, cut_log([FINE] * 256))):
+    sessions, _ = long_logs.sessions_of(long_logs.served(random.Random(5), 20000), random.Random(5), 0)
+    for path, data in ((source, GATE.encode()), (log, generate.text_of(sessions, 3))):
         with open(path, 'wb') as out:
             out.write(data)
     subprocess.run([compiler, '-shared', '-fPIC', '-o', library, source, '-ldl'], check=True)
-    place = dict(os.environ, LD_PRELOAD=library, MET=os.path.join(folder, 'met'), ROUNDS=os.path.join(folder, 'rounds'), ASKED='40')
-
-    def rounds(command, workers, **more):
-        ran = subprocess.run([program, command, '--size', '1', '--workers', workers, log], stdin=subprocess.DEVNULL, stdout=subprocess.PIPE,
-                             stderr=subprocess.PIPE, env={**place, **more}, timeout=LATE)
-        return ran.returncode, marks(place['ROUNDS']), marks(place['MET'])
-
-    passed, wanted = 0, [('4', '4', '120000'), ('4', '3', '20')]
-    for judges, workers, patience in wanted:
-        _, before, _ = rounds('pieces', workers)
-        status, all_rounds, met = rounds('audit', workers, AT_ONCE=judges, BEFORE=str(before), PATIENCE=patience)
-        judging = all_rounds - before
-        right = status == 0 and judging > 1 and met == (judging if workers == judges else 0)
+    place = dict(os.environ, LD_PRELOAD=library, MET=os.path.join(folder, 'met'), ROUNDS=os.path.join(folder, 'rounds'), ASKED='5', AT_ONCE='4', BEFORE='1')
+    passed, wanted = 0, [('4', '20000'), ('3', '20')]
+    for workers, patience in wanted:
+        ran = subprocess.run([program, 'audit', '--workers', workers, log], stdin=subprocess.DEVNULL, stdout=subprocess.PIPE, stderr=subprocess.PIPE,
+                             env=dict(place, PATIENCE=patience), timeout=LATE)
+        rounds, met = marks(place['ROUNDS']), marks(place['MET'])
+        right = ran.returncode == 0 and rounds > 1 and (met > 0) == (workers == '4')
         passed += right
-        print('%sworkers: of %s, %s judged at once in %d of %d rounds' % ('' if right else 'FAILED ', workers, judges, met, judging))
+        print('%sworkers: of %s, 4 judged at once in %d of %d rounds' % ('' if right else 'FAILED ', workers, met, rounds - 1))
     return passed, len(wanted) - passed
 
 
@@ -216,7 +211,7 @@ def main():
             seen, unseen = at_once(program, folder, compiler)
             passed, failed = passed + seen, failed + unseen
         else:
-            print('workers: that four judge at once cannot be tried, ' + ('logs of version 1 are not cut' if compiler else 'there is no C compiler here'))
+            print('workers: that four judge at once cannot be tried, ' + ('no log of version 3 is wanted' if compiler else 'there is no C compiler here'))
     print('workers: %d passed, %d failed' % (passed, failed))
     sys.exit(1 if failed else 0)
 
