@@ -221,7 +221,7 @@ ANSWERED = [
     ('all at once, read twice', at_once(448) + READ_TWICE, [], 'not serializable', []),
     ('an early transaction without an end', OPEN_END, [], 'serializable', []),
     ('1,024 sessions at once', blind_log(2048, 1024, 5), [], 'serializable', []),
-    ('1,025 sessions at once', blind_log(2050, 1025, 5), [], 'unknown: 1025 sessions at once, at most 1024', []),
+    ('1,025 sessions at once', blind_log(2050, 1025, 5), [], 'unknown: more than 1024 sessions at once', []),
     ('1,025 sessions at once, and a read of nothing', blind_log(2050, 1025, 5) + NOT_WRITTEN, [], 'not serializable',
      ['part of 1 transactions: A1 unknown read']),
 ]

@@ -10,9 +10,7 @@ use std::alloc::{AllocError, Global};
 /// Why nothing was proposed.
 fn not_tried_text(alloc: Global, reason: NotTried) -> Result<String, AllocError> {
     match reason {
-        NotTried::TooWide { lanes } => {
-            format!(in alloc; "{lanes} sessions at once, at most {MAX_LANES}")
-        }
+        NotTried::TooWide { .. } => format!(in alloc; "more than {MAX_LANES} sessions at once"),
         NotTried::TooLarge { nodes, lanes } => {
             format!(in alloc;
                 "{nodes} transactions in {lanes} sessions at once, at most {MAX_ENTRIES} of both multiplied"

@@ -133,6 +133,16 @@ fn tell_audited<R: Runtime, W: Write>(
     Ok(status)
 }
 
+/// Writes an object, where there is one.
+fn put_object<W: Write>(text: &[u8], sink: &mut Counted<W>) -> Result<(), Ending> {
+    if text.is_empty() {
+        return Ok(());
+    }
+    let written = sink.writer.write_all(text);
+    let flushed = written.and_then(|()| sink.writer.flush());
+    flushed.map_err(|_| Stop::Output.into())
+}
+
 /// Says of a long log whether it has a serial order. The call began then.
 pub fn audit_log<R: Runtime + Threads + Wait + Sync, W: Write>(
     rt: &R,
@@ -153,8 +163,7 @@ pub fn audit_log<R: Runtime + Threads + Wait + Sync, W: Write>(
         Err(Refusal::Memory) => Err(Ending::memory()),
         Err(Refusal::Log { fault, text }) => {
             // An object may be written that says so.
-            let written = sink.writer.write_all(&text);
-            let _ = written.and_then(|()| sink.writer.flush());
+            put_object(&text, sink)?;
             Err(Ending::refused(alloc, log_name(request), log, fault))
         }
     }
@@ -172,8 +181,7 @@ pub fn tell_failure<W: Write>(
     };
     if let ReportForm::Json = words.format {
         if let Ok(text) = failure_object(alloc, words.quiet, line, VERSION) {
-            let written = sink.writer.write_all(&text);
-            let _ = written.and_then(|()| sink.writer.flush());
+            let _ = put_object(&text, sink);
         }
     }
 }
