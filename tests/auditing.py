@@ -307,6 +307,11 @@ def no_usage(program, folder, words):
 def unreadable(program, folder, path):
     for words in ([], ['--format', 'json'], ['--explain', '--quiet']):
         status, said, error = call(program, 'audit', *words, path)
+        if 'json' in words:
+            answer = json.loads(said)
+            must(list(answer) == ['verdict', 'reason', 'version'] and (answer['verdict'], answer['reason']) == ('failed', error.rstrip('\n')),
+                 'says %r, on standard error %r' % (said, error))
+            said = ''
         must((status, said) == (5, '') and path in error and error.count('\n') == 1, 'status %d, says %r, on standard error %r' % (status, said, error))
 
 

@@ -1,8 +1,9 @@
 #!/usr/bin/env python3
 """stamp.py PROGRAM proved|unproved: writes into a built program the commit that it was built from, and whether it was proved.
 
-`--version` then tells both. They stand in each place of `(commit unknown, not stamped)`, or of an older stamp, in as many bytes; where that
-text does not stand in the file, or `--version` prints another one behind it, the stamp is refused, and the program stays as it was. The commit is that of the repository around this script. Where something is changed or new that the program is built from, a `+`
+`--version` then tells both. They stand in the place of `(commit unknown, not stamped)`, or of an older stamp, in as many bytes; where that
+text does not stand in the file exactly once, or `--version` prints another one behind it, the stamp is refused, and the program stays as it
+was. The commit is that of the repository around this script. Where something is changed or new that the program is built from, a `+`
 stands behind it."""
 import os, re, subprocess, sys
 
@@ -54,16 +55,14 @@ def stamp(program, state):
     """Writes the stamp into a program, and returns why it is refused, or nothing."""
     with open(program, 'rb') as file:
         found = list(STAMP.finditer(file.read()))
-    if not found:
-        return 'there is no place for the commit in %s' % program
+    if len(found) != 1:
+        return 'the place for the commit stands %d times in %s, and not once' % (len(found), program)
     text = text_of(state).encode()
-    for place in found:
-        write(program, place.start(), text)
+    write(program, found[0].start(), text)
     told = version(program)
     if told.endswith(b' (commit %s)\n' % text):
         return None
-    for place in found:
-        write(program, place.start(), place[0])
+    write(program, found[0].start(), found[0][0])
     return '%s does not tell its stamp: %r' % (program, told)
 
 
