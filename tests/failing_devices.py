@@ -10,7 +10,7 @@ Where a text or a file is written byte by byte, some of these positions are trie
 
 Needs a C compiler, for a small library that stands before the C library's `read`, `write` and what opens files. With --version-1 all logs
 are of version 1. Last line: 'failing devices: N passed, M failed'."""
-import os, shutil, subprocess, sys, tempfile
+import json, os, shutil, subprocess, sys, tempfile
 
 HERE = os.path.dirname(os.path.abspath(__file__))
 sys.path.insert(0, HERE)
@@ -123,6 +123,8 @@ class Sweeps:
     def __init__(self, program, folder, shim):
         self.program, self.folder, self.shim, self.told = program, folder, shim, os.path.join(folder, 'told')
         self.passed, self.failed = 0, 0
+        told = subprocess.run([program, '--version'], stdout=subprocess.PIPE).stdout.decode()
+        self.version = told.rstrip('\n').partition(' ')[2]
 
     def run(self, words, **means):
         """The answer of a run, and whether what was to fail did."""
@@ -138,8 +140,15 @@ class Sweeps:
         if not right:
             print('FAILED %s, %s: %r' % (' '.join(words), what, (got[0], got[1][-80:], got[2])), flush=True)
 
+    def unread(self, words, reason):
+        """What is said of a long log that cannot be read: its name and the reason, and in an object too, where one is asked for."""
+        line = '%s: %s' % (words[-1], reason)
+        told = {'verdict': 'failed'} if '--quiet' in words else {'verdict': 'failed', 'reason': line, 'version': self.version}
+        written = json.dumps(told, separators=(',', ':')) + '\n' if 'json' in words else ''
+        return 5, written.encode(), (line + '\n').encode()
+
     def failing_reads(self, words, whole, means='READ_FAILS', run=None):
-        fault = (5, b'', ('%s: %s\n' % (words[-1], FAULTS[means])).encode()) if words[0] in LONG else INPUT
+        fault = self.unread(words, FAULTS[means]) if words[0] in LONG else INPUT
         for n in range(1, MOST):
             got, met = (run or self.run)(words, **{means: n})
             self.count(got == (fault if met else whole), words, '%s %d' % (means, n), got)
