@@ -64,14 +64,15 @@ class Checks:
         if not holds:
             print('FAILED', name)
 
-    def bash(self, words, text, log, name='run.log'):
-        """Runs a text in a folder of its own: its status, what it printed, and its files."""
+    def bash(self, words, text, log, **older):
+        """Runs a text in a folder of its own, with these older files: its status, what it printed, and the files but the log."""
         self.runs += 1
         place = os.path.join(self.folder, 'run%d' % self.runs)
         os.mkdir(place)
-        if log is not None:
-            with open(os.path.join(place, name), 'w', encoding='ascii') as out:
-                out.write(log)
+        for name, content in [('run.log', log), *((name + '.log', it) for name, it in older.items())]:
+            if content is not None:
+                with open(os.path.join(place, name), 'w', encoding='ascii') as out:
+                    out.write(content)
         ran = subprocess.run(['bash', *words, '-c', text], cwd=place, env=self.around, stdin=subprocess.DEVNULL, stdout=subprocess.PIPE,
                              stderr=subprocess.STDOUT, timeout=LATE)
         files = {}
@@ -114,6 +115,8 @@ class Checks:
         self.expect((got, files) == (2, {'verdict.json': ''}) and 'wrong words' in said, 'usage: status %d: %s %s' % (got, said, files))
         got, said, files = self.bash([], text.replace('--part part.log', '--part nowhere/part.log'), LOST)
         self.expect(got == 5 and json.loads(files['verdict.json'])['verdict'] == 'not serializable', 'no folder: status %d: %s' % (got, said))
+        got, said, files = self.bash([], text, GOOD, part='older')
+        self.expect(got == 0 and files['part.log'] == 'older', 'an older part: status %d: %s' % (got, files))
 
 
 def main():
