@@ -12,6 +12,13 @@ from recorder import Recorder, holds_something
 COLOURS = ('red', 'green', 'deleted')
 # A new connection is tried for so many seconds.
 PATIENCE = 20
+# What goes wrong around a collector has this status.
+AROUND = 70
+
+
+def stop(words):
+    print('%s: %s' % (os.path.basename(sys.argv[0]), words), file=sys.stderr)
+    sys.exit(AROUND)
 
 
 class Store:
@@ -130,7 +137,7 @@ def parse(document, levels, address, options):
         parser.add_argument('address', metavar='ADDRESS', help=address)
     parser.add_argument('out', metavar='OUT', help='the log')
     parser.add_argument('--level', choices=sorted(levels), default=next(iter(levels)), help='what the store is asked for: %(default)s')
-    parser.add_argument('--sessions', type=int, default=8, metavar='N', help='how many clients run at once: %(default)s')
+    parser.add_argument('--sessions', type=int, default=8, metavar='N', help='how many clients run at once: %(default)s; one more reads all keys in the end')
     parser.add_argument('--transactions', type=int, default=800, metavar='N', help='how many all of them together try: %(default)s')
     parser.add_argument('--keys', type=int, default=50, metavar='N', help='how many keys there are: %(default)s')
     parser.add_argument('--mix', type=mix, default='5,1,4', metavar='R,W,U',
@@ -151,6 +158,8 @@ def parse(document, levels, address, options):
         parser.error('a number is too small')
     if holds_something(arguments.out) and not arguments.overwrite:
         parser.error('%s is there already, and may be a log that is still needed: take another name, or --overwrite' % arguments.out)
+    if not os.path.isdir(os.path.dirname(os.path.abspath(arguments.out))):
+        parser.error('%s: there is no such folder' % arguments.out)
     arguments.run = 'cobra_%x_%x' % (int(time.time()), os.getpid())
     return arguments
 
@@ -168,10 +177,14 @@ def main(document, levels, address=None, options={}):
     arguments = parse(document, levels, address, options)
     store_class = levels[arguments.level]
     moments = None if arguments.moments == 'none' else arguments.moments
-    run = Recorder(arguments.out, barrier_every=arguments.barrier or None, moments=moments, aborted=store_class.aborted,
-                   unknown=store_class.lost, overwrite=arguments.overwrite)
-    store_class.prepare(arguments)
     try:
+        store_class.prepare(arguments)
+        store_class(arguments).close()
+    except store_class.lost as fault:
+        stop('the store cannot be used: %s' % str(fault).strip())
+    try:
+        run = Recorder(arguments.out, barrier_every=arguments.barrier or None, moments=moments, aborted=store_class.aborted,
+                       unknown=store_class.lost, overwrite=arguments.overwrite)
         with run, concurrent.futures.ThreadPoolExecutor(arguments.sessions) as pool:
             clients = [Client(run, store_class, arguments, number) for number in range(arguments.sessions)]
             # a counter that threads share: each next() of it is one step

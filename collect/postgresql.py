@@ -2,14 +2,17 @@
 """postgresql.py: a log of clients of a PostgreSQL database.
 
 It needs psycopg2 or psycopg. It makes a table of its own, and drops it in the end. At the levels repeatable-read and read-committed the
-store does not promise to be serializable, and `check` should refuse most logs. docs/COLLECTING.md says how a log is collected."""
+store does not promise to be serializable, and `audit` should refuse most logs. docs/COLLECTING.md says how a log is collected."""
 import contextlib, os, socket
 import clients
 try:
     import psycopg2 as driver
     import psycopg2.errors
 except ImportError:
-    import psycopg as driver
+    try:
+        import psycopg as driver
+    except ImportError:
+        clients.stop('this Python has neither psycopg2 nor psycopg; Debian has psycopg2 as python3-psycopg2, for /usr/bin/python3')
 
 
 class Store(clients.Store):

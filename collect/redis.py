@@ -2,7 +2,7 @@
 """redis.py: a log of clients of a Redis server.
 
 A transaction watches each key before it reads it, and sends its writes at its end, between MULTI and EXEC. With --level multi it watches
-none, and `check` should refuse most logs. The keys are new ones, and are removed in the end.
+none, and `audit` should refuse most logs. The keys are new ones, and are removed in the end.
 
 This speaks Redis's own protocol, so that nothing is sent but what stands here. Drivers try again by themselves, and some call a cut
 connection a failed watch, behind which EXEC may have been done. docs/COLLECTING.md says how a log is collected."""

@@ -1,7 +1,7 @@
 #!/usr/bin/env python3
 """sqlite.py: a log of clients of an SQLite database, which is a new one where --database names none.
 
-The database is in WAL mode, where SQLite is serializable. With --level weak the store is broken on purpose, and `check` should refuse
+The database is in WAL mode, where SQLite is serializable. With --level weak the store is broken on purpose, and `audit` should refuse
 most logs. docs/COLLECTING.md says how a log is collected."""
 import os, random, sqlite3, tempfile
 import clients

@@ -53,6 +53,17 @@ class Checks:
         self.expect(self.call(log, 'verify', '--order', self.order) == (0, b'accepted\n'), '%s: its order' % name)
 
 
+def misfits(checks, folder):
+    """Where a run cannot begin, one line says why, and no log is left."""
+    path = os.path.join(folder, 'nothing.log')
+    for words, status, told in (
+        (['redis.py', os.path.join(folder, 'nowhere'), path], 70, rb'redis\.py: the store cannot be used: .*No such file.*\n'),
+        (['sqlite.py', os.path.join(folder, 'nowhere', 'log')], 2, rb'usage: (.*\n)*sqlite\.py: error: .*there is no such folder\n'),
+    ):
+        ran = subprocess.run([sys.executable, os.path.join(TOP, 'collect', words[0]), *words[1:]], stdout=subprocess.PIPE, stderr=subprocess.PIPE, timeout=600)
+        checks.expect(ran.returncode == status and re.fullmatch(told, ran.stderr) and not os.path.exists(path), '%s: %s' % (words, ran))
+
+
 def main():
     try:
         import sqlite3
@@ -80,6 +91,7 @@ def main():
         again = subprocess.run([sys.executable, COLLECTOR, *SIZE, path], stdout=subprocess.PIPE, stderr=subprocess.PIPE, timeout=600)
         with open(path, 'rb') as file:
             checks.expect(again.returncode == 2 and b'--overwrite' in again.stderr and file.read() == log, 'a log that is there is replaced')
+        misfits(checks, folder)
         checks.expect(refused > 0, 'no log of the weak store was refused')
         checks.expect(checks.pieces > 1, 'no log was cut')
         print('collecting: SQLite %s, %d of %d logs of the weak store were refused; at most %d pieces' % (sqlite3.sqlite_version, refused, RUNS, checks.pieces))

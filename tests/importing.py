@@ -332,7 +332,8 @@ BY_HAND = [
 INVOKE = '{:type :invoke, :process 0, :time 5, :value [[:r 1 nil] [:append 1 1]]}\n'
 BAD = [
     ('jepsen', '', '1: there is no transaction in it'),
-    ('jepsen', '{:type :info, :process :nemesis, :f :start}\n', '1: there is no transaction in it'),
+    ('jepsen', '{:type :info, :process :nemesis, :f :start}\n',
+     '1: there is no transaction in it; left out: ops of the process :nemesis, which is no client: 1, the first in line 1'),
     ('jepsen', INVOKE + '{:type :ok, :process 0, :value [[:r 1 nil] [:append 1 1]}\n', '2: op 2: } stands where the [ of line 2 is not closed'),
     ('jepsen', INVOKE + '{:type :ok, :process 0,\n:value [[:r 1 nil]', '3: op 2: the text ends within the [ of line 3'),
     ('jepsen', INVOKE + '{:type :ok, :process 0,\n:value [[:r 1 nil]]', '3: op 2: the text ends within the { of line 2'),

@@ -598,8 +598,13 @@ def read_history(lines, form, order='real-time', initial=None, aborted=None):
     reader = Jepsen(history) if form == 'jepsen' else Plume(history, aborted)
     reader.read(lines)
     if not history.sessions:
-        raise Unreadable(1, 'there is no transaction in it')
+        raise Unreadable(1, '; '.join(['there is no transaction in it', *notes(history)]))
     return history
+
+
+def notes(history):
+    """What had to be told of the history, and how often."""
+    return ['%s: %d, the first in line %d' % (what, count, first) for what, (count, first) in history.notes.items()]
 
 
 def tell(history):
@@ -608,8 +613,8 @@ def tell(history):
     counts = ', '.join('%d %s' % (outcomes.count(outcome), name) for outcome, name in
                        ((COMMITTED, 'committed'), (ABORTED, 'aborted'), (UNKNOWN, 'unknown')))
     say('%d transactions in %d sessions: %s' % (len(outcomes), len(history.sessions), counts))
-    for what, (count, first) in history.notes.items():
-        say('%s: %d, the first in line %d' % (what, count, first))
+    for note in notes(history):
+        say(note)
     renamed = [(name, edn(key)) for key, name in history.names.items() if name.startswith('key:')]
     for name, key in renamed[:10]:
         say('%s is the key %s' % (name, key))
