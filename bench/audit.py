@@ -3,16 +3,17 @@
 
 A line for each call: the log, its bytes, the workers, the best of so many seconds by the clock and of the processors, the most memory in MiB,
 and the first line that was said. Then the ratios: four workers by one, ten times the log, and a log that `check` takes by both commands.
-With --table instead a table, as docs/BENCHMARKS.md has them: logs of 1,000, 10,000, 100,000 transactions and more, up to N, by 1, 2 and
-4 workers."""
+With --table instead a table, as docs/BENCHMARKS.md has them: logs of 1,000, 10,000, 100,000 transactions and more, up to N, with
+and without their moments, by 1 and 4 workers."""
 import argparse, os, subprocess, sys, tempfile, time
 
 HERE = os.path.dirname(os.path.abspath(__file__))
 
 
-def made(folder, name, *words):
+def made(folder, name, count, *words):
+    """A log of so many transactions without a moment at which nothing is under way."""
     path = os.path.join(folder, name + '.log')
-    subprocess.run([sys.executable, os.path.join(HERE, 'long_log.py'), path, *words], check=True)
+    subprocess.run([sys.executable, os.path.join(HERE, 'long_log.py'), path, '--transactions', str(count), '--barrier', str(count), *words], check=True)
     return path
 
 
@@ -41,13 +42,15 @@ def measured(program, times, name, log, *words):
 
 def table(program, times, most):
     """Prints a table of time and memory, by the length of the log and by workers."""
-    print('| Transactions | MB | Workers | Seconds | Of processors | MiB | Answer |\n|---|---|---|---|---|---|---|')
+    print('| Transactions | MB | Moments | Workers | Seconds | Of processors | MiB | Answer |\n|---|---|---|---|---|---|---|---|')
     for count in [10 ** n for n in range(3, 9) if 10 ** n <= most]:
         with tempfile.TemporaryDirectory() as folder:
-            log = made(folder, 'log', '--transactions', str(count))
-            for workers in '1', '2', '4':
-                best, used, peak, said = best_of(program, times, log, 'audit', '--workers', workers)
-                print('| {:,} | {:.1f} | {} | {:.3f} | {:.3f} | {} | {} |'.format(count, os.path.getsize(log) / 1e6, workers, best, used, peak, said), flush=True)
+            log = made(folder, 'log', count)
+            for moments, words in ('yes', []), ('no', ['--no-moments']):
+                for workers in '1', '4':
+                    best, used, peak, said = best_of(program, times, log, 'audit', *words, '--workers', workers)
+                    print('| {:,} | {:.1f} | {} | {} | {:.3f} | {:.3f} | {} | `{}` |'.format(
+                        count, os.path.getsize(log) / 1e6, moments, workers, best, used, peak, said), flush=True)
 
 
 def main():
@@ -61,10 +64,10 @@ def main():
     if words.table:
         return table(program, times, whole)
     with tempfile.TemporaryDirectory() as folder:
-        tenth = made(folder, 'tenth', '--transactions', str(whole // 10))
-        longest = made(folder, 'whole', '--transactions', str(whole))
-        faulty = made(folder, 'faulty', '--transactions', str(whole // 10), '--fault')
-        small = made(folder, 'small', '--transactions', '1000', '--barrier', '10000')
+        tenth = made(folder, 'tenth', whole // 10)
+        longest = made(folder, 'whole', whole)
+        faulty = made(folder, 'faulty', whole // 10, '--fault')
+        small = made(folder, 'small', 1000)
         refused = os.path.join(folder, 'refused.log')
         with open(longest, 'rb') as log, open(refused, 'wb') as out:
             out.write(log.read()[:-1])
