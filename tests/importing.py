@@ -400,9 +400,9 @@ AROUND_IT = [
     ('another form', ['--from', 'jepson', '-'], USAGE, "argument --from: invalid choice: 'jepson'"),
     ('an initial value', ['--from', 'plume', '--initial', 'x', '-'], USAGE, 'argument --initial: an integer or none, and not x'),
     ('aborted ones of jepsen', ['--from', 'jepsen', '--aborted', '-1', '-'], USAGE, '--aborted is for plume'),
-    ('a file that is missing', ['--from', 'plume', '/nowhere/history'], AROUND, "No such file or directory: '/nowhere/history'"),
+    ('a file that is missing', ['--from', 'plume', '/nowhere/history'], AROUND, '/nowhere/history: No such file or directory'),
     ('a folder', ['--from', 'plume', '/'], AROUND, "Is a directory"),
-    ('a map that cannot be written', ['--from', 'plume', '--map', '/nowhere/map', '-'], AROUND, "No such file or directory: '/nowhere/map'"),
+    ('a map that cannot be written', ['--from', 'plume', '--map', '/nowhere/map', '-'], AROUND, '/nowhere/map: No such file or directory'),
 ]
 
 # ---- made histories: transactions of processes, replayed in some order, and often disturbed

@@ -640,7 +640,7 @@ def main():
     except Unreadable as wrong:
         stop(UNREADABLE, '%s:%d: %s' % (given.history, wrong.line, wrong))
     except OSError as wrong:
-        stop(AROUND, str(wrong))
+        stop(AROUND, '%s: %s' % (wrong.filename, wrong.strerror) if wrong.filename else str(wrong))
     except MemoryError:
         stop(AROUND, 'out of memory')
 

@@ -36,7 +36,8 @@ def run(main):
         say('interrupted')
         sys.exit(130)
     except (OSError, UnicodeDecodeError) as fault:
-        say(fault)
+        name = getattr(fault, 'filename', None)
+        say('%s: %s' % (name, fault.strerror) if name else fault)
         sys.exit(AROUND)
     except Exception:
         traceback.print_exc()
