@@ -315,6 +315,19 @@ def unreadable(program, folder, path):
         must((status, said) == (5, '') and path in error and error.count('\n') == 1, 'status %d, says %r, on standard error %r' % (status, said, error))
 
 
+def same_files(program, folder):
+    """Files of a call that are one: usage, and the log stays."""
+    log = os.path.join(folder, 'own.log')
+    text = b'session 1\nbegin\nw x 1\ncommit\n'
+    for words in (['--part', log, log], ['--order', log, log], ['--part', log[:-4], '--order', log[:-4] + '.map', log],
+                  ['--part', os.path.join(folder, 'a'), '--order', os.path.join(folder, 'a'), log]):
+        with open(log, 'wb') as out:
+            out.write(text)
+        status, said, error = call(program, 'audit', *words)
+        with open(log, 'rb') as left:
+            must((status, said, left.read()) == (2, '', text) and 'twice' in error, '%r: status %d, says %r, on standard error %r' % (words, status, said, error))
+
+
 def has_help(program, folder):
     status, said, error = call(program, 'audit', '--help')
     named = [option for option in ('--workers', '--strategy', '--budget', '--at-least', '--seconds', '--format', '--quiet', '--progress',
@@ -346,6 +359,7 @@ def by_hand(folder):
     for path in (os.path.join(folder, 'missing.log'), folder):
         yield 'unreadable %s' % os.path.basename(path), unreadable, (path,)
     yield 'help', has_help, ()
+    yield 'files that are one', same_files, ()
     for name, text in generate.examples((1, 2, 3)):
         try:
             reference.read_log(text)

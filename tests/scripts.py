@@ -223,20 +223,17 @@ class Copy:
     def stamps(self, program):
         with open(program, 'rb') as file:
             built = file.read()
-        self.expect('the built program has a place for its stamp', UNSTAMPED in built, built.count(UNSTAMPED))
+        self.expect('the built program has one place for its stamp', built.count(UNSTAMPED) == 1, built.count(UNSTAMPED))
         told = self.version(program)
         self.expect('an unstamped program', told == 'cobra_poly 1.0.0 %s\n' % UNSTAMPED.decode(), told)
-        never = built.replace(UNSTAMPED, UNSTAMPED.upper())
-        for name, text, why in (('twice', built + UNSTAMPED, b''), ('never', never, b'there is no place'), ('untold', never + UNSTAMPED, b'does not tell')):
+        for name, text in (('twice', built + UNSTAMPED), ('never', built.replace(UNSTAMPED, UNSTAMPED.upper()))):
             path = os.path.join(self.folder, name)
             with open(path, 'wb') as out:
                 out.write(text)
             os.chmod(path, 0o755)
             ran = subprocess.run([sys.executable, '-B', os.path.join(self.top, 'tools', 'stamp.py'), path, 'proved'], stderr=subprocess.PIPE)
             with open(path, 'rb') as file:
-                kept = file.read()
-            holds = ran.returncode == 1 and kept == text and why in ran.stderr if why else ran.returncode == 0 and UNSTAMPED not in kept
-            self.expect('a stamp that stands %s' % name, holds, ran)
+                self.expect('a stamp that stands %s' % name, ran.returncode == 1 and file.read() == text and b'times' in ran.stderr, ran)
 
 
 def session(leader):

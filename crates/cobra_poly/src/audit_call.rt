@@ -133,6 +133,36 @@ fn tell_audited<R: Runtime, W: Write>(
     Ok(status)
 }
 
+/// Refuses two files of a call that are one.
+fn refuse_same(alloc: Global, one: &str, other: &str) -> Result<(), Ending> {
+    if one == other {
+        return Err(Ending::usage(format!(in alloc;
+            "error: the call names {one} twice, and would write over it"
+        )));
+    }
+    Ok(())
+}
+
+/// Refuses a call whose files would be written over the log or over one another.
+fn refuse_same_files(
+    alloc: Global,
+    request: &Request<'_>,
+    words: &AuditWords<'_>,
+) -> Result<(), Ending> {
+    let log = log_name(request);
+    if let Some(part) = words.part {
+        let map = format!(in alloc; "{part}.map")?;
+        refuse_same(alloc, log, part)?;
+        refuse_same(alloc, log, &map)?;
+        refuse_same(alloc, words.order.unwrap_or(log), part)?;
+        refuse_same(alloc, words.order.unwrap_or(log), &map)?;
+    }
+    match words.order {
+        Some(order) => refuse_same(alloc, log, order),
+        None => Ok(()),
+    }
+}
+
 /// Writes an object, where there is one.
 fn put_object<W: Write>(text: &[u8], sink: &mut Counted<W>) -> Result<(), Ending> {
     if text.is_empty() {
@@ -153,6 +183,7 @@ pub fn audit_log<R: Runtime + Threads + Wait + Sync, W: Write>(
     start: Option<Instant>,
     sink: &mut Counted<W>,
 ) -> Result<Status, Ending> {
+    refuse_same_files(alloc, request, words)?;
     let options = options_of(request, words, start);
     let mut progress = EachSecond {
         is_asked: words.progress,
