@@ -50,8 +50,11 @@ class Store(clients.Store):
 
     @classmethod
     def prepare(cls, arguments):
-        connection = sqlite3.connect(arguments.database)
-        connection.executescript('PRAGMA journal_mode = WAL; CREATE TABLE %s (key TEXT PRIMARY KEY, value TEXT)' % arguments.run)
+        try:
+            connection = sqlite3.connect(arguments.database)
+            connection.executescript('PRAGMA journal_mode = WAL; CREATE TABLE %s (key TEXT PRIMARY KEY, value TEXT)' % arguments.run)
+        except sqlite3.Error as fault:
+            clients.stop('the store cannot be used: %s: %s' % (arguments.database, fault))
         connection.close()
 
     @classmethod

@@ -55,10 +55,14 @@ class Checks:
 
 def misfits(checks, folder):
     """Where a run cannot begin, one line says why, and no log is left."""
-    path = os.path.join(folder, 'nothing.log')
+    path, text = os.path.join(folder, 'nothing.log'), os.path.join(folder, 'text')
+    with open(text, 'w') as out:
+        out.write('no database\n' * 99)
     for words, status, told in (
         (['redis.py', os.path.join(folder, 'nowhere'), path], 70, rb'redis\.py: the store cannot be used: .*No such file.*\n'),
         (['sqlite.py', os.path.join(folder, 'nowhere', 'log')], 2, rb'usage: (.*\n)*sqlite\.py: error: .*there is no such folder\n'),
+        (['sqlite.py', '--database', os.path.join(folder, 'nowhere', 'db'), path], 70, rb'sqlite\.py: the store cannot be used: .*unable to open.*\n'),
+        (['sqlite.py', '--database', text, path], 70, rb'sqlite\.py: the store cannot be used: .*not a database\n'),
     ):
         ran = subprocess.run([sys.executable, os.path.join(TOP, 'collect', words[0]), *words[1:]], stdout=subprocess.PIPE, stderr=subprocess.PIPE, timeout=600)
         checks.expect(ran.returncode == status and re.fullmatch(told, ran.stderr) and not os.path.exists(path), '%s: %s' % (words, ran))
