@@ -6,9 +6,9 @@ the whole log gives, with 1, 3, 4 and 16 workers, with moments and without them;
 must be a serial order by a plain replay. What is told of a part must be one of the whole log: its transactions, each write and each read
 that it keeps, its names and lines; it must have no order, by all of them and by `check`, and none of its transactions can be left out; what
 `--explain` says must be so in the lines of the whole log; JSON must say what text says. Then logs by hand: empty ones, too few
-transactions, too many sessions at once, refused ones with their codes, words that are none and files that cannot be read.
+transactions, too many sessions at once, refused ones with their codes, words that are none, files that cannot be read, and too little time.
 Last line: 'auditing: N passed, M failed'."""
-import argparse, collections, concurrent.futures, json, os, random, re, sys, tempfile
+import argparse, collections, concurrent.futures, json, os, random, re, subprocess, sys, tempfile
 
 HERE = os.path.dirname(os.path.abspath(__file__))
 sys.path.insert(0, HERE)
@@ -328,6 +328,24 @@ def same_files(program, folder):
             must((status, said, left.read()) == (2, '', text) and 'twice' in error, '%r: status %d, says %r, on standard error %r' % (words, status, said, error))
 
 
+def time_is_up(program, folder):
+    """With --seconds 1 a log that takes longer is `unknown`, and the text and the object say why. Of a fast machine a longer log is asked for."""
+    log = os.path.join(folder, 'endless.log')
+    for count in 400000, 4000000:
+        maker = os.path.join(os.path.dirname(HERE), 'bench', 'long_log.py')
+        subprocess.run([sys.executable, maker, log, '--transactions', str(count), '--barrier', str(count)], check=True)
+        words = ['audit', '--no-moments', '--workers', '1', '--seconds', '1']
+        status, said, error = call(program, *words, log)
+        if status != 0:
+            break
+    must((status, error) == (3, '') and said.startswith('unknown: the time was up\nmore --seconds may help\n'),
+         'status %d, says %r, on standard error %r' % (status, said[:200], error))
+    status, said, error = call(program, *words, '--format', 'json', log)
+    answer = json.loads(said)
+    must((status, answer['verdict'], answer['reason']) == (3, 'unknown', 'the time was up'), 'JSON: status %d, says %r' % (status, said[:200]))
+    os.remove(log)
+
+
 def has_help(program, folder):
     status, said, error = call(program, 'audit', '--help')
     named = [option for option in ('--workers', '--strategy', '--budget', '--at-least', '--seconds', '--format', '--quiet', '--progress',
@@ -360,6 +378,7 @@ def by_hand(folder):
         yield 'unreadable %s' % os.path.basename(path), unreadable, (path,)
     yield 'help', has_help, ()
     yield 'files that are one', same_files, ()
+    yield 'the time is up', time_is_up, ()
     for name, text in generate.examples((1, 2, 3)):
         try:
             reference.read_log(text)
