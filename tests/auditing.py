@@ -6,7 +6,8 @@ the whole log gives, with 1, 3, 4 and 16 workers, with moments and without them;
 must be a serial order by a plain replay. What is told of a part must be one of the whole log: its transactions, each write and each read
 that it keeps, its names and lines; it must have no order, by all of them and by `check`, and none of its transactions can be left out; what
 `--explain` says must be so in the lines of the whole log; JSON must say what text says. Then logs by hand: empty ones, too few
-transactions, too many sessions at once, refused ones with their codes, words that are none, files that cannot be read, and too little time.
+transactions, too many sessions at once, refused ones with their codes, words that are none, files that cannot be read or
+written, and too little time.
 Last line: 'auditing: N passed, M failed'."""
 import argparse, collections, concurrent.futures, json, os, random, re, subprocess, sys, tempfile
 
@@ -315,6 +316,13 @@ def unreadable(program, folder, path):
         must((status, said) == (5, '') and path in error and error.count('\n') == 1, 'status %d, says %r, on standard error %r' % (status, said, error))
 
 
+def no_file(program, folder, option, text, path, told):
+    """A file of a part or of an order that cannot be written: the verdict is told all the same, and the file by its name."""
+    status, said, error = call(program, 'audit', option, path, text=text)
+    must((status, said) == (5, call(program, 'audit', text=text)[1]), 'status %d, says %r' % (status, said))
+    must(error.startswith(told + ': ') and error.count('\n') == 1, 'on standard error %r' % error)
+
+
 def same_files(program, folder):
     """Files of a call that are one: usage, and the log stays."""
     log = os.path.join(folder, 'own.log')
@@ -376,6 +384,13 @@ def by_hand(folder):
         yield 'usage %r' % ' '.join(words), no_usage, (words,)
     for path in (os.path.join(folder, 'missing.log'), folder):
         yield 'unreadable %s' % os.path.basename(path), unreadable, (path,)
+    directory, part = os.path.join(folder, 'directory'), os.path.join(folder, 'mapped')
+    os.mkdir(directory)
+    os.mkdir(part + '.map')
+    for path in '/dev/full', directory, os.path.join(folder, 'nowhere', 'file'):
+        for option, text in ('--part', LOST), ('--order', SMALL):
+            yield '%s %s' % (option, os.path.basename(path)), no_file, (option, text, path, path)
+    yield 'a map that cannot be written', no_file, ('--part', LOST, part, part + '.map')
     yield 'help', has_help, ()
     yield 'files that are one', same_files, ()
     yield 'the time is up', time_is_up, ()
