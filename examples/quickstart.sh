@@ -46,7 +46,8 @@ case $store in sqlite | postgresql) ;; *) stop '--store takes sqlite or postgres
 folder=${folder:-quickstart}
 [ -z "$(ls -A "$folder" 2> /dev/null)" ] || stop "$folder is not empty: name a new folder"
 mkdir -p "$folder"
-temporary=$(mktemp -d /tmp/qs.XXXXXX)
+# Short: the name of a socket in it has at most 107 bytes.
+temporary=$(TMPDIR=/tmp mktemp -d)
 
 # A Python that has a driver for PostgreSQL.
 python_with_driver() {
