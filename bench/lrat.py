@@ -49,7 +49,7 @@ def main():
     if len(sys.argv) != 2 or sys.argv[1].startswith('-'):
         print(__doc__)
         sys.exit(0 if sys.argv[1:] in (['--help'], ['-h']) else 2)
-    program, log_text, lrat_of = os.path.abspath(sys.argv[1]), script('refute').log_text, script('..', 'tests', 'refuting').lrat_of
+    program, log_text, lrat_of = os.path.abspath(sys.argv[1]), script('make_noise').noisy_log, script('..', 'tests', 'refuting').lrat_of
     with tempfile.TemporaryDirectory() as folder:
         log, formula, proof = (os.path.join(folder, name) for name in ('log', 'formula', 'proof'))
         with open(log, 'w') as out:

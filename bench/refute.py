@@ -4,32 +4,11 @@
 Of each log the transactions of a few keys ran in some order, and eight more of two other keys have none: two writers of each, and a reader
 of each pair of writes. A line for each log and each form of the formula: its clauses, the bytes of the proof, and the best of three times
 (processor seconds) and the greatest memory of cadical, of `refute` and of `encode`. Needs cadical."""
-import os, random, subprocess, sys, tempfile
+import os, subprocess, sys, tempfile
+
+from make_noise import noisy_log
 
 LOGS = ((80, 12, []), (120, 20, []), (160, 30, []), (200, 30, []), (220, 60, []), (90, 8, ['--plain']))
-SESSIONS = 50
-
-
-def log_text(count, keys, seed=1):
-    """A log of so many transactions with an order, and eight without one."""
-    r, store, written, sessions = random.Random(seed), {}, 0, [[] for _ in range(SESSIONS)]
-    for _ in range(count):
-        ops = []
-        for key in r.sample(range(keys), 2):
-            if r.random() < 0.3:
-                ops.append('r k%d %d' % (key, store.get(key, 0)))
-            else:
-                written += 1
-                store[key] = written
-                ops.append('w k%d %d' % (key, written))
-        r.choice(sessions).append(ops)
-    writes = [('x', 10001), ('x', 10002), ('y', 10003), ('y', 10004)]
-    sessions += [[['w %s %d' % write]] for write in writes]
-    sessions += [[['r %s %d' % one, 'r %s %d' % two]] for one in writes[:2] for two in writes[2:]]
-    lines = []
-    for number, transactions in enumerate(sessions, 1):
-        lines += ['session %d' % number] + [line for ops in transactions for line in ('begin', *ops, 'commit')]
-    return ''.join(line + '\n' for line in lines)
 
 
 def timed(*words):
@@ -51,7 +30,7 @@ def main():
         log, formula, proof = (os.path.join(folder, name) for name in ('log', 'formula', 'proof'))
         for count, keys, plain in LOGS:
             with open(log, 'w') as out:
-                out.write(log_text(count, keys))
+                out.write(noisy_log(count, keys))
             with open(formula, 'wb') as out:
                 subprocess.run([program, 'encode', *plain, log], stdout=out, check=True)
             with open(formula) as text:

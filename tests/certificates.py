@@ -9,10 +9,11 @@ import explained, pieces_model, reference
 COUNTS = ('sessions', 'committed', 'aborted', 'unknown', 'taken', 'keys', 'operations', 'part')
 TITLES = {'A1 unknown read', 'A2 aborted read', 'A3 intermediate read', 'A4 own write missed', 'A5 future read', 'A6 split read', 'A7 lost update',
           'A8 cycle of known edges', 'A9 pruning ends in a cycle', 'every cube is refuted'}
+WEAKER = {'strict snapshot isolation': 'strict_snapshot', 'snapshot isolation': 'snapshot'}
 STATUS = {'serializable': 0, 'not serializable': 1, 'unknown': 3, 'refused': 2}
 HEADING = re.compile(r'part of (\d+) transactions?: (.+)')
 TRANSACTION = re.compile(r'(\d+)\.(\d+) \(lines (\d+) to (\d+)\)')
-OBJECT = ['verdict', 'code', 'known_as', 'part', 'explanation', 'without_moments', 'faults', 'reason', *COUNTS[:-1], 'version']
+OBJECT = ['verdict', 'code', 'known_as', 'part', 'explanation', 'without_moments', 'strict_snapshot', 'snapshot', 'faults', 'reason', *COUNTS[:-1], 'version']
 # Of parts of so many nodes all orders are tried.
 TRIED = 9
 LATE = 600
@@ -104,7 +105,7 @@ class Answer:
         middle, tail = rest[:-len(COUNTS)], [line.split(' ') for line in rest[-len(COUNTS):]]
         must([pair[0] for pair in tail] == list(COUNTS) and all(len(pair) == 2 and pair[1].isdecimal() for pair in tail), 'counts %r' % tail)
         self.counts = {name: int(number) for name, number in tail}
-        self.parts, self.codes, self.without, self.advice = [], [], None, []
+        self.parts, self.codes, self.without, self.weaker, self.advice = [], [], None, {}, []
         if self.verdict == 'not serializable':
             self.refuted(middle, faults)
         elif self.verdict == 'unknown':
@@ -114,6 +115,12 @@ class Answer:
         must(self.counts['part'] == (len(self.parts[0].lines) if self.parts else 0), 'the count of the part %d' % self.counts['part'])
 
     def refuted(self, middle, faults):
+        for level in reversed(WEAKER):
+            found = re.fullmatch('%s (kept|not kept|unknown)' % level, middle[-1]) if middle else None
+            if found:
+                middle.pop()
+                self.weaker[level] = found[1]
+        must(not self.weaker or 'snapshot isolation' in self.weaker, 'levels: %r' % self.weaker)
         if middle and middle[-1].startswith('without moments '):
             self.without = middle.pop()[len('without moments '):]
             must(self.without in STATUS and self.without != 'refused', 'without moments %r' % self.without)
@@ -276,6 +283,8 @@ def check_object(answer, said, explain=False):
     must(list(it) == [name for name in OBJECT if name != 'explanation' or told], 'JSON: names %r' % list(it))
     must({name: it[name] for name in COUNTS[:-1]} == {name: answer.counts[name] for name in COUNTS[:-1]}, 'JSON: counts %r' % it)
     must((it['verdict'], it['without_moments']) == (answer.verdict, answer.without), 'JSON: %r' % it)
+    weaker = {name: answer.weaker.get(level) for level, name in WEAKER.items()}
+    must({name: it[name] for name in weaker} == weaker, 'JSON: levels %r' % it)
     must(it['reason'] == (answer.first.split(': ', 1)[1] if answer.verdict == 'unknown' else None), 'JSON: reason %r' % it['reason'])
     must(len(it['faults']) == len(answer.parts), 'JSON: %d faults' % len(it['faults']))
     for part, each in zip(answer.parts, it['faults']):

@@ -60,6 +60,8 @@ def misfits(checks, folder):
         out.write('no database\n' * 99)
     for words, status, told in (
         (['redis.py', os.path.join(folder, 'nowhere'), path], 70, rb'redis\.py: the store cannot be used: .*No such file.*\n'),
+        (['etcd.py', '127.0.0.1:x', path], 70, rb'etcd\.py: the store cannot be used: .*port.*\n'),
+        (['etcd.py', 'nowhere.invalid:2379', path], 70, rb'etcd\.py: the store cannot be used: .*\n'),
         (['sqlite.py', os.path.join(folder, 'nowhere', 'log')], 2, rb'usage: (.*\n)*sqlite\.py: error: .*there is no such folder\n'),
         (['sqlite.py', '--database', os.path.join(folder, 'nowhere', 'db'), path], 70, rb'sqlite\.py: the store cannot be used: .*unable to open.*\n'),
         (['sqlite.py', '--database', text, path], 70, rb'sqlite\.py: the store cannot be used: .*not a database\n'),

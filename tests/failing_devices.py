@@ -4,7 +4,7 @@
 The program runs with its Nth read failed, for N = 1, 2, .. until a run makes fewer: each such run must say `device failed: input`
 with status 5 and write nothing. Then its Nth write to standard output fails, or takes no byte, until a run makes fewer: what went out
 before must be the beginning of the whole text, and `device failed: output` is said with status 5. Reads and writes of one byte at
-a time must leave the whole text. Of `audit` and `pieces` the log and its directory are told by name, with the reason. Of `pieces --into`
+a time must leave the whole text. Of `audit`, `pieces` and `split` the log and its directory are told by name, with the reason. Of `pieces --into`
 each call that makes or opens something fails too, and what was written before must stay, each file whole but for the one that failed.
 Where a text or a file is written byte by byte, some of these positions are tried, and always the first and the last ones.
 
@@ -90,7 +90,7 @@ CHECKED = ('forced_choices.log', 'forced_cycle.log', 'crossed_readers.log', 'los
 REFUTED, PROOF = 'forced_cycle.log', b'0\n'
 EXPLAINED = {'crossed_readers.log': 'text', 'forced_cycle.log': 'dot', 'unknown_read.log': 'text'}
 # Commands that tell by name what cannot be read or written, and of each fault the words behind that name.
-LONG = 'audit', 'pieces'
+LONG = 'audit', 'pieces', 'split'
 FAULTS = {'READ_FAILS': 'Input/output error (os error 5)', 'OPEN_FAILS': 'Input/output error (os error 5)',
           'WRITE_FAILS': 'No space left on device (os error 28)', 'WRITE_TAKES_NONE': 'failed to write whole buffer'}
 AUDITED = {
@@ -99,6 +99,7 @@ AUDITED = {
     'crossed_readers.log': (['--explain'], ['--budget', '1']), 'unwritten_read.log': (['--explain', '--quiet'],),
     'own_write_missed.log': (['--format', 'json'],), 'ends_before_it_begins.log': (['--format', 'json'],)}
 CUT = {'shop.log': ([], ['--size', '1'], ['--size', '1', '--piece', '2']), 'unknown_chain.log': (['--piece', '1'],), 'empty.log': ([],)}
+SPLIT = {'shop.log': ([],), 'unknown_chain.log': ([],), 'empty.log': ([],)}
 WRITTEN = 'shop.log', 'unknown_chain.log'
 # What stands on standard input where that is named.
 GIVEN = 'lost_update.log'
@@ -253,6 +254,8 @@ def calls(folder, names):
         with open(proof, 'wb') as out:
             out.write(PROOF)
         yield ['refute', '--workers', '1', '--proof', proof, log]
+        for words in ([], ['--plain', '--budget', '1']):
+            yield ['solve', '--workers', '1', *words, log]
     for name in CHECKED:
         for words in (['check', '--workers', '1'], ['check', '--workers', '4']) if name in names else ():
             yield [*words, os.path.join(generate.EXAMPLES, name)]
@@ -266,8 +269,8 @@ def calls(folder, names):
 
 
 def long_calls(names):
-    """Each call of `audit` and of `pieces` that writes on standard output."""
-    for command, logs in (('audit', AUDITED), ('pieces', CUT)):
+    """Each call of `audit`, of `pieces` and of `split` that writes on standard output."""
+    for command, logs in (('audit', AUDITED), ('pieces', CUT), ('split', SPLIT)):
         for name in logs:
             for words in logs[name] if name in names else ():
                 for workers in ('1', '4'):

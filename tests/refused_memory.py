@@ -7,8 +7,8 @@ each cube is refuted, a refusal to one of them must at least once leave the answ
 explanation may then be another one, that tests/explained.py finds right. Needs a C compiler, for a small library that stands before the
 allocator of the C library.
 
-Of `pieces --into` what a refused run leaves must be the first of the files that it writes with ample memory, each of them whole. The object
-of a log that is refused goes out first: it stands where memory for the line on standard error is refused.
+Of `pieces --into`, and of `audit --part` and `--order`, what a refused run leaves must be the first of the files that it writes with ample
+memory, each of them whole. The object of a log that is refused, and the report of `audit`, go out first.
 
 Once the first piece of a formula went out, a run in which every further request is refused must write the same text, and make none.
 
@@ -76,9 +76,10 @@ def is_right(words, wanted, got):
 
 
 def ends_without_memory(words, wanted, got):
-    """Whether this says that memory was refused, and nothing else but the object of a log that is refused."""
-    objects = [wanted[1]] if 'json' in words and wanted[0] == 2 else []
-    return got[::2] == NO_MEMORY[::2] and got[1] in [b'', *objects]
+    """Whether this says that memory was refused, and nothing else but the object of a log that is refused, or the report behind which a
+    file is written."""
+    first = [wanted[1]] if 'json' in words and wanted[0] == 2 or '--part' in words or '--order' in words and words[0] == 'audit' else []
+    return got[::2] == NO_MEMORY[::2] and got[1] in [b'', *first]
 
 
 def main():
@@ -115,18 +116,26 @@ def main():
                 with open(paths[form], 'wb') as out:
                     out.write(proof)
                 calls += [['refute', '--workers', count, '--proof', paths[form], log] for count in ('1', '4')]
-        # `audit` and `pieces`
+        calls += [['solve', *words, log] for words in (['--workers', '1'], ['--workers', '4']) for log in [paths['log'], *examples('crossed_readers', 'lost_update')]]
+        calls += [['solve', '--plain', '--budget', '1', log] for log in examples('crossed_readers')]
+        # `audit`, `pieces` and `split`
         into = os.path.join(folder, 'pieces')
-        calls += [[command, '--workers', '4', paths['log']] for command in ('audit', 'pieces')]
+        calls += [[command, '--workers', '4', paths['log']] for command in ('audit', 'pieces', 'split')]
         for log in examples('shop'):
             calls += [['audit', *words, log] for words in (['--workers', '1'], ['--workers', '4', '--explain'], ['--workers', '4', '--format', 'json'])]
+            calls += [['split', '--workers', count, log] for count in ('1', '4')]
             calls += [['pieces', '--size', '1', *words, log] for words in (['--workers', '1'], ['--workers', '4', '--piece', '2'], ['--workers', '4', '--into', into])]
         calls += [['audit', '--workers', '1', *words, log] for words in (['--explain'], ['--budget', '1']) for log in examples('crossed_readers')]
         calls += [['audit', '--workers', '4', '--format', 'json', log] for log in examples('ends_before_it_begins')]
+        part, order = os.path.join(into, 'part'), os.path.join(into, 'order')
+        calls += [['audit', '--workers', '1', '--part', part, '--faults', '2', log] for log in examples('shop')]
+        calls += [['audit', '--workers', '1', '--order', order, log] for log in examples('chain')]
+        calls += [['audit', '--workers', '1', '--level', 'snapshot', '--order', order, log] for log in examples('write_skew')]
         for words in calls:
             wanted, refusals, left_to_another = None, 0, 0
             for n in range(MOST):
                 shutil.rmtree(into, ignore_errors=True)
+                os.mkdir(into)
                 place = dict(os.environ, LD_PRELOAD=paths['shim.so'], REFUSED=str(n), TOLD=paths['told'])
                 ran = subprocess.run([program, *words], stdin=subprocess.DEVNULL, stdout=subprocess.PIPE, stderr=subprocess.PIPE, env=place, timeout=60)
                 got = (ran.returncode, ran.stdout, ran.stderr)

@@ -1,23 +1,28 @@
 #!/usr/bin/env python3
-"""stores.py PROGRAM: logs of real stores, by the collectors in collect/.
+"""stores.py PROGRAM [LARGE]: logs of real stores, by the collectors in collect/, against what the stores promise.
 
-PostgreSQL and Redis are started here, as a user that is not root, with all that they have in a temporary folder and on a socket in it;
-where a package of Debian's is missing it is installed, and what cannot be had is passed over, with a note. At each level where a store
-promises to be serializable each log must be found so, also where connections are cut; of each level below some log must be refused.
-Logs are judged by `audit`, and a long one of each sound level is too; each must be decided. For each level a line says how many
-transactions and seconds there were. Last line: 'stores: N passed, M failed'."""
-import contextlib, os, pwd, re, shutil, subprocess, sys, tempfile, time
+PostgreSQL, MariaDB, Redis and etcd are started here, as a user that is not root, with all that they have in a temporary folder and on
+sockets in it, etcd on ports of this machine; where a package of Debian's is missing it is installed, and what cannot be had is passed over,
+with a note. Each way of a store promises a level, or none: each of its logs must keep that level, also where connections are cut, and some
+log must break the level above it, or where nothing is promised snapshot isolation. Logs are judged by `audit --level`, and a long one of
+each sound way is too, of LARGE transactions; each must be decided. For each way a line says how many transactions and seconds there were.
+Last line: 'stores: N passed, M failed'."""
+import contextlib, functools, http.client, os, pwd, re, shutil, socket, subprocess, sys, tempfile, time
+from levels import LEVELS
 
 TOP = os.path.dirname(os.path.dirname(os.path.abspath(__file__)))
-PACKAGES = {'initdb': 'postgresql-15', 'redis-server': 'redis-server', 'psycopg2': 'python3-psycopg2'}
+PACKAGES = {'initdb': 'postgresql-15', 'psycopg2': 'python3-psycopg2', 'mariadbd': 'mariadb-server', 'pymysql': 'python3-pymysql',
+            'redis-server': 'redis-server', 'etcd': 'etcd-server'}
 # Another test installs what it needs meanwhile, and of two that read the lists of packages at once one would fail.
 ALONE = 'flock', '--no-fork', '/var/lib/apt'
 # PostgreSQL starts for no root; nobody is somebody everywhere.
 USER = 'nobody'
-SMALL, LARGE = 500, 20000
-# How many runs of one way there are, but only one when a busy machine has spent so many seconds; and how many runs a store that is not
-# serializable may take until one is refused.
-RUNS, SECONDS, TRIES = 3, 90, 10
+SMALL, LARGE = 500, 2500
+# How many small runs of one way there are, but only one when a busy machine has spent so many seconds and no LARGE was named; and how many
+# runs a way may take until one breaks a level that it does not promise.
+RUNS, SECONDS, TRIES = 2, 60, 12
+# What the members of etcd take for a dead leader, in milliseconds: a busy machine is slow to answer.
+HEARTBEAT, ELECTION = 300, 3000
 
 
 class Wanting(Exception):
@@ -33,30 +38,42 @@ def installed(find, name):
     found = find()
     if found is None and shutil.which('apt-get') and os.getuid() == 0:
         print('stores: %s is installed' % PACKAGES[name])
-        # no service is started
-        environment = dict(os.environ, DEBIAN_FRONTEND='noninteractive', RUNLEVEL='1')
-        for words in (['update'], ['install', '-y', '--no-install-recommends', PACKAGES[name]]):
-            with contextlib.suppress(subprocess.TimeoutExpired):
-                run([*ALONE, 'apt-get', '-o', 'DPkg::Lock::Timeout=300', *words], env=environment, timeout=600)
+        listed()
+        apt('install', '-y', '--no-install-recommends', PACKAGES[name])
         found = find()
     if found is None:
         raise Wanting('%s (%s) cannot be had here' % (name, PACKAGES[name]))
     return found
 
 
-def program(name):
+def apt(*words):
+    # no service is started
+    environment = dict(os.environ, DEBIAN_FRONTEND='noninteractive', RUNLEVEL='1')
+    with contextlib.suppress(subprocess.TimeoutExpired):
+        run([*ALONE, 'apt-get', '-o', 'DPkg::Lock::Timeout=300', *words], env=environment, timeout=600)
+
+
+@functools.lru_cache(None)
+def listed():
+    """Reads the lists of packages, once."""
+    apt('update')
+
+
+def server(name):
     """The path of a server's program, which Debian may keep beside PATH."""
-    folders = ['/usr/lib/postgresql/%d/bin' % version for version in range(30, 9, -1)]
-    return shutil.which(name, path=os.pathsep.join([os.environ['PATH'], *folders]))
+    folders = ['/usr/sbin', *('/usr/lib/postgresql/%d/bin' % version for version in range(30, 9, -1))]
+    return installed(lambda: shutil.which(name, path=os.pathsep.join([os.environ['PATH'], *folders])), name)
 
 
-def python_with_driver():
-    """A Python that has a driver for PostgreSQL: this one, or Debian's."""
-    for python in (sys.executable, '/usr/bin/python3'):
-        for driver in ('psycopg2', 'psycopg'):
-            if os.path.exists(python) and run([python, '-c', 'import ' + driver]).returncode == 0:
+def python_with(*drivers):
+    """A Python that has one of these drivers: this one, or Debian's."""
+    def find():
+        for python in (sys.executable, '/usr/bin/python3'):
+            if os.path.exists(python) and any(run([python, '-c', 'import ' + driver]).returncode == 0 for driver in drivers):
                 return python
-    return None
+        return None
+
+    return installed(find, drivers[0])
 
 
 def as_user():
@@ -81,35 +98,91 @@ def folder_of_user():
 @contextlib.contextmanager
 def postgresql():
     """A server, and the words that start its collector."""
-    initdb, python = installed(lambda: program('initdb'), 'initdb'), installed(python_with_driver, 'psycopg2')
+    initdb, python = server('initdb'), python_with('psycopg2', 'psycopg')
     with folder_of_user() as folder:
-        data, server = os.path.join(folder, 'data'), os.path.join(os.path.dirname(initdb), 'pg_ctl')
+        data, control = os.path.join(folder, 'data'), os.path.join(os.path.dirname(initdb), 'pg_ctl')
         how = dict(preexec_fn=as_user, cwd=folder, timeout=300)
         run([initdb, '-D', data, '-U', 'cobra', '-A', 'trust', '-E', 'UTF8', '--no-sync'], check=True, **how)
-        options = "-c listen_addresses= -c unix_socket_directories=%s -c fsync=off -c shared_buffers=32MB" % folder
+        options = "-c listen_addresses= -c unix_socket_directories=%s -c fsync=off -c shared_buffers=32MB -c deadlock_timeout=100" % folder
         # pg_ctl and its server's file of its process number; nothing else is stopped
-        run([server, '-D', data, '-w', '-t', '120', '-l', os.path.join(folder, 'server.log'), '-o', options, 'start'], check=True, **how)
+        run([control, '-D', data, '-w', '-t', '120', '-l', os.path.join(folder, 'server.log'), '-o', options, 'start'], check=True, **how)
         try:
             yield [python, 'postgresql.py', 'host=%s user=cobra dbname=postgres' % folder]
         finally:
-            run([server, '-D', data, '-w', '-m', 'immediate', 'stop'], **how)
+            run([control, '-D', data, '-w', '-m', 'immediate', 'stop'], **how)
+
+
+@contextlib.contextmanager
+def running(programs, is_ready):
+    """Servers of these words, until all of them are ready, and then until they are no longer needed."""
+    how = dict(stdin=subprocess.DEVNULL, stdout=subprocess.DEVNULL, stderr=subprocess.DEVNULL)
+    processes = [subprocess.Popen(words, preexec_fn=as_user, **how) for words in programs]
+    try:
+        late = time.monotonic() + 60
+        while not is_ready() and time.monotonic() < late:
+            time.sleep(0.05)
+        yield
+    finally:
+        for process in processes:
+            process.kill()
+            process.wait()
+
+
+@contextlib.contextmanager
+def mariadb():
+    path, python = server('mariadbd'), python_with('pymysql')
+    with folder_of_user() as folder:
+        data, wire = os.path.join(folder, 'data'), os.path.join(folder, 'socket')
+        words = ['mariadb-install-db', '--no-defaults', '--datadir=' + data, '--auth-root-authentication-method=normal', '--skip-name-resolve']
+        run(words, check=True, preexec_fn=as_user, cwd=folder, timeout=300)
+        words = [path, '--no-defaults', '--datadir=' + data, '--socket=' + wire, '--skip-networking', '--pid-file=' + os.path.join(folder, 'pid'),
+                 '--innodb-buffer-pool-size=32M', '--innodb-flush-log-at-trx-commit=0', '--innodb-use-native-aio=0']
+        with running([words], lambda: os.path.exists(wire)):
+            yield [python, 'mariadb.py', 'unix_socket=%s user=root database=test' % wire]
 
 
 @contextlib.contextmanager
 def redis():
-    server = installed(lambda: program('redis-server'), 'redis-server')
+    path = server('redis-server')
     with folder_of_user() as folder:
-        socket = os.path.join(folder, 'redis')
-        words = [server, '--port', '0', '--unixsocket', socket, '--unixsocketperm', '777', '--dir', folder, '--save', '']
-        process = subprocess.Popen(words, preexec_fn=as_user, stdin=subprocess.DEVNULL, stdout=subprocess.DEVNULL)
+        wire = os.path.join(folder, 'redis')
+        words = [path, '--port', '0', '--unixsocket', wire, '--unixsocketperm', '777', '--dir', folder, '--save', '']
+        with running([words], lambda: os.path.exists(wire)):
+            yield [sys.executable, 'redis.py', wire]
+
+
+@contextlib.contextmanager
+def etcd():
+    """Three members, of which each client is connected to one."""
+    path = server('etcd')
+    with folder_of_user() as folder, contextlib.ExitStack() as taken:
+        wires = [taken.enter_context(socket.socket()) for _ in range(6)]
+        for wire in wires:
+            wire.bind(('127.0.0.1', 0))
+        places = ['127.0.0.1:%d' % wire.getsockname()[1] for wire in wires]
+        taken.close()
+        clients, peers = places[:3], places[3:]
+        cluster = ','.join('m%d=http://%s' % (number, peer) for number, peer in enumerate(peers))
+        programs = []
+        for number, (client, peer) in enumerate(zip(clients, peers)):
+            words = [path, '--name', 'm%d' % number, '--data-dir', os.path.join(folder, 'm%d' % number), '--initial-cluster', cluster,
+                     '--heartbeat-interval', str(HEARTBEAT), '--election-timeout', str(ELECTION)]
+            for kind in ('listen-client', 'advertise-client'):
+                words += ['--%s-urls' % kind, 'http://' + client]
+            for kind in ('listen-peer', 'initial-advertise-peer'):
+                words += ['--%s-urls' % kind, 'http://' + peer]
+            programs.append(words)
+        with running(programs, lambda: all(is_healthy(client) for client in clients)):
+            yield [sys.executable, 'etcd.py', ','.join(clients)]
+
+
+def is_healthy(member):
+    with contextlib.closing(http.client.HTTPConnection(member, timeout=5)) as wire:
         try:
-            late = time.monotonic() + 60
-            while not os.path.exists(socket) and time.monotonic() < late:
-                time.sleep(0.05)
-            yield [sys.executable, 'redis.py', socket]
-        finally:
-            process.terminate()
-            process.wait()
+            wire.request('GET', '/health')
+            return b'true' in wire.getresponse().read()
+        except (OSError, http.client.HTTPException):
+            return False
 
 
 @contextlib.contextmanager
@@ -117,20 +190,44 @@ def sqlite():
     yield [sys.executable, 'sqlite.py']
 
 
-# For each store its ways: words for the collector, and whether each log must be serializable; if not, some log must be refused.
+class Way:
+    """Words for a collector; the level that each log must keep, or None; and the level that some log must break, or None."""
+
+    def __init__(self, words, kept, broken=None, part=1):
+        # a large run of it has LARGE transactions divided by this
+        self.words, self.kept, self.broken, self.part = words.split(), kept, broken, part
+
+
+# What each way of a store promises.
 STORES = {
-    'SQLite': (sqlite, [([], True), (['--level', 'weak'], False)]),
+    'SQLite': (sqlite, [
+        Way('', 'serializable'), Way('--level weak', None, 'snapshot')]),
     'PostgreSQL': (postgresql, [
-        ([], True), (['--kill', '20'], True), (['--moments', 'all'], True), (['--level', 'repeatable-read'], False),
-        (['--level', 'read-committed'], False)]),
-    'Redis': (redis, [([], True), (['--kill', '20'], True), (['--moments', 'all'], True), (['--level', 'multi'], False)]),
+        Way('', 'serializable'), Way('--kill 20', 'serializable'), Way('--moments all', 'strict-serializable'),
+        Way('--level repeatable-read', 'snapshot', 'serializable'), Way('--level repeatable-read --moments all', 'strict-snapshot'),
+        Way('--level read-committed', None, 'snapshot')]),
+    'MariaDB': (mariadb, [
+        Way('', 'serializable'), Way('--kill 20', 'serializable'), Way('--moments all', 'strict-serializable'),
+        Way('--level repeatable-read --snapshot-isolation on', 'snapshot', 'serializable'),
+        Way('--level repeatable-read --snapshot-isolation on --kill 20', 'snapshot'),
+        Way('--level repeatable-read --snapshot-isolation on --moments all', 'strict-snapshot'),
+        Way('--level repeatable-read --snapshot-isolation off', None, 'snapshot'),
+        Way('--level read-committed', None, 'snapshot'), Way('--level read-uncommitted', None, 'snapshot')]),
+    'Redis': (redis, [
+        Way('', 'serializable'), Way('--kill 20', 'serializable'), Way('--moments all', 'strict-serializable'),
+        Way('--level multi', None, 'snapshot')]),
+    'etcd': (etcd, [
+        Way('', 'serializable', part=2), Way('--kill 20', 'serializable', part=2), Way('--moments all', 'strict-serializable'),
+        Way('--level snapshot', 'snapshot', 'serializable', part=2), Way('--level snapshot --moments all', 'strict-snapshot'),
+        # few keys that are read often, so that a member that is behind is seen
+        Way('--level local-reads --moments all --keys 5 --mix 8,1,1', 'serializable', 'strict-serializable')]),
 }
 
 
 class Checks:
-    def __init__(self, program, folder):
-        self.program, self.log = program, os.path.join(folder, 'log')
-        self.late, self.passed, self.failed = time.monotonic() + SECONDS, 0, 0
+    def __init__(self, program, folder, large):
+        self.program, self.log, self.large = program, os.path.join(folder, 'log'), large or LARGE
+        self.late, self.passed, self.failed = None if large else time.monotonic() + SECONDS, 0, 0
 
     def expect(self, holds, name):
         self.passed, self.failed = self.passed + bool(holds), self.failed + (not holds)
@@ -142,61 +239,62 @@ class Checks:
         keys = 40 if transactions < 1000 else 300
         pause = '0.3' if transactions < 1000 else '0'
         size = ['--transactions', str(transactions), '--keys', str(keys), '--pause', pause, '--seed', str(seed), '--overwrite']
-        return run([python, os.path.join(TOP, 'collect', name), *address, *words, *size, self.log], timeout=600)
+        return run([python, os.path.join(TOP, 'collect', name), *address, *size, *words, self.log], timeout=600)
 
-    def judged(self):
-        """The status and the first line of what the program says of the log; whether they belong together; and its figures."""
+    def judged(self, level):
+        """The status and the first line of what the program says of the log at a level; whether they belong together; and its figures."""
         began = time.monotonic()
-        ran = run([self.program, 'audit', self.log], timeout=600)
-        figures = ', judged in %.1f s' % (time.monotonic() - began)
+        ran = run([self.program, 'audit', '--level', level, self.log], timeout=600)
+        figures = 'judged in %.1f s' % (time.monotonic() - began)
         said, _, rest = ran.stdout.partition('\n')
-        right = {0: said == 'serializable', 1: said == 'not serializable', 3: said.startswith('unknown: ')}.get(ran.returncode, False)
+        right = {0: said == LEVELS[level] + ': kept', 1: said == LEVELS[level] + ': not kept', 3: said.startswith(LEVELS[level] + ': unknown')}
         counts = dict(re.findall(r'^(\w+) (\d+)$', rest, re.M))
         told = [counts.get(name, '?') for name in ('committed', 'taken', 'part')]
-        figures = ', %s committed, %s taken, a part of %s' % tuple(told) + figures
-        return ran.returncode, said, right and '?' not in told, figures
+        figures = '%s, %s committed, %s taken, a part of %s, %s' % (said[:60], *told, figures)
+        return ran.returncode, right.get(ran.returncode, False) and '?' not in told, figures
 
-    def way(self, store, collector, words, is_serializable):
-        """Runs of one way, small ones, and where it must be serializable a large one."""
-        name, decided, refused, answers = ' '.join([store, *words]), False, False, []
-        runs = [(seed, SMALL) for seed in range(RUNS if is_serializable else TRIES)]
-        if is_serializable and '--moments' not in words:
-            runs.insert(1, (RUNS, LARGE))
-        for seed, count in runs:
-            began = time.monotonic()
-            if is_serializable and answers and began > self.late:
-                answers.append('and no time is left for more')
+    def way(self, store, collector, way):
+        """Runs of one way: where it promises a level small ones and a large one; then, until one breaks the level that some must break."""
+        name, answers, is_broken = ' '.join([store, *way.words]), [], False
+        sizes = [SMALL] * RUNS if way.kept else []
+        if way.kept and '--moments' not in way.words:
+            sizes.insert(1, max(SMALL, self.large // way.part))
+        for seed in range(TRIES):
+            is_late = answers and self.late and time.monotonic() > self.late
+            if (seed >= len(sizes) or is_late) and (is_broken or way.broken is None):
                 break
-            collected = self.collect(collector, words, seed, count)
+            count = sizes[seed] if seed < len(sizes) and not is_late else SMALL
+            began = time.monotonic()
+            collected = self.collect(collector, way.words, seed, count)
             if collected.returncode:
                 self.expect(False, '%s: %s' % (name, collected.stdout))
                 continue
             took = time.monotonic() - began
-            status, said, right, figures = self.judged()
             with open(self.log) as log:
                 unknown = sum(line == 'unknown\n' for line in log)
-            answers.append('%d in %.1f s, %d unknown, %s%s' % (count, took, unknown, said[:40], figures))
-            self.expect(right, '%s: status %d, %s' % (name, status, answers[-1]))
-            self.expect(unknown == 0 or '--kill' in words, '%s: %d unknown' % (name, unknown))
-            refused = refused or status == 1
-            decided = decided or status == 0
-            self.expect(status != 3, '%s: %s' % (name, said))
-            if is_serializable:
-                self.expect(status == 0, '%s: status %d, %s' % (name, status, said))
-            elif refused:
-                break
-        self.expect(decided if is_serializable else refused, '%s: %s' % (name, answers))
+            self.expect(unknown == 0 or '--kill' in way.words, '%s: %d unknown' % (name, unknown))
+            answers.append('%d in %.1f s, %d unknown' % (count, took, unknown))
+            for level in filter(None, [way.kept, None if is_broken else way.broken]):
+                status, right, figures = self.judged(level)
+                answers[-1] += ', ' + figures
+                self.expect(right and status in (0, 1), '%s: status %d, %s' % (name, status, answers[-1]))
+                if level == way.kept:
+                    self.expect(status == 0, '%s: status %d, %s' % (name, status, answers[-1]))
+                else:
+                    is_broken = status == 1
+        self.expect(answers and (is_broken or way.broken is None), '%s: %s' % (name, answers))
         print('stores: %s: %s' % (name, '; '.join(answers)))
 
 
 def main():
+    large = int(sys.argv[2]) if len(sys.argv) > 2 else None
     with tempfile.TemporaryDirectory() as folder:
-        checks = Checks(os.path.abspath(sys.argv[1]), folder)
+        checks = Checks(os.path.abspath(sys.argv[1]), folder, large)
         for store, (start, ways) in STORES.items():
             try:
                 with start() as collector:
-                    for words, is_serializable in ways:
-                        checks.way(store, collector, words, is_serializable)
+                    for way in ways:
+                        checks.way(store, collector, way)
             except Wanting as fault:
                 print('stores: note: %s is passed over: %s' % (store, fault))
     print('stores: %d passed, %d failed' % (checks.passed, checks.failed))

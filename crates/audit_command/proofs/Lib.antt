@@ -3,3 +3,4 @@ mod Appended
 mod Names
 mod Parts
 mod Resolved
+mod Weaker

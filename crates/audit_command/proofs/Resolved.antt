@@ -1,40 +1,61 @@
 -- What telling a part needs of it, from what is known of it.
-use Rattle.std.proofs.Common.{◌≡◌, Bool, true, false, List, [], ◌∷◌, map, sym, subst}
+use Rattle.std.proofs.Common.{◌≡◌, Bool, true, false, List, [], ◌∷◌, map, None, Some, sym, ap, ◌∙◌, subst}
 use Rattle.std.specs.List.{AllByRecursion}
 use Rattle.session_log.specs.Text.{ClientSession, IsLegal, view}
 use Rattle.log_definitions.specs.Unknown.{resolved}
 use Rattle.piece_laws.specs.Logs.{IsSoundLog, IsLog}
 use Rattle.part_laws.proofs.Logs.{part_is_log}
+use Rattle.splitting.specs.declared.room.NoRoom.{NoRoom}
+use Rattle.splitting.specs.Locks.{no_room}
+use Rattle.judging.specs.declared.level.Level.{Level}
+use Rattle.judging.specs.declared.level.Level.TheVariants as level
+use Rattle.judging.specs.Levels.{judged_at, HasRoomAt, IsJudgedAt}
 use Rattle.judging.specs.Judges.{IsVerdict}
 use Rattle.judging.specs.Made.{IsToldPart, IsMadeOf, IsMade}
 use Rattle.judging.specs.declared.means.JudgeMeans.{JudgeMeans}
 use Rattle.judging.specs.declared.judged.RefutedPart.{RefutedPart}
 use Rattle.judging.specs.declared.judged.Verdict.{Verdict}
 use Rattle.judging.specs.declared.judged.Verdict.TheVariants.{Serializable, NotSerializable, Undecided}
-use Rattle.judging.proofs.Resolved.{resolved_is_log}
-use Rattle.judging.proofs.Without.{legal_without, sound_without}
+use Rattle.judging.proofs.Resolved.{known as known_stays, resolved_is_log}
+use Rattle.judging.proofs.Levels.{judged_is, judged_is_log, judged_resolved, room_resolved}
+use Rattle.level_laws.proofs.Without.{legal_without, sound_without}
 use Rattle.audit_command.specs.Audited.{seen}
 use Rattle.audit_command.specs.Resolved.{IsResolved, IsPartOf, IsPartOfVerdict}
 
 pub log_of_known : (known : List ClientSession) → IsResolved known → IsLog known
 log_of_known known k = subst IsLog (sym k.is) (resolved_is_log k.ss k.legal k.sound)
 
-pub told_of : (known : List ClientSession) (k : IsResolved known) (told : RefutedPart) → IsToldPart k.ss told → IsPartOf known told
-told_of known k told h =
+pub told_of : (level : Level) (known : List ClientSession) (k : IsResolved known) (told : RefutedPart) → IsToldPart level k.ss told → IsPartOf known told
+told_of level known k told h =
     let log = resolved_is_log k.ss k.legal k.sound in
     record {
       legal = (part_is_log (resolved k.ss) (map view told.part.items) log.legal log.sound h.part.is_part).0;
       made = subst (λ l. IsMadeOf l told) (sym k.is) h.made;
     }
 
-pub all_told_of : (known : List ClientSession) (k : IsResolved known) (parts : List RefutedPart) → AllByRecursion (IsToldPart k.ss) parts → AllByRecursion (IsPartOf known) parts
-all_told_of known k [] h = tt
-all_told_of known k (p ∷ ps) h = (told_of known k p h.0, all_told_of known k ps h.1)
+pub all_told_of : (level : Level) (known : List ClientSession) (k : IsResolved known) (parts : List RefutedPart) → AllByRecursion (IsToldPart level k.ss) parts → AllByRecursion (IsPartOf known) parts
+all_told_of level known k [] h = tt
+all_told_of level known k (p ∷ ps) h = (told_of level known k p h.0, all_told_of level known k ps h.1)
 
 pub verdict_part : (m : JudgeMeans) (known : List ClientSession) (k : IsResolved known) (v : Verdict) → IsVerdict m k.ss v → IsMade (resolved k.ss) v → IsPartOfVerdict known v
-verdict_part m known k (NotSerializable told) h made = told_of known k told (record { none = h.0; part = h.1; made = made })
+verdict_part m known k (NotSerializable told) h made = told_of m.level known k told (record { none = h.0; part = h.1; made = made })
 verdict_part m known k (Serializable order) h made = tt
 verdict_part m known k (Undecided why tried) h made = tt
+
+-- ---- what is judged for them
+pub judged_names : (l : Level) (ss known judged : List ClientSession) → IsLog known → known ≡ resolved ss → IsJudgedAt l known judged → judged ≡ resolved (judged_at l ss)
+judged_names level.Serializable ss known judged log same h = h ∙ same
+judged_names level.Snapshot ss known judged log same h =
+    let is = judged_is level.Snapshot known judged log h ∙ ap (judged_at level.Snapshot) same ∙ judged_resolved ss in
+    sym (known_stays judged (judged_is_log level.Snapshot known judged log h)) ∙ ap resolved is
+
+none_or_some : (why : NoRoom) → None ≡ Some why → ⊥
+none_or_some why e = cc
+
+pub never_without_room : (l : Level) (ss known : List ClientSession) (why : NoRoom) → known ≡ resolved ss → l ≡ level.Snapshot → no_room known ≡ Some why → HasRoomAt l ss → ⊥
+never_without_room l ss known why same at none room =
+    let own : no_room ss ≡ None = subst (λ v. HasRoomAt v ss) at room in
+    none_or_some why (sym own ∙ sym (room_resolved ss) ∙ ap no_room (sym same) ∙ none)
 
 -- ---- sessions that are judged without their moments
 pub seen_legal : (b : Bool) (ss : List ClientSession) → AllByRecursion IsLegal ss → AllByRecursion IsLegal (seen b ss)

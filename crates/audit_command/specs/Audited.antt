@@ -1,5 +1,5 @@
 -- What `audit` makes of a log of any length.
-use Rattle.std.specs.Prelude.{◌≡◌, ℕ, ◌-◌, ◌<◌, ◌≤◌, ◌||◌, Bool, true, false, not, IsTrue, if◌then◌else◌}
+use Rattle.std.specs.Prelude.{◌≡◌, ◌⊎◌, ℕ, ◌-◌, ◌<◌, ◌≤◌, ◌||◌, ◌&&◌, Bool, true, false, not, if◌then◌else◌}
 use Rattle.std.specs.Prelude.{List, [], ◌∷◌, length, map, count_by, Option, Some, None, is_some, Vec}
 use Rattle.std.specs.List.{list_any, AllByRecursion}
 use Rattle.std.specs.declared.alloc.Global.{Global}
@@ -7,21 +7,22 @@ use Rattle.session_log.specs.Text.{ClientSession, Transaction, view, least_versi
 use Rattle.session_log.specs.Version.{first_line, version_of}
 use Rattle.session_log.specs.declared.fault.LogFault.{LogFault}
 use Rattle.log_definitions.specs.Unknown.{txns_in, is_committed, resolved}
-use Rattle.log_definitions.specs.Serial.{IsSerialOrder}
 use Rattle.long_log_definitions.specs.LongLog.{IsLongLog, IsLongLogFault}
-use Rattle.piece_laws.specs.Logs.{HasOrder}
 use Rattle.order_text.specs.Text.{order_text}
-use Rattle.deciding.specs.Decides.{HasNoOrder}
 use Rattle.call_options.specs.declared.report_form.ReportForm.{ReportForm}
 use Rattle.call_options.specs.declared.report_form.ReportForm.TheVariants.{Text, Json}
+use Rattle.judging.specs.Levels.{HasOrderAt, HasNoOrderAt, IsOrderAt, judged_at}
 use Rattle.judging.specs.Judges.{IsVerdict}
 use Rattle.judging.specs.Made.{IsToldPart}
-use Rattle.judging.specs.Without.{without_moments}
+use Rattle.level_laws.specs.Without.{without_moments}
+use Rattle.judging.specs.declared.level.Level.{Level}
+use Rattle.judging.specs.declared.level.Level.TheVariants as level
 use Rattle.judging.specs.declared.judged.Why.{Why}
 use Rattle.judging.specs.declared.judged.Tried.{Tried}
 use Rattle.judging.specs.declared.judged.Verdict.TheVariants as verdict
 use Rattle.judging.specs.declared.means.JudgeMeans.{JudgeMeans}
 use Rattle.audit_command.specs.Counts.{AreCounts}
+use Rattle.audit_command.specs.Levels.{asks_moments}
 use Rattle.audit_command.specs.Words.{status_of}
 use Rattle.audit_command.specs.Places.{told_by}
 use Rattle.audit_command.specs.Report.{report_text}
@@ -34,6 +35,7 @@ use Rattle.audit_command.specs.declared.told.Answer.{Answer}
 use Rattle.audit_command.specs.declared.told.Answer.TheVariants as answer
 use Rattle.audit_command.specs.declared.told.Totals.{Totals}
 use Rattle.audit_command.specs.declared.told.Told.{Told}
+use Rattle.audit_command.specs.declared.without.Weaker.{Weaker}
 use Rattle.audit_command.specs.declared.telling.Answered.{Answered}
 use Rattle.audit_command.specs.declared.files.PartFile.{PartFile}
 use Rattle.audit_command.specs.declared.known.Known.{Known}
@@ -58,29 +60,17 @@ pub record AreTotals (ss : List ClientSession) (t : Totals) : Type 0 where
 
 -- it is told of a part of the log that it has no order, and so the log has none; its transactions
 -- are told by their names and lines in the log, whose first session begins at line n
-pub record IsPartTold (n : ℕ) (ss : List ClientSession) (p : ToldPart) : Type 0 where
-  pub part : IsToldPart ss p.refuted
+pub record IsPartTold (level : Level) (n : ℕ) (ss : List ClientSession) (p : ToldPart)
+    : Type 0 where
+  pub part : IsToldPart level ss p.refuted
   pub txns : p.txns.items ≡ told_by p.refuted.flags n (resolved ss)
 
-abbrev pub AreToldParts : ℕ → List ClientSession → List ToldPart → Type 0
-AreToldParts n ss parts = AllByRecursion (IsPartTold n ss) parts
+abbrev pub AreToldParts : Level → ℕ → List ClientSession → List ToldPart → Type 0
+AreToldParts level n ss parts = AllByRecursion (IsPartTold level n ss) parts
 
 -- it is not decided, and why
 abbrev pub IsOpen : JudgeMeans → List ClientSession → Type 0
 IsOpen m ss = (why : Why) × (tried : Tried) × IsVerdict m ss (verdict.Undecided why tried)
-
--- That the sessions have a serial order, and at least so many are committed; that they have none,
--- since each of these parts, of which there is one at least, has none; that fewer are committed, and
--- how many; or that they are not decided.
-abbrev pub IsAnswer : JudgeMeans → ℕ → ℕ → List ClientSession → Answer → Type 0
-IsAnswer m least n ss answer.Serializable = HasOrder ss × (least ≤ nodes_in ss)
-IsAnswer m least n ss (answer.NotSerializable parts) = (0 < length parts.items)
-    × AreToldParts n ss parts.items
-IsAnswer m least n ss (answer.TooFew committed asked) = (committed ≡ nodes_in ss)
-    × (asked ≡ least) × (committed < least)
-IsAnswer m least n ss (answer.Undecided reason advice) = IsOpen m ss × (least ≤ nodes_in ss)
-
--- ---- the same without moments
 
 -- whether a transaction states a moment
 abbrev pub states_moment : Transaction → Bool
@@ -92,20 +82,68 @@ some_state ts = list_any states_moment ts
 abbrev pub states_moments : List ClientSession → Bool
 states_moments ss = list_any (λ s. some_state s.txns) ss
 
--- whether it is another question what holds without them
-abbrev pub asks_without : List ClientSession → Answer → Bool
-asks_without ss (answer.NotSerializable parts) = states_moments ss
-asks_without ss _ = false
+-- That the sessions have an order of the level, at least so many are committed, and moments are
+-- stated where the level is one of these; that they have one, and state no moments; that they have
+-- none, since each of these parts, of which there is one at least, has none; that they have one or
+-- are not decided, and fewer are committed, and how many; or that they are not decided.
+abbrev pub IsAnswer : AuditOptions → ℕ → List ClientSession → Answer → Type 0
+IsAnswer o n ss answer.Serializable = HasOrderAt o.means.level ss × (o.at_least ≤ nodes_in ss)
+    × (asks_moments o.level ≡ true → states_moments ss ≡ true)
+IsAnswer o n ss answer.NoMoments = HasOrderAt o.means.level ss × (o.at_least ≤ nodes_in ss)
+    × (asks_moments o.level ≡ true) × (states_moments ss ≡ false)
+IsAnswer o n ss (answer.NotSerializable parts) = (0 < length parts.items)
+    × AreToldParts o.means.level n ss parts.items
+IsAnswer o n ss (answer.TooFew committed asked) = (committed ≡ nodes_in ss)
+    × (asked ≡ o.at_least) × (committed < o.at_least)
+    × (HasOrderAt o.means.level ss ⊎ IsOpen o.means ss)
+IsAnswer o n ss (answer.Undecided reason advice) = IsOpen o.means ss × (o.at_least ≤ nodes_in ss)
+
+-- ---- without moments and at weaker levels
 
 -- the word is the verdict on these sessions
 abbrev pub IsWord : JudgeMeans → List ClientSession → Word → Type 0
-IsWord m ss word.Serializable = HasOrder ss
-IsWord m ss word.NotSerializable = HasNoOrder ss
+IsWord m ss word.Serializable = HasOrderAt m.level ss
+IsWord m ss word.NotSerializable = HasNoOrderAt m.level ss
 IsWord m ss word.Unknown = IsOpen m ss
 
-abbrev pub IsWithout : JudgeMeans → List ClientSession → Answer → Option Word → Type 0
-IsWithout m ss a None = asks_without ss a ≡ false
-IsWithout m ss a (Some w) = (asks_without ss a ≡ true) × IsWord m (without_moments ss) w
+-- it is, where it is asked for
+abbrev pub IsWordWhere : JudgeMeans → List ClientSession → Bool → Option Word → Type 0
+IsWordWhere m ss asked None = asked ≡ false
+IsWordWhere m ss asked (Some w) = (asked ≡ true) × IsWord m ss w
+
+-- they are asked for: a level was not kept, and more than the first line is told
+abbrev pub asks_levels : AuditOptions → Answer → Bool
+asks_levels o (answer.NotSerializable parts) = not o.quiet && not o.only
+asks_levels o _ = false
+
+abbrev pub is_serial : Level → Bool
+is_serial level.Serializable = true
+is_serial level.Snapshot = false
+
+-- serial orders are asked for without moments, and snapshot isolation in the order of the stated ones;
+-- and it is asked for without moments
+abbrev pub asks_strict : AuditOptions → List ClientSession → Answer → Bool
+asks_strict o ss a = asks_levels o a && is_serial o.means.level && states_moments ss
+
+abbrev pub asks_plain : AuditOptions → List ClientSession → Answer → Bool
+asks_plain o ss a = asks_levels o a && (is_serial o.means.level || states_moments ss)
+
+abbrev pub is_kept : Option Word → Bool
+is_kept (Some word.Serializable) = true
+is_kept _ = false
+
+abbrev pub at_snapshot : JudgeMeans → JudgeMeans
+at_snapshot m = record m { level = level.Snapshot }
+
+-- What holds: of serial orders without moments, of snapshot isolation in the order of the stated
+-- moments, and of it without them, which is kept where one of the others is.
+pub record IsWeaker (o : AuditOptions) (ss : List ClientSession) (a : Answer) (w : Weaker)
+    : Type 0 where
+  pub without : IsWordWhere o.means (without_moments ss) (asks_strict o ss a) w.without_moments
+  pub strict : IsWordWhere (at_snapshot o.means) ss (asks_strict o ss a) w.strict_snapshot
+  pub plain : IsWordWhere (at_snapshot o.means) (without_moments ss) (asks_plain o ss a) w.snapshot
+  pub below : (is_kept w.without_moments || is_kept w.strict_snapshot) ≡ true
+      → w.snapshot ≡ Some word.Serializable
 
 -- ---- files
 
@@ -128,18 +166,18 @@ abbrev pub order_asked : Answer → Bool → Bool
 order_asked answer.Serializable asked = asked
 order_asked _ asked = false
 
--- the text of a serial order, where it is asked for
-abbrev pub IsOrderFile : List ClientSession → Bool → Option (Vec ℕ Global) → Type 0
-IsOrderFile ss false None = Unit {0}
-IsOrderFile ss true (Some text) = (order : List ℕ) × IsSerialOrder ss order
-    × (text.items ≡ order_text ss order)
-IsOrderFile ss _ _ = ⊥
+-- the text of an order of the log that is judged, where it is asked for
+abbrev pub IsOrderFile : Level → List ClientSession → Bool → Option (Vec ℕ Global) → Type 0
+IsOrderFile level ss false None = Unit {0}
+IsOrderFile level ss true (Some text) = (order : List ℕ) × IsOrderAt level ss order
+    × (text.items ≡ order_text (judged_at level ss) order)
+IsOrderFile level ss _ _ = ⊥
 
 -- the answer is so, and so is the order beside it
 pub record IsAnswered (o : AuditOptions) (n : ℕ) (ss : List ClientSession) (a : Answered)
     : Type 0 where
-  pub answer : IsAnswer o.means o.at_least n ss a.answer
-  pub order : IsOrderFile ss (order_asked a.answer o.order) a.order
+  pub answer : IsAnswer o n ss a.answer
+  pub order : IsOrderFile o.means.level ss (order_asked a.answer o.order) a.order
 
 -- what is known of a judged log: its sessions with their outcomes known, the answer, the counts, and
 -- the part as a log
@@ -151,6 +189,13 @@ pub record IsKnown (o : AuditOptions) (n : ℕ) (ss : List ClientSession) (k : K
 
 -- ---- the whole
 
+abbrev pub weaker_of : Told → Weaker
+weaker_of t = record {
+  without_moments = t.without_moments;
+  strict_snapshot = t.strict_snapshot;
+  snapshot = t.snapshot;
+}
+
 -- the text in the form that is asked for
 abbrev pub text_in : ReportForm → AuditOptions → Told → List ℕ
 text_in Text o told = report_text o.faults o.quiet told
@@ -161,14 +206,15 @@ pub record IsAudited (o : AuditOptions) (log : List ℕ) (a : Audited) : Type 0 
   pub sessions : List ClientSession
   pub long : IsLongLog log sessions
   pub told : Told
-  pub answer : IsAnswer o.means o.at_least (first_line (version_of log)) (seen o.no_moments sessions)
-      told.answer
-  pub without : IsWithout o.means (seen o.no_moments sessions) told.answer told.without_moments
+  pub level : told.level ≡ o.level
+  pub answer : IsAnswer o (first_line (version_of log)) (seen o.no_moments sessions) told.answer
+  pub weaker : IsWeaker o (seen o.no_moments sessions) told.answer (weaker_of told)
   pub totals : AreTotals (seen o.no_moments sessions) told.totals
   pub ends : a.reply.status ≡ status_of told.answer
   pub text : a.reply.text.items ≡ text_in o.form o told
   pub part : IsPartFile (part_asked told.answer o.part) a.part
-  pub order : IsOrderFile (seen o.no_moments sessions) (order_asked told.answer o.order) a.order
+  pub order : IsOrderFile o.means.level (seen o.no_moments sessions)
+      (order_asked told.answer o.order) a.order
 
 -- what is said of a refused log: nothing, or an object, in which the words are free
 abbrev pub IsRefusal : ReportForm → AuditOptions → LogFault → List ℕ → Type 0

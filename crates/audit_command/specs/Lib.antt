@@ -1,4 +1,5 @@
 pub mod Audited
+pub mod Levels
 pub mod Counts
 pub mod Objects
 pub mod Places

@@ -1,13 +1,15 @@
 -- The report as one object of JSON.
-use Rattle.std.specs.Prelude.{ℕ, ◌==◌, ◌/◌, ◌%◌, ◌+◌, nat_lt, Bool, true, false, if◌then◌else◌, List, []}
-use Rattle.std.specs.Prelude.{◌∷◌, ◌++◌, codes, decimal, Option, Some, None}
+use Rattle.std.specs.Prelude.{ℕ, ◌==◌, ◌/◌, ◌%◌, ◌+◌, nat_lt, Bool, if◌then◌else◌, List, []}
+use Rattle.std.specs.Prelude.{◌∷◌, ◌++◌, codes, Option, Some, None}
 use Rattle.std.specs.List.{flat_map}
 use Rattle.std.specs.String.{string_bytes}
 use Rattle.std.specs.Prelude.{String}
 use Rattle.std.specs.declared.alloc.Global.{Global}
 use Rattle.session_log.specs.declared.fault.LogFault.{LogFault}
 use Rattle.fault_words.specs.Codes.{code_of, line_of}
-use Rattle.audit_command.specs.Words.{code_number, word_text, word_of}
+use Rattle.isolation.specs.Levels.{level_title}
+use Rattle.audit_command.specs.Words.{code_number, word_text, word_of, verdict_text, kept_text}
+use Rattle.isolation.specs.declared.level.Isolation.{Isolation}
 use Rattle.audit_command.specs.Report.{field, too_few}
 use Rattle.audit_command.specs.declared.told.ToldTxn.{ToldTxn}
 use Rattle.audit_command.specs.declared.told.ToldPart.{ToldPart}
@@ -97,6 +99,7 @@ parts_of (answer.NotSerializable parts) = parts.items
 parts_of _ = []
 
 abbrev pub reason_value : Answer → List ℕ
+reason_value answer.NoMoments = codes "\"the log states no moments\""
 reason_value (answer.TooFew committed asked) = 34 ∷ too_few committed asked ++ 34 ∷ []
 reason_value (answer.Undecided reason advice) = quoted (string_bytes reason)
 reason_value _ = codes "null"
@@ -114,11 +117,27 @@ count_values t =
 unfoldable pub version_value : List ℕ → List ℕ
 version_value version = codes ",\"version\":" ++ quoted version ++ codes "}\n"
 
-unfoldable pub verdict_value : Word → List ℕ
-verdict_value word = codes "{\"verdict\":\"" ++ word_text word ++ codes "\""
+unfoldable pub verdict_value : Option Isolation → Word → List ℕ
+verdict_value level word = codes "{\"verdict\":\"" ++ verdict_text level word ++ codes "\""
+
+-- the level, where it is asked for by name
+unfoldable pub level_value : Option Isolation → List ℕ
+level_value None = []
+level_value (Some level) = codes ",\"level\":\"" ++ level_title level ++ codes "\""
 
 unfoldable pub without_value : Option Word → List ℕ
 without_value word = codes ",\"without_moments\":" ++ word_or_null word
+
+abbrev pub kept_or_null : Option Word → List ℕ
+kept_or_null None = codes "null"
+kept_or_null (Some word) = 34 ∷ kept_text word ++ 34 ∷ []
+
+-- whether weaker levels were kept
+unfoldable pub strict_value : Option Word → List ℕ
+strict_value word = codes ",\"strict_snapshot\":" ++ kept_or_null word
+
+unfoldable pub snapshot_value : Option Word → List ℕ
+snapshot_value word = codes ",\"snapshot\":" ++ kept_or_null word
 
 unfoldable pub faults_value : Bool → List ToldPart → List ℕ
 faults_value explain parts = codes ",\"faults\":" ++ list_value (part_object explain) parts
@@ -126,10 +145,19 @@ faults_value explain parts = codes ",\"faults\":" ++ list_value (part_object exp
 unfoldable pub why_unknown : Answer → List ℕ
 why_unknown a = codes ",\"reason\":" ++ reason_value a
 
+-- the level, where it is named, and the first part
+unfoldable pub head_values : Bool → Told → List ℕ
+head_values explain told = level_value told.level ++ 44 ∷ first_values explain (parts_of told.answer)
+
+-- what holds without moments and at weaker levels
+unfoldable pub weaker_values : Told → List ℕ
+weaker_values told = without_value told.without_moments ++ strict_value told.strict_snapshot
+    ++ snapshot_value told.snapshot
+
 -- what stands behind the verdict
 abbrev pub rest_of_object : Bool → List ℕ → Told → List ℕ
-rest_of_object explain version told = 44 ∷ first_values explain (parts_of told.answer)
-    ++ without_value told.without_moments ++ faults_value explain (parts_of told.answer)
+rest_of_object explain version told = head_values explain told ++ weaker_values told
+    ++ faults_value explain (parts_of told.answer)
     ++ why_unknown told.answer ++ count_values told.totals ++ version_value version
 
 abbrev pub behind_verdict : Bool → Bool → List ℕ → Told → List ℕ
@@ -138,7 +166,7 @@ behind_verdict explain quiet version told = if quiet then codes "}\n" else rest_
 
 -- the object; the verdict alone where it is to be quiet
 abbrev pub report_object : Bool → Bool → List ℕ → Told → List ℕ
-report_object explain quiet version told = verdict_value (word_of told.answer)
+report_object explain quiet version told = verdict_value told.level (word_of told.answer)
     ++ behind_verdict explain quiet version told
 
 -- ---- a refused log

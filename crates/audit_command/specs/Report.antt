@@ -1,11 +1,15 @@
 -- The report as text.
-use Rattle.std.specs.Prelude.{ℕ, ◌==◌, nat_lt, Bool, true, false, if◌then◌else◌, List, [], ◌∷◌, ◌++◌}
+use Rattle.std.specs.Prelude.{ℕ, ◌==◌, nat_lt, Bool, if◌then◌else◌, List, [], ◌∷◌, ◌++◌}
 use Rattle.std.specs.Prelude.{length, codes, decimal, count_by, Option, Some, None}
 use Rattle.std.specs.List.{flat_map}
 use Rattle.std.specs.String.{string_bytes}
 use Rattle.std.specs.Prelude.{String}
 use Rattle.std.specs.declared.alloc.Global.{Global}
-use Rattle.audit_command.specs.Words.{code_number, finding_title, word_text}
+use Rattle.isolation.specs.Levels.{level_title}
+use Rattle.audit_command.specs.Words.{code_number, finding_title, word_text, word_of}
+use Rattle.audit_command.specs.Words.{verdict_text, kept_text}
+use Rattle.isolation.specs.declared.level.Isolation.{Isolation}
+use Rattle.isolation.specs.declared.level.Isolation.TheVariants.{StrictSnapshot, Snapshot}
 use Rattle.audit_command.specs.declared.told.ToldTxn.{ToldTxn}
 use Rattle.audit_command.specs.declared.told.ToldPart.{ToldPart}
 use Rattle.audit_command.specs.declared.told.Word.{Word}
@@ -34,11 +38,20 @@ unfoldable pub too_few : ℕ → ℕ → List ℕ
 too_few committed asked = field [] committed ++ field (codes " committed, ") asked
     ++ codes " asked for"
 
-abbrev pub first_line : Answer → List ℕ
-first_line answer.Serializable = codes "serializable\n"
-first_line (answer.NotSerializable parts) = codes "not serializable\n"
-first_line (answer.TooFew committed asked) = codes "unknown: " ++ too_few committed asked ++ 10 ∷ []
-first_line (answer.Undecided reason advice) = codes "unknown: " ++ line_of reason
+-- the name of the level, where it is asked for by name
+abbrev pub level_text : Option Isolation → List ℕ
+level_text None = []
+level_text (Some level) = level_title level ++ codes ": "
+
+-- the verdict, and why it is unknown
+unfoldable pub reason_line : Answer → List ℕ
+reason_line answer.NoMoments = codes ": the log states no moments\n"
+reason_line (answer.TooFew committed asked) = codes ": " ++ too_few committed asked ++ 10 ∷ []
+reason_line (answer.Undecided reason advice) = codes ": " ++ line_of reason
+reason_line _ = codes "\n"
+
+abbrev pub first_line : Option Isolation → Answer → List ℕ
+first_line level a = level_text level ++ verdict_text level (word_of a) ++ reason_line a
 
 -- ---- a part without an order
 
@@ -113,6 +126,16 @@ unfoldable pub without_text : Option Word → List ℕ
 without_text None = []
 without_text (Some word) = codes "without moments " ++ word_text word ++ 10 ∷ []
 
+-- a line with the name of a level, and whether it was kept
+unfoldable pub level_row : Isolation → Option Word → List ℕ
+level_row level None = []
+level_row level (Some word) = level_title level ++ codes " " ++ kept_text word ++ 10 ∷ []
+
+-- what holds without moments and at weaker levels
+unfoldable pub weaker_text : Told → List ℕ
+weaker_text told = without_text told.without_moments
+    ++ level_row StrictSnapshot told.strict_snapshot ++ level_row Snapshot told.snapshot
+
 -- so many transactions has the first part that is told
 abbrev pub first_size : List ToldPart → ℕ
 first_size [] = 0
@@ -134,10 +157,10 @@ counts_text t part =
     ++ count_line (codes "part") part
 
 abbrev pub behind_first : ℕ → Told → List ℕ
-behind_first faults told = middle_text faults told.answer ++ without_text told.without_moments
+behind_first faults told = middle_text faults told.answer ++ weaker_text told
     ++ counts_text told.totals (part_size told.answer)
 
 -- the report where so many parts were asked for; the first line alone where it is to be quiet
 abbrev pub report_text : ℕ → Bool → Told → List ℕ
-report_text faults quiet told = first_line told.answer
+report_text faults quiet told = first_line told.level told.answer
     ++ (if quiet then [] else behind_first faults told)

@@ -1,5 +1,5 @@
 -- The words for what stands against a part, and for verdicts.
-use Rattle.std.specs.Prelude.{ℕ, List, codes}
+use Rattle.std.specs.Prelude.{ℕ, List, codes, Option, None, Some}
 use Rattle.serializability.specs.declared.anomaly.Anomaly.{Anomaly}
 use Rattle.serializability.specs.declared.anomaly.Anomaly.TheVariants as anomaly
 use Rattle.serializability.specs.declared.anomaly.ReadAnomaly.{ReadAnomaly}
@@ -9,6 +9,7 @@ use Rattle.cobra_answers.specs.declared.status.Status.{Status}
 use Rattle.cobra_answers.specs.declared.status.Status.TheVariants as status
 use Rattle.judging.specs.declared.judged.Finding.{Finding}
 use Rattle.judging.specs.declared.judged.Finding.TheVariants as finding
+use Rattle.isolation.specs.declared.level.Isolation.{Isolation}
 use Rattle.audit_command.specs.declared.told.Word.{Word}
 use Rattle.audit_command.specs.declared.told.Word.TheVariants as word
 use Rattle.audit_command.specs.declared.told.Answer.{Answer}
@@ -50,8 +51,20 @@ word_text word.Serializable = codes "serializable"
 word_text word.NotSerializable = codes "not serializable"
 word_text word.Unknown = codes "unknown"
 
+-- of a level that is named
+abbrev pub kept_text : Word → List ℕ
+kept_text word.Serializable = codes "kept"
+kept_text word.NotSerializable = codes "not kept"
+kept_text word.Unknown = codes "unknown"
+
+-- of serializability, where no level is named
+abbrev pub verdict_text : Option Isolation → Word → List ℕ
+verdict_text None w = word_text w
+verdict_text (Some level) w = kept_text w
+
 abbrev pub word_of : Answer → Word
 word_of answer.Serializable = word.Serializable
+word_of answer.NoMoments = word.Unknown
 word_of (answer.NotSerializable parts) = word.NotSerializable
 word_of (answer.TooFew committed asked) = word.Unknown
 word_of (answer.Undecided reason advice) = word.Unknown
@@ -59,6 +72,7 @@ word_of (answer.Undecided reason advice) = word.Unknown
 -- how a command ends that tells this
 abbrev pub status_of : Answer → Status
 status_of answer.Serializable = status.Done
+status_of answer.NoMoments = status.Unknown
 status_of (answer.NotSerializable parts) = status.NotSerializable
 status_of (answer.TooFew committed asked) = status.Unknown
 status_of (answer.Undecided reason advice) = status.Unknown

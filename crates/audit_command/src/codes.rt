@@ -3,9 +3,11 @@
 ghost use Rattle.std.specs.Prelude.{◌≡◌};
 ghost use Rattle.audit_command.specs.Words.{read_number, anomaly_number, code_number};
 ghost use Rattle.audit_command.specs.Words.{anomaly_title, finding_title, word_text, word_of};
+ghost use Rattle.audit_command.specs.Words.{kept_text, verdict_text};
 
 use crate::told::{Answer, Word};
 use cobra_answers::read_title;
+use isolation::Isolation;
 use judging::Finding;
 use session_history::{Anomaly, ReadAnomaly};
 
@@ -75,6 +77,27 @@ pub fn word_text(word: Word) -> &'static str
     }
 }
 
+/// The words of a verdict on a level that is named.
+pub fn kept_text(word: Word) -> &'static str
+    ensures text { result.now ≡ kept_text word }
+{
+    match word {
+        Word::Serializable => "kept",
+        Word::NotSerializable => "not kept",
+        Word::Unknown => "unknown",
+    }
+}
+
+/// The words of a verdict, on the level that is named or, where none is, on serializability.
+pub fn verdict_text(level: Option<Isolation>, word: Word) -> &'static str
+    ensures text { result.now ≡ verdict_text level word }
+{
+    match level {
+        None => word_text(word),
+        Some(_) => kept_text(word),
+    }
+}
+
 /// The verdict of an answer.
 pub fn word_of(answer: &Answer) -> Word
     ensures word { result ≡ word_of answer.now }
@@ -82,6 +105,6 @@ pub fn word_of(answer: &Answer) -> Word
     match answer {
         Answer::Serializable => Word::Serializable,
         Answer::NotSerializable(_) => Word::NotSerializable,
-        Answer::TooFew { .. } | Answer::Undecided { .. } => Word::Unknown,
+        Answer::NoMoments | Answer::TooFew { .. } | Answer::Undecided { .. } => Word::Unknown,
     }
 }

@@ -4,10 +4,12 @@ ghost use Rattle.std.specs.Prelude.{◌≡◌, map, IfOk, IfErr};
 ghost use Rattle.session_log.specs.Text.{view};
 ghost use Rattle.session_log.specs.Version.{version_of};
 ghost use Rattle.long_log_definitions.specs.LongLog.{IsLongLog, IsLongLogFault};
+ghost use Rattle.audit_command.specs.Levels.{settled};
 ghost use Rattle.audit_command.specs.Words.{status_of};
 ghost use Rattle.audit_command.specs.Audited.{seen, text_in, IsAudited, IsRefused};
 
 use crate::known::{Known, know};
+use crate::levels::settled;
 use crate::object::report_object;
 use crate::options::AuditOptions;
 use crate::outcome::{Audited, Refusal};
@@ -15,7 +17,7 @@ use crate::refusals::refusal;
 use crate::report::report_text;
 use crate::telling::Answered;
 use crate::told::{Answer, Told};
-use crate::without::{state_moments, without_moments};
+use crate::without::{judge_weaker, state_moments};
 use call_options::ReportForm;
 use cobra_answers::{Reply, Status};
 use judging::leave_out_moments;
@@ -35,7 +37,7 @@ fn status_of(answer: &Answer) -> Status
     match answer {
         Answer::Serializable => Status::Done,
         Answer::NotSerializable(_) => Status::NotSerializable,
-        Answer::TooFew { .. } | Answer::Undecided { .. } => Status::Unknown,
+        Answer::NoMoments | Answer::TooFew { .. } | Answer::Undecided { .. } => Status::Unknown,
     }
 }
 
@@ -96,20 +98,15 @@ fn audit_sessions<R: Threads + Wait + Clock + Eprint + Sync, P: Progress>(
         answered,
         totals,
         part,
-    } = know(rt, alloc, version, sessions, options, progress)?;
+    } = know(rt, alloc, version, sessions, states, options, progress)?;
     let Answered { answer, order } = answered;
-    let without_moments = without_moments(
-        rt,
-        alloc,
-        &answer,
-        states,
-        sessions,
-        &options.means,
-        progress,
-    )?;
+    let weaker = judge_weaker(rt, alloc, &answer, states, sessions, options, progress)?;
     let told = Told {
+        level: options.level,
         answer,
-        without_moments,
+        without_moments: weaker.without_moments,
+        strict_snapshot: weaker.strict_snapshot,
+        snapshot: weaker.snapshot,
         totals,
     };
     let reply = reply_of(alloc, options, &told)?;
@@ -127,7 +124,8 @@ fn refused(alloc: Global, log: &[u8], fault: LogFault, options: &AuditOptions<'_
     }
 }
 
-/// Says of a log of any length whether it has a serial order.
+/// Says of a log of any length whether it has an order of the level of isolation that is asked for: a
+/// serial one, where none is.
 ///
 /// # Errors
 /// The log's first fault, with the object that says so, where one is asked for; want of memory.
@@ -138,12 +136,13 @@ pub fn audit<R: Threads + Wait + Clock + Eprint + Sync, P: Progress>(
     options: &AuditOptions<'_>,
     progress: &mut P,
 ) -> Result<Audited, Refusal>
-    ensures audited { IfOk result (IsAudited options.now log.now) }
+    ensures audited { IfOk result (IsAudited (settled options.now) log.now) }
     ensures refused { IfErr result (IsRefused options.now log.now) }
 {
     match read_long_log(rt, alloc, log, options.means.deciding.workers) {
         Ok((version, sessions)) => {
-            match audit_sessions(rt, alloc, log, version, sessions, options, progress) {
+            let settled = settled(options);
+            match audit_sessions(rt, alloc, log, version, sessions, &settled, progress) {
                 Ok(audit) => Ok(audit),
                 Err(AllocError) => Err(Refusal::Memory),
             }

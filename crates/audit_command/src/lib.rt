@@ -5,7 +5,7 @@
 //!
 //! # What is promised
 //!
-//! The verdict is that on the whole log. Each part that is told is one of the log and has no order;
+//! The verdict is that on the whole log, at the level of isolation that is asked for. Each part that is told is one of the log and has no order;
 //! its code is what was found of it, and the names and the lines of its transactions are the log's.
 //! The text is exactly that of what is told, but for the words of an explanation, of a reason and of
 //! what may help. The part as a log, and the order, are those of the verdict.
@@ -17,6 +17,7 @@ mod counts;
 mod explaining;
 mod files;
 mod known;
+mod levels;
 mod lines;
 mod object;
 mod options;

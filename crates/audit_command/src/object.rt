@@ -8,12 +8,15 @@ ghost use Rattle.audit_command.specs.Objects.{line_value, part_values, why_value
 ghost use Rattle.audit_command.specs.Objects.{first_values, reason_value, count_values};
 ghost use Rattle.audit_command.specs.Objects.{version_value, verdict_value, report_object};
 ghost use Rattle.audit_command.specs.Objects.{parts_of, rest_of_object, explanation_value, without_value};
-ghost use Rattle.audit_command.specs.Objects.{faults_value, why_unknown, behind_verdict};
+ghost use Rattle.audit_command.specs.Objects.{faults_value, why_unknown, behind_verdict, level_value};
+ghost use Rattle.audit_command.specs.Objects.{kept_or_null, strict_value, snapshot_value};
+ghost use Rattle.audit_command.specs.Objects.{head_values, weaker_values};
 
-use crate::codes::{code_number, word_of, word_text};
+use crate::codes::{code_number, kept_text, verdict_text, word_of, word_text};
 use crate::lines::{put, put_number};
 use crate::report::put_too_few;
 use crate::told::{Answer, Told, ToldPart, ToldTxn, Totals, Word};
+use isolation::Isolation;
 use std::alloc::{AllocError, Global};
 
 /// A digit of base 16.
@@ -241,7 +244,10 @@ fn parts_of(answer: &Answer) -> &[ToldPart]
 {
     match answer {
         Answer::NotSerializable(parts) => parts,
-        Answer::Serializable | Answer::TooFew { .. } | Answer::Undecided { .. } => &[],
+        Answer::Serializable
+        | Answer::NoMoments
+        | Answer::TooFew { .. }
+        | Answer::Undecided { .. } => &[],
     }
 }
 
@@ -255,6 +261,7 @@ fn put_reason(out: &mut Vec<u8>, answer: &Answer) -> Result<(), AllocError>
             put(out, b"\"")
         }
         Answer::Undecided { reason, .. } => put_quoted(out, reason.as_bytes()),
+        Answer::NoMoments => put(out, b"\"the log states no moments\""),
         Answer::Serializable | Answer::NotSerializable(_) => put(out, b"null"),
     }
 }
@@ -285,13 +292,28 @@ pub fn put_version(out: &mut Vec<u8>, version: &str) -> Result<(), AllocError>
 }
 
 #[tactic(auto, unfolding(crate::specs::Objects::verdict_value))]
-fn put_verdict(out: &mut Vec<u8>, word: Word) -> Result<(), AllocError>
-    ensures put { OnOk result (out.new.items ≡ out.old.items ++ verdict_value word) }
+fn put_verdict(out: &mut Vec<u8>, level: Option<Isolation>, word: Word) -> Result<(), AllocError>
+    ensures put { OnOk result (out.new.items ≡ out.old.items ++ verdict_value level word) }
 {
     put(out, b"{\"verdict\":\"")?;
-    put(out, word_text(word).as_bytes())?;
+    put(out, verdict_text(level, word).as_bytes())?;
     put(out, b"\"")?;
     Ok(())
+}
+
+/// Appends the level, where it is asked for by name.
+#[tactic(auto, unfolding(crate::specs::Objects::level_value))]
+fn put_level(out: &mut Vec<u8>, level: Option<Isolation>) -> Result<(), AllocError>
+    ensures put { OnOk result (out.new.items ≡ out.old.items ++ level_value level) }
+{
+    match level {
+        None => Ok(()),
+        Some(level) => {
+            put(out, b",\"level\":\"")?;
+            put(out, level.title().as_bytes())?;
+            put(out, b"\"")
+        }
+    }
 }
 
 #[tactic(auto, unfolding(crate::specs::Objects::without_value))]
@@ -300,6 +322,35 @@ fn put_without(out: &mut Vec<u8>, word: Option<Word>) -> Result<(), AllocError>
 {
     put(out, b",\"without_moments\":")?;
     put_word_or_null(out, word)
+}
+
+fn put_kept_or_null(out: &mut Vec<u8>, word: Option<Word>) -> Result<(), AllocError>
+    ensures put { OnOk result (out.new.items ≡ out.old.items ++ kept_or_null word) }
+{
+    match word {
+        None => put(out, b"null"),
+        Some(word) => {
+            put(out, b"\"")?;
+            put(out, kept_text(word).as_bytes())?;
+            put(out, b"\"")
+        }
+    }
+}
+
+#[tactic(auto, unfolding(crate::specs::Objects::strict_value))]
+fn put_strict(out: &mut Vec<u8>, word: Option<Word>) -> Result<(), AllocError>
+    ensures put { OnOk result (out.new.items ≡ out.old.items ++ strict_value word) }
+{
+    put(out, b",\"strict_snapshot\":")?;
+    put_kept_or_null(out, word)
+}
+
+#[tactic(auto, unfolding(crate::specs::Objects::snapshot_value))]
+fn put_snapshot(out: &mut Vec<u8>, word: Option<Word>) -> Result<(), AllocError>
+    ensures put { OnOk result (out.new.items ≡ out.old.items ++ snapshot_value word) }
+{
+    put(out, b",\"snapshot\":")?;
+    put_kept_or_null(out, word)
 }
 
 #[tactic(auto, unfolding(crate::specs::Objects::faults_value))]
@@ -319,16 +370,34 @@ fn put_why_unknown(out: &mut Vec<u8>, answer: &Answer) -> Result<(), AllocError>
     put_reason(out, answer)
 }
 
+/// Appends the level, where it is named, and the first part.
+#[tactic(auto, unfolding(crate::specs::Objects::head_values))]
+fn put_head(out: &mut Vec<u8>, explain: bool, told: &Told) -> Result<(), AllocError>
+    ensures put { OnOk result (out.new.items ≡ out.old.items ++ head_values explain told.now) }
+{
+    put_level(out, told.level)?;
+    put(out, b",")?;
+    put_first(out, explain, parts_of(&told.answer))
+}
+
+/// Appends what holds without moments and at weaker levels.
+#[tactic(auto, unfolding(crate::specs::Objects::weaker_values))]
+fn put_weaker(out: &mut Vec<u8>, told: &Told) -> Result<(), AllocError>
+    ensures put { OnOk result (out.new.items ≡ out.old.items ++ weaker_values told.now) }
+{
+    put_without(out, told.without_moments)?;
+    put_strict(out, told.strict_snapshot)?;
+    put_snapshot(out, told.snapshot)
+}
+
 /// Appends what stands behind the verdict.
 fn put_rest(out: &mut Vec<u8>, explain: bool, version: &str, told: &Told) -> Result<(), AllocError>
     ensures put { OnOk result (out.new.items ≡ out.old.items
         ++ rest_of_object explain version.now told.now) }
 {
-    let parts = parts_of(&told.answer);
-    put(out, b",")?;
-    put_first(out, explain, parts)?;
-    put_without(out, told.without_moments)?;
-    put_faults(out, explain, parts)?;
+    put_head(out, explain, told)?;
+    put_weaker(out, told)?;
+    put_faults(out, explain, parts_of(&told.answer))?;
     put_why_unknown(out, &told.answer)?;
     put_counts(out, &told.totals)?;
     put_version(out, version)
@@ -364,7 +433,7 @@ pub fn report_object(
         ≡ report_object explain quiet version.now told.now) }
 {
     let mut out = Vec::new(alloc);
-    put_verdict(&mut out, word_of(&told.answer))?;
+    put_verdict(&mut out, told.level, word_of(&told.answer))?;
     put_behind_verdict(&mut out, explain, quiet, version, told)?;
     Ok(out)
 }

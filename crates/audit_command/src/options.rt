@@ -1,6 +1,7 @@
 //! What is asked of an audit.
 
 use call_options::ReportForm;
+use isolation::Isolation;
 use judging::JudgeMeans;
 
 /// What is asked of an audit.
@@ -12,6 +13,11 @@ pub struct AuditOptions<'a> {
     pub at_least: usize,
     /// How many parts without an order are told at most.
     pub faults: usize,
+    /// The level of isolation that is asked for by name, if one is. It goes before the level that
+    /// judging is told.
+    pub level: Option<Isolation>,
+    /// Whether no other level is judged than the one that is asked for.
+    pub only: bool,
     /// Whether the log is judged as if it stated no moments.
     pub no_moments: bool,
     /// Whether to say why a part has no order.

@@ -5,11 +5,13 @@ ghost use Rattle.audit_command.specs.Report.{first_line, txn_text, txns_text, no
 ghost use Rattle.audit_command.specs.Report.{behind_comma, code_count, code_line, uncoded_line, codes_text};
 ghost use Rattle.audit_command.specs.Report.{middle_text, without_text, part_size, counts_text};
 ghost use Rattle.audit_command.specs.Report.{parts_text, first_size, report_text, too_few, heading_of};
-ghost use Rattle.audit_command.specs.Report.{listed, codes_where, behind_first};
+ghost use Rattle.audit_command.specs.Report.{listed, codes_where, behind_first, level_text, reason_line};
+ghost use Rattle.audit_command.specs.Report.{level_row, weaker_text};
 
-use crate::codes::{code_number, finding_title, word_text};
+use crate::codes::{code_number, finding_title, kept_text, verdict_text, word_of, word_text};
 use crate::lines::{put, put_count, put_line, put_lines, put_name, put_number};
 use crate::told::{Answer, Told, ToldPart, ToldTxn, Totals, Word};
+use isolation::Isolation;
 use std::alloc::{AllocError, Global};
 
 /// Appends how many committed transactions there are, and how many must be.
@@ -23,22 +25,49 @@ pub fn put_too_few(out: &mut Vec<u8>, committed: usize, asked: usize) -> Result<
     Ok(())
 }
 
-fn put_first_line(out: &mut Vec<u8>, answer: &Answer) -> Result<(), AllocError>
-    ensures put { OnOk result (out.new.items ≡ out.old.items ++ first_line answer.now) }
+/// Appends the name of the level that is asked for by name.
+fn put_level(out: &mut Vec<u8>, level: Option<Isolation>) -> Result<(), AllocError>
+    ensures put { OnOk result (out.new.items ≡ out.old.items ++ level_text level) }
+{
+    match level {
+        None => Ok(()),
+        Some(level) => {
+            put(out, level.title().as_bytes())?;
+            put(out, b": ")
+        }
+    }
+}
+
+/// Appends the end of the first line: why the verdict is unknown, where it is.
+#[tactic(auto, unfolding(crate::specs::Report::reason_line))]
+fn put_reason(out: &mut Vec<u8>, answer: &Answer) -> Result<(), AllocError>
+    ensures put { OnOk result (out.new.items ≡ out.old.items ++ reason_line answer.now) }
 {
     match answer {
-        Answer::Serializable => put(out, b"serializable\n"),
-        Answer::NotSerializable(_) => put(out, b"not serializable\n"),
+        Answer::Serializable | Answer::NotSerializable(_) => put(out, b"\n"),
+        Answer::NoMoments => put(out, b": the log states no moments\n"),
         Answer::TooFew { committed, asked } => {
-            put(out, b"unknown: ")?;
+            put(out, b": ")?;
             put_too_few(out, *committed, *asked)?;
             put(out, b"\n")
         }
         Answer::Undecided { reason, .. } => {
-            put(out, b"unknown: ")?;
+            put(out, b": ")?;
             put_line(out, reason)
         }
     }
+}
+
+fn put_first_line(
+    out: &mut Vec<u8>,
+    level: Option<Isolation>,
+    answer: &Answer,
+) -> Result<(), AllocError>
+    ensures put { OnOk result (out.new.items ≡ out.old.items ++ first_line level answer.now) }
+{
+    put_level(out, level)?;
+    put(out, verdict_text(level, word_of(answer)).as_bytes())?;
+    put_reason(out, answer)
 }
 
 /// Appends the name and the lines of a transaction.
@@ -192,7 +221,7 @@ fn put_middle(out: &mut Vec<u8>, faults: usize, answer: &Answer) -> Result<(), A
             put_codes_where(out, faults, parts)
         }
         Answer::Undecided { advice, .. } => put_lines(out, advice),
-        Answer::Serializable | Answer::TooFew { .. } => Ok(()),
+        Answer::Serializable | Answer::NoMoments | Answer::TooFew { .. } => Ok(()),
     }
 }
 
@@ -210,13 +239,42 @@ fn put_without(out: &mut Vec<u8>, word: Option<Word>) -> Result<(), AllocError>
     }
 }
 
+/// Appends a line with the name of a level, and whether it was kept, where that is told.
+#[tactic(auto, unfolding(crate::specs::Report::level_row))]
+fn put_level_row(out: &mut Vec<u8>, level: Isolation, word: Option<Word>) -> Result<(), AllocError>
+    ensures put { OnOk result (out.new.items ≡ out.old.items ++ level_row level word) }
+{
+    match word {
+        None => Ok(()),
+        Some(word) => {
+            put(out, level.title().as_bytes())?;
+            put(out, b" ")?;
+            put(out, kept_text(word).as_bytes())?;
+            put(out, b"\n")
+        }
+    }
+}
+
+/// Appends what holds without moments and at weaker levels, where that is told.
+#[tactic(auto, unfolding(crate::specs::Report::weaker_text))]
+fn put_weaker(out: &mut Vec<u8>, told: &Told) -> Result<(), AllocError>
+    ensures put { OnOk result (out.new.items ≡ out.old.items ++ weaker_text told.now) }
+{
+    put_without(out, told.without_moments)?;
+    put_level_row(out, Isolation::StrictSnapshot, told.strict_snapshot)?;
+    put_level_row(out, Isolation::Snapshot, told.snapshot)
+}
+
 /// How many transactions the first part has.
 fn part_size(answer: &Answer) -> usize
     ensures size { result ≡ part_size answer.now }
 {
     match answer {
         Answer::NotSerializable(parts) => first_size(parts),
-        Answer::Serializable | Answer::TooFew { .. } | Answer::Undecided { .. } => 0,
+        Answer::Serializable
+        | Answer::NoMoments
+        | Answer::TooFew { .. }
+        | Answer::Undecided { .. } => 0,
     }
 }
 
@@ -249,7 +307,7 @@ fn put_behind_first(out: &mut Vec<u8>, faults: usize, told: &Told) -> Result<(),
     ensures put { OnOk result (out.new.items ≡ out.old.items ++ behind_first faults told.now) }
 {
     put_middle(out, faults, &told.answer)?;
-    put_without(out, told.without_moments)?;
+    put_weaker(out, told)?;
     put_counts(out, &told.totals, part_size(&told.answer))?;
     Ok(())
 }
@@ -264,7 +322,7 @@ pub fn report_text(
     ensures report { IfOk result (λ text. text.items ≡ report_text faults quiet told.now) }
 {
     let mut out = Vec::new(alloc);
-    put_first_line(&mut out, &told.answer)?;
+    put_first_line(&mut out, told.level, &told.answer)?;
     if !quiet {
         put_behind_first(&mut out, faults, told)?;
     }

@@ -1,6 +1,6 @@
 //! What is told of a judged log.
 
-ghost use Rattle.std.specs.Prelude.{◌≡◌, ◌<◌, ◌≤◌, ℕ, List, length, map, IfOk, OnOk};
+ghost use Rattle.std.specs.Prelude.{◌≡◌, ◌⊎◌, ◌<◌, ◌≤◌, ℕ, List, length, map, IfOk, OnOk};
 ghost use Rattle.std.specs.List.{AllByRecursion};
 ghost use Rattle.session_log.specs.Text.{ClientSession, IsLegal, view};
 ghost use Rattle.session_log.specs.Version.{first_line};
@@ -8,18 +8,20 @@ ghost use Rattle.log_definitions.specs.Unknown.{resolved};
 ghost use Rattle.piece_laws.specs.Logs.{IsSoundLog, IsLog};
 ghost use Rattle.judging.specs.Judges.{IsVerdict};
 ghost use Rattle.judging.specs.Made.{IsMade, IsToldPart};
-ghost use Rattle.log_definitions.specs.Serial.{IsSerialOrder};
+ghost use Rattle.judging.specs.Levels.{IsLogAt, IsOrderAt, HasOrderAt, judged_at};
+ghost use Rattle.order_text.specs.Text.{order_text};
 ghost use Rattle.audit_command.specs.Audited.{nodes_in, IsPartTold, AreToldParts, IsAnswered};
-ghost use Rattle.audit_command.specs.Audited.{IsOrderFile};
+ghost use Rattle.audit_command.specs.Audited.{IsOrderFile, IsOpen, states_moments};
 ghost use Rattle.audit_command.specs.Resolved.{IsResolved, IsPartOf, IsPartOfVerdict};
 
 use crate::explaining::{Explained, explain_part};
 use crate::files::order_file;
+use crate::levels::asks_moments;
 use crate::options::AuditOptions;
 use crate::places::told_txns;
 use crate::told::{Answer, ToldPart};
 use crate::undecided::{advice_lines, reason_text};
-use judging::{RefutedPart, Tried, Verdict, Why, more_parts};
+use judging::{Level, LevelLog, RefutedPart, Tried, Verdict, Why, more_parts};
 use progress::Progress;
 use proposals::Proposal;
 use session_log::{Session, Version};
@@ -29,19 +31,57 @@ use std::sync::Wait;
 use std::thread::Threads;
 use std::time::Clock;
 
-/// An answer, and the text of the serial order, where there is one and it is asked for.
+/// An answer, and the text of the order, where there is one and it is asked for.
 #[derive(Drop)]
 pub struct Answered {
     pub answer: Answer,
     pub order: Option<Vec<u8>>,
 }
 
-/// A judged log: its version, its sessions with their outcomes known, and what was proposed.
+/// A judged log: its version, its sessions with their outcomes known, what is judged for them, and
+/// what was proposed.
 #[derive(Clone, Copy)]
 pub struct JudgedLog<'a> {
     pub version: Version,
     pub sessions: &'a [Session],
+    pub at: &'a LevelLog,
     pub proposal: &'a Proposal,
+}
+
+/// What stands before the lines that say why a part has no serial order, where it has no order of
+/// another level.
+const NO_SERIAL_ORDER: &str = "why they have no serial order either:";
+
+/// What stands in the names of faults that snapshot isolation allows.
+const ALLOWED: &str = "(G2-";
+
+/// Why a part that has no snapshot order has no serial order, without the names of faults that
+/// snapshot isolation allows.
+fn below_snapshot(alloc: Global, explained: Explained) -> Result<Explained, AllocError> {
+    let Explained { lines, known_as } = explained;
+    let mut why = Vec::new(alloc);
+    why.push(String::from_str(alloc, NO_SERIAL_ORDER)?)?;
+    for line in lines {
+        if !line.contains(ALLOWED) {
+            why.push(line)?;
+        }
+    }
+    Ok(Explained {
+        lines: why,
+        known_as: known_as.filter(|name| !name.contains(ALLOWED)),
+    })
+}
+
+/// Why a part has no order of the level at which it was judged.
+fn explained_at(
+    alloc: Global,
+    level: Level,
+    explained: Explained,
+) -> Result<Explained, AllocError> {
+    match level {
+        Level::Serializable => Ok(explained),
+        Level::Snapshot => below_snapshot(alloc, explained),
+    }
 }
 
 /// A part, told.
@@ -54,18 +94,13 @@ fn told_part<R: Threads + Wait + Clock + Sync>(
 ) -> Result<ToldPart, AllocError>
     requires part { IsPartOf (map view log.now.sessions.now) refuted }
     ensures told { (ss : List ClientSession) → map view log.now.sessions.now ≡ resolved ss
-        → IsToldPart ss refuted → IfOk result (IsPartTold (first_line log.now.version) ss) }
+        → IsToldPart options.now.means.level ss refuted
+        → IfOk result (IsPartTold options.now.means.level (first_line log.now.version) ss) }
 {
     let txns = told_txns(alloc, log.version, log.sessions, &refuted.flags)?;
     let means = &options.means.deciding;
-    let Explained { lines, known_as } = explain_part(
-        rt,
-        alloc,
-        log.version,
-        log.sessions,
-        &refuted,
-        means,
-    )?;
+    let explained = explain_part(rt, alloc, log.version, log.sessions, &refuted, means)?;
+    let Explained { lines, known_as } = explained_at(alloc, options.means.level, explained)?;
     let why = if options.explain {
         lines
     } else {
@@ -90,9 +125,10 @@ fn add_parts<R: Threads + Wait + Clock + Sync>(
 ) -> Result<(), AllocError>
     requires parts { AllByRecursion (IsPartOf (map view log.now.sessions.now)) parts.items }
     ensures told { (ss : List ClientSession) → map view log.now.sessions.now ≡ resolved ss
-        → AllByRecursion (IsToldPart ss) parts.items
-        → AreToldParts (first_line log.now.version) ss told.old.items
-        → OnOk result (AreToldParts (first_line log.now.version) ss told.new.items) }
+        → AllByRecursion (IsToldPart options.now.means.level ss) parts.items
+        → AreToldParts options.now.means.level (first_line log.now.version) ss told.old.items
+        → OnOk result (AreToldParts options.now.means.level (first_line log.now.version) ss
+        told.new.items) }
     ensures more { OnOk result (length told.old.items ≤ length told.new.items) }
 {
     let mut left = parts;
@@ -107,8 +143,8 @@ fn add_parts<R: Threads + Wait + Clock + Sync>(
 
 /// Puts parts into the order of their sizes, the least one first.
 fn put_least_first(told: &mut Vec<ToldPart>) -> Result<(), AllocError>
-    ensures told { (n : ℕ) (ss : List ClientSession) → AreToldParts n ss told.old.items
-        → AreToldParts n ss told.new.items }
+    ensures told { (level : Level) (n : ℕ) (ss : List ClientSession)
+        → AreToldParts level n ss told.old.items → AreToldParts level n ss told.new.items }
     ensures as_many { length told.new.items ≡ length told.old.items }
 {
     told.sort_by_key(|part| part.txns.len())
@@ -128,8 +164,9 @@ fn told_parts<R: Threads + Wait + Clock + Eprint + Sync, P: Progress>(
     requires known { IsResolved (map view log.now.sessions.now) }
     requires first { IsPartOf (map view log.now.sessions.now) first }
     ensures told { (ss : List ClientSession) → AllByRecursion IsLegal ss → IsSoundLog ss
-        → map view log.now.sessions.now ≡ resolved ss → IsToldPart ss first
-        → IfOk result (λ told. AreToldParts (first_line log.now.version) ss told.items) }
+        → map view log.now.sessions.now ≡ resolved ss → IsToldPart options.now.means.level ss first
+        → IfOk result (λ told. AreToldParts options.now.means.level (first_line log.now.version) ss
+        told.items) }
     ensures some { IfOk result (λ told. 0 < length told.items) }
 {
     let count = options.faults.saturating_sub(1);
@@ -137,6 +174,7 @@ fn told_parts<R: Threads + Wait + Clock + Eprint + Sync, P: Progress>(
         rt,
         alloc,
         log.sessions,
+        log.at,
         &first,
         count,
         &options.means,
@@ -149,19 +187,41 @@ fn told_parts<R: Threads + Wait + Clock + Eprint + Sync, P: Progress>(
     Ok(told)
 }
 
+/// The text of an order of the log that is judged.
+fn judged_order(
+    alloc: Global,
+    log: &JudgedLog<'_>,
+    order: &[usize],
+    options: &AuditOptions<'_>,
+) -> Result<Vec<u8>, AllocError>
+    requires log { IsLog (map view log.now.sessions.now) }
+    requires at { IsLogAt options.now.means.level (map view log.now.sessions.now) log.now.at.now }
+    ensures text { (ss : List ClientSession) → map view log.now.sessions.now ≡ resolved ss
+        → IsOrderAt options.now.means.level ss order.now → IfOk result (λ text.
+        text.items ≡ order_text (judged_at options.now.means.level ss) order.now) }
+{
+    match log.at {
+        LevelLog::Itself => order_file(alloc, log.sessions, order),
+        LevelLog::Split(split) => order_file(alloc, split, order),
+        LevelLog::NoRoom(_) => Ok(Vec::new(alloc)),
+    }
+}
+
 /// The text of an order, where it is asked for.
 fn asked_order(
     alloc: Global,
     log: &JudgedLog<'_>,
     order: &[usize],
-    is_asked: bool,
+    options: &AuditOptions<'_>,
 ) -> Result<Option<Vec<u8>>, AllocError>
     requires log { IsLog (map view log.now.sessions.now) }
+    requires at { IsLogAt options.now.means.level (map view log.now.sessions.now) log.now.at.now }
     ensures order { (ss : List ClientSession) → map view log.now.sessions.now ≡ resolved ss
-        → IsSerialOrder ss order.now → IfOk result (IsOrderFile ss is_asked) }
+        → IsOrderAt options.now.means.level ss order.now
+        → IfOk result (IsOrderFile options.now.means.level ss options.now.order) }
 {
-    if is_asked {
-        Ok(Some(order_file(alloc, log.sessions, order)?))
+    if options.order {
+        Ok(Some(judged_order(alloc, log, order, options)?))
     } else {
         Ok(None)
     }
@@ -171,6 +231,7 @@ fn asked_order(
 fn too_few(committed: usize, options: &AuditOptions<'_>) -> Answered
     requires few { committed < options.now.at_least }
     ensures answered { (n : ℕ) (ss : List ClientSession) → committed ≡ nodes_in ss
+        → (HasOrderAt options.now.means.level ss ⊎ IsOpen options.now.means ss)
         → IsAnswered options.now n ss result }
 {
     Answered {
@@ -182,25 +243,34 @@ fn too_few(committed: usize, options: &AuditOptions<'_>) -> Answered
     }
 }
 
-/// The answer where this is a serial order.
+/// The answer where this is an order of the log that is judged.
 fn serial_answer(
     alloc: Global,
     log: &JudgedLog<'_>,
     order: &[usize],
     committed: usize,
+    states: bool,
     options: &AuditOptions<'_>,
 ) -> Result<Answered, AllocError>
     requires log { IsLog (map view log.now.sessions.now) }
+    requires at { IsLogAt options.now.means.level (map view log.now.sessions.now) log.now.at.now }
     ensures answered { (ss : List ClientSession) → map view log.now.sessions.now ≡ resolved ss
-        → IsSerialOrder ss order.now → committed ≡ nodes_in ss
+        → IsOrderAt options.now.means.level ss order.now → committed ≡ nodes_in ss
+        → states ≡ states_moments ss
         → IfOk result (IsAnswered options.now (first_line log.now.version) ss) }
 {
     if committed < options.at_least {
         return Ok(too_few(committed, options));
     }
+    if asks_moments(options.level) && !states {
+        return Ok(Answered {
+            answer: Answer::NoMoments,
+            order: None,
+        });
+    }
     Ok(Answered {
         answer: Answer::Serializable,
-        order: asked_order(alloc, log, order, options.order)?,
+        order: asked_order(alloc, log, order, options)?,
     })
 }
 
@@ -242,7 +312,7 @@ fn refuted_answer<R: Threads + Wait + Clock + Eprint + Sync, P: Progress>(
     requires known { IsResolved (map view log.now.sessions.now) }
     requires first { IsPartOf (map view log.now.sessions.now) first }
     ensures answered { (ss : List ClientSession) → AllByRecursion IsLegal ss → IsSoundLog ss
-        → map view log.now.sessions.now ≡ resolved ss → IsToldPart ss first
+        → map view log.now.sessions.now ≡ resolved ss → IsToldPart options.now.means.level ss first
         → IfOk result (IsAnswered options.now (first_line log.now.version) ss) }
 {
     let parts = told_parts(rt, alloc, log, first, options, progress)?;
@@ -259,22 +329,26 @@ pub fn answer_of<R: Threads + Wait + Clock + Eprint + Sync, P: Progress>(
     log: &JudgedLog<'_>,
     verdict: Verdict,
     committed: usize,
+    states: bool,
     options: &AuditOptions<'_>,
     progress: &mut P,
 ) -> Result<Answered, AllocError>
     requires log { IsLog (map view log.now.sessions.now) }
     requires known { IsResolved (map view log.now.sessions.now) }
     requires told { IsPartOfVerdict (map view log.now.sessions.now) verdict }
+    requires at { IsLogAt options.now.means.level (map view log.now.sessions.now) log.now.at.now }
     ensures answered { (ss : List ClientSession) → AllByRecursion IsLegal ss → IsSoundLog ss
         → map view log.now.sessions.now ≡ resolved ss → IsVerdict options.now.means ss verdict
-        → IsMade (resolved ss) verdict → committed ≡ nodes_in ss
+        → IsMade (resolved ss) verdict → committed ≡ nodes_in ss → states ≡ states_moments ss
         → IfOk result (IsAnswered options.now (first_line log.now.version) ss) }
 {
     match verdict {
         Verdict::NotSerializable(first) => {
             refuted_answer(rt, alloc, log, first, options, progress)
         }
-        Verdict::Serializable(order) => serial_answer(alloc, log, &order, committed, options),
+        Verdict::Serializable(order) => {
+            serial_answer(alloc, log, &order, committed, states, options)
+        }
         Verdict::Undecided { why, tried } => {
             open_answer(alloc, log, why, tried, committed, options)
         }

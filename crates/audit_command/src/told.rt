@@ -1,6 +1,7 @@
 //! What is told of a log.
 
 use crate::counts::LogCounts;
+use isolation::Isolation;
 use judging::RefutedPart;
 
 /// A transaction of the log: the number of its session, its place there from 1, and its first and
@@ -13,7 +14,7 @@ pub struct ToldTxn {
     pub last: usize,
 }
 
-/// A part of the log that has no serial order.
+/// A part of the log that has no order.
 #[derive(Drop)]
 pub struct ToldPart {
     pub refuted: RefutedPart,
@@ -36,8 +37,10 @@ pub enum Word {
 /// The verdict on the log, and what belongs to it.
 #[derive(Drop)]
 pub enum Answer {
-    /// It has a serial order.
+    /// It has an order of the level that is asked for.
     Serializable,
+    /// It has one, and the level is one of stated moments, of which the log has none.
+    NoMoments,
     /// It has none, since these parts, at least one, have none.
     NotSerializable(Vec<ToldPart>),
     /// It has fewer committed transactions than it must have.
@@ -57,8 +60,14 @@ pub struct Totals {
 /// What is told of a log.
 #[derive(Drop)]
 pub struct Told {
+    /// The level of isolation that is asked for by name, if one is.
+    pub level: Option<Isolation>,
     pub answer: Answer,
     /// The verdict on the log as if it stated no moments, where that is another question.
     pub without_moments: Option<Word>,
+    /// What holds of weaker levels, where that is asked for: snapshot isolation in the order of the
+    /// stated moments, and without them.
+    pub strict_snapshot: Option<Word>,
+    pub snapshot: Option<Word>,
     pub totals: Totals,
 }

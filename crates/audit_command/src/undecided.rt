@@ -5,6 +5,7 @@ use crate::told::ToldTxn;
 use judging::{Tried, Why};
 use proposals::{Flags, MAX_ENTRIES, MAX_LANES, NotTried, Proposal, Stuck};
 use session_log::{Session, Version};
+use splitting::NoRoom;
 use std::alloc::{AllocError, Global};
 
 /// Why nothing was proposed.
@@ -38,6 +39,22 @@ fn large_text(alloc: Global, proposal: &Proposal, tried: Tried) -> Result<String
     }
 }
 
+/// Why a log has no room for locks.
+fn room_text(alloc: Global, why: NoRoom) -> Result<String, AllocError> {
+    match why {
+        NoRoom::Keys { longest, marks } => {
+            format!(in alloc;
+                "a key has {longest} bytes, its lock {marks} more, and at most 64 may be"
+            )
+        }
+        NoRoom::Identities { largest, writes } => {
+            format!(in alloc;
+                "an identity is {largest}, which leaves none above it for {writes} locks"
+            )
+        }
+    }
+}
+
 /// Why a log is not decided.
 pub fn reason_text(
     alloc: Global,
@@ -49,6 +66,7 @@ pub fn reason_text(
         Why::Spent { closed } => format!(in alloc; "{closed} closed"),
         Why::TooManyChoices => String::from_str(alloc, "more than 100000 choices"),
         Why::NotBegun => String::from_str(alloc, "the time was up"),
+        Why::NoRoom(why) => room_text(alloc, why),
         Why::TooLarge { .. } => large_text(alloc, proposal, tried),
     }
 }
@@ -120,7 +138,7 @@ pub fn advice_lines(
     let mut lines = Vec::new(alloc);
     match why {
         Why::Spent { .. } => lines.push(String::from_str(alloc, "a higher --budget may help")?)?,
-        Why::TooManyChoices => {}
+        Why::TooManyChoices | Why::NoRoom(_) => {}
         Why::NotBegun => lines.push(String::from_str(alloc, "more --seconds may help")?)?,
         Why::TooLarge { .. } => match proposal {
             Proposal::Stuck(stuck) => {

@@ -10,7 +10,7 @@ use cobra_cli::{Status, Stop};
 use cobra_words::{AuditWords, Command, Request, VERSION};
 use deciding::Means;
 use dimacs::Counted;
-use judging::JudgeMeans;
+use judging::{JudgeMeans, Level};
 use progress::{Deadline, Progress, Stage};
 use std::alloc::Global;
 use std::io::{Eprint, Write};
@@ -89,9 +89,15 @@ fn options_of<'a>(
         budget: request.budget,
     };
     AuditOptions {
-        means: JudgeMeans { deciding, deadline },
+        means: JudgeMeans {
+            level: Level::Serializable,
+            deciding,
+            deadline,
+        },
         at_least: words.at_least,
         faults: words.faults,
+        level: words.level,
+        only: words.only,
         no_moments: words.no_moments,
         explain: words.explain,
         part: words.part.is_some(),

@@ -75,6 +75,11 @@ impl Ending {
         Ending::told(line, USAGE)
     }
 
+    /// A log is refused with this line.
+    pub fn refused_with(line: Result<String, AllocError>) -> Ending {
+        Ending::told(line, USAGE)
+    }
+
     /// A log of this name is refused.
     pub fn refused(alloc: Global, name: &str, log: &[u8], fault: LogFault) -> Ending {
         match fault {

@@ -7,12 +7,14 @@ mod explain_call;
 mod files;
 mod input;
 mod pieces_call;
+mod split_call;
 
 use crate::audit_call::{audit_log, tell_failure};
 use crate::ending::{Ending, USAGE, report};
 use crate::explain_call::explain_log;
 use crate::input::{read_file, read_log_bytes};
 use crate::pieces_call::cut_log;
+use crate::split_call::split_log;
 use cobra_cli::{Fault, Options, Status, Stop, check, decode, encode, stats, verify};
 use cobra_words::{Command, Request, Words, words_of};
 use desk::gate::OpenGate;
@@ -20,6 +22,7 @@ use dimacs::{Counted, MAX_ANSWER_BYTES};
 use order_text::MAX_ORDER_BYTES;
 use proof_text::MAX_PROOF_BYTES;
 use refute_command::refute;
+use solve_command::solve;
 use std::alloc::Global;
 use std::env;
 use std::io::{ErrorKind, Read, Write};
@@ -60,6 +63,10 @@ fn run_on<R: Runtime + Threads + Wait + Sync, W: Write>(
             let (plain, workers) = (request.plain, request.workers);
             refute(rt, alloc, log, &proof, plain, workers, &OpenGate, sink)?
         }
+        Command::Solve { conflicts } => {
+            let (plain, workers) = (request.plain, request.workers);
+            solve(rt, alloc, log, plain, *conflicts, workers, &OpenGate, sink)?
+        }
         Command::Verify { order } => {
             let order = read_file(rt, alloc, order, MAX_ORDER_BYTES)?;
             verify(rt, alloc, log, &order, &options, &OpenGate, sink)?
@@ -68,6 +75,7 @@ fn run_on<R: Runtime + Threads + Wait + Sync, W: Write>(
         Command::Pieces { size, wanted } => {
             cut_log(rt, alloc, log, request, *size, *wanted, sink)?
         }
+        Command::Split => split_log(rt, alloc, log, request, sink)?,
     };
     Ok(status)
 }

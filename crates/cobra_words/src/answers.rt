@@ -27,6 +27,16 @@ Answers, by exit status:
   4  out of memory
   5  device failed: input or output";
 
+/// What `solve` answers, by exit status.
+pub const SOLVE: &str = "\
+Answers, by exit status:
+  0  serializable, then the order, a line SESSION PLACE for each transaction
+  1  not serializable: the formula is refuted; check names an anomaly, where one stands
+  2  refused: and a fault as of encode; or usage
+  3  unknown: N conflicts, where the budget is spent
+  4  out of memory
+  5  device failed: input or output";
+
 /// What `check` answers, by exit status.
 pub const CHECK: &str = "\
 Answers, by exit status:
@@ -73,7 +83,9 @@ Answers, by exit status:
   2  refused: FILE:LINE: WORDS (CODE), the fault of the log, L1 to L7, L9 or L10; or usage
   3  unknown: and why, what was not decided or fewer lines commit than asked for; then the numbers
   4  out of memory
-  5  device failed: a file and the reason, or output";
+  5  device failed: a file and the reason, or output
+
+With --level, the first line has the name of the level, a colon, and kept, not kept or unknown.";
 
 /// What `pieces` answers, by exit status.
 pub const PIECES: &str = "\
@@ -81,5 +93,14 @@ Answers, by exit status:
   0  a line K TRANSACTIONS OPERATIONS for each piece; or the log of one; or nothing, where they are
      written into a directory, each as K.log, and as K.map the line of the log for each of its lines
   2  refused: FILE:LINE: WORDS (CODE), the fault of the log, L1 to L7, L9 or L10; or usage
+  4  out of memory
+  5  device failed: a file and the reason, or output";
+
+/// What `split` answers, by exit status.
+pub const SPLIT: &str = "\
+Answers, by exit status:
+  0  the split log
+  2  refused: FILE:LINE: WORDS (CODE), the fault of the log, L1 to L7, L9 or L10; or FILE: no room
+     for the locks, and why; or usage
   4  out of memory
   5  device failed: a file and the reason, or output";

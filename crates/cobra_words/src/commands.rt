@@ -56,6 +56,14 @@ fn refute<'a>(alloc: Global) -> Result<Command<'a>, AllocError> {
     with_formula(alloc, command)
 }
 
+fn solve<'a>(alloc: Global) -> Result<Command<'a>, AllocError> {
+    let command = Command::new(alloc, "solve")
+        .about("Decide whether some serial order explains a log, by a search over its formula")
+        .after_help(answers::SOLVE)
+        .arg(options::conflicts(alloc))?;
+    with_formula(alloc, command)
+}
+
 fn check<'a>(alloc: Global) -> Result<Command<'a>, AllocError> {
     let command = Command::new(alloc, "check")
         .about("Decide whether some serial order explains a log")
@@ -103,6 +111,8 @@ fn audit<'a>(alloc: Global) -> Result<Command<'a>, AllocError> {
         .arg(options::faults(alloc))?
         .arg(options::part(alloc))?
         .arg(options::order(alloc))?
+        .arg(options::level(alloc))?
+        .arg(options::only(alloc))?
         .arg(options::no_moments(alloc))?
         .arg(options::at_least(alloc))?;
     with_search(alloc, with_report(alloc, command)?, AUDIT_DEFAULTS)
@@ -118,6 +128,13 @@ fn pieces<'a>(alloc: Global) -> Result<Command<'a>, AllocError> {
     with_workers(alloc, command)
 }
 
+fn split<'a>(alloc: Global) -> Result<Command<'a>, AllocError> {
+    let command = Command::new(alloc, "split")
+        .about("Write the log that has a serial order exactly where this one is snapshot isolated")
+        .after_help(answers::SPLIT);
+    with_workers(alloc, command)
+}
+
 /// The program, with its commands.
 pub fn program<'a>(alloc: Global) -> Result<Command<'a>, AllocError> {
     Command::new(alloc, "cobra_poly")
@@ -129,10 +146,12 @@ pub fn program<'a>(alloc: Global) -> Result<Command<'a>, AllocError> {
         .subcommand(encode(alloc)?)?
         .subcommand(decode(alloc)?)?
         .subcommand(refute(alloc)?)?
+        .subcommand(solve(alloc)?)?
         .subcommand(check(alloc)?)?
         .subcommand(verify(alloc)?)?
         .subcommand(stats(alloc)?)?
         .subcommand(explain(alloc)?)?
         .subcommand(audit(alloc)?)?
-        .subcommand(pieces(alloc)?)
+        .subcommand(pieces(alloc)?)?
+        .subcommand(split(alloc)?)
 }

@@ -10,11 +10,22 @@ const DEFAULT_WORKERS: &str = "4";
 /// How many lines `commit` a log must have where the words do not say.
 const DEFAULT_AT_LEAST: &str = "1";
 
+/// How many conflicts a search over a formula may meet where the words do not say.
+const DEFAULT_CONFLICTS: &str = "1000000";
+
 /// The words for the forms of an explanation.
 const FORMATS: [&str; 2] = ["text", "dot"];
 
 /// The words for the forms of a report.
 const REPORTS: [&str; 2] = ["text", "json"];
+
+/// The words for levels of isolation.
+const LEVELS: [&str; 4] = [
+    "strict-serializable",
+    "serializable",
+    "strict-snapshot",
+    "snapshot",
+];
 
 /// The words for strategies.
 const STRATEGIES: [&str; 4] = ["first", "most", "least", "forced"];
@@ -61,6 +72,16 @@ pub fn budget<'a>(alloc: Global, default: &'a str) -> Arg<'a> {
         .help("How many cubes a search may close, 1 to 1000000")
         .value_parser(clap::value_parser!(u32).range(1..=1_000_000))
         .default_value(default)
+}
+
+pub fn conflicts<'a>(alloc: Global) -> Arg<'a> {
+    Arg::new(alloc, "conflicts")
+        .long("budget")
+        .value_name("N")
+        .action(ArgAction::Set)
+        .help("How many conflicts the search may meet, 1 to 100000000")
+        .value_parser(clap::value_parser!(u32).range(1..=100_000_000))
+        .default_value(DEFAULT_CONFLICTS)
 }
 
 pub fn format<'a>(alloc: Global) -> Arg<'a> {
@@ -117,6 +138,20 @@ pub fn part<'a>(alloc: Global) -> Arg<'a> {
 pub fn order<'a>(alloc: Global) -> Arg<'a> {
     valued(alloc, "order", "FILE").help(
         "Write the serial order, a line SESSION PLACE for each transaction",
+    )
+}
+
+pub fn level<'a>(alloc: Global) -> Arg<'a> {
+    valued(alloc, "level", "LEVEL")
+        .help(
+            "Which promise is judged: else strict-serializable where moments are stated, and serializable where none are",
+        )
+        .value_parser(ValueParser::Names(&LEVELS))
+}
+
+pub fn only<'a>(alloc: Global) -> Arg<'a> {
+    flag(alloc, "only").help(
+        "Judge nothing but the level: no weaker one, and nothing without moments",
     )
 }
 

@@ -7,6 +7,7 @@ use clap::ArgMatches;
 use clap::error::ErrorKind;
 use cube_machine::{Budget, StrategyName};
 use desk::seat_no::Workers;
+use isolation::Isolation;
 use std::alloc::{AllocError, Global};
 
 /// The name of a log that stands for standard input.
@@ -45,6 +46,17 @@ fn report_of(matches: &ArgMatches<'_>) -> ReportForm {
     }
 }
 
+/// The level of isolation, where one is named.
+fn level_of(matches: &ArgMatches<'_>) -> Option<Isolation> {
+    match matches.get_str("level")? {
+        "strict-serializable" => Some(Isolation::StrictSerializable),
+        "serializable" => Some(Isolation::Serializable),
+        "strict-snapshot" => Some(Isolation::StrictSnapshot),
+        "snapshot" => Some(Isolation::Snapshot),
+        _ => None,
+    }
+}
+
 /// How many transactions each piece has at least, where this is stated.
 fn size_of(matches: &ArgMatches<'_>) -> Option<usize> {
     matches.get_one::<u16>("size").map(usize::from)
@@ -55,6 +67,8 @@ fn audit_of<'a>(matches: &ArgMatches<'a>) -> AuditWords<'a> {
         at_least: matches.get_one::<u32>("at-least").unwrap_or(1) as usize,
         faults: matches.get_one::<u16>("faults").map_or(1, usize::from),
         seconds: matches.get_one::<u32>("seconds"),
+        level: level_of(matches),
+        only: matches.get_flag("only"),
         no_moments: matches.get_flag("no-moments"),
         explain: matches.get_flag("explain"),
         part: matches.get_str("part"),
@@ -82,6 +96,9 @@ fn command_of<'a>(name: &str, matches: &ArgMatches<'a>) -> Option<Command<'a>> {
         "refute" => Some(Command::Refute {
             proof: matches.get_str("proof")?,
         }),
+        "solve" => Some(Command::Solve {
+            conflicts: matches.get_one::<u32>("conflicts")?,
+        }),
         "check" => Some(Command::Check),
         "verify" => Some(Command::Verify {
             order: matches.get_str("order")?,
@@ -95,6 +112,7 @@ fn command_of<'a>(name: &str, matches: &ArgMatches<'a>) -> Option<Command<'a>> {
             size: size_of(matches),
             wanted: wanted_of(matches),
         }),
+        "split" => Some(Command::Split),
         _ => None,
     }
 }

@@ -4,6 +4,7 @@ use call_options::{Format, ReportForm};
 use clap::Error;
 use cube_machine::{Budget, StrategyName};
 use desk::seat_no::Workers;
+use isolation::Isolation;
 
 /// What is to be done with a log.
 #[derive(Debug, Drop)]
@@ -17,6 +18,11 @@ pub enum Command<'a> {
     /// Check the solver's proof in this file that the formula of the log cannot be satisfied.
     Refute {
         proof: &'a str,
+    },
+    /// Decide whether some serial order explains the log, by a search over its formula that meets so
+    /// many conflicts at most.
+    Solve {
+        conflicts: u32,
     },
     /// Decide whether some serial order explains the log.
     Check,
@@ -37,6 +43,8 @@ pub enum Command<'a> {
         size: Option<usize>,
         wanted: PiecesWord<'a>,
     },
+    /// Write the log in which each committed transaction that writes is split in two.
+    Split,
 }
 
 /// What is asked of `audit` alone.
@@ -48,6 +56,10 @@ pub struct AuditWords<'a> {
     pub faults: usize,
     /// For how many seconds something further is begun, where that is limited.
     pub seconds: Option<u32>,
+    /// The level of isolation that is asked for by name, if one is.
+    pub level: Option<Isolation>,
+    /// No other level is to be judged.
+    pub only: bool,
     /// The log is judged as if it stated no moments.
     pub no_moments: bool,
     /// Why no serial order explains the log is to be said.

@@ -2,7 +2,7 @@
 //! claim, split, refute and solve, in memory that is taken when the search begins.
 //!
 //! Called by `branch_search`, through a desk, and cited by `tree_checks` and `tell_trees`;
-//! `deciding`, `auditing`, `cobra_cli` and `cobra_words` hand on its budgets and its names of
+//! `deciding`, `judging`, `cobra_cli` and `cobra_words` hand on its budgets and its names of
 //! strategies. It knows no log and no thread, and of a strategy only the name.
 //!
 //! A cube is a list of decided choices, each with its side. Contracts see the machine as the state

@@ -1,6 +1,6 @@
 //! A log is cut where nothing is under way: its pieces, each a part of every session.
 //!
-//! Called by `held_pieces`; `audit_command`, `pieces_command` and `tell_pieces` read its parts.
+//! Called by `held_pieces`; `pieces_command` reads its parts.
 //! It knows no value of a key, no history and no verdict.
 //!
 //! What finds the cuts is not trusted: a check of each piece, in one pass, shows that they are

@@ -1,8 +1,7 @@
 //! The pieces of a log that is cut, each with what its keys hold before it and behind it, and the
 //! log of each piece; and how large the pieces of a log are to be.
 //!
-//! Called by `audit_command` and `pieces_command`; `auditing` and `tell_pieces` read its pieces. It
-//! knows no graph, no verdict and no command.
+//! Called by `pieces_command`. It knows no graph, no verdict and no command.
 //!
 //! Of the initial value of a key and all that it was written with so far, a key holds behind a
 //! piece what is read last, for as long as later pieces read it. So what is held changes only where

@@ -1,5 +1,5 @@
 -- Parts of a log whose outcomes are known.
-use Rattle.std.proofs.Common.{◌≡◌, ◌≢◌, List, refl, sym, ◌∙◌}
+use Rattle.std.proofs.Common.{◌≡◌, ◌≢◌, Bool, List, refl, sym, ◌∙◌}
 use Rattle.std.specs.List.{AllByRecursion}
 use Rattle.session_log.specs.Text.{ClientSession, Transaction, IsLegal}
 use Rattle.session_log.specs.declared.session.Outcome.TheVariants.{Unknown}
@@ -11,6 +11,9 @@ use Rattle.part_laws.proofs.Thinned.{thinned_same, each_thinned}
 use Rattle.part_laws.proofs.Sessions.{txns_of_part}
 use Rattle.part_laws.proofs.Orders.{no_order_of_part}
 use Rattle.part_laws.proofs.Logs.{part_is_log}
+use Rattle.part_laws.proofs.Chosen.{thinned_is_part}
+use Rattle.log_parts.specs.Picked.{picked, is_kept, chosen}
+use Rattle.log_parts.proofs.Steps.{passes, some_picked}
 use Rattle.deciding.specs.Decides.{HasNoOrder}
 use Rattle.judging.proofs.Resolved.{serial_resolved, some_order, resolved_is_log}
 
@@ -25,6 +28,12 @@ part_log ss part log h =
       sound = is.1;
       learnt = each_thinned IsTxnPart IsLearnt IsLearnt (λ t u r k e. k (sym r.outcome ∙ e)) (txns_of_part h.sessions) log.learnt;
     }
+
+-- what flags choose is a part
+pub chosen_part : (ss : List ClientSession) (flags : List (List Bool)) → IsLog ss → IsPart ss (chosen flags ss)
+chosen_part ss flags log =
+    let some = picked flags ss in
+    thinned_is_part ss some (is_kept ss some) log.sound (some_picked flags ss) (passes ss some)
 
 same_txn : (t : Transaction) → IsTxnPart t t
 same_txn t = record { ops = thinned_same (λ o p. o ≡ p) (λ o. refl) t.ops; outcome = refl; begun = refl; ended = refl }

@@ -1,5 +1,5 @@
 -- A log within the limits has of nothing too much.
-use Rattle.std.proofs.Common.{◌≡◌, ℕ, ◌≤◌, Bool, true, false, cond, nat_lt, List, [], ◌∷◌, length, length-append, map, count_by, Some, None, refl, ap, ◌∙◌, arith}
+use Rattle.std.proofs.Common.{◌≡◌, ℕ, ◌≤◌, Bool, true, false, cond, nat_lt, List, [], ◌∷◌, length, length-append, map, count_by, Some, None, refl, sym, ap, ◌∙◌, subst, arith}
 use Rattle.std.specs.List.{flat_map, AllByRecursion}
 use Rattle.std.proofs.lemmas.Bool.{ltb-false}
 use Rattle.std.proofs.lemmas.List.Sums.{sum_by-cons, sum_by-append}
@@ -21,13 +21,20 @@ use Rattle.session_log.proofs.Whole.{log_by_lines, lines_log}
 use Rattle.session_log.proofs.Cutting.{counted_behind}
 use Rattle.log_definitions.specs.WellFormed.{IsWellFormed, log_lines}
 use Rattle.log_definitions.proofs.Scanning.{rules_where_no_fault}
+use Rattle.polygraph.specs.declared.fault.PolyFault.TheVariants as poly_fault
+use Rattle.reduction.specs.Outcome.{IsReduceFault}
+use Rattle.branch_search.specs.declared.answer.Answer.TheVariants.{Unknown}
+use Rattle.deciding.specs.Decides.{IsSearched}
+use Rattle.judging.specs.declared.level.Level.TheVariants.{Serializable}
 use Rattle.judging.specs.Limits.{IsOver}
+use Rattle.judging.specs.Levels.{judged_at}
 use Rattle.judging.specs.Judges.{IsVerdict, IsInVain}
 use Rattle.judging.specs.declared.means.JudgeMeans.{JudgeMeans}
 use Rattle.judging.specs.declared.judged.Why.{Why}
-use Rattle.judging.specs.declared.judged.Why.TheVariants.{Spent, TooLarge, TooManyChoices, NotBegun}
+use Rattle.judging.specs.declared.judged.Why.TheVariants.{Spent, TooLarge, TooManyChoices, NoRoom, NotBegun}
 use Rattle.judging.specs.declared.judged.Tried.{Tried}
 use Rattle.judging.specs.declared.judged.Verdict.TheVariants.{Undecided}
+use Rattle.judging.proofs.Levels.{not_snapshot}
 
 -- ---- bytes
 header_by_number : (v w : Version) → version_number v ≤ version_number w → length (header_text v) ≤ length (header_text w)
@@ -109,8 +116,9 @@ never_too_large text ss limit.Committed w h = let k = (rules_where_no_fault (fir
 never_too_large text ss limit.Keys w h = let k = (rules_where_no_fault (first_line (version_of text)) ss w.sessions).keys in omega (arith, h, k)
 
 -- ---- undecided
-pub in_vain : (m : JudgeMeans) (text : List ℕ) (ss : List ClientSession) (why : Why) (tried : Tried) → IsWellFormed text ss → m.deadline ≡ None → IsVerdict m ss (Undecided why tried) → IsInVain m ss why
-in_vain m text ss (Spent closed) tried w none h = h.0
-in_vain m text ss (TooLarge which) tried w none h = never_too_large text ss which w h.0
-in_vain m text ss TooManyChoices tried w none h = h.0
-in_vain m text ss NotBegun tried w none h = h.0 none
+pub in_vain : (m : JudgeMeans) (text : List ℕ) (ss : List ClientSession) (why : Why) (tried : Tried) → IsWellFormed text ss → m.level ≡ Serializable → m.deadline ≡ None → IsVerdict m ss (Undecided why tried) → IsInVain m ss why
+in_vain m text ss (Spent closed) tried w e none h = (h.0.0, subst (λ l. IsSearched m.deciding.budget (judged_at l ss) (Unknown closed)) e h.0.1)
+in_vain m text ss (TooLarge which) tried w e none h = never_too_large text ss which w (subst (λ l. IsOver (judged_at l ss) which) e h.0)
+in_vain m text ss TooManyChoices tried w e none h = subst (λ l. IsReduceFault (judged_at l ss) poly_fault.TooManyChoices) e h.0
+in_vain m text ss (NoRoom why) tried w e none h = absurd (not_snapshot (sym e ∙ h.0.0))
+in_vain m text ss NotBegun tried w e none h = h.0 none

@@ -1,9 +1,8 @@
 -- What is said of resolved sessions is said of those that they come from.
-use Rattle.std.proofs.Common.{◌≡◌, ℕ, List, Vec, map, sym, ap, ◌∙◌, subst}
+use Rattle.std.proofs.Common.{◌≡◌, Bool, List, Vec, map, refl, sym, ◌∙◌, subst}
 use Rattle.std.specs.Prelude.{Result, Ok, Err, IfOk}
 use Rattle.std.specs.List.{AllByRecursion}
 use Rattle.std.specs.declared.alloc.Global.{Global}
-use Rattle.log_definitions.specs.Serial.{IsSerialOrder}
 use Rattle.log_definitions.proofs.Members.{each_weaker}
 use Rattle.session_log.specs.Text.{ClientSession, IsLegal, view}
 use Rattle.serializability.specs.Log.{Log}
@@ -13,23 +12,29 @@ use Rattle.part_laws.specs.Parts.{IsPart}
 use Rattle.prune_ledger.specs.Pruned.{Remainder}
 use Rattle.serializability.specs.Polygraph.{Polygraph}
 use Rattle.reduction.specs.Chained.{HasItsOrders, IsUnpruned}
-use Rattle.reduction.specs.Outcome.{IsOpenHistory}
+use Rattle.reduction.specs.Outcome.{IsOpenHistory, IsReduceFault}
+use Rattle.polygraph.specs.declared.fault.PolyFault.TheVariants as poly_fault
+use Rattle.branch_search.specs.declared.answer.Answer.TheVariants.{Unknown}
+use Rattle.deciding.specs.Decides.{IsSearched}
+use Rattle.log_parts.specs.Picked.{chosen}
+use Rattle.judging.specs.Limits.{IsOver}
+use Rattle.judging.specs.declared.level.Level.{Level}
+use Rattle.judging.specs.declared.level.Level.TheVariants.{Serializable, Snapshot}
 use Rattle.judging.specs.declared.means.JudgeMeans.{JudgeMeans}
 use Rattle.judging.specs.declared.judged.Why.{Why}
-use Rattle.judging.specs.declared.judged.Why.TheVariants.{Spent, TooLarge, TooManyChoices, NotBegun}
+use Rattle.judging.specs.declared.judged.Why.TheVariants.{Spent, TooLarge, TooManyChoices, NoRoom, NotBegun}
 use Rattle.judging.specs.declared.judged.Tried.{Tried}
 use Rattle.judging.specs.declared.judged.Tried.TheVariants.{Nothing, NotSerial, PartSerial, PartOpen}
 use Rattle.judging.specs.declared.judged.RefutedPart.{RefutedPart}
 use Rattle.judging.specs.declared.judged.Verdict.{Verdict}
-use Rattle.judging.specs.declared.judged.Verdict.TheVariants.{Serializable, NotSerializable, Undecided}
+use Rattle.judging.specs.declared.judged.Verdict.TheVariants as verdict
 use Rattle.judging.specs.Judges.{IsRefutedLog, IsUndecidedBy, IsTried, IsVerdict}
 use Rattle.judging.specs.Made.{IsMadeOf, IsMade, IsToldPart}
-use Rattle.judging.specs.Finds.{IsSaid}
-use Rattle.judging.specs.Without.{without_moments}
-use Rattle.judging.proofs.Without.{legal_without, sound_without, resolved_without}
+use Rattle.judging.specs.Finds.{IsSaid, IsTriedOf, of_serial}
 use Rattle.judging.proofs.Resolved.{twice, known, serial_resolved, serial_of_resolved, log_resolved}
+use Rattle.judging.proofs.Levels.{judged_resolved, room_resolved, order_of_resolved, none_at_part}
 use Rattle.judging.proofs.Shorter.{over_resolved}
-use Rattle.judging.proofs.Parts.{part_log, part_itself, none_of_part}
+use Rattle.judging.proofs.Parts.{part_log, part_itself, chosen_part}
 
 -- ---- undecided
 orders_of_resolved : (ss : List ClientSession) (p : Polygraph) → HasItsOrders (resolved ss) p → HasItsOrders ss p
@@ -43,11 +48,26 @@ open_of_resolved ss left h = record {
   orders = orders_of_resolved ss left.poly h.orders;
 }
 
+undecided_serial : (m : JudgeMeans) (ss : List ClientSession) (why : Why) → AllByRecursion IsLegal ss → IsUndecidedBy (of_serial m) (resolved ss) why → IsUndecidedBy (of_serial m) ss why
+undecided_serial m ss (Spent closed) legal h = (h.0, record { left = h.1.left; history = open_of_resolved ss h.1.left h.1.history; ran = h.1.ran })
+undecided_serial m ss (TooLarge which) legal h = over_resolved ss which legal h
+undecided_serial m ss TooManyChoices legal h = rw (sym (log_resolved ss)) h
+undecided_serial m ss (NoRoom why) legal h = cc
+undecided_serial m ss NotBegun legal h = h
+
+undecided_snapshot : (m : JudgeMeans) (ss : List ClientSession) (why : Why) → IsUndecidedBy (record m { level = Snapshot }) (resolved ss) why → IsUndecidedBy (record m { level = Snapshot }) ss why
+undecided_snapshot m ss (Spent closed) h = (h.0, subst (λ l. IsSearched m.deciding.budget l (Unknown closed)) (judged_resolved ss) h.1)
+undecided_snapshot m ss (TooLarge which) h = subst (λ l. IsOver l which) (judged_resolved ss) h
+undecided_snapshot m ss TooManyChoices h = subst (λ l. IsReduceFault l poly_fault.TooManyChoices) (judged_resolved ss) h
+undecided_snapshot m ss (NoRoom why) h = (h.0, sym (room_resolved ss) ∙ h.1)
+undecided_snapshot m ss NotBegun h = h
+
 pub undecided_of_resolved : (m : JudgeMeans) (ss : List ClientSession) (why : Why) → AllByRecursion IsLegal ss → IsUndecidedBy m (resolved ss) why → IsUndecidedBy m ss why
-undecided_of_resolved m ss (Spent closed) legal h = (h.0, record { left = h.1.left; history = open_of_resolved ss h.1.left h.1.history; ran = h.1.ran })
-undecided_of_resolved m ss (TooLarge which) legal h = over_resolved ss which legal h
-undecided_of_resolved m ss NotBegun legal h = h
-undecided_of_resolved m ss TooManyChoices legal h = rw (sym (log_resolved ss)) h
+undecided_of_resolved m ss why legal h = go m.level refl
+  where
+    go : (level : Level) → m.level ≡ level → IsUndecidedBy m ss why
+    go Serializable e = subst (λ l. IsUndecidedBy (record m { level = l }) ss why) (sym e) (undecided_serial m ss why legal (subst (λ l. IsUndecidedBy (record m { level = l }) (resolved ss) why) e h))
+    go Snapshot e = subst (λ l. IsUndecidedBy (record m { level = l }) ss why) (sym e) (undecided_snapshot m ss why (subst (λ l. IsUndecidedBy (record m { level = l }) (resolved ss) why) e h))
 
 -- ---- parts
 part_once : (ss part : List ClientSession) → IsPart (resolved (resolved ss)) part → IsPart (resolved ss) part
@@ -60,58 +80,59 @@ tried_of_resolved m ss PartSerial (part, h) = (part, record { is_part = part_onc
 tried_of_resolved m ss (PartOpen why) (part, h) = (part, record { is_part = part_once ss part h.is_part; undecided = h.undecided })
 
 -- ---- parts that are told
-pub told_of_resolved : (ss : List ClientSession) (told : RefutedPart) → AllByRecursion IsLegal ss → IsSoundLog ss → IsToldPart (resolved ss) told → IsToldPart ss told
-told_of_resolved ss told legal sound h =
+pub told_of_resolved : (level : Level) (ss : List ClientSession) (told : RefutedPart) → AllByRecursion IsLegal ss → IsSoundLog ss → IsToldPart level (resolved ss) told → IsToldPart level ss told
+told_of_resolved level ss told legal sound h =
     let part = map view told.part.items in
     let is_part = part_once ss part h.part.is_part in
     record {
-      none = none_of_part ss part legal sound is_part h.part.refuted.none;
+      none = none_at_part level ss part legal sound is_part h.part.refuted.none;
       part = record { is_part = is_part; refuted = h.part.refuted };
       made = subst (λ l. IsMadeOf l told) (twice ss) h.made;
     }
 
-pub each_told : (ss known : List ClientSession) (parts : List RefutedPart) → AllByRecursion IsLegal ss → IsSoundLog ss → known ≡ resolved ss → AllByRecursion (IsToldPart known) parts → AllByRecursion (IsToldPart ss) parts
-each_told ss known parts legal sound same h =
-    each_weaker (IsToldPart known) (IsToldPart ss) (λ told t. told_of_resolved ss told legal sound (subst (λ l. IsToldPart l told) same t)) parts h
+pub each_told : (level : Level) (ss known : List ClientSession) (parts : List RefutedPart) → AllByRecursion IsLegal ss → IsSoundLog ss → known ≡ resolved ss → AllByRecursion (IsToldPart level known) parts → AllByRecursion (IsToldPart level ss) parts
+each_told level ss known parts legal sound same h =
+    each_weaker (IsToldPart level known) (IsToldPart level ss) (λ told t. told_of_resolved level ss told legal sound (subst (λ l. IsToldPart level l told) same t)) parts h
 
 -- ---- of a log whose outcomes are known
 part_of_known : (ss part : List ClientSession) → IsLog ss → IsPart ss part → IsPart (resolved ss) part
 part_of_known ss part log h = subst (λ l. IsPart l part) (sym (known ss log)) h
 
-pub told_by_part : (ss : List ClientSession) (told : RefutedPart) → IsLog ss → IsPart ss (map view told.part.items) → IsMadeOf ss told → IsRefutedLog (map view told.part.items) told.finding → IsToldPart ss told
-told_by_part ss told log h made refuted =
+pub told_by_part : (level : Level) (ss : List ClientSession) (told : RefutedPart) → IsLog ss → IsPart ss (map view told.part.items) → IsMadeOf ss told → IsRefutedLog level (map view told.part.items) told.finding → IsToldPart level ss told
+told_by_part level ss told log h made refuted =
     let part = map view told.part.items in
     let is_part = part_of_known ss part log h in
     record {
-      none = none_of_part ss part log.legal log.sound is_part refuted.none;
+      none = none_at_part level ss part log.legal log.sound is_part refuted.none;
       part = record { is_part = is_part; refuted = refuted };
       made = subst (λ l. IsMadeOf l told) (sym (known ss log)) made;
     }
 
-pub told_whole : (ss : List ClientSession) (told : RefutedPart) → IsLog ss → map view told.part.items ≡ ss → IsMadeOf ss told → IsRefutedLog ss told.finding → IsToldPart ss told
-told_whole ss told log same made refuted =
-    told_by_part ss told log (subst (IsPart ss) (sym same) (part_itself ss)) made (subst (λ l. IsRefutedLog l told.finding) (sym same) refuted)
+pub told_whole : (level : Level) (ss : List ClientSession) (told : RefutedPart) → IsLog ss → map view told.part.items ≡ ss → IsMadeOf ss told → IsRefutedLog level ss told.finding → IsToldPart level ss told
+told_whole level ss told log same made refuted =
+    told_by_part level ss told log (subst (IsPart ss) (sym same) (part_itself ss)) made (subst (λ l. IsRefutedLog level l told.finding) (sym same) refuted)
 
-pub serial_part : (m : JudgeMeans) (ss part : List ClientSession) (order : List ℕ) → IsLog ss → IsPart ss part → IsSerialOrder part order → IsTried m ss PartSerial
-serial_part m ss part order log h serial = (part, record { is_part = part_of_known ss part log h; order = (order, serial) })
-
-pub open_part : (m : JudgeMeans) (ss part : List ClientSession) (why : Why) → IsLog ss → IsPart ss part → IsUndecidedBy m part why → IsTried m ss (PartOpen why)
-open_part m ss part why log h undecided = (part, record { is_part = part_of_known ss part log h; undecided = undecided })
+-- what became of the part of these flags is what became of a part
+pub tried_part : (m : JudgeMeans) (ss : List ClientSession) (flags : List (List Bool)) (tried : Tried) → IsLog ss → IsTriedOf m (chosen flags ss) tried → IsTried m ss tried
+tried_part m ss flags Nothing log h = tt
+tried_part m ss flags NotSerial log h = tt
+tried_part m ss flags PartSerial log h = (chosen flags ss, record { is_part = part_of_known ss (chosen flags ss) log (chosen_part ss flags log); order = h })
+tried_part m ss flags (PartOpen why) log h = (chosen flags ss, record { is_part = part_of_known ss (chosen flags ss) log (chosen_part ss flags log); undecided = h })
 
 -- the part that is told is a log
-pub told_is_log : (ss : List ClientSession) (told : RefutedPart) → IsLog ss → IsToldPart ss told → IsLog (map view told.part.items)
-told_is_log ss told log h = part_log ss (map view told.part.items) log (subst (λ l. IsPart l (map view told.part.items)) (known ss log) h.part.is_part)
+pub told_is_log : (level : Level) (ss : List ClientSession) (told : RefutedPart) → IsLog ss → IsToldPart level ss told → IsLog (map view told.part.items)
+told_is_log level ss told log h = part_log ss (map view told.part.items) log (subst (λ l. IsPart l (map view told.part.items)) (known ss log) h.part.is_part)
 
 -- ---- verdicts
 pub verdict_of_resolved : (m : JudgeMeans) (ss : List ClientSession) (v : Verdict) → AllByRecursion IsLegal ss → IsSoundLog ss → IsSaid m (resolved ss) v → IsVerdict m ss v
-verdict_of_resolved m ss (Serializable order) legal sound h = serial_of_resolved ss order.items h
-verdict_of_resolved m ss (NotSerializable told) legal sound h = let t = told_of_resolved ss told legal sound h in (t.none, t.part)
-verdict_of_resolved m ss (Undecided why tried) legal sound (h, t) = (undecided_of_resolved m ss why legal h, tried_of_resolved m ss tried t)
+verdict_of_resolved m ss (verdict.Serializable order) legal sound h = order_of_resolved m.level ss order.items h
+verdict_of_resolved m ss (verdict.NotSerializable told) legal sound h = let t = told_of_resolved m.level ss told legal sound h in (t.none, t.part)
+verdict_of_resolved m ss (verdict.Undecided why tried) legal sound (h, t) = (undecided_of_resolved m ss why legal h, tried_of_resolved m ss tried t)
 
 pub made_of_known : (m : JudgeMeans) (ss : List ClientSession) (v : Verdict) → IsLog ss → IsSaid m ss v → IsMade ss v
-made_of_known m ss (Serializable order) log h = tt
-made_of_known m ss (NotSerializable told) log h = subst (λ l. IsMadeOf l told) (known ss log) h.made
-made_of_known m ss (Undecided why tried) log h = tt
+made_of_known m ss (verdict.Serializable order) log h = tt
+made_of_known m ss (verdict.NotSerializable told) log h = subst (λ l. IsMadeOf l told) (known ss log) h.made
+made_of_known m ss (verdict.Undecided why tried) log h = tt
 
 -- ---- of sessions that a log's are when they are resolved
 pub of_each : {E : Type 0} (m : JudgeMeans) (known : List ClientSession) (r : Result Verdict E) → IfOk r (IsSaid m known)
@@ -123,15 +144,7 @@ pub made_if_ok : {E : Type 0} (m : JudgeMeans) (known : List ClientSession) (r :
 made_if_ok m known (Ok v) log h = made_of_known m known v log h
 made_if_ok m known (Err e) log h = tt
 
-pub each_if_ok : {E : Type 0} (known : List ClientSession) (r : Result (Vec RefutedPart Global) E) → IfOk r (λ parts. AllByRecursion (IsToldPart known) parts.items)
-    → IfOk r (λ parts. (ss : List ClientSession) → AllByRecursion IsLegal ss → IsSoundLog ss → known ≡ resolved ss → AllByRecursion (IsToldPart ss) parts.items)
-each_if_ok known (Ok parts) h = λ ss legal sound same. each_told ss known parts.items legal sound same h
-each_if_ok known (Err e) h = tt
-
--- ---- of sessions without their moments
-pub of_each_without : {E : Type 0} (m : JudgeMeans) (now old : List ClientSession) (r : Result Verdict E) → now ≡ without_moments old
-    → IfOk r (λ verdict. (ss : List ClientSession) → AllByRecursion IsLegal ss → IsSoundLog ss → now ≡ resolved ss → IsVerdict m ss verdict)
-    → IfOk r (λ verdict. (ss : List ClientSession) → AllByRecursion IsLegal ss → IsSoundLog ss → old ≡ resolved ss → IsVerdict m (without_moments ss) verdict)
-of_each_without m now old (Ok v) e h = λ ss legal sound same.
-    h (without_moments ss) (legal_without ss legal) (sound_without ss legal sound) (e ∙ ap without_moments same ∙ sym (resolved_without ss))
-of_each_without m now old (Err f) e h = tt
+pub each_if_ok : {E : Type 0} (level : Level) (known : List ClientSession) (r : Result (Vec RefutedPart Global) E) → IfOk r (λ parts. AllByRecursion (IsToldPart level known) parts.items)
+    → IfOk r (λ parts. (ss : List ClientSession) → AllByRecursion IsLegal ss → IsSoundLog ss → known ≡ resolved ss → AllByRecursion (IsToldPart level ss) parts.items)
+each_if_ok level known (Ok parts) h = λ ss legal sound same. each_told level ss known parts.items legal sound same h
+each_if_ok level known (Err e) h = tt

@@ -3,9 +3,7 @@ use Rattle.std.specs.Prelude.{◌≡◌, ◌≢◌, ℕ, List, map, Some, None}
 use Rattle.session_log.specs.Text.{ClientSession, view}
 use Rattle.serializability.specs.Anomalies.{anomaly_of}
 use Rattle.log_definitions.specs.Unknown.{resolved}
-use Rattle.log_definitions.specs.Serial.{IsSerialOrder}
 use Rattle.log_definitions.specs.Numbers.{log_of}
-use Rattle.piece_laws.specs.Logs.{HasOrder}
 use Rattle.part_laws.specs.Parts.{IsPart}
 use Rattle.polygraph.specs.declared.fault.PolyFault.TheVariants as poly_fault
 use Rattle.prune_ledger.specs.declared.ledger.Ledger.{Ledger}
@@ -13,13 +11,17 @@ use Rattle.prune_ledger.specs.Pruned.{Remainder}
 use Rattle.cube_laws.specs.declared.tree.TreeNode.{TreeNode}
 use Rattle.reduction.specs.Outcome.{IsDeadHistory, IsReduceFault}
 use Rattle.branch_search.specs.declared.answer.Answer.TheVariants.{Unknown}
-use Rattle.deciding.specs.Decides.{HasNoOrder, IsSearched, IsCycleOf, IsRefutedBy}
+use Rattle.splitting.specs.Locks.{no_room}
+use Rattle.deciding.specs.Decides.{IsSearched, IsCycleOf, IsRefutedBy}
 use Rattle.judging.specs.Limits.{IsOver}
+use Rattle.judging.specs.Levels.{judged_at, HasOrderAt, HasNoOrderAt, IsOrderAt}
+use Rattle.judging.specs.declared.level.Level.{Level}
+use Rattle.judging.specs.declared.level.Level.TheVariants.{Snapshot}
 use Rattle.judging.specs.declared.judged.Finding.{Finding}
 use Rattle.judging.specs.declared.judged.Finding.TheVariants.{Anomaly, Cycle, Dead, Refuted}
 use Rattle.judging.specs.declared.judged.Why.{Why}
 use Rattle.judging.specs.declared.judged.Why.TheVariants.{Spent, TooLarge, TooManyChoices}
-use Rattle.judging.specs.declared.judged.Why.TheVariants.{NotBegun}
+use Rattle.judging.specs.declared.judged.Why.TheVariants.{NoRoom, NotBegun}
 use Rattle.judging.specs.declared.means.JudgeMeans.{JudgeMeans}
 use Rattle.judging.specs.declared.judged.Tried.{Tried}
 use Rattle.judging.specs.declared.judged.Tried.TheVariants.{Nothing, NotSerial}
@@ -39,32 +41,35 @@ Finds ss Dead = (ledger : Ledger) × IsDeadHistory ss ledger
 Finds ss Refuted = (budget : ℕ) × (left : Remainder) × (tree : List TreeNode)
     × IsRefutedBy budget ss left tree
 
--- no order of the log's committed and of any unknown transactions explains it, and why
-pub record IsRefutedLog (ss : List ClientSession) (finding : Finding) : Type 0 where
-  pub none : HasNoOrder ss
-  pub found : Finds ss finding
+-- no order of the level explains the log's committed and any unknown transactions, and why
+pub record IsRefutedLog (level : Level) (ss : List ClientSession) (finding : Finding)
+    : Type 0 where
+  pub none : HasNoOrderAt level ss
+  pub found : Finds (judged_at level ss) finding
 
--- why a log is not decided: its search closed as many cubes as it may, and found nothing; it has
--- too many of something; its chains have too many choices; or a time was set, of which no more is
--- said
+-- why a log is not decided: the search of the log that is judged closed as many cubes as it may, and
+-- found nothing; it has too many of something; its chains have too many choices; names of locks have
+-- no room; or a time was set, of which no more is said
 abbrev pub IsUndecidedBy : JudgeMeans → List ClientSession → Why → Type 0
 IsUndecidedBy m ss (Spent closed) = (closed ≡ m.deciding.budget)
-    × IsSearched m.deciding.budget ss (Unknown closed)
-IsUndecidedBy m ss (TooLarge which) = IsOver ss which
-IsUndecidedBy m ss TooManyChoices = IsReduceFault ss poly_fault.TooManyChoices
+    × IsSearched m.deciding.budget (judged_at m.level ss) (Unknown closed)
+IsUndecidedBy m ss (TooLarge which) = IsOver (judged_at m.level ss) which
+IsUndecidedBy m ss TooManyChoices = IsReduceFault (judged_at m.level ss) poly_fault.TooManyChoices
+IsUndecidedBy m ss (NoRoom why) = (m.level ≡ Snapshot) × (no_room ss ≡ Some why)
 IsUndecidedBy m ss NotBegun = m.deadline ≢ None
 
 -- ---- the whole
 
 -- it is a part of the log, whose unknown outcomes are resolved; it has no order, and why
-pub record IsRefutedPart (ss part : List ClientSession) (finding : Finding) : Type 0 where
+pub record IsRefutedPart (level : Level) (ss part : List ClientSession) (finding : Finding)
+    : Type 0 where
   pub is_part : IsPart (resolved ss) part
-  pub refuted : IsRefutedLog part finding
+  pub refuted : IsRefutedLog level part finding
 
 -- a part of the log that has an order, or that is not decided, and why
-pub record IsSerialPart (ss part : List ClientSession) : Type 0 where
+pub record IsSerialPart (level : Level) (ss part : List ClientSession) : Type 0 where
   pub is_part : IsPart (resolved ss) part
-  pub order : HasOrder part
+  pub order : HasOrderAt level part
 
 pub record IsOpenPart (m : JudgeMeans) (ss part : List ClientSession) (why : Why) : Type 0 where
   pub is_part : IsPart (resolved ss) part
@@ -74,16 +79,16 @@ pub record IsOpenPart (m : JudgeMeans) (ss part : List ClientSession) (why : Why
 abbrev pub IsTried : JudgeMeans → List ClientSession → Tried → Type 0
 IsTried m ss Nothing = Unit {0}
 IsTried m ss NotSerial = Unit {0}
-IsTried m ss PartSerial = (part : List ClientSession) × IsSerialPart ss part
+IsTried m ss PartSerial = (part : List ClientSession) × IsSerialPart m.level ss part
 IsTried m ss (PartOpen why) = (part : List ClientSession) × IsOpenPart m ss part why
 
--- That this is a serial order of the log, of the committed and of the taken transactions; that no
--- order of the committed and of any unknown ones explains it, since this part of it has none; or
+-- That the log has an order of the level, of the committed and of the taken transactions, and which;
+-- that none of the committed and of any unknown ones explains it, since this part of it has none; or
 -- that it is not decided: then the log itself was searched in vain, or is too large to be.
 abbrev pub IsVerdict : JudgeMeans → List ClientSession → Verdict → Type 0
-IsVerdict m ss (Serializable order) = IsSerialOrder ss order.items
-IsVerdict m ss (NotSerializable told) = HasNoOrder ss
-    × IsRefutedPart ss (map view told.part.items) told.finding
+IsVerdict m ss (Serializable order) = IsOrderAt m.level ss order.items
+IsVerdict m ss (NotSerializable told) = HasNoOrderAt m.level ss
+    × IsRefutedPart m.level ss (map view told.part.items) told.finding
 IsVerdict m ss (Undecided why tried) = IsUndecidedBy m ss why × IsTried m ss tried
 
 -- ---- a log that `check` takes

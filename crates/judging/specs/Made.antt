@@ -3,7 +3,8 @@ use Rattle.std.specs.Prelude.{◌≡◌, Bool, List, map, Option, Some, None, Ve
 use Rattle.std.specs.declared.alloc.Global.{Global}
 use Rattle.session_log.specs.Text.{ClientSession, view}
 use Rattle.log_definitions.specs.Unknown.{resolved}
-use Rattle.deciding.specs.Decides.{HasNoOrder}
+use Rattle.judging.specs.Levels.{HasNoOrderAt}
+use Rattle.judging.specs.declared.level.Level.{Level}
 use Rattle.judging.specs.Judges.{IsRefutedPart}
 use Rattle.log_parts.specs.Picked.{flags_view, chosen}
 use Rattle.judging.specs.declared.judged.RefutedPart.{RefutedPart}
@@ -26,7 +27,8 @@ IsMade known _ = Unit {0}
 
 -- a part that is told of a log: it has no order, so the log has none, and it is what its flags choose
 -- of the sessions with their outcomes known
-pub record IsToldPart (ss : List ClientSession) (told : RefutedPart) : Type 0 where
-  pub none : HasNoOrder ss
-  pub part : IsRefutedPart ss (map view told.part.items) told.finding
+pub record IsToldPart (level : Level) (ss : List ClientSession) (told : RefutedPart)
+    : Type 0 where
+  pub none : HasNoOrderAt level ss
+  pub part : IsRefutedPart level ss (map view told.part.items) told.finding
   pub made : IsMadeOf (resolved ss) told

@@ -1,16 +1,30 @@
 //! Which transactions are chosen. No contract speaks of what these functions choose.
 
+ghost use Rattle.std.specs.Prelude.{◌≡◌, IfOk};
+ghost use Rattle.log_parts.specs.Picked.{flags_view};
+
 use proposals::Flags;
 use session_history::NodeIx;
 use session_log::{Op, Outcome, Session, Txn};
 use std::alloc::{AllocError, Global};
 use std::collections::BTreeSet;
 
+/// The same flags of a session once more.
+fn copy_list(alloc: Global, flags: &[bool]) -> Result<Vec<bool>, AllocError>
+    ensures { IfOk result (λ copy. copy.items ≡ flags.now) }
+{
+    let mut copy = Vec::with_capacity(alloc, flags.len())?;
+    copy.extend_from_slice(flags)?;
+    Ok(copy)
+}
+
 /// The same flags once more.
-pub fn copy_flags(alloc: Global, flags: &[Vec<bool>]) -> Result<Flags, AllocError> {
+pub fn copy_flags(alloc: Global, flags: &[Vec<bool>]) -> Result<Flags, AllocError>
+    ensures { IfOk result (λ copy. flags_view copy.items ≡ flags_view flags.now) }
+{
     let mut copy = Vec::with_capacity(alloc, flags.len())?;
     for list in flags {
-        copy.push(list.to_vec(alloc)?)?;
+        copy.push(copy_list(alloc, list)?)?;
     }
     Ok(copy)
 }

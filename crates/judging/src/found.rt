@@ -5,10 +5,12 @@ ghost use Rattle.session_log.specs.Text.{ClientSession, view};
 ghost use Rattle.session_log.specs.declared.fault.LogFault.TheVariants.{OverLimit};
 ghost use Rattle.piece_laws.specs.Logs.{IsLog};
 ghost use Rattle.deciding.specs.Decides.{Decides};
-ghost use Rattle.judging.specs.Finds.{IsFound, IsLimitOrMemory};
+ghost use Rattle.judging.specs.Finds.{IsFound, IsLimitOrMemory, of_serial};
 ghost use Rattle.judging.specs.declared.means.JudgeMeans.{JudgeMeans};
 
+use crate::halves::joined_nodes;
 use crate::judged::{Finding, Why};
+use crate::level::{LevelLog, log_at};
 use crate::limits::size_limit;
 use crate::means::JudgeMeans;
 use deciding::{Decision, decide};
@@ -25,7 +27,7 @@ use std::time::Clock;
 /// What is found of a log.
 #[derive(Drop)]
 pub enum Found {
-    /// It has this serial order.
+    /// The log that is judged for it has this serial order.
     Serial(NodeLine),
     /// It has none.
     Refuted(Finding),
@@ -36,7 +38,7 @@ pub enum Found {
 /// What a decision says of a log.
 fn found_by(decision: Decision) -> Found
     ensures { (m : JudgeMeans) (ss : List ClientSession) → Decides m.deciding.budget ss decision
-        → IsFound m ss result }
+        → IsFound (of_serial m) ss result }
 {
     match decision {
         Decision::Serial(order) => Found::Serial(order),
@@ -85,7 +87,7 @@ fn seen_of<R: Threads + Wait + Clock + Sync>(
     history: &History,
     means: &JudgeMeans,
 ) -> Result<Seen, AllocError>
-    ensures { IfOk result (λ seen. IsFound means.now history.now seen.found) }
+    ensures { IfOk result (λ seen. IsFound (of_serial means.now) history.now seen.found) }
 {
     match decide(rt, alloc, history, &means.deciding, &OpenGate) {
         Ok(decision) => {
@@ -120,15 +122,16 @@ fn passed_limit(fault: LogFault) -> Result<Limit, AllocError>
     }
 }
 
-/// What is found of a log that can be judged by itself, and the nodes that show it.
-pub fn see_log<R: Threads + Wait + Clock + Sync>(
+/// What is found of the serial orders of a log that can be judged by itself, and the nodes that show
+/// it.
+fn see_serial<R: Threads + Wait + Clock + Sync>(
     rt: &R,
     alloc: Global,
     log: &[Session],
     means: &JudgeMeans,
 ) -> Result<Seen, AllocError>
     requires log { IsLog (map view log.now) }
-    ensures { IfOk result (λ seen. IsFound means.now (map view log.now) seen.found) }
+    ensures { IfOk result (λ seen. IsFound (of_serial means.now) (map view log.now) seen.found) }
 {
     if means.is_over(rt) {
         return Ok(undecided(alloc, Why::NotBegun));
@@ -144,6 +147,42 @@ pub fn see_log<R: Threads + Wait + Clock + Sync>(
                 which: passed_limit(fault)?,
             },
         )),
+    }
+}
+
+/// What is found of a log by its split log.
+fn see_split<R: Threads + Wait + Clock + Sync>(
+    rt: &R,
+    alloc: Global,
+    log: &[Session],
+    split: &[Session],
+    means: &JudgeMeans,
+) -> Result<Seen, AllocError>
+    requires log { IsLog (map view split.now) }
+    ensures { IfOk result (λ seen. IsFound (of_serial means.now) (map view split.now) seen.found) }
+{
+    let seen = see_serial(rt, alloc, split, means)?;
+    let nodes = joined_nodes(alloc, log, &seen.nodes)?;
+    Ok(Seen {
+        found: seen.found,
+        nodes,
+    })
+}
+
+/// What is found of a log that can be judged by itself, and the nodes that show it.
+pub fn see_log<R: Threads + Wait + Clock + Sync>(
+    rt: &R,
+    alloc: Global,
+    log: &[Session],
+    means: &JudgeMeans,
+) -> Result<Seen, AllocError>
+    requires log { IsLog (map view log.now) }
+    ensures { IfOk result (λ seen. IsFound means.now (map view log.now) seen.found) }
+{
+    match log_at(alloc, means.level, log)? {
+        LevelLog::Itself => see_serial(rt, alloc, log, means),
+        LevelLog::Split(split) => see_split(rt, alloc, log, &split, means),
+        LevelLog::NoRoom(why) => Ok(undecided(alloc, Why::NoRoom(why))),
     }
 }
 

@@ -3,8 +3,9 @@
 use proposals::Flags;
 use session_history::Anomaly;
 use session_log::{Limit, Session};
+use splitting::NoRoom;
 
-/// Why a log has no serial order.
+/// Why a log has no order.
 #[derive(Clone, Copy, Debug, PartialEq, Eq)]
 pub enum Finding {
     /// An anomaly stands: the one that is to be reported, one of A1 to A7.
@@ -26,6 +27,8 @@ pub enum Why {
     TooLarge { which: Limit },
     /// There are more than 100,000 choices between chains.
     TooManyChoices,
+    /// Its split log has no room for locks.
+    NoRoom(NoRoom),
     /// The time was up.
     NotBegun,
 }
@@ -43,7 +46,7 @@ pub enum Tried {
     PartOpen(Why),
 }
 
-/// A part of a log that has no serial order.
+/// A part of a log that has no order.
 #[derive(Drop)]
 pub struct RefutedPart {
     /// Its sessions.
@@ -57,8 +60,8 @@ pub struct RefutedPart {
 /// What is said of a log.
 #[derive(Drop)]
 pub enum Verdict {
-    /// It has this serial order, by the numbers of the committed transactions, from 1, by session
-    /// and then by place.
+    /// The log that is judged for it has this serial order, by the numbers of the committed
+    /// transactions, from 1, by session and then by place.
     Serializable(Vec<usize>),
     /// It has none, since this part of it has none.
     NotSerializable(RefutedPart),

@@ -6,6 +6,8 @@ ghost use Rattle.session_log.specs.Text.{ClientSession, IsLegal, view};
 ghost use Rattle.log_definitions.specs.Serial.{IsSerialOrder};
 ghost use Rattle.log_definitions.specs.Unknown.{resolved};
 ghost use Rattle.piece_laws.specs.Logs.{IsSoundLog, IsLog};
+ghost use Rattle.log_parts.specs.Picked.{flags_view};
+ghost use Rattle.judging.specs.Levels.{IsJudgedAt, IsLogAt};
 ghost use Rattle.judging.specs.Judges.{IsRefutedLog, IsUndecidedBy, IsTried, IsVerdict};
 ghost use Rattle.judging.specs.Finds.{IsAttempt, IsSaid, IsWhole};
 ghost use Rattle.judging.specs.Made.{IsMade, IsToldPart};
@@ -13,6 +15,7 @@ ghost use Rattle.judging.specs.Made.{IsMade, IsToldPart};
 use crate::flags::{copy_flags, count_flags};
 use crate::found::{Found, Seen, see_log};
 use crate::judged::{Finding, RefutedPart, Tried, Verdict, Why};
+use crate::level::LevelLog;
 use crate::means::JudgeMeans;
 use crate::shrinking::smaller;
 use crate::trial::{Attempt, Trial, try_part};
@@ -37,19 +40,19 @@ pub enum Whole {
     Open(Why),
 }
 
-/// The proposed order, where it is serial.
+/// The proposed order, where it is a serial order of this log.
 fn judge_order(
     alloc: Global,
-    sessions: &[Session],
+    judged: &[Session],
     order: &[usize],
 ) -> Result<Option<Vec<usize>>, AllocError>
-    requires log { IsLog (map view sessions.now) }
+    requires log { IsLog (map view judged.now) }
     ensures { IfOk result (λ found. IfSome found (λ order.
-        IsSerialOrder (map view sessions.now) order.items)) }
+        IsSerialOrder (map view judged.now) order.items)) }
 {
     let mut copy = Vec::new(alloc);
     copy.extend_from_slice(order)?;
-    if is_serial(alloc, sessions, &copy)? {
+    if is_serial(alloc, judged, &copy)? {
         return Ok(Some(copy));
     }
     Ok(None)
@@ -64,7 +67,7 @@ pub fn judge_part<R: Threads + Wait + Clock + Sync>(
     means: &JudgeMeans,
 ) -> Result<Attempt, AllocError>
     requires log { IsLog (map view sessions.now) }
-    ensures { IfOk result (IsAttempt means.now (map view sessions.now)) }
+    ensures { IfOk result (IsAttempt means.now (map view sessions.now) (flags_view flags.now)) }
 {
     let Trial { attempt, nodes } = try_part(rt, alloc, sessions, copy_flags(alloc, flags)?, means)?;
     match attempt {
@@ -97,8 +100,8 @@ fn refuted_whole<R: Threads + Wait + Clock + Sync>(
     means: &JudgeMeans,
 ) -> Result<RefutedPart, AllocError>
     requires log { IsLog (map view sessions.now) }
-    requires refuted { IsRefutedLog (map view sessions.now) finding }
-    ensures { IfOk result (IsToldPart (map view sessions.now)) }
+    requires refuted { IsRefutedLog means.now.level (map view sessions.now) finding }
+    ensures { IfOk result (IsToldPart means.now.level (map view sessions.now)) }
 {
     let part = copy_log(alloc, sessions)?;
     let told = RefutedPart {
@@ -179,19 +182,22 @@ fn judge_rest<R: Threads + Wait + Clock + Sync>(
     }
 }
 
-/// What a proposed order says, and what else is to be said where it is none.
+/// What a proposed order says of the log that is judged, and what else is to be said where it is
+/// none.
 fn judge_by_order<R: Threads + Wait + Clock + Sync>(
     rt: &R,
     alloc: Global,
     sessions: &[Session],
+    judged: &[Session],
     order: &[usize],
     proposal: &Proposal,
     means: &JudgeMeans,
 ) -> Result<Verdict, AllocError>
     requires log { IsLog (map view sessions.now) }
+    requires judged { IsJudgedAt means.now.level (map view sessions.now) (map view judged.now) }
     ensures { IfOk result (IsSaid means.now (map view sessions.now)) }
 {
-    match judge_order(alloc, sessions, order)? {
+    match judge_order(alloc, judged, order)? {
         Some(order) => Ok(Verdict::Serializable(order)),
         None => judge_rest(rt, alloc, sessions, proposal, Tried::NotSerial, means),
     }
@@ -215,19 +221,44 @@ fn judge_by_part<R: Threads + Wait + Clock + Sync>(
     }
 }
 
+/// What a proposed order says of what is judged for a log.
+fn judge_ordered<R: Threads + Wait + Clock + Sync>(
+    rt: &R,
+    alloc: Global,
+    sessions: &[Session],
+    at: &LevelLog,
+    order: &[usize],
+    proposal: &Proposal,
+    means: &JudgeMeans,
+) -> Result<Verdict, AllocError>
+    requires log { IsLog (map view sessions.now) }
+    requires at { IsLogAt means.now.level (map view sessions.now) at.now }
+    ensures { IfOk result (IsSaid means.now (map view sessions.now)) }
+{
+    match at {
+        LevelLog::Itself => judge_by_order(rt, alloc, sessions, sessions, order, proposal, means),
+        LevelLog::Split(split) => {
+            judge_by_order(rt, alloc, sessions, split, order, proposal, means)
+        }
+        LevelLog::NoRoom(_) => judge_rest(rt, alloc, sessions, proposal, Tried::Nothing, means),
+    }
+}
+
 /// What is said of a log whose outcomes are known, by what is proposed of it.
 fn judge_known<R: Threads + Wait + Clock + Sync>(
     rt: &R,
     alloc: Global,
     sessions: &[Session],
+    at: &LevelLog,
     proposal: &Proposal,
     means: &JudgeMeans,
 ) -> Result<Verdict, AllocError>
     requires log { IsLog (map view sessions.now) }
+    requires at { IsLogAt means.now.level (map view sessions.now) at.now }
     ensures { IfOk result (IsSaid means.now (map view sessions.now)) }
 {
     match proposal {
-        Proposal::Order(order) => judge_by_order(rt, alloc, sessions, order, proposal, means),
+        Proposal::Order(order) => judge_ordered(rt, alloc, sessions, at, order, proposal, means),
         Proposal::Part(flags) => judge_by_part(rt, alloc, sessions, flags, proposal, means),
         Proposal::Stuck(_) | Proposal::NotTried(_) => {
             judge_rest(rt, alloc, sessions, proposal, Tried::Nothing, means)
@@ -247,21 +278,23 @@ fn tell_search<R: Clock + Eprint, P: Progress>(rt: &R, proposal: &Proposal, prog
 }
 
 /// What is said of a log by what is proposed of its sessions with their outcomes known, which are
-/// these. Whatever is proposed, what is said is so.
+/// these, and of what is judged for them. Whatever is proposed, what is said is so.
 pub fn judge<R: Threads + Wait + Clock + Eprint + Sync, P: Progress>(
     rt: &R,
     alloc: Global,
     sessions: &[Session],
+    at: &LevelLog,
     proposal: &Proposal,
     means: &JudgeMeans,
     progress: &mut P,
 ) -> Result<Verdict, AllocError>
     requires log { IsLog (map view sessions.now) }
+    requires at { IsLogAt means.now.level (map view sessions.now) at.now }
     ensures verdict { IfOk result (λ verdict. (ss : List ClientSession) → AllByRecursion IsLegal ss
         → IsSoundLog ss → map view sessions.now ≡ resolved ss
         → IsVerdict means.now ss verdict) }
     ensures made { IfOk result (IsMade (map view sessions.now)) }
 {
     tell_search(rt, proposal, progress);
-    judge_known(rt, alloc, sessions, proposal, means)
+    judge_known(rt, alloc, sessions, at, proposal, means)
 }

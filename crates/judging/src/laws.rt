@@ -11,6 +11,7 @@ ghost use Rattle.log_definitions.specs.Numbers.{log_of};
 ghost use Rattle.piece_laws.specs.Logs.{IsSoundLog, IsLog};
 ghost use Rattle.judging.specs.Limits.{IsOver};
 ghost use Rattle.judging.specs.Judges.{IsVerdict, IsInVain};
+ghost use Rattle.judging.specs.declared.level.Level.TheVariants.{Serializable};
 ghost use Rattle.judging.specs.declared.judged.Why.{Why};
 ghost use Rattle.judging.specs.declared.judged.Tried.{Tried};
 ghost use Rattle.judging.specs.declared.judged.Verdict.TheVariants.{Undecided};
@@ -23,12 +24,13 @@ pub fn small_is_never_too_large()
         → IsOver ss which → ⊥ }
 {}
 
-/// Where no time is set, a log that is well-formed is undecided only where its own search spent its
-/// budget, or where its chains have too many choices: as it is where it is decided by itself.
+/// Where no time is set, a log that is well-formed and judged for serializability is undecided only
+/// where its own search spent its budget, or where its chains have too many choices: as it is where
+/// it is decided by itself.
 pub fn small_is_searched()
     ensures { (m : JudgeMeans) (text : List ℕ) (ss : List ClientSession) (why : Why) (tried : Tried)
-        → IsWellFormed text ss → m.deadline ≡ None → IsVerdict m ss (Undecided why tried)
-        → IsInVain m ss why }
+        → IsWellFormed text ss → m.level ≡ Serializable → m.deadline ≡ None
+        → IsVerdict m ss (Undecided why tried) → IsInVain m ss why }
 {}
 
 /// The sessions of a legal and sound log are a log by themselves once their outcomes are known: what

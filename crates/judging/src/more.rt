@@ -10,10 +10,11 @@ ghost use Rattle.judging.specs.Made.{IsToldPart};
 use crate::flags::{all_flags, count_flags, flags_in_whole, join_flags, set_flag};
 use crate::judged::RefutedPart;
 use crate::judging::judge_part;
+use crate::level::{LevelLog, propose_at};
 use crate::means::JudgeMeans;
 use crate::trial::Attempt;
 use progress::Progress;
-use proposals::{Flags, Proposal, propose};
+use proposals::{Flags, Proposal};
 use session_log::{Op, Session, Txn};
 use std::alloc::{AllocError, Global};
 use std::io::Eprint;
@@ -62,14 +63,15 @@ fn next_part<R: Threads + Wait + Clock + Eprint + Sync, P: Progress>(
     rt: &R,
     alloc: Global,
     sessions: &[Session],
+    at: &LevelLog,
     left_out: &[Vec<bool>],
     means: &JudgeMeans,
     progress: &mut P,
 ) -> Result<Option<RefutedPart>, AllocError>
     requires log { IsLog (map view sessions.now) }
-    ensures { IfOk result (λ found. IfSome found (IsToldPart (map view sessions.now))) }
+    ensures { IfOk result (λ found. IfSome found (IsToldPart means.now.level (map view sessions.now))) }
 {
-    let proposal = propose(rt, alloc, sessions, left_out, &means.proposing(), progress)?;
+    let proposal = propose_at(rt, alloc, sessions, at, left_out, means, progress)?;
     let Proposal::Part(flags) = &proposal else {
         return Ok(None);
     };
@@ -84,19 +86,21 @@ fn more_of_known<R: Threads + Wait + Clock + Eprint + Sync, P: Progress>(
     rt: &R,
     alloc: Global,
     sessions: &[Session],
+    at: &LevelLog,
     first: &RefutedPart,
     count: usize,
     means: &JudgeMeans,
     progress: &mut P,
 ) -> Result<Vec<RefutedPart>, AllocError>
     requires log { IsLog (map view sessions.now) }
-    ensures { IfOk result (λ parts. AllByRecursion (IsToldPart (map view sessions.now)) parts.items) }
+    ensures { IfOk result (λ parts.
+        AllByRecursion (IsToldPart means.now.level (map view sessions.now)) parts.items) }
 {
     let mut left_out = all_flags(alloc, sessions, false)?;
     leave_out_shown(alloc, sessions, &mut left_out, first)?;
     let mut parts = Vec::new(alloc);
     for _ in 0..count {
-        let Some(told) = next_part(rt, alloc, sessions, &left_out, means, progress)? else {
+        let Some(told) = next_part(rt, alloc, sessions, at, &left_out, means, progress)? else {
             break;
         };
         if !leave_out_shown(alloc, sessions, &mut left_out, &told)? {
@@ -109,11 +113,12 @@ fn more_of_known<R: Threads + Wait + Clock + Eprint + Sync, P: Progress>(
 
 /// Further parts of a log that have no order, so many at most, where this is the first: each is
 /// looked for among the transactions that do not show one that was found. These are the log's
-/// sessions with their outcomes known.
+/// sessions with their outcomes known, and what is judged for them.
 pub fn more_parts<R: Threads + Wait + Clock + Eprint + Sync, P: Progress>(
     rt: &R,
     alloc: Global,
     sessions: &[Session],
+    at: &LevelLog,
     first: &RefutedPart,
     count: usize,
     means: &JudgeMeans,
@@ -122,7 +127,7 @@ pub fn more_parts<R: Threads + Wait + Clock + Eprint + Sync, P: Progress>(
     requires log { IsLog (map view sessions.now) }
     ensures told { IfOk result (λ parts. (ss : List ClientSession) → AllByRecursion IsLegal ss
         → IsSoundLog ss → map view sessions.now ≡ resolved ss
-        → AllByRecursion (IsToldPart ss) parts.items) }
+        → AllByRecursion (IsToldPart means.now.level ss) parts.items) }
 {
-    more_of_known(rt, alloc, sessions, first, count, means, progress)
+    more_of_known(rt, alloc, sessions, at, first, count, means, progress)
 }

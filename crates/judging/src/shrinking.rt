@@ -193,7 +193,7 @@ fn fewer<R: Threads + Wait + Clock + Sync>(
     means: &JudgeMeans,
 ) -> Result<Flags, AllocError>
     requires log { IsLog (map view sessions.now) }
-    requires told { IsToldPart (map view sessions.now) told.now }
+    requires told { IsToldPart means.now.level (map view sessions.now) told.now }
 {
     let few = shrink(rt, alloc, &told.part, nodes, means)?;
     match &told.flags {
@@ -213,8 +213,8 @@ pub fn smaller<R: Threads + Wait + Clock + Sync>(
     means: &JudgeMeans,
 ) -> Result<RefutedPart, AllocError>
     requires log { IsLog (map view sessions.now) }
-    requires told { IsToldPart (map view sessions.now) told }
-    ensures { IfOk result (IsToldPart (map view sessions.now)) }
+    requires told { IsToldPart means.now.level (map view sessions.now) told }
+    ensures { IfOk result (IsToldPart means.now.level (map view sessions.now)) }
 {
     let flags = fewer(rt, alloc, sessions, &told, nodes, means)?;
     let Trial { attempt, .. } = try_part(rt, alloc, sessions, flags, means)?;

@@ -3,7 +3,6 @@
 ghost use Rattle.std.specs.Prelude.{◌≡◌, List, map, IfOk};
 ghost use Rattle.session_log.specs.Text.{ClientSession, view};
 ghost use Rattle.piece_laws.specs.Logs.{IsLog};
-ghost use Rattle.part_laws.specs.Parts.{IsPart};
 ghost use Rattle.log_parts.specs.Picked.{flags_view, chosen};
 ghost use Rattle.judging.specs.Finds.{IsFound, IsAttempt};
 ghost use Rattle.judging.specs.declared.means.JudgeMeans.{JudgeMeans};
@@ -38,9 +37,10 @@ pub struct Trial {
 
 /// What is said where this is found of the part of these flags.
 fn told(part: Vec<Session>, flags: Flags, found: Found) -> Attempt
-    ensures { (m : JudgeMeans) (ss : List ClientSession) → IsLog ss → IsPart ss (map view part.items)
+    ensures { (m : JudgeMeans) (ss : List ClientSession) → IsLog ss
         → map view part.items ≡ chosen (flags_view flags.items) ss
-        → IsFound m (map view part.items) found → IsAttempt m ss result }
+        → IsFound m (map view part.items) found
+        → IsAttempt m ss (flags_view flags.items) result }
 {
     match found {
         Found::Refuted(finding) => Attempt::Refuted(RefutedPart {
@@ -62,7 +62,8 @@ pub fn try_part<R: Threads + Wait + Clock + Sync>(
     means: &JudgeMeans,
 ) -> Result<Trial, AllocError>
     requires log { IsLog (map view sessions.now) }
-    ensures { IfOk result (λ trial. IsAttempt means.now (map view sessions.now) trial.attempt) }
+    ensures { IfOk result (λ trial.
+        IsAttempt means.now (map view sessions.now) (flags_view flags.items) trial.attempt) }
 {
     let part = part_of(alloc, sessions, &flags)?;
     let seen = see_log(rt, alloc, &part, means)?;

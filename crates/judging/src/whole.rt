@@ -5,17 +5,17 @@ ghost use Rattle.std.specs.List.{AllByRecursion};
 ghost use Rattle.session_log.specs.Text.{ClientSession, IsLegal, view};
 ghost use Rattle.log_definitions.specs.Unknown.{resolved};
 ghost use Rattle.piece_laws.specs.Logs.{IsSoundLog, IsLog};
+ghost use Rattle.judging.specs.Levels.{IsLogAt};
 ghost use Rattle.judging.specs.Judges.{IsVerdict};
 ghost use Rattle.judging.specs.Made.{IsMade};
-ghost use Rattle.judging.specs.Without.{without_moments};
 
 use crate::judged::Verdict;
 use crate::judging::judge;
+use crate::level::{LevelLog, log_at, propose_at};
 use crate::means::JudgeMeans;
-use crate::moments::leave_out_moments;
 use known_outcomes::resolve;
 use progress::Progress;
-use proposals::{Proposal, propose};
+use proposals::Proposal;
 use session_log::Session;
 use std::alloc::{AllocError, Global};
 use std::io::Eprint;
@@ -28,6 +28,8 @@ use std::time::Clock;
 pub struct Judged {
     /// Its sessions, with their outcomes known.
     pub sessions: Vec<Session>,
+    /// What is judged for them.
+    pub at: LevelLog,
     /// What was proposed of them.
     pub proposal: Proposal,
     pub verdict: Verdict,
@@ -45,37 +47,39 @@ pub fn judge_whole<R: Threads + Wait + Clock + Eprint + Sync, P: Progress>(
     requires sound { IsSoundLog (map view sessions.items) }
     ensures resolved { IfOk result (λ judged. map view judged.sessions.items
         ≡ resolved (map view sessions.items)) }
+    ensures at { IfOk result (λ judged.
+        IsLogAt means.now.level (resolved (map view sessions.items)) judged.at) }
     ensures verdict { IfOk result (λ judged.
         IsVerdict means.now (map view sessions.items) judged.verdict) }
     ensures made { IfOk result (λ judged.
         IsMade (resolved (map view sessions.items)) judged.verdict) }
 {
     let sessions = resolve(alloc, sessions)?;
-    let proposal = propose(rt, alloc, &sessions, &[], &means.proposing(), progress)?;
-    let verdict = judge(rt, alloc, &sessions, &proposal, means, progress)?;
+    let at = log_at(alloc, means.level, &sessions)?;
+    let proposal = propose_at(rt, alloc, &sessions, &at, &[], means, progress)?;
+    let verdict = judge(rt, alloc, &sessions, &at, &proposal, means, progress)?;
     Ok(Judged {
         sessions,
+        at,
         proposal,
         verdict,
     })
 }
 
-/// Judges a log once more as if it stated no moments. These are its sessions with their outcomes
-/// known, and their moments are left out of them.
-pub fn judge_without_moments<R: Threads + Wait + Clock + Eprint + Sync, P: Progress>(
+/// Judges a log by its sessions with their outcomes known, which are these.
+pub fn judge_known_log<R: Threads + Wait + Clock + Eprint + Sync, P: Progress>(
     rt: &R,
     alloc: Global,
-    sessions: &mut Vec<Session>,
+    sessions: &[Session],
     means: &JudgeMeans,
     progress: &mut P,
 ) -> Result<Verdict, AllocError>
-    requires log { IsLog (map view sessions.old.items) }
-    ensures left { map view sessions.new.items ≡ without_moments (map view sessions.old.items) }
+    requires log { IsLog (map view sessions.now) }
     ensures verdict { IfOk result (λ verdict. (ss : List ClientSession) → AllByRecursion IsLegal ss
-        → IsSoundLog ss → map view sessions.old.items ≡ resolved ss
-        → IsVerdict means.now (without_moments ss) verdict) }
+        → IsSoundLog ss → map view sessions.now ≡ resolved ss
+        → IsVerdict means.now ss verdict) }
 {
-    leave_out_moments(sessions);
-    let proposal = propose(rt, alloc, sessions, &[], &means.proposing(), progress)?;
-    judge(rt, alloc, sessions, &proposal, means, progress)
+    let at = log_at(alloc, means.level, sessions)?;
+    let proposal = propose_at(rt, alloc, sessions, &at, &[], means, progress)?;
+    judge(rt, alloc, sessions, &at, &proposal, means, progress)
 }

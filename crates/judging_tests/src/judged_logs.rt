@@ -1,4 +1,4 @@
-ghost use Rattle.std.specs.Prelude.{map};
+ghost use Rattle.std.specs.Prelude.{◌≡◌, map};
 ghost use Rattle.std.specs.List.{AllByRecursion};
 ghost use Rattle.session_log.specs.Text.{view, IsLegal};
 ghost use Rattle.piece_laws.specs.Logs.{IsSoundLog, IsLog};
@@ -7,13 +7,14 @@ use cube_machine::{Budget, StrategyName};
 use deciding::Means;
 use desk::seat_no::Workers;
 use judging::{
-    Finding, JudgeMeans, Tried, Verdict, Why, judge, judge_whole, judge_without_moments,
+    Finding, JudgeMeans, Level, LevelLog, Tried, Verdict, Why, judge, judge_known_log, judge_whole,
+    leave_out_moments,
 };
 use known_outcomes::resolve;
 use long_reading::read_long_log;
 use progress::{Deadline, Progress, Stage};
 use proposals::{NotTried, Proposal, Stuck};
-use session_log::{Limit, Session};
+use session_log::{Limit, Session, Txn};
 use std::alloc::{AllocError, Global};
 use std::fmt::Write;
 use std::io::Eprint;
@@ -72,8 +73,11 @@ fn chain<R: Threads + Abort + Sync>(rt: &R, alloc: Global, count: u64, lost: boo
     known_log(rt, alloc, &text)
 }
 
-fn means(rt: &impl Abort, deadline: Option<Deadline>) -> JudgeMeans {
+fn means(rt: &impl Abort, deadline: Option<Deadline>) -> JudgeMeans
+    ensures level { result.level ≡ Level.Serializable }
+{
     JudgeMeans {
+        level: Level::Serializable,
         deciding: Means {
             workers: Workers::new(1).expect(rt, "a worker"),
             strategy: StrategyName::Forced,
@@ -126,7 +130,16 @@ fn said<R: Threads + Wait + Clock + Eprint + Abort + Sync>(
 ) -> Verdict
     requires log { IsLog (map view log.now) }
 {
-    judge(rt, alloc, log, proposal, &means(rt, None), &mut Quiet).expect(rt, "memory")
+    judge(
+        rt,
+        alloc,
+        log,
+        &LevelLog::Itself,
+        proposal,
+        &means(rt, None),
+        &mut Quiet,
+    )
+    .expect(rt, "memory")
 }
 
 fn see_serial(rt: &impl Abort, verdict: &Verdict, nodes: usize) {
@@ -208,6 +221,9 @@ fn large_logs_with_none(rt: HostRuntime) {
 const LATE: &str =
     "log 3\nsession 1\nbegin 3\nw x 1\nunknown\nsession 2\nbegin 1\nr x 1\ncommit 2\n";
 
+/// The same without moments.
+const TIMELESS: &str = "log 2\nsession 1\nbegin\nw x 1\nunknown\nsession 2\nbegin\nr x 1\ncommit\n";
+
 #[test]
 fn moments_are_left_out(rt: HostRuntime) {
     let alloc = rt.alloc();
@@ -216,7 +232,14 @@ fn moments_are_left_out(rt: HostRuntime) {
     let judged = judge_whole(&rt, alloc, log, &means, &mut Quiet).expect(&rt, "memory");
     assert!(rt; matches!(&judged.verdict, Verdict::NotSerializable(_)));
     let mut sessions = known_log(&rt, alloc, LATE);
-    let verdict = judge_without_moments(&rt, alloc, &mut sessions, &means, &mut Quiet);
+    leave_out_moments(&mut sessions);
+    let states = |txn: &Txn| txn.begun.is_some() || txn.ended.is_some();
+    let any = sessions
+        .iter()
+        .any(|session| session.txns.iter().any(states));
+    assert!(rt; !any);
+    let timeless = known_log(&rt, alloc, TIMELESS);
+    let verdict = judge_known_log(&rt, alloc, &timeless, &means, &mut Quiet);
     see_serial(&rt, &verdict.expect(&rt, "memory"), 2);
 }
 
@@ -227,13 +250,29 @@ fn no_time(rt: HostRuntime) {
     let start = Instant::now(&rt).expect(&rt, "a clock");
     let means = means(&rt, Some(Deadline { start, seconds: 0 }));
     let good = chain(&rt, alloc, 5, false);
-    let verdict = judge(&rt, alloc, &good, &nothing(), &means, &mut Quiet);
+    let verdict = judge(
+        &rt,
+        alloc,
+        &good,
+        &LevelLog::Itself,
+        &nothing(),
+        &means,
+        &mut Quiet,
+    );
     see_open(
         &rt,
         &verdict.expect(&rt, "memory"),
         Why::NotBegun,
         Tried::Nothing,
     );
-    let verdict = judge(&rt, alloc, &good, &order(&rt, alloc, 5), &means, &mut Quiet);
+    let verdict = judge(
+        &rt,
+        alloc,
+        &good,
+        &LevelLog::Itself,
+        &order(&rt, alloc, 5),
+        &means,
+        &mut Quiet,
+    );
     see_serial(&rt, &verdict.expect(&rt, "memory"), 5);
 }

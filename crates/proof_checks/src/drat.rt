@@ -16,15 +16,6 @@ use refutation::Checker;
 use serializability::Literal;
 use std::alloc::{AllocError, Global};
 
-/// A search over the clauses of a checker.
-fn search_of(alloc: Global, checker: &Checker, variables: u32) -> Result<Search, AllocError> {
-    let mut search = Search::new(alloc, variables)?;
-    for number in 0..checker.len() {
-        search.put(checker.clause(number).unwrap_or(&[]))?;
-    }
-    Ok(search)
-}
-
 /// What is kept from step to step.
 #[derive(Drop)]
 struct Drat {
@@ -41,7 +32,7 @@ impl Drat {
         ensures { IfOk result (λ d. HasRounds d.marks) }
     {
         Ok(Drat {
-            search: search_of(alloc, checker, variables)?,
+            search: Search::of(alloc, checker, variables)?,
             marks: Marks::new(alloc),
             literals: Vec::new(alloc),
             clause: Vec::new(alloc),

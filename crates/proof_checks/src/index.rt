@@ -1,9 +1,8 @@
 //! Which clause has a set of literals.
 
-use crate::code::Code;
 use crate::distinct::Marks;
-use crate::store::Store;
 use std::alloc::{AllocError, Global};
+use watched_clauses::{Code, Store};
 
 /// The most clauses of one list that are looked at, so that no choice of clauses makes it slow. A
 /// deletion of a clause behind these is passed over, which only leaves more clauses standing.

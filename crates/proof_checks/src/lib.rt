@@ -5,16 +5,13 @@
 //! Called by `refute_command`. It knows no log: its formula may be any.
 #![tactic(auto)]
 
-mod code;
 mod distinct;
 mod drat;
 mod index;
 mod lrat;
 mod search;
-mod store;
 #[cfg(test)]
 mod tests;
-mod watches;
 
 ghost use Rattle.std.specs.Prelude.{OnOk, IfErr};
 ghost use Rattle.refutation.specs.Follows.{Entails, IsRefuted};

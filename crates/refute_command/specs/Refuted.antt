@@ -2,9 +2,10 @@
 use Rattle.std.specs.Prelude.{◌≡◌, ℕ, ◌+◌, Bool, List, Option, Some, Result, Ok, Err, map, codes}
 use Rattle.std.specs.Io.KnownBytes.{Keeps}
 use Rattle.session_log.specs.Text.{ClientSession}
-use Rattle.serializability.specs.Formula.{Cnf, Satisfies}
+use Rattle.serializability.specs.Formula.{Cnf}
 use Rattle.log_definitions.specs.Serial.{IsSomeOrder}
 use Rattle.log_definitions.specs.WellFormed.{IsWellFormed}
+use Rattle.formula_search.specs.Searched.{IsUnsatisfiable}
 use Rattle.proof_checks.specs.Checked.{Given, IsAccepted, IsProofFault}
 use Rattle.proof_text.specs.declared.fault.ProofFault.{ProofFault}
 use Rattle.cobra_formulas.specs.Formulas.{IsFormulaOf, IsFormulaFault}
@@ -25,10 +26,6 @@ given_by f = record {
   known = f.variables +
       1;
 }
-
--- no assignment satisfies the formula
-abbrev pub IsUnsatisfiable : Cnf → Type 0
-IsUnsatisfiable f = (values : List Bool) → Satisfies values f → ⊥
 
 -- an accepted proof was given of it
 pub record IsShownBy (proof : List ℕ) (f : Cnf) : Type 0 where

@@ -7,13 +7,13 @@ ghost use Rattle.proof_checks.specs.Checked.{IsProofFault};
 ghost use Rattle.refute_command.specs.Refuted.{IsRefutation, IsNotRefuted, IsRefuteRefused};
 ghost use Rattle.refute_command.specs.Refuted.{IsShownBy, failures_of, given_by};
 
-use crate::given::checker_of;
 use crate::refusal::Refusal;
 use cobra_answers::{Reply, Status, tell};
 use cobra_formulas::{formula_of, read_log};
 use desk::gate::Gate;
 use desk::seat_no::Workers;
 use dimacs::Sink;
+use formula_search::checker_of;
 use order_cnf::Formula;
 use proof_checks::check_proof;
 use proof_text::ProofFault;

@@ -5,7 +5,6 @@
 #![tactic(auto)]
 
 mod command;
-mod given;
 mod refusal;
 
 pub use command::refute;

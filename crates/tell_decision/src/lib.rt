@@ -1,6 +1,6 @@
 //! Why a decision stands, as text or as a graph.
 //!
-//! Called by `cobra_cli`, and by `tell_pieces` of a piece's log. It knows no piece and no status.
+//! Called by `cobra_cli`, and by `audit_command` of a part's log. It knows no part and no status.
 #![tactic(auto)]
 
 mod crossed;

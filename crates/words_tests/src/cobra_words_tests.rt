@@ -1,5 +1,6 @@
 use clap::Error;
 use cobra_words::{Command, Format, PiecesWord, Request, StrategyName, Words, words_of};
+use isolation::Isolation;
 use std::alloc::Global;
 use std::process::Abort;
 
@@ -44,7 +45,10 @@ fn see_status(rt: &impl Abort, alloc: Global, line: &str, status: i32) {
 fn refused_words(rt: HostRuntime) {
     for line in [
         "cobra_poly",
-        "cobra_poly solve",
+        "cobra_poly settle",
+        "cobra_poly solve --budget 0 log",
+        "cobra_poly solve --budget 100000001 log",
+        "cobra_poly solve --strategy first log",
         "cobra_poly check --budget 0 log",
         "cobra_poly check --budget 1000001 log",
         "cobra_poly check --strategy best log",
@@ -76,6 +80,7 @@ fn refused_words(rt: HostRuntime) {
         "cobra_poly pieces --piece 0 log",
         "cobra_poly pieces --piece 1 --into d log",
         "cobra_poly pieces --budget 3 log",
+        "cobra_poly split --plain log",
     ] {
         see_status(&rt, rt.alloc(), line, 2);
     }
@@ -137,6 +142,7 @@ fn texts_of_help(rt: HostRuntime) {
             "How many cubes a search may close, 1 to 1000000 [default: 100000]\n",
         ),
         ("cobra_poly pieces --help", "each as K.log, and as K.map"),
+        ("cobra_poly split --help", "  0  the split log\n"),
     ] {
         see_text(&rt, rt.alloc(), line, part);
     }
@@ -282,6 +288,45 @@ fn words_of_audit(rt: HostRuntime) {
         ),
     ] {
         see_audit(&rt, rt.alloc(), line, wanted);
+    }
+}
+
+/// The level that a call of `audit` asks for by name.
+fn asked_level(request: &Request<'_>) -> Option<Isolation> {
+    match &request.command {
+        Command::Audit(words) => words.level,
+        _ => None,
+    }
+}
+
+/// Words are a call of `audit` that asks for this level.
+fn see_level(rt: &impl Abort, alloc: Global, line: &str, level: Option<Isolation>) {
+    let words = words(rt, alloc, line);
+    assert!(rt; asked_level(&request(rt, alloc, &words)) == level, "{line}");
+}
+
+#[test]
+fn words_of_levels(rt: HostRuntime) {
+    for (line, level) in [
+        ("cobra_poly audit", None),
+        (
+            "cobra_poly audit --level strict-serializable",
+            Some(Isolation::StrictSerializable),
+        ),
+        (
+            "cobra_poly audit --level serializable",
+            Some(Isolation::Serializable),
+        ),
+        (
+            "cobra_poly audit --level strict-snapshot",
+            Some(Isolation::StrictSnapshot),
+        ),
+        (
+            "cobra_poly audit --level snapshot",
+            Some(Isolation::Snapshot),
+        ),
+    ] {
+        see_level(&rt, rt.alloc(), line, level);
     }
 }
 

@@ -1,11 +1,11 @@
-use Rattle.std.proofs.Common.{◌≡◌, map, sym, ap, ◌∙◌, subst}
+use Rattle.std.proofs.Common.{◌≡◌, map, refl, sym, ap, ◌∙◌, subst}
 use Rattle.std.specs.List.{AllByRecursion}
 use Rattle.session_log.specs.Text.{IsLegal, view}
 use Rattle.piece_laws.specs.Logs.{IsSoundLog, IsLog}
 use Rattle.long_log_definitions.proofs.Texts.{sound_where_long}
 use Rattle.judging.proofs.Resolved.{resolved_is_log}
 use Rattle.session_log.specs.Version.{first_line, version_of}
-use Rattle.audit_command.specs.Audited.{seen, states_moments, IsAnswer, IsWithout, AreTotals, IsOrderFile, order_asked}
+use Rattle.audit_command.specs.Audited.{seen, states_moments, IsAnswer, IsWeaker, AreTotals, IsOrderFile, order_asked}
 use Rattle.audit_command.proofs.Resolved.{seen_legal, seen_sound}
 use Rattle.audit_command.proofs.command.audit_sessions.Goals as goal
 
@@ -21,8 +21,8 @@ know-requires-clause-sound g c κs within =
     let log = sound_where_long c.args.log.now ss c.requires.long in
     subst IsSoundLog (sym c.seen-sessions.ensures.seen) (seen_sound c.args.options.now.no_moments ss log.0 log.1)
 
-pub without_moments-requires-clause-log : goal.without_moments-requires-clause-log
-without_moments-requires-clause-log g c κs within =
+pub judge_weaker-requires-clause-log : goal.judge_weaker-requires-clause-log
+judge_weaker-requires-clause-log g c κs within =
     let ss = map view c.args.sessions.items in
     let no_moments = c.args.options.now.no_moments in
     let log = sound_where_long c.args.log.now ss c.requires.long in
@@ -43,21 +43,29 @@ returns g c =
     let known = c.in_ok-sessions.ensures.known in
     let states = c.state_moments-states.ensures.states ∙ ap (λ l. states_moments (map view l)) c.deref.ensures.value in
     let answer = c.in_ok-sessions.field-0.answered.answer in
-    let word = c.in_ok-without_moments.without_moments in
+    let weaker = c.in_ok-weaker.weaker in
     let totals = c.in_ok-sessions.field-0.totals in
     let order = c.in_ok-sessions.field-0.answered.order in
-    let numbered = subst (λ n. IsAnswer o.means o.at_least n judged answer) (ap first_line c.requires.version) known.answered.answer in
+    let numbered = subst (λ n. IsAnswer o n judged answer) (ap first_line c.requires.version) known.answered.answer in
     record {
       audited = record {
         sessions = ss;
         long = c.requires.long;
-        told = record { answer = answer; without_moments = word; totals = totals };
-        answer = subst (λ l. IsAnswer o.means o.at_least (first_line (version_of text)) l answer) e numbered;
-        without = subst (λ l. IsWithout o.means l answer word) e (c.in_ok-without_moments.ensures.word judged legal sound known.resolved states);
+        told = record {
+          level = o.level;
+          answer = answer;
+          without_moments = weaker.without_moments;
+          strict_snapshot = weaker.strict_snapshot;
+          snapshot = weaker.snapshot;
+          totals = totals;
+        };
+        level = refl;
+        answer = subst (λ l. IsAnswer o (first_line (version_of text)) l answer) e numbered;
+        weaker = subst (λ l. IsWeaker o l answer weaker) e (c.in_ok-weaker.ensures.weaker judged legal sound known.resolved states);
         totals = subst (λ l. AreTotals l totals) e known.totals;
         ends = c.in_ok-reply.ensures.ends;
         text = c.in_ok-reply.ensures.text;
         part = known.part;
-        order = subst (λ l. IsOrderFile l (order_asked answer o.order) order) e known.answered.order;
+        order = subst (λ l. IsOrderFile o.means.level l (order_asked answer o.order) order) e known.answered.order;
       };
     }

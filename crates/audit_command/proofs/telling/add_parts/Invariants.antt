@@ -11,9 +11,9 @@ use Rattle.audit_command.proofs.telling.add_parts.Given as goal
 abbrev pub invariant-parts : goal.invariant-parts
 invariant-parts g l = record {
   told : (ss : List ClientSession) → map view l.log.sessions.now ≡ resolved ss
-      → AllByRecursion (IsToldPart ss) l.fn.parts.items
-      → AreToldParts (first_line l.log.version) ss l.fn.told.items
-      → AllByRecursion (IsToldPart ss) l.left.items × AreToldParts (first_line l.log.version) ss l.told.items;
+      → AllByRecursion (IsToldPart l.options.means.level ss) l.fn.parts.items
+      → AreToldParts l.options.means.level (first_line l.log.version) ss l.fn.told.items
+      → AllByRecursion (IsToldPart l.options.means.level ss) l.left.items × AreToldParts l.options.means.level (first_line l.log.version) ss l.told.items;
   parts : AllByRecursion (IsPartOf (map view l.log.sessions.now)) l.left.items;
   more : length l.fn.told.items ≤ length l.told.items;
 }

@@ -1,17 +1,28 @@
 use Rattle.std.proofs.Common.{List, map, sym, subst}
-use Rattle.session_log.specs.Text.{ClientSession, view}
-use Rattle.session_log.specs.Faults.{IsFault}
-use Rattle.log_definitions.specs.WellFormed.{list_fault}
-use Rattle.judging.specs.Finds.{IsFound}
-use Rattle.judging.proofs.Over.{limit_or_memory, over_limit}
+use Rattle.std.proofs.lemmas.Result.{IfOk-weaker}
+use Rattle.session_log.specs.Text.{view}
+use Rattle.session_log.specs.declared.session.Session.{Session}
+use Rattle.piece_laws.specs.Logs.{IsLog}
+use Rattle.judging.specs.declared.level.Level.TheVariants.{Snapshot}
+use Rattle.judging.specs.Levels.{IsLogAt}
+use Rattle.judging.specs.Finds.{IsFound, of_serial}
+use Rattle.judging.proofs.Levels.{judged_is_log, found_by_split}
 use Rattle.judging.proofs.found.see_log.Goals as goal
 
-pub passed_limit-requires : goal.passed_limit-requires
-passed_limit-requires g c =
-    let P : List ClientSession → Type 0 = λ ss. IsFault c.in-Err.fault (list_fault 1 ss) in
-    limit_or_memory (map view c.args.log.now) c.in-Err.fault c.requires.log (subst P c.in_ok-copy_log.ensures c.in-Err.ensures.fault)
+pub see_split-requires-clause-log : goal.see_split-requires-clause-log
+see_split-requires-clause-log g c κs within =
+    let ss = map view c.args.log.now in
+    let at = subst (IsLogAt c.args.means.now.level ss) c.in-Split.is c.in_ok-log_at.ensures in
+    let P : List Session → Type 0 = λ l. IsLog (map view l) in
+    subst P (sym c.deref.ensures.value) (judged_is_log Snapshot ss (map view c.in-Split.split.items) c.requires.log at.1)
 
-pub returns-in_ok-passed_limit-in-Err : goal.returns-in_ok-passed_limit-in-Err
-returns-in_ok-passed_limit-in-Err g c =
-    let P : List ClientSession → Type 0 = λ ss. IsFault c.in-Err.fault (list_fault 1 ss) in
-    subst (IsFound c.args.means.now (map view c.args.log.now)) (sym c.undecided-in-Err.ensures) (over_limit (map view c.args.log.now) c.in-Err.fault c.in_ok-passed_limit-in-Err.field-0 c.requires.log (subst P c.in_ok-copy_log.ensures c.in-Err.ensures.fault) c.in_ok-passed_limit-in-Err.ensures)
+pub returns-in-Split : goal.returns-in-Split
+returns-in-Split g c =
+    let ss = map view c.args.log.now in
+    let m = c.args.means.now in
+    let split = c.in-Split.split.items in
+    let at = subst (IsLogAt m.level ss) c.in-Split.is c.in_ok-log_at.ensures in
+    IfOk-weaker c.see_split.result _ _
+    (λ seen is. found_by_split m ss (map view split) seen.found at.0 c.requires.log at.1
+    (subst (λ (l : List Session). IsFound (of_serial m) (map view l) seen.found) c.deref.ensures.value is))
+    c.see_split.ensures

@@ -1,6 +1,6 @@
 use Rattle.std.proofs.Common.{ℕ, List, ◌≡◌, map, get_or, ◌∙◌, subst, refl}
 use Rattle.session_log.specs.Text.{Transaction, view}
-use Rattle.judging.specs.Without.{without, session_without}
+use Rattle.level_laws.specs.Without.{without, session_without}
 use Rattle.known_outcomes.proofs.Changed.{none_changed, one_changed, all_changed}
 use Rattle.judging.proofs.moments.leave_out_of_each.Goals as goal
 

@@ -1,6 +1,6 @@
 use Rattle.std.proofs.Common.{◌≡◌, map}
 use Rattle.session_log.specs.Text.{view}
-use Rattle.judging.specs.Without.{session_without}
+use Rattle.level_laws.specs.Without.{session_without}
 use Rattle.known_outcomes.proofs.Changed.{changed}
 use Rattle.judging.proofs.moments.leave_out_of_each.Given as goal
 

@@ -1,6 +1,6 @@
 use Rattle.std.proofs.Common.{◌≡◌, map}
 use Rattle.session_log.specs.Text.{view_txn}
-use Rattle.judging.specs.Without.{without}
+use Rattle.level_laws.specs.Without.{without}
 use Rattle.known_outcomes.proofs.Changed.{changed}
 use Rattle.judging.proofs.moments.leave_out_of_txns.Given as goal
 

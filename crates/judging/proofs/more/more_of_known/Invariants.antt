@@ -5,4 +5,4 @@ use Rattle.judging.specs.Made.{IsToldPart}
 use Rattle.judging.proofs.more.more_of_known.Given as goal
 
 abbrev pub invariant-loop : goal.invariant-loop
-invariant-loop g l = AllByRecursion (IsToldPart (map view l.sessions)) l.parts.items
+invariant-loop g l = AllByRecursion (IsToldPart l.means.level (map view l.sessions)) l.parts.items

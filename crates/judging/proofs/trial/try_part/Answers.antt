@@ -17,6 +17,6 @@ returns g c =
     let ss = map view c.args.sessions.now in
     let m = c.args.means.now in
     let P : List Session → Type 0 = λ l. IsFound m (map view l) c.in_ok-seen.seen.found in
-    c.told.ensures m ss c.requires.log (c.in_ok-part.ensures.part c.requires.log.sound)
+    c.told.ensures m ss c.requires.log
     (subst (λ l. map view c.in_ok-part.part.items ≡ chosen (flags_view l) ss) c.deref.ensures.value c.in_ok-part.ensures.exact)
     (subst P c.deref-2.ensures.value c.in_ok-seen.ensures)

@@ -15,7 +15,12 @@ resolve-requires-clause-writes g c =
     let all = Apart-from_IsDistinct (0 ∷ ops) c.requires.sound.writes in
     IsDistinct-from_Apart ops all.1
 
+pub log_at-requires : goal.log_at-requires
+log_at-requires g c =
+    let P : List Session → Type 0 = λ l. IsLog (map view l) in
+    record { log = subst P (sym c.deref.ensures.value) (subst IsLog (sym c.in_ok-sessions.ensures.resolved) (resolved_is_log (map view c.args.sessions.items) c.requires.legal c.requires.sound)) }
+
 pub judge-requires-clause-log : goal.judge-requires-clause-log
 judge-requires-clause-log g c κs within =
     let P : List Session → Type 0 = λ l. IsLog (map view l) in
-    subst P (sym c.deref-2.ensures.value) (subst IsLog (sym c.in_ok-sessions.ensures.resolved) (resolved_is_log (map view c.args.sessions.items) c.requires.legal c.requires.sound))
+    subst P (sym c.deref-3.ensures.value) (subst IsLog (sym c.in_ok-sessions.ensures.resolved) (resolved_is_log (map view c.args.sessions.items) c.requires.legal c.requires.sound))

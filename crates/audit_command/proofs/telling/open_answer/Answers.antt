@@ -1,0 +1,6 @@
+use Rattle.std.proofs.Common.{inr}
+use Rattle.session_log.specs.Version.{first_line}
+use Rattle.audit_command.proofs.telling.open_answer.Goals as goal
+
+pub returns-then-committed-options : goal.returns-then-committed-options
+returns-then-committed-options c = record { answered = λ ss undecided few. c.too_few.ensures.answered (first_line c.args.log.now.version) ss few (inr (c.args.why, c.args.tried, undecided)) }

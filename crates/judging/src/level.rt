@@ -1,0 +1,76 @@
+//! Levels of isolation, and the log that is judged for each.
+
+ghost use Rattle.std.specs.Prelude.{map, IfOk};
+ghost use Rattle.session_log.specs.Text.{view};
+ghost use Rattle.piece_laws.specs.Logs.{IsLog};
+ghost use Rattle.judging.specs.Levels.{IsLogAt};
+
+use crate::halves::{joined_proposal, split_flags};
+use crate::means::JudgeMeans;
+use progress::Progress;
+use proposals::{Proposal, propose};
+use session_log::Session;
+use splitting::{NoRoom, split};
+use std::alloc::{AllocError, Global};
+use std::io::Eprint;
+use std::thread::Threads;
+use std::time::Clock;
+
+/// The level of isolation at which a log is judged: in the order of sessions, and of moments where
+/// the log states some.
+#[derive(Clone, Copy, Debug, PartialEq, Eq)]
+pub enum Level {
+    /// Serializability.
+    Serializable,
+    /// Snapshot isolation.
+    Snapshot,
+}
+
+/// What is judged for a log at some level.
+#[derive(Drop)]
+pub enum LevelLog {
+    /// The log itself.
+    Itself,
+    /// The log in which each transaction that writes is split in two.
+    Split(Vec<Session>),
+    /// Nothing, since its locks have no room.
+    NoRoom(NoRoom),
+}
+
+/// What is judged for this log, whose outcomes are known.
+pub fn log_at(alloc: Global, level: Level, sessions: &[Session]) -> Result<LevelLog, AllocError>
+    requires log { IsLog (map view sessions.now) }
+    ensures { IfOk result (IsLogAt level (map view sessions.now)) }
+{
+    match level {
+        Level::Serializable => Ok(LevelLog::Itself),
+        Level::Snapshot => match split(alloc, sessions)? {
+            Ok(split) => Ok(LevelLog::Split(split)),
+            Err(why) => Ok(LevelLog::NoRoom(why)),
+        },
+    }
+}
+
+/// What is proposed of these sessions, whose outcomes are known, by what is judged for them. A part
+/// is one of these sessions; an order is one of what is judged. Where that is nothing, a part is
+/// looked for that has no serial order.
+pub fn propose_at<R: Threads + Clock + Eprint + Sync, P: Progress>(
+    rt: &R,
+    alloc: Global,
+    sessions: &[Session],
+    at: &LevelLog,
+    left_out: &[Vec<bool>],
+    means: &JudgeMeans,
+    progress: &mut P,
+) -> Result<Proposal, AllocError> {
+    match at {
+        LevelLog::Itself | LevelLog::NoRoom(_) => {
+            propose(rt, alloc, sessions, left_out, &means.proposing(), progress)
+        }
+        LevelLog::Split(split) => {
+            let left_out = split_flags(alloc, sessions, left_out)?;
+            let proposal = propose(rt, alloc, split, &left_out, &means.proposing(), progress)?;
+            joined_proposal(alloc, sessions, proposal)
+        }
+    }
+}

@@ -1,0 +1,25 @@
+use Rattle.std.proofs.lemmas.Result.{err_from_is_err_and}
+use Rattle.cobra_answers.specs.Answers.{by_log, by_command}
+use Rattle.cobra_answers.proofs.Telling.{told_all, cut_all, keeps}
+use Rattle.solve_command.specs.Solved.{IsSolution, HasNoFormula}
+use Rattle.solve_command.proofs.command.solve.Goals as goal
+
+pub returns-in_err-history-clause-refused : goal.returns-in_err-history-clause-refused
+returns-in_err-history-clause-refused g c =
+    let p = err_from_is_err_and c.from_residual.result c.from_residual.ensures.1 in
+    rw (p.1, p.2) (by_log c.in_err-history.field-0.0 c.in_err-history.ensures.refused (keeps _))
+
+pub returns-in_err-reply-clause-refused : goal.returns-in_err-reply-clause-refused
+returns-in_err-reply-clause-refused g c =
+    let p = err_from_is_err_and c.from_residual-in_err-reply.result c.from_residual-in_err-reply.ensures.1 in
+    rw (p.1, p.2) (by_command c.in_err-reply.field-0.0 c.in_ok-history.history c.in_ok-history.ensures.accepted c.in_err-reply.ensures.refused (keeps _))
+
+pub returns-clause-told : goal.returns-clause-told
+returns-clause-told g c =
+    told_all (IsSolution c.args.plain c.args.budget) c.args.log.now c.in_ok-history.history _ _ c.in_ok-reply.reply.status c.in_ok-reply.reply.text.items c.tell.result
+    c.in_ok-history.ensures.accepted c.in_ok-reply.ensures.says c.tell.ensures.status c.tell.ensures.told
+
+pub returns-clause-refused : goal.returns-clause-refused
+returns-clause-refused g c =
+    cut_all (IsSolution c.args.plain c.args.budget) (HasNoFormula c.args.plain) c.args.log.now c.in_ok-history.history _ _ c.in_ok-reply.reply.status c.in_ok-reply.reply.text.items c.tell.result
+    c.in_ok-history.ensures.accepted c.in_ok-reply.ensures.says c.tell.ensures.cut

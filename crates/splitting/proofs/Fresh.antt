@@ -1,0 +1,229 @@
+-- The locks' names are new, and a log can hold them.
+use Rattle.std.proofs.Common.{◌≡◌, ℕ, zero, suc, ◌+◌, ◌≤◌, ◌<◌, ◌^◌, Bool, true, false, ◌&&◌, List, [], ◌∷◌, length, refl, ap, sym, ◌∙◌, inl, inr, arith, subst, Option, Some, None, cond}
+use Rattle.std.specs.Prelude.{replicate, nat_lt, nat_le, ◌==◌, ◌↔◌}
+use Rattle.std.specs.List.{AllByRecursion, Contains, list_all}
+use Rattle.std.proofs.lemmas.Bool.{cases_Bool}
+use Rattle.std.proofs.lemmas.List.{length-append}
+use Rattle.std.proofs.Math.ListN.{length-replicate}
+use Rattle.session_log.specs.Key.{IsKey, is_key_byte, is_key}
+use Rattle.session_log.specs.Text.{ClientSession, IsLegal, IsLegalOp, IsLegalTxn}
+use Rattle.session_log.specs.declared.session.Op.{Op}
+use Rattle.session_log.specs.declared.session.Op.TheVariants.{Read, Write}
+use Rattle.serializability.specs.Replay.{place_of}
+use Rattle.serializability.proofs.Places.{Has, Has-from_Contains}
+use Rattle.log_definitions.specs.Unknown.{ops_in, txns_in, resolved}
+use Rattle.log_definitions.specs.WellFormed.{written, key_of}
+use Rattle.log_definitions.proofs.Members.{member}
+use Rattle.log_definitions.proofs.Settled.{learnt_resolved, ops_resolved}
+use Rattle.piece_laws.specs.Logs.{IsLog, HasOrder}
+use Rattle.piece_laws.proofs.Lists.{of_mapped, of_flat}
+use Rattle.level_laws.specs.Snapshot.{HasSnapshotOrder}
+use Rattle.level_laws.specs.Split.{Locks, HasKey, split_writers}
+use Rattle.level_laws.proofs.Legal.{split_is_log, resolved_split_is_log}
+use Rattle.level_laws.proofs.Writers.{snapshot_by_writers}
+use Rattle.splitting.specs.Locks.{leading, most_leading, longest, largest, lock_key, marks, locks_of, refusal, no_room, HasRoom}
+use Rattle.splitting.specs.Laws.{LocksAreFresh, SnapshotBySplitLog, SnapshotByResolvedSplit}
+use Rattle.splitting.proofs.Greatest.{within_greatest}
+
+-- ---- keys
+begins : (n : ℕ) (key : List ℕ) → n ≤ leading (lock_key n key)
+begins zero key = omega arith
+begins (suc n) key = let ih = begins n key in omega (arith, ih)
+
+same_behind : (x : ℕ) (a b : List ℕ) → x ∷ a ≡ x ∷ b → a ≡ b
+same_behind x a b e = cc
+
+pub lock_same : (n : ℕ) (a b : List ℕ) → lock_key n a ≡ lock_key n b → a ≡ b
+lock_same zero a b e = e
+lock_same (suc n) a b e = lock_same n a b (same_behind 95 (lock_key n a) (lock_key n b) e)
+
+lock_length : (n : ℕ) (key : List ℕ) → length (lock_key n key) ≡ n + length key
+lock_length n key = length-append (replicate n 95) key ∙ ap (λ k. k + length key) (length-replicate n 95)
+
+lock_bytes : (n : ℕ) (key : List ℕ) → list_all is_key_byte key ≡ true → list_all is_key_byte (lock_key n key) ≡ true
+unfolding is_key_byte
+lock_bytes zero key e = e
+lock_bytes (suc n) key e = lock_bytes n key e
+
+and_left : (a b : Bool) → (a && b) ≡ true → a ≡ true
+and_left true b e = refl
+and_left false b e = cc
+
+and_right : (a b : Bool) → (a && b) ≡ true → b ≡ true
+and_right true b e = e
+and_right false b e = cc
+
+both : (a b : Bool) → a ≡ true → b ≡ true → (a && b) ≡ true
+both a b e f = rw e f
+
+le_true : (a b : ℕ) → a ≤ b → nat_le a b ≡ true
+le_true a b h = grind arith
+
+pub le_where : (a b : ℕ) → nat_le a b ≡ true → a ≤ b
+le_where a b h = grind arith
+
+-- the lock of a key is a key where it has room
+pub lock_is_key : (n : ℕ) (key : List ℕ) → IsKey key → n + length key ≤ 64 → IsKey (lock_key n key)
+lock_is_key n key h le =
+    let front = and_left (nat_le 1 (length key) && nat_le (length key) 64) (list_all is_key_byte key) h in
+    let one : 1 ≤ length key = le_where 1 (length key) (and_left (nat_le 1 (length key)) (nat_le (length key) 64) front) in
+    let bytes = and_right (nat_le 1 (length key) && nat_le (length key) 64) (list_all is_key_byte key) h in
+    let is = lock_length n key in
+    both (nat_le 1 (length (lock_key n key)) && nat_le (length (lock_key n key)) 64) (list_all is_key_byte (lock_key n key))
+    (both (nat_le 1 (length (lock_key n key))) (nat_le (length (lock_key n key)) 64) (le_true 1 (length (lock_key n key)) (omega (arith, is, one))) (le_true (length (lock_key n key)) 64 (omega (arith, is, le))))
+    (lock_bytes n key bytes)
+
+pub never_none : (text lock : List ℕ) (o : Option (List ℕ)) → text ≡ lock → IsKey lock → o ≡ cond (is_key text) (Some text) None → o ≡ None → ⊥
+never_none text lock o e h is none = let yes : is_key text ≡ true = ap is_key e ∙ h in some_none (sym (rw yes at is) ∙ none)
+  where
+    some_none : {X : Type 0} {x : X} → Some x ≡ None → ⊥
+    some_none e = cc
+
+-- ---- identities
+place_within : (ws : List ℕ) (v : ℕ) → Has v ws → place_of ws v < length ws
+place_within [] v h = absurd h
+place_within (w ∷ ws) v h = elim (cases_Bool (w == v)) [
+  | inl e ↦ let here : place_of (w ∷ ws) v ≡ 0 = rw e refl in omega (arith, here)
+  | inr e ↦ let further : place_of (w ∷ ws) v ≡ suc (place_of ws v) = rw e refl in elim h [
+    | inl same ↦ absurd (other w v e same)
+    | inr k ↦ let ih = place_within ws v k in omega (arith, further, ih)
+  ]
+]
+  where
+    other : (a b : ℕ) → (a == b) ≡ false → a ≡ b → ⊥
+    other a b e same = grind arith
+
+place_same : (ws : List ℕ) (v w : ℕ) → Has v ws → Has w ws → place_of ws v ≡ place_of ws w → v ≡ w
+place_same [] v w h k e = absurd h
+place_same (u ∷ ws) v w h k e = elim (cases_Bool (u == v)) [
+  | inl a ↦ elim (cases_Bool (u == w)) [
+    | inl b ↦ sym (is u v a) ∙ is u w b
+    | inr b ↦ let x : place_of (u ∷ ws) v ≡ 0 = rw a refl in let y : place_of (u ∷ ws) w ≡ suc (place_of ws w) = rw b refl in absurd (omega (arith, e, x, y))
+  ]
+  | inr a ↦ elim (cases_Bool (u == w)) [
+    | inl b ↦ let x : place_of (u ∷ ws) v ≡ suc (place_of ws v) = rw a refl in let y : place_of (u ∷ ws) w ≡ 0 = rw b refl in absurd (omega (arith, e, x, y))
+    | inr b ↦
+        let x : place_of (u ∷ ws) v ≡ suc (place_of ws v) = rw a refl in
+        let y : place_of (u ∷ ws) w ≡ suc (place_of ws w) = rw b refl in
+        place_same ws v w (behind u v h a) (behind u w k b) (omega (arith, e, x, y))
+  ]
+]
+  where
+    is : (a b : ℕ) → (a == b) ≡ true → a ≡ b
+    is a b e = grind arith
+
+    behind : (a b : ℕ) → Has b (a ∷ ws) → (a == b) ≡ false → Has b ws
+    behind a b (inl same) e = absurd (differ a b e same)
+      where
+        differ : (a b : ℕ) → (a == b) ≡ false → a ≡ b → ⊥
+        differ a b e same = grind arith
+    behind a b (inr k) e = k
+
+-- ---- room
+pub record Room (marks longest largest writes : ℕ) : Type 0 where
+  pub keys : marks + longest ≤ 64
+  pub identities : largest + writes < 2 ^ 64
+
+room_where : (m l g w : ℕ) → refusal m l g w ≡ None → Room m l g w
+room_where m l g w e = elim (cases_Bool (nat_lt 64 (m + l))) [
+  | inl a ↦ absurd (some_none (rw a at e))
+  | inr a ↦ elim (cases_Bool (nat_lt (g + w) (2 ^ 64))) [
+    | inl b ↦ record { keys = not_below 64 (m + l) a; identities = below (g + w) (2 ^ 64) b }
+    | inr b ↦ absurd (some_none (rw (a, b) at e))
+  ]
+]
+  where
+    some_none : {X : Type 0} {x : X} → Some x ≡ None → ⊥
+    some_none e = cc
+
+    not_below : (a b : ℕ) → nat_lt a b ≡ false → b ≤ a
+    not_below a b e = grind arith
+
+    below : (a b : ℕ) → nat_lt a b ≡ true → a < b
+    below a b e = grind arith
+
+pub room_of : (ss : List ClientSession) → HasRoom ss → Room (marks ss) (longest (ops_in ss)) (largest (ops_in ss)) (length (written (ops_in ss)))
+unfolding no_room
+room_of ss h = room_where (marks ss) (longest (ops_in ss)) (largest (ops_in ss)) (length (written (ops_in ss))) h
+
+-- ---- what the log has
+record WithKey (ss : List ClientSession) (key : List ℕ) : Type 0 where
+  pub op : Op
+  pub has : Contains (ops_in ss) op
+  pub is : key_of op ≡ key
+
+with_key : (ss : List ClientSession) (key : List ℕ) → HasKey ss key → WithKey ss key
+with_key ss key h = let m = of_mapped key_of (ops_in ss) key h in record { op = m.0; has = m.1; is = m.2 }
+
+fewer_begin : (ss : List ClientSession) (key : List ℕ) → HasKey ss key → leading key < marks ss
+fewer_begin ss key h =
+    let m = with_key ss key h in
+    let le = within_greatest (λ o. leading (key_of o)) (ops_in ss) m.op m.has in
+    let same = ap leading m.is in
+    omega (arith, le, same)
+
+within_longest : (ss : List ClientSession) (key : List ℕ) → HasKey ss key → length key ≤ longest (ops_in ss)
+within_longest ss key h =
+    let m = with_key ss key h in
+    let le = within_greatest (λ o. length (key_of o)) (ops_in ss) m.op m.has in
+    let same = ap (length {A = ℕ}) m.is in
+    omega (arith, le, same)
+
+legal_key : (o : Op) → IsLegalOp o → IsKey (key_of o)
+legal_key (Read key wid) h = h.0
+legal_key (Write key wid) h = h.0
+
+legal_ops : (ss : List ClientSession) → AllByRecursion IsLegal ss → (o : Op) → Contains (ops_in ss) o → IsLegalOp o
+legal_ops ss h o c =
+    let in_txn = of_flat (λ t. t.ops) (txns_in ss) o c in
+    let in_session = of_flat (λ s. s.txns) ss in_txn.0 in_txn.1 in
+    let session : IsLegal in_session.0 = member IsLegal ss in_session.0 h in_session.1 in
+    let txn : IsLegalTxn in_txn.0 = member IsLegalTxn in_session.0.txns in_txn.0 session.txns in_session.2 in
+    member IsLegalOp in_txn.0.ops o txn.ops in_txn.2
+
+is_key_of : (ss : List ClientSession) → AllByRecursion IsLegal ss → (key : List ℕ) → HasKey ss key → IsKey key
+is_key_of ss h key k = let m = with_key ss key k in subst IsKey m.is (legal_key m.op (legal_ops ss h m.op m.has))
+
+written_within : (ops : List Op) (v : ℕ) → Has v (written ops) → v ≤ largest ops
+written_within [] v h = absurd h
+written_within (Read key wid ∷ ops) v h = let ih = written_within ops v h in omega (arith, ih)
+written_within (Write key wid ∷ ops) v (inl e) = omega (arith, e)
+written_within (Write key wid ∷ ops) v (inr h) = let ih = written_within ops v h in omega (arith, ih)
+
+-- ---- the laws
+pub locks_are_fresh : LocksAreFresh
+unfolding locks_of
+locks_are_fresh ss legal sound room = (
+  record {
+    new_key = λ a b h k e. (let le = begins (marks ss) a in let few = fewer_begin ss b k in let same = ap leading e in omega (arith, le, few, same));
+    one_key = λ a b h k e. lock_same (marks ss) a b e;
+    new_identity = λ v w h k e. (let le = written_within (ops_in ss) w (Has-from_Contains (written (ops_in ss)) w k) in omega (arith, le, e));
+    one_identity = λ v w h k e. place_same (written (ops_in ss)) v w (Has-from_Contains (written (ops_in ss)) v h) (Has-from_Contains (written (ops_in ss)) w k) (omega (arith, e));
+  },
+  record {
+    key = λ a h. lock_is_key (marks ss) a (is_key_of ss legal a h) (let le = within_longest ss a h in let r = (room_of ss room).keys in omega (arith, le, r));
+    identity = λ v h. (let lt = place_within (written (ops_in ss)) v (Has-from_Contains (written (ops_in ss)) v h) in let r = (room_of ss room).identities in (omega arith, omega (arith, lt, r)));
+  },
+)
+
+pub snapshot_by_split_log : SnapshotBySplitLog
+snapshot_by_split_log ss log room =
+    let names = locks_are_fresh ss log.legal log.sound room in
+    let same : resolved ss ≡ ss = learnt_resolved ss log.learnt in
+    ((split_is_log ss (locks_of ss) log names.0 names.1).1, subst (λ l. (HasSnapshotOrder ss ↔ HasOrder (split_writers (locks_of ss) l))) same (snapshot_by_writers ss (locks_of ss) log.sound names.0))
+
+-- ---- where outcomes are unknown: the names are those of the operations alone
+same_locks : (a b : List ClientSession) → ops_in a ≡ ops_in b → locks_of a ≡ locks_of b
+unfolding locks_of
+same_locks a b e = ap (λ ops. record { key = lock_key (most_leading ops + 1); identity = λ v. largest ops + 1 + place_of (written ops) v }) e
+
+same_room : (a b : List ClientSession) → ops_in a ≡ ops_in b → no_room a ≡ no_room b
+unfolding no_room
+same_room a b e = ap (λ ops. refusal (most_leading ops + 1) (longest ops) (largest ops) (length (written ops))) e
+
+pub snapshot_by_resolved_split : SnapshotByResolvedSplit
+snapshot_by_resolved_split ss legal sound room =
+    let same : ops_in (resolved ss) ≡ ops_in ss = ops_resolved ss in
+    let names = locks_are_fresh ss legal sound (sym (same_room (resolved ss) ss same) ∙ room) in
+    let P : Locks → Type 0 = λ l. IsLog (split_writers l (resolved ss)) × (HasSnapshotOrder ss ↔ HasOrder (split_writers l (resolved ss))) in
+    subst P (sym (same_locks (resolved ss) ss same)) ((resolved_split_is_log ss (locks_of ss) legal sound names.0 names.1).1, snapshot_by_writers ss (locks_of ss) sound names.0)

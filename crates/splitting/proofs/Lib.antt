@@ -1,0 +1,7 @@
+pub mod Greatest
+pub mod Fresh
+pub mod Keys
+pub mod Steps
+pub mod Named
+pub mod Walks
+pub mod Whole

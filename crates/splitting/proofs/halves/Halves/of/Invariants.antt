@@ -1,0 +1,10 @@
+use Rattle.std.specs.Prelude.{drop}
+use Rattle.level_laws.specs.Split.{Locks}
+use Rattle.splitting.specs.Room.{Fit, AreNamed}
+use Rattle.splitting.specs.Halves.{ComesTo}
+use Rattle.splitting.proofs.halves.Halves.of.Given as goal
+
+abbrev pub invariant-loop-op : goal.invariant-loop-op
+invariant-loop-op l =
+    ComesTo l.marks l.last l.ops l.halves (drop l.op-index l.ops) × Fit l.marks l.taken_as (drop l.op-index l.ops)
+    × ((locks : Locks) → AreNamed locks l.marks l.last l.ops → AreNamed locks l.marks l.taken_as (drop l.op-index l.ops))

@@ -1,0 +1,6 @@
+use Rattle.std.proofs.Common.{◌≡◌, ◌+◌, length, drop}
+use Rattle.log_definitions.specs.WellFormed.{written}
+use Rattle.splitting.proofs.log.last_behind.Given as goal
+
+abbrev pub invariant-loop-op : goal.invariant-loop-op
+invariant-loop-op l = l.last + length (written (drop l.op-index l.ops)) ≡ l.fn.last + length (written l.ops)

@@ -1,0 +1,14 @@
+use Rattle.std.proofs.Common.{◌≡◌, ◌++◌, map, drop}
+use Rattle.session_log.specs.Text.{view}
+use Rattle.log_definitions.specs.Unknown.{ops_in}
+use Rattle.level_laws.specs.Split.{Locks, split_writers}
+use Rattle.splitting.specs.Room.{Fit, AreNamed}
+use Rattle.splitting.proofs.log.split_sessions.Given as goal
+
+abbrev pub invariant-loop-session : goal.invariant-loop-session
+invariant-loop-session l =
+    let all = map view l.sessions in
+    let left = map view (drop l.session-index l.sessions) in
+    Fit l.marks l.last (ops_in left)
+    × ((locks : Locks) → AreNamed locks l.marks l.fn.last (ops_in all) →
+    AreNamed locks l.marks l.last (ops_in left) × (map view l.split.items ++ split_writers locks left ≡ split_writers locks all))

@@ -1,0 +1,17 @@
+use Rattle.std.proofs.Common.{◌≡◌, ◌+◌, ◌++◌, length, map, drop}
+use Rattle.std.specs.List.{flat_map}
+use Rattle.session_log.specs.Text.{view_txn}
+use Rattle.log_definitions.specs.WellFormed.{written}
+use Rattle.level_laws.specs.Split.{Locks}
+use Rattle.splitting.specs.Room.{Fit, AreNamed}
+use Rattle.splitting.specs.Halves.{parts, ops_by}
+use Rattle.splitting.proofs.log.split_txns.Given as goal
+
+abbrev pub invariant-loop-txn : goal.invariant-loop-txn
+invariant-loop-txn l =
+    let all = map view_txn l.txns in
+    let left = map view_txn (drop l.txn-index l.txns) in
+    Fit l.marks l.last (ops_by left)
+    × (l.last + length (written (ops_by left)) ≡ l.fn.last + length (written (ops_by all)))
+    × ((locks : Locks) → AreNamed locks l.marks l.fn.last (ops_by all) →
+    AreNamed locks l.marks l.last (ops_by left) × (map view_txn l.split.items ++ flat_map (parts locks) left ≡ flat_map (parts locks) all))

@@ -1,0 +1,11 @@
+use Rattle.std.proofs.Common.{◌≡◌, ◌++◌, ap, ◌∙◌}
+use Rattle.std.specs.Prelude.{replicate}
+use Rattle.splitting.specs.Locks.{lock_key}
+use Rattle.splitting.proofs.Fresh.{lock_is_key, never_none}
+use Rattle.splitting.proofs.names.lock_key.Goals as goal
+
+pub unreachable-requires : goal.unreachable-requires
+unreachable-requires c =
+    let marks : c.in_ok-bytes.bytes.items ≡ replicate c.args.marks 95 = c.in_ok-bytes.ensures.items_if_clones_equal (λ y e. e) in
+    let text = c.deref.ensures.value ∙ c.in_ok-extend_from_slice.ensures.items ∙ ap (λ l. l ++ c.as_bytes.result.now) marks ∙ ap (λ l. replicate c.args.marks 95 ++ l) c.as_bytes.ensures.bytes in
+    never_none c.deref.result.now (lock_key c.args.marks c.args.key.now) c.in_ok-lock.field-0 text (lock_is_key c.args.marks c.args.key.now c.as_bytes.ensures.legal c.requires) c.in_ok-lock.ensures.key c.in-None.is

@@ -1,0 +1,6 @@
+use Rattle.std.proofs.Common.{take}
+use Rattle.splitting.specs.Room.{Finds}
+use Rattle.splitting.proofs.survey.Survey.add_ops.Given as goal
+
+abbrev pub invariant-loop-op : goal.invariant-loop-op
+invariant-loop-op l = Finds l.fn.self (take l.op-index l.ops) l.self

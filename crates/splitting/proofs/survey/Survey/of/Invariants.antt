@@ -1,0 +1,8 @@
+use Rattle.std.proofs.Common.{take, map}
+use Rattle.session_log.specs.Text.{view}
+use Rattle.log_definitions.specs.Unknown.{ops_in}
+use Rattle.splitting.specs.Room.{Finds}
+use Rattle.splitting.proofs.survey.Survey.of.Given as goal
+
+abbrev pub invariant-loop-session : goal.invariant-loop-session
+invariant-loop-session l = Finds (record { marks = 1; longest = 0; largest = 0; writes = 0 }) (ops_in (map view (take l.session-index l.sessions))) l.survey

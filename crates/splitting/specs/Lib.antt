@@ -1,0 +1,4 @@
+pub mod Locks
+pub mod Room
+pub mod Halves
+pub mod Laws

@@ -1,0 +1,17 @@
+//! The log in which each committed transaction that writes is split in two: it has a serial order
+//! exactly where the log itself has a snapshot order.
+//!
+//! Called by `split_command`. It knows no text, and nothing of orders. Outcomes are known.
+//!
+//! The definitions stand in `specs/`. The laws are contracts of functions that do nothing.
+#![tactic(auto)]
+
+mod halves;
+pub mod laws;
+mod log;
+mod names;
+mod room;
+mod survey;
+
+pub use log::{is_writer, split};
+pub use room::NoRoom;

@@ -1,0 +1,204 @@
+//! The sessions of the split log.
+
+ghost use Rattle.std.specs.Prelude.{◌≡◌, ◌++◌, ◌+◌, ◌<◌, ◌^◌, map, length, nat_eq, Some, IfOk, OnOk, MatchResult};
+ghost use Rattle.std.specs.List.{IsDistinct, flat_map, list_any};
+ghost use Rattle.session_log.specs.Text.{view, view_txn};
+ghost use Rattle.log_definitions.specs.Unknown.{ops_in};
+ghost use Rattle.log_definitions.specs.WellFormed.{written};
+ghost use Rattle.level_laws.specs.Split.{Locks, is_writer, is_write, split_writers};
+ghost use Rattle.splitting.specs.Locks.{locks_of, refusal, no_room, HasRoom};
+ghost use Rattle.splitting.specs.Room.{Fit, AreNamed};
+ghost use Rattle.splitting.specs.Halves.{parts, ops_by};
+
+use crate::halves::split_txn;
+use crate::room::NoRoom;
+use crate::survey::Survey;
+use session_log::{Op, Outcome, Session, Txn};
+use std::alloc::{AllocError, Global};
+
+/// The most bytes of a key.
+const MOST_BYTES: usize = 64;
+
+fn is_write(op: &Op) -> bool
+    ensures { result ≡ is_write op.now }
+{
+    match op {
+        Op::Read { .. } => false,
+        Op::Write { .. } => true,
+    }
+}
+
+fn any_write(ops: &[Op]) -> bool
+    ensures { result ≡ list_any is_write ops.now }
+{
+    ops.iter().any(|op| is_write(op))
+}
+
+/// Whether the transaction committed and writes.
+pub fn is_writer(txn: &Txn) -> bool
+    ensures { result ≡ is_writer (view_txn txn.now) }
+{
+    match txn.outcome {
+        Outcome::Commit => any_write(&txn.ops),
+        Outcome::Abort | Outcome::Unknown => false,
+    }
+}
+
+/// The last identity for a lock that the writes of these operations give, which is this one before
+/// them.
+fn last_behind(last: u64, ops: &[Op]) -> u64
+    requires { last + length (written ops.now) < 2 ^ 64 }
+    ensures { result ≡ last + length (written ops.now) }
+{
+    let mut last = last;
+    for op in ops {
+        if is_write(op) {
+            last += 1;
+        }
+    }
+    last
+}
+
+fn copy_op(alloc: Global, op: &Op) -> Result<Op, AllocError>
+    ensures { IfOk result (λ copy. copy ≡ op.now) }
+{
+    match op {
+        Op::Read { key, wid } => Ok(Op::Read {
+            key: key.to_owned_key(alloc)?,
+            wid: *wid,
+        }),
+        Op::Write { key, wid } => Ok(Op::Write {
+            key: key.to_owned_key(alloc)?,
+            wid: *wid,
+        }),
+    }
+}
+
+/// The same transaction once more.
+fn copy_txn(alloc: Global, txn: &Txn) -> Result<Txn, AllocError>
+    ensures { IfOk result (λ copy. view_txn copy ≡ view_txn txn.now) }
+{
+    let mut ops = Vec::with_capacity(alloc, txn.ops.len())?;
+    for op in &txn.ops {
+        ops.push(copy_op(alloc, op)?)?;
+    }
+    Ok(Txn {
+        ops,
+        outcome: txn.outcome,
+        begun: txn.begun,
+        ended: txn.ended,
+    })
+}
+
+/// Adds what stands for a transaction in the split log.
+fn add_txn(
+    alloc: Global,
+    marks: usize,
+    last: u64,
+    txn: &Txn,
+    txns: &mut Vec<Txn>,
+) -> Result<(), AllocError>
+    requires { Fit marks last txn.now.ops.items }
+    ensures { OnOk result ((locks : Locks) → AreNamed locks marks last txn.now.ops.items
+        → map view_txn txns.new.items
+        ≡ map view_txn txns.old.items ++ parts locks (view_txn txn.now)) }
+{
+    if is_writer(txn) {
+        let (start, end) = split_txn(alloc, marks, last, txn)?;
+        txns.push(start)?;
+        txns.push(end)?;
+    } else {
+        txns.push(copy_txn(alloc, txn)?)?;
+    }
+    Ok(())
+}
+
+/// The transactions of a session of the split log.
+fn split_txns(
+    alloc: Global,
+    marks: usize,
+    last: u64,
+    txns: &[Txn],
+) -> Result<(Vec<Txn>, u64), AllocError>
+    requires { Fit marks last (ops_by (map view_txn txns.now)) }
+    ensures { IfOk result (λ split. let ops = ops_by (map view_txn txns.now) in
+        (split.1 ≡ last + length (written ops))
+        × ((locks : Locks) → AreNamed locks marks last ops
+        → map view_txn split.0.items ≡ flat_map (parts locks) (map view_txn txns.now))) }
+{
+    let mut split = Vec::with_capacity(alloc, txns.len())?;
+    let mut last = last;
+    for txn in txns {
+        add_txn(alloc, marks, last, txn, &mut split)?;
+        last = last_behind(last, &txn.ops);
+    }
+    Ok((split, last))
+}
+
+/// The sessions of the split log.
+fn split_sessions(
+    alloc: Global,
+    marks: usize,
+    last: u64,
+    sessions: &[Session],
+) -> Result<Vec<Session>, AllocError>
+    requires { Fit marks last (ops_in (map view sessions.now)) }
+    ensures { IfOk result (λ split. (locks : Locks)
+        → AreNamed locks marks last (ops_in (map view sessions.now))
+        → map view split.items ≡ split_writers locks (map view sessions.now)) }
+{
+    let mut split = Vec::with_capacity(alloc, sessions.len())?;
+    let mut last = last;
+    for session in sessions {
+        let (txns, behind) = split_txns(alloc, marks, last, &session.txns)?;
+        split.push(Session {
+            number: session.number,
+            txns,
+        })?;
+        last = behind;
+    }
+    Ok(split)
+}
+
+/// Why the locks of a log that has this cannot be named.
+fn refusal(survey: Survey) -> Option<NoRoom>
+    ensures { result ≡ refusal survey.marks survey.longest survey.largest survey.writes }
+{
+    if survey.marks.saturating_add(survey.longest) > MOST_BYTES {
+        return Some(NoRoom::Keys {
+            longest: survey.longest,
+            marks: survey.marks,
+        });
+    }
+    if survey.largest.checked_add(survey.writes as u64).is_none() {
+        return Some(NoRoom::Identities {
+            largest: survey.largest,
+            writes: survey.writes,
+        });
+    }
+    None
+}
+
+/// The log in which each committed transaction that writes is split in two: it reads, and takes the
+/// lock of each key that it writes; then it finds its locks as it took them, and does the rest.
+/// Locks are named as the definitions say, and where there is no room for their names, the answer
+/// says why. No two writes of the log have one identity.
+pub fn split(
+    alloc: Global,
+    sessions: &[Session],
+) -> Result<Result<Vec<Session>, NoRoom>, AllocError>
+    requires { IsDistinct nat_eq (written (ops_in (map view sessions.now))) }
+    ensures { let ss = map view sessions.now in
+        IfOk result (λ answer. MatchResult answer
+        (λ new. HasRoom ss × (map view new.items ≡ split_writers (locks_of ss) ss))
+        (λ refused. no_room ss ≡ Some refused)) }
+{
+    let survey = Survey::of(sessions)?;
+    match refusal(survey) {
+        Some(refused) => Ok(Err(refused)),
+        None => {
+            let split = split_sessions(alloc, survey.marks, survey.largest, sessions)?;
+            Ok(Ok(split))
+        }
+    }
+}
