@@ -135,7 +135,8 @@ def main():
             wanted, refusals, left_to_another = None, 0, 0
             for n in range(MOST):
                 shutil.rmtree(into, ignore_errors=True)
-                os.mkdir(into)
+                if words[0] == 'audit':
+                    os.mkdir(into)
                 place = dict(os.environ, LD_PRELOAD=paths['shim.so'], REFUSED=str(n), TOLD=paths['told'])
                 ran = subprocess.run([program, *words], stdin=subprocess.DEVNULL, stdout=subprocess.PIPE, stderr=subprocess.PIPE, env=place, timeout=60)
                 got = (ran.returncode, ran.stdout, ran.stderr)
