@@ -7,7 +7,7 @@ with a note. Each way of a store promises a level, or none: each of its logs mus
 log must break the level above it, or where nothing is promised snapshot isolation. Logs are judged by `audit --level`, and a long one of
 each sound way is too, of LARGE transactions; each must be decided. For each way a line says how many transactions and seconds there were.
 Last line: 'stores: N passed, M failed'."""
-import contextlib, functools, http.client, os, pwd, re, shutil, socket, subprocess, sys, tempfile, time
+import argparse, contextlib, functools, http.client, os, pwd, re, shutil, socket, subprocess, sys, tempfile, time
 from levels import LEVELS
 
 TOP = os.path.dirname(os.path.dirname(os.path.abspath(__file__)))
@@ -287,9 +287,12 @@ class Checks:
 
 
 def main():
-    large = int(sys.argv[2]) if len(sys.argv) > 2 else None
+    parser = argparse.ArgumentParser(description=__doc__, formatter_class=argparse.RawDescriptionHelpFormatter)
+    parser.add_argument('program')
+    parser.add_argument('large', nargs='?', type=int, help='how many transactions each log has, where figures are wanted')
+    words = parser.parse_args()
     with tempfile.TemporaryDirectory() as folder:
-        checks = Checks(os.path.abspath(sys.argv[1]), folder, large)
+        checks = Checks(os.path.abspath(words.program), folder, words.large)
         for store, (start, ways) in STORES.items():
             try:
                 with start() as collector:

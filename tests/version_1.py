@@ -4,7 +4,8 @@
 tests/version_1.txt has a digest for each command on each log of examples/, on logs that are written below, and on made and damaged ones:
 the SHA-256 of status, standard output and standard error of each of the command's calls. They were made by the program of the day before
 it knew version 2, and this one's must be the same. (Since more transactions are allowed, the log that has too many is another one; the digests
-of what is said of it stayed.) With --write they are made anew by PROGRAM, which is right only where its answers are.
+of what is said of it stayed. Newer logs of examples/ have those of the program of their day.) With --write they are made anew by PROGRAM,
+which is right only where its answers are.
 Last line: 'version_1: N passed, M failed'."""
 import concurrent.futures, hashlib, os, re, subprocess, sys, tempfile
 
