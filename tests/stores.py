@@ -219,8 +219,8 @@ STORES = {
     'etcd': (etcd, [
         Way('', 'serializable', part=2), Way('--kill 20', 'serializable', part=2), Way('--moments all', 'strict-serializable'),
         Way('--level snapshot', 'snapshot', 'serializable', part=2), Way('--level snapshot --moments all', 'strict-snapshot'),
-        # few keys that are read often, so that a member that is behind is seen
-        Way('--level local-reads --moments all --keys 5 --mix 8,1,1', 'serializable', 'strict-serializable')]),
+        # strict-serializable is not promised, but nothing makes a member be behind: no log must break it
+        Way('--level local-reads --moments all --keys 5 --mix 8,1,1', 'serializable')]),
 }
 
 
