@@ -5,7 +5,7 @@ For each log of examples/ and some hundred made ones, and for its reduced and it
 proof that a solver writes must be accepted, and so must the LRAT that this file makes of it. Then the proofs are damaged in every way:
 cut after each byte, literals and numbers changed, lines exchanged, left out, and told twice, and given with a neighbour's log, among
 these many that an order explains. What the program says of each must be what the plain checker says, line and all; and it must never be
-yes where an assignment satisfies the formula.
+yes where an assignment satisfies the formula. R1 to R4 are the program's own refusals of a proof: docs/FORMATS.md has them in words.
 
 The solvers are those that are installed: cadical, which writes DRAT in both forms, and cryptominisat5, whose FRAT becomes DRAT here.
 Proofs of a small solver of this file are always among them. Last line: 'refuting: N passed, M failed'."""
