@@ -22,19 +22,19 @@ use Rattle.log_definitions.proofs.Dropped.{ReadsKept, WritesDropped, OpsFact, re
 use Rattle.log_definitions.proofs.Chosen.{nodes_where, chosen_closed}
 
 -- ---- the nodes where these are chosen, each marked where it is a node with those chosen too
-abbrev mark : Bool → Bool → Committed → List Marked → List Marked
+pub abbrev mark : Bool → Bool → Committed → List Marked → List Marked
 mark true kept node ms = (kept, node) ∷ ms
 mark false kept node ms = ms
 
-abbrev marks : ℕ → Bool → Bool → ℕ → List Transaction → List Marked
+pub abbrev marks : ℕ → Bool → Bool → ℕ → List Transaction → List Marked
 marks number a b n [] = []
 marks number a b n (t ∷ ts) =
     mark (is_committed (settle a t)) (is_committed (settle b t)) (record { session = number; place = n; ops = t.ops; begun = t.begun; ended = t.ended }) (marks number a b (n + 1) ts)
 
-abbrev marked : (ℕ → Bool) → (ℕ → Bool) → List ClientSession → List Marked
+pub abbrev marked : (ℕ → Bool) → (ℕ → Bool) → List ClientSession → List Marked
 marked these those ss = flat_map (λ s. marks s.number (these s.number) (those s.number) 1 s.txns) ss
 
-abbrev nodes_from : ℕ → Bool → ℕ → List Transaction → List Committed
+pub abbrev nodes_from : ℕ → Bool → ℕ → List Transaction → List Committed
 nodes_from number a n ts =
     map (λ t. record { session = number; place = t.0; ops = t.1.ops; begun = t.1.begun; ended = t.1.ended }) (filter (λ t. is_committed t.1) (enumerate_from n (map (settle a) ts)))
 
@@ -65,7 +65,7 @@ kept-append [] b = refl
 kept-append ((true, node) ∷ a) b = ap (λ l. node ∷ l) (kept-append a b)
 kept-append ((false, node) ∷ a) b = kept-append a b
 
-all_marked : (these those : ℕ → Bool) (ss : List ClientSession) → all_nodes (marked these those ss) ≡ nodes_where these ss
+pub all_marked : (these those : ℕ → Bool) (ss : List ClientSession) → all_nodes (marked these those ss) ≡ nodes_where these ss
 unfolding settled
 all_marked these those [] = refl
 all_marked these those (s ∷ ss) =
@@ -73,7 +73,7 @@ all_marked these those (s ∷ ss) =
     ∙ ap (λ l. l ++ all_nodes (marked these those ss)) (all_marks s.number (these s.number) (those s.number) 1 s.txns)
     ∙ ap (λ l. nodes_from s.number (these s.number) 1 s.txns ++ l) (all_marked these those ss)
 
-kept_marked : (these those : ℕ → Bool) (ss : List ClientSession) → IsWithin those these → kept_nodes (marked these those ss) ≡ nodes_where those ss
+pub kept_marked : (these those : ℕ → Bool) (ss : List ClientSession) → IsWithin those these → kept_nodes (marked these those ss) ≡ nodes_where those ss
 unfolding settled
 kept_marked these those [] h = refl
 kept_marked these those (s ∷ ss) h =
