@@ -70,13 +70,8 @@ impl Ending {
         Ending::told(format!(in alloc; "{name}: {error}"), DEVICE_FAILED)
     }
 
-    /// The words of the call ask for what there is not.
+    /// The words of the call ask for what there is not, or for what the log has no room for.
     pub fn usage(line: Result<String, AllocError>) -> Ending {
-        Ending::told(line, USAGE)
-    }
-
-    /// A log is refused with this line.
-    pub fn refused_with(line: Result<String, AllocError>) -> Ending {
         Ending::told(line, USAGE)
     }
 

@@ -27,7 +27,7 @@ fn no_room_line(alloc: Global, name: &str, why: NoRoom) -> Result<String, AllocE
 fn ending_of(alloc: Global, name: &str, log: &[u8], fault: SplitFault) -> Ending {
     match fault {
         SplitFault::Log(fault) => Ending::refused(alloc, name, log, fault),
-        SplitFault::Locks(why) => Ending::refused_with(no_room_line(alloc, name, why)),
+        SplitFault::Locks(why) => Ending::usage(no_room_line(alloc, name, why)),
         SplitFault::Output { .. } => Ending::Stop(Stop::Output),
     }
 }

@@ -1,7 +1,7 @@
 //! The log in which each committed transaction that writes is split in two: it has a serial order
 //! exactly where the log itself has a snapshot order.
 //!
-//! Called by `split_command`. It knows no text, and nothing of orders. Outcomes are known.
+//! Called by `judging` and `split_command`. It knows no text, and nothing of orders. Outcomes are known.
 //!
 //! The definitions stand in `specs/`. The laws are contracts of functions that do nothing.
 #![tactic(auto)]
