@@ -22,19 +22,19 @@ use Rattle.log_definitions.proofs.Dropped.{ReadsKept, WritesDropped, OpsFact, re
 use Rattle.log_definitions.proofs.Chosen.{nodes_where, chosen_closed}
 
 -- ---- the nodes where these are chosen, each marked where it is a node with those chosen too
-pub abbrev mark : Bool → Bool → Committed → List Marked → List Marked
+abbrev pub mark : Bool → Bool → Committed → List Marked → List Marked
 mark true kept node ms = (kept, node) ∷ ms
 mark false kept node ms = ms
 
-pub abbrev marks : ℕ → Bool → Bool → ℕ → List Transaction → List Marked
+abbrev pub marks : ℕ → Bool → Bool → ℕ → List Transaction → List Marked
 marks number a b n [] = []
 marks number a b n (t ∷ ts) =
     mark (is_committed (settle a t)) (is_committed (settle b t)) (record { session = number; place = n; ops = t.ops; begun = t.begun; ended = t.ended }) (marks number a b (n + 1) ts)
 
-pub abbrev marked : (ℕ → Bool) → (ℕ → Bool) → List ClientSession → List Marked
+abbrev pub marked : (ℕ → Bool) → (ℕ → Bool) → List ClientSession → List Marked
 marked these those ss = flat_map (λ s. marks s.number (these s.number) (those s.number) 1 s.txns) ss
 
-pub abbrev nodes_from : ℕ → Bool → ℕ → List Transaction → List Committed
+abbrev pub nodes_from : ℕ → Bool → ℕ → List Transaction → List Committed
 nodes_from number a n ts =
     map (λ t. record { session = number; place = t.0; ops = t.1.ops; begun = t.1.begun; ended = t.1.ended }) (filter (λ t. is_committed t.1) (enumerate_from n (map (settle a) ts)))
 
