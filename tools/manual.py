@@ -29,7 +29,7 @@ def option(words, text):
 
 def command(name, about, text):
     """The section of a command. Its help is: what it does, usage, arguments, options, answers, and what else there is to say."""
-    text = re.sub(r'\n {5,}(?=[a-z])', ' ', text)
+    text = re.sub(r'\n {5,}(?=[^ -])', ' ', text)
     usage = re.search(r'^Usage: \S+ (.*)', text, re.M)
     made = '.SS %s\n%s.\n' % ('cobra_poly ' + (usage[1] if usage else name + ' [COMMAND]').replace('-', '\\-'), plain(about))
     for part in text.split('\n\n')[2:]:
