@@ -13,7 +13,7 @@ TOP = os.path.dirname(os.path.dirname(os.path.abspath(__file__)))
 NAME, ARCHITECTURE = 'cobra-poly', 'amd64'
 # What stands beside the program, below HOME: as in the repository, so that links between pages hold.
 FILES = ('README.md', 'CHANGELOG.md', 'docs', 'examples', 'collect', *('tools/' + name for name in (
-    'import.py', 'picture.py', 'picture.css', 'picture.js', 'lanes.py', 'scripts.py', 'told.py')))
+    'import.py', 'lists.py', 'back.py', 'picture.py', 'picture.css', 'picture.js', 'lanes.py', 'scripts.py', 'told.py')))
 HOME = 'share/cobra-poly'
 COMMANDS = {'cobra_poly-import': 'tools/import.py', 'cobra_poly-picture': 'tools/picture.py',
             'cobra_poly-join': 'collect/join.py'}
