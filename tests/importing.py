@@ -743,7 +743,8 @@ class Checks:
         for process, index, verb, value, key, behind, reader in CLAIM.findall(words):
             self.claims[verb + ' behind' * bool(behind)] += 1
             op, micro = ops[int(index)], '[:%s %s %s]' % ({'appended': 'append', 'wrote': 'w'}.get(verb, 'r'), key, value)
-            if ':process %s,' % process not in op or micro not in op:
+            # of a long list the last elements are told
+            if ':process %s,' % process not in op or not re.search(re.escape(micro).replace(re.escape('.. '), '([0-9]+ )+'), op):
                 return 'no %s in %s' % (micro, op)
             if behind and not re.search(r'\[:r %s \[(.* )?%s\b' % (key, value if behind == 'nothing' else '%s %s' % (behind, value)), ops[int(reader)]):
                 return '%s does not stand behind %s in %s' % (value, behind, ops[int(reader)])
