@@ -336,6 +336,9 @@ class Checks:
             self.expect(answer[0] == status and said in answer[2] and not os.path.exists(page), '%r: %r, wanted status %d and %r' % (words, answer, status, said))
         answer = self.call('--help')
         self.expect(answer[0] == 0 and '--explained' in answer[1], '--help: %r' % (answer,))
+        strange = self.put("it's $(touch ran) <b>.log", log['write_skew.log'])
+        answer = self.call(strange, '--program', self.program)
+        self.expect(answer[0] == 0 and '<b>.log' not in open(strange[:-len('log')] + 'html').read() and not os.path.exists('ran'), 'a strange name: %r' % (answer,))
         itself = self.put('log.html', log['write_skew.log'])
         for words in ([itself], [skew, '--explained', itself, '-o', itself]):
             answer = self.call(*words, '--program', self.program)
