@@ -108,6 +108,12 @@ class Copy:
             # a word in quotes is no file
             wanted = AROUND if words.endswith("'{formula}'") else 0
             self.expect('solve --solver "%s"' % words, got[0] == wanted and ('serializable\n' in got[1]) == (wanted == 0), got)
+        # a name that a shell would take apart, and run
+        strange = os.path.join(self.folder, "it's $(touch ran) \"x\".log")
+        shutil.copy(self.log, strange)
+        for words in (['solve', strange], ['solve', strange, '--solver', "'%s' 2 x {formula}" % solver], ['run', 'audit', strange]):
+            got = self.call(*words)
+            self.expect(' '.join(words), got[0] == 0 and got[1].startswith('serializable\n') and not os.path.exists('/ran'), got)
         unproved = self.shell('echo "$(unproved_program "$(sum_of_sources)")"')
         hidden = self.proved + ' hidden'
         os.makedirs(os.path.dirname(unproved))
