@@ -14,11 +14,12 @@ ghost use Rattle.audit_command.specs.Audited.{nodes_in, IsPartTold, AreToldParts
 ghost use Rattle.audit_command.specs.Audited.{IsOrderFile, IsOpen, states_moments};
 ghost use Rattle.audit_command.specs.Resolved.{IsResolved, IsPartOf, IsPartOfVerdict};
 
-use crate::explaining::{Explained, explain_part};
+use crate::explaining::Explained;
 use crate::files::order_file;
 use crate::levels::asks_moments;
 use crate::options::AuditOptions;
 use crate::places::told_txns;
+use crate::snapshots::explain_part;
 use crate::told::{Answer, ToldPart};
 use crate::undecided::{advice_lines, reason_text};
 use judging::{Level, LevelLog, RefutedPart, Tried, Verdict, Why, more_parts};
@@ -48,42 +49,6 @@ pub struct JudgedLog<'a> {
     pub proposal: &'a Proposal,
 }
 
-/// What stands before the lines that say why a part has no serial order, where it has no order of
-/// another level.
-const NO_SERIAL_ORDER: &str = "why they have no serial order either:";
-
-/// What stands in the names of faults that snapshot isolation allows.
-const ALLOWED: &str = "(G2-";
-
-/// Why a part that has no snapshot order has no serial order, without the names of faults that
-/// snapshot isolation allows.
-fn below_snapshot(alloc: Global, explained: Explained) -> Result<Explained, AllocError> {
-    let Explained { lines, known_as } = explained;
-    let mut why = Vec::new(alloc);
-    why.push(String::from_str(alloc, NO_SERIAL_ORDER)?)?;
-    for line in lines {
-        if !line.contains(ALLOWED) {
-            why.push(line)?;
-        }
-    }
-    Ok(Explained {
-        lines: why,
-        known_as: known_as.filter(|name| !name.contains(ALLOWED)),
-    })
-}
-
-/// Why a part has no order of the level at which it was judged.
-fn explained_at(
-    alloc: Global,
-    level: Level,
-    explained: Explained,
-) -> Result<Explained, AllocError> {
-    match level {
-        Level::Serializable => Ok(explained),
-        Level::Snapshot => below_snapshot(alloc, explained),
-    }
-}
-
 /// A part, told.
 fn told_part<R: Threads + Wait + Clock + Sync>(
     rt: &R,
@@ -98,9 +63,8 @@ fn told_part<R: Threads + Wait + Clock + Sync>(
         → IfOk result (IsPartTold options.now.means.level (first_line log.now.version) ss) }
 {
     let txns = told_txns(alloc, log.version, log.sessions, &refuted.flags)?;
-    let means = &options.means.deciding;
-    let explained = explain_part(rt, alloc, log.version, log.sessions, &refuted, means)?;
-    let Explained { lines, known_as } = explained_at(alloc, options.means.level, explained)?;
+    let explained = explain_part(rt, alloc, log.version, log.sessions, &refuted, &options.means)?;
+    let Explained { lines, known_as } = explained;
     let why = if options.explain {
         lines
     } else {
