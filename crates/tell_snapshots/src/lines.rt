@@ -193,23 +193,28 @@ pub fn not_first_line(
     format!(in alloc; "{node} cannot commit first:")
 }
 
-/// The line of a step of this number: which of two that write a key commits first.
-pub fn step_line(
+/// The line of a step of this number, where what follows shows which of two commits first.
+pub fn shown_line(
     alloc: Global,
     part: &Part<'_>,
     writes: (Access<'_>, Access<'_>),
     number: usize,
-    is_shown: bool,
 ) -> Result<String, AllocError> {
     let one = name(alloc, part, writes.0.node)?;
     let other = name(alloc, part, writes.1.node)?;
-    if is_shown {
-        return format!(in alloc; "[{number}] {one}'s commit before {other}'s snapshot:");
-    }
-    let both = both_text(alloc, writes)?;
-    format!(in alloc;
-        "[{number}] {one}'s commit before {other}'s snapshot: {both}, and {other} cannot commit first:"
-    )
+    format!(in alloc; "[{number}] {one}'s commit before {other}'s snapshot:")
+}
+
+/// The same, where the other cannot commit first.
+pub fn forced_line(
+    alloc: Global,
+    part: &Part<'_>,
+    writes: (Access<'_>, Access<'_>),
+    number: usize,
+) -> Result<String, AllocError> {
+    let shown = shown_line(alloc, part, writes, number)?;
+    let (both, other) = (both_text(alloc, writes)?, name(alloc, part, writes.1.node)?);
+    format!(in alloc; "{shown} {both}, and {other} cannot commit first:")
 }
 
 /// The line of a read that would be overwritten, if its writer committed first.

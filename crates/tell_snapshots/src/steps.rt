@@ -5,6 +5,9 @@ use crate::nodes::{Access, Part};
 use crate::ways::{Way, Ways, all_ways, cheapest_circle, cost, way_between};
 use std::alloc::{AllocError, Global};
 
+/// At most so many rounds of steps are gone.
+const MANY_ROUNDS: usize = 100;
+
 /// What it costs to tell that a read would be overwritten.
 const READ_COST: usize = 1_000_000;
 
@@ -18,14 +21,38 @@ pub struct Against<'a> {
     pub way: Way,
 }
 
-/// Of two that write a key the first commits before the second takes its snapshot, since the second
-/// cannot commit first.
+/// Of two that write a key the first commits before the second takes its snapshot.
 #[derive(Drop)]
 pub struct Step<'a> {
-    pub first: usize,
-    pub second: usize,
     pub writes: (Access<'a>, Access<'a>),
-    pub against: Against<'a>,
+    pub why: StepWhy<'a>,
+}
+
+/// Why a step is so.
+#[derive(Drop)]
+pub enum StepWhy<'a> {
+    /// By this way from the one's commit to the other's snapshot.
+    Shown(Way),
+    /// The other cannot commit first.
+    Forced(Against<'a>),
+}
+
+impl<'a> Step<'a> {
+    fn first(&self) -> usize {
+        self.writes.0.node
+    }
+
+    fn second(&self) -> usize {
+        self.writes.1.node
+    }
+
+    /// The way that it needs.
+    pub fn way(&self) -> &Way {
+        match &self.why {
+            StepWhy::Shown(way) => way,
+            StepWhy::Forced(against) => &against.way,
+        }
+    }
 }
 
 /// What a part comes to that has no snapshot order.
@@ -125,16 +152,12 @@ fn judge_pair<'a>(
     match (not_first, not_second) {
         (None, None) => Ok(Found::Nothing),
         (None, Some(against)) => Ok(Found::Step(Step {
-            first,
-            second,
             writes,
-            against,
+            why: StepWhy::Forced(against),
         })),
         (Some(against), None) => Ok(Found::Step(Step {
-            first: second,
-            second: first,
             writes: (writes.1, writes.0),
-            against,
+            why: StepWhy::Forced(against),
         })),
         (Some(not_first), Some(not_second)) => {
             let cost = cost_of(&not_first).saturating_add(cost_of(&not_second));
@@ -146,7 +169,8 @@ fn judge_pair<'a>(
 /// Whether a step says which of two commits first.
 fn is_decided(steps: &[Step<'_>], one: usize, other: usize) -> bool {
     steps.iter().any(|step| {
-        (step.first == one && step.second == other) || (step.first == other && step.second == one)
+        (step.first() == one && step.second() == other)
+            || (step.first() == other && step.second() == one)
     })
 }
 
@@ -201,7 +225,7 @@ fn judge_round<'a>(
     Ok(round)
 }
 
-/// What a step adds to what is known.
+/// What a step of this number adds to what is known.
 fn add_step<'a>(graph: &mut Graph<'a>, part: &Part<'a>, first: usize, second: usize, step: usize) {
     graph.add(commit(first), snapshot(second), Why::Written { step });
     for read in &part.reads {
@@ -219,6 +243,91 @@ fn add_step<'a>(graph: &mut Graph<'a>, part: &Part<'a>, first: usize, second: us
     }
 }
 
+/// Takes steps, with what they add to what is known.
+fn take_steps<'a>(
+    part: &Part<'a>,
+    graph: &mut Graph<'a>,
+    steps: &mut Vec<Step<'a>>,
+    more: Vec<Step<'a>>,
+) -> Result<(), AllocError> {
+    for step in more {
+        add_step(graph, part, step.first(), step.second(), steps.len());
+        steps.push(step)?;
+    }
+    Ok(())
+}
+
+/// Where one of two that write a key commits before the other takes its snapshot by what is known.
+fn shown_step<'a>(
+    alloc: Global,
+    ways: &[Ways],
+    writes: (Access<'a>, Access<'a>),
+) -> Result<Option<Step<'a>>, AllocError> {
+    let (from, to) = (commit(writes.0.node), snapshot(writes.1.node));
+    let found = way_between(alloc, ways, number(from), number(to))?;
+    Ok(found.map(|way| Step {
+        writes,
+        why: StepWhy::Shown(way),
+    }))
+}
+
+/// Each two that write a key, of whom what is known shows which commits first.
+fn shown_steps<'a>(
+    alloc: Global,
+    part: &Part<'a>,
+    ways: &[Ways],
+    steps: &[Step<'a>],
+) -> Result<Vec<Step<'a>>, AllocError> {
+    let mut shown = Vec::new(alloc);
+    for one in 0..part.nodes.len() {
+        for other in 0..part.nodes.len() {
+            if other != one
+                && !is_decided(steps, one, other)
+                && let Some(writes) = part.both_write(one, other)
+                && let Some(step) = shown_step(alloc, ways, writes)?
+            {
+                shown.push(step)?;
+            }
+        }
+    }
+    Ok(shown)
+}
+
+/// What a round finds: an ending, or whether there are steps more.
+#[derive(Drop)]
+enum Went<'a> {
+    To(Ending<'a>),
+    On,
+    Nowhere,
+}
+
+/// A round: a circle; else steps that what is known shows; else those that are forced.
+fn go_round<'a>(
+    alloc: Global,
+    part: &Part<'a>,
+    graph: &mut Graph<'a>,
+    steps: &mut Vec<Step<'a>>,
+) -> Result<Went<'a>, AllocError> {
+    let ways = all_ways(alloc, graph)?;
+    if let Some(circle) = cheapest_circle(alloc, graph, &ways)? {
+        return Ok(Went::To(Ending::Circle(circle)));
+    }
+    let shown = shown_steps(alloc, part, &ways, steps)?;
+    if !shown.is_empty() {
+        take_steps(part, graph, steps, shown)?;
+        return Ok(Went::On);
+    }
+    let Round { steps: more, ending } = judge_round(alloc, part, &ways, steps)?;
+    if let Some((_, ending)) = ending {
+        return Ok(Went::To(ending));
+    }
+    if more.is_empty() {
+        return Ok(Went::Nowhere);
+    }
+    take_steps(part, graph, steps, more)?;
+    Ok(Went::On)
+}
+
 /// Why the points of a part have no order, by what is known of them and steps that follow; `None`
 /// where these do not show it.
 pub fn refute<'a>(
@@ -227,25 +336,11 @@ pub fn refute<'a>(
     graph: &mut Graph<'a>,
 ) -> Result<Option<Refuted<'a>>, AllocError> {
     let mut steps: Vec<Step<'a>> = Vec::new(alloc);
-    let ways = all_ways(alloc, graph)?;
-    if let Some(circle) = cheapest_circle(alloc, graph, &ways)? {
-        return Ok(Some(Refuted {
-            steps,
-            ending: Ending::Circle(circle),
-        }));
-    }
-    for _ in 0..part.nodes.len() {
-        let ways = all_ways(alloc, graph)?;
-        let Round { steps: more, ending } = judge_round(alloc, part, &ways, &steps)?;
-        if let Some((_, ending)) = ending {
-            return Ok(Some(Refuted { steps, ending }));
-        }
-        if more.is_empty() {
-            return Ok(None);
-        }
-        for step in more {
-            add_step(graph, part, step.first, step.second, steps.len());
-            steps.push(step)?;
+    for _ in 0..MANY_ROUNDS {
+        match go_round(alloc, part, graph, &mut steps)? {
+            Went::To(ending) => return Ok(Some(Refuted { steps, ending })),
+            Went::On => {}
+            Went::Nowhere => return Ok(None),
         }
     }
     Ok(None)

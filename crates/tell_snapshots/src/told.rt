@@ -1,11 +1,11 @@
 //! What is told of a part that has no snapshot order.
 
 use crate::edges::known_edges;
-use crate::graph::{Graph, Why, point_of};
-use crate::lines::{edge_line, neither_line, not_first_line, overwritten_line, step_line};
+use crate::graph::{Graph, Why};
+use crate::lines::{edge_line, forced_line, neither_line, not_first_line, overwritten_line, shown_line};
 use crate::names::{NO_EDGES, Shape};
 use crate::nodes::{Access, Part};
-use crate::steps::{Against, Ending, Refuted, Step, refute};
+use crate::steps::{Against, Ending, Refuted, Step, StepWhy, refute};
 use crate::ways::Way;
 use log_lines::LogPlaces;
 use session_log::Session;
@@ -55,7 +55,7 @@ impl<'a, 'b> Telling<'a, 'b> {
         let steps = self.steps;
         for (number, step) in steps.iter().enumerate().rev() {
             if self.is_needed.get(number).copied().unwrap_or(false) {
-                self.need(&step.against.way);
+                self.need(step.way());
             }
         }
     }
@@ -104,12 +104,32 @@ impl<'a, 'b> Telling<'a, 'b> {
         self.put_way(&against.way, INDENT)
     }
 
-    fn put_step(&mut self, number: usize, step: &Step<'a>) -> Result<(), AllocError> {
-        let is_shown = is_shown(step);
-        let told = self.number(number);
-        let line = step_line(self.alloc, self.part, step.writes, told, is_shown)?;
+    /// Tells a step of this number that a way shows.
+    fn put_shown(
+        &mut self,
+        number: usize,
+        writes: (Access<'a>, Access<'a>),
+        way: &Way,
+    ) -> Result<(), AllocError> {
+        if let [_, _] = way.points.as_slice() {
+            let indent = format!(in self.alloc; "[{number}] ")?;
+            return self.put_way(way, &indent);
+        }
+        let line = shown_line(self.alloc, self.part, writes, number)?;
         self.lines.push(line)?;
-        self.put_against(&step.against)
+        self.put_way(way, INDENT)
+    }
+
+    fn put_step(&mut self, number: usize, step: &Step<'a>) -> Result<(), AllocError> {
+        let told = self.number(number);
+        match &step.why {
+            StepWhy::Shown(way) => self.put_shown(told, step.writes, way),
+            StepWhy::Forced(against) => {
+                let line = forced_line(self.alloc, self.part, step.writes, told)?;
+                self.lines.push(line)?;
+                self.put_against(against)
+            }
+        }
     }
 
     /// Tells the steps that are needed.
@@ -145,7 +165,7 @@ impl<'a, 'b> Telling<'a, 'b> {
         let mut shape = NO_EDGES;
         for (step, is_needed) in self.steps.iter().zip(&self.is_needed) {
             if *is_needed {
-                shape = shape.with_way(self.graph, &step.against.way.points);
+                shape = shape.with_way(self.graph, &step.way().points);
             }
         }
         shape
@@ -221,23 +241,6 @@ impl<'a, 'b> Telling<'a, 'b> {
 /// The step that an edge rests on.
 fn step_of(why: Why<'_>) -> Option<usize> {
     why.step()
-}
-
-/// Whether what is known shows a step by itself: a way from the one's commit to the other's snapshot.
-fn is_shown(step: &Step<'_>) -> bool {
-    let points = &step.against.way.points;
-    let (Some(second), Some(before_last)) = (points.get(1), points.len().checked_sub(2)) else {
-        return false;
-    };
-    let Some(before_last) = points.get(before_last) else {
-        return false;
-    };
-    let (leaves, comes) = (point_of(*second), point_of(*before_last));
-    step.against.overwritten.is_none()
-        && leaves.is_commit
-        && leaves.node == step.first
-        && !comes.is_commit
-        && comes.node == step.second
 }
 
 /// Tells what a part comes to.
