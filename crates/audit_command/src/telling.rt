@@ -8,10 +8,10 @@ ghost use Rattle.log_definitions.specs.Unknown.{resolved};
 ghost use Rattle.piece_laws.specs.Logs.{IsSoundLog, IsLog};
 ghost use Rattle.judging.specs.Judges.{IsVerdict};
 ghost use Rattle.judging.specs.Made.{IsMade, IsToldPart};
-ghost use Rattle.judging.specs.Levels.{IsLogAt, IsOrderAt, HasOrderAt, judged_at};
-ghost use Rattle.order_text.specs.Text.{order_text};
+ghost use Rattle.judging.specs.Levels.{IsLogAt, IsOrderAt, HasOrderAt};
+ghost use Rattle.judging.specs.declared.level.Level.{Level};
 ghost use Rattle.audit_command.specs.Audited.{nodes_in, IsPartTold, AreToldParts, IsAnswered};
-ghost use Rattle.audit_command.specs.Audited.{IsOrderFile, IsOpen, states_moments};
+ghost use Rattle.audit_command.specs.Audited.{IsOrderText, IsOrderFile, IsOpen, states_moments};
 ghost use Rattle.audit_command.specs.Resolved.{IsResolved, IsPartOf, IsPartOfVerdict};
 
 use crate::explaining::Explained;
@@ -22,7 +22,8 @@ use crate::places::told_txns;
 use crate::snapshots::explain_part;
 use crate::told::{Answer, ToldPart};
 use crate::undecided::{advice_lines, reason_text};
-use judging::{Level, LevelLog, RefutedPart, Tried, Verdict, Why, more_parts};
+use judging::{LevelLog, RefutedPart, Tried, Verdict, Why, more_parts};
+use point_orders::points_text;
 use progress::Progress;
 use proposals::Proposal;
 use session_log::{Session, Version};
@@ -151,7 +152,7 @@ fn told_parts<R: Threads + Wait + Clock + Eprint + Sync, P: Progress>(
     Ok(told)
 }
 
-/// The text of an order of the log that is judged.
+/// The text of an order of the log, from one of the log that is judged for it.
 fn judged_order(
     alloc: Global,
     log: &JudgedLog<'_>,
@@ -161,12 +162,12 @@ fn judged_order(
     requires log { IsLog (map view log.now.sessions.now) }
     requires at { IsLogAt options.now.means.level (map view log.now.sessions.now) log.now.at.now }
     ensures text { (ss : List ClientSession) → map view log.now.sessions.now ≡ resolved ss
-        → IsOrderAt options.now.means.level ss order.now → IfOk result (λ text.
-        text.items ≡ order_text (judged_at options.now.means.level ss) order.now) }
+        → IsOrderAt options.now.means.level ss order.now
+        → IfOk result (λ text. IsOrderText options.now.means.level ss text.items) }
 {
     match log.at {
         LevelLog::Itself => order_file(alloc, log.sessions, order),
-        LevelLog::Split(split) => order_file(alloc, split, order),
+        LevelLog::Split(_) => points_text(alloc, log.sessions, order),
         LevelLog::NoRoom(_) => Ok(Vec::new(alloc)),
     }
 }
