@@ -225,24 +225,10 @@ class Log:
             is_strict = level.startswith('strict')
             certificates.check_order(self.sessions if is_strict else certificates.without_moments(self.sessions), said)
             return
-        places = self.split_places()
-        names = [tuple(map(int, line.split())) for line in said.splitlines()]
-        must(all(name in places for name in names), '%s: the split log has no such transactions: %r' % (level, said))
-        points = [point for name in names for point in places[name]]
+        must(re.fullmatch('([1-9][0-9]* [1-9][0-9]* (snapshot|commit)\n)*', said), '%s: the order has other lines: %r' % (level, said))
+        lines = [line.split(' ') for line in said.splitlines()]
+        points = [((int(number), int(place)), kind) for number, place, kind in lines]
         must(Points(self.sessions, level).is_order(points), '%s: this is no such order: %r' % (level, said))
-
-    def split_places(self):
-        """The points of each transaction of the split log, by its name there: one that counts as committed and writes is two, its snapshot and
-        its commit, and every other one is one."""
-        nodes, found = set(reference.History(self.sessions).names), {}
-        for number, transactions in self.sessions:
-            halves = []
-            for place, it in enumerate(transactions, 1):
-                points = [((number, place), kind) for kind in ('snapshot', 'commit')]
-                is_split = (number, place) in nodes and any(op[0] == 'w' for op in it.ops)
-                halves += [[point] for point in points] if is_split else [points]
-            found.update(((number, place), points) for place, points in enumerate(halves, 1))
-        return found
 
     def check_part(self, level, said):
         part = reference.read_log(said)
