@@ -63,6 +63,20 @@ impl Shape {
         }
     }
 
+    /// Either of two circles, where as many of their edges miss a write, as names have it.
+    pub fn or(self, other: Shape) -> Option<Shape> {
+        if self.missed.min(2) != other.missed.min(2) {
+            return None;
+        }
+        Some(Shape {
+            missed: self.missed,
+            edges: self.edges.saturating_add(other.edges),
+            has_read: self.has_read || other.has_read,
+            has_written: self.has_written || other.has_written,
+            ..self.with_orders(other)
+        })
+    }
+
     fn by_order(
         self,
         none: &'static str,

@@ -192,9 +192,8 @@ impl<'a, 'b> Telling<'a, 'b> {
                 if self.is_lost_update(not_first, not_second) {
                     return Some("lost update");
                 }
-                let one = self.supposed(not_first).with_orders(orders).name();
-                let other = self.supposed(not_second).with_orders(orders).name();
-                if one == other { Some(one) } else { None }
+                let either = self.supposed(not_first).or(self.supposed(not_second))?;
+                Some(either.with_orders(orders).name())
             }
         }
     }
