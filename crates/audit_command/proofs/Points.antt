@@ -61,7 +61,7 @@ snapshot_order ss order log h =
 pub points_order : (l : Level) (ss known : List ClientSession) (order text : List ℕ) → l ≡ level.Snapshot → IsLog known → known ≡ resolved ss → IsOrderAt l ss order → text ≡ points_text known (points_along known order) → IsOrderText l ss text
 points_order level.Serializable ss known order text at log same h e = absurd (other_level (sym at))
 points_order level.Snapshot ss known order text at log same h e = (
-    points_along ss order,
-    snapshot_order ss order (subst IsLog same log) h,
-    e ∙ ap (λ l. points_text l (points_along l order)) same ∙ text_stays ss order,
+  points_along ss order,
+  snapshot_order ss order (subst IsLog same log) h,
+  e ∙ ap (λ l. points_text l (points_along l order)) same ∙ text_stays ss order,
 )

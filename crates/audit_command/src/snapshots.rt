@@ -19,6 +19,7 @@ use tell_snapshots::{Told, tell_snapshots};
 /// What stands before the lines that say why a part has no serial order, where these say nothing of
 /// snapshots.
 const BY_SEARCH: &str = "no order of their snapshots and commits is left: a search shows it";
+
 const NO_SERIAL_ORDER: &str = "why they have no serial order either:";
 
 /// What stands in the names of faults that snapshot isolation allows.

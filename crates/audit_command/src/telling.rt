@@ -64,7 +64,14 @@ fn told_part<R: Threads + Wait + Clock + Sync>(
         → IfOk result (IsPartTold options.now.means.level (first_line log.now.version) ss) }
 {
     let txns = told_txns(alloc, log.version, log.sessions, &refuted.flags)?;
-    let explained = explain_part(rt, alloc, log.version, log.sessions, &refuted, &options.means)?;
+    let explained = explain_part(
+        rt,
+        alloc,
+        log.version,
+        log.sessions,
+        &refuted,
+        &options.means,
+    )?;
     let Explained { lines, known_as } = explained;
     let why = if options.explain {
         lines

@@ -262,10 +262,10 @@ ops_kept locks nodes i lt =
     let point_list : (ps : List Point) → slice_get (points_from 1 nodes) i ≡ Some ps → points_at (points_from 1 nodes) (suc i) ≡ ps = λ ps e. ap (λ o. unwrap_or o []) e in
     let one : (p : Point) (w : Committed) → Is locks 1 nodes i w (p ∷ []) → node_in (flat_map (both_nodes locks) nodes) (number p) ≡ Some w → flat_map (ops_at (flat_map (both_nodes locks) nodes)) (map number (points_at (points_from 1 nodes) (suc i))) ≡ ops_at (fewer locks nodes) (suc i) =
     λ p w h at.
-        ap (λ ps. flat_map (ops_at (flat_map (both_nodes locks) nodes)) (map number ps)) (point_list (p ∷ []) h.1)
-        ∙ append-nil (ops_at (flat_map (both_nodes locks) nodes) (number p))
-        ∙ ops_here (flat_map (both_nodes locks) nodes) (number p) w at
-        ∙ sym (ops_here (fewer locks nodes) (suc i) w h.0) in
+    ap (λ ps. flat_map (ops_at (flat_map (both_nodes locks) nodes)) (map number ps)) (point_list (p ∷ []) h.1)
+    ∙ append-nil (ops_at (flat_map (both_nodes locks) nodes) (number p))
+    ∙ ops_here (flat_map (both_nodes locks) nodes) (number p) w at
+    ∙ sym (ops_here (fewer locks nodes) (suc i) w h.0) in
     elim r.is [
       | inl h ↦ one (snapshot r.number_is) (start_node locks r.node) h k.start
       | inr other ↦ elim other [
@@ -304,8 +304,8 @@ ended_here nodes n c e = ap (option_and_then (λ (c : Committed). c.ended)) e
 pairs_by_place : (Q : ℕ → ℕ → Type 0) (order : List ℕ) → Apart order → ((u v : ℕ) → Has u order → Has v order → place_of order u < place_of order v → Q u v) → EachPair Q order
 pairs_by_place Q [] h f = tt
 pairs_by_place Q (x ∷ xs) h f = (
-    each_member (Q x) xs (λ v c. (let has = Has-from_Contains xs v c in f x v (inl refl) (inr has) (omega (arith, place_of-here x xs, place_of-further x v xs (apart v has))))),
-    pairs_by_place Q xs h.1 (λ u v hu hv lt. f u v (inr hu) (inr hv) (omega (arith, lt, place_of-further x u xs (apart u hu), place_of-further x v xs (apart v hv)))),
+  each_member (Q x) xs (λ v c. (let has = Has-from_Contains xs v c in f x v (inl refl) (inr has) (omega (arith, place_of-here x xs, place_of-further x v xs (apart v has))))),
+  pairs_by_place Q xs h.1 (λ u v hu hv lt. f u v (inr hu) (inr hv) (omega (arith, lt, place_of-further x u xs (apart u hu), place_of-further x v xs (apart v hv)))),
 )
   where
     apart : (u : ℕ) → Has u xs → x ≡ u → ⊥
@@ -343,8 +343,8 @@ keeps_of_orders nodes order h k l hk hl lt = (session, earlier)
 apart_from_keeps : (nodes : List Committed) (order : List ℕ) → EachPair (Keeps nodes) order → Apart order
 apart_from_keeps nodes [] h = tt
 apart_from_keeps nodes (x ∷ xs) h = (
-    (λ has. (let lt = (member (Keeps nodes x) xs x h.0 (Contains-from_Has xs x has)).0 refl in omega (arith, lt))),
-    apart_from_keeps nodes xs h.1,
+  (λ has. (let lt = (member (Keeps nodes x) xs x h.0 (Contains-from_Has xs x has)).0 refl in omega (arith, lt))),
+  apart_from_keeps nodes xs h.1,
 )
 
 before_by_keeps : (nodes : List Committed) (order : List ℕ) (a b : ℕ) → EachPair (Keeps nodes) order → Has a order → Has b order → a ≢ b → (Keeps nodes b a → ⊥) → place_of order a < place_of order b
@@ -457,9 +457,9 @@ inner locks nodes ordered (suc i) hi =
             let less : number (snapshot r.number_is) < number (commit r.number_is) = let e = r.numbered in omega (arith, e) in
             let apart = ordered r.node (contains_at nodes r.place r.node r.at) in
             let first : Keeps (flat_map (both_nodes locks) nodes) (number (snapshot r.number_is)) (number (commit r.number_is)) = (
-            (λ e. less),
-            ap (λ o. is_earlier o (begun_at (flat_map (both_nodes locks) nodes) (number (snapshot r.number_is)))) (ended_here (flat_map (both_nodes locks) nodes) (number (commit r.number_is)) (end_node locks r.node) k.end)
-            ∙ ap (is_earlier r.node.ended) (begun_here (flat_map (both_nodes locks) nodes) (number (snapshot r.number_is)) (start_node locks r.node) k.start) ∙ apart,
+              (λ e. less),
+              ap (λ o. is_earlier o (begun_at (flat_map (both_nodes locks) nodes) (number (snapshot r.number_is)))) (ended_here (flat_map (both_nodes locks) nodes) (number (commit r.number_is)) (end_node locks r.node) k.end)
+                  ∙ ap (is_earlier r.node.ended) (begun_here (flat_map (both_nodes locks) nodes) (number (snapshot r.number_is)) (start_node locks r.node) k.start) ∙ apart,
             ) in
             subst (λ o. EachPair (Keeps (flat_map (both_nodes locks) nodes)) (map number (unwrap_or o []))) (sym h.1.1) ((first, tt), (tt, tt))
       ]

@@ -57,12 +57,7 @@ fn is_writer(txn: &Txn) -> bool
 }
 
 /// Appends what stands for a transaction of this session and place.
-fn add_txn(
-    halves: &mut Vec<Half>,
-    session: u16,
-    place: usize,
-    txn: &Txn,
-) -> Result<(), AllocError>
+fn add_txn(halves: &mut Vec<Half>, session: u16, place: usize, txn: &Txn) -> Result<(), AllocError>
     ensures added { OnOk result (halves.new.items
         ≡ halves.old.items ++ halves_of session place (view_txn txn.now)) }
 {

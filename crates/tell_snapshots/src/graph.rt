@@ -50,13 +50,25 @@ pub enum Why<'a> {
     Session,
     Moments,
     /// The second reads from its snapshot what the first wrote.
-    Read { read: Access<'a>, write: Access<'a> },
+    Read {
+        read: Access<'a>,
+        write: Access<'a>,
+    },
     /// The first reads from its snapshot what the second overwrites.
-    Missed { read: Access<'a>, write: Access<'a> },
+    Missed {
+        read: Access<'a>,
+        write: Access<'a>,
+    },
     /// The first reads from its snapshot what by a step comes before what the second writes.
-    Behind { read: Access<'a>, write: Access<'a>, step: usize },
+    Behind {
+        read: Access<'a>,
+        write: Access<'a>,
+        step: usize,
+    },
     /// Both write a key, and a step says which commits first.
-    Written { step: usize },
+    Written {
+        step: usize,
+    },
 }
 
 impl<'a> Why<'a> {

@@ -108,7 +108,9 @@ fn moments_text(
 
 /// The number of the session of a node.
 fn session_of(part: &Part<'_>, node: usize) -> u16 {
-    part.nodes.get(node).map_or(0, |node: &Node<'_>| node.session)
+    part.nodes
+        .get(node)
+        .map_or(0, |node: &Node<'_>| node.session)
 }
 
 /// Whether a read and an overwriting write are of nodes that both read the same.
@@ -161,10 +163,7 @@ pub fn edge_line(
 }
 
 /// That two write a key.
-fn both_text(
-    alloc: Global,
-    writes: (Access<'_>, Access<'_>),
-) -> Result<String, AllocError> {
+fn both_text(alloc: Global, writes: (Access<'_>, Access<'_>)) -> Result<String, AllocError> {
     let (key, one, other) = (key_text(writes.0.key), writes.0.line, writes.1.line);
     format!(in alloc; "both write {key} (lines {one} and {other})")
 }
@@ -184,11 +183,7 @@ pub fn neither_line(
 }
 
 /// The line of one of two that cannot commit first.
-pub fn not_first_line(
-    alloc: Global,
-    part: &Part<'_>,
-    node: usize,
-) -> Result<String, AllocError> {
+pub fn not_first_line(alloc: Global, part: &Part<'_>, node: usize) -> Result<String, AllocError> {
     let node = name(alloc, part, node)?;
     format!(in alloc; "{node} cannot commit first:")
 }

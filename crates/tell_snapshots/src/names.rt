@@ -31,10 +31,26 @@ impl Shape {
         let edges = self.edges.saturating_add(1);
         match why {
             Why::Own => self,
-            Why::Session => Shape { edges, has_session: true, ..self },
-            Why::Moments => Shape { edges, has_moments: true, ..self },
-            Why::Read { .. } => Shape { edges, has_read: true, ..self },
-            Why::Written { .. } => Shape { edges, has_written: true, ..self },
+            Why::Session => Shape {
+                edges,
+                has_session: true,
+                ..self
+            },
+            Why::Moments => Shape {
+                edges,
+                has_moments: true,
+                ..self
+            },
+            Why::Read { .. } => Shape {
+                edges,
+                has_read: true,
+                ..self
+            },
+            Why::Written { .. } => Shape {
+                edges,
+                has_written: true,
+                ..self
+            },
             Why::Missed { .. } | Why::Behind { .. } => Shape {
                 edges,
                 missed: self.missed.saturating_add(1),

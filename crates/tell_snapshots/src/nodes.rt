@@ -92,10 +92,20 @@ impl<'a> Part<'a> {
 
     fn add_op(&mut self, node: usize, op: &'a Op, line: usize) -> Result<(), AllocError> {
         match op {
-            Op::Write { key, wid } => self.writes.push(Access { node, line, key, wid: *wid })?,
+            Op::Write { key, wid } => self.writes.push(Access {
+                node,
+                line,
+                key,
+                wid: *wid,
+            })?,
             Op::Read { key, wid } => {
                 if !has_key(&self.writes, node, key) && !has_key(&self.reads, node, key) {
-                    self.reads.push(Access { node, line, key, wid: *wid })?;
+                    self.reads.push(Access {
+                        node,
+                        line,
+                        key,
+                        wid: *wid,
+                    })?;
                 }
             }
         }

@@ -87,7 +87,10 @@ fn best_reader<'a>(
     for read in &part.reads {
         if read.node != first
             && read.node != second
-            && part.writes.iter().any(|it| it.node == first && it.is_same(read))
+            && part
+                .writes
+                .iter()
+                .any(|it| it.node == first && it.is_same(read))
             && let Some(write) = part.first_write(second, read.key)
             && let Some(cost) = cost(ways, number(commit(second)), number(snapshot(read.node)))
         {
@@ -161,7 +164,14 @@ fn judge_pair<'a>(
         })),
         (Some(not_first), Some(not_second)) => {
             let cost = cost_of(&not_first).saturating_add(cost_of(&not_second));
-            Ok(Found::Ending(cost, Ending::Neither { writes, not_first, not_second }))
+            Ok(Found::Ending(
+                cost,
+                Ending::Neither {
+                    writes,
+                    not_first,
+                    not_second,
+                },
+            ))
         }
     }
 }
@@ -230,7 +240,10 @@ fn add_step<'a>(graph: &mut Graph<'a>, part: &Part<'a>, first: usize, second: us
     graph.add(commit(first), snapshot(second), Why::Written { step });
     for read in &part.reads {
         if read.node != second
-            && part.writes.iter().any(|it| it.node == first && it.is_same(read))
+            && part
+                .writes
+                .iter()
+                .any(|it| it.node == first && it.is_same(read))
             && let Some(write) = part.last_write(second, read.key)
         {
             let why = Why::Behind {
@@ -317,7 +330,10 @@ fn go_round<'a>(
         take_steps(part, graph, steps, shown)?;
         return Ok(Went::On);
     }
-    let Round { steps: more, ending } = judge_round(alloc, part, &ways, steps)?;
+    let Round {
+        steps: more,
+        ending,
+    } = judge_round(alloc, part, &ways, steps)?;
     if let Some((_, ending)) = ending {
         return Ok(Went::To(ending));
     }

@@ -2,7 +2,9 @@
 
 use crate::edges::known_edges;
 use crate::graph::{Graph, Why};
-use crate::lines::{edge_line, forced_line, neither_line, not_first_line, overwritten_line, shown_line};
+use crate::lines::{
+    edge_line, forced_line, neither_line, not_first_line, overwritten_line, shown_line,
+};
 use crate::names::{NO_EDGES, Shape};
 use crate::nodes::{Access, Part};
 use crate::steps::{Against, Ending, Refuted, Step, StepWhy, refute};
@@ -13,6 +15,7 @@ use std::alloc::{AllocError, Global};
 
 /// Of a part with more committed transactions, or with more operations in them, nothing is told.
 const MANY_NODES: usize = 48;
+
 const MANY_OPS: usize = 4_000;
 
 /// What stands before the lines of a step, and of what cannot be.
@@ -188,7 +191,11 @@ impl<'a, 'b> Telling<'a, 'b> {
                 let shape = NO_EDGES.with_way(self.graph, &way.points);
                 Some(shape.with_orders(orders).name())
             }
-            Ending::Neither { not_first, not_second, .. } => {
+            Ending::Neither {
+                not_first,
+                not_second,
+                ..
+            } => {
                 if self.is_lost_update(not_first, not_second) {
                     return Some("lost update");
                 }
@@ -221,7 +228,11 @@ impl<'a, 'b> Telling<'a, 'b> {
     fn put_all(&mut self, ending: &Ending<'a>) -> Result<(), AllocError> {
         match ending {
             Ending::Circle(way) => self.need(way),
-            Ending::Neither { not_first, not_second, .. } => {
+            Ending::Neither {
+                not_first,
+                not_second,
+                ..
+            } => {
                 self.need(&not_first.way);
                 self.need(&not_second.way);
             }
@@ -230,9 +241,11 @@ impl<'a, 'b> Telling<'a, 'b> {
         self.put_steps()?;
         match ending {
             Ending::Circle(way) => self.put_way(way, ""),
-            Ending::Neither { writes, not_first, not_second } => {
-                self.put_neither(*writes, not_first, not_second)
-            }
+            Ending::Neither {
+                writes,
+                not_first,
+                not_second,
+            } => { self.put_neither(*writes, not_first, not_second) }
         }
     }
 }
