@@ -184,6 +184,11 @@ class Log:
         wanted = {LEVELS[level]: 'kept' if self.kept[level] else 'not kept' for level in asked}
         must(answer.weaker == wanted, 'weaker levels: %r, wanted %r' % (answer.weaker, wanted))
         certificates.check_object(answer, call(self.program, 'audit', '--at-least', '0', '--format', 'json', text=self.text))
+        least = certificates.Answer(call(self.program, 'audit', '--at-least', '0', '--budget', '1', text=self.text))
+        if least.verdict == 'unknown':
+            asked = {LEVELS[level]: ('unknown', KEPT[self.kept[level]]) for level in LEVELS if 'snapshot' in level and level not in self.silent}
+            told = least.weaker.keys() == asked.keys() and all(least.weaker[level] in asked[level] for level in asked)
+            must(told, 'weaker levels behind %r: %r, of %r' % (least.first, least.weaker, asked))
         bare = certificates.Answer(call(self.program, 'audit', '--at-least', '0', '--only', text=self.text))
         must((bare.first, bare.without, bare.weaker) == (answer.first, None, {}), 'with --only: %r, %r' % (bare.first, bare.weaker))
 
