@@ -90,12 +90,11 @@ esac
 for seed in 1 2 3 4 5; do
     "${load[@]}" --transactions 400 --keys 10 --seed "$seed" --overwrite "$folder/run.log" || stop 'the load failed'
     status=0
-    "$program" audit --explain "$folder/run.log" > "$folder/why.txt" || status=$?
+    "$program" audit --explain --workers 1 --part "$folder/small.log" "$folder/run.log" > "$folder/why.txt" || status=$?
     [ "$status" -le 3 ] || stop "the program ended with $status"
     say "run $seed: $(wc -l < "$folder/run.log") lines, $(head -n 1 "$folder/why.txt")"
     [ "$status" -ne 1 ] || break
 done
 [ "$status" -eq 1 ] || stop 'no run showed a fault of this store: once more'
-python3 "$top/tools/shrink.py" --program "$program" "$folder/run.log" -o "$folder/small.log" || stop 'the log was not made smaller'
-python3 "$top/tools/picture.py" --program "$program" "$folder/small.log" -o "$folder/why.html" || stop 'no page was made'
+python3 "$top/tools/picture.py" --program "$program" "$folder/run.log" -o "$folder/why.html" || stop 'no page was made'
 say "the page is $folder/why.html, for any browser"

@@ -6,8 +6,8 @@ the whole log gives, with 1, 3, 4 and 16 workers, with moments and without them;
 must be a serial order by a plain replay. What is told of a part must be one of the whole log: its transactions, each write and each read
 that it keeps, its names and lines; it must have no order, by all of them and by `check`, and none of its transactions can be left out; what
 `--explain` says must be so in the lines of the whole log; JSON must say what text says. Then logs by hand: empty ones, too few
-transactions, too many sessions at once, refused ones with their codes, words that are none, files that cannot be read or
-written, and too little time.
+transactions, too many sessions at once, parts at the limits of what is decided, refused ones with their codes, words that are none, files
+that cannot be read or written, names that a shell would run, and too little time.
 Last line: 'auditing: N passed, M failed'."""
 import argparse, collections, concurrent.futures, json, os, random, re, subprocess, sys, tempfile
 
@@ -88,6 +88,8 @@ class Made:
         if answer.verdict == 'serializable':
             with open(self.at + '.order') as order:
                 certificates.check_order(sessions, order.read())
+        sizes = [len(part.lines) for part in answer.parts]
+        must(sizes == sorted(sizes), 'parts of %r transactions' % sizes)
         for place, part in enumerate(answer.parts):
             self.told(sessions, words, answer, place, part, explain)
         self.must_be_without(sessions, answer)
@@ -185,6 +187,16 @@ def late_sessions(count=100, each=12):
     return ''.join(line + '\n' for line in lines).encode()
 
 
+def circle(count, reads=0):
+    """As many sessions, each of which reads what the next one wrote; the first one reads more keys, which nobody wrote."""
+    lines = []
+    for turn in range(count):
+        other = (turn + 1) % count
+        more = ['r other%d 0' % key for key in range(reads if turn == 0 else 0)]
+        lines += ['session %d' % (turn + 1), 'begin', *more, 'r k%d %d' % (other, other + 1), 'w k%d %d' % (turn, turn + 1), 'commit']
+    return ''.join(line + '\n' for line in lines).encode()
+
+
 SMALL = b'log 3\nsession 1\nbegin 1\nw x 1\ncommit 2\nbegin 5\nr x 1\ncommit 6\nsession 2\nbegin 3\nw y 2\nabort\n'
 TAKEN = b'log 2\nsession 1\nbegin\nw x 1\nunknown\nsession 2\nbegin\nr x 1\ncommit\n'
 LOST = b'session 1\nbegin\nr x 0\nw x 1\ncommit\nsession 2\nbegin\nr x 0\nw x 2\ncommit\n'
@@ -225,6 +237,11 @@ ANSWERED = [
     ('1,025 sessions at once', blind_log(2050, 1025, 5), [], 'unknown: more than 1024 sessions at once', []),
     ('1,025 sessions at once, and a read of nothing', blind_log(2050, 1025, 5) + NOT_WRITTEN, [], 'not serializable',
      ['part of 1 transactions: A1 unknown read']),
+    ('a circle of 64 sessions', circle(64), [], 'not serializable', ['part of 64 transactions: A8 cycle of known edges']),
+    ('a circle of 65 sessions', circle(65), [], 'unknown: a part that was found is not decided', []),
+    ('a circle with 9,998 other keys', circle(2, 9998), [], 'not serializable', ['part of 2 transactions: A8 cycle of known edges']),
+    ('a circle behind a larger one', circle(5) + LOST.replace(b'session ', b'session 10').replace(b'w x ', b'w x 9'), ['--faults', '2'], 'not serializable',
+     ['part of 2 transactions: A7 lost update', 'part of 5 transactions: A8 cycle of known edges']),
 ]
 
 # Of a refused log: its text, the line and the code, and what is wrong.
@@ -238,6 +255,10 @@ REFUSED = [
     (b'session 1\nbegin\ncommit', 3, 'L1', 'line feed'),
     (b'session 1\nbegin\nr x 00\n', 3, 'L1', 'leading zero'),
     (b'session 1\nbegin\nr x=1 0\n', 3, 'L1', 'key'),
+    (b'session 1\nbegin\nr a\x01"b\\ 1\n', 3, 'L1', '\\x01'),
+    (b'session 1\nbegin\nr \xff\x7f 1\n', 3, 'L1', 'key'),
+    (b'session 1\nbegin\n\x1b[31m"\\ x\n', 3, 'L1', '\\x1b[31m'),
+    (b'session 1\nbegin\nr x 1\x00\n', 3, 'L1', 'identity'),
     (b'log 4\nsession 1\n', 1, 'L1', 'version'),
     (b'session 1\nsession 2\nsession 1\n', 3, 'L2', ''),
     (b'log 3\nsession 1\ncommit\n', 3, 'L3', ''),
@@ -262,7 +283,8 @@ USAGE = [['--size', '1'], ['--faults', '0'], ['--faults', '1001'], ['--faults', 
 def answered(program, folder, name, text, words, first, within):
     sessions, at = certificates.read_long(text), os.path.join(folder, name)
     sessions = certificates.without_moments(sessions) if '--no-moments' in words else sessions
-    answer = Answer(call(program, 'audit', *words, '--part', at, '--order', at + '.order', text=text)[:2] + ('',))
+    faults = int(words[words.index('--faults') + 1]) if '--faults' in words else 1
+    answer = Answer(call(program, 'audit', *words, '--part', at, '--order', at + '.order', text=text)[:2] + ('',), faults)
     must(answer.first == first, 'says %r, wanted %r' % (answer.first, first))
     said = [part.title for part in answer.parts] + ['part of %d transactions: %s' % (len(part.lines), part.title) for part in answer.parts]
     must(all(title in said for title in within), 'says %r, and nowhere %r' % (said, within))
@@ -270,9 +292,10 @@ def answered(program, folder, name, text, words, first, within):
     if answer.verdict == 'serializable':
         with open(at + '.order') as order:
             certificates.check_order(sessions, order.read())
-    for part in answer.parts:
-        law = certificates.check_told(sessions, text, part)
+    laws = [certificates.check_told(sessions, text, part) for part in answer.parts]
+    for law, part in list(zip(laws, answer.parts))[:1]:
         certificates.check_code(program, certificates.check_files(sessions, text, law, at)[0], part)
+    must(within == [title for title in said if title in within], 'says %r, and not in this order %r' % (said, within))
     if '--format' not in words:
         certificates.check_object(answer, call(program, 'audit', *words, '--format', 'json', text=text))
 
@@ -336,6 +359,22 @@ def same_files(program, folder):
             must((status, said, left.read()) == (2, '', text) and 'twice' in error, '%r: status %d, says %r, on standard error %r' % (words, status, said, error))
 
 
+def strange_name(program, folder):
+    """A log whose name a shell would take apart, and run: it is a name like any other, wherever it is told."""
+    at = os.path.join(folder, "it's $(touch ran) \"x\".log")
+    for text, said in ((LOST, 'not serializable\n'), (b'no log\n', ''), (None, '')):
+        if text is not None:
+            with open(at, 'wb') as log:
+                log.write(text)
+        answer = call(program, 'audit', '--explain', '--part', at + '.part', at)
+        must(answer[1].startswith(said) and (said or answer[2].startswith(at + ':') and answer[2].count('\n') == 1), 'says %r' % (answer,))
+        must('touch' not in answer[1], 'its text names the log: %r' % answer[1])
+        json.loads(call(program, 'audit', '--format', 'json', at)[1], object_pairs_hook=certificates.once)
+        if text is not None:
+            os.remove(at)
+    must(os.path.exists(at + '.part') and os.path.exists(at + '.part.map') and not os.path.exists('ran'), 'files of a part')
+
+
 def time_is_up(program, folder):
     """With --seconds 1 a log that takes longer is `unknown`, and the text and the object say why. Of a fast machine a longer log is asked for."""
     log = os.path.join(folder, 'endless.log')
@@ -394,6 +433,7 @@ def by_hand(folder):
     yield 'help', has_help, ()
     yield 'files that are one', same_files, ()
     yield 'the time is up', time_is_up, ()
+    yield 'a strange name', strange_name, ()
     for name, text in generate.examples((1, 2, 3)):
         try:
             reference.read_log(text)

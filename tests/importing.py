@@ -4,12 +4,14 @@
 Histories written by hand must give the log, the map and the words that stand beside them here, and `check` of PROGRAM the verdict. Each kind
 of bad history must be refused with its line, and leave something that `check` refuses. Thousands of made histories of lists and registers, of
 which many contradict themselves, must be serializable by `check` exactly where some order of their committed and of some unknown
-transactions, replayed on plain lists, explains them. A history of 100,000 ops must give the log that is made beside it. Last line:
-'importing: N passed, M failed'."""
-import collections, concurrent.futures, importlib.util, io, itertools, os, random, subprocess, sys, tempfile, time
+transactions, replayed on plain lists, explains them; what --lists tells of one must rule out each order, and what --back makes of `explain`
+must be in the history. A history of 100,000 ops must give the log that is made beside it. Last line: 'importing: N passed, M failed'."""
+import collections, concurrent.futures, importlib.util, io, itertools, os, random, re, subprocess, sys, tempfile, time
 
 HERE = os.path.dirname(os.path.abspath(__file__))
 SCRIPT = os.path.join(os.path.dirname(HERE), 'tools', 'import.py')
+sys.path.insert(0, os.path.dirname(SCRIPT))
+import back, lists
 NO_LOG, UNREADABLE, USAGE, AROUND = b'no log: see standard error\n', 65, 2, 70
 MADE, OPS, LATE = 2000, 100000, 600
 
@@ -327,6 +329,55 @@ BY_HAND = [
      '1 - session 1 session 5\n2 1 begin\n3 1 w 1 1\n4 1 commit\n5 - session 2 session 6\n6 2 begin\n7 2 r 1 1\n8 3 r 2 nil\n9 3 commit\n'),
 ]
 
+# ---- lists that contradict each other: name, words of the command, the transactions, and what stands on standard error of it
+
+def history_of(*transactions):
+    """A history of transactions one behind the other: each is its process, how it ends, and its micro-ops."""
+    ops = []
+    for text in transactions:
+        process, end, done = text.split(' ', 2)
+        asked = re.sub(r'\[:r (\S+) (?:\[[^]]*\]|\S+)\]', r'[:r \1 nil]', done)
+        ops += [(process, 'invoke', asked), (process, end, done)]
+    return ''.join('{:process %s, :type :%s, :time %d, :value [%s]}\n' % (*op[:2], place, op[2]) for place, op in enumerate(ops))
+
+
+APPENDS, TWENTY = ('0 ok [:append 4 1]', '1 ok [:append 4 2]'), ' '.join(map(str, range(1, 21)))
+CONTRADICTING = [
+    ('turned lists', [], (*APPENDS, '3 ok [:r 4 [2 1]]', '2 ok [:r 4 [1 2]]'),
+     ['incompatible-order: list 4 is [2 1] by operation 5 (process 3), and [1 2] by operation 7 (process 2)']),
+    ('long lists', [], ('0 ok ' + ' '.join('[:append 4 %d]' % n for n in range(1, 21)), '1 ok [:r 4 [%s]]' % TWENTY, '2 ok [:r 4 [%s]]' % TWENTY.replace('10 11', '11 10')),
+     ['incompatible-order: list 4 is [.. 6 7 8 9 10 11 12 13 ..] by operation 3 (process 1), and [.. 6 7 8 9 11 10 12 13 ..] by operation 5 (process 2)']),
+    ('an element twice', [], (*APPENDS, '2 ok [:r 4 [1 2 1]]'), ['duplicate-elements: list 4 has 1 twice by operation 5 (process 2): [1 2 1]']),
+    ('an element of nobody', [], (*APPENDS, '2 ok [:r 4 [1 9 2]]'), ['garbage read: list 4 has 9 by operation 5 (process 2), which nobody appended: [1 9 2]']),
+    ('an element that failed', [], ('0 fail [:append 4 1]', '1 ok [:r 4 [1]]'),
+     ['G1a: list 4 has 1 by operation 3 (process 1), which operation 1 (process 0) appended, and failed: [1]']),
+    ('own reads', [], ('0 ok [:r 4 []] [:append 4 1] [:r 4 []]',), ['internal: list 4 is [] by operation 1 (process 0), which had [1] itself']),
+    ('a lost update', [], ('0 ok [:r 4 []] [:append 4 1]', '1 ok [:r 4 []] [:append 4 2]'),
+     ['lost-update: operation 1 (process 0) and operation 3 (process 1) both read [] of list 4, and appended 1 and 2']),
+    ('an append that is missing', ['--order', 'none'], (*APPENDS, '2 ok [:r 4 [1]] [:append 4 7]', '3 ok [:r 4 [1 2]]'),
+     ['lost append: operation 5 (process 2) read [1] of list 4 and appended 7, and by operation 7 (process 3) the list is [1 2]']),
+    ('one that is missing in time', [], (*APPENDS, '2 ok [:r 4 [2]]'),
+     ['lost append: operation 1 (process 0) appended 1 to list 4 before operation 3 (process 1) appended 2, and by operation 5 (process 2) the list is [2]']),
+    ('time that does not count', ['--order', 'sessions'], (*APPENDS, '2 ok [:r 4 [2]]'), []),
+    ('one that is missing in a session', ['--order', 'sessions'], ('0 ok [:append 4 1]', '0 ok [:append 4 2]', '2 ok [:r 4 [2]]'),
+     ['lost append: operation 1 (process 0) appended 1 to list 4 before operation 3 (process 0) appended 2, and by operation 5 (process 2) the list is [2]']),
+    ('a session that does not count', ['--order', 'none'], ('0 ok [:append 4 1]', '0 ok [:append 4 2]', '2 ok [:r 4 [2]]'), []),
+    ('lists that are right', [], (*APPENDS, '2 ok [:r 4 [1]]', '3 ok [:r 4 [1 2]] [:append 4 3] [:r 4 [1 2 3]]'), []),
+    ('many', [], ['0 ok [:append %d 1] [:r %d [2 1]]' % (n, n) for n in range(12)],
+     ['garbage read: list %d has 2 by operation %d (process 0), which nobody appended: [2 1]' % (n, 2 * n + 1) for n in range(10)] + ['garbage read: 2 more']),
+]
+# what is said of a history, in its own words
+BACK = [
+    (EXAMPLE, ['not serializable: A8 cycle of known edges', 'cycle %s %s %s',
+               '%s before %s: %s reads [] of list :x, and %s appended 1 to list :x', '%s before %s: %s reads [] of list :y, and %s appended 1 to list :y',
+               'known as: write skew (G2-item)'],
+     (2, 3, 2, 2, 3, 2, 3, 3, 2, 3, 2), {2: 0, 3: 1}),
+    (CONTRADICTION, ['not serializable: A6 split read at %s', '%s appended 1 to list 1 behind 2 (as operation 7 read it), which %s appended',
+                     '%s appended 1 to list 1 behind nothing (as operation 5 read it) before'], (1, 1, 3, 1), {1: 0, 3: 1}),
+    (REGISTERS.replace('[:r 1 1]', '[:r 1 9]'), ['not serializable: A1 unknown read at %s', '%s reads 9 of 1, which no transaction wrote'], (3, 3), {3: 1}),
+]
+CLAIM = re.compile(r"process (\d+)'s transaction \(index (\d+)\) (appended|wrote|reads|read) (\[[^]]*\]|\S+) (?:to|of) (?:list )?(\d+)(?: behind (\S+) \(as operation (\d+))?")
+
 # ---- bad histories: the form, the history, and what is said of it, with the line
 
 INVOKE = '{:type :invoke, :process 0, :time 5, :value [[:r 1 nil] [:append 1 1]]}\n'
@@ -402,6 +453,9 @@ AROUND_IT = [
     ('aborted ones of jepsen', ['--from', 'jepsen', '--aborted', '-1', '-'], USAGE, '--aborted is for plume'),
     ('a file that is missing', ['--from', 'plume', '/nowhere/history'], AROUND, '/nowhere/history: No such file or directory'),
     ('a folder', ['--from', 'plume', '/'], AROUND, "Is a directory"),
+    ('lists of plume', ['--from', 'plume', '--lists', '-'], USAGE, '--lists and --operations are for jepsen'),
+    ('operations of plume', ['--from', 'plume', '--operations', 'x', '-'], USAGE, '--lists and --operations are for jepsen'),
+    ('a history to go back to', ['--back', 'x', '--from', 'plume'], USAGE, '--back takes no history'),
     ('a map that cannot be written', ['--from', 'plume', '--map', '/nowhere/map', '-'], AROUND, '/nowhere/map: No such file or directory'),
 ]
 
@@ -587,7 +641,7 @@ def large_history():
 class Checks:
     def __init__(self, program, folder):
         self.program, self.map = program, os.path.join(folder, 'map')
-        self.passed, self.failed, self.kinds = 0, 0, collections.Counter()
+        self.passed, self.failed, self.kinds, self.told_of_lists, self.claims = 0, 0, collections.Counter(), collections.Counter(), collections.Counter()
         spec = importlib.util.spec_from_file_location('importer', SCRIPT)
         self.importer = importlib.util.module_from_spec(spec)
         spec.loader.exec_module(self.importer)
@@ -604,10 +658,13 @@ class Checks:
     def script(self, words, text=b'', **to):
         return self.call([sys.executable, '-B', SCRIPT, *words], text, **to)
 
+    def explained(self, log):
+        """What `explain` says, which begins as `check` does."""
+        status, said, error = self.call([self.program, 'explain', '--strategy', 'forced', '--workers', '1'], log)
+        return error if error.startswith('refused') else said.decode()
+
     def verdict(self, log):
-        """The first line of what `check` says."""
-        status, said, error = self.call([self.program, 'check', '--strategy', 'forced'], log)
-        return (said.decode() or error).partition('\n')[0]
+        return self.explained(log).partition('\n')[0]
 
     def by_hand(self, case):
         name, words, history, log, verdict, told, places = case
@@ -620,10 +677,33 @@ class Checks:
             with open(path) as file:
                 yield file.read(), places, '%s, its map' % name
 
+    def contradicting(self, case):
+        name, words, transactions, told = case
+        history = history_of(*transactions).encode()
+        status, log, error = self.script([*JEPSEN, *words, '-'], history)
+        wanted = ''.join('import.py: %s\n' % line for line in told)
+        yield self.script([*JEPSEN, *words, '--lists', '-'], history), (1 if told else 0, log, wanted + error), '%s, of lists' % name
+        yield (status, told and self.verdict(log).split(':')[0]), (0, told and 'not serializable'), '%s, of lists, without a word' % name
+
+    def back(self, case):
+        history, lines, indexes, processes = case
+        path, names = '%s back %d' % (self.map, len(history)), tuple("process %d's transaction (index %d)" % (processes[index], index) for index in indexes)
+        status, log, error = self.script([*JEPSEN, '--operations', path, '-'], history.encode())
+        explained = self.explained(log).encode()
+        yield self.script(['--back', path], explained), (0, ('\n'.join(lines) % names + '\n').encode(), ''), 'the words of %.40r' % history
+        told = self.script(['--back', path], self.call([self.program, 'audit', '--explain'], log)[1])[1].decode()
+        yield (names[0] in told, re.search(r'\(line|[0-9]\.[0-9]', told)), (True, None), 'the words of audit of %.40r: %s' % (history, told)
+        for file, text, wanted_status, wanted in ((path, explained.replace(b'(line ', b'(line 9'), UNREADABLE, 'another log'), ('/nowhere/map', b'', AROUND, '/nowhere/map: No such file'),
+                                                  (SCRIPT, explained, UNREADABLE, 'does not write')):
+            status, said, error = self.script(['--back', file], text)
+            yield (status, said, wanted in error and 'Traceback' not in error), (wanted_status, b'', True), 'back by %s: %s' % (file, error)
+
+    def read(self, form, history):
+        """A history, by the functions of the script, in this process."""
+        return self.importer.read_history(io.BytesIO(history.encode(errors='surrogateescape')), form)
+
     def log_of(self, form, history):
-        """The log of a history, by the functions of the script, in this process."""
-        read = self.importer.read_history(io.BytesIO(history.encode(errors='surrogateescape')), form)
-        return ''.join(line + '\n' for line in self.importer.log_of(read)[0])
+        return ''.join(line + '\n' for line in self.importer.log_of(self.read(form, history))[0])
 
     def bad(self, case):
         form, history, wanted = case
@@ -644,18 +724,42 @@ class Checks:
 
     def made(self, seed):
         text, explained = made_history(seed)
-        log = self.log_of('jepsen', text)
-        said = self.verdict(log.encode())
-        self.kinds[' '.join(said.split(' ')[:3])] += 1
+        history = self.read('jepsen', text)
+        seen, counted = self.importer.lists_seen(history)
+        told = lists.Lists(history, counted, self.importer.edn).found
+        lines, places = self.importer.log_of(history, seen)
+        log = ''.join(line + '\n' for line in lines)
+        said = self.explained(log.encode())
+        self.kinds[' '.join(said.split('\n')[0].split(' ')[:3])] += 1
         yield said.startswith('not serializable' if not explained else 'serializable'), True, 'made history %d: %s\n%s%s' % (seed, said, text, log)
+        self.told_of_lists.update(name for name, *_ in told)
+        yield bool(told and explained), False, 'what lists say of made history %d: %s\n%s' % (seed, told, text)
+        if not explained:
+            words = back.retold(said, self.importer.operation_lines(lines, places))
+            yield self.wrong_claim(words, text.split('\n')), None, 'made history %d in its words: %s\n%s%s%s' % (seed, words, said, log, text)
+
+    def wrong_claim(self, words, ops):
+        """Something in these words of a history that is not so there, or that is still in the words of the log."""
+        for process, index, verb, value, key, behind, reader in CLAIM.findall(words):
+            self.claims[verb + ' behind' * bool(behind)] += 1
+            op, micro = ops[int(index)], '[:%s %s %s]' % ({'appended': 'append', 'wrote': 'w'}.get(verb, 'r'), key, value)
+            # of a long list the last elements are told
+            if ':process %s,' % process not in op or not re.search(re.escape(micro).replace(re.escape('.. '), '([0-9]+ )+'), op):
+                return 'no %s in %s' % (micro, op)
+            if behind and not re.search(r'\[:r %s \[(.* )?%s\b' % (key, value if behind == 'nothing' else '%s %s' % (behind, value)), ops[int(reader)]):
+                return '%s does not stand behind %s in %s' % (value, behind, ops[int(reader)])
+        left = re.search(r'[0-9]\.[0-9]|\(line|session', words.replace('and sessions', '').replace('of sessions', '').replace('a session misses', ''))
+        return left and 'the words of the log are left: %s' % left[0]
 
     def run(self):
-        lists = [(self.by_hand, BY_HAND), (self.bad, BAD), (self.told, TOLD), (self.around, AROUND_IT), (self.made, range(MADE))]
-        jobs = [(check, case) for check, cases in lists for case in cases]
+        kinds = [(self.by_hand, BY_HAND), (self.contradicting, CONTRADICTING), (self.back, BACK), (self.bad, BAD), (self.told, TOLD), (self.around, AROUND_IT),
+                 (self.made, range(MADE))]
+        jobs = [(check, case) for check, cases in kinds for case in cases]
         with concurrent.futures.ThreadPoolExecutor() as pool:
             for found in pool.map(lambda job: list(job[0](job[1])), jobs):
                 for it in found:
                     self.expect(*it)
+        self.expect((len(self.told_of_lists), len(self.claims)), (7, 5), 'what was told: %s, %s' % (self.told_of_lists, self.claims))
         self.expect(self.verdict(NO_LOG), 'refused: L1 line 1', 'what stands in place of a log')
         with open('/dev/full', 'wb') as full:
             self.expect(self.script(['--from', 'plume', '-'], PLUME.encode(), stdout=full)[0], AROUND, 'a full device')
@@ -676,7 +780,8 @@ def main():
     with tempfile.TemporaryDirectory() as folder:
         checks = Checks(os.path.abspath(sys.argv[1]), folder)
         checks.run()
-    print('importing: %s' % ', '.join('%s %d' % it for it in sorted(checks.kinds.items())))
+    for found in (checks.kinds, checks.told_of_lists, checks.claims):
+        print('importing: %s' % ', '.join('%s %d' % it for it in sorted(found.items())))
     print('importing: %d passed, %d failed' % (checks.passed, checks.failed))
     sys.exit(1 if checks.failed or len(checks.kinds) < 10 else 0)
 

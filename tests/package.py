@@ -3,7 +3,7 @@
 
 Made twice, in other places, of files of other times, the packages must have the same bytes, and SHA256SUMS those sums. The Debian package is
 unpacked by dpkg-deb, and installed and removed by dpkg in a folder; the tarball is unpacked by Python; all must have the same files. There the
-program judges, and the scripts import, join, draw, shrink and collect logs, with nothing on the path but the system's commands. PROVED names the kit
+program judges, and the scripts import, join, draw and collect logs, with nothing on the path but the system's commands. PROVED names the kit
 where the program was proved, and no kit otherwise. Where there is no dpkg, a line says so. Last line: 'package: N passed, M failed'."""
 import gzip, hashlib, os, re, shutil, subprocess, sys, tarfile, tempfile
 
@@ -127,7 +127,6 @@ class Checks:
         call('cobra_poly', 'check', 'imported.log', status=1, says='A8')
         call('cobra_poly-picture', example('five_reasons.log'), '-o', 'page.html', says='page.html')
         self.expect(b'<svg' in content(os.path.join(work, 'page.html')), '%s: the page' % what)
-        call('cobra_poly-shrink', example('busy_store.log'), '-o', 'small.log', says='3 of 9 transactions')
         call(os.path.join(home, 'collect', 'sqlite.py'), '--transactions', '50', '--keys', '5', 'honest.log')
         call('cobra_poly', 'audit', '--quiet', 'honest.log', says='serializable')
         call(example('quickstart.sh'), 'quick', says='the page is quick/why.html')
@@ -135,7 +134,7 @@ class Checks:
         self.expect(content(os.path.join(work, 'joined.log')) == content(os.path.join(work, 'honest.log')), '%s: join' % what)
         for name in ('recorder.go', 'Recorder.java'):
             self.expect(os.path.isfile(os.path.join(home, 'collect', name)), '%s: %s' % (what, name))
-        for script in ('cobra_poly-import', 'cobra_poly-picture', 'cobra_poly-shrink', 'cobra_poly-join'):
+        for script in ('cobra_poly-import', 'cobra_poly-picture', 'cobra_poly-join'):
             call(script, '--help')
 
     def told(self):

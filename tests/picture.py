@@ -1,12 +1,13 @@
 #!/usr/bin/env python3
 """picture.py PROGRAM: the pages of tools/picture.py, in a real browser.
 
-The page of each refuted example, and of made logs that are refuted, up to 1,000 transactions, is loaded in headless Chromium. Each edge that
-`explain` tells must be an arrow between its two boxes, bold, with the told line as its name, and there are no others but the thin ones; each
+The pages of each refuted example, and of made logs that are refuted, up to 1,000 transactions, are loaded in headless Chromium: of what
+`audit --explain` tells, and of what `explain` tells. So is the page of a longer log. Each edge that
+is told must be an arrow between its two boxes, bold, with the told line as its name, and there are no others but the thin ones; each
 transaction that is told must be a box with those of its operations that are told. Nothing may stand in the browser's console. In the
 browser itself are measured: that words stay in their boxes, that boxes do not meet, and that words on arrows cover no box; and tried: what is marked
-where the mouse is, what is folded, and the switch for what arrows rest on. Then come logs and names that are hostile, and what must end
-with a status. Chromium is Debian's, and is installed where it is not there; where it cannot be had, a line says so and pages are read without it.
+where the mouse is, what is folded, and the switch for what arrows rest on. Then come logs and names that are hostile, units of moments,
+and what must end with a status. Chromium is Debian's, and is installed where it is not there; where it cannot be had, a line says so and pages are read without it.
 Last line: 'picture: N passed, M failed'."""
 import html, html.parser, json, os, re, shutil, subprocess, sys, tempfile
 
@@ -19,6 +20,7 @@ sys.path.insert(0, os.path.join(TOP, 'tools'))
 import picture
 
 PICTURE = os.path.join(TOP, 'tools', 'picture.py')
+LONG = 3000
 BROWSERS, AROUND = ('chromium-headless-shell', 'chromium'), 70
 # Another test installs what it needs meanwhile, and of two that read the lists of packages at once one would fail.
 ALONE = 'flock', '--no-fork', '/var/lib/apt'
@@ -228,6 +230,16 @@ def fault(page, text, said):
     return None
 
 
+def explained_by_audit(program, path):
+    """What `audit --explain` tells of the part of a log, behind a first line as `explain` has it; None where the log is not refuted."""
+    ran = subprocess.run([program, 'audit', '--explain', '--workers', '1', path], stdout=subprocess.PIPE, stderr=subprocess.PIPE, timeout=120)
+    first, *lines = ran.stdout.decode().split('\n')
+    if ran.returncode != 1:
+        return None
+    end = next(place for place, line in enumerate(lines) if re.match('without moments |(strict )?snapshot isolation |sessions [0-9]+$', line))
+    return ''.join(line + '\n' for line in ['not serializable: ' + lines[0].split(': ', 1)[1], *lines[2:end]])
+
+
 class Checks:
     def __init__(self, program, folder):
         self.program, self.folder, self.passed, self.failed = program, folder, 0, 0
@@ -247,15 +259,26 @@ class Checks:
             file.write(text if isinstance(text, bytes) else text.encode())
         return path
 
+    def failing(self, name, said, status):
+        """A program that says this."""
+        path = self.put(name, "#!/bin/sh\necho '%s'\nexit %d\n" % (said, status))
+        os.chmod(path, 0o755)
+        return path
+
     def audit(self, *words):
         return subprocess.run([self.program, 'audit', *words], stdout=subprocess.PIPE, stderr=subprocess.PIPE).stdout
 
-    def pages(self, logs):
-        """The page of each of these logs that is refuted, with its name, the log, and what `explain` says of it."""
+    def pages(self, logs, unit=None):
+        """The pages of each of these logs that is refuted, with its name, the log, and what `audit` or `explain` says of it."""
         for name, text in logs:
-            ran = subprocess.run([self.program, 'explain', '--workers', '1', '-'], input=text, stdout=subprocess.PIPE, stderr=subprocess.PIPE, timeout=120)
+            path, lines = self.put('page.log', text), text.decode().splitlines()
+            said = explained_by_audit(self.program, path)
+            if said:
+                yield name, text.decode(), said, picture.page_of_part(lines, picture.scripts.audited(self.program, path), name, unit).html()
+            ran = subprocess.run([self.program, 'explain', '--workers', '1', path], stdout=subprocess.PIPE, stderr=subprocess.PIPE, timeout=120)
+            self.expect((ran.returncode == 1) == bool(said) or len(lines) > LONG, '%s: explain ends with %d, and audit says %r' % (name, ran.returncode, said))
             if ran.returncode == 1:
-                yield name, text.decode(), ran.stdout.decode(), picture.page_of(text.decode(), ran.stdout.decode(), name).html()
+                yield name + ', by explain', text.decode(), ran.stdout.decode(), picture.page_of(lines, ran.stdout.decode(), name, unit).html()
 
     def look(self, command, pages):
         """Holds these pages against what `explain` says, as they stand in the browser where there is one."""
@@ -275,17 +298,32 @@ class Checks:
     def lanes(self):
         """A session whose first transaction behind a barrier was aborted has one lane: the next one states the same barrier."""
         text = 'log 3\nsession 1\nbegin 5\nw x 1\nabort\nbegin 5\nr x 0\nw x 2\ncommit 8\nsession 2\nbegin 5\nr x 0\nw x 3\ncommit 9\n'
-        (_, _, _, page), = self.pages([('a barrier', text.encode())])
-        self.expect(page.count('>session 1</text>') == 1 and 'data-box="1.1"' in page, 'session 1 has %d lanes' % page.count('>session 1</text>'))
+        for _, _, _, page in self.pages([('a barrier', text.encode())]):
+            self.expect(page.count('>session 1</text>') == 1 and 'data-box="1.1"' in page, 'session 1 has %d lanes' % page.count('>session 1</text>'))
+
+    def units(self):
+        """Moments have the unit that is asked for: what is drawn of them counts from the first."""
+        with open(os.path.join(generate.EXAMPLES, 'stale_in_time.log'), 'rb') as file:
+            text = file.read()
+        for unit, words in (('us', ' µs'), ('ns', ' ns'), ('s', ' s'), (None, '')):
+            for name, _, _, page in self.pages([('units', re.sub(rb'(begin|commit) ', rb'\1 70000000', text))], unit):
+                begun = re.search(r'>(commit [^<]*)</text><text[^>]*>line 13<', page)[1]
+                self.expect(begun == ('commit at 5' + words if unit else 'commit 700000006'), '%s, unit %s: %r' % (name, unit, begun))
+                self.expect(('count from the moment 700000001' in page) == bool(unit) and 'ended 1%s before' % words in page, '%s, unit %s' % (name, unit))
+        history = picture.History([], 'us')
+        for moments, words in ((0, '0 µs'), (999, '999 µs'), (1500, '1.5 ms'), (1234567, '1.23457 s')):
+            self.expect(history.time(moments) == words, '%d: %s' % (moments, history.time(moments)))
 
     def statuses(self):
         log = dict(generate.examples((1, 2, 3)))
         page, whole = os.path.join(self.folder, 'none.html'), lambda name: os.path.join(generate.EXAMPLES, name)
         skew = whole('write_skew.log')
         for words, status, said in (
-            ([whole('two_writers.log')], AROUND, 'this log is serializable'), ([whole('unknown_not_last.log')], 2, 'refused: L9 line 6'),
+            ([whole('two_writers.log')], AROUND, 'this log is serializable'), ([whole('unknown_not_last.log')], 2, 'unknown_not_last.log:6: '),
             ([whole('there_is_none.log')], AROUND, 'there_is_none.log'), ([skew, '--program', '/there/is/none'], AROUND, '/there/is/none'),
-            ([skew, '--program', shutil.which('false')], AROUND, 'it is empty'), ([skew, '--explained', skew], AROUND, 'not serializable'),
+            ([skew, '--program', shutil.which('false')], AROUND, 'ends with 1'), ([skew, '--explained', skew], AROUND, 'not serializable'),
+            ([skew, '--program', self.failing('unknown', '{"verdict":"unknown","reason":"1 closed"}', 3)], 3, '1 closed'),
+            ([skew, '--program', self.failing('device', '', 5)], 5, 'ends with 5'),
             ([skew, '--explained', self.put('audited', self.audit(skew))], AROUND, 'this is what audit says'),
             ([skew, '--explained', self.put('json', self.audit(skew, '--format', 'json'))], AROUND, 'this is what audit says'),
             ([skew, '--explained', self.put('cut', 'not serializable: A8 cycle of known edges\n')], AROUND, 'breaks off'),
@@ -298,6 +336,9 @@ class Checks:
             self.expect(answer[0] == status and said in answer[2] and not os.path.exists(page), '%r: %r, wanted status %d and %r' % (words, answer, status, said))
         answer = self.call('--help')
         self.expect(answer[0] == 0 and '--explained' in answer[1], '--help: %r' % (answer,))
+        strange = self.put("it's $(touch ran) <b>.log", log['write_skew.log'])
+        answer = self.call(strange, '--program', self.program)
+        self.expect(answer[0] == 0 and '<b>.log' not in open(strange[:-len('log')] + 'html').read() and not os.path.exists('ran'), 'a strange name: %r' % (answer,))
         itself = self.put('log.html', log['write_skew.log'])
         for words in ([itself], [skew, '--explained', itself, '-o', itself]):
             answer = self.call(*words, '--program', self.program)
@@ -314,10 +355,23 @@ def hostile():
     text = 'session 1\nbegin\nw %s 1\ncommit\nsession 2\nbegin\nr %s 1\nw y 2\ncommit\n' % (evil, evil)
     said = ('not serializable: A8 cycle of known edges\ncycle 1.1 2.1 1.1\n1.1 before 2.1: 2.1 reads %s 1 (line 7), which 1.1 wrote (line 3)\n'
             '2.1 before 1.1: %s</script>\n' % (evil, evil))
-    return text, said, picture.page_of(text, said, evil).html()
+    return text, said, picture.page_of(text.splitlines(), said, evil).html()
 
 
 HOSTILE = hostile()
+
+
+def long_log():
+    """A log of more transactions than `explain` takes, of four sessions; two in the middle are a write skew."""
+    lines, held = [[] for _ in range(4)], {}
+    for turn in range(LONG):
+        key = 'k%d' % (turn % 7)
+        lines[turn % 4] += ['begin', 'r %s %d' % (key, held.get(key, 0)), 'w %s %d' % (key, turn + 1), 'commit']
+        held[key] = turn + 1
+        if turn == LONG // 2:
+            for session, (one, other) in enumerate((('a', 'b'), ('b', 'a'))):
+                lines[session] += ['begin', 'r %s 0' % one, 'w %s %d' % (other, LONG + 1 + session), 'commit']
+    return ''.join('session %d\n%s' % (number, ''.join(line + '\n' for line in its)) for number, its in enumerate(lines, 1)).encode()
 
 
 def logs():
@@ -336,6 +390,7 @@ def logs():
     key, wid = 'a.long:key/' + 'k' * 53, generate.LAST
     wide = [[('r', key, 0), ('w', key, wid)], [('r', key, 0), ('w', key, wid - 1)]]
     yield 'long keys and identities', generate.text_of([(65535 - n, [generate.Transaction(ops * 1 + [('w', '%s%d' % (key[:-2], n), wid - 5 - n)] * 1, 'commit')]) for n, ops in enumerate(wide)])
+    yield 'a long log', long_log()
     many = [[('r', 'x', 0)] + [('w', 'y%d' % n, n + 1) for n in range(40)] + [('w', 'x', 99)], [('r', 'x', 0), ('w', 'x', 100)]]
     yield 'many operations', generate.text_of([(n + 1, [generate.Transaction(ops, 'commit')]) for n, ops in enumerate(many)])
 
@@ -349,6 +404,7 @@ def main():
         print('picture: %d pages' % len(pages))
         checks.look(command, pages)
         checks.lanes()
+        checks.units()
         checks.statuses()
     print('picture: %d passed, %d failed' % (checks.passed, checks.failed))
     sys.exit(1 if checks.failed else 0)

@@ -1,7 +1,7 @@
 #!/usr/bin/env python3
 """quickstart.py PROGRAM: examples/quickstart.sh, with SQLite and with PostgreSQL, and its page in a real browser.
 
-Each run must leave a log that is refused, a small one that is too, and a page that shows in the browser what `explain` says of the small one,
+Each run must leave a log that is refused, a small one that is too, and a page that shows in the browser what `audit --explain` says of the log,
 as tests/picture.py has it; no process and no temporary folder may be left. A folder that is not empty stays as it is. PostgreSQL is passed
 over where it is not installed, and the browser where it cannot be had, with a line that says so. Last line: 'quickstart: N passed, M failed'."""
 import importlib.util, os, shutil, subprocess, sys, tempfile
@@ -68,11 +68,11 @@ class Checks:
         run, small = os.path.join(out, 'run.log'), os.path.join(out, 'small.log')
         self.expect(self.judged('audit', '--quiet', run) == (1, 'not serializable\n'), store + ': the log is not refused')
         self.expect(content(os.path.join(out, 'why.txt')).startswith('not serializable\n'), store + ': why.txt')
-        status, said = self.judged('explain', '--strategy', 'forced', '--workers', '1', small)
+        status, said = self.judged('check', small)
         self.expect(status == 1 and content(small).count('\nbegin') <= 20, '%s: the small log: %d %s' % (store, status, said[:100]))
         page = content(os.path.join(out, 'why.html'))
         (faults, stands), = self.shown(page)
-        fault = pictures.fault(pictures.Tags(stands), content(small), said)
+        fault = pictures.fault(pictures.Tags(stands), content(run), pictures.explained_by_audit(self.program, run))
         self.expect(not faults and not fault, '%s: the page: %s %s' % (store, faults, fault))
 
     def shown(self, page):

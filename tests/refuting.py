@@ -4,7 +4,7 @@
 For each log of examples/ and some hundred made ones, and for its reduced and its plain formula: where the formula cannot be satisfied, each
 proof that a solver writes must be accepted, and so must the LRAT that this file makes of it. Then the proofs are damaged in every way:
 cut after each byte, literals and numbers changed, lines exchanged, left out, and told twice, and given with a neighbour's log, among
-these many that an order explains. What the program says of each must be what the plain checker says, line and all; and it must never be
+these many that an order explains; and clauses that they need are deleted first. What the program says of each must be what the plain checker says, line and all; and it must never be
 yes where an assignment satisfies the formula. R1 to R4 are the program's own refusals of a proof: docs/FORMATS.md has them in words.
 
 The solvers are those that are installed: cadical, which writes DRAT in both forms, and cryptominisat5, whose FRAT becomes DRAT here.
@@ -403,6 +403,30 @@ class Runs:
                 self.expect(got[0] != 1 or own_proof(formulas[1][1]) is not None, 'the proof of %s refutes a log that has an order' % name)
 
 
+    def deletions(self):
+        """Clauses that a proof needs, and deletes before: it is refused, at the line that the plain checker has, in each form."""
+        log = os.path.join(generate.EXAMPLES, 'crossed_readers.log')
+        variables, clauses = read_formula(self.call('encode', log)[1])
+        own = own_proof(clauses)
+        deleted = lambda some: b''.join(b'd %s 0\n' % b' '.join(b'%d' % literal for literal in clause) for clause in some)
+        needed = [clause for clause in clauses if judged((variables, clauses), deleted([clause]) + own) != REFUTED]
+        self.expect(needed and self.refute('proof', log, [], own) == REFUTED, 'no clause is needed')
+        for some in [[clause] for clause in needed] + [needed, clauses]:
+            proof = deleted(some) + own
+            for form in (proof, binary_of(proof, variables)):
+                got, wanted = self.refute('proof', log, [], form), judged((variables, clauses), form)
+                self.expect(got == wanted != REFUTED, '%d clauses are deleted: %r, wanted %r' % (len(some), got, wanted))
+            # what is deleted and added again stands
+            proof = deleted(some) + b''.join(line[2:] + b'\n' for line in deleted(some).split(b'\n')[:-1]) + own
+            got, wanted = self.refute('proof', log, [], proof), judged((variables, clauses), proof)
+            self.expect(got == wanted, '%d clauses are deleted and added: %r, wanted %r' % (len(some), got, wanted))
+        first = lrat_of(clauses, own, variables).split(b'\n')[0]
+        used = first.split(b' 0 ')[1].split(b' ')[0]
+        proof = b'%d d %s 0\n' % (len(clauses), used) + lrat_of(clauses, own, variables)
+        got, wanted = self.refute('proof', log, [], proof), judged((variables, clauses), proof)
+        self.expect(got == wanted != REFUTED, 'LRAT deletes clause %s: %r, wanted %r' % (used, got, wanted))
+
+
 def runs_solver(path):
     """The answer of a solver, where one is installed."""
     if not shutil.which('cadical'):
@@ -422,6 +446,7 @@ def main():
                 for holds, what in told:
                     runs.expect(holds, what)
         runs.neighbours(logs)
+        runs.deletions()
     print('refuting: %d passed, %d failed' % (runs.passed, len(runs.failed)))
     sys.exit(1 if runs.failed else 0)
 

@@ -3,14 +3,14 @@
 
 In a copy of the repository PROGRAM stands as what was proved there. ./run, ./solve, ./prove, ./install, ./check and ./package are called from elsewhere,
 by a symbolic link to a link to them, and as single files; ./solve is ended by signals, while it reads, and while a solver runs that starts
-a process of its own; ./install is asked for what stands and for what does not; stamps are written, and refused; docs/cobra_poly.1 must have what `--help`
-says of each command; tools/proof_times.txt must have each crate that the program stands on. Last line: 'scripts: N passed, M failed'."""
+a process of its own; ./install is asked for what stands and for what does not; stamps are written, and refused; docs/cobra_poly.1 must be what
+tools/manual.py makes of `--help`; tools/proof_times.txt must have each crate that the program stands on. Last line: 'scripts: N passed, M failed'."""
 import os, re, shutil, signal, subprocess, sys, tarfile, tempfile, time
 
 HERE = os.path.dirname(os.path.abspath(__file__))
 TOP = os.path.dirname(HERE)
 sys.path.insert(0, os.path.join(TOP, 'tools'))
-import prove_program
+import manual, prove_program
 
 AROUND, LATE = 70, 120
 SCRIPTS = ('run', 'solve', 'prove', 'install', 'check', 'package')
@@ -108,6 +108,12 @@ class Copy:
             # a word in quotes is no file
             wanted = AROUND if words.endswith("'{formula}'") else 0
             self.expect('solve --solver "%s"' % words, got[0] == wanted and ('serializable\n' in got[1]) == (wanted == 0), got)
+        # a name that a shell would take apart, and run
+        strange = os.path.join(self.folder, "it's $(touch ran) \"x\".log")
+        shutil.copy(self.log, strange)
+        for words in (['solve', strange], ['solve', strange, '--solver', "'%s' 2 x {formula}" % solver], ['run', 'audit', strange]):
+            got = self.call(*words)
+            self.expect(' '.join(words), got[0] == 0 and got[1].startswith('serializable\n') and not os.path.exists('/ran'), got)
         unproved = self.shell('echo "$(unproved_program "$(sum_of_sources)")"')
         hidden = self.proved + ' hidden'
         os.makedirs(os.path.dirname(unproved))
@@ -261,42 +267,12 @@ def is_running(pid):
 
 # ---- the manual page
 
-def words_of(text):
-    return ' '.join(text.split())
-
-
-def section(page, name):
-    """The part of the page on a command, as plain words."""
-    found = re.search(r'^\.SS cobra_poly %s\b(.*?)(?=^\.S[SH])' % name, page, re.M | re.S)
-    text = re.sub(r'^\.(SS|TP|PP|BR|BI|B|I|nf|fi)\b ?', '', found[0], flags=re.M) if found else ''
-    return words_of(text.replace('"', '').replace('\\-', '-'))
-
-
-def said_by_help(text):
-    """What help says of a command: each argument and option, each with its words, and each answer."""
-    text = re.sub(r'\n {5,}(?=[a-z])', ' ', text)
-    for line in text.splitlines():
-        found = re.match(r'  +(?:-h, )?(--[a-z]+|[0-9])(?: <[A-Z]+>)?  +(.*)', line)
-        if found and found[1] != '--help':
-            yield found[1], words_of(found[2])
-
-
-def manual(copy, program):
-    with open(os.path.join(copy.top, 'docs', 'cobra_poly.1'), encoding='utf-8') as file:
+def manual_page(copy, program):
+    with open(manual.PAGE, encoding='utf-8') as file:
         page = file.read()
-    help_of = lambda *words: subprocess.run([program, *words, '--help'], stdout=subprocess.PIPE, timeout=LATE).stdout.decode()
-    top = help_of()
-    copy.expect('the manual says what the program does', words_of(top.split('\n')[0]) in words_of(page), top.split('\n')[0])
-    commands = re.findall(r'^  ([a-z]+)  +(.*)$', top.partition('Commands:')[2].partition('Options:')[0], re.M)
-    for name, about in commands:
-        text, shown = section(page, name), help_of(name) if name != 'help' else ''
-        usage = re.search(r'^Usage: (.*)$', shown, re.M)
-        for part in [about, *([words_of(usage[1])] if usage else [])]:
-            copy.expect('the manual on %s' % name, part in text, part)
-        for word, said in said_by_help(shown):
-            copy.expect('the manual on %s %s' % (name, word), re.search(r'%s(?: [A-Z]+)? %s' % (re.escape(word), re.escape(said)), text), said)
-    known = re.findall(r'^\.SS cobra_poly ([a-z]+)', page, re.M)
-    copy.expect('the manual has these commands alone', sorted(known) == sorted(name for name, _ in commands), known)
+    copy.expect('the manual page is what tools/manual.py makes of --help', manual.page_of(page, program) == page)
+    about = manual.help_of(program).split('\n')[0]
+    copy.expect('the manual says what the program does', about in page, about)
     told = re.search(r'^\.TH .* "cobra_poly ([0-9.]+)"', page, re.M)
     copy.expect('the manual names the version', told and 'cobra_poly %s (' % told[1] in copy.version(program))
 
@@ -358,7 +334,7 @@ def main():
         copy.solvers()
         copy.signals()
         copy.stamps(program)
-        manual(copy, copy.proved)
+        manual_page(copy, copy.proved)
         estimates(copy)
         copy.install()
     print('scripts: %d passed, %d failed' % (copy.passed, copy.failed))

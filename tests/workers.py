@@ -7,14 +7,16 @@ takes its place, if one order alone is serial. So must be what `explain` says of
 cycle of known edges, of these as text and as a graph.
 
 Logs of a hundred examples one behind the other, of which none, one or several are refuted, go through `audit`, with each number of workers
-from 1 to 16: the first line, the status and what the part is refuted by must be those that the log was made for, and the answers equal. Then a small library that stands before the C library's allocator holds each worker back, once it has asked for memory often enough
-in a round of judging, until four have: so it is seen that four judge at once, and that three never pass for four. That needs a C compiler;
-what was seen is said. With --version-1 none of that is tried. Last line: 'workers: N passed, M failed'."""
+from 1 to 16: the first line, the status and what the part is refuted by must be those that the log was made for, and the answers equal. Then a
+small library that stands before the C library's allocator holds each worker back, once it has asked for memory often enough in a round,
+until four have: so it is seen that four judge at once in `audit`, and search at once in `check`, and that three never pass for four. That
+needs a C compiler; what was seen is said. With --version-1 none of that is tried. Last line: 'workers: N passed, M failed'."""
 import glob, os, random, subprocess, sys, tempfile
 
 HERE = os.path.dirname(os.path.abspath(__file__))
-sys.path.insert(0, HERE)
+sys.path[:0] = [HERE, os.path.join(HERE, '..', 'bench')]
 import generate, long_logs, reference
+from make_noise import noisy_log
 from refused_memory import c_compiler
 
 WORKERS = ['1', '3', '4', '16']
@@ -163,22 +165,24 @@ def marks(path):
 
 
 def at_once(program, folder, compiler):
-    """Whether four workers judge at once: in some round of `audit` behind that in which the log is read, and three in none."""
-    source, library, log = (os.path.join(folder, name) for name in ('gate.c', 'gate.so', 'many.log'))
+    """Whether four workers are at work at once: in some round of `audit` behind that in which the log is read, and in the search of `check`,
+    which alone asks for memory so often; and three in none."""
+    source, library, many, hard = (os.path.join(folder, name) for name in ('gate.c', 'gate.so', 'many.log', 'hard.log'))
     sessions, _ = long_logs.sessions_of(long_logs.served(random.Random(5), 20000), random.Random(5), 0)
-    for path, data in ((source, GATE.encode()), (log, generate.text_of(sessions, 3))):
+    for path, data in ((source, GATE.encode()), (many, generate.text_of(sessions, 3)), (hard, noisy_log(80, 12).encode())):
         with open(path, 'wb') as out:
             out.write(data)
     subprocess.run([compiler, '-shared', '-fPIC', '-o', library, source, '-ldl'], check=True)
-    place = dict(os.environ, LD_PRELOAD=library, MET=os.path.join(folder, 'met'), ROUNDS=os.path.join(folder, 'rounds'), ASKED='5', AT_ONCE='4', BEFORE='1')
-    passed, wanted = 0, [('4', '20000'), ('3', '20')]
-    for workers, patience in wanted:
-        ran = subprocess.run([program, 'audit', '--workers', workers, log], stdin=subprocess.DEVNULL, stdout=subprocess.PIPE, stderr=subprocess.PIPE,
-                             env=dict(place, PATIENCE=patience), timeout=LATE)
+    place = dict(os.environ, LD_PRELOAD=library, MET=os.path.join(folder, 'met'), ROUNDS=os.path.join(folder, 'rounds'), AT_ONCE='4')
+    passed, wanted = 0, [(words, *count) for words in ((['audit', many], '5', 1, 0), (['check', '--strategy', 'forced', '--budget', '3000', hard], '1000', 0, 3))
+                         for count in (('4', '20000'), ('3', '20'))]
+    for (words, asked, before, status), workers, patience in wanted:
+        ran = subprocess.run([program, *words, '--workers', workers], stdin=subprocess.DEVNULL, stdout=subprocess.PIPE, stderr=subprocess.PIPE,
+                             env=dict(place, PATIENCE=patience, ASKED=asked, BEFORE=str(before)), timeout=LATE)
         rounds, met = marks(place['ROUNDS']), marks(place['MET'])
-        right = ran.returncode == 0 and rounds > 1 and (met > 0) == (workers == '4')
+        right = ran.returncode == status and rounds > before and (met > 0) == (workers == '4')
         passed += right
-        print('%sworkers: of %s, 4 judged at once in %d of %d rounds' % ('' if right else 'FAILED ', workers, met, rounds - 1))
+        print('%sworkers: %s: of %s, 4 were at work at once in %d of %d rounds' % ('' if right else 'FAILED ', words[0], workers, met, rounds - before))
     return passed, len(wanted) - passed
 
 

@@ -1,5 +1,6 @@
 #!/usr/bin/env python3
 """import.py --from FORM HISTORY > run.log: the log of a history that another tool recorded.
+import.py --back FILE < explanation: what `explain` or `audit --explain` said of such a log, in the history's words.
 
 FORM is `jepsen`, Jepsen's history.edn of the workloads rw-register and list-append, also Maelstrom's; or `plume`, lines of the form
 r(KEY,VALUE,SESSION,TXN) and w(KEY,VALUE,SESSION,TXN), as Plume and PolySI have them. HISTORY is a file, or standard input where it is -.
@@ -10,9 +11,11 @@ import argparse, json, re, sys
 
 USAGE, UNREADABLE, AROUND = 2, 65, 70
 MAX_SESSIONS, MAX_MOMENT, MAX_DEPTH, MAX_TOLD = 65535, 2 ** 64 - 1, 100, 400
-STATUSES = '''Status 0 where the log was written; %d for a usage fault; %d where the history cannot be read, with the line and the
-reason; %d where something around is wrong, as a file that is missing. But for status 0 no log is written: standard output then has one
-line that no log has, so that `check` refuses it.''' % (USAGE, UNREADABLE, AROUND)
+STATUSES = '''Status 0 where the log was written, and 1 with --lists where it was and the lists contradict each other; %d for a usage fault;
+%d where the history cannot be read, with the line and the reason; %d where something around is wrong, as a file that is missing. But for
+status 0 and 1 no log is written: standard output then has one line that no log has, so that `check` refuses it.''' % (USAGE, UNREADABLE, AROUND)
+# Of each kind of fault of lists so many are told.
+MOST_FAULTS = 10
 
 READ, WRITE, APPEND = 'r', 'w', 'append'
 COMMITTED, ABORTED, UNKNOWN = 'commit', 'abort', 'unknown'
@@ -219,9 +222,11 @@ INITIAL = object()
 
 
 class Transaction:
-    """What a transaction did: READ, WRITE or APPEND, key, value, and the line of the history; and the lines in which it begins and ends."""
+    """What a transaction did: READ, WRITE or APPEND, key, value, and the line of the history; and the lines in which it begins and ends. Of
+    Jepsen also its process, and the index of the op that ends it."""
 
-    def __init__(self, opened, begun=None):
+    def __init__(self, opened, begun=None, process=None, index=None):
+        self.process, self.index, self.name = process, index, None
         self.operations, self.outcome, self.opened, self.closed, self.begun, self.ended = [], COMMITTED, opened, opened, begun, None
 
 
@@ -299,12 +304,12 @@ class History:
 
 
 class Lists:
-    """What stands before each element in the lists that were read, each time with the line of the first list that shows it."""
+    """What stands before each element in the lists that were read, each time with the line of the first list that shows it, and who read it."""
 
     def __init__(self):
         self.longest, self.before = {}, {}
 
-    def add(self, key, elements, line):
+    def add(self, key, elements, line, it):
         """The elements of a list of which it shows something that the lists before it did not."""
         longest = self.longest.get(key, ())
         if elements == longest[:len(elements)]:
@@ -315,12 +320,13 @@ class Lists:
             self.longest[key] = elements
         for place in range(start, len(elements)):
             before = self.before.setdefault((key, elements[place]), {})
-            before.setdefault(elements[place - 1] if place else INITIAL, line)
+            before.setdefault(elements[place - 1] if place else INITIAL, (line, it))
         return elements[start:]
 
 
 def lists_seen(history):
-    """What the lists show that committed transactions read, and unknown ones of which one of these, or another such one, saw a write."""
+    """What the lists show that committed transactions read, and unknown ones of which one of these, or another such one, saw a write; and
+    these transactions."""
     lists, counted, writers = Lists(), [], {}
     for it in history.transactions():
         if it.outcome == COMMITTED:
@@ -333,38 +339,41 @@ def lists_seen(history):
             if kind != READ:
                 continue
             elements = history.list_read(key, value, line)
-            for element in (value,) if elements is None else lists.add(key, elements, line):
+            for element in (value,) if elements is None else lists.add(key, elements, line, it):
                 writer = writers.get((key, element))
                 if writer and writer not in taken:
                     taken.add(writer)
                     counted.append(writer)
-    return lists
+    return lists, counted
 
 
 def log_operations(history, lists, transaction):
-    """The reads and writes of the log: the line of the history where it shows, r or w, the key and the value."""
+    """The reads and writes of the log: the line of the history where it shows, r or w, the key and the value; and the operation of the
+    history that it belongs to, with who read a list that shows it."""
     held = {}
-    for kind, key, value, line in transaction.operations:
+    for operation in transaction.operations:
+        kind, key, value, line = operation
         if kind == READ:
             held[key] = history.seen(key, value, line)
-            yield line, READ, key, held[key]
+            yield line, READ, key, held[key], operation, None
             continue
         # an append reads what stands before its element, where the operation before it on the key does not say that already
-        for before, shown in lists.before.get((key, value), {}).items() if kind == APPEND else ():
+        for before, (shown, reader) in lists.before.get((key, value), {}).items() if kind == APPEND else ():
             if key not in held or held[key] != before:
                 held[key] = before
-                yield shown, READ, key, before
+                yield shown, READ, key, before, operation, reader
         held[key] = value
-        yield line, WRITE, key, value
+        yield line, WRITE, key, value, operation, None
 
 
-def log_of(history):
-    """The lines of the log, and for each of them the line of the history that it comes from, and what stands there."""
-    log, places, lists = [], [], lists_seen(history)
+def log_of(history, lists=None):
+    """The lines of the log, and for each of them the line of the history that it comes from, what stands there, and what it is of which
+    transaction."""
+    log, places, lists = [], [], lists or lists_seen(history)[0]
 
-    def put(text, line='-', named=None):
+    def put(text, line='-', named=None, *about):
         log.append(text)
-        places.append((line, named or text))
+        places.append((line, named or text, *about))
 
     if any(it.begun is not None or it.ended is not None for it in history.transactions()):
         put('log 3')
@@ -372,23 +381,43 @@ def log_of(history):
         put('log 2')
     for number, (name, transactions) in enumerate(history.sessions, 1):
         put('session %d' % number, named='session %d %s' % (number, name))
-        for it in transactions:
-            put('begin' if it.begun is None else 'begin %d' % it.begun, it.opened)
-            for line, word, key, value in log_operations(history, lists, it):
-                put('%s %s %d' % (word, history.name(key), history.identity(key, value)), line, (word, key, value))
+        for place, it in enumerate(transactions, 1):
+            it.name = '%d.%d' % (number, place)
+            put('begin' if it.begun is None else 'begin %d' % it.begun, it.opened, None, it)
+            for line, word, key, value, *about in log_operations(history, lists, it):
+                put('%s %s %d' % (word, history.name(key), history.identity(key, value)), line, (word, key, value), it, *about)
             put(it.outcome if it.ended is None else '%s %d' % (it.outcome, it.ended), it.closed)
     return log, places
 
 
 def map_lines(places):
     """A line for each line of the log: its number, its line in the history, and its words, with key and value as they are there."""
-    for number, (line, named) in enumerate(places, 1):
+    for number, (line, named, *_) in enumerate(places, 1):
         yield '%d %s %s' % (number, line, named if isinstance(named, str) else '%s %s %s' % (named[0], *map(edn, named[1:])))
+
+
+def operation_lines(log, places):
+    """A line of JSON for each line of the log that begins a transaction, reads or writes: what that is in the history."""
+    for number, (text, (_, named, *about)) in enumerate(zip(log, places), 1):
+        if not about:
+            continue
+        it, *about = about
+        record = {'line': number, 'index': it.index, 'process': it.process}
+        if not about:
+            record['transaction'] = it.name
+        else:
+            (kind, key, value, _), reader = about
+            list_read = kind == READ and type(value) is tuple
+            record.update(id=int(text.split(' ')[2]), op=kind, key=edn(key), value=[*map(edn, value)] if list_read else edn(value))
+            if reader:
+                record.update(behind=edn(named[2]), shown=reader.index)
+        yield json.dumps(record)
 
 
 # ---- Jepsen
 
-TYPE, PROCESS, F, VALUE, TIME, TXN, INVOKE, OK = (words[it] for it in (':type', ':process', ':f', ':value', ':time', ':txn', ':invoke', ':ok'))
+TYPE, PROCESS, F, VALUE, TIME, TXN, INVOKE, OK, INDEX = (
+    words[it] for it in (':type', ':process', ':f', ':value', ':time', ':txn', ':invoke', ':ok', ':index'))
 OUTCOMES = {OK: COMMITTED, words[':fail']: ABORTED, words[':info']: UNKNOWN}
 UNSEEN = 'left out: reads of transactions that ended in :fail, in :info or not at all, where nothing tells what they saw'
 MICRO_OPS = {words[':r']: READ, words[':w']: WRITE, words[':append']: APPEND}
@@ -422,10 +451,10 @@ class Jepsen:
             raise Unreadable(line, 'a :time is an integer from 0 to %d, and not %s' % (MAX_MOMENT, edn(time)))
         return time
 
-    def invoke(self, process, op, line):
+    def invoke(self, process, op, line, index):
         if process in self.running:
             raise Unreadable(line, 'process %d begins an op, and its op of line %d has not ended' % (process, self.running[process].opened))
-        it = Transaction(line, self.moment(op, line))
+        it = Transaction(line, self.moment(op, line), process, index)
         it.operations = micro_ops(op, line)
         for kind, key, value, _ in it.operations:
             if kind != READ:
@@ -435,11 +464,11 @@ class Jepsen:
         self.sessions[process].append(it)
         self.running[process] = it
 
-    def complete(self, process, op, line):
+    def complete(self, process, op, line, index):
         if process not in self.running:
             raise Unreadable(line, 'process %d ends an op, of which the :invoke is missing' % process)
         it = self.running.pop(process)
-        it.closed = line
+        it.closed, it.index = line, index
         if op[TYPE] is not OK:
             self.leave(process, it, OUTCOMES[op[TYPE]], op)
             return
@@ -466,7 +495,7 @@ class Jepsen:
         if outcome == UNKNOWN:
             del self.sessions[process]
 
-    def take(self, op, line):
+    def take(self, op, line, index):
         op = op[1] if isinstance(op, Tagged) else op
         if not isinstance(op, Map):
             raise Unreadable(line, 'an op is a map, and not %s' % edn(op))
@@ -477,16 +506,15 @@ class Jepsen:
             self.history.note('left out: ops of the process %s, which is no client' % edn(process), line)
         elif function not in (None, TXN):
             self.history.note('left out: ops with :f %s, which are no transactions; where they write, the log is wrong' % edn(function), line)
-        elif kind is INVOKE:
-            self.invoke(process, op, line)
         else:
-            self.complete(process, op, line)
+            index = op[INDEX] if isinstance(op.get(INDEX), int) else index
+            (self.invoke if kind is INVOKE else self.complete)(process, op, line, index)
 
     def read(self, lines):
         number = 1
         try:
             for line, op in forms(lines):
-                self.take(op, line)
+                self.take(op, line, number - 1)
                 number += 1
         except Unreadable as wrong:
             raise Unreadable(wrong.line, 'op %d: %s' % (number, wrong))
@@ -577,18 +605,25 @@ def initial_value(word):
 
 def arguments():
     about = 'Writes the log of a history that another tool recorded. Unproved; docs/IMPORTING.md says more.'
-    parser = Parser(description=about, epilog=STATUSES)
-    parser.add_argument('--from', dest='form', required=True, choices=('jepsen', 'plume'), help='whose history it is')
+    parser, back = Parser(description=about, epilog=STATUSES), any(word.split('=')[0] == '--back' for word in sys.argv[1:])
+    parser.add_argument('--from', dest='form', required=not back, choices=('jepsen', 'plume'), help='whose history it is')
     parser.add_argument('--order', default='real-time', choices=('real-time', 'sessions', 'none'),
                         help="what an order keeps: the sessions and Jepsen's :time (real-time, where absent), the sessions alone, or neither")
     parser.add_argument('--initial', type=initial_value, metavar='VALUE',
                         help='what a register holds that was never written, an integer or none: 0 of plume, where absent; of jepsen nil besides')
     parser.add_argument('--aborted', type=int, metavar='TXN', help='plume: the number in place of a transaction, where that was aborted')
     parser.add_argument('--map', metavar='FILE', help='a line for each line of the log: its number, its line in HISTORY, and what stands there')
-    parser.add_argument('history', metavar='HISTORY', help='a file, or - for standard input')
+    parser.add_argument('--lists', action='store_true', help='jepsen: tell what the lists contradict by themselves; status 1 where they do')
+    parser.add_argument('--operations', metavar='FILE', help='jepsen: what each line of the log is in the history, for --back')
+    parser.add_argument('--back', metavar='FILE', help='no log is written: what explain says on standard input is said in the words of the history')
+    parser.add_argument('history', metavar='HISTORY', help='a file, or - for standard input', nargs='?' if back else None)
     given = parser.parse_args()
     if given.aborted is not None and given.form != 'plume':
         parser.error('--aborted is for plume')
+    if (given.lists or given.operations) and given.form != 'jepsen':
+        parser.error('--lists and --operations are for jepsen')
+    if back and (given.form or given.history):
+        parser.error('--back takes no history: an explanation stands on standard input')
     return given
 
 
@@ -622,20 +657,57 @@ def tell(history):
         say('and %d more keys are named so; --map tells them all' % len(renamed[10:]))
 
 
-def write(history, path):
-    log, places = log_of(history)
-    if path:
-        with open(path, 'w', encoding='utf-8', errors='backslashreplace', newline='\n') as out:
-            out.writelines(it + '\n' for it in map_lines(places))
+def write(history, lists, given):
+    log, places = log_of(history, lists)
+    for path, lines in ((given.map, map_lines(places)), (given.operations, operation_lines(log, places))):
+        if path:
+            with open(path, 'w', encoding='utf-8', errors='backslashreplace', newline='\n') as out:
+                out.writelines(it + '\n' for it in lines)
     write_out(''.join(it + '\n' for it in log))
+
+
+def tell_lists(history, counted):
+    """Tells what the lists contradict by themselves, and whether there is anything."""
+    import lists  # stands beside this script
+    found = lists.Lists(history, counted, edn).found
+    kinds = {}
+    for (name, *_), words in found.items():
+        kinds.setdefault(name, []).append(words)
+    for name, its in kinds.items():
+        for words in its[:MOST_FAULTS]:
+            say(words)
+        if its[MOST_FAULTS:]:
+            say('%s: %d more' % (name, len(its) - MOST_FAULTS))
+    return bool(found)
+
+
+def go_back(path):
+    """Writes what stands on standard input in the words of the history that FILE of --operations has."""
+    import back  # stands beside this script
+    try:
+        with open(path, encoding='utf-8', errors='replace') as records, open(0, errors='replace', closefd=False) as told:
+            retold = back.retold(told.read(), records)
+        with open(1, 'w', encoding='utf-8', newline='\n', closefd=False) as out:
+            out.write(retold)
+    except back.Strange as wrong:
+        say(str(wrong))
+        sys.exit(UNREADABLE)
+    except OSError as wrong:
+        say('%s: %s' % (wrong.filename or 'standard output', wrong.strerror))
+        sys.exit(AROUND)
 
 
 def main():
     given = arguments()
+    if given.back:
+        return go_back(given.back)
+    contradict = False
     try:
         with open(0 if given.history == '-' else given.history, 'rb', closefd=given.history != '-') as lines:
             history = read_history(lines, given.form, given.order, given.initial, given.aborted)
-        write(history, given.map)
+        lists, counted = lists_seen(history)
+        contradict = given.lists and tell_lists(history, counted)
+        write(history, lists, given)
         tell(history)
     except Unreadable as wrong:
         stop(UNREADABLE, '%s:%d: %s' % (given.history, wrong.line, wrong))
@@ -643,6 +715,7 @@ def main():
         stop(AROUND, '%s: %s' % (wrong.filename, wrong.strerror) if wrong.filename else str(wrong))
     except MemoryError:
         stop(AROUND, 'out of memory')
+    sys.exit(1 if contradict else 0)
 
 
 if __name__ == '__main__':

@@ -13,9 +13,9 @@ TOP = os.path.dirname(os.path.dirname(os.path.abspath(__file__)))
 NAME, ARCHITECTURE = 'cobra-poly', 'amd64'
 # What stands beside the program, below HOME: as in the repository, so that links between pages hold.
 FILES = ('README.md', 'CHANGELOG.md', 'docs', 'examples', 'collect', *('tools/' + name for name in (
-    'import.py', 'picture.py', 'picture.css', 'picture.js', 'shrink.py', 'lanes.py', 'scripts.py', 'told.py')))
+    'import.py', 'lists.py', 'back.py', 'picture.py', 'picture.css', 'picture.js', 'lanes.py', 'scripts.py', 'told.py')))
 HOME = 'share/cobra-poly'
-COMMANDS = {'cobra_poly-import': 'tools/import.py', 'cobra_poly-picture': 'tools/picture.py', 'cobra_poly-shrink': 'tools/shrink.py',
+COMMANDS = {'cobra_poly-import': 'tools/import.py', 'cobra_poly-picture': 'tools/picture.py',
             'cobra_poly-join': 'collect/join.py'}
 CONTROL = '''Package: %(name)s
 Version: %(version)s
@@ -38,7 +38,7 @@ PROVED = '''%(version)s
 sha256 of bin/cobra_poly: %(sum)s
 commit of this package's files: %(commit)s
 %(what)s
-The scripts in this package, those that collect, import, join, draw and shrink logs, are not proved.
+The scripts in this package, those that collect, import, join and draw logs, are not proved.
 '''
 BY_KIT = '''kit that proved it: %(kit)s
 

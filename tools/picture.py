@@ -1,12 +1,13 @@
 #!/usr/bin/env python3
-"""picture.py LOG [-o FILE.html] [--program PATH | --explained FILE]: a page with a picture of why a log is not serializable.
+"""picture.py LOG [-o FILE.html] [--unit UNIT] [--program PATH | --explained FILE]: a page with a picture of why a log is not serializable.
 
-It reads what the program's `explain` says of the log, or what FILE has of that, and writes one page that needs nothing else: the sessions are
+LOG may have any length. The program's `audit --explain` tells a part of few transactions that has no order, in the names and lines of the
+log, and this script writes one page of it that needs nothing else; with --explained it is what FILE has of `explain`. The sessions are
 lanes, time runs downwards, each transaction that takes part is a box with its operations, and each edge of the cycle is an arrow with its
 reason. What a step of pruning or a branch of the search rests on is folded. Where the mouse is, the key and the identity are marked.
 
-Nothing of this is proved: the page shows what `explain` says, and the log's lines."""
-import argparse, os, re, sys
+Nothing of this is proved: the page shows what the program says, and the log's lines."""
+import argparse, os, re
 from html import escape
 
 import lanes, scripts, told
@@ -52,6 +53,8 @@ READING = ('Each column is a session, and time runs downwards, %s. <code>r KEY I
            'wrote it, as in the log. What is told is bold; pale boxes are neighbours in the session. Point at an operation to see its key '
            '(underlined) and its identity (filled) wherever they stand; click to keep that.')
 BY_MOMENTS = 'by the moments that the log states, and else by the place in the session'
+# How many nanoseconds a unit of moments has.
+UNITS = {'ns': 1, 'us': 10 ** 3, 'ms': 10 ** 6, 's': 10 ** 9}
 BY_PLACE = 'by the place in the session; a reader stands below what it read'
 
 
@@ -61,11 +64,12 @@ def short(key, most=22):
 
 
 class History:
-    """A log, with what pictures ask of it."""
+    """Transactions of a log, with what pictures ask of them. `unit` is that of the moments, where it is known."""
 
-    def __init__(self, log):
-        self.all = log.transactions
+    def __init__(self, transactions, unit=None):
+        self.all, self.unit = transactions, unit
         self.named = {it.name: it for it in self.all}
+        self.first_moment = min((moment for it in self.all for moment in it.moments() if moment is not None), default=None)
         self.at, self.wrote, self.owner = {}, {}, {}
         for it in self.all:
             for number, _ in it.lines:
@@ -82,6 +86,12 @@ class History:
     def lines_of(self, name, lines):
         """Those of these lines that are this transaction's."""
         return [line for line in lines if self.owner.get(line) is self.named[name]]
+
+    def time(self, moments):
+        """So many units of the moments in words, as `1.5 ms`."""
+        nanoseconds = moments * UNITS[self.unit]
+        name = max((name for name in UNITS if UNITS[name] <= nanoseconds), key=UNITS.get, default=self.unit)
+        return '%g %s' % (nanoseconds / UNITS[name], name.replace('u', 'µ'))
 
 
 class Scene:
@@ -120,7 +130,7 @@ class Scene:
         history, said = self.history, '%s before %s: %s' % (edge.first, edge.second, edge.said)
         ends = [(history.lines_of(name, edge.lines) or [None])[-1] for name in (edge.first, edge.second)]
         seen, new = (history.at.get(line, (None, '', '')) for line in ends)
-        words = words_of(edge, seen[1:], new[1:])
+        words = words_of(edge, seen[1:], new[1:], history)
         link = '#step-%d' % edge.step if edge.step else ''
         return Arrow(edge.first, edge.second, edge.kind, words, said, *ends, number=edge.line, link=link)
 
@@ -144,6 +154,9 @@ class Scene:
     def row(self, number, words):
         kind, key, wid = self.history.at.get(number, (None, None, None))
         note = '%s %s, line %d' % ({'r': 'read %s of', 'w': 'wrote %s to'}[kind] % wid, key, number) if kind else '%s, line %d' % (words, number)
+        if not kind and self.history.unit and ' ' in words:
+            word, moment = words.split(' ')
+            words = '%s at %s' % (word, self.history.time(int(moment) - self.history.first_moment))
         return Row('%s %s %s' % (kind, short(key), wid) if kind else words, number, key, wid, number in self.lines, note)
 
     def rows(self, it, near):
@@ -169,12 +182,11 @@ class Scene:
 
     def box(self, name, look):
         it = self.history.named[name]
-        rows, first, last = self.rows(it, look == 'near'), it.lines[0][1].split(' '), it.lines[-1][1].split(' ')
+        rows, last = self.rows(it, look == 'near'), it.lines[-1][1].split(' ')
         outcome = {'commit': 'committed', 'abort': 'aborted', 'unknown': 'outcome unknown'}[last[0]]
         label = 'transaction %s, %s: %s' % (name, outcome, ', '.join(row.note.split('\n')[0] for row in rows) or 'no operations')
         badge = '' if last[0] == 'commit' else outcome
-        begun, ended = (int(words[1]) if len(words) > 1 else None for words in (first, last))
-        return Box(name, it.session, it.place, name, label, rows, badge, look, self.supports.get(name, False), begun, ended)
+        return Box(name, it.session, it.place, name, label, rows, badge, look, self.supports.get(name, False), *it.moments())
 
     def neighbours(self):
         """The transactions just before and behind those that bold arrows are about, in their sessions."""
@@ -194,7 +206,7 @@ class Scene:
         return {'otherwise' if arrow.look == 'otherwise' else arrow.kind for arrow in self.arrows}
 
 
-def words_of(edge, seen, new):
+def words_of(edge, seen, new, history):
     """What stands on an arrow, with the key and the identity at each of its ends."""
     if edge.kind == 'session':
         return edge.said
@@ -205,8 +217,8 @@ def words_of(edge, seen, new):
     if edge.kind == 'version order':
         return 'version order: %s' % short(edge.parts[0])
     if edge.kind == 'moments':
-        said = 'moments: %s < %s' % edge.parts
-        return said if len(said) <= 26 else 'ended %d before' % (int(edge.parts[1]) - int(edge.parts[0]))
+        said, span = 'moments: %s < %s' % edge.parts, int(edge.parts[1]) - int(edge.parts[0])
+        return 'ended %s before' % history.time(span) if history.unit else said if len(said) <= 26 else 'ended %d before' % span
     if edge.kind == 'forced':
         return 'step [%d]: %s %s before %s' % (edge.step, short(edge.key, 14), seen[1], new[1])
     if edge.kind == 'decided':
@@ -237,9 +249,9 @@ def writer_of(scene, key, wid):
 def scene_of_read(history, explanation):
     """A1 to A6: the read, the write that it names, and what the log tells of both."""
     scene = Scene(history, 'The read, and what it saw')
-    name, place = told.READ.fullmatch(explanation.verdict).groups()
-    line, _, key, wid = history.named[name].operations()[int(place) - 1]
     named = [int(number) for said in explanation.lines for number in told.LINE.findall(said)]
+    line, name = named[0], history.owner[named[0]].name
+    _, key, wid = history.at[line]
     scene.tell(name, line)
     for number in named:
         scene.tell(history.owner[number].name, number)
@@ -258,11 +270,11 @@ def scene_of_read(history, explanation):
 def scene_of_update(history, explanation):
     """A7: both transactions, what they read, and that each overwrites it."""
     scene = Scene(history, 'Both read one version, and both wrote over it')
-    key, *both = told.UPDATE.fullmatch(explanation.verdict).groups()
-    reads = [history.first(name, 'r', key) for name in both]
-    writes = [[(line, wid) for line, _, its, wid in history.named[name].operations('w') if its == key][-1] for name in both]
+    lines = [int(told.LINE.search(said)[1]) for said in explanation.lines[explanation.behind - 1:]]
+    both, key = [history.owner[line].name for line in lines[::2]], history.at[lines[0]][1]
     for place, name in enumerate(both):
-        other, (line, wid), (over, new) = both[1 - place], reads[place], writes[1 - place]
+        other, line, over = both[1 - place], lines[2 * place], lines[3 - 2 * place]
+        wid, new = history.at[line][2], history.at[over][2]
         writer, written = writer_of(scene, key, wid)
         read_at, over_at = explanation.behind + 2 * place, explanation.behind + 2 * (1 - place) + 1
         words = 'read: %s %s' % (short(key), wid)
@@ -310,8 +322,13 @@ def scenes_of_step(history, step):
 # ---- the page
 
 class Page:
-    def __init__(self, history, explanation, name):
-        self.history, self.explanation, self.name = history, explanation, name
+    """The page of an explanation; `count` says how many transactions the log has."""
+
+    def __init__(self, history, explanation, name, count):
+        self.history, self.explanation, self.name, self.count = history, explanation, name, count
+        strange = [name for name in explanation.names if name not in history.named and name != '0.0']
+        if strange:
+            raise scripts.Stop('the explanation is of another log: it names %s, and the log has no such transaction' % strange[0])
         self.steps = {step.number: step for step in explanation.steps}
         self.pictures, self.kinds, self.keys = 0, set(), {}
 
@@ -439,15 +456,16 @@ class Page:
             line = element('path', d='M1 7L34 7', class_=look) + element('polygon', points='43,7 33,2 33,12', class_=look)
             sample = element('svg', line, class_='sample', width=44, height=14, aria_hidden='true')
             kinds.append(element('li', sample + element('span', element('b', kind) + ': ' + KINDS[kind])))
-        moments = any(len(words.split(' ')) > 1 for it in self.history.all for _, words in (it.lines[0], it.lines[-1]))
-        words = READING % (BY_MOMENTS if moments else BY_PLACE)
+        first = self.history.first_moment
+        words = READING % (BY_PLACE if first is None else BY_MOMENTS)
+        words += ' Times count from the moment %d.' % first if self.history.unit and first is not None else ''
         return element('section', element('h2', 'How to read this') + element('p', words) + element('ul', ''.join(kinds)), class_='legend')
 
     def html(self):
-        it, count = self.explanation, len(self.history.all)
+        it = self.explanation
         body = self.main_section() + self.steps_section()
         named = len([name for name in it.names if name in self.history.named])
-        facts = '%s: %d transaction%s, of which the explanation names %d' % (self.name, count, '' if count == 1 else 's', named)
+        facts = '%s: %d transaction%s, of which the explanation names %d' % (self.name, self.count, '' if self.count == 1 else 's', named)
         head = element('p', escape(facts), class_='facts') + element('h1', escape(it.verdict)) + element('p', MEANINGS[it.code], class_='meaning')
         if it.known_as:
             head += element('p', escape('Known as: ' + it.known_as))
@@ -489,33 +507,42 @@ PAGE = '''<!DOCTYPE html>
 '''
 
 
-def page_of(text, said, name):
-    """The page of a log, by its text and what `explain` says of it."""
-    try:
-        explanation = told.read(said)
-    except told.Unread as fault:
-        raise scripts.Stop(str(fault))
+def page_of(log, said, name, unit=None):
+    """The page of a log, by its lines and what `explain` says of it."""
+    explanation = told.read(said)
     if explanation.verdict == 'not serializable' or explanation.verdict.startswith('{'):
-        raise scripts.Stop('this is what audit says, and a picture is drawn of what explain says: without --explained the program is asked')
+        raise scripts.Stop('this is what audit says: without --explained a picture is drawn of that')
     if explanation.code is None:
         raise scripts.Stop("this explanation does not say 'not serializable': %s" % (explanation.verdict or 'it is empty'))
-    history = History(scripts.Log(text))
-    strange = [name for name in explanation.names if name not in history.named and name != '0.0']
-    if strange:
-        raise scripts.Stop('the explanation is of another log: it names %s, and the log has no such transaction' % strange[0])
-    return Page(history, explanation, name)
+    transactions = scripts.transactions_of(log)
+    return Page(History(transactions, unit), explanation, name, len(transactions))
+
+
+def page_of_part(log, report, name, unit=None):
+    """The page of the part of a log, given by its lines, that `audit` tells first, with the neighbours in its sessions."""
+    part = [it['transaction'].split('.') for it in report['part']]
+    near = {'%s.%d' % (session, int(place) + by) for session, place in part for by in (-1, 0, 1)}
+    history = History(scripts.transactions_of(log, near), unit)
+    return Page(history, told.of_part(report), name, sum(report[outcome] for outcome in ('committed', 'aborted', 'unknown')))
 
 
 def main():
     words = argparse.ArgumentParser(description='Writes a page with a picture of why a log is not serializable. Unproved.')
     words.add_argument('log')
     words.add_argument('-o', dest='page', help='the page; LOG with .html in place of its end, where absent')
-    words.add_argument('--explained', help='a file with what explain says of the log; the program is asked, where absent')
+    words.add_argument('--unit', choices=UNITS, help='what the moments of the log count: us of the recorder, ns of an imported history of Jepsen')
+    words.add_argument('--explained', help='a file with what explain says of the log; the program is asked why, where absent')
     words.add_argument('--program', help="the program; this repository's ./run, where absent")
     given = words.parse_args()
-    text = scripts.text_of_file(given.log)
-    said = scripts.text_of_file(given.explained) if given.explained else scripts.Program(given.program).explain(text)
-    page = page_of(text, said, os.path.basename(given.log))
+    with open(given.log, encoding='ascii', newline='\n') as log:
+        try:
+            if given.explained:
+                with open(given.explained, encoding='ascii') as said:
+                    page = page_of(log, said.read(), os.path.basename(given.log), given.unit)
+            else:
+                page = page_of_part(log, scripts.audited(given.program, given.log), os.path.basename(given.log), given.unit)
+        except told.Unread as fault:
+            raise scripts.Stop(str(fault))
     path, html = given.page or os.path.splitext(given.log)[0] + '.html', page.html()
     if os.path.exists(path) and any(os.path.samefile(path, it) for it in (given.log, given.explained) if it):
         raise scripts.Stop('the page would replace %s, of which it is made: name another one by -o' % path)

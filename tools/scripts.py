@@ -1,5 +1,5 @@
 """What scripts around the program share: a log by its lines, a call of the program, and how a script ends."""
-import os, subprocess, sys, traceback
+import json, os, subprocess, sys, traceback
 
 TOP = os.path.dirname(os.path.dirname(os.path.realpath(__file__)))
 RUN = os.path.join(TOP, 'run')
@@ -58,60 +58,41 @@ class Transaction:
         """The number, the kind, the key and the identity of each operation."""
         return [(number, *text.split(' ')) for number, text in self.lines if text[:2] in ('r ', 'w ') and text[0] in kinds]
 
-    def written(self):
-        return {wid for *_, wid in self.operations('w')}
-
-    def read(self):
-        return {wid for *_, wid in self.operations('r')}
-
-
-class Log:
-    """The header of a well-formed log, as a line that is kept where there is one, and the log's transactions, in its order."""
-
-    def __init__(self, text):
-        self.header, self.transactions, session, place = [], [], None, 0
-        for number, line in enumerate(text.splitlines(), 1):
-            if line in HEADERS:
-                self.header.append((number, line))
-            elif line.startswith('session '):
-                session, place = (number, line), 0
-            else:
-                if line.startswith('begin'):
-                    place += 1
-                    self.transactions.append(Transaction(session, place))
-                self.transactions[-1].lines.append((number, line))
+    def moments(self):
+        """When it began and ended; None where the log does not say."""
+        first, last = self.lines[0][1].split(' '), self.lines[-1][1].split(' ')
+        return [int(words[1]) if len(words) > 1 else None for words in (first, last)]
 
 
-def text_of_file(path):
-    with open(path, encoding='ascii', newline='\n') as file:
-        return file.read()
+def transactions_of(lines, wanted=None):
+    """The transactions of a well-formed log, in its order; those alone that are wanted by their names, where such are said."""
+    found, session, place, it = [], None, 0, None
+    for number, line in enumerate(lines, 1):
+        line = line.rstrip('\n')
+        if line in HEADERS:
+            continue
+        if line.startswith('session '):
+            session, place = (number, line), 0
+            continue
+        if line.startswith('begin'):
+            place += 1
+            it = Transaction(session, place)
+            if wanted is None or it.name in wanted:
+                found.append(it)
+        it.lines.append((number, line))
+    return found
 
 
-class Program:
-    """Asks the program about logs, and counts how often."""
-
-    def __init__(self, program=None):
-        self.program, self.calls = program or RUN, 0
-
-    def ask(self, text, *words):
-        """The status of a command on this log, what it printed, and what it said on standard error; Stop where something is wrong."""
-        self.calls += 1
-        ran = subprocess.run([self.program, *words, '-'], input=text.encode(), stdout=subprocess.PIPE, stderr=subprocess.PIPE)
-        said = ran.stderr.decode(errors='replace').strip()
-        if not 0 <= ran.returncode <= DEVICE_FAILED:
-            raise Stop('%s %s ended with %d: %s' % (self.program, words[0], ran.returncode, said))
-        return ran.returncode, ran.stdout.decode(), said
-
-    def explain(self, text, *words):
-        """What `explain` says of a refuted log, by the strategy that mostly tells the fewest cycles. Stop where it is none, with the
-        program's status where it refuses or does not know."""
-        status, told, said = self.ask(text, 'explain', '--strategy', 'forced', '--workers', '1', *words)
-        if status != NOT_SERIALIZABLE:
-            verdict, hint = told.split('\n')[0], ''
-            if status == SERIALIZABLE and verdict == 'serializable':
-                raise Stop('this log is serializable: it has an order, which check prints, and so there is no fault to tell')
-            if 'L7' in said:
-                hint = 'audit --part FILE writes the few transactions that are not serializable as a log'
-            words = "explain does not say 'not serializable', but (status %d): %s" % (status, verdict)
-            raise Stop('\n'.join(filter(None, [words, said, hint])), status or AROUND)
-        return told
+def audited(program, path):
+    """What `audit --explain` of a refuted log says as JSON. Stop where it is none, with the program's status where it refuses or does not
+    know."""
+    words = [program or RUN, 'audit', '--explain', '--format', 'json', '--workers', '1', os.path.join('.', path)]
+    ran = subprocess.run(words, stdin=subprocess.DEVNULL, stdout=subprocess.PIPE, stderr=subprocess.PIPE)
+    report = json.loads(ran.stdout) if ran.stdout.startswith(b'{') else {}
+    if (ran.returncode, report.get('verdict')) == (NOT_SERIALIZABLE, 'not serializable'):
+        return report
+    if (ran.returncode, report.get('verdict')) == (SERIALIZABLE, 'serializable'):
+        raise Stop('this log is serializable: it has an order, which audit --order writes, and so there is no fault to tell')
+    said = report.get('reason') or ran.stderr.decode(errors='replace').strip()
+    raise Stop("audit does not say 'not serializable', but ends with %d: %s" % (ran.returncode, said),
+               ran.returncode if ran.returncode in (REFUSED, UNKNOWN, OUT_OF_MEMORY, DEVICE_FAILED) else AROUND)

@@ -1,5 +1,5 @@
-"""What `explain` says as text, read by its grammar (docs/FORMATS.md, 'What `explain` says'). Nothing is judged here: a reader of a text gets
-its parts, each with the number of its line in that text, counted from 1."""
+"""What `explain` says as text, and what `audit --explain` says of a part, read by their grammar (docs/FORMATS.md, 'What `explain` says').
+Nothing is judged here: a reader of a text gets its parts, each with the number of its line in that text, counted from 1."""
 import re
 from dataclasses import dataclass, field
 from typing import List, Optional, Tuple
@@ -8,8 +8,6 @@ NODE, NUMBER, KEY = r'([1-9][0-9]*\.[1-9][0-9]*)', r'([1-9][0-9]*)', r'([A-Za-z0
 LINE = re.compile(r'\(line %s\)' % NUMBER)
 REFUTED = re.compile('not serializable: (?:(A[1-9]) .+|every cube is refuted)')
 ROUND = re.compile(r'cycle((?: [0-9]+\.[0-9]+)+)')
-READ = re.compile('not serializable: A[1-6] .+ at %s op %s' % (NODE, NUMBER))
-UPDATE = re.compile(r'not serializable: A7 lost update of %s from [0-9.]+ by %s and %s' % (KEY, NODE, NODE))
 EDGE = re.compile('%s before %s: (.+)' % (NODE, NODE))
 VERSION = r'([0-9]+), which %s wrote \(line %s\)' % (NODE, NUMBER)
 VERSIONS = '%s: %s, comes before %s' % (KEY, VERSION, VERSION)
@@ -37,6 +35,10 @@ KINDS = [('session', re.compile('session %s' % NUMBER)), ('forced', re.compile(K
          ('moments', re.compile('.+ ended at ([0-9]+) .+, .+ began at ([0-9]+) .+'))]
 # The code of a log of which every cube is refuted: it has none of its own.
 TREE = 'tree'
+# What `check` says of each code that the JSON of `audit` has.
+FAULTS = {'A1': 'A1 unknown read', 'A2': 'A2 aborted read', 'A3': 'A3 intermediate read', 'A4': 'A4 own write missed', 'A5': 'A5 future read',
+          'A6': 'A6 split read', 'A7': 'A7 lost update', 'A8': 'A8 cycle of known edges', 'A9': 'A9 pruning ends in a cycle',
+          None: 'every cube is refuted'}
 
 
 class Unread(Exception):
@@ -129,9 +131,6 @@ class Explanation:
     def names(self):
         """Each transaction that is told, in the order of the text; keys may look as names do, and are none."""
         cycles, found = [cycle for _, cycle in self.leaves] + [self.cycle] * (self.cycle is not None), []
-        for form in (READ, UPDATE):
-            said = form.fullmatch(self.verdict)
-            found += said.groups()[:1] if said and form is READ else said.groups()[1:] if said else ()
         if not cycles:
             found += [name for line in self.lines[1:] for name in TELLS.findall(line)]
         found += [pair.name for pair in self.pairs]
@@ -236,8 +235,8 @@ def read(text):
         return it
     reader.at = it.behind - 1
     if it.code == 'A8':
-        cycle = reader.next(ROUND)
-        it.cycle = cycle and Cycle(cycle[0], reader.edges())
+        cycle = reader.next(ROUND)  # which audit leaves out
+        it.cycle = Cycle(cycle[0] if cycle else 0, reader.edges())
         it.known_as = reader.known_as()
     elif it.code in ('A9', TREE):
         it.pairs = reader.pairs()
@@ -255,3 +254,8 @@ def read(text):
     if it.code in ('A8', 'A9') and not (it.cycle and it.cycle.edges) or it.code == TREE and not it.leaves:
         raise Unread('what explain says breaks off: %s' % it.verdict)
     return it
+
+
+def of_part(report):
+    """What the JSON of `audit --explain` tells of the part that it tells first."""
+    return read('\n'.join(['not serializable: ' + FAULTS[report['code']], *report['explanation']]))

@@ -2,6 +2,5 @@ mod Counting
 mod Appended
 mod Names
 mod Parts
-mod Points
 mod Resolved
 mod Weaker

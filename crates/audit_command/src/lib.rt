@@ -25,7 +25,6 @@ mod outcome;
 mod places;
 mod refusals;
 mod report;
-mod snapshots;
 mod telling;
 mod told;
 mod totals;

@@ -90,8 +90,7 @@ fn explain<'a>(alloc: Global) -> Result<Command<'a>, AllocError> {
     let command = Command::new(alloc, "explain")
         .about("Say why no serial order explains a log")
         .after_help(answers::EXPLAIN)
-        .arg(options::format(alloc))?
-        .arg(options::level_of_explain(alloc)?)?;
+        .arg(options::format(alloc))?;
     with_search(alloc, command, CHECK_DEFAULTS)
 }
 
