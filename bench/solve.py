@@ -2,12 +2,12 @@
 """solve.py PROGRAM CLAUSES [--logs]: the search of `solve` beside cadical, cryptominisat5, picosat and minisat.
 
 CLAUSES is the program that searches a formula's clauses. It and each solver that is installed get the same formulas, and a line for each says the
-processor seconds, the best of three: the formulas of logs in which eight transactions that no order explains hide among others, and random
+processor seconds, the best of three: the formulas of logs in which 8 or 15 transactions that no order explains hide among others, and random
 formulas of three literals a clause, 4.26 clauses a variable, at 150 to 250 variables, the sum of ten each. Each answer must be the others'.
 Then the command `solve` gets the same logs, beside `check` with the strategy `forced` and a budget of 100,000 cubes. With --logs only that."""
 import argparse, os, random, shutil, subprocess, sys, tempfile
 
-from make_noise import noisy_log
+from make_noise import crossed, noisy_log, ring
 
 LOGS = ((20, 4), (50, 8), (80, 12), (120, 20), (160, 30), (200, 30), (220, 60))
 VARIABLES, RATIO, SEEDS = (150, 200, 250), 4.26, range(10)
@@ -55,18 +55,18 @@ def main():
     program, clauses = os.path.abspath(asked.program), os.path.abspath(asked.clauses)
     with tempfile.TemporaryDirectory() as folder:
         log, formula = os.path.join(folder, 'log'), os.path.join(folder, 'formula')
-        for size in LOGS:
+        for hidden, size in [(hidden, size) for hidden in (crossed(), ring()) for size in LOGS]:
             with open(log, 'w') as out:
-                out.write(noisy_log(*size))
+                out.write(noisy_log(*size, hidden=hidden))
             with open(formula, 'wb') as out:
                 subprocess.run([program, 'encode', log], stdout=out, check=True)
             with open(formula) as text:
                 count = int(text.readline().split()[3])
             if not asked.logs:
-                print('%d transactions, %d clauses: %s' % (size[0] + 8, count, beside(clauses, [formula])), flush=True)
+                print('%d and %d transactions, %d clauses: %s' % (size[0], len(hidden), count, beside(clauses, [formula])), flush=True)
             solved = timed([program, 'solve', log])
             checked = timed([program, 'check', '--strategy', 'forced', '--workers', '1', '--budget', '100000', log], 1)
-            print('%d transactions: solve %.2f s, %s; check %.2f s, %s' % (size[0] + 8, *solved, *checked), flush=True)
+            print('%d and %d transactions: solve %.2f s, %s; check %.2f s, %s' % (size[0], len(hidden), *solved, *checked), flush=True)
         for variables in () if asked.logs else VARIABLES:
             paths = []
             for seed in SEEDS:

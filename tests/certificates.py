@@ -109,12 +109,14 @@ class Answer:
         if self.verdict == 'not serializable':
             self.refuted(middle, faults)
         elif self.verdict == 'unknown':
+            self.below(middle)
             self.advice = middle
         else:
             must(not middle, 'between the first line and the counts %r' % middle)
         must(self.counts['part'] == (len(self.parts[0].lines) if self.parts else 0), 'the count of the part %d' % self.counts['part'])
 
-    def refuted(self, middle, faults):
+    def below(self, middle):
+        """Takes the lines of weaker levels, and of what holds without moments, from the end of these."""
         for level in reversed(WEAKER):
             found = re.fullmatch('%s (kept|not kept|unknown)' % level, middle[-1]) if middle else None
             if found:
@@ -124,6 +126,9 @@ class Answer:
         if middle and middle[-1].startswith('without moments '):
             self.without = middle.pop()[len('without moments '):]
             must(self.without in STATUS and self.without != 'refused', 'without moments %r' % self.without)
+
+    def refuted(self, middle, faults):
+        self.below(middle)
         heads = [place for place, line in enumerate(middle) if HEADING.fullmatch(line)]
         must(heads[:1] == [0] and len(heads) <= faults, 'told of the parts: %r' % middle)
         while faults > 1 and re.fullmatch(r'(A[1-9]|no code) [1-9][0-9]*', middle[-1]):

@@ -184,6 +184,11 @@ class Log:
         wanted = {LEVELS[level]: 'kept' if self.kept[level] else 'not kept' for level in asked}
         must(answer.weaker == wanted, 'weaker levels: %r, wanted %r' % (answer.weaker, wanted))
         certificates.check_object(answer, call(self.program, 'audit', '--at-least', '0', '--format', 'json', text=self.text))
+        least = certificates.Answer(call(self.program, 'audit', '--at-least', '0', '--budget', '1', text=self.text))
+        if least.verdict == 'unknown':
+            asked = {LEVELS[level]: ('unknown', KEPT[self.kept[level]]) for level in LEVELS if 'snapshot' in level and level not in self.silent}
+            told = least.weaker.keys() == asked.keys() and all(least.weaker[level] in asked[level] for level in asked)
+            must(told, 'weaker levels behind %r: %r, of %r' % (least.first, least.weaker, asked))
         bare = certificates.Answer(call(self.program, 'audit', '--at-least', '0', '--only', text=self.text))
         must((bare.first, bare.without, bare.weaker) == (answer.first, None, {}), 'with --only: %r, %r' % (bare.first, bare.weaker))
 
@@ -225,24 +230,10 @@ class Log:
             is_strict = level.startswith('strict')
             certificates.check_order(self.sessions if is_strict else certificates.without_moments(self.sessions), said)
             return
-        places = self.split_places()
-        names = [tuple(map(int, line.split())) for line in said.splitlines()]
-        must(all(name in places for name in names), '%s: the split log has no such transactions: %r' % (level, said))
-        points = [point for name in names for point in places[name]]
+        must(re.fullmatch('([1-9][0-9]* [1-9][0-9]* (snapshot|commit)\n)*', said), '%s: the order has other lines: %r' % (level, said))
+        lines = [line.split(' ') for line in said.splitlines()]
+        points = [((int(number), int(place)), kind) for number, place, kind in lines]
         must(Points(self.sessions, level).is_order(points), '%s: this is no such order: %r' % (level, said))
-
-    def split_places(self):
-        """The points of each transaction of the split log, by its name there: one that counts as committed and writes is two, its snapshot and
-        its commit, and every other one is one."""
-        nodes, found = set(reference.History(self.sessions).names), {}
-        for number, transactions in self.sessions:
-            halves = []
-            for place, it in enumerate(transactions, 1):
-                points = [((number, place), kind) for kind in ('snapshot', 'commit')]
-                is_split = (number, place) in nodes and any(op[0] == 'w' for op in it.ops)
-                halves += [[point] for point in points] if is_split else [points]
-            found.update(((number, place), points) for place, points in enumerate(halves, 1))
-        return found
 
     def check_part(self, level, said):
         part = reference.read_log(said)

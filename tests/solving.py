@@ -8,17 +8,17 @@ said only where none does, and with a budget of one conflict the answer must be 
 
 Then PROGRAM gets the logs of examples/ and a third as many made ones, of all versions: what `solve` says, with the reduced formula and with
 `--plain`, must be what the plain, slow reference beside this file finds. With one worker and with four, and again, it must be the same text. Logs in
-which four readers that no order explains stand among up to 200 transactions that have one must be decided too. Last line: 'solving: N passed, M failed'."""
+which 8 or 15 transactions that no order explains stand among up to 200 others must be decided too. Last line: 'solving: N passed, M failed'."""
 import argparse, concurrent.futures, os, random, shutil, subprocess, sys, tempfile
 
 HERE = os.path.dirname(os.path.abspath(__file__))
 sys.path[:0] = [HERE, os.path.join(HERE, '..', 'bench')]
 import generate, reference
-from make_noise import noisy_log
+from make_noise import crossed, noisy_log, ring
 
 REFUTED = (1, 'not serializable: the formula is refuted\n', '')
 FEW_VARIABLES = 9
-SOLVERS = (('cadical', '-q'), ('picosat',), ('cryptominisat5', '--verb', '0'))
+SOLVERS = [words for words in (('cadical', '-q'), ('picosat',), ('cryptominisat5', '--verb', '0'), ('minisat', '-verb=0')) if shutil.which(words[0])]
 
 
 def random_formula(seed):
@@ -47,13 +47,12 @@ def is_satisfiable(variables, clauses):
     return left != 0
 
 
-def said_by_solver(path):
-    """Whether an installed solver finds the formula satisfiable; None where none is installed."""
-    for solver in SOLVERS:
-        if shutil.which(solver[0]):
-            said = subprocess.run([*solver, path], stdout=subprocess.PIPE, stdin=subprocess.DEVNULL, timeout=120).returncode
-            return {10: True, 20: False}.get(said)
-    return None
+def said_by_solver(path, seed):
+    """Whether an installed solver finds the formula satisfiable, each in its turn; None where none is installed."""
+    if not SOLVERS:
+        return None
+    ran = subprocess.run([*SOLVERS[seed % len(SOLVERS)], path], stdout=subprocess.PIPE, stderr=subprocess.PIPE, stdin=subprocess.DEVNULL, timeout=120)
+    return {10: True, 20: False}[ran.returncode]
 
 
 def fault_in_answer(said, satisfiable, variables, clauses):
@@ -75,7 +74,7 @@ def judged_formula(clauses_program, seed, folder):
     with open(path, 'w') as out:
         out.write('p cnf %d %d\n' % (variables, len(clauses)) + ''.join(' '.join(map(str, clause + [0])) + '\n' for clause in clauses))
     said = {budget: subprocess.run([clauses_program, path, budget], stdout=subprocess.PIPE, timeout=120).stdout.decode() for budget in ('1000000', '1')}
-    satisfiable = is_satisfiable(variables, clauses) if variables <= FEW_VARIABLES else said_by_solver(path)
+    satisfiable = is_satisfiable(variables, clauses) if variables <= FEW_VARIABLES else said_by_solver(path, seed)
     os.remove(path)
     found = []
     for budget, text in said.items():
@@ -118,9 +117,9 @@ def judged_log(program, name, text):
     return 'explained' if explained else 'not explained', found
 
 
-def judged_noise(program, count, keys):
-    answer = call(program, noisy_log(count, keys).encode())
-    return 'noise', [None if answer == REFUTED else 'noise of %d transactions: %r' % (count, answer)]
+def judged_noise(program, hidden, count, keys):
+    answer = call(program, noisy_log(count, keys, hidden=hidden).encode())
+    return 'noise', [None if answer == REFUTED else '%d transactions among %d: %r' % (len(hidden), count, answer)]
 
 
 def main():
@@ -137,7 +136,7 @@ def main():
         jobs += [(judged_log, program, name, text) for name, text in generate.examples((1, 2, 3)) if text.count(b'commit') <= 9]
         jobs += [(judged_log, program, 'made log %d' % seed, generate.small_log(seed, 1 + turn % 3))
                  for turn in range(asked.count // 3) for seed in (asked.seed + turn,)]
-        jobs += [(judged_noise, program, *size) for size in ((20, 4), (50, 8), (100, 16), (200, 30))]
+        jobs += [(judged_noise, program, hidden, *size) for hidden in (crossed(), ring()) for size in ((20, 4), (50, 8), (100, 16), (200, 30))]
         for kind, found in pool.map(lambda job: job[0](*job[1:]), jobs):
             kinds[kind] = kinds.get(kind, 0) + 1
             for fault in found:

@@ -9,15 +9,15 @@ use Rattle.splitting.specs.declared.room.NoRoom.{NoRoom}
 use Rattle.splitting.specs.Locks.{no_room}
 use Rattle.judging.specs.declared.level.Level.{Level}
 use Rattle.judging.specs.declared.level.Level.TheVariants as level
-use Rattle.judging.specs.Levels.{judged_at, HasRoomAt, IsJudgedAt}
+use Rattle.judging.specs.Levels.{HasRoomAt}
 use Rattle.judging.specs.Judges.{IsVerdict}
 use Rattle.judging.specs.Made.{IsToldPart, IsMadeOf, IsMade}
 use Rattle.judging.specs.declared.means.JudgeMeans.{JudgeMeans}
 use Rattle.judging.specs.declared.judged.RefutedPart.{RefutedPart}
 use Rattle.judging.specs.declared.judged.Verdict.{Verdict}
 use Rattle.judging.specs.declared.judged.Verdict.TheVariants.{Serializable, NotSerializable, Undecided}
-use Rattle.judging.proofs.Resolved.{known as known_stays, resolved_is_log}
-use Rattle.judging.proofs.Levels.{judged_is, judged_is_log, judged_resolved, room_resolved}
+use Rattle.judging.proofs.Resolved.{resolved_is_log}
+use Rattle.judging.proofs.Levels.{room_resolved}
 use Rattle.level_laws.proofs.Without.{legal_without, sound_without}
 use Rattle.audit_command.specs.Audited.{seen}
 use Rattle.audit_command.specs.Resolved.{IsResolved, IsPartOf, IsPartOfVerdict}
@@ -42,13 +42,7 @@ verdict_part m known k (NotSerializable told) h made = told_of m.level known k t
 verdict_part m known k (Serializable order) h made = tt
 verdict_part m known k (Undecided why tried) h made = tt
 
--- ---- what is judged for them
-pub judged_names : (l : Level) (ss known judged : List ClientSession) → IsLog known → known ≡ resolved ss → IsJudgedAt l known judged → judged ≡ resolved (judged_at l ss)
-judged_names level.Serializable ss known judged log same h = h ∙ same
-judged_names level.Snapshot ss known judged log same h =
-    let is = judged_is level.Snapshot known judged log h ∙ ap (judged_at level.Snapshot) same ∙ judged_resolved ss in
-    sym (known_stays judged (judged_is_log level.Snapshot known judged log h)) ∙ ap resolved is
-
+-- ---- what has no room
 none_or_some : (why : NoRoom) → None ≡ Some why → ⊥
 none_or_some why e = cc
 

@@ -58,7 +58,3 @@ plain_where_kept o ss a (Some word.Serializable) s legal sound h k e =
 plain_where_kept o ss a (Some word.NotSerializable) s legal sound h k e = by_snapshot o ss a s k e
 plain_where_kept o ss a (Some word.Unknown) s legal sound h k e = by_snapshot o ss a s k e
 plain_where_kept o ss a None s legal sound h k e = by_snapshot o ss a s k e
-
-pub never_both : (b : Bool) → b ≡ true → b ≡ false → ⊥
-never_both true e f = cc
-never_both false e f = cc

@@ -7,14 +7,17 @@ use Rattle.session_log.specs.Text.{ClientSession, Transaction, view, least_versi
 use Rattle.session_log.specs.Version.{first_line, version_of}
 use Rattle.session_log.specs.declared.fault.LogFault.{LogFault}
 use Rattle.log_definitions.specs.Unknown.{txns_in, is_committed, resolved}
+use Rattle.log_definitions.specs.Serial.{IsSerialOrder}
 use Rattle.long_log_definitions.specs.LongLog.{IsLongLog, IsLongLogFault}
 use Rattle.order_text.specs.Text.{order_text}
 use Rattle.call_options.specs.declared.report_form.ReportForm.{ReportForm}
 use Rattle.call_options.specs.declared.report_form.ReportForm.TheVariants.{Text, Json}
-use Rattle.judging.specs.Levels.{HasOrderAt, HasNoOrderAt, IsOrderAt, judged_at}
+use Rattle.judging.specs.Levels.{HasOrderAt, HasNoOrderAt}
 use Rattle.judging.specs.Judges.{IsVerdict}
 use Rattle.judging.specs.Made.{IsToldPart}
+use Rattle.level_laws.specs.Snapshot.{Point, IsSnapshotOrder}
 use Rattle.level_laws.specs.Without.{without_moments}
+use Rattle.point_orders.specs.Text.{points_text}
 use Rattle.judging.specs.declared.level.Level.{Level}
 use Rattle.judging.specs.declared.level.Level.TheVariants as level
 use Rattle.judging.specs.declared.judged.Why.{Why}
@@ -111,9 +114,10 @@ abbrev pub IsWordWhere : JudgeMeans → List ClientSession → Bool → Option W
 IsWordWhere m ss asked None = asked ≡ false
 IsWordWhere m ss asked (Some w) = (asked ≡ true) × IsWord m ss w
 
--- they are asked for: a level was not kept, and more than the first line is told
+-- they are asked for: a level was not kept or is not decided, and more than the first line is told
 abbrev pub asks_levels : AuditOptions → Answer → Bool
 asks_levels o (answer.NotSerializable parts) = not o.quiet && not o.only
+asks_levels o (answer.Undecided reason advice) = not o.quiet && not o.only
 asks_levels o _ = false
 
 abbrev pub is_serial : Level → Bool
@@ -166,11 +170,17 @@ abbrev pub order_asked : Answer → Bool → Bool
 order_asked answer.Serializable asked = asked
 order_asked _ asked = false
 
--- the text of an order of the log that is judged, where it is asked for
+-- the text of an order of this level: a serial one, or one of snapshots and commits
+abbrev pub IsOrderText : Level → List ClientSession → List ℕ → Type 0
+IsOrderText level.Serializable ss text = (order : List ℕ) × IsSerialOrder ss order
+    × (text ≡ order_text ss order)
+IsOrderText level.Snapshot ss text = (points : List Point) × IsSnapshotOrder ss points
+    × (text ≡ points_text ss points)
+
+-- it is written, where it is asked for
 abbrev pub IsOrderFile : Level → List ClientSession → Bool → Option (Vec ℕ Global) → Type 0
 IsOrderFile level ss false None = Unit {0}
-IsOrderFile level ss true (Some text) = (order : List ℕ) × IsOrderAt level ss order
-    × (text.items ≡ order_text (judged_at level ss) order)
+IsOrderFile level ss true (Some text) = IsOrderText level ss text.items
 IsOrderFile level ss _ _ = ⊥
 
 -- the answer is so, and so is the order beside it

@@ -33,6 +33,7 @@ code_number (finding.Anomaly a) = anomaly_number a
 code_number finding.Cycle = 8
 code_number finding.Dead = 9
 code_number finding.Refuted = 0
+code_number finding.Formula = 0
 
 -- the code of a finding and its name, or its name alone
 abbrev pub anomaly_title : Anomaly → List ℕ
@@ -44,6 +45,7 @@ finding_title (finding.Anomaly a) = anomaly_title a
 finding_title finding.Cycle = codes "A8 cycle of known edges"
 finding_title finding.Dead = codes "A9 pruning ends in a cycle"
 finding_title finding.Refuted = codes "every cube is refuted"
+finding_title finding.Formula = codes "the formula is refuted"
 
 -- a verdict in words
 abbrev pub word_text : Word → List ℕ

@@ -41,7 +41,7 @@ pub fn code_number(finding: Finding) -> usize
         Finding::Anomaly(anomaly) => anomaly_number(anomaly),
         Finding::Cycle => 8,
         Finding::Dead => 9,
-        Finding::Refuted => 0,
+        Finding::Refuted | Finding::Formula => 0,
     }
 }
 
@@ -63,6 +63,7 @@ pub fn finding_title(finding: Finding) -> &'static str
         Finding::Cycle => "A8 cycle of known edges",
         Finding::Dead => "A9 pruning ends in a cycle",
         Finding::Refuted => "every cube is refuted",
+        Finding::Formula => "the formula is refuted",
     }
 }
 

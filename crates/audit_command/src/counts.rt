@@ -9,10 +9,11 @@ ghost use Rattle.log_definitions.specs.Unknown.{txns_in, ops_in, is_committed, i
 ghost use Rattle.log_definitions.specs.WellFormed.{is_aborted, keys_in, key_of};
 ghost use Rattle.audit_command.specs.Counts.{AreCounts, HasKeys};
 
+use key_tables::hold;
 use session_history::Tally;
 use session_log::{Key, Op, Session, Txn};
 use std::alloc::{AllocError, Global};
-use std::collections::BTreeSet;
+use std::collections::BTreeMap;
 
 /// How much a log holds.
 #[derive(Clone, Copy, Debug, PartialEq, Eq)]
@@ -47,37 +48,36 @@ fn key_of(op: &Op) -> &Key
     }
 }
 
-/// Adds the key of an operation, where it is new. Keys are found by comparison, so that no choice
-/// of them makes the search long.
-fn add_key(alloc: Global, keys: &mut BTreeSet<Key>, op: &Op) -> Result<(), AllocError>
+/// Adds the key of an operation.
+fn add_key<'a>(keys: &mut BTreeMap<(u64, &'a Key), u64>, op: &'a Op) -> Result<(), AllocError>
     ensures { (before : List Op) → HasKeys before keys.old
         → OnOk result (HasKeys (before ++ op.now ∷ []) keys.new) }
 {
-    let key = key_of(op);
-    if !keys.contains(key) {
-        keys.insert(key.to_owned_key(alloc)?)?;
-    }
+    hold(keys, key_of(op), 0)?;
     Ok(())
 }
 
 /// Adds those of a transaction.
-fn add_keys_of(alloc: Global, keys: &mut BTreeSet<Key>, txn: &Txn) -> Result<(), AllocError>
+fn add_keys_of<'a>(keys: &mut BTreeMap<(u64, &'a Key), u64>, txn: &'a Txn) -> Result<(), AllocError>
     ensures { (before : List Op) → HasKeys before keys.old
         → OnOk result (HasKeys (before ++ (view_txn txn.now).ops) keys.new) }
 {
     for op in &txn.ops {
-        add_key(alloc, keys, op)?;
+        add_key(keys, op)?;
     }
     Ok(())
 }
 
 /// Adds those of a session.
-fn add_session(alloc: Global, keys: &mut BTreeSet<Key>, session: &Session) -> Result<(), AllocError>
+fn add_session<'a>(
+    keys: &mut BTreeMap<(u64, &'a Key), u64>,
+    session: &'a Session,
+) -> Result<(), AllocError>
     ensures { (before : List Op) → HasKeys before keys.old →
         OnOk result (HasKeys (before ++ flat_map (λ t. t.ops) (view session.now).txns) keys.new) }
 {
     for txn in &session.txns {
-        add_keys_of(alloc, keys, txn)?;
+        add_keys_of(keys, txn)?;
     }
     Ok(())
 }
@@ -86,9 +86,9 @@ fn add_session(alloc: Global, keys: &mut BTreeSet<Key>, session: &Session) -> Re
 fn key_count(alloc: Global, sessions: &[Session]) -> Result<usize, AllocError>
     ensures { IfOk result (λ count. count ≡ length (keys_in (map view sessions.now))) }
 {
-    let mut keys = BTreeSet::new(alloc);
+    let mut keys = BTreeMap::new(alloc);
     for session in sessions {
-        add_session(alloc, &mut keys, session)?;
+        add_session(&mut keys, session)?;
     }
     Ok(keys.len())
 }

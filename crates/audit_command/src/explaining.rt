@@ -25,7 +25,7 @@ use std::time::Clock;
 use tell_decision::explain_placed;
 
 /// More lines than any log has.
-const MANY_LINES: usize = 1_000_000_000;
+pub const MANY_LINES: usize = 1_000_000_000;
 
 /// What stands before the name that the field has for a fault.
 const KNOWN_AS: &str = "known as: ";
@@ -50,7 +50,7 @@ fn lines_of_txns(txns: &[Txn]) -> Result<usize, AllocError>
 }
 
 /// How many lines these sessions have.
-fn line_count(sessions: &[Session]) -> Result<usize, AllocError>
+pub fn line_count(sessions: &[Session]) -> Result<usize, AllocError>
     ensures lines { IfOk result (λ n. n ≡ length (log_lines (map view sessions.now))) }
 {
     let mut count: usize = 0;
@@ -62,7 +62,7 @@ fn line_count(sessions: &[Session]) -> Result<usize, AllocError>
 }
 
 /// Where the transactions of a part stand in the log of these sessions, which is of this version.
-fn places_of(
+pub fn places_of(
     alloc: Global,
     version: Version,
     sessions: &[Session],
@@ -144,8 +144,8 @@ fn lines_in(alloc: Global, text: &str) -> Result<Explained, AllocError> {
 }
 
 /// Why a part of these sessions, which are those of a log of this version with their outcomes
-/// known, has no order.
-pub fn explain_part<R: Threads + Wait + Clock + Sync>(
+/// known, has no serial order.
+pub fn explain_serial<R: Threads + Wait + Clock + Sync>(
     rt: &R,
     alloc: Global,
     version: Version,

@@ -25,6 +25,7 @@ mod outcome;
 mod places;
 mod refusals;
 mod report;
+mod snapshots;
 mod telling;
 mod told;
 mod totals;

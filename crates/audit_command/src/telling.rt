@@ -8,20 +8,22 @@ ghost use Rattle.log_definitions.specs.Unknown.{resolved};
 ghost use Rattle.piece_laws.specs.Logs.{IsSoundLog, IsLog};
 ghost use Rattle.judging.specs.Judges.{IsVerdict};
 ghost use Rattle.judging.specs.Made.{IsMade, IsToldPart};
-ghost use Rattle.judging.specs.Levels.{IsLogAt, IsOrderAt, HasOrderAt, judged_at};
-ghost use Rattle.order_text.specs.Text.{order_text};
+ghost use Rattle.judging.specs.Levels.{IsLogAt, IsOrderAt, HasOrderAt};
+ghost use Rattle.judging.specs.declared.level.Level.{Level};
 ghost use Rattle.audit_command.specs.Audited.{nodes_in, IsPartTold, AreToldParts, IsAnswered};
-ghost use Rattle.audit_command.specs.Audited.{IsOrderFile, IsOpen, states_moments};
+ghost use Rattle.audit_command.specs.Audited.{IsOrderText, IsOrderFile, IsOpen, states_moments};
 ghost use Rattle.audit_command.specs.Resolved.{IsResolved, IsPartOf, IsPartOfVerdict};
 
-use crate::explaining::{Explained, explain_part};
+use crate::explaining::Explained;
 use crate::files::order_file;
 use crate::levels::asks_moments;
 use crate::options::AuditOptions;
 use crate::places::told_txns;
+use crate::snapshots::explain_part;
 use crate::told::{Answer, ToldPart};
 use crate::undecided::{advice_lines, reason_text};
-use judging::{Level, LevelLog, RefutedPart, Tried, Verdict, Why, more_parts};
+use judging::{LevelLog, RefutedPart, Tried, Verdict, Why, more_parts};
+use point_orders::points_text;
 use progress::Progress;
 use proposals::Proposal;
 use session_log::{Session, Version};
@@ -48,42 +50,6 @@ pub struct JudgedLog<'a> {
     pub proposal: &'a Proposal,
 }
 
-/// What stands before the lines that say why a part has no serial order, where it has no order of
-/// another level.
-const NO_SERIAL_ORDER: &str = "why they have no serial order either:";
-
-/// What stands in the names of faults that snapshot isolation allows.
-const ALLOWED: &str = "(G2-";
-
-/// Why a part that has no snapshot order has no serial order, without the names of faults that
-/// snapshot isolation allows.
-fn below_snapshot(alloc: Global, explained: Explained) -> Result<Explained, AllocError> {
-    let Explained { lines, known_as } = explained;
-    let mut why = Vec::new(alloc);
-    why.push(String::from_str(alloc, NO_SERIAL_ORDER)?)?;
-    for line in lines {
-        if !line.contains(ALLOWED) {
-            why.push(line)?;
-        }
-    }
-    Ok(Explained {
-        lines: why,
-        known_as: known_as.filter(|name| !name.contains(ALLOWED)),
-    })
-}
-
-/// Why a part has no order of the level at which it was judged.
-fn explained_at(
-    alloc: Global,
-    level: Level,
-    explained: Explained,
-) -> Result<Explained, AllocError> {
-    match level {
-        Level::Serializable => Ok(explained),
-        Level::Snapshot => below_snapshot(alloc, explained),
-    }
-}
-
 /// A part, told.
 fn told_part<R: Threads + Wait + Clock + Sync>(
     rt: &R,
@@ -98,9 +64,15 @@ fn told_part<R: Threads + Wait + Clock + Sync>(
         → IfOk result (IsPartTold options.now.means.level (first_line log.now.version) ss) }
 {
     let txns = told_txns(alloc, log.version, log.sessions, &refuted.flags)?;
-    let means = &options.means.deciding;
-    let explained = explain_part(rt, alloc, log.version, log.sessions, &refuted, means)?;
-    let Explained { lines, known_as } = explained_at(alloc, options.means.level, explained)?;
+    let explained = explain_part(
+        rt,
+        alloc,
+        log.version,
+        log.sessions,
+        &refuted,
+        &options.means,
+    )?;
+    let Explained { lines, known_as } = explained;
     let why = if options.explain {
         lines
     } else {
@@ -187,7 +159,7 @@ fn told_parts<R: Threads + Wait + Clock + Eprint + Sync, P: Progress>(
     Ok(told)
 }
 
-/// The text of an order of the log that is judged.
+/// The text of an order of the log, from one of the log that is judged for it.
 fn judged_order(
     alloc: Global,
     log: &JudgedLog<'_>,
@@ -197,12 +169,12 @@ fn judged_order(
     requires log { IsLog (map view log.now.sessions.now) }
     requires at { IsLogAt options.now.means.level (map view log.now.sessions.now) log.now.at.now }
     ensures text { (ss : List ClientSession) → map view log.now.sessions.now ≡ resolved ss
-        → IsOrderAt options.now.means.level ss order.now → IfOk result (λ text.
-        text.items ≡ order_text (judged_at options.now.means.level ss) order.now) }
+        → IsOrderAt options.now.means.level ss order.now
+        → IfOk result (λ text. IsOrderText options.now.means.level ss text.items) }
 {
     match log.at {
         LevelLog::Itself => order_file(alloc, log.sessions, order),
-        LevelLog::Split(split) => order_file(alloc, split, order),
+        LevelLog::Split(_) => points_text(alloc, log.sessions, order),
         LevelLog::NoRoom(_) => Ok(Vec::new(alloc)),
     }
 }

@@ -1,6 +1,6 @@
 //! What holds of a refused log as if it stated no moments, and at weaker levels.
 
-ghost use Rattle.std.specs.Prelude.{◌≡◌, ◌||◌, List, map, IfOk};
+ghost use Rattle.std.specs.Prelude.{◌≡◌, ◌||◌, true, false, List, Some, map, IfOk};
 ghost use Rattle.std.specs.List.{AllByRecursion};
 ghost use Rattle.session_log.specs.Text.{ClientSession, IsLegal, view, view_txn};
 ghost use Rattle.log_definitions.specs.Unknown.{resolved};
@@ -12,6 +12,7 @@ ghost use Rattle.audit_command.specs.Audited.{states_moment, some_state, states_
 ghost use Rattle.audit_command.specs.Audited.{IsWord, IsWordWhere, IsWeaker};
 ghost use Rattle.audit_command.specs.Audited.{asks_levels, is_serial, asks_strict, asks_plain, is_kept};
 ghost use Rattle.audit_command.specs.Audited.{at_snapshot};
+ghost use Rattle.audit_command.specs.declared.told.Word.TheVariants as word;
 
 use crate::options::AuditOptions;
 use crate::told::{Answer, Word};
@@ -74,16 +75,14 @@ fn word_of(verdict: &Verdict) -> Word
     }
 }
 
-/// Whether weaker levels are asked for: a level was not kept, and more than the first line is told.
+/// Whether weaker levels are asked for: a level was not kept or is not decided, and more than the
+/// first line is told.
 fn asks_levels(options: &AuditOptions<'_>, answer: &Answer) -> bool
     ensures asks { result ≡ asks_levels options.now answer.now }
 {
     match answer {
-        Answer::NotSerializable(_) => !options.quiet && !options.only,
-        Answer::Serializable
-        | Answer::NoMoments
-        | Answer::TooFew { .. }
-        | Answer::Undecided { .. } => false,
+        Answer::NotSerializable(_) | Answer::Undecided { .. } => !options.quiet && !options.only,
+        Answer::Serializable | Answer::NoMoments | Answer::TooFew { .. } => false,
     }
 }
 
@@ -175,6 +174,30 @@ fn word_where<R: Threads + Wait + Clock + Eprint + Sync, P: Progress>(
     }
 }
 
+/// The verdict on these sessions, whose outcomes are known, where it is asked for: that the level is
+/// kept, where a stronger one is.
+fn word_below<R: Threads + Wait + Clock + Eprint + Sync, P: Progress>(
+    rt: &R,
+    alloc: Global,
+    sessions: &[Session],
+    is_implied: bool,
+    is_asked: bool,
+    means: &JudgeMeans,
+    progress: &mut P,
+) -> Result<Option<Word>, AllocError>
+    requires log { IsLog (map view sessions.now) }
+    ensures kept { IfOk result (λ word. is_implied ≡ true → word ≡ Some word.Serializable) }
+    ensures word { IfOk result (λ word. is_implied ≡ false → (ss : List ClientSession)
+        → AllByRecursion IsLegal ss → IsSoundLog ss → map view sessions.now ≡ resolved ss
+        → IsWordWhere means.now ss is_asked word) }
+{
+    if is_implied {
+        Ok(Some(Word::Serializable))
+    } else {
+        word_where(rt, alloc, sessions, is_asked, means, progress)
+    }
+}
+
 /// What holds of a log of these sessions, whose outcomes are known, as if it stated no moments, and
 /// at weaker levels, where that is asked for.
 pub fn judge_weaker<R: Threads + Wait + Clock + Eprint + Sync, P: Progress>(
@@ -197,15 +220,9 @@ pub fn judge_weaker<R: Threads + Wait + Clock + Eprint + Sync, P: Progress>(
     let strict_snapshot = word_where(rt, alloc, &sessions, is_strict, &means, progress)?;
     leave_out_moments(&mut sessions);
     let without_moments = word_where(rt, alloc, &sessions, is_strict, &options.means, progress)?;
-    if is_one_kept(without_moments, strict_snapshot) {
-        return Ok(Weaker {
-            without_moments,
-            strict_snapshot,
-            snapshot: Some(Word::Serializable),
-        });
-    }
+    let is_implied = is_one_kept(without_moments, strict_snapshot);
     let is_plain = asks_plain(options, answer, states);
-    let snapshot = word_where(rt, alloc, &sessions, is_plain, &means, progress)?;
+    let snapshot = word_below(rt, alloc, &sessions, is_implied, is_plain, &means, progress)?;
     Ok(Weaker {
         without_moments,
         strict_snapshot,

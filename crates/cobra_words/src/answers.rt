@@ -72,7 +72,9 @@ Answers, by exit status:
   2  refused: as check; or usage
   3  as check, and what to try next
   4  out of memory
-  5  device failed: input or output";
+  5  device failed: input or output
+
+With --level, the answers are those of audit --explain.";
 
 /// What `audit` answers, by exit status.
 pub const AUDIT: &str = "\

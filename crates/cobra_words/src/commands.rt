@@ -90,7 +90,8 @@ fn explain<'a>(alloc: Global) -> Result<Command<'a>, AllocError> {
     let command = Command::new(alloc, "explain")
         .about("Say why no serial order explains a log")
         .after_help(answers::EXPLAIN)
-        .arg(options::format(alloc))?;
+        .arg(options::format(alloc))?
+        .arg(options::level_of_explain(alloc)?)?;
     with_search(alloc, command, CHECK_DEFAULTS)
 }
 

@@ -137,7 +137,7 @@ pub fn part<'a>(alloc: Global) -> Arg<'a> {
 
 pub fn order<'a>(alloc: Global) -> Arg<'a> {
     valued(alloc, "order", "FILE").help(
-        "Write the serial order, a line SESSION PLACE for each transaction",
+        "Write the order, a line SESSION PLACE for each transaction, or of snapshots and commits a line for each of these",
     )
 }
 
@@ -147,6 +147,13 @@ pub fn level<'a>(alloc: Global) -> Arg<'a> {
             "Which promise is judged: else strict-serializable where moments are stated, and serializable where none are",
         )
         .value_parser(ValueParser::Names(&LEVELS))
+}
+
+pub fn level_of_explain<'a>(alloc: Global) -> Result<Arg<'a>, AllocError> {
+    valued(alloc, "level", "LEVEL")
+        .help("Say what audit --explain says of this promise")
+        .value_parser(ValueParser::Names(&LEVELS))
+        .conflicts_with("format")
 }
 
 pub fn only<'a>(alloc: Global) -> Arg<'a> {

@@ -79,6 +79,19 @@ fn audit_of<'a>(matches: &ArgMatches<'a>) -> AuditWords<'a> {
     }
 }
 
+/// A call of `explain`: of a level that is named, what `audit` says and why.
+fn explain_of<'a>(matches: &ArgMatches<'a>) -> Command<'a> {
+    match level_of(matches) {
+        Some(_) => Command::Audit(AuditWords {
+            explain: true,
+            ..audit_of(matches)
+        }),
+        None => Command::Explain {
+            format: format_of(matches),
+        },
+    }
+}
+
 fn wanted_of<'a>(matches: &ArgMatches<'a>) -> PiecesWord<'a> {
     match (matches.get_one::<u32>("piece"), matches.get_str("into")) {
         (Some(piece), _) => PiecesWord::Piece(piece as usize),
@@ -104,9 +117,7 @@ fn command_of<'a>(name: &str, matches: &ArgMatches<'a>) -> Option<Command<'a>> {
             order: matches.get_str("order")?,
         }),
         "stats" => Some(Command::Stats),
-        "explain" => Some(Command::Explain {
-            format: format_of(matches),
-        }),
+        "explain" => Some(explain_of(matches)),
         "audit" => Some(Command::Audit(audit_of(matches))),
         "pieces" => Some(Command::Pieces {
             size: size_of(matches),

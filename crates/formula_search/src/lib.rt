@@ -1,7 +1,7 @@
 //! The clauses of a formula, given to a checker, and the search for an assignment that satisfies
 //! them.
 //!
-//! Called by `solve_command` and, for the checker alone, by `refute_command`. It knows no log and
+//! Called by `solving` and, for the checker alone, by `refute_command`. It knows no log and
 //! no text.
 #![tactic(auto)]
 

@@ -1,5 +1,5 @@
 -- What the steps of a judgement find.
-use Rattle.std.specs.Prelude.{Bool, List}
+use Rattle.std.specs.Prelude.{Bool, true, false, List}
 use Rattle.session_log.specs.Text.{ClientSession}
 use Rattle.session_log.specs.declared.fault.LogFault.{LogFault}
 use Rattle.session_log.specs.declared.fault.LogFault.TheVariants.{OverLimit, Memory}
@@ -9,6 +9,8 @@ use Rattle.judging.specs.Judges.{IsRefutedLog, IsUndecidedBy, IsTried}
 use Rattle.judging.specs.Made.{IsToldPart}
 use Rattle.judging.specs.declared.found.Found.{Found}
 use Rattle.judging.specs.declared.found.Found.TheVariants as found
+use Rattle.judging.specs.declared.judged.Why.{Why}
+use Rattle.judging.specs.declared.judged.Why.TheVariants.{Spent}
 use Rattle.judging.specs.declared.judged.Verdict.{Verdict}
 use Rattle.judging.specs.declared.judged.Verdict.TheVariants as verdict
 use Rattle.judging.specs.declared.level.Level.TheVariants.{Serializable}
@@ -27,6 +29,16 @@ abbrev pub IsFound : JudgeMeans → List ClientSession → Found → Type 0
 IsFound m ss (found.Serial order) = IsOrderAt m.level ss order
 IsFound m ss (found.Refuted finding) = IsRefutedLog m.level ss finding
 IsFound m ss (found.Undecided why) = IsUndecidedBy m ss why
+
+-- a search closed as many cubes as it may, and found nothing
+abbrev pub is_spent_why : Why → Bool
+is_spent_why (Spent closed) = true
+is_spent_why _ = false
+
+abbrev pub is_spent : Found → Bool
+is_spent (found.Serial order) = false
+is_spent (found.Refuted finding) = false
+is_spent (found.Undecided why) = is_spent_why why
 
 -- with the means of a judgement at some level, for one of serializability
 abbrev pub of_serial : JudgeMeans → JudgeMeans

@@ -1,5 +1,5 @@
 -- What is said of a log of any length.
-use Rattle.std.specs.Prelude.{◌≡◌, ◌≢◌, ℕ, List, map, Some, None}
+use Rattle.std.specs.Prelude.{◌≡◌, ◌≢◌, ℕ, false, List, map, Some, None}
 use Rattle.session_log.specs.Text.{ClientSession, view}
 use Rattle.serializability.specs.Anomalies.{anomaly_of}
 use Rattle.log_definitions.specs.Unknown.{resolved}
@@ -13,12 +13,14 @@ use Rattle.reduction.specs.Outcome.{IsDeadHistory, IsReduceFault}
 use Rattle.branch_search.specs.declared.answer.Answer.TheVariants.{Unknown}
 use Rattle.splitting.specs.Locks.{no_room}
 use Rattle.deciding.specs.Decides.{IsSearched, IsCycleOf, IsRefutedBy}
+use Rattle.solving.specs.Solved.{IsRefutedFor}
 use Rattle.judging.specs.Limits.{IsOver}
 use Rattle.judging.specs.Levels.{judged_at, HasOrderAt, HasNoOrderAt, IsOrderAt}
 use Rattle.judging.specs.declared.level.Level.{Level}
 use Rattle.judging.specs.declared.level.Level.TheVariants.{Snapshot}
 use Rattle.judging.specs.declared.judged.Finding.{Finding}
 use Rattle.judging.specs.declared.judged.Finding.TheVariants.{Anomaly, Cycle, Dead, Refuted}
+use Rattle.judging.specs.declared.judged.Finding.TheVariants.{Formula}
 use Rattle.judging.specs.declared.judged.Why.{Why}
 use Rattle.judging.specs.declared.judged.Why.TheVariants.{Spent, TooLarge, TooManyChoices}
 use Rattle.judging.specs.declared.judged.Why.TheVariants.{NoRoom, NotBegun}
@@ -33,13 +35,15 @@ use Rattle.judging.specs.declared.judged.Verdict.TheVariants.{NotSerializable, U
 -- ---- a log that is judged by itself
 
 -- what stands against a log: the anomaly that is reported; a cycle of what is known; a ledger of
--- pruning, which ends in a cycle; or a tree that refutes every cube
+-- pruning, which ends in a cycle; a tree that refutes every cube; or that its reduced formula cannot
+-- be satisfied
 abbrev pub Finds : List ClientSession → Finding → Type 0
 Finds ss (Anomaly a) = anomaly_of (log_of ss) ≡ Some a
 Finds ss Cycle = (line : List ℕ) × IsCycleOf ss line
 Finds ss Dead = (ledger : Ledger) × IsDeadHistory ss ledger
 Finds ss Refuted = (budget : ℕ) × (left : Remainder) × (tree : List TreeNode)
     × IsRefutedBy budget ss left tree
+Finds ss Formula = IsRefutedFor false ss
 
 -- no order of the level explains the log's committed and any unknown transactions, and why
 pub record IsRefutedLog (level : Level) (ss : List ClientSession) (finding : Finding)

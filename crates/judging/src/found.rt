@@ -1,11 +1,11 @@
 //! What is found of a log that is judged by itself.
 
-ghost use Rattle.std.specs.Prelude.{◌≡◌, List, IfOk, map};
+ghost use Rattle.std.specs.Prelude.{◌≡◌, List, IfOk, IfSome, map};
 ghost use Rattle.session_log.specs.Text.{ClientSession, view};
 ghost use Rattle.session_log.specs.declared.fault.LogFault.TheVariants.{OverLimit};
 ghost use Rattle.piece_laws.specs.Logs.{IsLog};
 ghost use Rattle.deciding.specs.Decides.{Decides};
-ghost use Rattle.judging.specs.Finds.{IsFound, IsLimitOrMemory, of_serial};
+ghost use Rattle.judging.specs.Finds.{IsFound, IsLimitOrMemory, is_spent, of_serial};
 ghost use Rattle.judging.specs.declared.means.JudgeMeans.{JudgeMeans};
 
 use crate::halves::joined_nodes;
@@ -16,9 +16,11 @@ use crate::means::JudgeMeans;
 use deciding::{Decision, decide};
 use desk::gate::OpenGate;
 use log_parts::copy_log;
+use order_cnf::CnfFault;
 use polygraph::PolyFault;
 use session_history::{Anomaly, History, NodeIx, NodeLine};
 use session_log::{Limit, LogFault, Session, Version};
+use solving::{Solution, solve_history};
 use std::alloc::{AllocError, Global};
 use std::sync::Wait;
 use std::thread::Threads;
@@ -81,7 +83,7 @@ fn nodes_of(alloc: Global, decision: &Decision) -> Result<Vec<NodeIx>, AllocErro
 }
 
 /// What is decided of a history.
-fn seen_of<R: Threads + Wait + Clock + Sync>(
+fn decided<R: Threads + Wait + Clock + Sync>(
     rt: &R,
     alloc: Global,
     history: &History,
@@ -97,6 +99,73 @@ fn seen_of<R: Threads + Wait + Clock + Sync>(
         }
         Err(PolyFault::TooManyChoices) => Ok(undecided(alloc, Why::TooManyChoices)),
         Err(PolyFault::Memory) => Err(AllocError),
+    }
+}
+
+/// Whether a search closed as many cubes as it may.
+fn is_spent(found: &Found) -> bool
+    ensures spent { result ≡ is_spent found.now }
+{
+    matches!(found, Found::Undecided(Why::Spent { .. }))
+}
+
+/// What a search that learns finds of a history, where it finds something.
+fn learnt<R: Threads + Wait + Clock + Sync>(
+    rt: &R,
+    alloc: Global,
+    history: &History,
+    means: &JudgeMeans,
+) -> Result<Option<Found>, AllocError>
+    ensures found { IfOk result (λ found. IfSome found (IsFound (of_serial means.now) history.now)) }
+{
+    let conflicts = means.deciding.budget.get() as u32;
+    let workers = means.deciding.workers;
+    match solve_history(rt, alloc, history, false, conflicts, workers, &OpenGate) {
+        Ok(Solution::Serial(order)) => Ok(Some(Found::Serial(order))),
+        Ok(Solution::Refuted) => Ok(Some(Found::Refuted(Finding::Formula))),
+        Ok(Solution::Spent) => Ok(None),
+        Err(CnfFault::Memory) => Err(AllocError),
+        Err(_) => Ok(None),
+    }
+}
+
+/// What is found of a history for which few cubes are not enough: by a search that learns, and by
+/// all cubes of the budget where that finds nothing.
+fn seen_further<R: Threads + Wait + Clock + Sync>(
+    rt: &R,
+    alloc: Global,
+    history: &History,
+    means: &JudgeMeans,
+) -> Result<Seen, AllocError>
+    ensures { IfOk result (λ seen. IsFound (of_serial means.now) history.now seen.found) }
+{
+    if means.is_over(rt) {
+        return Ok(undecided(alloc, Why::NotBegun));
+    }
+    if let Some(found) = learnt(rt, alloc, history, means)? {
+        let nodes = Vec::new(alloc);
+        return Ok(Seen { found, nodes });
+    }
+    if means.is_over(rt) {
+        return Ok(undecided(alloc, Why::NotBegun));
+    }
+    decided(rt, alloc, history, means)
+}
+
+/// What is found of a history.
+fn seen_of<R: Threads + Wait + Clock + Sync>(
+    rt: &R,
+    alloc: Global,
+    history: &History,
+    means: &JudgeMeans,
+) -> Result<Seen, AllocError>
+    ensures { IfOk result (λ seen. IsFound (of_serial means.now) history.now seen.found) }
+{
+    let seen = decided(rt, alloc, history, &means.for_few_cubes())?;
+    if is_spent(&seen.found) {
+        seen_further(rt, alloc, history, means)
+    } else {
+        Ok(seen)
     }
 }
 

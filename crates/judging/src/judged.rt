@@ -16,6 +16,8 @@ pub enum Finding {
     Dead,
     /// A search refuted every cube.
     Refuted,
+    /// A search that learns refuted its formula.
+    Formula,
 }
 
 /// Why a log is not decided.

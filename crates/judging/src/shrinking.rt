@@ -13,7 +13,6 @@ use crate::flags::{
 use crate::judged::RefutedPart;
 use crate::means::JudgeMeans;
 use crate::trial::{Attempt, Trial, try_part};
-use cube_machine::Budget;
 use proposals::Flags;
 use session_history::NodeIx;
 use session_log::Session;
@@ -26,8 +25,6 @@ use std::time::Clock;
 const WORK: usize = 40_000;
 
 const DECISION: usize = 100;
-/// So many cubes are closed in a decision.
-const CUBES: usize = 1_000;
 /// So often the way goes on to what decided it, and so often chunks are halved.
 const ROUNDS: usize = 10;
 
@@ -156,15 +153,6 @@ fn leave_out<R: Threads + Wait + Clock + Sync>(
     Ok(())
 }
 
-/// What a decision may use here.
-fn means_of(means: &JudgeMeans) -> JudgeMeans {
-    let mut few = *means;
-    if let Some(budget) = Budget::new(means.deciding.budget.get().min(CUBES)) {
-        few.deciding.budget = budget;
-    }
-    few
-}
-
 /// Some transactions of a log that have no order, where these nodes show that it has none.
 fn shrink<R: Threads + Wait + Clock + Sync>(
     rt: &R,
@@ -175,7 +163,7 @@ fn shrink<R: Threads + Wait + Clock + Sync>(
 ) -> Result<Flags, AllocError>
     requires log { IsLog (map view log.now) }
 {
-    let means = means_of(means);
+    let means = means.for_few_cubes();
     let mut work = WORK;
     let mut flags = all_flags(alloc, log, true)?;
     narrow(rt, alloc, log, &mut flags, nodes, &means, &mut work)?;

@@ -13,6 +13,7 @@ pub mod Chosen
 pub mod Some
 pub mod Merge
 pub mod Writers
+pub mod Points
 pub mod Examples
 pub mod Left
 pub mod Fewer

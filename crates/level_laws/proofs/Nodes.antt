@@ -88,17 +88,17 @@ end_at locks (c ∷ nodes) zero = refl
 end_at locks (c ∷ nodes) (suc i) =
     let at : suc (2 * suc i) ≡ suc (suc (suc (2 * i))) = omega arith in ap (slice_get (flat_map (both_nodes locks) (c ∷ nodes))) at ∙ end_at locks nodes i
 
-start_in : (locks : Locks) (nodes : List Committed) (v : ℕ) → node_in (flat_map (both_nodes locks) nodes) (2 * v - 1) ≡ option_map (start_node locks) (node_in nodes v)
+pub start_in : (locks : Locks) (nodes : List Committed) (v : ℕ) → node_in (flat_map (both_nodes locks) nodes) (2 * v - 1) ≡ option_map (start_node locks) (node_in nodes v)
 start_in locks nodes zero = refl
 start_in locks nodes (suc i) =
     let at : 2 * suc i - 1 ≡ suc (2 * i) = omega arith in ap (node_in (flat_map (both_nodes locks) nodes)) at ∙ start_at locks nodes i
 
-end_in : (locks : Locks) (nodes : List Committed) (v : ℕ) → node_in (flat_map (both_nodes locks) nodes) (2 * v) ≡ option_map (end_node locks) (node_in nodes v)
+pub end_in : (locks : Locks) (nodes : List Committed) (v : ℕ) → node_in (flat_map (both_nodes locks) nodes) (2 * v) ≡ option_map (end_node locks) (node_in nodes v)
 end_in locks nodes zero = refl
 end_in locks nodes (suc i) =
     let at : 2 * suc i ≡ suc (suc (2 * i)) = omega arith in ap (node_in (flat_map (both_nodes locks) nodes)) at ∙ end_at locks nodes i
 
-twice_as_many : (locks : Locks) (nodes : List Committed) → length (flat_map (both_nodes locks) nodes) ≡ 2 * length nodes
+pub twice_as_many : (locks : Locks) (nodes : List Committed) → length (flat_map (both_nodes locks) nodes) ≡ 2 * length nodes
 twice_as_many locks [] = refl
 twice_as_many locks (c ∷ nodes) = let ih = twice_as_many locks nodes in omega (arith, ih)
 

@@ -2,6 +2,7 @@
 
 ghost use Rattle.level_laws.specs.Examples.{AllowsWriteSkew, RefusesLostUpdate};
 ghost use Rattle.level_laws.specs.OfPart.{SnapshotOfPart, SomeSnapshotOfPart};
+ghost use Rattle.level_laws.specs.Points.{PointsOfWriters};
 ghost use Rattle.level_laws.specs.Split.{OrdersOfSplit, SnapshotBySplit, SnapshotOfResolved};
 ghost use Rattle.level_laws.specs.Split.{SnapshotOfTaken, SomeAreFresh, SplitIsLog};
 ghost use Rattle.level_laws.specs.Split.{ResolvedSplitIsLog, SnapshotByWriters, SnapshotWhereSerial};
@@ -31,6 +32,11 @@ pub fn snapshot_of_resolved()
 /// It is enough to split the transactions that write.
 pub fn snapshot_by_writers()
     ensures { SnapshotByWriters }
+{}
+
+/// And each serial order of that log is, by the points of its transactions, a snapshot order.
+pub fn points_of_writers()
+    ensures { PointsOfWriters }
 {}
 
 /// Locks can be named for every log.

@@ -8,4 +8,3 @@ mod command;
 mod solution;
 
 pub use command::solve;
-pub use solution::Solution;

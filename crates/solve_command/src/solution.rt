@@ -1,23 +1,13 @@
-//! What is found of a history, and how it is told.
+//! How what is found of a history is told.
 
 ghost use Rattle.std.specs.Prelude.{◌≡◌, IfOk};
 ghost use Rattle.solve_command.specs.Solved.{status_of, solution_text, spent_text};
 ghost use Rattle.solve_command.specs.Solved.{IsSerialWhereTold};
 
 use cobra_answers::{Reply, Status, serial_text};
-use session_history::{History, NodeLine};
+use session_history::History;
+use solving::Solution;
 use std::alloc::{AllocError, Global};
-
-/// What is found of a history.
-#[derive(Drop)]
-pub enum Solution {
-    /// This serial order explains it.
-    Serial(NodeLine),
-    /// Its formula is refuted, and so no order explains it.
-    Refuted,
-    /// The budget was spent before either was found.
-    Spent,
-}
 
 /// What is written where the formula is refuted.
 const REFUTED: &[u8] = b"not serializable: the formula is refuted\n";

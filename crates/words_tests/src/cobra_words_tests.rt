@@ -57,6 +57,8 @@ fn refused_words(rt: HostRuntime) {
         "cobra_poly explain --format svg log",
         "cobra_poly explain --format dot --format dot log",
         "cobra_poly explain --plain log",
+        "cobra_poly explain --level best log",
+        "cobra_poly explain --level snapshot --format dot log",
         "cobra_poly check --workers 17 log",
         "cobra_poly encode --workers 0",
         "cobra_poly encode --workers 17",
@@ -323,6 +325,10 @@ fn words_of_levels(rt: HostRuntime) {
         ),
         (
             "cobra_poly audit --level snapshot",
+            Some(Isolation::Snapshot),
+        ),
+        (
+            "cobra_poly explain --level snapshot",
             Some(Isolation::Snapshot),
         ),
     ] {

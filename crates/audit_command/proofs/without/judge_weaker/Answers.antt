@@ -1,43 +1,21 @@
-use Rattle.std.proofs.Common.{true, map, refl, sym, ap, ◌∙◌, subst}
+use Rattle.std.proofs.Common.{Option, map, inl, inr, sym, ap, ◌∙◌, subst}
+use Rattle.std.proofs.lemmas.Bool.{cases_Bool}
 use Rattle.session_log.specs.Text.{view}
 use Rattle.piece_laws.specs.Logs.{IsLog}
 use Rattle.level_laws.specs.Without.{without_moments}
 use Rattle.level_laws.proofs.Without.{legal_without, sound_without, log_without, resolved_without}
 use Rattle.audit_command.specs.Audited.{asks_strict, asks_plain, at_snapshot, IsWordWhere}
-use Rattle.audit_command.proofs.Weaker.{plain_where_kept, never_both}
+use Rattle.audit_command.specs.declared.told.Word.{Word}
+use Rattle.audit_command.proofs.Weaker.{plain_where_kept}
 use Rattle.audit_command.proofs.without.judge_weaker.Goals as goal
 
 pub word_where-requires-2-clause-log : goal.word_where-requires-2-clause-log
 word_where-requires-2-clause-log g c κs within =
     subst IsLog (sym (ap (map view) c.deref-2.ensures.value ∙ c.leave_out_moments.ensures)) (log_without (map view c.args.sessions.items) c.requires.log)
 
-pub word_where-requires-3-clause-log : goal.word_where-requires-3-clause-log
-word_where-requires-3-clause-log g c κs within =
+pub word_below-requires-clause-log : goal.word_below-requires-clause-log
+word_below-requires-clause-log g c κs within =
     subst IsLog (sym (ap (map view) c.deref-3.ensures.value ∙ c.leave_out_moments.ensures)) (log_without (map view c.args.sessions.items) c.requires.log)
-
-pub returns-then-is_one_kept : goal.returns-then-is_one_kept
-returns-then-is_one_kept g c = record {
-  weaker = λ ss legal sound same states. (
-      let other = without_moments ss in
-      let legal_other = legal_without ss legal in
-      let sound_other = sound_without ss legal sound in
-      let o = c.args.options.now in
-      let a = c.args.answer.now in
-      let strict = c.in_ok-strict_snapshot.strict_snapshot in
-      let bare = c.in_ok-without_moments.without_moments in
-      let left = c.leave_out_moments.ensures ∙ ap without_moments same ∙ sym (resolved_without ss) in
-      let is_strict : IsWordWhere (at_snapshot o.means) ss (asks_strict o ss a) strict =
-      subst (λ n. IsWordWhere n ss (asks_strict o ss a) strict) c.at_snapshot-means.ensures.at
-      (subst (λ b. IsWordWhere c.at_snapshot-means.result ss b strict) (c.asks_strict-is_strict.ensures.asks ss states) (c.in_ok-strict_snapshot.ensures.word ss legal sound (ap (map view) c.deref.ensures.value ∙ same))) in
-      let is_bare : IsWordWhere o.means other (asks_strict o ss a) bare =
-      subst (λ b. IsWordWhere o.means other b bare) (c.asks_strict-is_strict.ensures.asks ss states) (c.in_ok-without_moments.ensures.word other legal_other sound_other (ap (map view) c.deref-2.ensures.value ∙ left)) in
-      record {
-        without = is_bare;
-        strict = is_strict;
-        plain = plain_where_kept o ss a bare strict legal sound is_bare is_strict (sym c.is_one_kept.ensures.kept ∙ c.if-is_one_kept.true);
-        below = λ e. refl;
-      });
-}
 
 pub returns : goal.returns
 returns g c = record {
@@ -49,18 +27,24 @@ returns g c = record {
       let a = c.args.answer.now in
       let strict = c.in_ok-strict_snapshot.strict_snapshot in
       let bare = c.in_ok-without_moments.without_moments in
+      let plain = c.in_ok-snapshot.snapshot in
       let left = c.leave_out_moments.ensures ∙ ap without_moments same ∙ sym (resolved_without ss) in
       let is_strict : IsWordWhere (at_snapshot o.means) ss (asks_strict o ss a) strict =
       subst (λ n. IsWordWhere n ss (asks_strict o ss a) strict) c.at_snapshot-means.ensures.at
       (subst (λ b. IsWordWhere c.at_snapshot-means.result ss b strict) (c.asks_strict-is_strict.ensures.asks ss states) (c.in_ok-strict_snapshot.ensures.word ss legal sound (ap (map view) c.deref.ensures.value ∙ same))) in
       let is_bare : IsWordWhere o.means other (asks_strict o ss a) bare =
       subst (λ b. IsWordWhere o.means other b bare) (c.asks_strict-is_strict.ensures.asks ss states) (c.in_ok-without_moments.ensures.word other legal_other sound_other (ap (map view) c.deref-2.ensures.value ∙ left)) in
-      let plain = c.in_ok-snapshot.snapshot in
+      let is_plain : IsWordWhere (at_snapshot o.means) other (asks_plain o ss a) plain =
+      elim (cases_Bool c.is_one_kept-is_implied.result) [
+        | inl e ↦ subst (IsWordWhere (at_snapshot o.means) other (asks_plain o ss a)) (sym (c.in_ok-snapshot.ensures.kept e)) (plain_where_kept o ss a bare strict legal sound is_bare is_strict (sym c.is_one_kept-is_implied.ensures.kept ∙ e))
+        | inr e ↦
+            subst (λ n. IsWordWhere n other (asks_plain o ss a) plain) c.at_snapshot-means.ensures.at
+            (subst (λ b. IsWordWhere c.at_snapshot-means.result other b plain) (c.asks_plain-is_plain.ensures.asks ss states) (c.in_ok-snapshot.ensures.word e other legal_other sound_other (ap (map view) c.deref-3.ensures.value ∙ left)))
+      ] in
       record {
         without = is_bare;
         strict = is_strict;
-        plain = subst (λ n. IsWordWhere n other (asks_plain o ss a) plain) c.at_snapshot-means.ensures.at
-            (subst (λ b. IsWordWhere c.at_snapshot-means.result other b plain) (c.asks_plain-is_plain.ensures.asks ss states) (c.in_ok-snapshot.ensures.word other legal_other sound_other (ap (map view) c.deref-3.ensures.value ∙ left)));
-        below = λ e. absurd (never_both c.is_one_kept.result (c.is_one_kept.ensures.kept ∙ e) c.if-is_one_kept.false);
+        plain = is_plain;
+        below = λ e. c.in_ok-snapshot.ensures.kept (c.is_one_kept-is_implied.ensures.kept ∙ e);
       });
 }

@@ -2,8 +2,8 @@ use Rattle.std.proofs.Common.{sym, subst}
 use Rattle.serializability.specs.Formula.{Satisfies}
 use Rattle.order_cnf.specs.Data.{cnf_of}
 use Rattle.formula_search.specs.Searched.{IsFoundOf}
-use Rattle.solve_command.proofs.Solving.{serial_of, refuted_for}
-use Rattle.solve_command.proofs.command.solve_formula.Goals as goal
+use Rattle.solving.proofs.Solving.{serial_of, refuted_for}
+use Rattle.solving.proofs.history.solve_formula.Goals as goal
 
 pub returns-in-Refuted : goal.returns-in-Refuted
 returns-in-Refuted c =

@@ -1,0 +1,139 @@
+//! Why a part has no order of the level at which it was judged.
+
+ghost use Rattle.std.specs.Prelude.{map};
+ghost use Rattle.std.specs.List.{AllByRecursion};
+ghost use Rattle.session_log.specs.Text.{IsLegal, view};
+ghost use Rattle.judging.specs.Made.{IsMadeOf};
+
+use crate::explaining::{Explained, MANY_LINES, explain_serial, line_count, places_of};
+use deciding::Means;
+use judging::{Finding, JudgeMeans, Level, RefutedPart};
+use session_history::{Anomaly, ReadAnomaly};
+use session_log::{Session, Version};
+use std::alloc::{AllocError, Global};
+use std::sync::Wait;
+use std::thread::Threads;
+use std::time::Clock;
+use tell_snapshots::{Told, tell_snapshots};
+
+/// What stands before the lines that say why a part has no serial order, where these say nothing of
+/// snapshots.
+const BY_SEARCH: &str = "no order of their snapshots and commits is left: a search shows it";
+
+const NO_SERIAL_ORDER: &str = "why they have no serial order either:";
+
+/// What stands in the names of faults that snapshot isolation allows.
+const ALLOWED: &str = "(G2-";
+
+/// Why a part that has no snapshot order has no serial order, without the names of faults that
+/// snapshot isolation allows.
+fn below_snapshot(alloc: Global, explained: Explained) -> Result<Explained, AllocError> {
+    let Explained { lines, known_as } = explained;
+    let mut why = Vec::new(alloc);
+    why.push(String::from_str(alloc, BY_SEARCH)?)?;
+    why.push(String::from_str(alloc, NO_SERIAL_ORDER)?)?;
+    for line in lines {
+        if !line.contains(ALLOWED) {
+            why.push(line)?;
+        }
+    }
+    Ok(Explained {
+        lines: why,
+        known_as: known_as.filter(|name| !name.contains(ALLOWED)),
+    })
+}
+
+/// Lines, and behind them a name, where there is one.
+fn with_name(
+    alloc: Global,
+    lines: Vec<String>,
+    name: Option<&'static str>,
+) -> Result<Explained, AllocError> {
+    let mut lines = lines;
+    let Some(name) = name else {
+        return Ok(Explained {
+            lines,
+            known_as: None,
+        });
+    };
+    lines.push(format!(in alloc; "known as: {name}")?)?;
+    Ok(Explained {
+        lines,
+        known_as: Some(String::from_str(alloc, name)?),
+    })
+}
+
+/// Why a part has no snapshot order, by its snapshots and commits; `None` where circles of these do
+/// not show it, or the log has more lines than any.
+fn explain_points(
+    alloc: Global,
+    version: Version,
+    sessions: &[Session],
+    refuted: &RefutedPart,
+) -> Result<Option<Explained>, AllocError>
+    requires made { IsMadeOf (map view sessions.now) refuted.now }
+{
+    if line_count(sessions)? > MANY_LINES {
+        return Ok(None);
+    }
+    let places = places_of(alloc, version, sessions, refuted)?;
+    match tell_snapshots(alloc, &refuted.part, &places)? {
+        Some(Told { lines, known_as }) => Ok(Some(with_name(alloc, lines, known_as)?)),
+        None => Ok(None),
+    }
+}
+
+/// The name of a read that no order has, neither a serial one nor one of snapshots.
+fn name_of_read(anomaly: Anomaly) -> Option<&'static str> {
+    match anomaly {
+        Anomaly::Read { kind, .. } => match kind {
+            ReadAnomaly::Aborted => Some("aborted read (G1a)"),
+            ReadAnomaly::Intermediate => Some("intermediate read (G1b)"),
+            _ => None,
+        },
+        Anomaly::LostUpdate { .. } => None,
+    }
+}
+
+/// Why a part has no snapshot order.
+fn explain_snapshot<R: Threads + Wait + Clock + Sync>(
+    rt: &R,
+    alloc: Global,
+    version: Version,
+    sessions: &[Session],
+    refuted: &RefutedPart,
+    means: &Means,
+) -> Result<Explained, AllocError>
+    requires legal { AllByRecursion IsLegal (map view refuted.now.part.items) }
+    requires made { IsMadeOf (map view sessions.now) refuted.now }
+{
+    if let Finding::Anomaly(anomaly) = refuted.finding {
+        let explained = explain_serial(rt, alloc, version, sessions, refuted, means)?;
+        return with_name(alloc, explained.lines, name_of_read(anomaly));
+    }
+    if let Some(explained) = explain_points(alloc, version, sessions, refuted)? {
+        return Ok(explained);
+    }
+    let explained = explain_serial(rt, alloc, version, sessions, refuted, means)?;
+    below_snapshot(alloc, explained)
+}
+
+/// Why a part of these sessions, which are those of a log of this version with their outcomes
+/// known, has no order of the level at which it was judged.
+pub fn explain_part<R: Threads + Wait + Clock + Sync>(
+    rt: &R,
+    alloc: Global,
+    version: Version,
+    sessions: &[Session],
+    refuted: &RefutedPart,
+    means: &JudgeMeans,
+) -> Result<Explained, AllocError>
+    requires legal { AllByRecursion IsLegal (map view refuted.now.part.items) }
+    requires made { IsMadeOf (map view sessions.now) refuted.now }
+{
+    let deciding = &means.deciding;
+    match means.level {
+        Level::Serializable => explain_serial(rt, alloc, version, sessions, refuted, deciding),
+        Level::Snapshot => explain_snapshot(rt, alloc, version, sessions, refuted, deciding),
+    }
+}

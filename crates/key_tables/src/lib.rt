@@ -1,0 +1,11 @@
+//! What keys hold. A key is looked for by a mark first, so that most steps of a search compare two
+//! numbers; keys with one mark are told apart by their bytes, so that no choice of keys makes a
+//! search long.
+//!
+//! Called by `order_checks`, `proposals` and `audit_command`. It knows no log.
+#![tactic(auto)]
+
+mod mark;
+mod table;
+
+pub use table::{held, hold};

@@ -1,0 +1,297 @@
+//! What is told of a part that has no snapshot order.
+
+use crate::edges::known_edges;
+use crate::graph::{Graph, Why};
+use crate::lines::{
+    edge_line, forced_line, neither_line, not_first_line, overwritten_line, shown_line,
+};
+use crate::names::{NO_EDGES, Shape};
+use crate::nodes::{Access, Part};
+use crate::steps::{Against, Ending, Refuted, Step, StepWhy, refute};
+use crate::ways::Way;
+use log_lines::LogPlaces;
+use session_log::Session;
+use std::alloc::{AllocError, Global};
+
+/// Of a part with more committed transactions, or with more operations in them, nothing is told.
+const MANY_NODES: usize = 48;
+
+const MANY_OPS: usize = 4_000;
+
+/// What stands before the lines of a step, and of what cannot be.
+const INDENT: &str = "    ";
+
+/// Why a part has no snapshot order.
+#[derive(Drop)]
+pub struct Told {
+    pub lines: Vec<String>,
+    /// What the field calls such a fault, where it has a name.
+    pub known_as: Option<&'static str>,
+}
+
+/// What lines are made from, and those that there are so far.
+#[derive(Drop)]
+struct Telling<'a, 'b> {
+    alloc: Global,
+    part: &'b Part<'a>,
+    graph: &'b Graph<'a>,
+    steps: &'b [Step<'a>],
+    /// The steps that are needed.
+    is_needed: Vec<bool>,
+    lines: Vec<String>,
+}
+
+impl<'a, 'b> Telling<'a, 'b> {
+    /// The steps that a way names are needed.
+    fn need(&mut self, way: &Way) {
+        for (from, to) in way.points.iter().zip(way.points.iter().skip(1)) {
+            if let Some(step) = self.graph.why(*from, *to).and_then(step_of)
+                && let Some(is_needed) = self.is_needed.get_mut(step)
+            {
+                *is_needed = true;
+            }
+        }
+    }
+
+    /// So are those that needed steps name.
+    fn need_below(&mut self) {
+        let steps = self.steps;
+        for (number, step) in steps.iter().enumerate().rev() {
+            if self.is_needed.get(number).copied().unwrap_or(false) {
+                self.need(step.way());
+            }
+        }
+    }
+
+    /// The number under which a step is told.
+    fn number(&self, step: usize) -> usize {
+        self.is_needed
+            .iter()
+            .take(step.saturating_add(1))
+            .filter(|is_needed| **is_needed)
+            .count()
+    }
+
+    /// Tells a way, a line for each of its edges but those from a snapshot to its own commit.
+    fn put_way(&mut self, way: &Way, indent: &str) -> Result<(), AllocError> {
+        for (from, to) in way.points.iter().zip(way.points.iter().skip(1)) {
+            match self.graph.why(*from, *to) {
+                None | Some(Why::Own) => {}
+                Some(why) => self.put_edge((*from, *to), why, indent)?,
+            }
+        }
+        Ok(())
+    }
+
+    fn put_edge(
+        &mut self,
+        edge: (usize, usize),
+        why: Why<'a>,
+        indent: &str,
+    ) -> Result<(), AllocError> {
+        let step = match why.step() {
+            Some(step) => self.number(step),
+            None => 0,
+        };
+        let line = edge_line(self.alloc, self.part, edge, why, step, indent)?;
+        self.lines.push(line)?;
+        Ok(())
+    }
+
+    /// Tells why one of two cannot commit first.
+    fn put_against(&mut self, against: &Against<'a>) -> Result<(), AllocError> {
+        if let Some((read, write)) = against.overwritten {
+            let line = overwritten_line(self.alloc, self.part, read, write)?;
+            self.lines.push(line)?;
+        }
+        self.put_way(&against.way, INDENT)
+    }
+
+    /// Tells a step of this number that a way shows.
+    fn put_shown(
+        &mut self,
+        number: usize,
+        writes: (Access<'a>, Access<'a>),
+        way: &Way,
+    ) -> Result<(), AllocError> {
+        if let [_, _] = way.points.as_slice() {
+            let indent = format!(in self.alloc; "[{number}] ")?;
+            return self.put_way(way, &indent);
+        }
+        let line = shown_line(self.alloc, self.part, writes, number)?;
+        self.lines.push(line)?;
+        self.put_way(way, INDENT)
+    }
+
+    fn put_step(&mut self, number: usize, step: &Step<'a>) -> Result<(), AllocError> {
+        let told = self.number(number);
+        match &step.why {
+            StepWhy::Shown(way) => self.put_shown(told, step.writes, way),
+            StepWhy::Forced(against) => {
+                let line = forced_line(self.alloc, self.part, step.writes, told)?;
+                self.lines.push(line)?;
+                self.put_against(against)
+            }
+        }
+    }
+
+    /// Tells the steps that are needed.
+    fn put_steps(&mut self) -> Result<(), AllocError> {
+        let steps = self.steps;
+        for (number, step) in steps.iter().enumerate() {
+            if self.is_needed.get(number).copied().unwrap_or(false) {
+                self.put_step(number, step)?;
+            }
+        }
+        Ok(())
+    }
+
+    /// Tells two of which neither can commit first.
+    fn put_neither(
+        &mut self,
+        writes: (Access<'a>, Access<'a>),
+        not_first: &Against<'a>,
+        not_second: &Against<'a>,
+    ) -> Result<(), AllocError> {
+        let line = neither_line(self.alloc, self.part, writes)?;
+        self.lines.push(line)?;
+        let line = not_first_line(self.alloc, self.part, writes.0.node)?;
+        self.lines.push(line)?;
+        self.put_against(not_first)?;
+        let line = not_first_line(self.alloc, self.part, writes.1.node)?;
+        self.lines.push(line)?;
+        self.put_against(not_second)
+    }
+
+    /// The edges of the steps that are needed.
+    fn step_shape(&self) -> Shape {
+        let mut shape = NO_EDGES;
+        for (step, is_needed) in self.steps.iter().zip(&self.is_needed) {
+            if *is_needed {
+                shape = shape.with_way(self.graph, &step.way().points);
+            }
+        }
+        shape
+    }
+
+    /// The circle that would close if one of two committed first.
+    fn supposed(&self, against: &Against<'a>) -> Shape {
+        let shape = NO_EDGES.with_way(self.graph, &against.way.points);
+        match against.overwritten {
+            Some((read, write)) => shape.with(Why::Missed { read, write }),
+            None => shape.with(Why::Written { step: 0 }),
+        }
+    }
+
+    /// The name of what is told, where it has one.
+    fn name(&self, ending: &Ending<'a>) -> Option<&'static str> {
+        let orders = self.step_shape();
+        match ending {
+            Ending::Circle(way) => {
+                let shape = NO_EDGES.with_way(self.graph, &way.points);
+                Some(shape.with_orders(orders).name())
+            }
+            Ending::Neither {
+                not_first,
+                not_second,
+                ..
+            } => {
+                if self.is_lost_update(not_first, not_second) {
+                    return Some("lost update");
+                }
+                let either = self.supposed(not_first).or(self.supposed(not_second))?;
+                Some(either.with_orders(orders).name())
+            }
+        }
+    }
+
+    /// The only edge of a way, where it is one that misses a write: the read.
+    fn only_missed(&self, against: &Against<'a>) -> Option<Access<'a>> {
+        match against.way.points.as_slice() {
+            [from, to] => match self.graph.why(*from, *to) {
+                Some(Why::Missed { read, .. }) => Some(read),
+                _ => None,
+            },
+            _ => None,
+        }
+    }
+
+    /// Whether both read the same, and each overwrites it.
+    fn is_lost_update(&self, not_first: &Against<'a>, not_second: &Against<'a>) -> bool {
+        match (self.only_missed(not_first), self.only_missed(not_second)) {
+            (Some(one), Some(other)) => one.is_same(&other),
+            _ => false,
+        }
+    }
+
+    /// Tells all.
+    fn put_all(&mut self, ending: &Ending<'a>) -> Result<(), AllocError> {
+        match ending {
+            Ending::Circle(way) => self.need(way),
+            Ending::Neither {
+                not_first,
+                not_second,
+                ..
+            } => {
+                self.need(&not_first.way);
+                self.need(&not_second.way);
+            }
+        }
+        self.need_below();
+        self.put_steps()?;
+        match ending {
+            Ending::Circle(way) => self.put_way(way, ""),
+            Ending::Neither {
+                writes,
+                not_first,
+                not_second,
+            } => { self.put_neither(*writes, not_first, not_second) }
+        }
+    }
+}
+
+/// The step that an edge rests on.
+fn step_of(why: Why<'_>) -> Option<usize> {
+    why.step()
+}
+
+/// Tells what a part comes to.
+fn tell<'a>(
+    alloc: Global,
+    part: &Part<'a>,
+    graph: &Graph<'a>,
+    refuted: &Refuted<'a>,
+) -> Result<Told, AllocError> {
+    let mut telling = Telling {
+        alloc,
+        part,
+        graph,
+        steps: &refuted.steps,
+        is_needed: vec![in alloc; false; refuted.steps.len()]?,
+        lines: Vec::new(alloc),
+    };
+    telling.put_all(&refuted.ending)?;
+    Ok(Told {
+        known_as: telling.name(&refuted.ending),
+        lines: telling.lines,
+    })
+}
+
+/// Why a part of these sessions, whose outcomes are known, has no snapshot order, by these places of
+/// its transactions. `None` where circles and steps do not show it, as where only a search does.
+pub fn tell_snapshots(
+    alloc: Global,
+    sessions: &[Session],
+    places: &LogPlaces,
+) -> Result<Option<Told>, AllocError> {
+    let part = Part::of(alloc, sessions, places)?;
+    let ops = part.reads.len().saturating_add(part.writes.len());
+    if part.nodes.len() > MANY_NODES || ops > MANY_OPS {
+        return Ok(None);
+    }
+    let mut graph = known_edges(alloc, &part)?;
+    match refute(alloc, &part, &mut graph)? {
+        Some(refuted) => Ok(Some(tell(alloc, &part, &graph, &refuted)?)),
+        None => Ok(None),
+    }
+}

@@ -1,0 +1,273 @@
+#!/usr/bin/env python3
+"""told_points.py PROGRAM [CASES] [--seed N]: what `audit --explain` tells at levels of snapshots, line by line, against the log.
+
+Each log of examples/ and some hundred made ones, as tests/levels.py has them, are asked for both levels of snapshots. Of each refuted one
+each told line must be so in the log: the transactions, lines, keys, identities and moments that it names, and that it follows from them that
+the one point stands before the other. Each step must follow from lines and from earlier steps, and each must be named; what is told last must
+be a circle, or two that write a key of which neither can commit first. So no order is left. Nothing that is told may name a lock. `explain
+--level` must say the same. Last line: 'told points: N passed, M failed'."""
+import argparse, collections, concurrent.futures, os, re, sys
+
+HERE = os.path.dirname(os.path.abspath(__file__))
+sys.path.insert(0, HERE)
+import generate, levels, reference
+from certificates import call, must
+
+CASES, SEED, SHOWN = 600, 1, 20
+LANES = min(4, os.cpu_count())
+LEVELS = ('strict-snapshot', 'snapshot')
+BY_SEARCH = 'no order of their snapshots and commits is left: a search shows it'
+NAME, KEY, POINT = r'(\d+\.\d+)', r'([A-Za-z0-9_.:/-]+)', r"(\d+\.\d+)'s (snapshot|commit)"
+EDGE = re.compile('%s before %s: (.+)' % (POINT, POINT))
+READS = '%s reads %s (\\d+) \\(line (\\d+)\\)' % (NAME, KEY)
+BOTH = 'both write %s \\(lines (\\d+) and (\\d+)\\)' % KEY
+SHOWN_STEP = re.compile("\\[(\\d+)\\] (%s before %s: .+)" % (POINT, POINT))
+WAY_STEP = re.compile("\\[(\\d+)\\] %s's commit before %s's snapshot:" % (NAME, NAME))
+FORCED_STEP = re.compile("\\[(\\d+)\\] %s's commit before %s's snapshot: %s, and %s cannot commit first:" % (NAME, NAME, BOTH, NAME))
+NEITHER = re.compile('%s and %s %s, so one of them commits before the other takes its snapshot' % (NAME, NAME, BOTH))
+NOT_FIRST = re.compile('%s cannot commit first:' % NAME)
+WOULD = re.compile("    %s's snapshot would come before %s's commit: %s, and %s would overwrite it with (\\d+) \\(line (\\d+)\\)" % (NAME, NAME, READS, NAME))
+# Forms of reasons.
+WROTE = re.compile('%s, which %s wrote \\(line (\\d+)\\)' % (READS, NAME))
+LATER = re.compile('%s, which %s writes itself only later \\(line (\\d+)\\)' % (READS, NAME))
+OVERWRITES = re.compile('%s, and %s overwrites it with (\\d+) \\(line (\\d+)\\)' % (READS, NAME))
+INITIAL = re.compile('%s, the initial value, and %s wrote %s (\\d+) \\(line (\\d+)\\)' % (READS, NAME, KEY))
+BEHIND = re.compile('%s, which by \\[(\\d+)\\] comes before (\\d+), which %s wrote \\(line (\\d+)\\)' % (READS, NAME))
+MOMENTS = re.compile('%s ended at (\\d+) \\(line (\\d+)\\), %s began at (\\d+) \\(line (\\d+)\\)' % (NAME, NAME))
+SESSION, STEP = re.compile('session (\\d+)'), re.compile('by \\[(\\d+)\\]')
+WANTED = {'lost update', 'read skew (G-single)', 'circular information flow (G1c)', 'long fork (G-nonadjacent-item)', 'aborted read (G1a)',
+          'intermediate read (G1b)', 'stale read (G-single-realtime)', 'steps', 'neither', 'circle', 'session', 'moments'}
+
+
+class Log:
+    """A log by its lines, and the nodes by their names: committed and taken ones."""
+
+    def __init__(self, text):
+        self.sessions = reference.read_log(text)
+        self.lines = text.decode().split('\n')[:-1]
+        taken, line = reference.taken_of(self.sessions), 1 if reference.version_of(text) == 1 else 2
+        self.nodes, self.begins, self.reads, self.writes = {}, {}, {}, {}
+        for number, its in self.sessions:
+            line += 1
+            for place, it in enumerate(its, 1):
+                name = '%d.%d' % (number, place)
+                self.nodes[name] = it if it.outcome == 'commit' or (number, place) in taken else None
+                self.begins[name], wrote = line, set()
+                for at, (kind, key, wid) in enumerate(it.ops, line + 1):
+                    if kind == 'w':
+                        wrote.add(key)
+                        self.writes[name, key, wid] = at
+                    elif key not in wrote:
+                        self.reads.setdefault((name, key, wid), at)
+                line += len(it.ops) + 2
+
+    def must_read(self, name, key, wid, line):
+        must(self.nodes[name] and self.reads.get((name, key, int(wid))) is not None, '%s does not read %s %s from its snapshot' % (name, key, wid))
+        must(self.lines[int(line) - 1] == 'r %s %s' % (key, wid) and self.begins[name] < int(line), 'line %s is another one' % line)
+
+    def must_write(self, name, key, wid, line):
+        must(self.nodes[name] and self.writes.get((name, key, int(wid))) == int(line), '%s does not write %s %s in line %s' % (name, key, wid, line))
+
+    def must_both(self, one, other, key, line, line_of_other):
+        for name, at in ((one, line), (other, line_of_other)):
+            must(any(self.nodes[name] and it[:2] == (name, key) and number == int(at) for it, number in self.writes.items()),
+                 '%s does not write %s in line %s' % (name, key, at))
+
+    def wrote(self, key, wid):
+        """Who wrote this version: one of the nodes."""
+        return next((name for name, k, w in self.writes if (k, w) == (key, int(wid)) and self.nodes[name]), None)
+
+
+class Telling:
+    """What is told of a part, read from the first line to the last."""
+
+    def __init__(self, log, names, lines, level):
+        self.log, self.names, self.left, self.level = log, names, list(lines), level
+        self.steps, self.named, self.met = {}, set(), set()
+
+    def edge(self, line):
+        """The two points of a line, each a name and 'snapshot' or 'commit'; the line must be so."""
+        found = EDGE.fullmatch(line)
+        must(found, 'no edge: %r' % line)
+        one, kind, other, kind_of_other, reason = found.groups()
+        must(one in self.names and other in self.names, 'of others: %r' % line)
+        self.reason((one, kind), (other, kind_of_other), reason)
+        return (one, kind), (other, kind_of_other)
+
+    def reason(self, one, other, reason):
+        log, shape = self.log, (one[1], other[1])
+        if found := WROTE.fullmatch(reason) or LATER.fullmatch(reason):
+            reader, key, wid, line, writer, at = found.groups()
+            log.must_read(reader, key, wid, line), log.must_write(writer, key, wid, at)
+            is_right = (writer, reader) == (one[0], other[0]) and shape == ('commit', 'snapshot')
+            must((reader == writer) == bool(LATER.fullmatch(reason)), reason)
+        elif found := OVERWRITES.fullmatch(reason):
+            reader, key, wid, line, writer, new, at = found.groups()
+            log.must_read(reader, key, wid, line), log.must_write(writer, key, new, at)
+            is_right = (reader, writer) == (one[0], other[0]) and shape == ('snapshot', 'commit') and reader != writer
+            must((writer, key, int(wid)) in log.reads, '%s does not read %s %s: %r' % (writer, key, wid, reason))
+        elif found := INITIAL.fullmatch(reason):
+            reader, key, wid, line, writer, again, new, at = found.groups()
+            log.must_read(reader, key, wid, line), log.must_write(writer, again, new, at)
+            is_right = (reader, writer, wid, key) == (one[0], other[0], '0', again) and shape == ('snapshot', 'commit') and reader != writer
+        elif found := BEHIND.fullmatch(reason):
+            reader, key, wid, line, step, new, writer, at = found.groups()
+            log.must_read(reader, key, wid, line), log.must_write(writer, key, new, at)
+            is_right = (reader, writer) == (one[0], other[0]) and shape == ('snapshot', 'commit') and reader != writer
+            must(self.step(step) == (log.wrote(key, wid), writer), 'step %s says something else: %r' % (step, reason))
+        elif found := MOMENTS.fullmatch(reason):
+            first, ended, line, second, begun, at = found.groups()
+            must(self.level.startswith('strict') and int(ended) < int(begun), reason)
+            must(log.nodes[first].ended == int(ended) and log.lines[int(line) - 1] == 'commit ' + ended, reason)
+            must(log.nodes[second].begun == int(begun) and int(at) == log.begins[second], reason)
+            is_right = (first, second) == (one[0], other[0]) and shape == ('commit', 'snapshot')
+            self.met.add('moments')
+        elif found := SESSION.fullmatch(reason):
+            (number, place), (again, later) = one[0].split('.'), other[0].split('.')
+            is_right = number == again == found[1] and int(place) < int(later) and shape == ('commit', 'snapshot')
+            self.met.add('session')
+        else:
+            found = STEP.fullmatch(reason)
+            must(found, 'no reason: %r' % reason)
+            is_right = self.step(found[1]) == (one[0], other[0]) and shape == ('commit', 'snapshot')
+        must(is_right, 'that does not follow: %s before %s: %s' % (one, other, reason))
+
+    def step(self, number):
+        must(number in self.steps, 'step %s is not told before' % number)
+        self.named.add(number)
+        return self.steps[number]
+
+    def way(self, indent):
+        """The first and the last point of the edges that stand next, each of which begins where the one before it ends, or at that node's
+        commit where that is its snapshot."""
+        first = last = None
+        while self.left and self.left[0].startswith(indent) and EDGE.fullmatch(self.left[0][len(indent):]):
+            one, other = self.edge(self.left.pop(0)[len(indent):])
+            must(last is None or self.leads(last, one), 'no way leads from %s to %s' % (last, one))
+            first, last = first or one, other
+        must(first, 'no edge at %r' % self.left[:1])
+        return first, last
+
+    @staticmethod
+    def leads(one, other):
+        return one == other or one[0] == other[0] and (one[1], other[1]) == ('snapshot', 'commit')
+
+    def not_first(self, node, other):
+        """Why a node cannot commit before another takes its snapshot."""
+        found = WOULD.fullmatch(self.left[0])
+        if not found:
+            first, last = self.way('    ')
+            must(self.leads((other, 'snapshot'), first) and self.leads(last, (node, 'commit')), 'this leads from %s to %s' % (first, last))
+            return
+        self.left.pop(0)
+        reader, writer, again, key, wid, line, writer_again, new, at = found.groups()
+        self.log.must_read(reader, key, wid, line), self.log.must_write(other, key, new, at)
+        must(reader == again and writer == writer_again == other and self.log.wrote(key, wid) == node and reader not in (node, other), found[0])
+        first, last = self.way('    ')
+        must(self.leads((other, 'commit'), first) and self.leads(last, (reader, 'snapshot')), 'this leads from %s to %s' % (first, last))
+
+    def told_steps(self):
+        while self.left and self.left[0].startswith('['):
+            line = self.left.pop(0)
+            if found := FORCED_STEP.fullmatch(line):
+                number, first, second, key, at, at_second, again = found.groups()
+                self.log.must_both(first, second, key, at, at_second)
+                must(again == second, line)
+                self.not_first(second, first)
+            elif found := WAY_STEP.fullmatch(line):
+                number, first, second = found.groups()
+                one, other = self.way('    ')
+                must(self.leads(one, (first, 'commit')) and (first, second) == (one[0], other[0]) and self.leads(other, (second, 'snapshot')), line)
+            else:
+                found = SHOWN_STEP.fullmatch(line)
+                must(found, 'no step: %r' % line)
+                number, (one, other) = found[1], self.edge(found[2])
+                must((one[1], other[1]) == ('commit', 'snapshot'), line)
+                first, second = one[0], other[0]
+            must(int(number) == len(self.steps) + 1, 'the number of %r' % line)
+            self.steps[number] = first, second
+            self.met.add('steps')
+
+    def all(self):
+        self.told_steps()
+        if found := NEITHER.fullmatch(self.left[0]):
+            self.left.pop(0)
+            one, other, key, at, at_other = found.groups()
+            self.log.must_both(one, other, key, at, at_other)
+            for node, against in ((one, other), (other, one)):
+                found = NOT_FIRST.fullmatch(self.left.pop(0))
+                must(found and found[1] == node, '%s cannot commit first is not said' % node)
+                self.not_first(node, against)
+            self.met.add('neither')
+        else:
+            first, last = self.way('')
+            must(self.leads(last, first), 'no circle: from %s to %s' % (first, last))
+            self.met.add('circle')
+        must(self.named == set(self.steps), 'steps that nothing names: %r' % (set(self.steps) - self.named))
+        if self.left:
+            found = re.fullmatch('known as: (.+)', self.left.pop(0))
+            must(found and not self.left, 'lines are left: %r' % self.left)
+            self.met.add(found[1])
+
+
+def told(program, text, level):
+    """What is met of what is told of a log; nothing where the level is kept."""
+    status, said, error = call(program, 'audit', '--explain', '--only', '--at-least', '0', '--level', level, text=text)
+    if status != 1:
+        return set()
+    must(error == '', error)
+    lines = said.split('\n')
+    names = set(re.findall(NAME + ' \\(lines', lines[2]))
+    why = lines[3:next(at for at, line in enumerate(lines) if line.startswith('sessions '))]
+    log, code = Log(text), lines[1].split(': ')[1].split(' ')[0]
+    keys = {key for _, key, _ in list(log.reads) + list(log.writes)}
+    must(all('_' + key not in line for line in why for key in keys), 'a lock is told: %r' % why)
+    again = call(program, 'explain', '--level', level, text=text)[1]
+    must(again.split('\n')[1:3 + len(why)] == lines[1:3 + len(why)] or not log.nodes, '`explain --level` says something else: %r' % again)
+    try:
+        if why[0] == BY_SEARCH:
+            must(why[1] == 'why they have no serial order either:' and not any('(G2-' in line for line in why), 'told: %r' % why)
+            return {'by a search'}
+        if re.fullmatch('A[1-6]', code):
+            for wid, line in re.findall(r'reads? %s (\d+)(?: before)? \(line (\d+)\)' % KEY[1:-1], '\n'.join(why)):
+                must(log.lines[int(line) - 1].split(' ')[::2] == ['r', wid], 'line %s is another one: %r' % (line, why))
+            return {line[len('known as: '):] for line in why if line.startswith('known as: ')} | {code}
+        telling = Telling(log, names, why, level)
+        telling.all()
+        return telling.met
+    except Exception as wrong:
+        raise type(wrong)('%s: %s in\n%s' % (level, wrong, '\n'.join(why)))
+
+
+def judged(job):
+    program, name, text = job
+    try:
+        return None, set().union(*(told(program, text, level) for level in LEVELS))
+    except Exception as wrong:
+        return '%s: %s: %s' % (name, type(wrong).__name__, wrong), set()
+
+
+def main():
+    words = argparse.ArgumentParser(description=__doc__, formatter_class=argparse.RawDescriptionHelpFormatter)
+    words.add_argument('program', metavar='PROGRAM', help='the program, cobra_poly')
+    words.add_argument('cases', metavar='CASES', type=int, nargs='?', default=CASES, help='how many made logs (%(default)s)')
+    words.add_argument('--seed', type=int, default=SEED, help='from which number they are made (%(default)s)')
+    words = words.parse_args()
+    texts = list(generate.examples((1, 2, 3)))
+    texts += [('made log %d' % seed, levels.made_text(seed)) for seed in range(words.seed, words.seed + words.cases)]
+    program, faults, met = os.path.abspath(words.program), [], collections.Counter()
+    with concurrent.futures.ProcessPoolExecutor(LANES) as pool:
+        for fault, what in pool.map(judged, [(program, name, text) for name, text in texts], chunksize=10):
+            met.update(what)
+            faults += [] if fault is None else [fault]
+    missing = sorted(WANTED - set(met))
+    faults += ['nothing met: %s' % ', '.join(missing)] if missing and words.cases >= CASES else []
+    for fault in faults[:SHOWN]:
+        print('FAILED', fault)
+    print('told points: met in so many logs: %s' % '; '.join('%s %d' % it for it in met.most_common()))
+    print('told points: %d passed, %d failed' % (len(texts) - len(faults), len(faults)))
+    return 1 if faults else 0
+
+
+if __name__ == '__main__':
+    sys.exit(main())
