@@ -26,13 +26,13 @@ seen_before ops back j o lt e at =
     let next : suc j ≡ length ops - back = omega (arith, lt, e) in
     ap (λ n. seen (drop n ops)) here ∙ ap seen (get_drop ops j o at) ∙ ap (λ n. o.now ∷ seen (drop n ops)) next
 
-one_reversed : (before : Held) (key : List ℕ) (o : Option ℕ) → reverse (open_ops before (read_held key o)) ≡ open_ops before (read_held key o)
-one_reversed before key None = refl
-one_reversed before key (Some wid) = refl
+one_reversed : (key : List ℕ) (o : Option ℕ) → reverse (read_held key o) ≡ read_held key o
+one_reversed key None = refl
+one_reversed key (Some wid) = refl
 
-pub read_added : (before behind : Held) (old new : List Op) (key : List ℕ) (wid : ℕ) (rest : List Op) → list_any (writes_key key) rest ≡ false → new ≡ old ++ open_ops before (read_held key (behind key)) → reverse old ≡ open_ops before (closing behind rest)
-    → reverse new ≡ open_ops before (closing behind (Write key wid ∷ rest))
-read_added before behind old new key wid rest none is h = grind (arith, reverse-append, one_reversed, map-append)
+pub read_added : (behind : Held) (old new : List Op) (key : List ℕ) (wid : ℕ) (rest : List Op) → list_any (writes_key key) rest ≡ false → new ≡ old ++ read_held key (behind key) → reverse old ≡ closing behind rest
+    → reverse new ≡ closing behind (Write key wid ∷ rest)
+read_added behind old new key wid rest none is h = grind (arith, reverse-append, one_reversed)
 
 pub read_known : (behind : Held) (key : List ℕ) (wid : ℕ) (rest : List Op) → list_any (writes_key key) rest ≡ true → closing behind rest ≡ closing behind (Write key wid ∷ rest)
 read_known behind key wid rest some = (let at : closing behind (Write key wid ∷ rest) ≡ closing behind rest = rw some refl in sym at)

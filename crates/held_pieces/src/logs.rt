@@ -6,6 +6,7 @@ ghost use Rattle.piece_laws.specs.Held.{exchanged, open_op, open_ops, closing, r
 ghost use Rattle.piece_laws.specs.Logs.{open_txn, committed_reads};
 ghost use Rattle.cutting.specs.Parts.{part_view};
 ghost use Rattle.held_pieces.specs.Ops.{seen};
+ghost use Rattle.held_pieces.specs.Pieces.{end_of};
 ghost use Rattle.held_pieces.specs.Kept.{held_of, session_of};
 
 use crate::ops::ops_of_txns;
@@ -98,14 +99,12 @@ fn add_read(
     alloc: Global,
     reads: &mut Vec<Op>,
     key: &Key,
-    before: &BTreeMap<Key, u64>,
     behind: &BTreeMap<Key, u64>,
 ) -> Result<(), AllocError>
-    ensures { OnOk result (reads.new.items ≡ reads.old.items ++ open_ops (held_of before.now)
-        (read_held key.now (held_of behind.now key.now))) }
+    ensures { OnOk result (reads.new.items ≡ reads.old.items
+        ++ read_held key.now (held_of behind.now key.now)) }
 {
     if let Some(wid) = held_in(behind, key) {
-        let wid = exchanged(held_in(before, key), wid);
         let key = key.to_owned_key(alloc)?;
         reads.push(Op::Read { key, wid })?;
     }
@@ -116,11 +115,9 @@ fn add_read(
 fn last_reads<'a>(
     alloc: Global,
     ops: &[&'a Op],
-    before: &BTreeMap<Key, u64>,
     behind: &BTreeMap<Key, u64>,
 ) -> Result<Vec<Op>, AllocError>
-    ensures { IfOk result (λ reads. reads.items ≡ open_ops (held_of before.now)
-        (closing (held_of behind.now) (seen ops.now))) }
+    ensures { IfOk result (λ reads. reads.items ≡ closing (held_of behind.now) (seen ops.now)) }
 {
     let mut reads = Vec::new(alloc);
     let mut done = BTreeSet::new(alloc);
@@ -129,12 +126,24 @@ fn last_reads<'a>(
         if let Op::Write { key, .. } = op {
             if !done.contains(&key) {
                 done.insert(key)?;
-                add_read(alloc, &mut reads, key, before, behind)?;
+                add_read(alloc, &mut reads, key, behind)?;
             }
         }
     }
     reads.reverse();
     Ok(reads)
+}
+
+/// What is read at the end of a part.
+pub fn end_of(
+    alloc: Global,
+    part: &Part,
+    behind: &BTreeMap<Key, u64>,
+) -> Result<Vec<Op>, AllocError>
+    ensures { IfOk result (λ reads. reads.items ≡ end_of (held_of behind.now) (part_view part.now)) }
+{
+    let ops = ops_of_txns(alloc, part.txns)?;
+    last_reads(alloc, &ops, behind)
 }
 
 /// Adds a last transaction of these reads, where there are any.
@@ -163,8 +172,8 @@ pub fn session_of(
     ensures { IfOk result (λ session. view session ≡ session_of (held_of before.now)
         (held_of behind.now) (part_view part.now)) }
 {
-    let ops = ops_of_txns(alloc, part.txns)?;
-    let reads = last_reads(alloc, &ops, before, behind)?;
+    let reads = end_of(alloc, part, behind)?;
+    let reads = opened_ops(alloc, &reads, before)?;
     let mut txns = opened_txns(alloc, part.txns, before)?;
     add_last(&mut txns, reads)?;
     Ok(Session {
