@@ -88,7 +88,7 @@ impl<'a> Pieces<'a> {
 
 /// Those that have transactions.
 fn some_of<'a>(alloc: Global, kept: Vec<Kept<'a>>) -> Result<Vec<Kept<'a>>, AllocError>
-    ensures { IfOk result (λ some. map kept_view some.items ≡ some_of (map kept_view kept.items)) }
+    ensures { IfOk result (λ some. map kept_view some.items ≡ some_of (map kept_view kept.entry.items)) }
 {
     let mut some = Vec::with_capacity(alloc, kept.len())?;
     for it in kept {
