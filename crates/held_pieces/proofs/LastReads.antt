@@ -10,11 +10,11 @@ use Rattle.std.proofs.lemmas.List.{map-append, reverse-append}
 use Rattle.std.proofs.lemmas.Slice.Eq.{bytes_eq-Decides}
 use Rattle.session_log.specs.Text.{ClientSession, Transaction}
 use Rattle.session_log.specs.declared.session.Op.{Op}
-use Rattle.session_log.specs.declared.session.Op.TheVariants.{Write}
+use Rattle.session_log.specs.declared.session.Op.TheVariants.{Read, Write}
 use Rattle.piece_laws.specs.Held.{Held, open_ops, read_held, writes_key, closing}
 use Rattle.piece_laws.specs.Logs.{open_txn, opened, committed_reads, closed}
 use Rattle.cutting.proofs.Views.{get_drop}
-use Rattle.held_pieces.specs.Ops.{seen}
+use Rattle.held_pieces.specs.Ops.{seen, reads_of}
 use Rattle.held_pieces.specs.Kept.{session_of}
 use Rattle.held_pieces.proofs.Steps.{ref_cmp, is_key}
 use denote.Ref.{Bor}
@@ -25,6 +25,19 @@ seen_before ops back j o lt e at =
     let here : length ops - (back + 1) ≡ j = omega (arith, lt, e) in
     let next : suc j ≡ length ops - back = omega (arith, lt, e) in
     ap (λ n. seen (drop n ops)) here ∙ ap seen (get_drop ops j o at) ∙ ap (λ n. o.now ∷ seen (drop n ops)) next
+
+-- the reads of a list that is reversed
+map_append : {X Y : Type 0} (f : X → Y) (xs ys : List X) → map f (xs ++ ys) ≡ map f xs ++ map f ys
+map_append f [] ys = refl
+map_append f (x ∷ xs) ys = ap (λ l. f x ∷ l) (map_append f xs ys)
+
+pub reads_reversed : (reads : List (ℕ × Bor (List ℕ))) → reads_of (reverse reads) ≡ reverse (reads_of reads)
+reads_reversed [] = refl
+reads_reversed (r ∷ reads) =
+    ap reads_of (reverse-append (r ∷ []) reads)
+    ∙ map_append (λ (r : ℕ × Bor (List ℕ)). Read r.1.now r.0) (reverse reads) (r ∷ [])
+    ∙ ap (λ l. l ++ Read r.1.now r.0 ∷ []) (reads_reversed reads)
+    ∙ sym (reverse-append (Read r.1.now r.0 ∷ []) (reads_of reads))
 
 one_reversed : (key : List ℕ) (o : Option ℕ) → reverse (read_held key o) ≡ read_held key o
 one_reversed key None = refl

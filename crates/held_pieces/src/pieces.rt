@@ -4,13 +4,14 @@ ghost use Rattle.std.specs.Prelude.{◌≡◌, ◌<◌, Some, IfOk, length, map,
 ghost use Rattle.session_log.specs.Text.{view};
 ghost use Rattle.piece_laws.specs.Logs.{IsSoundLog, IsLearntLog};
 ghost use Rattle.cutting.specs.Parts.{part_view, parts_view};
+ghost use Rattle.held_pieces.specs.Ops.{reads_of};
 ghost use Rattle.held_pieces.specs.Pieces.{ArePieces, held_in, end_of, log_of, some_of};
 ghost use Rattle.held_pieces.specs.Kept.{kept_view};
 
 use crate::keeping::{Kept, keep};
 use crate::logs::{end_of, session_of};
 use cutting::{Part, cut};
-use session_log::{Op, Session};
+use session_log::{Key, Session};
 use std::alloc::{AllocError, Global};
 use std::marker::Model;
 
@@ -75,12 +76,17 @@ impl<'a> Pieces<'a> {
         &self.kept[piece].parts
     }
 
-    /// What is read at the end of a part, if it is one of the piece: the reads of the whole log for
-    /// which the last transaction of its session in the piece's log stands.
-    pub fn end(&self, alloc: Global, piece: usize, part: &Part) -> Result<Vec<Op>, AllocError>
+    /// What is read at the end of a part, if it is one of the piece: by identities and keys, the
+    /// reads of the whole log for which the last transaction in the piece's log stands.
+    pub fn end(
+        &self,
+        alloc: Global,
+        piece: usize,
+        part: &Part<'a>,
+    ) -> Result<Vec<(u64, &'a Key)>, AllocError>
         requires { piece < length self.now }
         ensures end { IfOk result (λ reads. (p : _) → slice_get self.now piece ≡ Some p
-            → reads.items ≡ end_of (held_in p.behind) (part_view part.now)) }
+            → reads_of reads.items ≡ end_of (held_in p.behind) (part_view part.now)) }
     {
         end_of(alloc, part, &self.kept[piece].behind)
     }

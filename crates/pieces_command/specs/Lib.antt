@@ -1,5 +1,4 @@
 pub mod Folders
 pub mod Faults
-pub mod Lines
-pub mod Maps
+pub mod Files
 pub mod Told

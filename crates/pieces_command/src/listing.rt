@@ -7,7 +7,7 @@ ghost use Rattle.log_definitions.specs.Unknown.{txns_in};
 ghost use Rattle.cutting.specs.Parts.{parts_view};
 ghost use Rattle.held_pieces.specs.Pieces.{HeldPiece};
 ghost use Rattle.long_log_definitions.specs.LongLog.{IsLongLogFault};
-ghost use Rattle.pieces_command.specs.Maps.{piece_text};
+ghost use Rattle.piece_maps.specs.Maps.{piece_text};
 ghost use Rattle.pieces_command.specs.Told.{AreNodes, line_of, lines_from, IsList, IsPieceText};
 ghost use Rattle.pieces_command.specs.Told.{IsNoPiece, IsTold, IsListUntold, IsPieceUntold};
 
@@ -17,7 +17,7 @@ use cutting::Part;
 use desk::seat_no::Workers;
 use dimacs::{Sink, write_all};
 use held_pieces::Pieces;
-use itoa::Buffer;
+use piece_maps::{put_number, sum};
 use session_log::{LogFault, Outcome, Txn, print_log};
 use std::alloc::{AllocError, Global};
 use std::thread::Threads;
@@ -27,13 +27,6 @@ use std::thread::Threads;
 pub struct NodeCounts {
     pub nodes: usize,
     pub operations: usize,
-}
-
-/// A sum, which is told as want of memory where it is too large for any.
-pub fn sum(one: usize, other: usize) -> Result<usize, AllocError>
-    ensures { IfOk result (λ sum. sum ≡ one + other) }
-{
-    one.checked_add(other).ok_or(AllocError)
 }
 
 impl NodeCounts {
@@ -76,16 +69,6 @@ impl NodeCounts {
         }
         Ok(counts)
     }
-}
-
-/// Appends a number and a byte.
-pub fn put_number(out: &mut Vec<u8>, number: usize, behind: u8) -> Result<(), AllocError>
-    ensures { OnOk result (out.new.items ≡ out.old.items ++ (decimal number ++ behind ∷ [])) }
-{
-    let mut digits = Buffer::new();
-    out.extend_from_slice(digits.format(number).as_bytes())?;
-    out.push(behind)?;
-    Ok(())
 }
 
 /// Appends the line of a piece.

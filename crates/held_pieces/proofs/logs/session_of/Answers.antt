@@ -3,6 +3,7 @@ use Rattle.session_log.specs.Text.{ClientSession, view_txn}
 use Rattle.piece_laws.specs.Held.{open_ops}
 use Rattle.piece_laws.specs.Logs.{open_txn, committed_reads}
 use Rattle.cutting.specs.Parts.{part_view}
+use Rattle.held_pieces.specs.Ops.{reads_of}
 use Rattle.held_pieces.specs.Pieces.{end_of}
 use Rattle.held_pieces.specs.Kept.{held_of}
 use Rattle.held_pieces.proofs.LastReads.{txns_joined}
@@ -14,7 +15,7 @@ returns c =
     let behind = held_of c.args.behind.now in
     let txns = map view_txn c.args.part.now.txns.now in
     let end = end_of behind (part_view c.args.part.now) in
-    let reads = c.in_ok-reads-2.ensures ∙ ap (open_ops before) (c.deref.ensures.value ∙ c.in_ok-reads.ensures) in
+    let reads = c.in_ok-reads-2.ensures ∙ ap (open_ops before) (ap reads_of c.deref.ensures.value ∙ c.in_ok-reads.ensures) in
     let all =
     c.in_ok-add_last.ensures
     ∙ ap (λ l. l ++ committed_reads c.in_ok-reads-2.reads.items) c.in_ok-txns.ensures

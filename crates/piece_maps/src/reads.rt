@@ -4,11 +4,11 @@ ghost use Rattle.std.specs.Prelude.{◌≡◌, map, IfOk, OnOk};
 ghost use Rattle.session_log.specs.Text.{view_txn};
 ghost use Rattle.cutting.specs.Parts.{parts_view};
 ghost use Rattle.held_pieces.specs.Reigns.{last_in};
-ghost use Rattle.pieces_command.specs.Lines.{lines_in, no_lines, no_reads, passed_by, with_ops};
-ghost use Rattle.pieces_command.specs.Lines.{with_txn, with_txns, with_piece, with_pieces};
+ghost use Rattle.piece_maps.specs.Lines.{lines_in, no_lines, no_reads, passed_by, with_ops};
+ghost use Rattle.piece_maps.specs.Lines.{with_txn, with_txns, with_piece, with_pieces};
 
 use crate::lines::{LineTable, goes_on, pass, txn_lines};
-use crate::listing::sum;
+use crate::numbers::sum;
 use cutting::Part;
 use held_pieces::Pieces;
 use session_log::{Key, Op, Outcome, Txn};

@@ -3,10 +3,10 @@
 ghost use Rattle.std.specs.Prelude.{◌≡◌, ◌+◌, ◌^◌, length, map, vec_len, IfOk, OnOk};
 ghost use Rattle.session_log.specs.Text.{view, view_txn, txn_lines};
 ghost use Rattle.cutting.specs.Parts.{part_view};
-ghost use Rattle.pieces_command.specs.Lines.{lines_in, no_lines, with_line, heads_from, count_in};
-ghost use Rattle.pieces_command.specs.Lines.{goes_on};
+ghost use Rattle.piece_maps.specs.Lines.{lines_in, no_lines, with_line, heads_from, count_in};
+ghost use Rattle.piece_maps.specs.Lines.{goes_on};
 
-use crate::listing::sum;
+use crate::numbers::sum;
 use cutting::Part;
 use session_log::{Session, Txn};
 use std::alloc::{AllocError, Global};

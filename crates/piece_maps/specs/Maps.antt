@@ -1,5 +1,5 @@
--- The files of pieces: the log of each, and its map into the whole log.
-use Rattle.std.specs.Prelude.{ℕ, ◌+◌, ◌-◌, List, [], ◌∷◌, ◌++◌, length, codes, decimal, replicate}
+-- The log of a piece as text, and its map into the whole log: for each line of it a line.
+use Rattle.std.specs.Prelude.{◌≡◌, ℕ, ◌+◌, List, [], ◌∷◌, ◌++◌, codes, decimal}
 use Rattle.std.specs.List.{flat_map, range_with_len}
 use Rattle.session_log.specs.Text.{ClientSession, log_text, least_version}
 use Rattle.session_log.specs.declared.session.Op.{Op}
@@ -8,16 +8,17 @@ use Rattle.session_log.specs.declared.version.Version.{Version}
 use Rattle.session_log.specs.declared.version.Version.TheVariants.{One, Two, Three}
 use Rattle.piece_laws.specs.Held.{Held}
 use Rattle.held_pieces.specs.Pieces.{HeldPiece, held_in, end_of, log_of}
-use Rattle.pieces_command.specs.Folders.{File}
-use Rattle.pieces_command.specs.Lines.{Lines, Reads, no_lines, no_reads, heads_from, count_in}
-use Rattle.pieces_command.specs.Lines.{passed_by, with_line, goes_on, with_pieces}
+use Rattle.held_pieces.specs.Reigns.{last_in}
+use Rattle.piece_maps.specs.declared.maps.Placed.{Placed}
+use Rattle.piece_maps.specs.Lines.{Lines, Reads, lines_in, no_lines, no_reads, count_in, with_line}
+use Rattle.piece_maps.specs.Lines.{goes_on, with_pieces}
 
 -- the text of a piece's log
 abbrev pub piece_text : HeldPiece → List ℕ
 piece_text p = log_text (least_version (log_of p)) (log_of p)
 
--- ---- a map: for each line of the piece's log a line
--- that of the whole log which stands there
+-- ---- a map
+-- the line of the whole log that stands there
 abbrev pub map_line : ℕ → List ℕ
 map_line line = decimal line ++ 10 ∷ []
 
@@ -59,33 +60,13 @@ abbrev pub piece_map : Lines → Reads → Lines → HeldPiece → List ℕ
 piece_map heads reads passed p = map_header (least_version (log_of p))
     ++ map_sessions heads reads passed (held_in p.behind) p.sessions
 
--- ---- files
--- the number of one of so many pieces, with as many digits as the last one has
-abbrev pub file_number : ℕ → ℕ → List ℕ
-file_number count number = replicate (length (decimal count) - length (decimal number)) 48
-    ++ decimal number
+-- ---- as they are placed
+abbrev pub heads_of : Placed → Lines
+heads_of it = lines_in it.heads.lines.items
 
-abbrev pub log_file : ℕ → ℕ → HeldPiece → File
-log_file count number p = (file_number count number ++ codes ".log", piece_text p)
+abbrev pub last_reads_of : Placed → Reads
+last_reads_of it = last_in it.reads
 
-abbrev pub map_file : ℕ → ℕ → Lines → Reads → Lines → HeldPiece → File
-map_file count number heads reads passed p =
-    (file_number count number ++ codes ".map", piece_map heads reads passed p)
-
-abbrev pub piece_files : ℕ → ℕ → Lines → Reads → Lines → HeldPiece → List File
-piece_files count number heads reads passed p =
-    log_file count number p ∷ map_file count number heads reads passed p ∷ []
-
--- those of pieces, the first of which has this number
-abbrev pub files_from : ℕ → ℕ → Lines → Reads → Lines → List HeldPiece → List File
-files_from count number heads reads passed [] = []
-files_from count number heads reads passed (p ∷ ps) =
-    piece_files count number heads reads passed p
-    ++ files_from count (number + 1) heads reads (passed_by p.sessions passed) ps
-
--- those of all pieces of sessions, the first of which begins at this line of the whole log
-abbrev pub files_by : Lines → List HeldPiece → List File
-files_by heads ps = files_from (length ps) 1 heads (with_pieces heads no_lines ps no_reads) no_lines ps
-
-abbrev pub files_of : ℕ → List ClientSession → List HeldPiece → List File
-files_of line ss ps = files_by (heads_from line ss no_lines) ps
+-- the reads are the last ones of its pieces
+abbrev pub AreLastReads : Placed → Type 0
+AreLastReads it = last_reads_of it ≡ with_pieces (heads_of it) no_lines it.pieces no_reads

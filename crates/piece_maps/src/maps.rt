@@ -1,20 +1,24 @@
 //! The map of a piece: for each line of its log that of the whole log.
 
-ghost use Rattle.std.specs.Prelude.{◌≡◌, ◌++◌, ◌<◌, Some, length, slice_get, IfOk, OnOk};
-ghost use Rattle.session_log.specs.Version.{version_of};
+ghost use Rattle.std.specs.Prelude.{◌≡◌, ◌++◌, ◌<◌, Some, length, map, slice_get, IfOk, OnOk};
 ghost use Rattle.std.specs.List.{flat_map};
+ghost use Rattle.session_log.specs.Text.{view};
 ghost use Rattle.cutting.specs.Parts.{part_view, parts_view};
 ghost use Rattle.held_pieces.specs.Pieces.{HeldPiece, held_in};
+ghost use Rattle.session_log.specs.declared.session.Op.TheVariants.{Read};
+ghost use Rattle.held_pieces.specs.Ops.{reads_of};
 ghost use Rattle.held_pieces.specs.Reigns.{last_in};
-ghost use Rattle.pieces_command.specs.Lines.{lines_in, passed_by};
-ghost use Rattle.pieces_command.specs.Maps.{map_line, no_line, map_header, map_lines, map_read};
-ghost use Rattle.pieces_command.specs.Maps.{map_end, map_session, map_sessions, piece_text, piece_map};
+ghost use Rattle.piece_maps.specs.Lines.{lines_in, no_lines, heads_from, passed_by};
+ghost use Rattle.piece_maps.specs.Maps.{map_line, no_line, map_header, map_lines, map_read};
+ghost use Rattle.piece_maps.specs.Maps.{map_end, map_session, map_sessions, piece_text, piece_map};
+ghost use Rattle.piece_maps.specs.Maps.{heads_of, last_reads_of, AreLastReads};
 
-use crate::lines::{LineTable, count_in, goes_on, pass};
-use crate::listing::{put_number, sum};
+use crate::lines::{LineTable, count_in, goes_on, heads, pass};
+use crate::numbers::{put_number, sum};
+use crate::reads::reads_of;
 use cutting::Part;
 use held_pieces::Pieces;
-use session_log::{Key, Op, Version};
+use session_log::{Key, Session, Version};
 use std::alloc::{AllocError, Global};
 use std::collections::BTreeMap;
 
@@ -56,49 +60,71 @@ fn put_lines(out: &mut Vec<u8>, first: usize, count: usize) -> Result<(), AllocE
     Ok(())
 }
 
-fn put_read(
+fn put_read<'a>(
     out: &mut Vec<u8>,
-    reads: &BTreeMap<(u64, &Key), usize>,
-    op: &Op,
+    reads: &BTreeMap<(u64, &'a Key), usize>,
+    read: &(u64, &'a Key),
 ) -> Result<(), AllocError>
-    ensures { OnOk result (out.new.items ≡ out.old.items ++ map_read (last_in reads.now) op.now) }
+    ensures { OnOk result (out.new.items ≡ out.old.items
+        ++ map_read (last_in reads.now) (Read read.now.1.now read.now.0)) }
 {
-    let (Op::Read { key, wid } | Op::Write { key, wid }) = op;
-    put_line(out, reads.get(&(*wid, key)).copied().unwrap_or(0))
+    put_line(out, reads.get(read).copied().unwrap_or(0))
 }
 
-fn put_reads(
+fn put_reads<'a>(
     out: &mut Vec<u8>,
-    reads: &BTreeMap<(u64, &Key), usize>,
-    ops: &[Op],
+    reads: &BTreeMap<(u64, &'a Key), usize>,
+    end: &[(u64, &'a Key)],
 ) -> Result<(), AllocError>
     ensures { OnOk result (out.new.items
-        ≡ out.old.items ++ flat_map (map_read (last_in reads.now)) ops.now) }
+        ≡ out.old.items ++ flat_map (map_read (last_in reads.now)) (reads_of end.now)) }
 {
-    for op in ops {
-        put_read(out, reads, op)?;
+    for read in end {
+        put_read(out, reads, read)?;
     }
     Ok(())
 }
 
 /// What is read at the end of a session.
-fn put_end(
+fn put_end<'a>(
     out: &mut Vec<u8>,
-    reads: &BTreeMap<(u64, &Key), usize>,
-    ops: &[Op],
+    reads: &BTreeMap<(u64, &'a Key), usize>,
+    end: &[(u64, &'a Key)],
 ) -> Result<(), AllocError>
-    ensures { OnOk result (out.new.items ≡ out.old.items ++ map_end (last_in reads.now) ops.now) }
+    ensures { OnOk result (out.new.items
+        ≡ out.old.items ++ map_end (last_in reads.now) (reads_of end.now)) }
 {
-    if ops.is_empty() {
+    if end.is_empty() {
         return Ok(());
     }
     out.extend_from_slice(NO_LINE)?;
-    put_reads(out, reads, ops)?;
+    put_reads(out, reads, end)?;
     out.extend_from_slice(NO_LINE)?;
     Ok(())
 }
 
 impl<'a> Placed<'a> {
+    /// Pieces of these sessions, the first of which begins at this line.
+    pub fn of(
+        alloc: Global,
+        pieces: Pieces<'a>,
+        first: usize,
+        sessions: &[Session],
+    ) -> Result<Placed<'a>, AllocError>
+        ensures pieces { IfOk result (λ it. it.pieces ≡ pieces.entry) }
+        ensures heads { IfOk result (λ it.
+            heads_of it ≡ heads_from first (map view sessions.now) no_lines) }
+        ensures reads { IfOk result AreLastReads }
+    {
+        let heads = heads(alloc, first, sessions)?;
+        let reads = reads_of(alloc, &heads, &pieces)?;
+        Ok(Placed {
+            pieces,
+            heads,
+            reads,
+        })
+    }
+
     /// A session of a piece.
     fn put_part(
         &self,
@@ -106,12 +132,12 @@ impl<'a> Placed<'a> {
         out: &mut Vec<u8>,
         passed: &LineTable,
         piece: usize,
-        part: &Part,
+        part: &Part<'a>,
     ) -> Result<(), AllocError>
         requires { piece < length self.now.pieces }
         ensures { OnOk result ((p : HeldPiece) → slice_get self.now.pieces piece ≡ Some p →
-            out.new.items ≡ out.old.items ++ map_session (lines_in self.now.heads.lines.items)
-            (last_in self.now.reads) (lines_in passed.now.lines.items) (held_in p.behind)
+            out.new.items ≡ out.old.items ++ map_session (heads_of self.now)
+            (last_reads_of self.now) (lines_in passed.now.lines.items) (held_in p.behind)
             (part_view part.now)) }
     {
         put_line(out, self.heads.get(part.number))?;
@@ -127,12 +153,12 @@ impl<'a> Placed<'a> {
         out: &mut Vec<u8>,
         passed: &mut LineTable,
         piece: usize,
-        parts: &[Part],
+        parts: &[Part<'a>],
     ) -> Result<(), AllocError>
         requires { piece < length self.now.pieces }
         ensures map { OnOk result ((p : HeldPiece) → slice_get self.now.pieces piece ≡ Some p →
-            out.new.items ≡ out.old.items ++ map_sessions (lines_in self.now.heads.lines.items)
-            (last_in self.now.reads) (lines_in passed.old.lines.items) (held_in p.behind)
+            out.new.items ≡ out.old.items ++ map_sessions (heads_of self.now)
+            (last_reads_of self.now) (lines_in passed.old.lines.items) (held_in p.behind)
             (parts_view parts.now)) }
         ensures passed { OnOk result (lines_in passed.new.lines.items
             ≡ passed_by (parts_view parts.now) (lines_in passed.old.lines.items)) }
@@ -154,8 +180,8 @@ impl<'a> Placed<'a> {
     ) -> Result<Vec<u8>, AllocError>
         requires { piece < length self.now.pieces }
         ensures map { IfOk result (λ map. (p : HeldPiece) → slice_get self.now.pieces piece ≡ Some p
-            → text.now ≡ piece_text p → map.items ≡ piece_map (lines_in self.now.heads.lines.items)
-            (last_in self.now.reads) (lines_in passed.old.lines.items) p) }
+            → text.now ≡ piece_text p → map.items ≡ piece_map (heads_of self.now)
+            (last_reads_of self.now) (lines_in passed.old.lines.items) p) }
         ensures passed { IfOk result (λ map. (p : HeldPiece)
             → slice_get self.now.pieces piece ≡ Some p → lines_in passed.new.lines.items
             ≡ passed_by p.sessions (lines_in passed.old.lines.items)) }
