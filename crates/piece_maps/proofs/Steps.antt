@@ -1,14 +1,13 @@
 -- Steps of the loops: what is left of a list begins with its next element.
-use Rattle.std.proofs.Common.{◌≡◌, ◌≢◌, ℕ, suc, zero, ◌+◌, ◌-◌, ◌<◌, ◌≤◌, List, [], ◌∷◌, ◌++◌, length, map, drop, Some, None, unwrap_or, refl, sym, ap, ◌∙◌, arith, append_assoc, nat_cmp}
+use Rattle.std.proofs.Common.{◌≡◌, ℕ, suc, zero, ◌+◌, ◌-◌, ◌<◌, List, [], ◌∷◌, ◌++◌, length, map, drop, Some, refl, sym, ap, ◌∙◌, arith, append_assoc}
 use Rattle.std.specs.Prelude.{slice_get}
-use Rattle.std.specs.List.{range_with_len}
 use Rattle.std.specs.BTreeMap.{BTreeMap, UpdatesBy}
 use Rattle.std.proofs.Math.Path.{fun_ext}
 use Rattle.std.proofs.lemmas.Grind.{common_steps}
-use Rattle.session_log.specs.Text.{ClientSession, view, session_lines}
+use Rattle.session_log.specs.Text.{view, session_lines}
 use Rattle.session_log.specs.declared.session.Session.{Session}
 use Rattle.session_log.specs.declared.session.Op.{Op}
-use Rattle.session_log.specs.declared.session.Op.TheVariants.{Read, Write}
+use Rattle.session_log.specs.declared.session.Op.TheVariants.{Read}
 use Rattle.piece_laws.specs.Held.{Held}
 use Rattle.cutting.specs.declared.part.Part.{Part}
 use Rattle.cutting.specs.Parts.{part_view, parts_view}

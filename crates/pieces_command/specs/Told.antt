@@ -1,5 +1,5 @@
 -- What `pieces` tells of a long log.
-use Rattle.std.specs.Prelude.{◌≡◌, ◌⊎◌, ℕ, ◌+◌, ◌-◌, ◌<◌, ◌≤◌, List, [], ◌∷◌, ◌++◌, length, map, take}
+use Rattle.std.specs.Prelude.{◌≡◌, ◌⊎◌, ℕ, ◌+◌, ◌-◌, ◌<◌, List, [], ◌∷◌, ◌++◌, length, map, take}
 use Rattle.std.specs.Prelude.{count_by, slice_get, decimal, Option, Some}
 use Rattle.std.specs.List.{filter, flat_map}
 use Rattle.std.specs.Io.KnownBytes.{Appends}
@@ -10,11 +10,11 @@ use Rattle.log_definitions.specs.Unknown.{txns_in, committed_ops, is_committed, 
 use Rattle.long_log_definitions.specs.LongLog.{IsLongLog, IsLongLogFault}
 use Rattle.held_pieces.specs.Pieces.{HeldPiece, ArePieces}
 use Rattle.pieces_command.specs.Folders.{File, Adds, AreCutShort}
-use Rattle.pieces_command.specs.Maps.{piece_text, files_of}
-use Rattle.held_pieces.specs.Reigns.{last_in}
-use Rattle.pieces_command.specs.Lines.{lines_in, no_lines, no_reads, heads_from, with_pieces}
+use Rattle.piece_maps.specs.Lines.{no_lines, heads_from}
+use Rattle.piece_maps.specs.Maps.{piece_text, heads_of}
+use Rattle.piece_maps.specs.declared.maps.Placed.{Placed}
+use Rattle.pieces_command.specs.Files.{files_of}
 use Rattle.pieces_command.specs.declared.known.KnownLog.{KnownLog}
-use Rattle.pieces_command.specs.declared.maps.Placed.{Placed}
 use Rattle.pieces_command.specs.declared.listing.NodeCounts.{NodeCounts}
 use Rattle.pieces_command.specs.declared.fault.PiecesFault.{PiecesFault}
 use Rattle.pieces_command.specs.declared.fault.PiecesFault.TheVariants.{Log, NoSuchPiece, Output}
@@ -67,11 +67,11 @@ pub record IsPieceText (log : List ℕ) (number : ℕ) (text : List ℕ) : Type 
   pub is : text ≡ piece_text piece
 
 -- the log has only so many pieces, and so none of this number
-pub record HasNoPiece (log : List ℕ) (number count : ℕ) : Type 0 where
+pub record HasNoPiece (log : List ℕ) (number told : ℕ) : Type 0 where
   pub pieces : List HeldPiece
   pub are : ArePiecesOf log pieces
-  pub count : count ≡ length pieces
-  pub none : (number ≡ 0) ⊎ (count < number)
+  pub count : told ≡ length pieces
+  pub none : (number ≡ 0) ⊎ (told < number)
 
 -- why there is no text of this one; an output and a folder have no part in it
 abbrev pub IsNoPiece : List ℕ → ℕ → PiecesFault → Type 0
@@ -110,18 +110,12 @@ IsPieceUntold log number old new (Output written) =
 IsPieceUntold log number old new Folder = ⊥
 
 -- ---- files in a folder
--- these are the last reads of the pieces
-abbrev pub AreLastReads : Placed → Type 0
-AreLastReads it = last_in it.reads ≡ with_pieces (lines_in it.heads.lines.items) no_lines it.pieces
-    no_reads
-
 -- these are the pieces of the log, all of them, and the lines at which its sessions begin
 pub record IsPlaced (log : List ℕ) (it : Placed) : Type 0 where
   pub sessions : List ClientSession
   pub long : IsLongLog log sessions
   pub are : ArePieces (resolved sessions) it.pieces
-  pub heads : lines_in it.heads.lines.items ≡ heads_from (first_line (version_of log)) sessions
-      no_lines
+  pub heads : heads_of it ≡ heads_from (first_line (version_of log)) sessions no_lines
 
 -- these are the files of the pieces of the log, all of them
 pub record AreFiles (log : List ℕ) (files : List File) : Type 0 where
@@ -129,7 +123,7 @@ pub record AreFiles (log : List ℕ) (files : List File) : Type 0 where
   pub long : IsLongLog log sessions
   pub pieces : List HeldPiece
   pub are : ArePieces (resolved sessions) pieces
-  pub files : files ≡ files_of (first_line (version_of log)) sessions pieces
+  pub is : files ≡ files_of (first_line (version_of log)) sessions pieces
 
 pub record AreTold (log : List ℕ) (old new : Option (List File)) : Type 0 where
   pub files : List File

@@ -3,22 +3,20 @@
 ghost use Rattle.std.specs.Prelude.{◌≡◌, ◌+◌, ◌++◌, ◌∷◌, [], ◌<◌, Some, length, slice_get, string_bytes};
 ghost use Rattle.std.specs.Prelude.{ℕ, List, IfOk, IfErr, OnOk, OnErr};
 ghost use Rattle.held_pieces.specs.Pieces.{HeldPiece};
-ghost use Rattle.held_pieces.specs.Reigns.{last_in};
+ghost use Rattle.piece_maps.specs.Lines.{lines_in, passed_by};
+ghost use Rattle.piece_maps.specs.Maps.{heads_of, last_reads_of, AreLastReads};
 ghost use Rattle.pieces_command.specs.Folders.{Adds, AreCutShort};
-ghost use Rattle.pieces_command.specs.Lines.{lines_in, passed_by};
-ghost use Rattle.pieces_command.specs.Maps.{file_number, piece_files, files_by, log_file, map_file};
 ghost use Rattle.pieces_command.specs.Faults.{fault_of};
-ghost use Rattle.pieces_command.specs.Told.{IsKnown, AreTold, AreUntold, IsPlaced, AreLastReads};
+ghost use Rattle.pieces_command.specs.Files.{file_number, piece_files, files_by, log_file, map_file};
+ghost use Rattle.pieces_command.specs.Told.{IsKnown, AreTold, AreUntold, IsPlaced};
 
 use crate::fault::PiecesFault;
 use crate::folder::{Folder, FolderFault};
 use crate::known::{KnownLog, read_known};
-use crate::lines::{LineTable, heads};
 use crate::listing::piece_text;
-use crate::maps::Placed;
-use crate::reads::reads_of;
 use desk::seat_no::Workers;
 use itoa::Buffer;
+use piece_maps::{LineTable, Placed};
 use std::alloc::{AllocError, Global};
 use std::thread::Threads;
 
@@ -69,8 +67,8 @@ impl PieceFiles {
             ≡ log_file (length placed.now.pieces) (piece + 1) p) }
         ensures map { IfOk result (λ it. (p : HeldPiece) → slice_get placed.now.pieces piece ≡ Some p
             → (string_bytes it.map_name, it.map.items)
-            ≡ map_file (length placed.now.pieces) (piece + 1) (lines_in placed.now.heads.lines.items)
-            (last_in placed.now.reads) (lines_in passed.old.lines.items) p) }
+            ≡ map_file (length placed.now.pieces) (piece + 1) (heads_of placed.now)
+            (last_reads_of placed.now) (lines_in passed.old.lines.items) p) }
         ensures passed { IfOk result (λ it. (p : HeldPiece)
             → slice_get placed.now.pieces piece ≡ Some p → lines_in passed.new.lines.items
             ≡ passed_by p.sessions (lines_in passed.old.lines.items)) }
@@ -115,14 +113,14 @@ fn put_piece_files<F: Folder>(
     requires { piece < length placed.now.pieces }
     ensures put { OnOk result ((p : HeldPiece) → slice_get placed.now.pieces piece ≡ Some p
         → Adds (F.files folder.old) (F.files folder.new)
-        (piece_files (length placed.now.pieces) (piece + 1) (lines_in placed.now.heads.lines.items)
-        (last_in placed.now.reads) (lines_in passed.old.lines.items) p)) }
+        (piece_files (length placed.now.pieces) (piece + 1) (heads_of placed.now)
+        (last_reads_of placed.now) (lines_in passed.old.lines.items) p)) }
     ensures passed { OnOk result ((p : HeldPiece) → slice_get placed.now.pieces piece ≡ Some p
         → lines_in passed.new.lines.items ≡ passed_by p.sessions (lines_in passed.old.lines.items)) }
     ensures failed { OnErr result ((p : HeldPiece) → slice_get placed.now.pieces piece ≡ Some p
         → AreCutShort
-        (piece_files (length placed.now.pieces) (piece + 1) (lines_in placed.now.heads.lines.items)
-        (last_in placed.now.reads) (lines_in passed.old.lines.items) p)
+        (piece_files (length placed.now.pieces) (piece + 1) (heads_of placed.now)
+        (last_reads_of placed.now) (lines_in passed.old.lines.items) p)
         (F.files folder.old) (F.files folder.new)) }
 {
     let files = PieceFiles::of(alloc, placed, passed, piece)?;
@@ -137,9 +135,9 @@ fn put_all<F: Folder>(
 ) -> Result<(), FolderFault>
     requires { AreLastReads placed.now }
     ensures put { OnOk result (Adds (F.files folder.old) (F.files folder.new)
-        (files_by (lines_in placed.now.heads.lines.items) placed.now.pieces)) }
+        (files_by (heads_of placed.now) placed.now.pieces)) }
     ensures failed { OnErr result (AreCutShort
-        (files_by (lines_in placed.now.heads.lines.items) placed.now.pieces)
+        (files_by (heads_of placed.now) placed.now.pieces)
         (F.files folder.old) (F.files folder.new)) }
 {
     let mut passed = LineTable::new(alloc)?;
@@ -160,13 +158,7 @@ fn placed_of<'a>(
     ensures reads { IfOk result AreLastReads }
 {
     let pieces = known.pieces(alloc, size)?;
-    let heads = heads(alloc, known.version.first_line(), &known.sessions)?;
-    let reads = reads_of(alloc, &heads, &pieces)?;
-    Ok(Placed {
-        pieces,
-        heads,
-        reads,
-    })
+    Placed::of(alloc, pieces, known.version.first_line(), &known.sessions)
 }
 
 /// Puts the files of the pieces of a known log.

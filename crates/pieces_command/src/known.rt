@@ -1,8 +1,10 @@
 //! A long log whose outcomes are known.
 
 ghost use Rattle.std.specs.Prelude.{List, ℕ, IfOk, IfErr};
+ghost use Rattle.log_definitions.specs.Unknown.{resolved};
 ghost use Rattle.long_log_definitions.specs.LongLog.{IsLongLogFault};
-ghost use Rattle.pieces_command.specs.Told.{IsKnown, ArePiecesOf};
+ghost use Rattle.held_pieces.specs.Pieces.{ArePieces};
+ghost use Rattle.pieces_command.specs.Told.{IsKnown};
 
 use desk::seat_no::Workers;
 use held_pieces::Pieces;
@@ -22,8 +24,8 @@ pub struct KnownLog {
 impl KnownLog {
     /// Its pieces, of at least so many nodes.
     pub fn pieces(&self, alloc: Global, size: usize) -> Result<Pieces<'_>, AllocError>
-        ensures pieces { IfOk result (λ pieces. (log : List ℕ) → IsKnown log self.now
-            → ArePiecesOf log pieces) }
+        ensures pieces { IfOk result (λ pieces. (log : List ℕ) (known : IsKnown log self.now)
+            → ArePieces (resolved known.sessions) pieces) }
     {
         Pieces::of(alloc, &self.sessions, size)
     }

@@ -22,10 +22,7 @@ mod fault;
 mod files;
 mod folder;
 mod known;
-mod lines;
 mod listing;
-mod maps;
-mod reads;
 
 pub use fault::PiecesFault;
 pub use files::put_files;
