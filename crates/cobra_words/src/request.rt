@@ -38,9 +38,9 @@ pub enum Command<'a> {
     },
     /// Decide whether some serial order explains a log of any length.
     Audit(AuditWords<'a>),
-    /// Cut the log into pieces, of at least so many transactions where this is stated.
+    /// Cut the log into pieces, of at least so many transactions.
     Pieces {
-        size: Option<usize>,
+        size: usize,
         wanted: PiecesWord<'a>,
     },
     /// Write the log in which each committed transaction that writes is split in two.
