@@ -22,12 +22,7 @@ use std::thread::Threads;
 
 /// The name of a file of the piece of this number, of so many: what it ends in stands behind the
 /// number, which is as wide as the greatest one.
-fn file_name(
-    alloc: Global,
-    count: usize,
-    number: usize,
-    ending: &str,
-) -> Result<String, AllocError>
+fn file_name(alloc: Global, count: usize, number: usize, ending: &str) -> Result<String, AllocError>
     ensures { IfOk result (λ name.
         string_bytes name ≡ file_number count number ++ ending.now) }
 {
@@ -128,11 +123,7 @@ fn put_piece_files<F: Folder>(
 }
 
 /// Puts the files of all pieces.
-fn put_all<F: Folder>(
-    alloc: Global,
-    placed: &Placed<'_>,
-    folder: &mut F,
-) -> Result<(), FolderFault>
+fn put_all<F: Folder>(alloc: Global, placed: &Placed<'_>, folder: &mut F) -> Result<(), FolderFault>
     requires { AreLastReads placed.now }
     ensures put { OnOk result (Adds (F.files folder.old) (F.files folder.new)
         (files_by (heads_of placed.now) placed.now.pieces)) }
@@ -148,11 +139,7 @@ fn put_all<F: Folder>(
 }
 
 /// The pieces of a known log, with the lines of the whole log.
-fn placed_of<'a>(
-    alloc: Global,
-    known: &'a KnownLog,
-    size: usize,
-) -> Result<Placed<'a>, AllocError>
+fn placed_of<'a>(alloc: Global, known: &'a KnownLog, size: usize) -> Result<Placed<'a>, AllocError>
     ensures placed { IfOk result (λ placed. (log : List ℕ) → IsKnown log known.now
         → IsPlaced log placed) }
     ensures reads { IfOk result AreLastReads }

@@ -399,7 +399,12 @@ fn words_of_pieces(rt: HostRuntime) {
     for (line, least, number, directory) in [
         ("cobra_poly pieces --size 1 log", 1, 0, ""),
         ("cobra_poly pieces --piece 17", 100_000, 17, ""),
-        ("cobra_poly pieces --size 10000000 --into new log", 10_000_000, 0, "new"),
+        (
+            "cobra_poly pieces --size 10000000 --into new log",
+            10_000_000,
+            0,
+            "new",
+        ),
     ] {
         see_pieces(&rt, rt.alloc(), line, least, number, directory);
     }
