@@ -6,28 +6,23 @@ import random
 SESSIONS, MOST = 50, 64
 
 
-def crossed():
-    """Eight transactions of two keys that have no order: two writers of each, and a reader of each pair of writes."""
-    writes = [('x', 10001), ('x', 10002), ('y', 10003), ('y', 10004)]
-    return [['w %s %d' % write] for write in writes] + [['r %s %d' % one, 'r %s %d' % two] for one in writes[:2] for two in writes[2:]]
+def crossed(behind=(0, 0, 0, 0)):
+    """Transactions of two keys that have no order: two writers of each, and a reader of each pair of versions. Behind each writer stand some
+    more transactions, each of which reads its key from the one before and writes it; what the last one wrote is read."""
+    found, versions, wid = [], [], 10000
+    for key, more in zip('xxyy', behind):
+        for turn in range(more + 1):
+            wid += 1
+            found.append(['r %s %d' % (key, wid - 1)] * (turn > 0) + ['w %s %d' % (key, wid)])
+        versions.append('r %s %d' % (key, wid))
+    return found + [[one, two] for one in versions[:2] for two in versions[2:]]
 
 
-def ring(keys=3):
-    """Five transactions for each of some keys, which have no order: two writers of each key, and of each key and the next one three readers.
-    Who read the first writes of both, the first and the second one, and the second ones say that both keys were written in the same
-    direction; of the last key and the first one it is said that they were not."""
-    name, wid = 'hidden{}'.format, lambda key, version: 10001 + 2 * (key % keys) + version
-    found = [['w %s %d' % (name(key), wid(key, version))] for key in range(keys) for version in (0, 1)]
-    for key in range(keys):
-        turned = key == keys - 1
-        for one, two in ((0, 0), (0, 1), (1, 1)):
-            found.append(['r %s %d' % (name(key), wid(key, one)), 'r %s %d' % (name((key + 1) % keys), wid(key + 1, two ^ turned))])
-    return found
+EIGHT, FIFTEEN = crossed(), crossed((2, 2, 2, 1))
 
 
-def noisy_log(count, keys, seed=1, hidden=None):
+def noisy_log(count, keys, seed=1, hidden=EIGHT):
     """A log of so many transactions of a few keys, which ran in some order, and of some more of other keys, which have none."""
-    hidden = hidden or crossed()
     r, store, written, sessions = random.Random(seed), {}, 0, [[] for _ in range(min(SESSIONS, MOST - len(hidden)))]
     for _ in range(count):
         ops = []

@@ -7,7 +7,7 @@ formulas of three literals a clause, 4.26 clauses a variable, at 150 to 250 vari
 Then the command `solve` gets the same logs, beside `check` with the strategy `forced` and a budget of 100,000 cubes. With --logs only that."""
 import argparse, os, random, shutil, subprocess, sys, tempfile
 
-from make_noise import crossed, noisy_log, ring
+from make_noise import EIGHT, FIFTEEN, noisy_log
 
 LOGS = ((20, 4), (50, 8), (80, 12), (120, 20), (160, 30), (200, 30), (220, 60))
 VARIABLES, RATIO, SEEDS = (150, 200, 250), 4.26, range(10)
@@ -55,7 +55,7 @@ def main():
     program, clauses = os.path.abspath(asked.program), os.path.abspath(asked.clauses)
     with tempfile.TemporaryDirectory() as folder:
         log, formula = os.path.join(folder, 'log'), os.path.join(folder, 'formula')
-        for hidden, size in [(hidden, size) for hidden in (crossed(), ring()) for size in LOGS]:
+        for hidden, size in [(hidden, size) for hidden in (EIGHT, FIFTEEN) for size in LOGS]:
             with open(log, 'w') as out:
                 out.write(noisy_log(*size, hidden=hidden))
             with open(formula, 'wb') as out:

@@ -5,13 +5,14 @@ Made logs of all versions are cut at every chance, at every second node and not 
 order, with their lines: each line of a map must name the line of the log that stands there, but for reads that were renamed and outcomes
 that were resolved; a read at the end of a session must name one in a later piece, of that key, under the identity that the piece holds. Each
 read must be renamed as what the key is held at. The lines of the list must count what the files have, `--piece` must tell what the files
-hold, and `check` must find an order of each piece exactly where brute force finds one of the whole log. Then calls by hand.
+hold, and `check` must find an order of each piece exactly where brute force finds one of the whole log. Then calls by hand, and logs whose
+pieces are larger than `check` takes: `audit` must say of them what it says of the whole log.
 Last line: 'cut_logs: N passed, M failed'."""
 import argparse, concurrent.futures, os, random, subprocess, sys, tempfile
 
 HERE = os.path.dirname(os.path.abspath(__file__))
 sys.path.insert(0, HERE)
-import generate, pieces_model, reference
+import certificates, generate, pieces_model, reference
 
 CASES, SEED, SHOWN, LATE = 400, 1, 20, 120
 
@@ -38,9 +39,9 @@ def ends(word):
 class WholeLog:
     """The lines of a log: of each its words; of each transaction's lines its name; and its outcome, once it is resolved."""
 
-    def __init__(self, text):
+    def __init__(self, text, read=reference.read_log):
         self.lines = [line.split(' ') for line in text.decode().split('\n')[:-1]]
-        self.sessions = reference.read_log(text)
+        self.sessions = read(text)
         known = dict(((number, place), it.outcome) for number, ts in pieces_model.resolved(self.sessions) for place, it in enumerate(ts, 1))
         self.name, self.outcome, number, place = {}, known, None, 0
         for at, words in enumerate(self.lines, 1):
@@ -205,7 +206,7 @@ def by_hand(program, folder):
         ('no directory above it', ['--into', os.path.join(new, 'far')], LOG, 5, b'', os.path.join(new, 'far') + ': '),
         ('piece 0', ['--piece', '0'], LOG, 2, b'', 'error: '),
         ('size 0', ['--size', '0'], LOG, 2, b'', 'error: '),
-        ('size 901', ['--size', '901'], LOG, 2, b'', 'error: '),
+        ('size 10000001', ['--size', '10000001'], LOG, 2, b'', 'error: '),
         ('a refused log', [], b'session 1\nr x 0\n', 2, b'', '-:2: '),
         ('a refused log in a file', ['--into', new, os.path.join(folder, 'refused')], b'', 2, b'', os.path.join(folder, 'refused') + ':1: '),
         ('no log', [os.path.join(folder, 'none')], b'', 5, b'', os.path.join(folder, 'none') + ': '),
@@ -216,6 +217,29 @@ def by_hand(program, folder):
         right = got[:2] == (status, said) and (got[2].startswith(error) if error else got[2] == '')
         yield None if right else 'by hand, %s: %r' % (what, got)
     yield None if not os.path.exists(new) else 'by hand: a directory was made for a refused log'
+
+
+def large(program, folder, *fault):
+    """What is wrong with the pieces of a log that have more transactions and sessions than `check` takes, or nothing."""
+    path = os.path.join(folder, 'large')
+    made = ['--transactions', '5000', '--sessions', '70', '--barrier', '1250', *fault, path]
+    subprocess.run([sys.executable, os.path.join(os.path.dirname(HERE), 'bench', 'long_log.py'), *made], check=True)
+    try:
+        with open(path, 'rb') as log:
+            text = log.read()
+        whole, into = WholeLog(text, certificates.read_long), os.path.join(folder, 'large pieces%s' % len(fault))
+        must(call(program, 'pieces', path)[1].split()[:2] == [b'1', b'5000'], 'it is no piece of 5,000 transactions')
+        must(call(program, 'pieces', '--size', '1001', '--into', into, path) == (0, b'', ''), '--into')
+        pieces = read_files(whole, into)
+        check_pieces(whole, pieces)
+        must(len(pieces) > 2 and all(it.nodes > 1000 for it in pieces[:-1]), '%s transactions' % [it.nodes for it in pieces])
+        must(all(sum(line[0] == 'session' for line in it.log) > 64 for it in pieces[:-1]), 'too few sessions')
+        for k, it in enumerate(pieces, 1):
+            must(call(program, 'pieces', '--size', '1001', '--piece', str(k), path) == (0, it.text, ''), '--piece %d' % k)
+        said = [call(program, 'audit', '--quiet', text=it.text)[0] for it in pieces]
+        must(max(said) == call(program, 'audit', '--quiet', path)[0] == len(fault), '`audit` of the pieces ends with %s' % said)
+    except Wrong as wrong:
+        return 'large pieces %s: %s' % (' '.join(fault), wrong)
 
 
 def main():
@@ -229,7 +253,7 @@ def main():
         jobs = [(program, folder, words.seed + n) for n in range(words.cases)]
         with concurrent.futures.ThreadPoolExecutor(os.cpu_count()) as pool:
             made_ones = list(pool.map(made, jobs))
-        found = [wrong for wrong, _ in made_ones] + list(by_hand(program, folder))
+        found = [wrong for wrong, _ in made_ones] + list(by_hand(program, folder)) + [large(program, folder), large(program, folder, '--fault')]
     several = sum(pieces > 1 for _, pieces in made_ones)
     print('cut_logs: %d logs of several pieces' % several)
     wrong = [it for it in found if it]

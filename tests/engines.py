@@ -2,12 +2,12 @@
 """engines.py PROGRAM [--transactions N]: the pieces of a long log, judged by GNU parallel as docs/SCALE.md says, and by `audit`.
 
 A log of 50,000 transactions is made by bench/long_log.py, and a shorter one without an order. The pieces are written by `pieces --into`,
-each is judged by `audit`, several at once, and `audit` of the whole log must say the same: it is serializable exactly where each piece is. Where GNU parallel cannot be had the test says so and is passed
-over. Last line: 'engines: N passed, M failed'."""
+each is judged by `audit`, several at once, and `audit` of the whole log must say the same: it is serializable exactly where each piece is.
+Where GNU parallel cannot be had the test says so and is passed over. Last line: 'engines: N passed, M failed'."""
 import argparse, contextlib, os, re, shutil, subprocess, sys, tempfile, time
 
 TOP = os.path.dirname(os.path.dirname(os.path.abspath(__file__)))
-AUDIT, LANES = ['audit', '--at-least', '0', '--workers', '1'], '4'
+AUDIT, LANES, SIZE = ['audit', '--workers', '1'], '4', '1200'
 
 
 def run(*words, **how):
@@ -32,7 +32,7 @@ class Checks:
         """A made log, and its pieces in a directory."""
         log, into = os.path.join(self.folder, name + '.log'), os.path.join(self.folder, name)
         subprocess.run([sys.executable, os.path.join(TOP, 'bench', 'long_log.py'), log, *words], check=True)
-        ran = run(self.program, 'pieces', '--size', '900', '--into', into, log)
+        ran = run(self.program, 'pieces', '--size', SIZE, '--into', into, log)
         self.expect(ran.returncode == 0 and not ran.stdout, '%s: pieces: status %d, %s' % (name, ran.returncode, ran.stdout))
         return log, sorted(os.path.join(into, file) for file in os.listdir(into) if file.endswith('.log'))
 
@@ -84,7 +84,7 @@ def main():
     with tempfile.TemporaryDirectory() as folder:
         checks = Checks(program, folder)
         checks.compare('serializable', True, words.transactions)
-        checks.compare('with a fault', False, words.transactions // 3, '--fault')
+        checks.compare('with a fault', False, words.transactions // 2, '--fault')
     print('engines: %d passed, %d failed' % (checks.passed, checks.failed))
     return 1 if checks.failed else 0
 

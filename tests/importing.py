@@ -363,6 +363,8 @@ CONTRADICTING = [
      ['lost append: operation 1 (process 0) appended 1 to list 4 before operation 3 (process 0) appended 2, and by operation 5 (process 2) the list is [2]']),
     ('a session that does not count', ['--order', 'none'], ('0 ok [:append 4 1]', '0 ok [:append 4 2]', '2 ok [:r 4 [2]]'), []),
     ('lists that are right', [], (*APPENDS, '2 ok [:r 4 [1]]', '3 ok [:r 4 [1 2]] [:append 4 3] [:r 4 [1 2 3]]'), []),
+    ('odd keys', [], ('0 ok [:append "100%s" 1]', '1 ok [:r "100%s" [1 "%d"]]'),
+     ['garbage read: list "100%s" has "%d" by operation 3 (process 1), which nobody appended: [1 "%d"]']),
     ('many', [], ['0 ok [:append %d 1] [:r %d [2 1]]' % (n, n) for n in range(12)],
      ['garbage read: list %d has 2 by operation %d (process 0), which nobody appended: [2 1]' % (n, 2 * n + 1) for n in range(10)] + ['garbage read: 2 more']),
 ]

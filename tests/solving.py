@@ -14,7 +14,7 @@ import argparse, concurrent.futures, os, random, shutil, subprocess, sys, tempfi
 HERE = os.path.dirname(os.path.abspath(__file__))
 sys.path[:0] = [HERE, os.path.join(HERE, '..', 'bench')]
 import generate, reference
-from make_noise import crossed, noisy_log, ring
+from make_noise import EIGHT, FIFTEEN, noisy_log
 
 REFUTED = (1, 'not serializable: the formula is refuted\n', '')
 FEW_VARIABLES = 9
@@ -136,7 +136,7 @@ def main():
         jobs += [(judged_log, program, name, text) for name, text in generate.examples((1, 2, 3)) if text.count(b'commit') <= 9]
         jobs += [(judged_log, program, 'made log %d' % seed, generate.small_log(seed, 1 + turn % 3))
                  for turn in range(asked.count // 3) for seed in (asked.seed + turn,)]
-        jobs += [(judged_noise, program, hidden, *size) for hidden in (crossed(), ring()) for size in ((20, 4), (50, 8), (100, 16), (200, 30))]
+        jobs += [(judged_noise, program, hidden, *size) for hidden in (EIGHT, FIFTEEN) for size in ((20, 4), (50, 8), (100, 16), (200, 30))]
         for kind, found in pool.map(lambda job: job[0](*job[1:]), jobs):
             kinds[kind] = kinds.get(kind, 0) + 1
             for fault in found:

@@ -74,14 +74,18 @@ class Lists:
         before, writers = set(), self.writers.get(key, {})
         for place, element in enumerate(version.elements):
             writer = writers.get(element)
-            words = 'list %s has %s %%sby %s%%s: %s' % (self.edn(key), self.edn(element), operation(version.it), self.shown(version.elements, place))
             if element in before:
-                self.add('duplicate-elements', (key, element), words % ('twice ', ''))
+                self.tell_element('duplicate-elements', key, version, place, often='twice ')
             elif writer is None:
-                self.add('garbage read', (key, element), words % ('', ', which nobody appended'))
+                self.tell_element('garbage read', key, version, place, writer=', which nobody appended')
             elif writer.outcome == ABORTED:
-                self.add('G1a', (key, element), words % ('', ', which %s appended, and failed' % operation(writer)))
+                self.tell_element('G1a', key, version, place, writer=', which %s appended, and failed' % operation(writer))
             before.add(element)
+
+    def tell_element(self, name, key, version, place, often='', writer=''):
+        element = version.elements[place]
+        self.add(name, (key, element), 'list %s has %s %sby %s%s: %s' % (
+            self.edn(key), self.edn(element), often, operation(version.it), writer, self.shown(version.elements, place)))
 
     def compare(self, key, versions):
         """Each list beside the longest one."""
@@ -112,14 +116,14 @@ class Lists:
 
     def seek_lost(self, key, longest):
         """Appends that are not in this list, though the order that is kept has them before an append that is."""
-        inside, writers, latest, last_of = set(longest.elements[:longest.read]), self.writers.get(key, {}), None, {}
-        for element in inside:
-            it = writers.get(element)
-            if it and it.begun is not None and (latest is None or it.begun > latest[0]):
+        elements, writers, latest, last_of = longest.elements[:longest.read], self.writers.get(key, {}), None, {}
+        for element in filter(writers.__contains__, elements):
+            it = writers[element]
+            if it.begun is not None and (latest is None or it.begun > latest[0]):
                 latest = it.begun, element
-            if it:
-                session, place = self.place[it]
-                last_of[session] = max(last_of.get(session, (-1, None)), (place, element), key=lambda at: at[0])
+            session, place = self.place[it]
+            last_of[session] = max(last_of.get(session, (-1, None)), (place, element), key=lambda at: at[0])
+        inside = set(elements)
         for value, it in writers.items():
             if value in inside or it.outcome != COMMITTED:
                 continue
@@ -128,7 +132,6 @@ class Lists:
             if behind is None and latest and it.ended is not None and it.ended < latest[0]:
                 behind = latest[1]
             if behind is not None:
-                at = longest.elements.index(behind)
                 self.add('lost append', (key, value), '%s appended %s to list %s before %s appended %s, and by %s the list is %s' % (
                     operation(it), self.edn(value), self.edn(key), operation(writers[behind]), self.edn(behind), operation(longest.it),
-                    self.shown(longest.elements, at)))
+                    self.shown(elements, elements.index(behind))))

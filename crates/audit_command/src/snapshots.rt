@@ -16,9 +16,12 @@ use std::thread::Threads;
 use std::time::Clock;
 use tell_snapshots::{Told, tell_snapshots};
 
+/// What is told of a part that a search over its formula refutes, which tells nothing for people.
+const NONE_LEFT: &str = "no order of them is left: a search shows it";
+
 /// What stands before the lines that say why a part has no serial order, where these say nothing of
 /// snapshots.
-const BY_SEARCH: &str = "no order of their snapshots and commits is left: a search shows it";
+const NO_POINTS_LEFT: &str = "no order of their snapshots and commits is left: a search shows it";
 
 const NO_SERIAL_ORDER: &str = "why they have no serial order either:";
 
@@ -30,8 +33,10 @@ const ALLOWED: &str = "(G2-";
 fn below_snapshot(alloc: Global, explained: Explained) -> Result<Explained, AllocError> {
     let Explained { lines, known_as } = explained;
     let mut why = Vec::new(alloc);
-    why.push(String::from_str(alloc, BY_SEARCH)?)?;
-    why.push(String::from_str(alloc, NO_SERIAL_ORDER)?)?;
+    why.push(String::from_str(alloc, NO_POINTS_LEFT)?)?;
+    if !lines.is_empty() {
+        why.push(String::from_str(alloc, NO_SERIAL_ORDER)?)?;
+    }
     for line in lines {
         if !line.contains(ALLOWED) {
             why.push(line)?;
@@ -118,6 +123,21 @@ fn explain_snapshot<R: Threads + Wait + Clock + Sync>(
     below_snapshot(alloc, explained)
 }
 
+/// Whether a search over the formula of a part refutes it.
+fn is_by_formula(finding: Finding) -> bool {
+    matches!(finding, Finding::Formula)
+}
+
+/// That no order of a part is left.
+fn none_left(alloc: Global) -> Result<Explained, AllocError> {
+    let mut lines = Vec::new(alloc);
+    lines.push(String::from_str(alloc, NONE_LEFT)?)?;
+    Ok(Explained {
+        lines,
+        known_as: None,
+    })
+}
+
 /// Why a part of these sessions, which are those of a log of this version with their outcomes
 /// known, has no order of the level at which it was judged.
 pub fn explain_part<R: Threads + Wait + Clock + Sync>(
@@ -133,6 +153,7 @@ pub fn explain_part<R: Threads + Wait + Clock + Sync>(
 {
     let deciding = &means.deciding;
     match means.level {
+        Level::Serializable if is_by_formula(refuted.finding) => none_left(alloc),
         Level::Serializable => explain_serial(rt, alloc, version, sessions, refuted, deciding),
         Level::Snapshot => explain_snapshot(rt, alloc, version, sessions, refuted, deciding),
     }

@@ -6,7 +6,7 @@ use crate::input::log_name;
 use cobra_cli::{Status, Stop};
 use cobra_words::{PiecesWord, Request};
 use dimacs::Counted;
-use pieces_command::{PieceFiles, PiecesFault, list, put_piece, read_known};
+use pieces_command::{Folder, FolderFault, PiecesFault, list, put_files, put_piece};
 use std::alloc::Global;
 use std::fs;
 use std::io::{ErrorKind, Write};
@@ -20,7 +20,7 @@ fn ending_of(alloc: Global, name: &str, log: &[u8], fault: PiecesFault) -> Endin
         PiecesFault::NoSuchPiece { pieces } => Ending::usage(format!(in alloc;
             "error: the log has no such piece: there are {pieces}"
         )),
-        PiecesFault::Output => Ending::Stop(Stop::Output),
+        PiecesFault::Output { .. } | PiecesFault::Folder => Ending::Stop(Stop::Output),
     }
 }
 
@@ -39,46 +39,44 @@ fn make_directory<R: Runtime>(rt: &R, alloc: Global, path: &str) -> Result<(), E
     }
 }
 
-/// The path of a piece's file, without what it ends in: its number is as wide as the greatest.
-fn path_of(alloc: Global, directory: &str, number: usize, count: usize) -> Result<String, Ending> {
-    let mut path = format!(in alloc; "{directory}/")?;
-    let digits = format!(in alloc; "{number}")?;
-    let widest = format!(in alloc; "{count}")?;
-    for _ in digits.len()..widest.len() {
-        path.push('0')?;
-    }
-    path.push_str(&digits)?;
-    Ok(path)
+/// A directory for files, and how the call ends where it fails.
+#[derive(Drop)]
+struct Directory<'a, R> {
+    rt: &'a R,
+    alloc: Global,
+    path: &'a str,
+    ending: Option<Ending>,
 }
 
-/// Writes the log and the map of a piece.
-fn write_piece<R: Runtime>(
-    rt: &R,
-    alloc: Global,
-    files: &PieceFiles<'_>,
-    piece: usize,
-    path: &str,
-) -> Result<(), Ending> {
-    let name = format!(in alloc; "{path}.log")?;
-    write_file(rt, alloc, &name, &files.log(alloc, piece)?)?;
-    let name = format!(in alloc; "{path}.map")?;
-    write_file(rt, alloc, &name, &files.map(alloc, piece)?)
+impl<R> Directory<'_, R> {
+    /// Keeps why it failed.
+    fn kept(&mut self, done: Result<(), Ending>) -> Result<(), FolderFault> {
+        match done {
+            Ok(()) => Ok(()),
+            Err(ending) => {
+                self.ending = Some(ending);
+                Err(FolderFault::Failed)
+            }
+        }
+    }
 }
 
-/// Writes the log and the map of each piece into a directory, which is new or empty.
-fn write_pieces<R: Runtime>(
-    rt: &R,
-    alloc: Global,
-    files: &PieceFiles<'_>,
-    directory: &str,
-) -> Result<(), Ending> {
-    make_directory(rt, alloc, directory)?;
-    let count = files.count();
-    for piece in 0..count {
-        let path = path_of(alloc, directory, piece + 1, count)?;
-        write_piece(rt, alloc, files, piece, &path)?;
+impl<R: Runtime> Folder for Directory<'_, R> {
+    ghost use Rattle.std.specs.Prelude.{None};
+
+    ghost files = { λ _. None };
+
+    fn make(&mut self) -> Result<(), FolderFault> {
+        let made = make_directory(self.rt, self.alloc, self.path);
+        self.kept(made)
     }
-    Ok(())
+
+    fn put(&mut self, name: &str, bytes: &[u8]) -> Result<(), FolderFault> {
+        let directory = self.path;
+        let path = format!(in self.alloc; "{directory}/{name}")?;
+        let written = write_file(self.rt, self.alloc, &path, bytes);
+        self.kept(written)
+    }
 }
 
 /// Cuts a long log into pieces, and tells or writes them.
@@ -87,7 +85,7 @@ pub fn cut_log<R: Runtime + Threads + Sync, W: Write>(
     alloc: Global,
     log: &[u8],
     request: &Request<'_>,
-    size: Option<usize>,
+    size: usize,
     wanted: PiecesWord<'_>,
     sink: &mut Counted<W>,
 ) -> Result<Status, Ending> {
@@ -98,9 +96,18 @@ pub fn cut_log<R: Runtime + Threads + Sync, W: Write>(
         PiecesWord::Piece(number) => {
             put_piece(rt, alloc, log, size, workers, number, sink).map_err(ending)?
         }
-        PiecesWord::Into(directory) => {
-            let known = read_known(rt, alloc, log, size, workers).map_err(ending)?;
-            write_pieces(rt, alloc, &PieceFiles::of(alloc, &known)?, directory)?
+        PiecesWord::Into(path) => {
+            let mut folder = Directory {
+                rt,
+                alloc,
+                path,
+                ending: None,
+            };
+            let done = put_files(rt, alloc, log, size, workers, &mut folder);
+            if let Some(ending) = folder.ending.take() {
+                return Err(ending);
+            }
+            done.map_err(ending)?
         }
     }
     Ok(Status::Done)

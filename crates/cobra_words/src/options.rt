@@ -10,6 +10,9 @@ const DEFAULT_WORKERS: &str = "4";
 /// How many lines `commit` a log must have where the words do not say.
 const DEFAULT_AT_LEAST: &str = "1";
 
+/// How many transactions each piece has at least where the words do not say.
+const DEFAULT_SIZE: &str = "100000";
+
 /// How many conflicts a search over a formula may meet where the words do not say.
 const DEFAULT_CONFLICTS: &str = "1000000";
 
@@ -97,10 +100,9 @@ pub fn required_file<'a>(alloc: Global, name: &'a str, help: &'a str) -> Arg<'a>
 
 pub fn size<'a>(alloc: Global) -> Arg<'a> {
     valued(alloc, "size", "N")
-        .help(
-            "How many transactions each piece has at least, 1 to 900; else a log that check takes is one piece, and others are cut by 250",
-        )
-        .value_parser(clap::value_parser!(u16).range(1..=900))
+        .help("How many transactions each piece has at least, 1 to 10000000")
+        .value_parser(clap::value_parser!(u32).range(1..=10_000_000))
+        .default_value(DEFAULT_SIZE)
 }
 
 pub fn at_least<'a>(alloc: Global) -> Arg<'a> {

@@ -57,11 +57,6 @@ fn level_of(matches: &ArgMatches<'_>) -> Option<Isolation> {
     }
 }
 
-/// How many transactions each piece has at least, where this is stated.
-fn size_of(matches: &ArgMatches<'_>) -> Option<usize> {
-    matches.get_one::<u16>("size").map(usize::from)
-}
-
 fn audit_of<'a>(matches: &ArgMatches<'a>) -> AuditWords<'a> {
     AuditWords {
         at_least: matches.get_one::<u32>("at-least").unwrap_or(1) as usize,
@@ -120,7 +115,7 @@ fn command_of<'a>(name: &str, matches: &ArgMatches<'a>) -> Option<Command<'a>> {
         "explain" => Some(explain_of(matches)),
         "audit" => Some(Command::Audit(audit_of(matches))),
         "pieces" => Some(Command::Pieces {
-            size: size_of(matches),
+            size: matches.get_one::<u32>("size")? as usize,
             wanted: wanted_of(matches),
         }),
         "split" => Some(Command::Split),

@@ -12,37 +12,24 @@ pub enum Command<'a> {
     /// Write the formula of the log.
     Encode,
     /// Turn a solver's answer, in this file, into a serial order.
-    Decode {
-        model: &'a str,
-    },
+    Decode { model: &'a str },
     /// Check the solver's proof in this file that the formula of the log cannot be satisfied.
-    Refute {
-        proof: &'a str,
-    },
+    Refute { proof: &'a str },
     /// Decide whether some serial order explains the log, by a search over its formula that meets so
     /// many conflicts at most.
-    Solve {
-        conflicts: u32,
-    },
+    Solve { conflicts: u32 },
     /// Decide whether some serial order explains the log.
     Check,
     /// Check the order in this file.
-    Verify {
-        order: &'a str,
-    },
+    Verify { order: &'a str },
     /// Write how large the log and its formula are.
     Stats,
     /// Say why no serial order explains the log.
-    Explain {
-        format: Format,
-    },
+    Explain { format: Format },
     /// Decide whether some serial order explains a log of any length.
     Audit(AuditWords<'a>),
-    /// Cut the log into pieces, of at least so many transactions where this is stated.
-    Pieces {
-        size: Option<usize>,
-        wanted: PiecesWord<'a>,
-    },
+    /// Cut the log into pieces, of at least so many transactions.
+    Pieces { size: usize, wanted: PiecesWord<'a> },
     /// Write the log in which each committed transaction that writes is split in two.
     Split,
 }

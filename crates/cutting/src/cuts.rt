@@ -14,7 +14,7 @@ use session_log::Session;
 use std::alloc::{AllocError, Global};
 
 /// The pieces of sessions whose outcomes are known. A piece ends at the first cut before which it
-/// has at least `size` committed transactions, or sooner where it would have too many for a log.
+/// has at least `size` committed transactions.
 pub fn cut<'a>(alloc: Global, sessions: &'a [Session], size: usize) -> Result<Cuts<'a>, AllocError>
     ensures split { IfOk result (λ cuts. IsDistinct nat_eq
         (map (λ s. s.number) (map view sessions.now)) →

@@ -3,10 +3,9 @@
 use crate::known::{all_over, is_committed};
 use crate::part::Part;
 use crate::split::{Count, Proposal, take_first, whole};
-use serializability::MAX_NODES;
-use session_log::{Key, MAX_KEYS, MAX_LOG_BYTES, MAX_OPERATIONS, MAX_SESSIONS, Op, Session, Txn};
+use session_log::{Op, Session, Txn};
 use std::alloc::{AllocError, Global};
-use std::collections::{BTreeMap, BTreeSet};
+use std::collections::BTreeMap;
 
 /// A transaction of the log: its session, its place there, whether it is a node, the latest moment
 /// at which it or a node before it in its session is said to have begun (0 where none is), and the
@@ -226,212 +225,25 @@ fn is_before(over: Option<u64>, moment: u64) -> bool {
     }
 }
 
-/// By the moments since which transactions come, whether all nodes before each one are over before
-/// its moment, and this is later than that of the one before it.
-fn cuttable(
-    alloc: Global,
-    sessions: &[Session],
-    by_since: &[Spot],
-) -> Result<Vec<bool>, AllocError> {
-    let mut cuttable = Vec::with_capacity(alloc, by_since.len())?;
+/// The moments at which the log is to be cut, of its transactions by the moments since which they
+/// come: each one before which all nodes so far are over, and so many lie since the one before it.
+fn moments(alloc: Global, by_since: &[Spot], least: usize) -> Result<Vec<u64>, AllocError> {
+    let mut moments = Vec::new(alloc);
+    let mut nodes = 0usize;
     let mut since = 0;
     let mut over = Some(0);
-    let mut is_first = true;
     for spot in by_since {
-        cuttable.push(
-            !is_first && spot.is_node && since < spot.since && is_before(over, spot.since),
-        )?;
-        is_first = false;
+        if spot.is_node {
+            if nodes > 0 && nodes >= least && since < spot.since && is_before(over, spot.since) {
+                moments.push(spot.since)?;
+                nodes = 0;
+            }
+            nodes = nodes.saturating_add(1);
+            over = later(over, spot.over);
+        }
         since = spot.since;
-        if let Some(txn) = txn_at(sessions, *spot) {
-            if is_committed(txn) {
-                over = later(over, spot.over);
-            }
-        }
     }
-    Ok(cuttable)
-}
-
-/// How large a piece is so far, as a log, with what may be read at its end.
-#[derive(Drop)]
-struct Size<'a> {
-    /// Its number, from 1.
-    piece: usize,
-    nodes: usize,
-    ends: usize,
-    sessions: usize,
-    ops: usize,
-    bytes: usize,
-    /// Its keys, counted once it has so many operations that there may be too many.
-    keys: BTreeSet<&'a Key>,
-    counts_keys: bool,
-    /// By session, the last piece that has transactions of it, and the last in which it writes.
-    seen: Vec<usize>,
-    wrote: Vec<usize>,
-}
-
-/// The most bytes of a line without its key.
-const LINE: usize = 32;
-
-impl<'a> Size<'a> {
-    fn new(alloc: Global, sessions: usize) -> Result<Size<'a>, AllocError> {
-        Ok(Size {
-            piece: 1,
-            nodes: 0,
-            ends: 0,
-            sessions: 0,
-            ops: 0,
-            bytes: 0,
-            keys: BTreeSet::new(alloc),
-            counts_keys: false,
-            seen: vec![in alloc; 0; sessions]?,
-            wrote: vec![in alloc; 0; sessions]?,
-        })
-    }
-
-    /// The next piece begins.
-    fn restart(&mut self) {
-        self.piece = self.piece.saturating_add(1);
-        self.nodes = 0;
-        self.ends = 0;
-        self.sessions = 0;
-        self.ops = 0;
-        self.bytes = 0;
-        self.keys.clear();
-        self.counts_keys = false;
-    }
-
-    fn add_bytes(&mut self, bytes: usize) {
-        self.bytes = self.bytes.saturating_add(bytes);
-    }
-
-    /// No more are counted than show that there are too many.
-    fn add_keys(&mut self, ops: &'a [Op]) -> Result<(), AllocError> {
-        for op in ops {
-            if self.keys.len() > MAX_KEYS {
-                break;
-            }
-            let (Op::Read { key, .. } | Op::Write { key, .. }) = op;
-            self.keys.insert(key)?;
-        }
-        Ok(())
-    }
-
-    /// A write may be read at the end.
-    fn add_end(&mut self, session: usize) {
-        self.ops = self.ops.saturating_add(1);
-        if session < self.wrote.len() && self.wrote[session] != self.piece {
-            self.wrote[session] = self.piece;
-            self.ends = self.ends.saturating_add(1);
-        }
-    }
-
-    fn add_op(&mut self, session: usize, op: &Op) {
-        let (Op::Read { key, .. } | Op::Write { key, .. }) = op;
-        self.ops = self.ops.saturating_add(1);
-        self.add_bytes(2 * LINE + 2 * key.as_bytes().len().min(64));
-        if let Op::Write { .. } = op {
-            self.add_end(session);
-        }
-    }
-
-    fn add(&mut self, session: usize, txn: &'a Txn) -> Result<(), AllocError> {
-        if session < self.seen.len() && self.seen[session] != self.piece {
-            self.seen[session] = self.piece;
-            self.sessions = self.sessions.saturating_add(1);
-            self.add_bytes(LINE);
-        }
-        if is_committed(txn) {
-            self.nodes = self.nodes.saturating_add(1);
-        }
-        self.add_bytes(4 * LINE);
-        for op in &txn.ops {
-            self.add_op(session, op);
-        }
-        if self.counts_keys {
-            self.add_keys(&txn.ops)?;
-        }
-        Ok(())
-    }
-
-    /// Counts the keys, where there may be too many: those of these transactions, which are all of
-    /// the piece.
-    fn count_keys(&mut self, sessions: &'a [Session], spots: &[Spot]) -> Result<(), AllocError> {
-        if self.counts_keys || self.ops <= MAX_KEYS {
-            return Ok(());
-        }
-        self.counts_keys = true;
-        for spot in spots {
-            if let Some(txn) = txn_at(sessions, *spot) {
-                self.add_keys(&txn.ops)?;
-            }
-        }
-        Ok(())
-    }
-
-    /// Whether a log may not have as much.
-    fn is_too_large(&self) -> bool {
-        self.nodes.saturating_add(self.ends) > MAX_NODES
-            || self.sessions > MAX_SESSIONS
-            || self.ops > MAX_OPERATIONS
-            || self.bytes > MAX_LOG_BYTES
-            || self.keys.len() > MAX_KEYS
-    }
-}
-
-/// Where the next piece ends that begins here, where a cut follows. Each piece has a node.
-fn next_cut<'a>(
-    sessions: &'a [Session],
-    by_since: &[Spot],
-    cuttable: &[bool],
-    size: &mut Size<'a>,
-    least: usize,
-    start: usize,
-) -> Result<Option<usize>, AllocError> {
-    let mut last = None;
-    for at in start..by_since.len() {
-        if size.nodes > 0 && at < cuttable.len() && cuttable[at] {
-            if size.is_too_large() {
-                return Ok(last.or(Some(at)));
-            }
-            if size.nodes >= least {
-                return Ok(Some(at));
-            }
-            last = Some(at);
-        }
-        if let Some(txn) = txn_at(sessions, by_since[at]) {
-            size.add(by_since[at].session, txn)?;
-            size.count_keys(sessions, &by_since[start..at + 1])?;
-        }
-    }
-    Ok(if size.is_too_large() { last } else { None })
-}
-
-/// The moments at which the log is to be cut.
-fn moments(
-    alloc: Global,
-    sessions: &[Session],
-    least: usize,
-) -> Result<(Vec<Spot>, Vec<u64>), AllocError> {
-    let spots = marked(alloc, sessions)?;
-    let mut by_since = Vec::from_slice(alloc, &spots)?;
-    by_since.sort_unstable_by_key(|spot| (spot.since, !spot.is_node));
-    let cuttable = cuttable(alloc, sessions, &by_since)?;
-    let mut size = Size::new(alloc, sessions.len())?;
-    let mut moments = Vec::new(alloc);
-    let mut start = 0;
-    for _ in 0..by_since.len() {
-        let Some(at) = next_cut(sessions, &by_since, &cuttable, &mut size, least, start)? else {
-            break;
-        };
-        if at >= by_since.len() {
-            break;
-        }
-        moments.push(by_since[at].since)?;
-        start = at;
-        size.restart();
-    }
-    Ok((spots, moments))
+    Ok(moments)
 }
 
 /// A cut at each of these moments, before which nothing lies yet.
@@ -460,13 +272,16 @@ fn add_count(
 }
 
 /// The cuts of a log whose outcomes are known: a piece ends at the first one before which it has at
-/// least so many nodes, or at the last one before it would be too large.
+/// least so many nodes.
 pub fn proposals(
     alloc: Global,
     sessions: &[Session],
     least: usize,
 ) -> Result<Vec<Proposal>, AllocError> {
-    let (spots, moments) = moments(alloc, sessions, least)?;
+    let spots = marked(alloc, sessions)?;
+    let mut by_since = Vec::from_slice(alloc, &spots)?;
+    by_since.sort_unstable_by_key(|spot| (spot.since, !spot.is_node));
+    let moments = moments(alloc, &by_since, least)?;
     let mut proposals = empty(alloc, &moments)?;
     let proposed = proposals.as_mut_slice();
     let mut session = 0;
@@ -504,8 +319,6 @@ fn first_of<'a>(
             first.push(Part {
                 number: rest[count.session].number,
                 txns: here,
-                session: count.session,
-                before: 0,
             })?;
         }
     }

@@ -17,4 +17,3 @@ mod split;
 
 pub use cuts::cut;
 pub use part::{Cuts, Part, Piece};
-pub use split::uncut;

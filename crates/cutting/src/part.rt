@@ -7,9 +7,6 @@ use session_log::Txn;
 pub struct Part<'a> {
     pub number: u16,
     pub txns: &'a [Txn],
-    /// Which of the log's sessions this is, and how many of its transactions stand before these.
-    pub session: usize,
-    pub before: usize,
 }
 
 /// What lies before a cut and behind the one before it, of each session that has transactions

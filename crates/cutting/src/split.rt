@@ -36,11 +36,8 @@ fn take_from<'a>(part: &mut Part<'a>, count: usize) -> Part<'a>
     let first = Part {
         number: part.number,
         txns: here,
-        session: part.session,
-        before: part.before,
     };
     part.txns = behind;
-    part.before = part.before.saturating_add(count);
     first
 }
 
@@ -74,12 +71,10 @@ pub fn whole<'a>(alloc: Global, sessions: &'a [Session]) -> Result<Vec<Part<'a>>
     ensures { IfOk result (λ parts. parts_view parts.items ≡ map view sessions.now) }
 {
     let mut parts = Vec::with_capacity(alloc, sessions.len())?;
-    for (i, session) in sessions.iter().enumerate() {
+    for session in sessions {
         parts.push(Part {
             number: session.number,
             txns: session.txns.as_slice(),
-            session: i,
-            before: 0,
         })?;
     }
     Ok(parts)

@@ -10,11 +10,11 @@ use Rattle.std.proofs.lemmas.List.{map-append, reverse-append}
 use Rattle.std.proofs.lemmas.Slice.Eq.{bytes_eq-Decides}
 use Rattle.session_log.specs.Text.{ClientSession, Transaction}
 use Rattle.session_log.specs.declared.session.Op.{Op}
-use Rattle.session_log.specs.declared.session.Op.TheVariants.{Write}
+use Rattle.session_log.specs.declared.session.Op.TheVariants.{Read, Write}
 use Rattle.piece_laws.specs.Held.{Held, open_ops, read_held, writes_key, closing}
 use Rattle.piece_laws.specs.Logs.{open_txn, opened, committed_reads, closed}
 use Rattle.cutting.proofs.Views.{get_drop}
-use Rattle.held_pieces.specs.Ops.{seen}
+use Rattle.held_pieces.specs.Ops.{seen, reads_of}
 use Rattle.held_pieces.specs.Kept.{session_of}
 use Rattle.held_pieces.proofs.Steps.{ref_cmp, is_key}
 use denote.Ref.{Bor}
@@ -26,13 +26,26 @@ seen_before ops back j o lt e at =
     let next : suc j ≡ length ops - back = omega (arith, lt, e) in
     ap (λ n. seen (drop n ops)) here ∙ ap seen (get_drop ops j o at) ∙ ap (λ n. o.now ∷ seen (drop n ops)) next
 
-one_reversed : (before : Held) (key : List ℕ) (o : Option ℕ) → reverse (open_ops before (read_held key o)) ≡ open_ops before (read_held key o)
-one_reversed before key None = refl
-one_reversed before key (Some wid) = refl
+-- the reads of a list that is reversed
+map_append : {X Y : Type 0} (f : X → Y) (xs ys : List X) → map f (xs ++ ys) ≡ map f xs ++ map f ys
+map_append f [] ys = refl
+map_append f (x ∷ xs) ys = ap (λ l. f x ∷ l) (map_append f xs ys)
 
-pub read_added : (before behind : Held) (old new : List Op) (key : List ℕ) (wid : ℕ) (rest : List Op) → list_any (writes_key key) rest ≡ false → new ≡ old ++ open_ops before (read_held key (behind key)) → reverse old ≡ open_ops before (closing behind rest)
-    → reverse new ≡ open_ops before (closing behind (Write key wid ∷ rest))
-read_added before behind old new key wid rest none is h = grind (arith, reverse-append, one_reversed, map-append)
+pub reads_reversed : (reads : List (ℕ × Bor (List ℕ))) → reads_of (reverse reads) ≡ reverse (reads_of reads)
+reads_reversed [] = refl
+reads_reversed (r ∷ reads) =
+    ap reads_of (reverse-append (r ∷ []) reads)
+    ∙ map_append (λ (r : ℕ × Bor (List ℕ)). Read r.1.now r.0) (reverse reads) (r ∷ [])
+    ∙ ap (λ l. l ++ Read r.1.now r.0 ∷ []) (reads_reversed reads)
+    ∙ sym (reverse-append (Read r.1.now r.0 ∷ []) (reads_of reads))
+
+one_reversed : (key : List ℕ) (o : Option ℕ) → reverse (read_held key o) ≡ read_held key o
+one_reversed key None = refl
+one_reversed key (Some wid) = refl
+
+pub read_added : (behind : Held) (old new : List Op) (key : List ℕ) (wid : ℕ) (rest : List Op) → list_any (writes_key key) rest ≡ false → new ≡ old ++ read_held key (behind key) → reverse old ≡ closing behind rest
+    → reverse new ≡ closing behind (Write key wid ∷ rest)
+read_added behind old new key wid rest none is h = grind (arith, reverse-append, one_reversed)
 
 pub read_known : (behind : Held) (key : List ℕ) (wid : ℕ) (rest : List Op) → list_any (writes_key key) rest ≡ true → closing behind rest ≡ closing behind (Write key wid ∷ rest)
 read_known behind key wid rest some = (let at : closing behind (Write key wid ∷ rest) ≡ closing behind rest = rw some refl in sym at)

@@ -88,7 +88,7 @@ unwrap_cond : {X : Type 0} (b : Bool) (n : X) (o : Option X) (z : X) → unwrap_
 unwrap_cond true n o z = refl
 unwrap_cond false n o z = refl
 
-inserted : (old new : BTreeMap (ℕ × Bor (List ℕ)) ℕ) (k : List ℕ) (w n : ℕ) → UpdatesBy pair_cmp (read_cmp k w) old new (Some n) → (key : List ℕ) (wid : ℕ) → last_in new key wid ≡ cond (is_read key wid (Read k w)) n (last_in old key wid)
+pub inserted : (old new : BTreeMap (ℕ × Bor (List ℕ)) ℕ) (k : List ℕ) (w n : ℕ) → UpdatesBy pair_cmp (read_cmp k w) old new (Some n) → (key : List ℕ) (wid : ℕ) → last_in new key wid ≡ cond (is_read key wid (Read k w)) n (last_in old key wid)
 inserted old new k w n h key wid =
     ap (λ o. unwrap_or o 0) (h.0 (wid, ref key) ∙ ap (λ b. cond b (Some n) (get_by (read_cmp key wid) old)) (is_pair k key w wid))
     ∙ unwrap_cond (is_read key wid (Read k w)) n (get_by (read_cmp key wid) old) 0

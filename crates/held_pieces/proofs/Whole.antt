@@ -1,5 +1,6 @@
 -- What is kept is that of the pieces of the log.
-use Rattle.std.proofs.Common.{◌≡◌, ℕ, ◌+◌, List, [], ◌∷◌, ◌++◌, map, None, refl, sym, ap, ◌∙◌, subst, arith}
+use Rattle.std.proofs.Common.{◌≡◌, ℕ, ◌+◌, Bool, true, false, if◌then◌else◌, List, [], ◌∷◌, ◌++◌, map, None, refl, sym, ap, ◌∙◌, subst, arith}
+use Rattle.std.specs.List.{filter}
 use Rattle.std.specs.Prelude.{nat_lt}
 use Rattle.session_log.specs.Text.{ClientSession}
 use Rattle.session_log.specs.declared.session.Op.{Op}
@@ -13,7 +14,7 @@ use Rattle.cutting.specs.Splits.{counts_of, IsSplit, points_of}
 use Rattle.held_pieces.specs.Ops.{reads}
 use Rattle.held_pieces.specs.Reigns.{Lasts, AreLasts, held_behind, pieces_in}
 use Rattle.held_pieces.specs.Kept.{IsKept, AreKept}
-use Rattle.held_pieces.specs.Pieces.{HeldPiece, log_of, between, ArePieces}
+use Rattle.held_pieces.specs.Pieces.{HeldPiece, held_in, log_of, between, are_some, some_of, ArePieces}
 use Rattle.held_pieces.proofs.NodesRead.{present_ops, reads_later}
 use Rattle.held_pieces.proofs.Reigning.{until_of, none_where, is_held_behind}
 use Rattle.held_pieces.proofs.Agreed.{each_same, log_same, closed_none, present_opened, present_closed}
@@ -85,11 +86,32 @@ sessions f n earlier (c ∷ ps) last ss (p ∷ kept) split h =
     ap (λ l. l ∷ map (λ (p : HeldPiece). p.sessions) kept) (h.0.sessions ∙ split.0.firsts)
     ∙ ap (λ l. present (first_part (counts_of c.sessions) ss) ∷ l) more
 
-pub are_pieces : (f : Lasts) (ps : List CutOff) (last ss : List ClientSession) (kept : List HeldPiece) → IsSplit ps last ss → AreCutPoints (points_of ps) ss → AreLasts f 0 (pieces_in ps last) → AreKept f 0 [] (pieces_in ps last) kept
-    → ArePieces ss kept
-are_pieces f ps last ss kept split points lasts h = record {
+-- ---- those that have sessions
+still_some : (before behind : Held) (ss : List ClientSession) → are_some (opened before (closed behind ss)) ≡ are_some ss
+still_some before behind [] = refl
+still_some before behind (s ∷ ss) = refl
+
+map_if : {X Y : Type 0} (f : X → Y) (x : X) (b : Bool) (xs : List X) → map f (if b then x ∷ xs else xs) ≡ (if b then f x ∷ map f xs else map f xs)
+map_if f x true xs = refl
+map_if f x false xs = refl
+
+one_kept : {X : Type 0} (q : X → Bool) (x : X) (b : Bool) (xs ys : List X) → q x ≡ b → xs ≡ filter q ys → (if b then x ∷ xs else xs) ≡ filter q (x ∷ ys)
+one_kept q x true xs ys e h = rw e (ap (λ l. x ∷ l) h)
+one_kept q x false xs ys e h = rw e h
+
+some_sessions : (ps : List HeldPiece) → map (λ (p : HeldPiece). p.sessions) (some_of ps) ≡ filter are_some (map (λ (p : HeldPiece). p.sessions) ps)
+some_sessions [] = refl
+some_sessions (p ∷ ps) = map_if (λ (q : HeldPiece). q.sessions) p (are_some p.sessions) (some_of ps) ∙ one_kept are_some p.sessions (are_some p.sessions) (map (λ (q : HeldPiece). q.sessions) (some_of ps)) (map (λ (q : HeldPiece). q.sessions) ps) refl (some_sessions ps)
+
+some_logs : (ps : List HeldPiece) → map log_of (some_of ps) ≡ filter are_some (map log_of ps)
+some_logs [] = refl
+some_logs (p ∷ ps) = map_if log_of p (are_some p.sessions) (some_of ps) ∙ one_kept are_some (log_of p) (are_some p.sessions) (map log_of (some_of ps)) (map log_of ps) (still_some (held_in p.before) (held_in p.behind) p.sessions) (some_logs ps)
+
+pub are_pieces : (f : Lasts) (ps : List CutOff) (last ss : List ClientSession) (kept some : List HeldPiece) → IsSplit ps last ss → AreCutPoints (points_of ps) ss → AreLasts f 0 (pieces_in ps last) → AreKept f 0 [] (pieces_in ps last) kept → some ≡ some_of kept
+    → ArePieces ss some
+are_pieces f ps last ss kept some split points lasts h is = record {
   cuts = cuts_of f 0 [] ps;
   are = are_cuts f 0 [] ps last ss (λ e. refl) split points lasts;
-  sessions = sessions f 0 [] ps last ss kept split h;
-  logs = logs f 0 [] ps last ss kept split lasts h;
+  sessions = ap (map (λ (p : HeldPiece). p.sessions)) is ∙ some_sessions kept ∙ ap (filter are_some) (sessions f 0 [] ps last ss kept split h);
+  logs = ap (map log_of) is ∙ some_logs kept ∙ ap (filter are_some) (logs f 0 [] ps last ss kept split lasts h);
 }

@@ -15,6 +15,10 @@ use denote.Ref.{Bor}
 abbrev pub seen : List (Bor Op) → List Op
 seen ops = map (λ o. o.now) ops
 
+-- reads by identity and key
+abbrev pub reads_of : List (ℕ × Bor (List ℕ)) → List Op
+reads_of reads = map (λ r. Read r.1.now r.0) reads
+
 abbrev pub is_meant : Whose → Transaction → Bool
 is_meant All t = true
 is_meant Nodes t = is_committed t

@@ -1,5 +1,5 @@
 //! The pieces of a log that is cut, each with what its keys hold before it and behind it, and the
-//! log of each piece; and how large the pieces of a log are to be.
+//! log of each piece.
 //!
 //! Called by `pieces_command`. It knows no graph, no verdict and no command.
 //!
@@ -14,7 +14,5 @@ mod logs;
 mod ops;
 mod pieces;
 mod reigns;
-mod sizes;
 
 pub use pieces::Pieces;
-pub use sizes::size_of_pieces;

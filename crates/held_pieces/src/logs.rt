@@ -5,7 +5,9 @@ ghost use Rattle.session_log.specs.Text.{view, view_txn};
 ghost use Rattle.piece_laws.specs.Held.{exchanged, open_op, open_ops, closing, read_held};
 ghost use Rattle.piece_laws.specs.Logs.{open_txn, committed_reads};
 ghost use Rattle.cutting.specs.Parts.{part_view};
-ghost use Rattle.held_pieces.specs.Ops.{seen};
+ghost use Rattle.session_log.specs.declared.session.Op.TheVariants.{Read};
+ghost use Rattle.held_pieces.specs.Ops.{seen, reads_of};
+ghost use Rattle.held_pieces.specs.Pieces.{end_of};
 ghost use Rattle.held_pieces.specs.Kept.{held_of, session_of};
 
 use crate::ops::ops_of_txns;
@@ -44,11 +46,7 @@ fn opened(alloc: Global, op: &Op, before: &BTreeMap<Key, u64>) -> Result<Op, All
     ensures { IfOk result (λ new. new ≡ open_op (held_of before.now) op.now) }
 {
     match op {
-        Op::Read { key, wid } => {
-            let wid = exchanged(held_in(before, key), *wid);
-            let key = key.to_owned_key(alloc)?;
-            Ok(Op::Read { key, wid })
-        }
+        Op::Read { key, wid } => opened_read(alloc, *wid, key, before),
         Op::Write { key, wid } => {
             let key = key.to_owned_key(alloc)?;
             Ok(Op::Write { key, wid: *wid })
@@ -94,20 +92,16 @@ fn opened_txns(
 }
 
 /// Adds a read of the key, where something is held.
-fn add_read(
-    alloc: Global,
-    reads: &mut Vec<Op>,
-    key: &Key,
-    before: &BTreeMap<Key, u64>,
+fn add_read<'a>(
+    reads: &mut Vec<(u64, &'a Key)>,
+    key: &'a Key,
     behind: &BTreeMap<Key, u64>,
 ) -> Result<(), AllocError>
-    ensures { OnOk result (reads.new.items ≡ reads.old.items ++ open_ops (held_of before.now)
-        (read_held key.now (held_of behind.now key.now))) }
+    ensures { OnOk result (reads_of reads.new.items ≡ reads_of reads.old.items
+        ++ read_held key.now (held_of behind.now key.now)) }
 {
     if let Some(wid) = held_in(behind, key) {
-        let wid = exchanged(held_in(before, key), wid);
-        let key = key.to_owned_key(alloc)?;
-        reads.push(Op::Read { key, wid })?;
+        reads.push((wid, key))?;
     }
     Ok(())
 }
@@ -116,11 +110,10 @@ fn add_read(
 fn last_reads<'a>(
     alloc: Global,
     ops: &[&'a Op],
-    before: &BTreeMap<Key, u64>,
     behind: &BTreeMap<Key, u64>,
-) -> Result<Vec<Op>, AllocError>
-    ensures { IfOk result (λ reads. reads.items ≡ open_ops (held_of before.now)
-        (closing (held_of behind.now) (seen ops.now))) }
+) -> Result<Vec<(u64, &'a Key)>, AllocError>
+    ensures { IfOk result (λ reads. reads_of reads.items
+        ≡ closing (held_of behind.now) (seen ops.now)) }
 {
     let mut reads = Vec::new(alloc);
     let mut done = BTreeSet::new(alloc);
@@ -129,12 +122,54 @@ fn last_reads<'a>(
         if let Op::Write { key, .. } = op {
             if !done.contains(&key) {
                 done.insert(key)?;
-                add_read(alloc, &mut reads, key, before, behind)?;
+                add_read(&mut reads, key, behind)?;
             }
         }
     }
     reads.reverse();
     Ok(reads)
+}
+
+/// What is read at the end of a part: identities and keys.
+pub fn end_of<'a>(
+    alloc: Global,
+    part: &Part<'a>,
+    behind: &BTreeMap<Key, u64>,
+) -> Result<Vec<(u64, &'a Key)>, AllocError>
+    ensures { IfOk result (λ reads. reads_of reads.items
+        ≡ end_of (held_of behind.now) (part_view part.now)) }
+{
+    let ops = ops_of_txns(alloc, part.txns)?;
+    last_reads(alloc, &ops, behind)
+}
+
+/// The read of a key under this identity, where what is held is the initial value.
+fn opened_read(
+    alloc: Global,
+    wid: u64,
+    key: &Key,
+    before: &BTreeMap<Key, u64>,
+) -> Result<Op, AllocError>
+    ensures { IfOk result (λ new. new ≡ open_op (held_of before.now) (Read key.now wid)) }
+{
+    let wid = exchanged(held_in(before, key), wid);
+    let key = key.to_owned_key(alloc)?;
+    Ok(Op::Read { key, wid })
+}
+
+/// Such reads.
+fn opened_reads(
+    alloc: Global,
+    reads: &[(u64, &Key)],
+    before: &BTreeMap<Key, u64>,
+) -> Result<Vec<Op>, AllocError>
+    ensures { IfOk result (λ new. new.items ≡ open_ops (held_of before.now) (reads_of reads.now)) }
+{
+    let mut new = Vec::with_capacity(alloc, reads.len())?;
+    for read in reads {
+        new.push(opened_read(alloc, read.0, read.1, before)?)?;
+    }
+    Ok(new)
 }
 
 /// Adds a last transaction of these reads, where there are any.
@@ -163,8 +198,8 @@ pub fn session_of(
     ensures { IfOk result (λ session. view session ≡ session_of (held_of before.now)
         (held_of behind.now) (part_view part.now)) }
 {
-    let ops = ops_of_txns(alloc, part.txns)?;
-    let reads = last_reads(alloc, &ops, before, behind)?;
+    let reads = end_of(alloc, part, behind)?;
+    let reads = opened_reads(alloc, &reads, before)?;
     let mut txns = opened_txns(alloc, part.txns, before)?;
     add_last(&mut txns, reads)?;
     Ok(Session {

@@ -1,17 +1,16 @@
 //! The pieces of a log.
 
-ghost use Rattle.std.specs.Prelude.{◌≡◌, ◌<◌, Some, nat_eq, IfOk, length, map, slice_get};
-ghost use Rattle.std.specs.List.{IsDistinct};
+ghost use Rattle.std.specs.Prelude.{◌≡◌, ◌<◌, Some, IfOk, length, map, slice_get};
 ghost use Rattle.session_log.specs.Text.{view};
 ghost use Rattle.piece_laws.specs.Logs.{IsSoundLog, IsLearntLog};
-ghost use Rattle.cutting.specs.Parts.{parts_view, piece_view};
-ghost use Rattle.cutting.specs.Splits.{IsSplit, AreApart};
-ghost use Rattle.held_pieces.specs.Pieces.{ArePieces, held_in, log_of};
+ghost use Rattle.cutting.specs.Parts.{part_view, parts_view};
+ghost use Rattle.held_pieces.specs.Ops.{reads_of};
+ghost use Rattle.held_pieces.specs.Pieces.{ArePieces, held_in, end_of, log_of, some_of};
 ghost use Rattle.held_pieces.specs.Kept.{kept_view};
 
 use crate::keeping::{Kept, keep};
-use crate::logs::{held_in, session_of};
-use cutting::{Cuts, Part, cut, uncut};
+use crate::logs::{end_of, session_of};
+use cutting::{Part, cut};
 use session_log::{Key, Session};
 use std::alloc::{AllocError, Global};
 use std::marker::Model;
@@ -36,19 +35,19 @@ impl<'a> Model for Pieces<'a> {
 
 impl<'a> Pieces<'a> {
     /// The pieces of sessions whose outcomes are known. Each ends at the first cut before which it
-    /// has at least so many nodes, or sooner where it would have too many for a log; where nothing
-    /// is stated, the log is one piece.
+    /// has at least so many nodes.
     pub fn of(
         alloc: Global,
         sessions: &'a [Session],
-        least: Option<usize>,
+        least: usize,
     ) -> Result<Pieces<'a>, AllocError>
         ensures pieces { IfOk result (λ pieces. IsSoundLog (map view sessions.now)
             → IsLearntLog (map view sessions.now) →
             ArePieces (map view sessions.now) pieces) }
     {
-        let cuts = cuts_of(alloc, sessions, least)?;
+        let cuts = cut(alloc, sessions, least)?;
         let kept = keep(alloc, &cuts)?;
+        let kept = some_of(alloc, kept)?;
         Ok(Pieces { kept })
     }
 
@@ -77,32 +76,33 @@ impl<'a> Pieces<'a> {
         &self.kept[piece].parts
     }
 
-    /// What a key of the piece holds before it, where this is known.
-    pub fn held_before(&self, piece: usize, key: &Key) -> Option<u64>
+    /// What is read at the end of a part, if it is one of the piece: by identities and keys, the
+    /// reads of the whole log for which the last transaction in the piece's log stands.
+    pub fn end(
+        &self,
+        alloc: Global,
+        piece: usize,
+        part: &Part<'a>,
+    ) -> Result<Vec<(u64, &'a Key)>, AllocError>
         requires { piece < length self.now }
-        ensures held { (p : _) → slice_get self.now piece ≡ Some p
-            → result ≡ held_in p.before key.now }
+        ensures end { IfOk result (λ reads. (p : _) → slice_get self.now piece ≡ Some p
+            → reads_of reads.items ≡ end_of (held_in p.behind) (part_view part.now)) }
     {
-        held_in(&self.kept[piece].before, key)
+        end_of(alloc, part, &self.kept[piece].behind)
     }
 }
 
-/// The log cut so, or as one piece.
-fn cuts_of<'a>(
-    alloc: Global,
-    sessions: &'a [Session],
-    least: Option<usize>,
-) -> Result<Cuts<'a>, AllocError>
-    ensures split { IfOk result (λ cuts. IsDistinct nat_eq
-        (map (λ s. s.number) (map view sessions.now)) →
-        IsSplit (map piece_view cuts.pieces.items) (parts_view cuts.last.items) (map view sessions.now)) }
-    ensures apart { IfOk result (λ cuts. AreApart (map piece_view cuts.pieces.items)
-        (parts_view cuts.last.items)) }
+/// Those that have transactions.
+fn some_of<'a>(alloc: Global, kept: Vec<Kept<'a>>) -> Result<Vec<Kept<'a>>, AllocError>
+    ensures { IfOk result (λ some. map kept_view some.items ≡ some_of (map kept_view kept.entry.items)) }
 {
-    match least {
-        Some(least) => cut(alloc, sessions, least),
-        None => uncut(alloc, sessions),
+    let mut some = Vec::with_capacity(alloc, kept.len())?;
+    for it in kept {
+        if !it.parts.is_empty() {
+            some.push(it)?;
+        }
     }
+    Ok(some)
 }
 
 fn log_of(alloc: Global, kept: &Kept) -> Result<Vec<Session>, AllocError>

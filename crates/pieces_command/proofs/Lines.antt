@@ -1,14 +1,10 @@
 -- The lines of pieces, one after another.
-use Rattle.std.proofs.Common.{◌≡◌, ℕ, suc, ◌+◌, ◌<◌, List, ◌∷◌, ◌++◌, length, drop, Some, sym, ap, ◌∙◌, arith, append_assoc}
+use Rattle.std.proofs.Common.{◌≡◌, ℕ, ◌+◌, ◌<◌, List, ◌∷◌, ◌++◌, length, drop, Some, sym, ap, ◌∙◌, append_assoc}
 use Rattle.std.specs.Prelude.{slice_get}
 use Rattle.session_log.specs.Text.{ClientSession}
-use Rattle.cutting.proofs.Views.{get_drop}
-use Rattle.long_reading.proofs.Read.{some_at}
 use Rattle.held_pieces.specs.Pieces.{HeldPiece}
+use Rattle.piece_maps.proofs.Steps.{from_here, some_at}
 use Rattle.pieces_command.specs.Told.{line_of, lines_from}
-
-from_here : {X : Type 0} (xs : List X) (i : ℕ) (x : X) → slice_get xs i ≡ Some x → drop i xs ≡ x ∷ drop (i + 1) xs
-from_here xs i x e = let next : suc i ≡ i + 1 = omega arith in get_drop xs i x e ∙ ap (λ k. x ∷ drop k xs) next
 
 put : (p : HeldPiece) (ps : List HeldPiece) (i : ℕ) (out more whole : List ℕ) → more ≡ out ++ line_of (i + 1) p.sessions → out ++ lines_from (i + 1) (p ∷ ps) ≡ whole → more ++ lines_from (i + 1 + 1) ps ≡ whole
 put p ps i out more whole e h = ap (λ l. l ++ lines_from (i + 1 + 1) ps) e ∙ append_assoc out (line_of (i + 1) p.sessions) (lines_from (i + 1 + 1) ps) ∙ h

@@ -1,1 +1,4 @@
+pub mod Folders
+pub mod Faults
+pub mod Files
 pub mod Told

@@ -3,7 +3,9 @@
 ghost use Rattle.std.specs.Prelude.{◌≡◌};
 ghost use Rattle.session_log.specs.declared.fault.LogFault.TheVariants.{Memory};
 ghost use Rattle.pieces_command.specs.declared.fault.PiecesFault.TheVariants.{Log, Output};
+ghost use Rattle.pieces_command.specs.Faults.{fault_of};
 
+use crate::folder::FolderFault;
 use dimacs::WriteFault;
 use session_log::LogFault;
 use std::alloc::AllocError;
@@ -15,8 +17,10 @@ pub enum PiecesFault {
     Log(LogFault),
     /// It has only so many pieces.
     NoSuchPiece { pieces: usize },
-    /// The sink failed.
-    Output,
+    /// The sink failed, behind so many bytes.
+    Output { written: u64 },
+    /// The folder failed.
+    Folder,
 }
 
 impl From<LogFault> for PiecesFault {
@@ -36,9 +40,22 @@ impl From<AllocError> for PiecesFault {
 }
 
 impl From<WriteFault> for PiecesFault {
-    ghost from_gives = { λ _ e. e ≡ Output };
+    ghost from_gives = { λ f e. e ≡ Output f.written };
 
-    fn from(_failed: WriteFault) -> PiecesFault {
-        PiecesFault::Output
+    fn from(failed: WriteFault) -> PiecesFault {
+        PiecesFault::Output {
+            written: failed.written,
+        }
+    }
+}
+
+impl From<FolderFault> for PiecesFault {
+    ghost from_gives = { λ f e. e ≡ fault_of f };
+
+    fn from(fault: FolderFault) -> PiecesFault {
+        match fault {
+            FolderFault::Memory => PiecesFault::Log(LogFault::Memory),
+            FolderFault::Failed => PiecesFault::Folder,
+        }
     }
 }

@@ -1,32 +1,33 @@
 //! A long log whose outcomes are known.
 
 ghost use Rattle.std.specs.Prelude.{List, ℕ, IfOk, IfErr};
-ghost use Rattle.pieces_command.specs.Told.{IsKnown, ArePiecesOf, IsRefusal};
+ghost use Rattle.log_definitions.specs.Unknown.{resolved};
+ghost use Rattle.long_log_definitions.specs.LongLog.{IsLongLogFault};
+ghost use Rattle.held_pieces.specs.Pieces.{ArePieces};
+ghost use Rattle.pieces_command.specs.Told.{IsKnown};
 
-use crate::fault::PiecesFault;
 use desk::seat_no::Workers;
-use held_pieces::{Pieces, size_of_pieces};
+use held_pieces::Pieces;
 use known_outcomes::resolve;
 use long_reading::read_long_log;
-use session_log::{Session, Version};
+use session_log::{LogFault, Session, Version};
 use std::alloc::{AllocError, Global};
 use std::thread::Threads;
 
-/// The sessions of a long log with their outcomes known, and how many nodes its pieces are to have.
+/// The sessions of a long log with their outcomes known.
 #[derive(Drop)]
 pub struct KnownLog {
     pub version: Version,
     pub sessions: Vec<Session>,
-    pub size: Option<usize>,
 }
 
 impl KnownLog {
-    /// Its pieces.
-    pub fn pieces(&self, alloc: Global) -> Result<Pieces<'_>, AllocError>
-        ensures pieces { IfOk result (λ pieces. (log : List ℕ) → IsKnown log self.now
-            → ArePiecesOf log pieces) }
+    /// Its pieces, of at least so many nodes.
+    pub fn pieces(&self, alloc: Global, size: usize) -> Result<Pieces<'_>, AllocError>
+        ensures pieces { IfOk result (λ pieces. (log : List ℕ) (known : IsKnown log self.now)
+            → ArePieces (resolved known.sessions) pieces) }
     {
-        Pieces::of(alloc, &self.sessions, self.size)
+        Pieces::of(alloc, &self.sessions, size)
     }
 }
 
@@ -35,18 +36,12 @@ pub fn read_known<R: Threads + Sync>(
     rt: &R,
     alloc: Global,
     log: &[u8],
-    size: Option<usize>,
     workers: Workers,
-) -> Result<KnownLog, PiecesFault>
+) -> Result<KnownLog, LogFault>
     ensures known { IfOk result (IsKnown log.now) }
-    ensures refused { IfErr result (IsRefusal log.now) }
+    ensures refused { IfErr result (IsLongLogFault log.now) }
 {
     let (version, sessions) = read_long_log(rt, alloc, log, workers)?;
-    let size = size_of_pieces(alloc, log.len(), &sessions, size)?;
     let sessions = resolve(alloc, sessions)?;
-    Ok(KnownLog {
-        version,
-        sessions,
-        size,
-    })
+    Ok(KnownLog { version, sessions })
 }

@@ -6,28 +6,25 @@
 //! ```text
 //! list(rt, alloc, &log, size, workers, &mut sink)?;
 //! put_piece(rt, alloc, &log, size, workers, 3, &mut sink)?;
-//!
-//! let known = read_known(rt, alloc, &log, size, workers)?;
-//! let files = PieceFiles::of(alloc, &known)?;
-//! for piece in 0..files.count() {
-//!     let log = files.log(alloc, piece)?;
-//!     let map = files.map(alloc, piece)?;
-//! }
+//! put_files(rt, alloc, &log, size, workers, &mut folder)?;
 //! ```
 //!
 //! # What is promised
 //!
-//! The lines and the log of a piece are those of pieces between cuts of the log, with something
-//! held at each cut. Of the maps nothing is said but that each call is safe and returns.
+//! A text that is no long log is refused with its first fault. Else what is told are pieces between
+//! cuts of the log, all of them, with something held at each cut: their lines, the log of one, or
+//! for each of them two files: its log, and a map with the line of the whole log for each line of
+//! it. A number is refused exactly where there is no piece of it. Where a sink or a folder fails,
+//! or memory is refused between two files, the first bytes and files were put and no others.
 #![tactic(auto)]
 
 mod fault;
 mod files;
+mod folder;
 mod known;
 mod listing;
-mod places;
 
 pub use fault::PiecesFault;
-pub use files::PieceFiles;
-pub use known::{KnownLog, read_known};
+pub use files::put_files;
+pub use folder::{Folder, FolderFault};
 pub use listing::{list, put_piece};

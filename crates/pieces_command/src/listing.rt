@@ -1,13 +1,15 @@
 //! The lines and the logs of pieces.
 
-ghost use Rattle.std.specs.Prelude.{◌≡◌, ◌++◌, ◌∷◌, [], ◌+◌, ◌-◌, ◌<◌, ℕ, List, Some, IfOk, IfErr};
+ghost use Rattle.std.specs.Prelude.{◌≡◌, ◌++◌, ◌∷◌, [], ◌+◌, ◌<◌, ℕ, List, Some, IfOk, IfErr};
 ghost use Rattle.std.specs.Prelude.{OnOk, length, map, slice_get, decimal};
 ghost use Rattle.session_log.specs.Text.{Transaction, view_txn};
 ghost use Rattle.log_definitions.specs.Unknown.{txns_in};
 ghost use Rattle.cutting.specs.Parts.{parts_view};
 ghost use Rattle.held_pieces.specs.Pieces.{HeldPiece};
-ghost use Rattle.pieces_command.specs.Told.{AreNodes, line_of, lines_from, piece_text, IsListed};
-ghost use Rattle.pieces_command.specs.Told.{IsPieceTold, IsRefusal};
+ghost use Rattle.long_log_definitions.specs.LongLog.{IsLongLogFault};
+ghost use Rattle.piece_maps.specs.Maps.{piece_text};
+ghost use Rattle.pieces_command.specs.Told.{AreNodes, line_of, lines_from, IsList, IsPieceText};
+ghost use Rattle.pieces_command.specs.Told.{IsNoPiece, IsTold, IsListUntold, IsPieceUntold};
 
 use crate::fault::PiecesFault;
 use crate::known::read_known;
@@ -15,8 +17,8 @@ use cutting::Part;
 use desk::seat_no::Workers;
 use dimacs::{Sink, write_all};
 use held_pieces::Pieces;
-use itoa::Buffer;
-use session_log::{Outcome, Txn, print_log};
+use piece_maps::{put_number, sum};
+use session_log::{LogFault, Outcome, Txn, print_log};
 use std::alloc::{AllocError, Global};
 use std::thread::Threads;
 
@@ -25,13 +27,6 @@ use std::thread::Threads;
 pub struct NodeCounts {
     pub nodes: usize,
     pub operations: usize,
-}
-
-/// A sum, which is told as want of memory where it is too large for any.
-fn sum(one: usize, other: usize) -> Result<usize, AllocError>
-    ensures { IfOk result (λ sum. sum ≡ one + other) }
-{
-    one.checked_add(other).ok_or(AllocError)
 }
 
 impl NodeCounts {
@@ -76,23 +71,10 @@ impl NodeCounts {
     }
 }
 
-/// Appends a number and a byte.
-pub fn put_number(out: &mut Vec<u8>, number: usize, behind: u8) -> Result<(), AllocError>
-    ensures { OnOk result (out.new.items ≡ out.old.items ++ (decimal number ++ behind ∷ [])) }
-{
-    let mut digits = Buffer::new();
-    out.extend_from_slice(digits.format(number).as_bytes())?;
-    out.push(behind)?;
-    Ok(())
-}
-
-/// Appends the line of a piece, where it has transactions.
+/// Appends the line of a piece.
 fn put_line(out: &mut Vec<u8>, number: usize, parts: &[Part]) -> Result<(), AllocError>
     ensures { OnOk result (out.new.items ≡ out.old.items ++ line_of number (parts_view parts.now)) }
 {
-    if parts.is_empty() {
-        return Ok(());
-    }
     let counts = NodeCounts::of(parts)?;
     put_number(out, number, b' ')?;
     put_number(out, counts.nodes, b' ')?;
@@ -110,15 +92,6 @@ fn list_text(alloc: Global, pieces: &Pieces) -> Result<Vec<u8>, AllocError>
     Ok(out)
 }
 
-/// How many pieces have transactions: none does where the log has none.
-pub fn count_of(pieces: &Pieces) -> usize {
-    let count = pieces.count();
-    if count == 1 && pieces.parts(0).is_empty() {
-        return 0;
-    }
-    count
-}
-
 /// The text of a piece's log.
 pub fn piece_text(alloc: Global, pieces: &Pieces, piece: usize) -> Result<Vec<u8>, AllocError>
     requires { piece < length pieces.now }
@@ -129,17 +102,41 @@ pub fn piece_text(alloc: Global, pieces: &Pieces, piece: usize) -> Result<Vec<u8
     print_log(alloc, &log)
 }
 
-/// The text of the log of the piece of this number, from 1.
-fn numbered_text(alloc: Global, pieces: &Pieces, number: usize) -> Result<Vec<u8>, PiecesFault>
-    ensures told { IfOk result (λ text. (p : HeldPiece)
-        × (slice_get pieces.now (number - 1) ≡ Some p) × (text.items ≡ piece_text p)) }
-    ensures refused { IfErr result (λ f. (log : List ℕ) → IsRefusal log f) }
+/// The list of the pieces of a long log.
+fn list_of<R: Threads + Sync>(
+    rt: &R,
+    alloc: Global,
+    log: &[u8],
+    size: usize,
+    workers: Workers,
+) -> Result<Vec<u8>, LogFault>
+    ensures listed { IfOk result (λ text. IsList log.now text.items) }
+    ensures refused { IfErr result (IsLongLogFault log.now) }
 {
-    let count = count_of(pieces);
-    if number == 0 || number > count || number > pieces.count() {
+    let known = read_known(rt, alloc, log, workers)?;
+    let pieces = known.pieces(alloc, size)?;
+    Ok(list_text(alloc, &pieces)?)
+}
+
+/// The text of the log of the piece of this number of a long log.
+fn numbered_text<R: Threads + Sync>(
+    rt: &R,
+    alloc: Global,
+    log: &[u8],
+    size: usize,
+    workers: Workers,
+    number: usize,
+) -> Result<Vec<u8>, PiecesFault>
+    ensures text { IfOk result (λ text. IsPieceText log.now number text.items) }
+    ensures refused { IfErr result (IsNoPiece log.now number) }
+{
+    let known = read_known(rt, alloc, log, workers)?;
+    let pieces = known.pieces(alloc, size)?;
+    let count = pieces.count();
+    if number == 0 || number > count {
         return Err(PiecesFault::NoSuchPiece { pieces: count });
     }
-    Ok(piece_text(alloc, pieces, number - 1)?)
+    Ok(piece_text(alloc, &pieces, number - 1)?)
 }
 
 /// Puts a line `K TRANSACTIONS OPERATIONS` for each piece of a long log into a sink: its number
@@ -152,16 +149,14 @@ pub fn list<R: Threads + Sync, W: Sink>(
     rt: &R,
     alloc: Global,
     log: &[u8],
-    size: Option<usize>,
+    size: usize,
     workers: Workers,
     sink: &mut W,
 ) -> Result<(), PiecesFault>
-    ensures listed { OnOk result (IsListed log.now (W.bytes sink.old) (W.bytes sink.new)) }
-    ensures refused { IfErr result (IsRefusal log.now) }
+    ensures told { OnOk result (IsTold (IsList log.now) (W.bytes sink.old) (W.bytes sink.new)) }
+    ensures untold { IfErr result (IsListUntold log.now (W.bytes sink.old) (W.bytes sink.new)) }
 {
-    let known = read_known(rt, alloc, log, size, workers)?;
-    let pieces = known.pieces(alloc)?;
-    let text = list_text(alloc, &pieces)?;
+    let text = list_of(rt, alloc, log, size, workers)?;
     write_all(sink, &text)?;
     Ok(())
 }
@@ -175,17 +170,17 @@ pub fn put_piece<R: Threads + Sync, W: Sink>(
     rt: &R,
     alloc: Global,
     log: &[u8],
-    size: Option<usize>,
+    size: usize,
     workers: Workers,
     number: usize,
     sink: &mut W,
 ) -> Result<(), PiecesFault>
-    ensures told { OnOk result (IsPieceTold log.now number (W.bytes sink.old) (W.bytes sink.new)) }
-    ensures refused { IfErr result (IsRefusal log.now) }
+    ensures told { OnOk result
+        (IsTold (IsPieceText log.now number) (W.bytes sink.old) (W.bytes sink.new)) }
+    ensures untold { IfErr result
+        (IsPieceUntold log.now number (W.bytes sink.old) (W.bytes sink.new)) }
 {
-    let known = read_known(rt, alloc, log, size, workers)?;
-    let pieces = known.pieces(alloc)?;
-    let text = numbered_text(alloc, &pieces, number)?;
+    let text = numbered_text(rt, alloc, log, size, workers, number)?;
     write_all(sink, &text)?;
     Ok(())
 }

@@ -81,6 +81,8 @@ fn refused_words(rt: HostRuntime) {
         "cobra_poly check --size 3 log",
         "cobra_poly pieces --piece 0 log",
         "cobra_poly pieces --piece 1 --into d log",
+        "cobra_poly pieces --size 0 log",
+        "cobra_poly pieces --size 10000001 log",
         "cobra_poly pieces --budget 3 log",
         "cobra_poly split --plain log",
     ] {
@@ -359,34 +361,51 @@ fn files_of_audit(rt: HostRuntime) {
     see_files(&rt, rt.alloc(), line, "some.log", "an.order");
 }
 
-/// Whether a call is one of `pieces` that asks for the log of this one, or into this directory.
-fn asks_for(request: &Request<'_>, number: usize, directory: &str) -> bool {
+/// Whether these words ask for the piece of this number, or for all in this directory.
+fn wants(wanted: &PiecesWord<'_>, number: usize, directory: &str) -> bool {
+    match wanted {
+        PiecesWord::List => number == 0 && directory.is_empty(),
+        PiecesWord::Piece(piece) => *piece == number,
+        PiecesWord::Into(into) => *into == directory,
+    }
+}
+
+/// Whether a call is one of `pieces` of this size that asks for this.
+fn asks_for(request: &Request<'_>, least: usize, number: usize, directory: &str) -> bool {
     match &request.command {
-        Command::Pieces { wanted, .. } => match wanted {
-            PiecesWord::List => number == 0 && directory.is_empty(),
-            PiecesWord::Piece(piece) => *piece == number,
-            PiecesWord::Into(into) => *into == directory,
-        },
+        Command::Pieces { size, wanted } => *size == least && wants(wanted, number, directory),
         _ => false,
     }
 }
 
 /// Words are a call of `pieces` that asks for this.
-fn see_pieces(rt: &impl Abort, alloc: Global, line: &str, number: usize, directory: &str) {
+fn see_pieces(
+    rt: &impl Abort,
+    alloc: Global,
+    line: &str,
+    least: usize,
+    number: usize,
+    directory: &str,
+) {
     let words = words(rt, alloc, line);
     assert!(rt;
-        asks_for(&request(rt, alloc, &words), number, directory),
+        asks_for(&request(rt, alloc, &words), least, number, directory),
         "{line}"
     );
 }
 
 #[test]
 fn words_of_pieces(rt: HostRuntime) {
-    for (line, number, directory) in [
-        ("cobra_poly pieces --size 3 log", 0, ""),
-        ("cobra_poly pieces --piece 17", 17, ""),
-        ("cobra_poly pieces --into new log", 0, "new"),
+    for (line, least, number, directory) in [
+        ("cobra_poly pieces --size 1 log", 1, 0, ""),
+        ("cobra_poly pieces --piece 17", 100_000, 17, ""),
+        (
+            "cobra_poly pieces --size 10000000 --into new log",
+            10_000_000,
+            0,
+            "new",
+        ),
     ] {
-        see_pieces(&rt, rt.alloc(), line, number, directory);
+        see_pieces(&rt, rt.alloc(), line, least, number, directory);
     }
 }

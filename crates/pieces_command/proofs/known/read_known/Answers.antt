@@ -5,11 +5,6 @@ use Rattle.long_log_definitions.specs.LongLog.{memory}
 use Rattle.pieces_command.proofs.LongLogs.{own_numbers}
 use Rattle.pieces_command.proofs.known.read_known.Goals as goal
 
-pub returns-in_err-size-clause-refused : goal.returns-in_err-size-clause-refused
-returns-in_err-size-clause-refused g c =
-    let e = err_from_is_err_and c.from_residual-in_err-size.result c.from_residual-in_err-size.ensures.1 in
-    rw (e.1, e.2) memory
-
 pub resolve-requires-clause-numbers : goal.resolve-requires-clause-numbers
 resolve-requires-clause-numbers g c = (own_numbers c.args.log.now (map view c.in_ok-version.sessions.items) c.in_ok-version.ensures.accepted).sessions
 

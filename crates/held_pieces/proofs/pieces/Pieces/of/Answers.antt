@@ -14,6 +14,6 @@ returns c = record {
       let last = parts_view c.in_ok-cuts.cuts.last.items in
       let split = c.in_ok-cuts.ensures.split sound.sessions in
       let found = c.in_ok-kept.ensures in
-      are_pieces found.0 ps last ss (map kept_view c.in_ok-kept.kept.items) split (pieces_are_cut ps last ss learnt split c.in_ok-cuts.ensures.apart) found.1 found.2
+      are_pieces found.0 ps last ss (map kept_view c.in_ok-kept.kept.items) (map kept_view c.in_ok-kept-2.kept.items) split (pieces_are_cut ps last ss learnt split c.in_ok-cuts.ensures.apart) found.1 found.2 c.in_ok-kept-2.ensures
       );
 }
