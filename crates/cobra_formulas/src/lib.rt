@@ -1,7 +1,8 @@
 //! The history of a log, and the formula that belongs to a history: the plain one, or the reduced
 //! one of what pruning leaves.
 //!
-//! Called by `cobra_cli` and `refute_command`. It knows no answer, no search and no proof.
+//! Called by `cobra_cli`, `refute_command` and `solve_command`. It knows no answer, no search and no
+//! proof.
 #![tactic(auto)]
 
 mod basis;

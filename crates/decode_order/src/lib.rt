@@ -1,7 +1,7 @@
 //! Orders of a history's transactions: the one that an assignment of a formula stands for, and the
 //! replay of an order on the history.
 //!
-//! Called by `cobra_cli`. It knows no text, no pruning and no search.
+//! Called by `cobra_cli` and `solve_command`. It knows no text, no pruning and no search.
 #![tactic(auto)]
 
 mod decode;

@@ -1,7 +1,8 @@
 //! Sessions whose outcomes are known: a transaction whose client was not told counts as committed
 //! where it must have been, and else as aborted.
 //!
-//! Called by `audit_command` and `pieces_command`. It knows no piece, no node and no order.
+//! Called by `judging`, `pieces_command` and `split_command`. It knows no piece, no node and no
+//! order.
 #![tactic(auto)]
 
 mod count;

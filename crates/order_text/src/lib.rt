@@ -1,7 +1,7 @@
 //! The text of orders: one line for each place, written and read.
 //!
-//! Called by `cobra_answers`, `cobra_cli` and `tell_reasons`. It knows no formula, and not whether
-//! an order is serial.
+//! Called by `cobra_answers` and `cobra_cli`. It knows no formula, and not whether an order is
+//! serial.
 #![tactic(auto)]
 
 mod fault;

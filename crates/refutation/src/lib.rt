@@ -1,8 +1,8 @@
 //! Proofs by unit propagation, checked: the form of proof that Goldberg and Novikov (2003) take
 //! from a solver's learnt clauses, and that the proofs called RUP, DRAT and LRAT name.
 //!
-//! Called by `proof_checks`, which finds what it checks, and `refute_command`. It knows no text of
-//! a proof and no log.
+//! Called by `watched_clauses` and `proof_checks`, which find what it checks; `clause_search` and
+//! `formula_search` hand its checker on. It knows no text of a proof and no log.
 //!
 //! A checker keeps clauses that stand. A step of a proof names a clause; its literals are assumed
 //! false, and the checker is shown clauses that stand. One whose literals are all false but one
