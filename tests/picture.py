@@ -324,6 +324,7 @@ class Checks:
             ([skew, '--program', shutil.which('false')], AROUND, 'ends with 1'), ([skew, '--explained', skew], AROUND, 'not serializable'),
             ([skew, '--program', self.failing('unknown', '{"verdict":"unknown","reason":"1 closed"}', 3)], 3, '1 closed'),
             ([skew, '--program', self.failing('device', '', 5)], 5, 'ends with 5'),
+            ([skew, '--program', self.failing('silent', '{"verdict":"not serializable","code":null,"part":[],"explanation":[]}', 1)], AROUND, 'nothing to draw'),
             ([skew, '--explained', self.put('audited', self.audit(skew))], AROUND, 'this is what audit says'),
             ([skew, '--explained', self.put('json', self.audit(skew, '--format', 'json'))], AROUND, 'this is what audit says'),
             ([skew, '--explained', self.put('cut', 'not serializable: A8 cycle of known edges\n')], AROUND, 'breaks off'),

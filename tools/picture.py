@@ -521,6 +521,8 @@ def page_of(log, said, name, unit=None):
 def page_of_part(log, report, name, unit=None):
     """The page of the part of a log, given by its lines, that `audit` tells first, with the neighbours in its sessions."""
     part = [it['transaction'].split('.') for it in report['part']]
+    if not report['explanation']:
+        raise scripts.Stop('audit tells no reason of a part of %d transactions, so there is nothing to draw: audit --part FILE writes it as a log' % len(part))
     near = {'%s.%d' % (session, int(place) + by) for session, place in part for by in (-1, 0, 1)}
     history = History(scripts.transactions_of(log, near), unit)
     return Page(history, told.of_part(report), name, sum(report[outcome] for outcome in ('committed', 'aborted', 'unknown')))
