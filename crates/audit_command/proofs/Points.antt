@@ -1,5 +1,6 @@
 -- The text of an order of a level.
 use Rattle.std.proofs.Common.{◌≡◌, ℕ, List, refl, sym, ap, ◌∙◌, subst}
+use Rattle.std.specs.Prelude.{codes}
 use Rattle.std.specs.List.{flat_map}
 use Rattle.std.specs.Option.{option_map_or}
 use Rattle.std.proofs.Math.Path.{fun_ext}
@@ -37,8 +38,8 @@ unfolding node_of
 names_stay ss v = ap (λ nodes. option_map_or (λ (node : Committed). (node.session, node.place)) (node_in nodes v) (0, 0)) (nodes_stay ss)
 
 lines_stay : (ss : List ClientSession) (p : Point) → point_line (resolved ss) p ≡ point_line ss p
-lines_stay ss (snapshot v) = ap (λ name. word_line name _) (names_stay ss v)
-lines_stay ss (commit v) = ap (λ name. word_line name _) (names_stay ss v)
+lines_stay ss (snapshot v) = ap (λ name. word_line name (codes "snapshot")) (names_stay ss v)
+lines_stay ss (commit v) = ap (λ name. word_line name (codes "commit")) (names_stay ss v)
 
 along_stay : (ss : List ClientSession) (order : List ℕ) → points_along (resolved ss) order ≡ points_along ss order
 along_stay ss order = ap (λ nodes. flat_map (points_at (points_from 1 nodes)) order) (nodes_stay ss)

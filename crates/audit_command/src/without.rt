@@ -186,7 +186,7 @@ fn word_below<R: Threads + Wait + Clock + Eprint + Sync, P: Progress>(
     progress: &mut P,
 ) -> Result<Option<Word>, AllocError>
     requires log { IsLog (map view sessions.now) }
-    ensures kept { IfOk result (λ word. is_implied ≡ true → word ≡ Some word.Serializable) }
+    ensures kept { IfOk result (λ told. is_implied ≡ true → told ≡ Some word.Serializable) }
     ensures word { IfOk result (λ word. is_implied ≡ false → (ss : List ClientSession)
         → AllByRecursion IsLegal ss → IsSoundLog ss → map view sessions.now ≡ resolved ss
         → IsWordWhere means.now ss is_asked word) }
