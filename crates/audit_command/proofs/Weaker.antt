@@ -1,5 +1,5 @@
 -- What is kept at a level is kept at a weaker one.
-use Rattle.std.proofs.Common.{◌≡◌, Bool, true, false, List, Option, None, Some, refl, sym, ap, ◌∙◌, subst}
+use Rattle.std.proofs.Common.{◌≡◌, Bool, true, false, List, Option, None, Some, refl, subst}
 use Rattle.std.specs.Prelude.{◌&&◌, ◌||◌}
 use Rattle.std.specs.List.{AllByRecursion}
 use Rattle.session_log.specs.Text.{ClientSession, IsLegal}

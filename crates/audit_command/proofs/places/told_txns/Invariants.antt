@@ -1,4 +1,4 @@
-use Rattle.std.proofs.Common.{◌≡◌, ◌+◌, ◌++◌, map, drop}
+use Rattle.std.proofs.Common.{◌≡◌, ◌++◌, map, drop}
 use Rattle.session_log.specs.Text.{view}
 use Rattle.session_log.specs.Version.{first_line}
 use Rattle.audit_command.specs.Places.{told_in, told_by, chosen_by}

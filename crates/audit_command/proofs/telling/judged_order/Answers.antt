@@ -1,9 +1,6 @@
-use Rattle.std.proofs.Common.{List, map, sym, ap, ◌∙◌, subst}
+use Rattle.std.proofs.Common.{map, subst}
 use Rattle.std.proofs.lemmas.Result.{IfOk-weaker}
 use Rattle.session_log.specs.Text.{view}
-use Rattle.session_log.specs.declared.session.Session.{Session}
-use Rattle.level_laws.specs.Points.{points_along}
-use Rattle.point_orders.specs.Text.{points_text}
 use Rattle.judging.specs.Levels.{IsLogAt}
 use Rattle.audit_command.proofs.Points.{serial_text, points_order}
 use Rattle.audit_command.proofs.Resolved.{never_without_room}
