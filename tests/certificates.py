@@ -8,7 +8,7 @@ import explained, pieces_model, reference
 
 COUNTS = ('sessions', 'committed', 'aborted', 'unknown', 'taken', 'keys', 'operations', 'part')
 TITLES = {'A1 unknown read', 'A2 aborted read', 'A3 intermediate read', 'A4 own write missed', 'A5 future read', 'A6 split read', 'A7 lost update',
-          'A8 cycle of known edges', 'A9 pruning ends in a cycle', 'every cube is refuted'}
+          'A8 cycle of known edges', 'A9 pruning ends in a cycle', 'every cube is refuted', 'the formula is refuted'}
 WEAKER = {'strict snapshot isolation': 'strict_snapshot', 'snapshot isolation': 'snapshot'}
 STATUS = {'serializable': 0, 'not serializable': 1, 'unknown': 3, 'refused': 2}
 HEADING = re.compile(r'part of (\d+) transactions?: (.+)')
@@ -248,7 +248,8 @@ def renamed(checked, names):
 def check_code(program, said, part):
     """That `check` says of the part's file what is told of it; gives what it says."""
     checked = call(program, 'check', '--strategy', 'forced', '--workers', '1', text=said)
-    must(checked[0] == 1 and checked[1].startswith('not serializable: ' + part.title), '`check` says of the part %r, told is %r' % (checked, part.title))
+    title = 'every cube is refuted' if part.title == 'the formula is refuted' else part.title
+    must(checked[0] == 1 and checked[1].startswith('not serializable: ' + title), '`check` says of the part %r, told is %r' % (checked, part.title))
     return checked[1]
 
 
