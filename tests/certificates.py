@@ -9,6 +9,10 @@ import explained, pieces_model, reference
 COUNTS = ('sessions', 'committed', 'aborted', 'unknown', 'taken', 'keys', 'operations', 'part')
 TITLES = {'A1 unknown read', 'A2 aborted read', 'A3 intermediate read', 'A4 own write missed', 'A5 future read', 'A6 split read', 'A7 lost update',
           'A8 cycle of known edges', 'A9 pruning ends in a cycle', 'every cube is refuted', 'the formula is refuted'}
+SHORT = {title.split()[0] if title[0] == 'A' else title: title for title in TITLES}
+# What the field calls the anomalies.
+NAMES = {'A2': 'aborted read (G1a)', 'A3': 'intermediate read (G1b)', 'A4': 'own write missed (internal)', 'A5': 'future read (internal)',
+         'A6': 'non-repeatable read (internal)', 'A7': 'lost update (G-single)'}
 WEAKER = {'strict snapshot isolation': 'strict_snapshot', 'snapshot isolation': 'snapshot'}
 STATUS = {'serializable': 0, 'not serializable': 1, 'unknown': 3, 'refused': 2}
 HEADING = re.compile(r'part of (\d+) transactions?: (.+)')
@@ -80,8 +84,11 @@ class Part:
     """A part that is told: what was found of it, its transactions with their lines, and why it has no order."""
 
     def __init__(self, heading, listed, why):
-        count, self.title = HEADING.fullmatch(heading).groups()
-        must(self.title in TITLES, 'why the part is refuted: %r' % self.title)
+        count, found = HEADING.fullmatch(heading).groups()
+        name, _, short = found.rpartition(', ')
+        self.known_as = name or None
+        self.title = SHORT.get(short) if name else found
+        must(self.title in TITLES, 'why the part is refuted: %r' % found)
         self.code = self.title.split()[0] if self.title[0] == 'A' else None
         found = [tuple(map(int, each)) for each in TRANSACTION.findall(listed)]
         self.lines = {(number, place): (first, last) for number, place, first, last in found}
@@ -90,6 +97,9 @@ class Part:
         must(int(count) == len(found) == len(self.lines), 'says %s transactions, tells %d' % (count, len(self.lines)))
         must(('transaction:' in heading) == (len(found) == 1), 'the noun: %r' % heading)
         self.why = why
+        told = [line[len('known as: '):] for line in why if line.startswith('known as: ')]
+        must(not told or self.known_as in told, 'known as %r, and told as %r' % (self.known_as, told))
+        must(self.code not in NAMES or self.known_as in (None, NAMES[self.code]), 'A %s known as %r' % (self.code, self.known_as))
 
 
 class Answer:
@@ -296,8 +306,7 @@ def check_object(answer, said, explain=False):
     for part, each in zip(answer.parts, it['faults']):
         must((each['code'], each['part']) == (part.code, part_said(part)), 'JSON: fault %r' % each)
         must(each.get('explanation') == (part.why if explain else None), 'JSON: explanation %r' % each)
-        known = [line[len('known as: '):] for line in part.why if line.startswith('known as: ')]
-        must(not explain or each['known_as'] == (known or [None])[0], 'JSON: known as %r' % each['known_as'])
+        must(each['known_as'] == part.known_as, 'JSON: known as %r' % each['known_as'])
     first = it['faults'][0] if it['faults'] else dict(code=None, known_as=None, part=[])
     must({name: it.get(name) for name in first} == first, 'JSON: the first fault stands otherwise in front')
     return it

@@ -2,6 +2,7 @@ mod Counting
 mod Appended
 mod Names
 mod Parts
+mod Doubles
 mod Points
 mod Resolved
 mod Weaker

@@ -1,5 +1,5 @@
 -- What `audit` makes of a log of any length.
-use Rattle.std.specs.Prelude.{◌≡◌, ◌⊎◌, ℕ, ◌-◌, ◌<◌, ◌≤◌, ◌||◌, ◌&&◌, Bool, true, false, not, if◌then◌else◌}
+use Rattle.std.specs.Prelude.{◌≡◌, ◌⊎◌, ℕ, ◌+◌, ◌-◌, ◌<◌, ◌≤◌, ◌||◌, ◌&&◌, Bool, true, false, not, if◌then◌else◌}
 use Rattle.std.specs.Prelude.{List, [], ◌∷◌, length, map, count_by, Option, Some, None, is_some, Vec}
 use Rattle.std.specs.List.{list_any, AllByRecursion}
 use Rattle.std.specs.declared.alloc.Global.{Global}
@@ -25,6 +25,7 @@ use Rattle.judging.specs.declared.judged.Tried.{Tried}
 use Rattle.judging.specs.declared.judged.Verdict.TheVariants as verdict
 use Rattle.judging.specs.declared.means.JudgeMeans.{JudgeMeans}
 use Rattle.audit_command.specs.Counts.{AreCounts}
+use Rattle.audit_command.specs.Distinct.{AreDistinct}
 use Rattle.audit_command.specs.Levels.{asks_moments}
 use Rattle.audit_command.specs.Words.{status_of}
 use Rattle.audit_command.specs.Places.{told_by}
@@ -71,6 +72,14 @@ pub record IsPartTold (level : Level) (n : ℕ) (ss : List ClientSession) (p : T
 abbrev pub AreToldParts : Level → ℕ → List ClientSession → List ToldPart → Type 0
 AreToldParts level n ss parts = AllByRecursion (IsPartTold level n ss) parts
 
+-- of these parts, one at least and no more than are asked for, no two have the same transactions
+pub record AreParts (level : Level) (n : ℕ) (ss : List ClientSession) (asked : ℕ)
+    (parts : List ToldPart) : Type 0 where
+  pub some : 0 < length parts
+  pub at_most : length parts ≤ 1 + (asked - 1)
+  pub distinct : AreDistinct parts
+  pub told : AreToldParts level n ss parts
+
 -- it is not decided, and why
 abbrev pub IsOpen : JudgeMeans → List ClientSession → Type 0
 IsOpen m ss = (why : Why) × (tried : Tried) × IsVerdict m ss (verdict.Undecided why tried)
@@ -87,15 +96,14 @@ states_moments ss = list_any (λ s. some_state s.txns) ss
 
 -- That the sessions have an order of the level, at least so many are committed, and moments are
 -- stated where the level is one of these; that they have one, and state no moments; that they have
--- none, since each of these parts, of which there is one at least, has none; that they have one or
--- are not decided, and fewer are committed, and how many; or that they are not decided.
+-- none, since each of these parts has none; that they have one or are not decided, and fewer are
+-- committed, and how many; or that they are not decided.
 abbrev pub IsAnswer : AuditOptions → ℕ → List ClientSession → Answer → Type 0
 IsAnswer o n ss answer.Serializable = HasOrderAt o.means.level ss × (o.at_least ≤ nodes_in ss)
     × (asks_moments o.level ≡ true → states_moments ss ≡ true)
 IsAnswer o n ss answer.NoMoments = HasOrderAt o.means.level ss × (o.at_least ≤ nodes_in ss)
     × (asks_moments o.level ≡ true) × (states_moments ss ≡ false)
-IsAnswer o n ss (answer.NotSerializable parts) = (0 < length parts.items)
-    × AreToldParts o.means.level n ss parts.items
+IsAnswer o n ss (answer.NotSerializable parts) = AreParts o.means.level n ss o.faults parts.items
 IsAnswer o n ss (answer.TooFew committed asked) = (committed ≡ nodes_in ss)
     × (asked ≡ o.at_least) × (committed < o.at_least)
     × (HasOrderAt o.means.level ss ⊎ IsOpen o.means ss)

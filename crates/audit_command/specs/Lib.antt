@@ -1,6 +1,7 @@
 pub mod Audited
 pub mod Levels
 pub mod Counts
+pub mod Distinct
 pub mod Objects
 pub mod Places
 pub mod Report

@@ -8,6 +8,7 @@ use Rattle.std.specs.declared.alloc.Global.{Global}
 use Rattle.isolation.specs.Levels.{level_title}
 use Rattle.audit_command.specs.Words.{code_number, finding_title, word_text, word_of}
 use Rattle.audit_command.specs.Words.{verdict_text, kept_text}
+use Rattle.judging.specs.declared.judged.Finding.{Finding}
 use Rattle.isolation.specs.declared.level.Isolation.{Isolation}
 use Rattle.isolation.specs.declared.level.Isolation.TheVariants.{StrictSnapshot, Snapshot}
 use Rattle.audit_command.specs.declared.told.ToldTxn.{ToldTxn}
@@ -76,10 +77,19 @@ txns_text (t ∷ ts) = txn_text t ++ behind_comma ts
 abbrev pub noun_of : ℕ → List ℕ
 noun_of n = if n == 1 then codes " transaction: " else codes " transactions: "
 
+-- the code of a finding, or its name where it has none
+unfoldable pub short_title : Finding → List ℕ
+short_title f = if code_number f == 0 then finding_title f else field (codes "A") (code_number f)
+
+-- what was found of a part: what the field calls it and the code, or the code and its name
+unfoldable pub found_text : Option (String Global) → Finding → List ℕ
+found_text None f = finding_title f
+found_text (Some name) f = string_bytes name ++ codes ", " ++ short_title f
+
 -- how many transactions it has, and what was found of it
 abbrev pub heading_of : ToldPart → List ℕ
 heading_of p = field (codes "part of ") (length p.txns.items) ++ noun_of (length p.txns.items)
-    ++ finding_title p.refuted.finding ++ 10 ∷ []
+    ++ found_text p.known_as p.refuted.finding ++ 10 ∷ []
 
 -- which they are
 abbrev pub listed : List ToldTxn → List ℕ

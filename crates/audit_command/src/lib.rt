@@ -14,6 +14,7 @@
 mod codes;
 mod command;
 mod counts;
+mod distinct;
 mod explaining;
 mod files;
 mod known;

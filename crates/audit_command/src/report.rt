@@ -6,12 +6,13 @@ ghost use Rattle.audit_command.specs.Report.{behind_comma, code_count, code_line
 ghost use Rattle.audit_command.specs.Report.{middle_text, without_text, part_size, counts_text};
 ghost use Rattle.audit_command.specs.Report.{parts_text, first_size, report_text, too_few, heading_of};
 ghost use Rattle.audit_command.specs.Report.{listed, codes_where, behind_first, level_text, reason_line};
-ghost use Rattle.audit_command.specs.Report.{level_row, weaker_text};
+ghost use Rattle.audit_command.specs.Report.{level_row, weaker_text, short_title, found_text};
 
 use crate::codes::{code_number, finding_title, kept_text, verdict_text, word_of, word_text};
 use crate::lines::{put, put_count, put_line, put_lines, put_name, put_number};
 use crate::told::{Answer, Told, ToldPart, ToldTxn, Totals, Word};
 use isolation::Isolation;
+use judging::Finding;
 use std::alloc::{AllocError, Global};
 
 /// Appends how many committed transactions there are, and how many must be.
@@ -114,13 +115,45 @@ fn noun_of(count: usize) -> &'static [u8]
     }
 }
 
+/// Appends the code of a finding, or its name where it has none.
+#[tactic(auto, unfolding(crate::specs::Report::short_title))]
+fn put_short_title(out: &mut Vec<u8>, finding: Finding) -> Result<(), AllocError>
+    ensures put { OnOk result (out.new.items ≡ out.old.items ++ short_title finding) }
+{
+    let number = code_number(finding);
+    if number == 0 {
+        put(out, finding_title(finding).as_bytes())
+    } else {
+        put_number(out, b"A", number)
+    }
+}
+
+/// Appends what was found of a part: what the field calls it and the code, or the code and its name.
+#[tactic(auto, unfolding(crate::specs::Report::found_text))]
+fn put_found(
+    out: &mut Vec<u8>,
+    known_as: &Option<String>,
+    finding: Finding,
+) -> Result<(), AllocError>
+    ensures put { OnOk result (out.new.items ≡ out.old.items ++ found_text known_as.now finding) }
+{
+    match known_as {
+        None => put(out, finding_title(finding).as_bytes()),
+        Some(name) => {
+            put(out, name.as_bytes())?;
+            put(out, b", ")?;
+            put_short_title(out, finding)
+        }
+    }
+}
+
 /// Appends how many transactions a part has, and what was found of it.
 fn put_heading(out: &mut Vec<u8>, part: &ToldPart) -> Result<(), AllocError>
     ensures put { OnOk result (out.new.items ≡ out.old.items ++ heading_of part.now) }
 {
     put_number(out, b"part of ", part.txns.len())?;
     put(out, noun_of(part.txns.len()))?;
-    put(out, finding_title(part.refuted.finding).as_bytes())?;
+    put_found(out, &part.known_as, part.refuted.finding)?;
     put(out, b"\n")
 }
 

@@ -48,6 +48,13 @@ fn below_snapshot(alloc: Global, explained: Explained) -> Result<Explained, Allo
     })
 }
 
+fn owned(alloc: Global, name: Option<&'static str>) -> Result<Option<String>, AllocError> {
+    match name {
+        Some(name) => Ok(Some(String::from_str(alloc, name)?)),
+        None => Ok(None),
+    }
+}
+
 /// Lines, and behind them a name, where there is one.
 fn with_name(
     alloc: Global,
@@ -55,16 +62,12 @@ fn with_name(
     name: Option<&'static str>,
 ) -> Result<Explained, AllocError> {
     let mut lines = lines;
-    let Some(name) = name else {
-        return Ok(Explained {
-            lines,
-            known_as: None,
-        });
-    };
-    lines.push(format!(in alloc; "known as: {name}")?)?;
+    if let Some(name) = name {
+        lines.push(format!(in alloc; "known as: {name}")?)?;
+    }
     Ok(Explained {
         lines,
-        known_as: Some(String::from_str(alloc, name)?),
+        known_as: owned(alloc, name)?,
     })
 }
 
@@ -88,15 +91,29 @@ fn explain_points(
     }
 }
 
-/// The name of a read that no order has, neither a serial one nor one of snapshots.
-fn name_of_read(anomaly: Anomaly) -> Option<&'static str> {
+/// What the field calls an anomaly, where it has a name.
+fn name_of(anomaly: Anomaly) -> Option<&'static str> {
     match anomaly {
         Anomaly::Read { kind, .. } => match kind {
+            ReadAnomaly::Unknown => None,
             ReadAnomaly::Aborted => Some("aborted read (G1a)"),
             ReadAnomaly::Intermediate => Some("intermediate read (G1b)"),
-            _ => None,
+            ReadAnomaly::OwnWriteMissed => Some("own write missed (internal)"),
+            ReadAnomaly::Future => Some("future read (internal)"),
+            ReadAnomaly::Split => Some("non-repeatable read (internal)"),
         },
-        Anomaly::LostUpdate { .. } => None,
+        Anomaly::LostUpdate { .. } => Some("lost update (G-single)"),
+    }
+}
+
+/// The name of a read that no order has, neither a serial one nor one of snapshots.
+fn name_at_snapshots(anomaly: Anomaly) -> Option<&'static str> {
+    match anomaly {
+        Anomaly::Read {
+            kind: ReadAnomaly::Aborted | ReadAnomaly::Intermediate,
+            ..
+        } => name_of(anomaly),
+        _ => None,
     }
 }
 
@@ -114,18 +131,13 @@ fn explain_snapshot<R: Threads + Wait + Clock + Sync>(
 {
     if let Finding::Anomaly(anomaly) = refuted.finding {
         let explained = explain_serial(rt, alloc, version, sessions, refuted, means)?;
-        return with_name(alloc, explained.lines, name_of_read(anomaly));
+        return with_name(alloc, explained.lines, name_at_snapshots(anomaly));
     }
     if let Some(explained) = explain_points(alloc, version, sessions, refuted)? {
         return Ok(explained);
     }
     let explained = explain_serial(rt, alloc, version, sessions, refuted, means)?;
     below_snapshot(alloc, explained)
-}
-
-/// Whether a search over the formula of a part refutes it.
-fn is_by_formula(finding: Finding) -> bool {
-    matches!(finding, Finding::Formula)
 }
 
 /// That no order of a part is left.
@@ -136,6 +148,33 @@ fn none_left(alloc: Global) -> Result<Explained, AllocError> {
         lines,
         known_as: None,
     })
+}
+
+/// Why a part has no serial order.
+fn explain_order<R: Threads + Wait + Clock + Sync>(
+    rt: &R,
+    alloc: Global,
+    version: Version,
+    sessions: &[Session],
+    refuted: &RefutedPart,
+    means: &Means,
+) -> Result<Explained, AllocError>
+    requires legal { AllByRecursion IsLegal (map view refuted.now.part.items) }
+    requires made { IsMadeOf (map view sessions.now) refuted.now }
+{
+    match refuted.finding {
+        Finding::Formula => none_left(alloc),
+        Finding::Anomaly(anomaly) => {
+            let explained = explain_serial(rt, alloc, version, sessions, refuted, means)?;
+            Ok(Explained {
+                lines: explained.lines,
+                known_as: owned(alloc, name_of(anomaly))?,
+            })
+        }
+        Finding::Cycle | Finding::Dead | Finding::Refuted => {
+            explain_serial(rt, alloc, version, sessions, refuted, means)
+        }
+    }
 }
 
 /// Why a part of these sessions, which are those of a log of this version with their outcomes
@@ -153,8 +192,7 @@ pub fn explain_part<R: Threads + Wait + Clock + Sync>(
 {
     let deciding = &means.deciding;
     match means.level {
-        Level::Serializable if is_by_formula(refuted.finding) => none_left(alloc),
-        Level::Serializable => explain_serial(rt, alloc, version, sessions, refuted, deciding),
+        Level::Serializable => explain_order(rt, alloc, version, sessions, refuted, deciding),
         Level::Snapshot => explain_snapshot(rt, alloc, version, sessions, refuted, deciding),
     }
 }

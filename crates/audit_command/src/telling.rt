@@ -1,6 +1,6 @@
 //! What is told of a judged log.
 
-ghost use Rattle.std.specs.Prelude.{◌≡◌, ◌⊎◌, ◌<◌, ◌≤◌, ℕ, List, length, map, IfOk, OnOk};
+ghost use Rattle.std.specs.Prelude.{◌≡◌, ◌⊎◌, ◌+◌, ◌<◌, ◌≤◌, ℕ, List, length, map, IfOk, OnOk};
 ghost use Rattle.std.specs.List.{AllByRecursion};
 ghost use Rattle.session_log.specs.Text.{ClientSession, IsLegal, view};
 ghost use Rattle.session_log.specs.Version.{first_line};
@@ -10,10 +10,11 @@ ghost use Rattle.judging.specs.Judges.{IsVerdict};
 ghost use Rattle.judging.specs.Made.{IsMade, IsToldPart};
 ghost use Rattle.judging.specs.Levels.{IsLogAt, IsOrderAt, HasOrderAt};
 ghost use Rattle.judging.specs.declared.level.Level.{Level};
-ghost use Rattle.audit_command.specs.Audited.{nodes_in, IsPartTold, AreToldParts, IsAnswered};
-ghost use Rattle.audit_command.specs.Audited.{IsOrderText, IsOrderFile, IsOpen, states_moments};
+ghost use Rattle.audit_command.specs.Audited.{nodes_in, IsPartTold, AreToldParts, AreParts};
+ghost use Rattle.audit_command.specs.Audited.{IsAnswered, IsOrderText, IsOrderFile, IsOpen, states_moments};
 ghost use Rattle.audit_command.specs.Resolved.{IsResolved, IsPartOf, IsPartOfVerdict};
 
+use crate::distinct::without_doubles;
 use crate::explaining::Explained;
 use crate::files::order_file;
 use crate::levels::asks_moments;
@@ -102,6 +103,8 @@ fn add_parts<R: Threads + Wait + Clock + Sync>(
         → OnOk result (AreToldParts options.now.means.level (first_line log.now.version) ss
         told.new.items) }
     ensures more { OnOk result (length told.old.items ≤ length told.new.items) }
+    ensures at_most { OnOk result (length told.new.items
+        ≤ length told.old.items + length parts.items) }
 {
     let mut left = parts;
     'parts: for _ in 0..left.len() {
@@ -122,8 +125,8 @@ fn put_least_first(told: &mut Vec<ToldPart>) -> Result<(), AllocError>
     told.sort_by_key(|part| part.txns.len())
 }
 
-/// The parts that are told, the least one first: this one, and further ones where several are asked
-/// for.
+/// The parts that are told, the least one first and each once: this one, and further ones where
+/// several are asked for.
 fn told_parts<R: Threads + Wait + Clock + Eprint + Sync, P: Progress>(
     rt: &R,
     alloc: Global,
@@ -137,9 +140,8 @@ fn told_parts<R: Threads + Wait + Clock + Eprint + Sync, P: Progress>(
     requires first { IsPartOf (map view log.now.sessions.now) first }
     ensures told { (ss : List ClientSession) → AllByRecursion IsLegal ss → IsSoundLog ss
         → map view log.now.sessions.now ≡ resolved ss → IsToldPart options.now.means.level ss first
-        → IfOk result (λ told. AreToldParts options.now.means.level (first_line log.now.version) ss
-        told.items) }
-    ensures some { IfOk result (λ told. 0 < length told.items) }
+        → IfOk result (λ told. AreParts options.now.means.level (first_line log.now.version) ss
+        options.now.faults told.items) }
 {
     let count = options.faults.saturating_sub(1);
     let more = more_parts(
@@ -156,7 +158,7 @@ fn told_parts<R: Threads + Wait + Clock + Eprint + Sync, P: Progress>(
     told.push(told_part(rt, alloc, log, first, options)?)?;
     add_parts(rt, alloc, log, more, options, &mut told)?;
     put_least_first(&mut told)?;
-    Ok(told)
+    without_doubles(alloc, told)
 }
 
 /// The text of an order of the log, from one of the log that is judged for it.

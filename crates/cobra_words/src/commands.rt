@@ -21,15 +21,23 @@ fn with_formula<'a>(alloc: Global, command: Command<'a>) -> Result<Command<'a>, 
     with_workers(alloc, command.arg(options::plain(alloc))?)
 }
 
+/// What the budget of a search is.
+const CUBES: &str = "How many cubes a search may close, 1 to 1000000";
+
+/// The same where a search over the formula takes part.
+const CUBES_AND_CONFLICTS: &str =
+    "How many cubes a search may close, and how many conflicts one over the formula may meet, 1 to 1000000";
+
 /// Such a command that searches.
 fn with_search<'a>(
     alloc: Global,
     command: Command<'a>,
+    budget: &'a str,
     defaults: SearchDefaults,
 ) -> Result<Command<'a>, AllocError> {
     let command = command
         .arg(options::strategy(alloc, defaults.strategy))?
-        .arg(options::budget(alloc, defaults.budget))?;
+        .arg(options::budget(alloc, budget, defaults.budget))?;
     with_workers(alloc, command)
 }
 
@@ -68,7 +76,7 @@ fn check<'a>(alloc: Global) -> Result<Command<'a>, AllocError> {
     let command = Command::new(alloc, "check")
         .about("Decide whether some serial order explains a log")
         .after_help(answers::CHECK);
-    with_search(alloc, command, CHECK_DEFAULTS)
+    with_search(alloc, command, CUBES, CHECK_DEFAULTS)
 }
 
 fn verify<'a>(alloc: Global) -> Result<Command<'a>, AllocError> {
@@ -92,7 +100,7 @@ fn explain<'a>(alloc: Global) -> Result<Command<'a>, AllocError> {
         .after_help(answers::EXPLAIN)
         .arg(options::format(alloc))?
         .arg(options::level_of_explain(alloc)?)?;
-    with_search(alloc, command, CHECK_DEFAULTS)
+    with_search(alloc, command, CUBES, CHECK_DEFAULTS)
 }
 
 /// Such a command that reports.
@@ -116,7 +124,8 @@ fn audit<'a>(alloc: Global) -> Result<Command<'a>, AllocError> {
         .arg(options::only(alloc))?
         .arg(options::no_moments(alloc))?
         .arg(options::at_least(alloc))?;
-    with_search(alloc, with_report(alloc, command)?, AUDIT_DEFAULTS)
+    let command = with_report(alloc, command)?;
+    with_search(alloc, command, CUBES_AND_CONFLICTS, AUDIT_DEFAULTS)
 }
 
 fn pieces<'a>(alloc: Global) -> Result<Command<'a>, AllocError> {

@@ -70,9 +70,9 @@ pub fn strategy<'a>(alloc: Global, default: &'a str) -> Arg<'a> {
         .default_value(default)
 }
 
-pub fn budget<'a>(alloc: Global, default: &'a str) -> Arg<'a> {
+pub fn budget<'a>(alloc: Global, help: &'a str, default: &'a str) -> Arg<'a> {
     valued(alloc, "budget", "N")
-        .help("How many cubes a search may close, 1 to 1000000")
+        .help(help)
         .value_parser(clap::value_parser!(u32).range(1..=1_000_000))
         .default_value(default)
 }

@@ -110,6 +110,7 @@ pub found_by_split : (m : JudgeMeans) (ss judged : List ClientSession) (f : Foun
 found_by_split m ss judged (found.Serial order) at log h is = subst (λ level. IsOrderAt level ss order) (sym at) (order_of_judged Snapshot ss judged order log h is.serial)
 found_by_split m ss judged (found.Refuted finding) at log h is = subst (λ level. IsRefutedLog level ss finding) (sym at) (record {
   none = none_of_judged ss judged log h is.none;
+  room = h.0;
   found = subst (λ l. Finds l finding) (h.1 ∙ split_known ss log) is.found;
 })
 found_by_split m ss judged (found.Undecided why) at log h is = undecided why is

@@ -15,7 +15,7 @@ use Rattle.splitting.specs.Locks.{no_room}
 use Rattle.deciding.specs.Decides.{IsSearched, IsCycleOf, IsRefutedBy}
 use Rattle.solving.specs.Solved.{IsRefutedFor}
 use Rattle.judging.specs.Limits.{IsOver}
-use Rattle.judging.specs.Levels.{judged_at, HasOrderAt, HasNoOrderAt, IsOrderAt}
+use Rattle.judging.specs.Levels.{judged_at, HasOrderAt, HasNoOrderAt, HasRoomAt, IsOrderAt}
 use Rattle.judging.specs.declared.level.Level.{Level}
 use Rattle.judging.specs.declared.level.Level.TheVariants.{Snapshot}
 use Rattle.judging.specs.declared.judged.Finding.{Finding}
@@ -45,10 +45,12 @@ Finds ss Refuted = (budget : ℕ) × (left : Remainder) × (tree : List TreeNode
     × IsRefutedBy budget ss left tree
 Finds ss Formula = IsRefutedFor false ss
 
--- no order of the level explains the log's committed and any unknown transactions, and why
+-- no order of the level explains the log's committed and any unknown transactions, and why: in the
+-- log that is judged for it, whose locks have room
 pub record IsRefutedLog (level : Level) (ss : List ClientSession) (finding : Finding)
     : Type 0 where
   pub none : HasNoOrderAt level ss
+  pub room : HasRoomAt level ss
   pub found : Finds (judged_at level ss) finding
 
 -- why a log is not decided: the search of the log that is judged closed as many cubes as it may, and

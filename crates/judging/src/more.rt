@@ -1,6 +1,6 @@
 //! Further parts of a log that have no order.
 
-ghost use Rattle.std.specs.Prelude.{◌≡◌, List, map, IfOk, IfSome};
+ghost use Rattle.std.specs.Prelude.{◌≡◌, ◌≤◌, List, length, map, IfOk, IfSome};
 ghost use Rattle.std.specs.List.{AllByRecursion};
 ghost use Rattle.session_log.specs.Text.{ClientSession, IsLegal, view};
 ghost use Rattle.log_definitions.specs.Unknown.{resolved};
@@ -93,8 +93,9 @@ fn more_of_known<R: Threads + Wait + Clock + Eprint + Sync, P: Progress>(
     progress: &mut P,
 ) -> Result<Vec<RefutedPart>, AllocError>
     requires log { IsLog (map view sessions.now) }
-    ensures { IfOk result (λ parts.
+    ensures told { IfOk result (λ parts.
         AllByRecursion (IsToldPart means.now.level (map view sessions.now)) parts.items) }
+    ensures at_most { IfOk result (λ parts. length parts.items ≤ count) }
 {
     let mut left_out = all_flags(alloc, sessions, false)?;
     leave_out_shown(alloc, sessions, &mut left_out, first)?;
@@ -128,6 +129,7 @@ pub fn more_parts<R: Threads + Wait + Clock + Eprint + Sync, P: Progress>(
     ensures told { IfOk result (λ parts. (ss : List ClientSession) → AllByRecursion IsLegal ss
         → IsSoundLog ss → map view sessions.now ≡ resolved ss
         → AllByRecursion (IsToldPart means.now.level ss) parts.items) }
+    ensures at_most { IfOk result (λ parts. length parts.items ≤ count) }
 {
     more_of_known(rt, alloc, sessions, at, first, count, means, progress)
 }

@@ -143,7 +143,7 @@ fn texts_of_help(rt: HostRuntime) {
         ),
         (
             "cobra_poly audit --help",
-            "How many cubes a search may close, 1 to 1000000 [default: 100000]\n",
+            "one over the formula may meet, 1 to 1000000 [default: 100000]\n",
         ),
         ("cobra_poly pieces --help", "each as K.log, and as K.map"),
         ("cobra_poly split --help", "  0  the split log\n"),

@@ -27,5 +27,6 @@ parts-preserved g c =
           let split = all_front (IsToldPart level ss) c.pop.new.self.items c.in-Some.part (subst (AllByRecursion (IsToldPart level ss)) c.in-Some.ensures.items was.0) in
           (split.0, subst (AreToldParts level n ss) (sym grown) (all_more (IsPartTold level n ss) told new was.1 (c.in_ok-told_part.ensures.told ss e split.1))));
       parts = (all_front (IsPartOf known) c.pop.new.self.items c.in-Some.part (subst (AllByRecursion (IsPartOf known)) c.in-Some.ensures.items c.parts.invariant.parts)).0;
+      at_most = omega (arith, c.parts.invariant.at_most, ap length grown, length-append told (new ∷ []), ap length c.in-Some.ensures.items, length-append c.pop.new.self.items (c.in-Some.part ∷ []));
       more = omega (arith, c.parts.invariant.more, ap length grown, length-append told (new ∷ []));
     }

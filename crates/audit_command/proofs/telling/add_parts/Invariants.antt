@@ -1,4 +1,4 @@
-use Rattle.std.proofs.Common.{◌≡◌, ◌≤◌, List, map, length}
+use Rattle.std.proofs.Common.{◌≡◌, ◌+◌, ◌≤◌, List, map, length}
 use Rattle.std.specs.List.{AllByRecursion}
 use Rattle.session_log.specs.Text.{ClientSession, view}
 use Rattle.session_log.specs.Version.{first_line}
@@ -15,5 +15,6 @@ invariant-parts g l = record {
       → AreToldParts l.options.means.level (first_line l.log.version) ss l.fn.told.items
       → AllByRecursion (IsToldPart l.options.means.level ss) l.left.items × AreToldParts l.options.means.level (first_line l.log.version) ss l.told.items;
   parts : AllByRecursion (IsPartOf (map view l.log.sessions.now)) l.left.items;
+  at_most : length l.told.items + length l.left.items ≤ length l.fn.told.items + length l.fn.parts.items;
   more : length l.fn.told.items ≤ length l.told.items;
 }

@@ -1,4 +1,4 @@
-use Rattle.std.proofs.Common.{map}
+use Rattle.std.proofs.Common.{◌≤◌, map, length}
 use Rattle.std.specs.List.{AllByRecursion}
 use Rattle.session_log.specs.Text.{view}
 use Rattle.judging.specs.Made.{IsToldPart}
@@ -6,3 +6,4 @@ use Rattle.judging.proofs.more.more_of_known.Given as goal
 
 abbrev pub invariant-loop : goal.invariant-loop
 invariant-loop g l = AllByRecursion (IsToldPart l.means.level (map view l.sessions)) l.parts.items
+    × (length l.parts.items ≤ l.iter.start)

@@ -1,0 +1,56 @@
+use Rattle.std.proofs.Common.{◌<◌, ◌∷◌, [], ◌++◌, sym, ap, length, length-append, subst, append_assoc, ◌∙◌, arith}
+use Rattle.audit_command.specs.Audited.{IsPartTold, AreToldParts}
+use Rattle.audit_command.specs.Distinct.{AreDistinct, is_told}
+use Rattle.audit_command.proofs.Parts.{all_more}
+use Rattle.audit_command.proofs.Doubles.{one_more, some_told}
+use Rattle.audit_command.proofs.distinct.without_doubles.Goals as goal
+
+pub loop-part-preserved-in-Continue-1 : goal.loop-part-preserved-in-Continue-1
+loop-part-preserved-in-Continue-1 c =
+    let seen = c.loop-part.yielded in let i = c.loop-part.invariant in let kept = c.loop-part.kept.items in
+    let x = c.in-Some.part in let more = c.next.new.self.rest.items in
+    let grown = c.in_ok-push.ensures.items in
+    let longer = ap length grown ∙ length-append kept (x ∷ []) in
+    let counted = length-append seen (x ∷ []) in
+    let apart = ap (is_told x.txns.items) (sym c.deref.ensures.value) ∙ ap (λ l. is_told l c.deref.result.now) (sym c.deref-in-loop-part.ensures.value) in
+    record {
+      whole = append_assoc seen (x ∷ []) more ∙ ap (λ l. seen ++ l) (sym c.in-Some.ensures.steps.0) ∙ i.whole;
+      told = λ level n ss all. (
+          let was = i.told level n ss all in
+          let split = subst (AreToldParts level n ss) c.in-Some.ensures.steps.0 was.0 in
+          (split.1, subst (AreToldParts level n ss) (sym grown) (all_more (IsPartTold level n ss) kept x was.1 split.0)));
+      distinct = subst AreDistinct (sym grown) (one_more kept x i.distinct (apart ∙ sym c.is_told.ensures.told ∙ c.if-not-is_told.true));
+      some = λ some. omega (arith, longer);
+      at_most = omega (arith, longer, counted, i.at_most);
+    }
+
+pub loop-part-preserved : goal.loop-part-preserved
+loop-part-preserved c =
+    let seen = c.loop-part.yielded in let i = c.loop-part.invariant in let kept = c.loop-part.kept.items in
+    let x = c.in-Some.part in let more = c.next.new.self.rest.items in
+    let step = c.in-Some.ensures.steps.0 in
+    record {
+      whole = append_assoc seen (x ∷ []) more ∙ ap (λ l. seen ++ l) (sym step) ∙ i.whole;
+      told = λ level n ss all. (let was = i.told level n ss all in ((subst (AreToldParts level n ss) step was.0).1, was.1));
+      distinct = i.distinct;
+      some = λ some. subst (λ l. 0 < length l) c.deref.ensures.value (some_told c.deref-in-loop-part.result.now c.deref.result.now (sym c.is_told.ensures.told ∙ c.if-not-is_told.false));
+      at_most = omega (arith, length-append seen (x ∷ []), i.at_most);
+    }
+
+pub returns : goal.returns
+returns c = record {
+  parts = λ level n ss asked some most all.
+      let i = c.loop-part.invariant in
+      let seen = c.loop-part.yielded in
+      let rest = c.loop-part.part-iterator.rest in
+      let none = c.in-None.ensures.steps.0 in
+      let as_long = rest.ok in
+      let end = ap length i.whole in
+      let both = length-append seen rest.items in
+      record {
+        some = i.some (omega (arith, end, both, none, as_long, some));
+        at_most = omega (arith, i.at_most, end, both, none, as_long, most);
+        distinct = i.distinct;
+        told = (i.told level n ss all).1;
+      };
+}

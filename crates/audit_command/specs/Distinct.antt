@@ -1,0 +1,30 @@
+-- Parts of different transactions.
+use Rattle.std.specs.Prelude.{◌&&◌, Bool, nat_eq, ◌≢◌, List, [], ◌∷◌}
+use Rattle.std.specs.List.{AllByRecursion, list_any}
+use Rattle.std.specs.Cmp.Lexicographic.{pointwise}
+use Rattle.audit_command.specs.declared.told.ToldTxn.{ToldTxn}
+use Rattle.audit_command.specs.declared.told.ToldPart.{ToldPart}
+
+-- the part has other transactions than these
+abbrev pub IsOther : List ToldTxn → ToldPart → Type 0
+IsOther txns p = p.txns.items ≢ txns
+
+-- no two parts have the same transactions
+abbrev pub AreDistinct : List ToldPart → Type 0
+AreDistinct [] = Unit {0}
+AreDistinct (p ∷ ps) = AllByRecursion (IsOther p.txns.items) ps × AreDistinct ps
+
+-- ---- looked for
+
+-- the same session, place and lines
+abbrev pub same_txn : ToldTxn → ToldTxn → Bool
+same_txn a b = nat_eq a.session b.session && (nat_eq a.place b.place
+    && (nat_eq a.first b.first && nat_eq a.last b.last))
+
+-- these are the transactions of the part
+abbrev pub has_txns : List ToldTxn → ToldPart → Bool
+has_txns txns p = pointwise same_txn p.txns.items txns
+
+-- and those of one of the parts
+abbrev pub is_told : List ToldTxn → List ToldPart → Bool
+is_told txns parts = list_any (has_txns txns) parts

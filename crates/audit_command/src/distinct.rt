@@ -1,0 +1,40 @@
+//! Parts of different transactions.
+
+ghost use Rattle.std.specs.Prelude.{◌≡◌, ◌+◌, ◌-◌, ◌≤◌, ◌<◌, ℕ, List, length, IfOk};
+ghost use Rattle.session_log.specs.Text.{ClientSession};
+ghost use Rattle.judging.specs.declared.level.Level.{Level};
+ghost use Rattle.audit_command.specs.Audited.{AreToldParts, AreParts};
+ghost use Rattle.audit_command.specs.Distinct.{has_txns, is_told};
+
+use crate::told::{ToldPart, ToldTxn};
+use std::alloc::{AllocError, Global};
+
+/// Whether these are the transactions of the part.
+fn has_txns(part: &ToldPart, txns: &[ToldTxn]) -> bool
+    ensures has { result ≡ has_txns txns.now part.now }
+{
+    part.txns.as_slice() == txns
+}
+
+/// Whether one of the parts has these transactions.
+fn is_told(parts: &[ToldPart], txns: &[ToldTxn]) -> bool
+    ensures told { result ≡ is_told txns.now parts.now }
+{
+    parts.iter().any(|part| has_txns(part, txns))
+}
+
+/// The parts, but for each that has the transactions of one before it.
+pub fn without_doubles(alloc: Global, parts: Vec<ToldPart>) -> Result<Vec<ToldPart>, AllocError>
+    ensures parts { (level : Level) (n : ℕ) (ss : List ClientSession) (asked : ℕ)
+        → 0 < length parts.items → length parts.items ≤ 1 + (asked - 1)
+        → AreToldParts level n ss parts.items
+        → IfOk result (λ kept. AreParts level n ss asked kept.items) }
+{
+    let mut kept = Vec::new(alloc);
+    for part in parts {
+        if !is_told(&kept, &part.txns) {
+            kept.push(part)?;
+        }
+    }
+    Ok(kept)
+}
