@@ -10,6 +10,7 @@ use Rattle.piece_laws.proofs.Shifted.{nodes_are}
 use Rattle.order_checks.specs.Left.{nodes_from}
 use Rattle.order_checks.specs.Numbered.{nodes_of, names_of}
 use Rattle.order_checks.proofs.Lists.{item, get_drop, append_more, append_mapped, append_none}
+use Rattle.order_checks.proofs.Names.{named_here}
 use Rattle.order_checks.proofs.number.names_of.Goals as goal
 
 pub loop-session-preserved : goal.loop-session-preserved
@@ -21,8 +22,9 @@ loop-session-preserved c =
     let rest = nodes_of (map view (drop (i + 1) sessions)) in
     let here = nodes_from session.number 0 (map view_txn session.txns.items) in
     let at = item sessions i session c.loop-session-test.true c.session-item.is in
-    ap (λ l. l ++ names_of rest) c.in_ok-add_names.ensures
-    ∙ ap (λ (l : List Txn). (names ++ names_of (nodes_from session.number 0 (map view_txn l))) ++ names_of rest) c.deref.ensures.value
+    ap (λ l. l ++ names_of rest) (c.in_ok-add_places.ensures session.number)
+    ∙ ap (λ (l : List Txn). (names ++ map (λ (n : Committed). (session.number, n.place)) (nodes_from session.number 0 (map view_txn l))) ++ names_of rest) c.deref.ensures.value
+    ∙ ap (λ l. (names ++ l) ++ names_of rest) (named_here session.number 0 (map view_txn session.txns.items))
     ∙ append_more names (names_of here) (names_of rest)
     ∙ ap (λ l. names ++ l) (sym (append_mapped (λ (n : Committed). (n.session, n.place)) here rest))
     ∙ ap (λ (l : List Session). names ++ names_of (nodes_of (map view l))) (sym (get_drop sessions i session at))
