@@ -90,18 +90,20 @@ module _ (ss : List ClientSession) (entries : List LedgerEntry) (orders : List C
   pub searched_among : DecidesAmong (length orders) nodes
   searched_among = subst (λ n. DecidesAmong n nodes) (sym orders_count) (decides_among h.poly nodes h.shown)
 
-  pub whole_told : (s : StepsView) → s.sessions ≡ ss → (visits : List Visit) (last leaves : ℕ) → leaves ≡ leaf_count nodes → IsVisited nodes 0 0 last visits → (before mid items : List Item) → AreStepsTold s.sessions s.orders before → mid ≡ before ++ leaves_items leaves
-      → AddsVisits s orders nodes visits mid items → IsTreeTold ss leaves items
-  whole_told s of_log visits last leaves all v before mid items steps mid_is a =
+  pub whole_told : (s : StepsView) → s.sessions ≡ ss → (visits : List Visit) (last : ℕ) → IsVisited nodes 0 0 last visits → (before mid items : List Item) → AreStepsTold s.sessions s.orders before → mid ≡ before ++ leaves_items (leaf_count nodes)
+      → AddsVisits s orders nodes visits mid items → (choices : List Choice) → AreOrdersOf (log_of ss) choices orders → IsTreeTold ss choices nodes items
+  whole_told s of_log visits last v before mid items steps mid_is a choices sides =
       let each = subst (λ (zs : List ClientSession). All (IsOrder (log_of zs)) orders) (sym of_log) h.sides.each in
       let root = root_told s orders nodes h.poly h.shown each orders_count last visits a.own v a.told in
       record {
         steps = s.orders;
+        orders = orders;
         before = before;
         tree = a.own;
         told = subst (λ (zs : List ClientSession). AreStepsTold zs s.orders before) of_log steps;
+        sides = sides;
         last = last;
-        root = subst (λ (zs : List ClientSession). IsCubeTold zs s.orders 0 [] 0 last a.own) of_log root;
-        count = told_count h.poly nodes h.shown last visits v ∙ ap told_leaves (sym all);
-        whole = a.added ∙ ap (λ l. l ++ a.own) mid_is ∙ append_assoc before (leaves_items leaves) a.own;
+        root = subst (λ (zs : List ClientSession). IsCubeTold zs s.orders orders nodes 0 0 [] 0 last a.own) of_log root;
+        count = told_count h.poly nodes h.shown last visits v;
+        whole = a.added ∙ ap (λ l. l ++ a.own) mid_is ∙ append_assoc before (leaves_items (leaf_count nodes)) a.own;
       }
