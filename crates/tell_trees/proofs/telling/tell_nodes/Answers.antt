@@ -1,4 +1,4 @@
-use Rattle.std.proofs.Common.{◌≡◌, ℕ, ◌<◌, List, ◌++◌, length, Bor, ◌∙◌, refl, sym, ap, subst}
+use Rattle.std.proofs.Common.{◌≡◌, ℕ, ◌<◌, List, ◌++◌, length, Bor, ◌∙◌, sym, ap, subst}
 use Rattle.std.specs.Prelude.{IfSome}
 use Rattle.std.specs.List.{filter_map}
 use Rattle.std.proofs.lemmas.List.Elements.{All-same}
@@ -6,7 +6,7 @@ use Rattle.tell_steps.specs.Lines.{IsCovered}
 use Rattle.tell_trees.specs.declared.visits.Visit.{Visit}
 use Rattle.tell_trees.specs.Told.{CanTell, decided_at, AddsVisits}
 use Rattle.tell_trees.specs.Trees.{leaves_items}
-use Rattle.tell_trees.specs.Visits.{leaf_count, line_of}
+use Rattle.tell_trees.specs.Visits.{line_of}
 use Rattle.tell_trees.proofs.Edges.{all_tell}
 use Rattle.tell_trees.proofs.Left.{visits_within, searched_tree, searched_among, whole_told}
 use Rattle.tell_trees.proofs.telling.tell_nodes.Goals as goal
