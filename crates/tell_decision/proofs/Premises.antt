@@ -3,7 +3,7 @@ use Rattle.std.proofs.Common.{◌≡◌, ℕ, ◌+◌, List, [], ◌∷◌, ◌+
 use Rattle.std.specs.Prelude.{IfSome}
 use Rattle.session_log.specs.Text.{ClientSession}
 use Rattle.serializability.specs.Log.{Log}
-use Rattle.serializability.specs.Polygraph.{Polygraph}
+use Rattle.serializability.specs.Polygraph.{Choice, Polygraph}
 use Rattle.serializability.specs.Reads.{IsClean}
 use Rattle.headline.proofs.Answered.{clean_log}
 use Rattle.log_definitions.specs.Numbers.{log_of, IsWellFormedList}
@@ -17,6 +17,7 @@ use Rattle.tell_steps.specs.Ledgers.{IsDeadLedger}
 use Rattle.tell_steps.specs.Steps.{IsLineTold, IsDeadTold}
 use Rattle.tell_steps.specs.declared.item.Item.{Item}
 use Rattle.tell_decision.specs.Runs.{joined_items}
+use Rattle.cube_laws.specs.declared.tree.TreeNode.{TreeNode}
 use Rattle.tell_trees.specs.Trees.{IsTreeTold}
 use Rattle.tell_decision.proofs.RunLines.{between_joined}
 use Rattle.tell_decision.specs.Explained.{cycle_text, dead_text, tree_text, IsRoundTold, IsCycleWritten, IsDeadWritten, IsTreeWritten}
@@ -35,8 +36,8 @@ dead_ledger ss ledger h = record {
 }
 
 -- ---- what is written
-pub tree_written : (leaves : ℕ) (format : Format) (log : PlacedHistory) (found : Option Crossing) (items given : List Item) (text : List ℕ) → IfSome found (λ c. AreCrossed log.history.now c) → IsTreeTold log.history.now leaves items → given ≡ items → text ≡ tree_text format log found given → IsTreeWritten leaves format log text
-tree_written leaves format log found items given text crossed told same written = record { found = found; crossed = crossed; items = items; told = told; written = written ∙ ap (tree_text format log found) same }
+pub tree_written : (choices : List Choice) (nodes : List TreeNode) (format : Format) (log : PlacedHistory) (found : Option Crossing) (items given : List Item) (text : List ℕ) → IfSome found (λ c. AreCrossed log.history.now c) → IsTreeTold log.history.now choices nodes items → given ≡ items → text ≡ tree_text format log found given → IsTreeWritten choices nodes format log text
+tree_written choices nodes format log found items given text crossed told same written = record { found = found; crossed = crossed; items = items; told = told; written = written ∙ ap (tree_text format log found) same }
 
 pub cycle_written : (line : List ℕ) (format : Format) (log : PlacedHistory) (items given : List Item) (text : List ℕ) → IsRoundTold log.history.now line items → given ≡ items → text ≡ cycle_text format log given → IsCycleWritten line format log text
 cycle_written line format log items given text told same written = record { items = items; told = told; written = written ∙ ap (cycle_text format log) same }

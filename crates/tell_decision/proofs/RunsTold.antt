@@ -5,6 +5,8 @@ use Rattle.std.specs.List.{Contains}
 use Rattle.std.proofs.lemmas.List.Elements.{Contains-append_left, Contains-append_right, Contains-append_cases, Contains-push, Contains-push_cases}
 use Rattle.session_log.specs.Text.{ClientSession}
 use Rattle.reasons.specs.declared.reason.Reason.TheVariants as reason
+use Rattle.serializability.specs.Polygraph.{Choice}
+use Rattle.cube_laws.specs.declared.tree.TreeNode.{TreeNode}
 use Rattle.tell_reasons.specs.declared.why.ChainOrder.{ChainOrder}
 use Rattle.tell_reasons.specs.declared.why.Why.{Why}
 use Rattle.tell_reasons.specs.declared.why.Why.TheVariants as why
@@ -14,6 +16,7 @@ use Rattle.tell_steps.specs.declared.item.Item.{Item}
 use Rattle.tell_steps.specs.declared.item.Item.TheVariants as item
 use Rattle.tell_trees.specs.Trees as trees
 use Rattle.tell_trees.specs.Trees.{IsCubeTold, leaves_items, IsTreeTold}
+use Rattle.tell_trees.specs.Visits.{leaf_count}
 use Rattle.tell_decision.specs.Runs.{session_edge, run_behind, run_ahead, edges_ahead, all_but_first, join_run, join_edge, join, joined_items}
 use Rattle.tell_decision.proofs.RunLines.{ahead_is, between_joined}
 
@@ -144,19 +147,19 @@ dead_joined ss items h = record {
 }
 
 -- ---- cubes
-cube_joined : (ss : List ClientSession) (steps : List ChainOrder) (depth : ℕ) (decided : List ChainOrder) (n m : ℕ) (items : List Item) → IsCubeTold ss steps depth decided n m items → IsCubeTold ss steps depth decided n m (joined_items items)
+cube_joined : (ss : List ClientSession) (steps : List ChainOrder) (orders : List ChainOrder) (nodes : List TreeNode) (i depth : ℕ) (decided : List ChainOrder) (n m : ℕ) (items : List Item) → IsCubeTold ss steps orders nodes i depth decided n m items → IsCubeTold ss steps orders nodes i depth decided n m (joined_items items)
 unfolding joined_items
-cube_joined ss steps depth decided n m items (trees.leaf d ks k round less h) = trees.leaf d ks k (joined_items round) less (cycle_joined ss steps ks round h)
-cube_joined ss steps depth decided n m items (trees.split d ks k l j o one two order h g) =
+cube_joined ss steps orders nodes i depth decided n m items (trees.leaf v d ks k round less at h) = trees.leaf v d ks k (joined_items round) less at (cycle_joined ss steps ks round h)
+cube_joined ss steps orders nodes i depth decided n m items (trees.split v d ks k l j c first second o one two at is order h g) =
     let same = ap (λ i. item.Decided d o ∷ i) (joined_apart one (item.Decided d (turned o) ∷ two) tt) in
-    subst (IsCubeTold ss steps d ks k j) (sym same)
-    (trees.split d ks k l j o (joined_items one) (joined_items two) order (cube_joined ss steps (d + 1) (o ∷ ks) k l one h) (cube_joined ss steps (d + 1) (turned o ∷ ks) l j two g))
-cube_joined ss steps depth decided n m items (trees.left_out d ks) = trees.left_out d ks
+    subst (IsCubeTold ss steps orders nodes v d ks k j) (sym same)
+    (trees.split v d ks k l j c first second o (joined_items one) (joined_items two) at is order (cube_joined ss steps orders nodes first (d + 1) (o ∷ ks) k l one h) (cube_joined ss steps orders nodes second (d + 1) (turned o ∷ ks) l j two g))
+cube_joined ss steps orders nodes i depth decided n m items (trees.left_out v d ks) = trees.left_out v d ks
 
-cube_apart : (ss : List ClientSession) (steps : List ChainOrder) (depth : ℕ) (decided : List ChainOrder) (n m : ℕ) (items : List Item) → IsCubeTold ss steps depth decided n m items → IsApart items
-cube_apart ss steps depth decided n m items (trees.leaf d ks k round less h) = cycle_apart ss steps ks round h
-cube_apart ss steps depth decided n m items (trees.split d ks k l j o one two order h g) = tt
-cube_apart ss steps depth decided n m items (trees.left_out d ks) = tt
+cube_apart : (ss : List ClientSession) (steps : List ChainOrder) (orders : List ChainOrder) (nodes : List TreeNode) (i depth : ℕ) (decided : List ChainOrder) (n m : ℕ) (items : List Item) → IsCubeTold ss steps orders nodes i depth decided n m items → IsApart items
+cube_apart ss steps orders nodes i depth decided n m items (trees.leaf v d ks k round less at h) = cycle_apart ss steps ks round h
+cube_apart ss steps orders nodes i depth decided n m items (trees.split v d ks k l j c first second o one two at is order h g) = tt
+cube_apart ss steps orders nodes i depth decided n m items (trees.left_out v d ks) = tt
 
 leaves_apart : (count : ℕ) (more : Bool) (items : List Item) → IsApart items → IsApart ((if more then item.Leaves count ∷ [] else []) ++ items)
 leaves_apart count true items h = tt
@@ -167,16 +170,19 @@ unfolding joined_items
 leaves_joined count true items = refl
 leaves_joined count false items = refl
 
-pub tree_joined : (ss : List ClientSession) (leaves : ℕ) (items : List Item) → IsTreeTold ss leaves items → IsTreeTold ss leaves (joined_items items)
-tree_joined ss leaves items h =
-    let apart = cube_apart ss h.steps 0 [] 0 h.last h.tree h.root in
+pub tree_joined : (ss : List ClientSession) (choices : List Choice) (nodes : List TreeNode) (items : List Item) → IsTreeTold ss choices nodes items → IsTreeTold ss choices nodes (joined_items items)
+tree_joined ss choices nodes items h =
+    let leaves = leaf_count nodes in
+    let apart = cube_apart ss h.steps h.orders nodes 0 0 [] 0 h.last h.tree h.root in
     record {
       steps = h.steps;
+      orders = h.orders;
       before = joined_items h.before;
       tree = joined_items h.tree;
       told = steps_joined ss h.steps h.before h.told;
+      sides = h.sides;
       last = h.last;
-      root = cube_joined ss h.steps 0 [] 0 h.last h.tree h.root;
+      root = cube_joined ss h.steps h.orders nodes 0 0 [] 0 h.last h.tree h.root;
       count = h.count;
       whole =
           ap joined_items h.whole

@@ -12,6 +12,8 @@ use Rattle.reasons.specs.Given.{IsReason}
 use Rattle.reasons.specs.declared.reason.Reason.{Reason}
 use Rattle.reasons.specs.declared.reason.Reason.TheVariants as reason
 use Rattle.tell_reasons.specs.Reasons.{CanTell}
+use Rattle.serializability.specs.Polygraph.{Choice}
+use Rattle.cube_laws.specs.declared.tree.TreeNode.{TreeNode}
 use Rattle.tell_reasons.specs.declared.why.ChainOrder.{ChainOrder}
 use Rattle.tell_reasons.specs.declared.why.Why.{Why}
 use Rattle.tell_reasons.specs.declared.why.Why.TheVariants.{Known, Forced, Chosen}
@@ -21,6 +23,7 @@ use Rattle.tell_steps.specs.declared.item.Item.{Item}
 use Rattle.tell_steps.specs.declared.item.Item.TheVariants as item
 use Rattle.tell_trees.specs.Trees as trees
 use Rattle.tell_trees.specs.Trees.{IsCubeTold, leaves_items, IsTreeTold}
+use Rattle.tell_trees.specs.Visits.{leaf_count}
 use Rattle.tell_texts.specs.Texts.{IsOrderOf, IsTellable, AreTellable}
 use Rattle.tell_decision.proofs.Known.{head_inside, ordered_nodes, followed_nodes}
 
@@ -165,17 +168,17 @@ dead_tellable ss items small h =
     subst (AreTellable ss) (sym h.whole) (each_from_append (IsTellable ss) h.before h.round can.items_tell closed)
 
 -- ---- trees
-pub cube_tellable : (ss : List ClientSession) (steps : List ChainOrder) (depth : ℕ) (decided : List ChainOrder) (n m : ℕ) (items : List Item) → length steps < 2 ^ 64 → 2 * depth + length items < 2 ^ 63 → AreOrders ss steps → AreOrders ss decided → IsCubeTold ss steps depth decided n m items → AreTellable ss items
-cube_tellable ss steps depth decided n m items few small os ds (trees.leaf d ks k round less h) = cycle_tellable ss steps ks round few os ds h
-cube_tellable ss steps depth decided n m items few small os ds (trees.split d ks k l j o one two order h g) =
+pub cube_tellable : (ss : List ClientSession) (steps : List ChainOrder) (orders : List ChainOrder) (nodes : List TreeNode) (i depth : ℕ) (decided : List ChainOrder) (n m : ℕ) (items : List Item) → length steps < 2 ^ 64 → 2 * depth + length items < 2 ^ 63 → AreOrders ss steps → AreOrders ss decided → IsCubeTold ss steps orders nodes i depth decided n m items → AreTellable ss items
+cube_tellable ss steps orders nodes i depth decided n m items few small os ds (trees.leaf v d ks k round less at h) = cycle_tellable ss steps ks round few os ds h
+cube_tellable ss steps orders nodes i depth decided n m items few small os ds (trees.split v d ks k l j c first second o one two at is order h g) =
     let rest = length-append one (item.Decided d (turned o) ∷ two) in
-    let front = cube_tellable ss steps (d + 1) (o ∷ ks) k l one few (omega (arith, small, rest)) os (order, ds) h in
-    let back = cube_tellable ss steps (d + 1) (turned o ∷ ks) l j two few (omega (arith, small, rest)) os (turned_order ss o order, ds) g in
+    let front = cube_tellable ss steps orders nodes first (d + 1) (o ∷ ks) k l one few (omega (arith, small, rest)) os (order, ds) h in
+    let back = cube_tellable ss steps orders nodes second (d + 1) (turned o ∷ ks) l j two few (omega (arith, small, rest)) os (turned_order ss o order, ds) g in
     let fits : d < 2 ^ 62 = omega (arith, small, rest) in (
       (order_there ss o order, fits),
       each_from_append (IsTellable ss) one (item.Decided d (turned o) ∷ two) front ((order_there ss (turned o) (turned_order ss o order), fits), back),
     )
-cube_tellable ss steps depth decided n m items few small os ds (trees.left_out d ks) = tt
+cube_tellable ss steps orders nodes i depth decided n m items few small os ds (trees.left_out v d ks) = tt
 
 leaves_there : (ss : List ClientSession) (count : ℕ) (more : Bool) → AreTellable ss (cond more (item.Leaves count ∷ []) [])
 leaves_there ss count true = (tt, tt)
@@ -184,12 +187,13 @@ leaves_there ss count false = tt
 leaves_tellable : (ss : List ClientSession) (count : ℕ) → AreTellable ss (leaves_items count)
 leaves_tellable ss count = leaves_there ss count (nat_lt 1 count)
 
-pub tree_tellable : (ss : List ClientSession) (leaves : ℕ) (items : List Item) → length items < 2 ^ 63 → IsTreeTold ss leaves items → AreTellable ss items
-tree_tellable ss leaves items small h =
+pub tree_tellable : (ss : List ClientSession) (choices : List Choice) (nodes : List TreeNode) (items : List Item) → length items < 2 ^ 63 → IsTreeTold ss choices nodes items → AreTellable ss items
+tree_tellable ss choices nodes items small h =
+    let leaves = leaf_count nodes in
     let told_count = leaves_items leaves in
     let size = ap (λ l. length l) h.whole ∙ length-append h.before (told_count ++ h.tree) in
     let more = length-append told_count h.tree in
     let can = steps_tellable ss h.steps h.before (omega (arith, size, small)) h.told in
-    let cube = cube_tellable ss h.steps 0 [] 0 h.last h.tree (omega (arith, can.few, size, small)) (omega (arith, size, more, small)) can.orders tt h.root in
+    let cube = cube_tellable ss h.steps h.orders nodes 0 0 [] 0 h.last h.tree (omega (arith, can.few, size, small)) (omega (arith, size, more, small)) can.orders tt h.root in
     subst (AreTellable ss) (sym h.whole)
     (each_from_append (IsTellable ss) h.before (told_count ++ h.tree) can.items_tell (each_from_append (IsTellable ss) told_count h.tree (leaves_tellable ss leaves) cube))

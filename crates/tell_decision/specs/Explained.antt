@@ -15,8 +15,9 @@ use Rattle.tell_reasons.specs.Crossed.{crossing_text}
 use Rattle.tell_steps.specs.Steps.{IsLineTold, IsDeadTold}
 use Rattle.tell_steps.specs.declared.item.Item.{Item}
 use Rattle.tell_decision.specs.Runs.{joined_items}
+use Rattle.serializability.specs.Polygraph.{Choice}
+use Rattle.cube_laws.specs.declared.tree.TreeNode.{TreeNode}
 use Rattle.tell_trees.specs.Trees.{IsTreeTold}
-use Rattle.tell_trees.specs.Visits.{leaf_count}
 use Rattle.tell_texts.specs.Texts.{items_text}
 use Rattle.tell_texts.specs.Graphs.{graph_text, quoted}
 use Rattle.tell_decision.specs.Names.{name_of, name_behind}
@@ -79,14 +80,14 @@ pub record IsAnomalyExplained (format : Format) (log : PlacedHistory) (a : Anoma
   pub told : IsAnomalyTold log a lines
   pub written : text ≡ lines_text format lines
 
--- a refutation tree with so many leaves, and before it reads that rule out every order, where such
+-- a refutation tree over these choices, and before it reads that rule out every order, where such
 -- were found
-pub record IsTreeWritten (leaves : ℕ) (format : Format) (log : PlacedHistory)
-    (text : List ℕ) : Type 0 where
+pub record IsTreeWritten (choices : List Choice) (nodes : List TreeNode) (format : Format)
+    (log : PlacedHistory) (text : List ℕ) : Type 0 where
   pub found : Option Crossing
   pub crossed : IfSome found (λ c. AreCrossed log.history.now c)
   pub items : List Item
-  pub told : IsTreeTold log.history.now leaves items
+  pub told : IsTreeTold log.history.now choices nodes items
   pub written : text ≡ tree_text format log found items
 
 -- the edges of a line of nodes, each with its reason, with each run of edges of one session as one:
@@ -123,7 +124,7 @@ IsWhy format log (Serial order) text = text ≡ empty_text format
 IsWhy format log (Anomalous a) text = IsAnomalyExplained format log a text
 IsWhy format log (Cyclic line) text = IsCycleWritten line.items format log text
 IsWhy format log (Dead ledger) text = IsDeadWritten format log text
-IsWhy format log (Refuted left tree) text = IsTreeWritten (leaf_count tree) format log text
+IsWhy format log (Refuted left tree) text = IsTreeWritten left.poly.choices tree format log text
 IsWhy format log (Spent closed) text = text ≡ empty_text format
 
 -- why, in the places and lines of this table

@@ -5,7 +5,6 @@ ghost use Rattle.serializability.specs.Anomalies.{anomaly_of};
 ghost use Rattle.log_definitions.specs.Numbers.{log_of};
 ghost use Rattle.reduction.specs.Outcome.{IsCyclicHistory, IsDeadHistory, IsOpenHistory};
 ghost use Rattle.cube_laws.specs.Trees.{IsRefutationTree};
-ghost use Rattle.tell_trees.specs.Visits.{leaf_count};
 ghost use Rattle.tell_decision.specs.Explained.{IsAnomalyExplained, IsCycleWritten};
 ghost use Rattle.tell_decision.specs.Explained.{IsDeadWritten, IsTreeWritten};
 
@@ -85,7 +84,7 @@ pub fn explain_tree(
     requires left { IsOpenHistory log.now.history.now reduced.now }
     requires refutes { IsRefutationTree reduced.now.poly tree.now }
     ensures written { IfOk result (λ text.
-        IsTreeWritten (leaf_count tree.now) format log.now text.items) }
+        IsTreeWritten reduced.now.poly.choices tree.now format log.now text.items) }
 {
     let _invariant = log.history.committed();
     let chains = open_chains(alloc, log.history)?;

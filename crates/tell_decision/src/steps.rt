@@ -9,7 +9,6 @@ ghost use Rattle.cube_laws.specs.Trees.{IsRefutationTree};
 ghost use Rattle.tell_steps.specs.Ledgers.{IsDeadLedger};
 ghost use Rattle.tell_steps.specs.Steps.{IsDeadTold};
 ghost use Rattle.tell_trees.specs.Trees.{IsTreeTold};
-ghost use Rattle.tell_trees.specs.Visits.{leaf_count};
 
 use crate::runs::joined;
 use cube_laws::Tree;
@@ -48,7 +47,8 @@ pub fn tree_items(
     requires chains { chains.now ≡ history.now }
     requires left { IsOpenHistory history.now reduced.now }
     requires tree { IsRefutationTree reduced.now.poly tree.now }
-    ensures told { IfOk result (λ items. IsTreeTold history.now (leaf_count tree.now) items.items) }
+    ensures told { IfOk result (λ items. IsTreeTold history.now reduced.now.poly.choices tree.now
+        items.items) }
 {
     let told = tell_tree(alloc, history, chains, reduced, tree)?;
     joined(alloc, &told)

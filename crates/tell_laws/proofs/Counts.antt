@@ -2,6 +2,8 @@
 use Rattle.std.proofs.Common.{◌≡◌, ℕ, ◌+◌, List, [], ◌∷◌, ◌++◌, length, Bool, true, false, cond, ap, refl, arith}
 use Rattle.std.specs.Prelude.{nat_lt}
 use Rattle.session_log.specs.Text.{ClientSession}
+use Rattle.serializability.specs.Polygraph.{Choice}
+use Rattle.cube_laws.specs.declared.tree.TreeNode.{TreeNode}
 use Rattle.tell_reasons.specs.declared.why.ChainOrder.{ChainOrder}
 use Rattle.tell_steps.specs.Steps as told
 use Rattle.tell_steps.specs.Steps.{turned, IsLineTold, AreStepsTold, IsCycleTold}
@@ -9,6 +11,7 @@ use Rattle.tell_steps.specs.declared.item.Item.{Item}
 use Rattle.tell_steps.specs.declared.item.Item.TheVariants as item
 use Rattle.tell_trees.specs.Trees as trees
 use Rattle.tell_trees.specs.Trees.{IsCubeTold, leaves_items, IsTreeTold, told_leaves}
+use Rattle.tell_trees.specs.Visits.{leaf_count}
 use Rattle.tell_laws.specs.Counts.{cycles_in}
 
 joined : (front back : List Item) → cycles_in (front ++ back) ≡ cycles_in front + cycles_in back
@@ -27,20 +30,21 @@ of_steps ss steps items (told.step before front h o two u v has inner against li
 of_cycle : (ss : List ClientSession) (steps decided : List ChainOrder) (items : List Item) → IsCycleTold ss steps decided items → cycles_in items ≡ 1
 of_cycle ss steps decided items (told.closes start inner edges h) = omega (arith, of_line ss steps decided (start ∷ (inner ++ start ∷ [])) edges h)
 
-of_cube : (ss : List ClientSession) (steps : List ChainOrder) (depth : ℕ) (decided : List ChainOrder) (n m : ℕ) (items : List Item) → IsCubeTold ss steps depth decided n m items → n + cycles_in items ≡ m
-of_cube ss steps depth decided n m items (trees.leaf d ks k round less h) = omega (arith, of_cycle ss steps ks round h)
-of_cube ss steps depth decided n m items (trees.split d ks k l j o one two order h g) =
-    omega (arith, joined one (item.Decided d (turned o) ∷ two), of_cube ss steps (d + 1) (o ∷ ks) k l one h, of_cube ss steps (d + 1) (turned o ∷ ks) l j two g)
-of_cube ss steps depth decided n m items (trees.left_out d ks) = omega arith
+of_cube : (ss : List ClientSession) (steps : List ChainOrder) (orders : List ChainOrder) (nodes : List TreeNode) (i depth : ℕ) (decided : List ChainOrder) (n m : ℕ) (items : List Item) → IsCubeTold ss steps orders nodes i depth decided n m items → n + cycles_in items ≡ m
+of_cube ss steps orders nodes i depth decided n m items (trees.leaf v d ks k round less at h) = omega (arith, of_cycle ss steps ks round h)
+of_cube ss steps orders nodes i depth decided n m items (trees.split v d ks k l j c first second o one two at is order h g) =
+    omega (arith, joined one (item.Decided d (turned o) ∷ two), of_cube ss steps orders nodes first (d + 1) (o ∷ ks) k l one h, of_cube ss steps orders nodes second (d + 1) (turned o ∷ ks) l j two g)
+of_cube ss steps orders nodes i depth decided n m items (trees.left_out v d ks) = omega arith
 
 of_leaves : (count : ℕ) (more : Bool) → cycles_in (cond more (item.Leaves count ∷ []) []) ≡ 0
 of_leaves count true = refl
 of_leaves count false = refl
 
-pub cycles_are_leaves : (ss : List ClientSession) (leaves : ℕ) (items : List Item) → IsTreeTold ss leaves items → cycles_in items ≡ told_leaves leaves
-cycles_are_leaves ss leaves items t =
+pub cycles_are_leaves : (ss : List ClientSession) (choices : List Choice) (nodes : List TreeNode) (items : List Item) → IsTreeTold ss choices nodes items → cycles_in items ≡ told_leaves (leaf_count nodes)
+cycles_are_leaves ss choices nodes items t =
+    let leaves = leaf_count nodes in
     let count = t.count in
     let before = joined t.before (leaves_items leaves ++ t.tree) in
     let behind = joined (leaves_items leaves) t.tree in
     let all = ap cycles_in t.whole in
-    omega (arith, count, all, before, behind, of_steps ss t.steps t.before t.told, of_leaves leaves (nat_lt 1 leaves), of_cube ss t.steps 0 [] 0 t.last t.tree t.root)
+    omega (arith, count, all, before, behind, of_steps ss t.steps t.before t.told, of_leaves leaves (nat_lt 1 leaves), of_cube ss t.steps t.orders nodes 0 0 [] 0 t.last t.tree t.root)

@@ -8,7 +8,7 @@ use Rattle.session_log.specs.Text.{ClientSession}
 use Rattle.serializability.specs.declared.anomaly.Anomaly.{Anomaly}
 use Rattle.serializability.specs.Replay.{Before}
 use Rattle.serializability.specs.Reads.{IsClean}
-use Rattle.serializability.specs.Polygraph.{Edge, Keeps}
+use Rattle.serializability.specs.Polygraph.{Choice, Edge, Keeps}
 use Rattle.serializability.specs.Anomalies.{anomaly_of}
 use Rattle.serializability.proofs.Places.{each_from_append}
 use Rattle.reach_laws.proofs.Walks.{each_contained}
@@ -20,6 +20,7 @@ use Rattle.reason_laws.proofs.Kept.{session_kept, read_kept, overwritten_kept, i
 use Rattle.reasons.specs.Given.{IsReason}
 use Rattle.reasons.specs.declared.reason.Reason.{Reason}
 use Rattle.reasons.specs.declared.reason.Reason.TheVariants as reason
+use Rattle.cube_laws.specs.declared.tree.TreeNode.{TreeNode}
 use Rattle.tell_reasons.specs.declared.why.ChainOrder.{ChainOrder}
 use Rattle.tell_reasons.specs.declared.why.Why.{Why}
 use Rattle.tell_reasons.specs.declared.why.Why.TheVariants.{Known, Forced, Chosen}
@@ -29,6 +30,7 @@ use Rattle.tell_steps.specs.declared.item.Item.{Item}
 use Rattle.tell_trees.specs.declared.TheConstants.{MAX_LEAVES}
 use Rattle.tell_trees.specs.Trees as trees
 use Rattle.tell_trees.specs.Trees.{IsCubeTold, IsTreeTold}
+use Rattle.tell_trees.specs.Visits.{leaf_count}
 use Rattle.tell_laws.proofs.Chains.{either_chain_first, tail_first}
 
 -- well-formed sessions, and a serial order of them
@@ -122,21 +124,21 @@ cycle_refuted ss order s steps decided ks kd items (told.closes start inner edge
     (let round = line_before ss order s steps decided ks kd start start inner edges h in omega (arith, round))
 
 -- ---- cubes
-counts_grow : (ss : List ClientSession) (steps : List ChainOrder) (depth : ℕ) (decided : List ChainOrder) (n m : ℕ) (items : List Item) → IsCubeTold ss steps depth decided n m items → n ≤ m
-counts_grow ss steps depth decided n m items (trees.leaf d ks k round less h) = omega arith
-counts_grow ss steps depth decided n m items (trees.split d ks k l j o one two order h g) =
-    omega (arith, counts_grow ss steps (d + 1) (o ∷ ks) k l one h, counts_grow ss steps (d + 1) (turned o ∷ ks) l j two g)
-counts_grow ss steps depth decided n m items (trees.left_out d ks) = omega arith
+counts_grow : (ss : List ClientSession) (steps : List ChainOrder) (orders : List ChainOrder) (nodes : List TreeNode) (i depth : ℕ) (decided : List ChainOrder) (n m : ℕ) (items : List Item) → IsCubeTold ss steps orders nodes i depth decided n m items → n ≤ m
+counts_grow ss steps orders nodes i depth decided n m items (trees.leaf v d ks k round less at h) = omega arith
+counts_grow ss steps orders nodes i depth decided n m items (trees.split v d ks k l j c first second o one two at is order h g) =
+    omega (arith, counts_grow ss steps orders nodes first (d + 1) (o ∷ ks) k l one h, counts_grow ss steps orders nodes second (d + 1) (turned o ∷ ks) l j two g)
+counts_grow ss steps orders nodes i depth decided n m items (trees.left_out v d ks) = omega arith
 
-cube_refuted : (ss : List ClientSession) (order : List ℕ) → Setting ss order → (steps : List ChainOrder) → AreKept ss order steps → (depth : ℕ) (decided : List ChainOrder) (n m : ℕ) (items : List Item) → IsCubeTold ss steps depth decided n m items → AreKept ss order decided → m < MAX_LEAVES → ⊥
-cube_refuted ss order s steps ks depth decided n m items (trees.leaf d kd k round less h) kept few = cycle_refuted ss order s steps kd ks kept round h
-cube_refuted ss order s steps ks depth decided n m items (trees.split d kd k l j o one two two_chains h g) kept few =
-    let first_few : l < MAX_LEAVES = omega (arith, few, counts_grow ss steps (d + 1) (turned o ∷ kd) l j two g) in
+cube_refuted : (ss : List ClientSession) (order : List ℕ) → Setting ss order → (steps : List ChainOrder) → AreKept ss order steps → (orders : List ChainOrder) (nodes : List TreeNode) (i depth : ℕ) (decided : List ChainOrder) (n m : ℕ) (items : List Item) → IsCubeTold ss steps orders nodes i depth decided n m items → AreKept ss order decided → m < MAX_LEAVES → ⊥
+cube_refuted ss order s steps ks orders nodes i depth decided n m items (trees.leaf v d kd k round less at h) kept few = cycle_refuted ss order s steps kd ks kept round h
+cube_refuted ss order s steps ks orders nodes i depth decided n m items (trees.split v d kd k l j c first second o one two at is two_chains h g) kept few =
+    let first_few : l < MAX_LEAVES = omega (arith, few, counts_grow ss steps orders nodes second (d + 1) (turned o ∷ kd) l j two g) in
     elim (one_way ss order s o two_chains) [
-      | inl a ↦ cube_refuted ss order s steps ks (d + 1) (o ∷ kd) k l one h (a, kept) first_few
-      | inr a ↦ cube_refuted ss order s steps ks (d + 1) (turned o ∷ kd) l j two g (a, kept) few
+      | inl a ↦ cube_refuted ss order s steps ks orders nodes first (d + 1) (o ∷ kd) k l one h (a, kept) first_few
+      | inr a ↦ cube_refuted ss order s steps ks orders nodes second (d + 1) (turned o ∷ kd) l j two g (a, kept) few
     ]
-cube_refuted ss order s steps ks depth decided n m items (trees.left_out d kd) kept few = absurd (omega (arith, few))
+cube_refuted ss order s steps ks orders nodes i depth decided n m items (trees.left_out v d kd) kept few = absurd (omega (arith, few))
 
 -- ---- of the sessions
 setting : (ss : List ClientSession) (order : List ℕ) → IsWellFormedList ss → IsSerialOrder ss order → Setting ss order
@@ -155,8 +157,9 @@ no_order_where_dead ss h items t order serial =
     let s = setting ss order h serial in
     cycle_refuted ss order s t.steps [] (steps_kept ss order s t.steps t.before t.told) tt t.round t.cycle
 
-pub no_order_where_tree : (ss : List ClientSession) → IsWellFormedList ss → (leaves : ℕ) (items : List Item) (t : IsTreeTold ss leaves items) → leaves < MAX_LEAVES → (order : List ℕ) → IsSerialOrder ss order → ⊥
-no_order_where_tree ss h leaves items t less order serial =
+pub no_order_where_tree : (ss : List ClientSession) → IsWellFormedList ss → (choices : List Choice) (nodes : List TreeNode) (items : List Item) (t : IsTreeTold ss choices nodes items) → leaf_count nodes < MAX_LEAVES → (order : List ℕ) → IsSerialOrder ss order → ⊥
+no_order_where_tree ss h choices nodes items t less order serial =
+    let leaves = leaf_count nodes in
     let s = setting ss order h serial in
     let few : t.last < MAX_LEAVES = subst (λ n. n < MAX_LEAVES) (sym (t.count ∙ ap (λ b. cond b MAX_LEAVES leaves) (le-ltb MAX_LEAVES leaves (omega (arith, less))))) less in
-    cube_refuted ss order s t.steps (steps_kept ss order s t.steps t.before t.told) 0 [] 0 t.last t.tree t.root tt few
+    cube_refuted ss order s t.steps (steps_kept ss order s t.steps t.before t.told) t.orders nodes 0 0 [] 0 t.last t.tree t.root tt few

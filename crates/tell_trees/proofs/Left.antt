@@ -26,7 +26,7 @@ use Rattle.tell_trees.specs.declared.visits.Visit.{Visit}
 use Rattle.tell_trees.specs.Orders.{AreOrdersOf}
 use Rattle.tell_trees.specs.Searched.{IsSearched}
 use Rattle.tell_trees.specs.Told.{AddsVisits}
-use Rattle.tell_trees.specs.Trees.{IsCubeTold, IsTreeTold, leaves_items, told_leaves}
+use Rattle.tell_trees.specs.Trees.{IsCubeTold, IsTreeTold, leaves_items}
 use Rattle.tell_trees.specs.Visits.{IsTree, DecidesAmong, IsVisited, leaf_count}
 use Rattle.tell_trees.specs.Visits as visited
 use Rattle.tell_trees.proofs.Counted.{told_count}
@@ -54,22 +54,29 @@ left_ledger ss r h entries e = record {
   shown = subst (λ (xs : List LedgerEntry). AreShown h.poly [] (posts_in xs)) (sym e) h.left.ledger.shown;
 }
 
-pub left_searched : (ss of_chains : List ClientSession) (r : Remainder) → IsOpenHistory ss r → (entries : List LedgerEntry) → entries ≡ r.ledger.entries.items → of_chains ≡ ss → (orders : List ChainOrder)
-    → AreOrdersOf (log_of of_chains) (open_from (sides_in (kept_by entries)) 0 (chain_choices (log_of of_chains))) orders → (nodes tree : List TreeNode) → nodes ≡ tree → IsRefutationTree r.poly tree → IsSearched ss entries orders nodes
-left_searched ss of_chains r h entries e same orders o nodes tree is t =
+pub left_orders : (ss of_chains : List ClientSession) (r : Remainder) → IsOpenHistory ss r → (entries : List LedgerEntry) → entries ≡ r.ledger.entries.items → of_chains ≡ ss → (orders : List ChainOrder)
+    → AreOrdersOf (log_of of_chains) (open_from (sides_in (kept_by entries)) 0 (chain_choices (log_of of_chains))) orders → AreOrdersOf (log_of ss) r.poly.choices orders
+left_orders ss of_chains r h entries e same orders o =
     let choices = h.unpruned.chained.choices in
     let kept : kept_by entries ≡ kept_by r.ledger.entries.items = ap kept_by e in
     let left : open_from (sides_in (kept_by entries)) 0 (chain_choices (log_of ss)) ≡ r.poly.choices =
     (λ i. let c = sym choices in open_from (sides_in (kept i)) 0 (c i)) ∙ sym h.left.choices in
     let mine : AreOrdersOf (log_of ss) (open_from (sides_in (kept_by entries)) 0 (chain_choices (log_of ss))) orders =
     subst (λ (zs : List ClientSession). AreOrdersOf (log_of zs) (open_from (sides_in (kept_by entries)) 0 (chain_choices (log_of zs))) orders) same o in
+    subst (λ (cs : List Choice). AreOrdersOf (log_of ss) cs orders) left mine
+
+pub left_searched : (ss : List ClientSession) (r : Remainder) → IsOpenHistory ss r → (entries : List LedgerEntry) → entries ≡ r.ledger.entries.items → (orders : List ChainOrder)
+    → AreOrdersOf (log_of ss) r.poly.choices orders → (nodes tree : List TreeNode) → nodes ≡ tree → IsRefutationTree r.poly tree → IsSearched ss entries orders nodes
+left_searched ss r h entries e orders o nodes tree is t =
+    let choices = h.unpruned.chained.choices in
+    let kept : kept_by entries ≡ kept_by r.ledger.entries.items = ap kept_by e in
     record {
       poly = r.poly;
       known = λ x. subst (λ (ks : List Entry). Contains r.poly.known x ↔ Contains (edges_after (chain_polygraph (log_of ss)) ks) x) (sym kept) (
         (λ c. to_chains h.poly (log_of ss) h.unpruned.chained.known choices (kept_by r.ledger.entries.items) x ((h.left.known x).0 c)),
         (λ c. (h.left.known x).1 (from_chains h.poly (log_of ss) h.unpruned.chained.known choices (kept_by r.ledger.entries.items) x c)),
       );
-      sides = subst (λ (cs : List Choice). AreOrdersOf (log_of ss) cs orders) left mine;
+      sides = o;
       shown = subst (λ (xs : List TreeNode). IsRefutationTree r.poly xs) (sym is) t;
     }
 
@@ -90,18 +97,20 @@ module _ (ss : List ClientSession) (entries : List LedgerEntry) (orders : List C
   pub searched_among : DecidesAmong (length orders) nodes
   searched_among = subst (λ n. DecidesAmong n nodes) (sym orders_count) (decides_among h.poly nodes h.shown)
 
-  pub whole_told : (s : StepsView) → s.sessions ≡ ss → (visits : List Visit) (last leaves : ℕ) → leaves ≡ leaf_count nodes → IsVisited nodes 0 0 last visits → (before mid items : List Item) → AreStepsTold s.sessions s.orders before → mid ≡ before ++ leaves_items leaves
-      → AddsVisits s orders nodes visits mid items → IsTreeTold ss leaves items
-  whole_told s of_log visits last leaves all v before mid items steps mid_is a =
+  pub whole_told : (s : StepsView) → s.sessions ≡ ss → (visits : List Visit) (last : ℕ) → IsVisited nodes 0 0 last visits → (before mid items : List Item) → AreStepsTold s.sessions s.orders before → mid ≡ before ++ leaves_items (leaf_count nodes)
+      → AddsVisits s orders nodes visits mid items → (choices : List Choice) → AreOrdersOf (log_of ss) choices orders → IsTreeTold ss choices nodes items
+  whole_told s of_log visits last v before mid items steps mid_is a choices sides =
       let each = subst (λ (zs : List ClientSession). All (IsOrder (log_of zs)) orders) (sym of_log) h.sides.each in
       let root = root_told s orders nodes h.poly h.shown each orders_count last visits a.own v a.told in
       record {
         steps = s.orders;
+        orders = orders;
         before = before;
         tree = a.own;
         told = subst (λ (zs : List ClientSession). AreStepsTold zs s.orders before) of_log steps;
+        sides = sides;
         last = last;
-        root = subst (λ (zs : List ClientSession). IsCubeTold zs s.orders 0 [] 0 last a.own) of_log root;
-        count = told_count h.poly nodes h.shown last visits v ∙ ap told_leaves (sym all);
-        whole = a.added ∙ ap (λ l. l ++ a.own) mid_is ∙ append_assoc before (leaves_items leaves) a.own;
+        root = subst (λ (zs : List ClientSession). IsCubeTold zs s.orders orders nodes 0 0 [] 0 last a.own) of_log root;
+        count = told_count h.poly nodes h.shown last visits v;
+        whole = a.added ∙ ap (λ l. l ++ a.own) mid_is ∙ append_assoc before (leaves_items (leaf_count nodes)) a.own;
       }

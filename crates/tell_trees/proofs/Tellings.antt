@@ -54,7 +54,7 @@ module _ (s : StepsView) (orders : List ChainOrder) (nodes : List TreeNode) wher
     pub here : slice_get nodes i ≡ Some node
     pub after : List Item
     pub whole : items ≡ decision_items orders (length (cube_of nodes i)) node.decision ++ after
-    pub cube : IsCubeTold s.sessions s.orders (length (cube_of nodes i)) (decided_at orders nodes i) n k after
+    pub cube : IsCubeTold s.sessions s.orders orders nodes i (length (cube_of nodes i)) (decided_at orders nodes i) n k after
 
   module _ (p : Polygraph) (t : IsRefutationTree p nodes) (each : All (IsOrder (log_of s.sessions)) orders) (count : length orders ≡ length p.choices) where
     child_decides : (i c : ℕ) (side : Side) (j : ℕ) → IsChild nodes i c side j → (y : TreeNode) → slice_get nodes j ≡ Some y → decision_items orders (length (cube_of nodes j)) y.decision ≡ item.Decided (length (cube_of nodes i)) (order_at orders (c, side)) ∷ []
@@ -64,15 +64,15 @@ module _ (s : StepsView) (orders : List ChainOrder) (nodes : List TreeNode) wher
         let depth : length (cube_of nodes j) - 1 ≡ length (cube_of nodes i) = omega (arith, one) in
         ap (decision_items orders (length (cube_of nodes j))) decision ∙ ap (λ z. item.Decided z (order_at orders (c, side)) ∷ []) depth
 
-    child_told : (i c : ℕ) (side : Side) (j n k : ℕ) (items : List Item) → IsChild nodes i c side j → IsCubeTold s.sessions s.orders (length (cube_of nodes j)) (decided_at orders nodes j) n k items
-        → IsCubeTold s.sessions s.orders (length (cube_of nodes i) + 1) (order_at orders (c, side) ∷ decided_at orders nodes i) n k items
+    child_told : (i c : ℕ) (side : Side) (j n k : ℕ) (items : List Item) → IsChild nodes i c side j → IsCubeTold s.sessions s.orders orders nodes j (length (cube_of nodes j)) (decided_at orders nodes j) n k items
+        → IsCubeTold s.sessions s.orders orders nodes j (length (cube_of nodes i) + 1) (order_at orders (c, side) ∷ decided_at orders nodes i) n k items
     child_told i c side j n k items h told_at =
         let cube = child_cube p nodes t i c side j h in
         let one : length (cube_of nodes j) ≡ length ((c, side) ∷ cube_of nodes i) = ap length cube in
         let depth : length (cube_of nodes j) ≡ length (cube_of nodes i) + 1 = omega (arith, one) in
         let decided : decided_at orders nodes j ≡ order_at orders (c, side) ∷ decided_at orders nodes i = ap (map (order_at orders)) cube in
-        subst (λ (d : List ChainOrder). IsCubeTold s.sessions s.orders (length (cube_of nodes i) + 1) d n k items) decided
-        (subst (λ z. IsCubeTold s.sessions s.orders z (decided_at orders nodes j) n k items) depth told_at)
+        subst (λ (d : List ChainOrder). IsCubeTold s.sessions s.orders orders nodes j (length (cube_of nodes i) + 1) d n k items) decided
+        (subst (λ z. IsCubeTold s.sessions s.orders orders nodes j z (decided_at orders nodes j) n k items) depth told_at)
 
     order_is : (c : ℕ) → c < length p.choices → IsOrder (log_of s.sessions) (order_at orders (c, One))
     order_is c lt = each c no_order (omega (arith, lt, count))
@@ -94,7 +94,7 @@ module _ (s : StepsView) (orders : List ChainOrder) (nodes : List TreeNode) wher
           here = own.here;
           after = own.after;
           whole = h.4 ∙ (λ i. own_items v x true h.0 own.after of own refl i ++ h.3 i) ∙ append-nil (decision_items orders (length (cube_of nodes v.node)) own.node.decision ++ own.after);
-          cube = told.leaf (length (cube_of nodes v.node)) (decided_at orders nodes v.node) n own.after lt
+          cube = told.leaf v.node (length (cube_of nodes v.node)) (decided_at orders nodes v.node) n own.after lt (x, line, of.here, g)
               (cycle_told (decided_at orders nodes v.node) (line_of nodes v) line own.after (leaf_line v x true (Leaf line) of g) own.leaf);
         }
     node_told (visited.split v n m k x c first second one two of g va vb) items h =
@@ -115,7 +115,7 @@ module _ (s : StepsView) (orders : List ChainOrder) (nodes : List TreeNode) wher
           here = own.here;
           after = (item.Decided L o ∷ a.after) ++ (item.Decided L (turned o) ∷ b.after);
           whole = h.4 ∙ (λ i. first_items i ++ rest_items i);
-          cube = told.split L (decided_at orders nodes v.node) n m k o a.after b.after (order_is c split.choice)
+          cube = told.split v.node L (decided_at orders nodes v.node) n m k c first second o a.after b.after (x, of.here, g) refl (order_is c split.choice)
               (child_told v.node c One first n m a.after split.one a.cube) (child_told v.node c Two second m k b.after split.two b.cube);
         }
     node_told (visited.left_out v x of) items h =
@@ -126,13 +126,13 @@ module _ (s : StepsView) (orders : List ChainOrder) (nodes : List TreeNode) wher
           here = own.here;
           after = [];
           whole = h.4 ∙ (λ i. own_items v x false h.0 [] of own none i ++ h.3 i) ∙ append-nil (decision_items orders (length (cube_of nodes v.node)) own.node.decision ++ []);
-          cube = told.left_out (length (cube_of nodes v.node)) (decided_at orders nodes v.node);
+          cube = told.left_out v.node (length (cube_of nodes v.node)) (decided_at orders nodes v.node);
         }
 
-    pub root_told : (k : ℕ) (vs : List Visit) (items : List Item) → IsVisited nodes 0 0 k vs → AreVisitsTold s orders nodes vs items → IsCubeTold s.sessions s.orders 0 [] 0 k items
+    pub root_told : (k : ℕ) (vs : List Visit) (items : List Item) → IsVisited nodes 0 0 k vs → AreVisitsTold s orders nodes vs items → IsCubeTold s.sessions s.orders orders nodes 0 0 [] 0 k items
     root_told k vs items v h =
         let r = node_told v items h in
         let empty = root_cube p nodes t in
         let whole : items ≡ r.after = r.whole ∙ ap (λ d. decision_items orders (length (cube_of nodes 0)) d ++ r.after) (root_decides p nodes t r.node r.here) in
-        subst (λ (l : List Item). IsCubeTold s.sessions s.orders 0 [] 0 k l) (sym whole)
-        (subst (λ (cube : List (ℕ × Side)). IsCubeTold s.sessions s.orders (length cube) (map (order_at orders) cube) 0 k r.after) empty r.cube)
+        subst (λ (l : List Item). IsCubeTold s.sessions s.orders orders nodes 0 0 [] 0 k l) (sym whole)
+        (subst (λ (cube : List (ℕ × Side)). IsCubeTold s.sessions s.orders orders nodes 0 (length cube) (map (order_at orders) cube) 0 k r.after) empty r.cube)

@@ -1,30 +1,48 @@
 -- How a refutation tree is told, depth first.
 use Rattle.std.specs.Prelude.{◌≡◌, ℕ, ◌+◌, ◌<◌, nat_lt, if◌then◌else◌, List, [], ◌∷◌, ◌++◌}
+use Rattle.std.specs.Prelude.{Some, slice_get}
 use Rattle.session_log.specs.Text.{ClientSession}
+use Rattle.serializability.specs.Polygraph.{Choice}
+use Rattle.pruning_laws.specs.declared.side.Side.TheVariants.{One}
 use Rattle.log_definitions.specs.Numbers.{log_of}
+use Rattle.cube_laws.specs.declared.tree.Growth.TheVariants.{Leaf, Inner}
+use Rattle.cube_laws.specs.declared.tree.TreeNode.{TreeNode}
 use Rattle.tell_reasons.specs.declared.why.ChainOrder.{ChainOrder}
 use Rattle.tell_steps.specs.Steps.{turned, IsOrder, AreStepsTold, IsCycleTold}
 use Rattle.tell_steps.specs.declared.item.Item.{Item}
 use Rattle.tell_steps.specs.declared.item.Item.TheVariants as item
+use Rattle.tell_trees.specs.Orders.{AreOrdersOf, order_at}
+use Rattle.tell_trees.specs.Visits.{leaf_count}
 use Rattle.tell_trees.specs.declared.TheConstants.{MAX_LEAVES}
 
--- A cube, in which these orders of chains are decided, the newest first, told behind so many
--- leaves, and so many with its own: it has a cycle; or two chains of a key are split into their two
--- orders, of which each makes a cube that is told in turn; or it is left out, behind the greatest
--- number of leaves.
-pub data IsCubeTold (ss : List ClientSession) (steps : List ChainOrder) : ℕ → List ChainOrder → ℕ
-    → ℕ → List Item → Type 0 where
-  leaf : (depth : ℕ) (decided : List ChainOrder) (n : ℕ) (items : List Item) → n < MAX_LEAVES
-      → IsCycleTold ss steps decided items →
-      IsCubeTold ss steps depth decided n (n + 1) items
-  split : (depth : ℕ) (decided : List ChainOrder) (n m k : ℕ) (o : ChainOrder) (one two : List Item)
-      → IsOrder (log_of ss) o →
-      IsCubeTold ss steps (depth + 1) (o ∷ decided) n m one
-      → IsCubeTold ss steps (depth + 1) (turned o ∷ decided) m k two →
-      IsCubeTold ss steps depth decided n k (item.Decided depth o ∷ one ++ item.Decided depth
-      (turned o) ∷ two)
-  left_out : (depth : ℕ) (decided : List ChainOrder)
-      → IsCubeTold ss steps depth decided MAX_LEAVES MAX_LEAVES []
+-- node v of a tree is a leaf; it decides choice c, and has these two children
+abbrev pub IsLeafAt : List TreeNode → ℕ → Type 0
+IsLeafAt nodes v = (x : TreeNode) × (line : List ℕ) × (slice_get nodes v ≡ Some x)
+    × (x.growth ≡ Leaf line)
+
+abbrev pub IsInnerAt : List TreeNode → ℕ → ℕ → ℕ → ℕ → Type 0
+IsInnerAt nodes v c first second = (x : TreeNode) × (slice_get nodes v ≡ Some x)
+    × (x.growth ≡ Inner c first second)
+
+-- The cube of node v of a tree, whose choices are between these orders of chains and their turned
+-- ones. In the cube these orders are decided, the newest first; it is told behind so many leaves, and
+-- so many with its own. Of a leaf a cycle is told; of an inner node its choice is split into the two
+-- orders, of which each makes the cube of a child, which is told in turn; or it is left out, behind
+-- the greatest number of leaves.
+pub data IsCubeTold (ss : List ClientSession) (steps orders : List ChainOrder)
+    (nodes : List TreeNode) : ℕ → ℕ → List ChainOrder → ℕ → ℕ → List Item → Type 0 where
+  leaf : (v depth : ℕ) (decided : List ChainOrder) (n : ℕ) (items : List Item) → n < MAX_LEAVES
+      → IsLeafAt nodes v → IsCycleTold ss steps decided items →
+      IsCubeTold ss steps orders nodes v depth decided n (n + 1) items
+  split : (v depth : ℕ) (decided : List ChainOrder) (n m k c first second : ℕ) (o : ChainOrder)
+      (one two : List Item)
+      → IsInnerAt nodes v c first second → o ≡ order_at orders (c, One) → IsOrder (log_of ss) o →
+      IsCubeTold ss steps orders nodes first (depth + 1) (o ∷ decided) n m one
+      → IsCubeTold ss steps orders nodes second (depth + 1) (turned o ∷ decided) m k two →
+      IsCubeTold ss steps orders nodes v depth decided n k (item.Decided depth o ∷ one
+      ++ item.Decided depth (turned o) ∷ two)
+  left_out : (v depth : ℕ) (decided : List ChainOrder)
+      → IsCubeTold ss steps orders nodes v depth decided MAX_LEAVES MAX_LEAVES []
 
 -- how many leaves the tree has, where it has more than one
 abbrev pub leaves_items : ℕ → List Item
@@ -34,14 +52,18 @@ leaves_items count = if nat_lt 1 count then item.Leaves count ∷ [] else []
 abbrev pub told_leaves : ℕ → ℕ
 told_leaves count = if nat_lt MAX_LEAVES count then MAX_LEAVES else count
 
--- steps; how many leaves there are, where there is more than one; and then the cube in which
--- nothing is decided, with as many leaves as are told of so many
-pub record IsTreeTold (ss : List ClientSession) (leaves : ℕ) (items : List Item) : Type 0 where
+-- of a tree with these nodes, over these choices: steps; how many leaves it has, where it has more
+-- than one; and then the cube of its first node, in which nothing is decided, with as many leaves as
+-- are told of so many
+pub record IsTreeTold (ss : List ClientSession) (choices : List Choice) (nodes : List TreeNode)
+    (items : List Item) : Type 0 where
   pub steps : List ChainOrder
+  pub orders : List ChainOrder
   pub before : List Item
   pub tree : List Item
   pub told : AreStepsTold ss steps before
+  pub sides : AreOrdersOf (log_of ss) choices orders
   pub last : ℕ
-  pub root : IsCubeTold ss steps 0 [] 0 last tree
-  pub count : last ≡ told_leaves leaves
-  pub whole : items ≡ before ++ (leaves_items leaves ++ tree)
+  pub root : IsCubeTold ss steps orders nodes 0 0 [] 0 last tree
+  pub count : last ≡ told_leaves (leaf_count nodes)
+  pub whole : items ≡ before ++ (leaves_items (leaf_count nodes) ++ tree)

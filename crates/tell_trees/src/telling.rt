@@ -1,14 +1,15 @@
 //! A refutation tree, told depth first.
 
-ghost use Rattle.std.specs.Prelude.{◌≡◌, IfOk};
+ghost use Rattle.std.specs.Prelude.{◌≡◌, List, IfOk};
+ghost use Rattle.serializability.specs.Polygraph.{Choice};
 ghost use Rattle.serializability.specs.Reads.{IsClean};
 ghost use Rattle.log_definitions.specs.Numbers.{log_of};
 ghost use Rattle.reduction.specs.Outcome.{IsOpenHistory};
 ghost use Rattle.cube_laws.specs.Trees.{IsRefutationTree};
 ghost use Rattle.tell_steps.specs.Lines.{HasLedger};
+ghost use Rattle.tell_trees.specs.Orders.{AreOrdersOf};
 ghost use Rattle.tell_trees.specs.Searched.{IsSearched};
 ghost use Rattle.tell_trees.specs.Trees.{IsTreeTold};
-ghost use Rattle.tell_trees.specs.Visits.{leaf_count};
 
 use crate::items::{put_leaves, put_visits};
 use crate::orders::open_orders;
@@ -35,7 +36,8 @@ pub fn tell_tree(
     requires chains { chains.now ≡ history.now }
     requires left { IsOpenHistory history.now reduced.now }
     requires tree { IsRefutationTree reduced.now.poly tree.now }
-    ensures told { IfOk result (λ items. IsTreeTold history.now (leaf_count tree.now) items.items) }
+    ensures told { IfOk result (λ items. IsTreeTold history.now reduced.now.poly.choices tree.now
+        items.items) }
 {
     let entries = reduced.ledger().entries.as_slice();
     let orders = open_orders(alloc, chains, entries)?;
@@ -55,8 +57,8 @@ fn tell_nodes(
     requires chains { chains.now ≡ history.now }
     requires ledger { HasLedger history.now entries.now }
     requires searched { IsSearched history.now entries.now orders.now nodes.now }
-    ensures told { IfOk result (λ items. IsTreeTold history.now
-        (leaf_count nodes.now) items.items) }
+    ensures told { (choices : List Choice) → AreOrdersOf (log_of history.now) choices orders.now
+        → IfOk result (λ items. IsTreeTold history.now choices nodes.now items.items) }
 {
     let visits = visits(alloc, nodes)?;
     let leaves = count_leaves(nodes);

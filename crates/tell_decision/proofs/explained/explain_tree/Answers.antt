@@ -1,6 +1,5 @@
 use Rattle.std.proofs.Common.{◌<◌, ◌^◌, length, subst, sym, arith}
 use Rattle.std.proofs.lemmas.Result.{IfOk-weaker}
-use Rattle.tell_trees.specs.Visits.{leaf_count}
 use Rattle.tell_texts.specs.Texts.{AreTellable}
 use Rattle.tell_decision.proofs.Premises.{unpruned_clean, tree_written}
 use Rattle.tell_decision.proofs.Tellable.{tree_tellable}
@@ -24,11 +23,11 @@ written_tree-requires-clause-items c =
     let room = made.ok.1 in
     let bound = made.small in
     let small : length items < 2 ^ 63 = omega (arith, count, room, bound) in
-    subst (AreTellable ss) (sym c.deref.ensures.value) (tree_tellable ss (leaf_count c.args.tree.now) items small c.in_ok-items.ensures.told)
+    subst (AreTellable ss) (sym c.deref.ensures.value) (tree_tellable ss c.args.reduced.now.poly.choices c.args.tree.now items small c.in_ok-items.ensures.told)
 
 pub returns : goal.returns
 returns c = record {
   written = IfOk-weaker c.written_tree.result _ _
-      (λ made e. tree_written (leaf_count c.args.tree.now) c.args.format c.args.log.now c.in_ok-found.found c.in_ok-items.items.items c.deref.result.now made.items c.in_ok-found.ensures.crossed c.in_ok-items.ensures.told c.deref.ensures.value e)
+      (λ made e. tree_written c.args.reduced.now.poly.choices c.args.tree.now c.args.format c.args.log.now c.in_ok-found.found c.in_ok-items.items.items c.deref.result.now made.items c.in_ok-found.ensures.crossed c.in_ok-items.ensures.told c.deref.ensures.value e)
       c.written_tree.ensures.text;
 }

@@ -1,4 +1,4 @@
-use Rattle.std.proofs.Common.{◌≡◌, ℕ, ◌<◌, List, ◌++◌, length, Bor, ◌∙◌, refl, sym, ap, subst}
+use Rattle.std.proofs.Common.{◌≡◌, ℕ, ◌<◌, List, ◌++◌, length, Bor, ◌∙◌, sym, ap, subst}
 use Rattle.std.specs.Prelude.{IfSome}
 use Rattle.std.specs.List.{filter_map}
 use Rattle.std.proofs.lemmas.List.Elements.{All-same}
@@ -6,7 +6,7 @@ use Rattle.tell_steps.specs.Lines.{IsCovered}
 use Rattle.tell_trees.specs.declared.visits.Visit.{Visit}
 use Rattle.tell_trees.specs.Told.{CanTell, decided_at, AddsVisits}
 use Rattle.tell_trees.specs.Trees.{leaves_items}
-use Rattle.tell_trees.specs.Visits.{leaf_count, line_of}
+use Rattle.tell_trees.specs.Visits.{line_of}
 use Rattle.tell_trees.proofs.Edges.{all_tell}
 use Rattle.tell_trees.proofs.Left.{visits_within, searched_tree, searched_among, whole_told}
 use Rattle.tell_trees.proofs.telling.tell_nodes.Goals as goal
@@ -38,7 +38,7 @@ pub returns : goal.returns
 returns c =
     let s = c.in_ok-steps.steps in let nodes = c.args.nodes.now in let orders = c.args.orders.now in
     record {
-      told = whole_told c.args.history.now c.args.entries.now orders nodes c.requires.searched s c.in_ok-steps.ensures.sessions c.in_ok-visits.visits.items c.in_ok-visits.ensures.visited.0 (leaf_count nodes) refl c.in_ok-visits.ensures.visited.1
+      told = whole_told c.args.history.now c.args.entries.now orders nodes c.requires.searched s c.in_ok-steps.ensures.sessions c.in_ok-visits.visits.items c.in_ok-visits.ensures.visited.0 c.in_ok-visits.ensures.visited.1
           c.in_ok-items.items.items c.put_leaves.new.items.items c.put_visits.new.items.items c.in_ok-items.ensures.told
           (subst (λ n. c.put_leaves.new.items.items ≡ c.in_ok-items.items.items ++ leaves_items n) c.count_leaves-leaves.ensures.count c.in_ok-put_leaves.ensures.added)
           (subst (λ (vs : List Visit). AddsVisits s orders nodes vs c.put_leaves.new.items.items c.put_visits.new.items.items) c.deref-3.ensures.value c.in_ok-put_visits.ensures.told);
