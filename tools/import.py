@@ -238,6 +238,7 @@ class History:
         self.sessions, self.notes = [], {}
         self.identities, self.writes, self.kinds = {}, [], {}  # of writes, their lines, and what is written to a key
         self.names, self.own_names = {}, set()
+        self.unwritten = []  # the value, the line, and whether a register held it, of each read of what nobody wrote
 
     def session(self, name, line):
         """A new session."""
@@ -290,6 +291,9 @@ class History:
     def identity(self, key, value):
         """The number of a write; what nobody wrote gets numbers behind all these."""
         return 0 if value is INITIAL else self.identities.setdefault((key, value), len(self.identities) + 1)
+
+    def is_unwritten(self, key, value):
+        return value is not INITIAL and self.identities.get((key, value), len(self.writes) + 1) > len(self.writes)
 
     def name(self, key):
         """What the log calls a key: its own text where that is a key of a log and no other one has it, else key:N."""
@@ -385,6 +389,9 @@ def log_of(history, lists=None):
             it.name = '%d.%d' % (number, place)
             put('begin' if it.begun is None else 'begin %d' % it.begun, it.opened, None, it)
             for line, word, key, value, *about in log_operations(history, lists, it):
+                if word == READ and it.outcome != ABORTED and history.is_unwritten(key, value):
+                    is_register = type(about[0][2]) is not tuple and history.kinds.get(key) != APPEND
+                    history.unwritten.append((value, line, is_register))
                 put('%s %s %d' % (word, history.name(key), history.identity(key, value)), line, (word, key, value), it, *about)
             put(it.outcome if it.ended is None else '%s %d' % (it.outcome, it.ended), it.closed)
     return log, places
@@ -657,6 +664,18 @@ def tell(history):
         say('and %d more keys are named so; --map tells them all' % len(renamed[10:]))
 
 
+def advise_initial(history):
+    """Tells what registers may have held before the run: a number that was read and never written, if it is the only one."""
+    if not history.unwritten:
+        return
+    value, line, _ = history.unwritten[0]
+    is_only_one = all(it == value and is_register for it, _, is_register in history.unwritten)
+    is_written = any(it == value and number <= len(history.writes) for (_, it), number in history.identities.items())
+    if type(value) is int and is_only_one and not is_written:
+        say('reads of %d, which no transaction wrote: %d, the first in line %d; if each register held %d before the run, take --initial %d'
+            % (value, len(history.unwritten), line, value, value))
+
+
 def write(history, lists, given):
     log, places = log_of(history, lists)
     for path, lines in ((given.map, map_lines(places)), (given.operations, operation_lines(log, places))):
@@ -709,6 +728,8 @@ def main():
         contradict = given.lists and tell_lists(history, counted)
         write(history, lists, given)
         tell(history)
+        if given.initial is None:
+            advise_initial(history)
     except Unreadable as wrong:
         stop(UNREADABLE, '%s:%d: %s' % (given.history, wrong.line, wrong))
     except OSError as wrong:
