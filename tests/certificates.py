@@ -128,13 +128,13 @@ class Answer:
     def below(self, middle):
         """Takes the lines of weaker levels, and of what holds without moments, from the end of these."""
         for level in reversed(WEAKER):
-            found = re.fullmatch('%s (kept|not kept|unknown)' % level, middle[-1]) if middle else None
+            found = re.fullmatch('the whole log: %s (kept|not kept|unknown)' % level, middle[-1]) if middle else None
             if found:
                 middle.pop()
                 self.weaker[level] = found[1]
         must(not self.weaker or 'snapshot isolation' in self.weaker, 'levels: %r' % self.weaker)
-        if middle and middle[-1].startswith('without moments '):
-            self.without = middle.pop()[len('without moments '):]
+        if middle and middle[-1].startswith('the whole log without moments: '):
+            self.without = middle.pop()[len('the whole log without moments: '):]
             must(self.without in STATUS and self.without != 'refused', 'without moments %r' % self.without)
 
     def refuted(self, middle, faults):

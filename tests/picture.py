@@ -236,7 +236,7 @@ def explained_by_audit(program, path):
     first, *lines = ran.stdout.decode().split('\n')
     if ran.returncode != 1:
         return None
-    end = next(place for place, line in enumerate(lines) if re.match('without moments |(strict )?snapshot isolation |sessions [0-9]+$', line))
+    end = next(place for place, line in enumerate(lines) if re.match('the whole log|sessions [0-9]+$', line))
     return ''.join(line + '\n' for line in ['not serializable: ' + lines[0].split(': ', 1)[1], *lines[2:end]])
 
 

@@ -134,12 +134,13 @@ middle_text faults _ = []
 
 unfoldable pub without_text : Option Word → List ℕ
 without_text None = []
-without_text (Some word) = codes "without moments " ++ word_text word ++ 10 ∷ []
+without_text (Some word) = codes "the whole log without moments: " ++ word_text word ++ 10 ∷ []
 
 -- a line with the name of a level, and whether it was kept
 unfoldable pub level_row : Isolation → Option Word → List ℕ
 level_row level None = []
-level_row level (Some word) = level_title level ++ codes " " ++ kept_text word ++ 10 ∷ []
+level_row level (Some word) = codes "the whole log: " ++ level_title level ++ codes " "
+    ++ kept_text word ++ 10 ∷ []
 
 -- what holds without moments and at weaker levels
 unfoldable pub weaker_text : Told → List ℕ

@@ -265,7 +265,7 @@ fn put_without(out: &mut Vec<u8>, word: Option<Word>) -> Result<(), AllocError>
     match word {
         None => Ok(()),
         Some(word) => {
-            put(out, b"without moments ")?;
+            put(out, b"the whole log without moments: ")?;
             put(out, word_text(word).as_bytes())?;
             put(out, b"\n")
         }
@@ -280,6 +280,7 @@ fn put_level_row(out: &mut Vec<u8>, level: Isolation, word: Option<Word>) -> Res
     match word {
         None => Ok(()),
         Some(word) => {
+            put(out, b"the whole log: ")?;
             put(out, level.title().as_bytes())?;
             put(out, b" ")?;
             put(out, kept_text(word).as_bytes())?;
