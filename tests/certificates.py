@@ -144,6 +144,7 @@ class Answer:
         while faults > 1 and re.fullmatch(r'(A[1-9]|no code) [1-9][0-9]*', middle[-1]):
             self.codes.insert(0, middle.pop())
         self.parts = [Part(middle[at], middle[at + 1], middle[at + 2:end]) for at, end in zip(heads, heads[1:] + [len(middle)])]
+        must(len({tuple(sorted(part.lines)) for part in self.parts}) == len(self.parts), 'a part is told twice')
         codes = sorted(part.code or 'no code' for part in self.parts)
         wanted = ['%s %d' % (code, codes.count(code)) for code in dict.fromkeys(codes)]
         must(self.codes == (wanted if faults > 1 else []), 'codes %r, wanted %r' % (self.codes, wanted))
