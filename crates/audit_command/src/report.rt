@@ -12,7 +12,6 @@ use crate::codes::{code_number, finding_title, kept_text, verdict_text, word_of,
 use crate::lines::{put, put_count, put_line, put_lines, put_name, put_number};
 use crate::told::{Answer, Told, ToldPart, ToldTxn, Totals, Word};
 use isolation::Isolation;
-use judging::Finding;
 use std::alloc::{AllocError, Global};
 
 /// Appends how many committed transactions there are, and how many must be.
@@ -115,14 +114,15 @@ fn noun_of(count: usize) -> &'static [u8]
     }
 }
 
-/// Appends the code of a finding, or its name where it has none.
+/// Appends the code of what was found of a part, or its name where it has none.
 #[tactic(auto, unfolding(crate::specs::Report::short_title))]
-fn put_short_title(out: &mut Vec<u8>, finding: Finding) -> Result<(), AllocError>
-    ensures put { OnOk result (out.new.items ≡ out.old.items ++ short_title finding) }
+fn put_short_title(out: &mut Vec<u8>, part: &ToldPart) -> Result<(), AllocError>
+    ensures put { OnOk result (out.new.items
+        ≡ out.old.items ++ short_title part.now.refuted.finding) }
 {
-    let number = code_number(finding);
+    let number = code_number(part.refuted.finding);
     if number == 0 {
-        put(out, finding_title(finding).as_bytes())
+        put(out, finding_title(part.refuted.finding).as_bytes())
     } else {
         put_number(out, b"A", number)
     }
@@ -130,19 +130,16 @@ fn put_short_title(out: &mut Vec<u8>, finding: Finding) -> Result<(), AllocError
 
 /// Appends what was found of a part: what the field calls it and the code, or the code and its name.
 #[tactic(auto, unfolding(crate::specs::Report::found_text))]
-fn put_found(
-    out: &mut Vec<u8>,
-    known_as: &Option<String>,
-    finding: Finding,
-) -> Result<(), AllocError>
-    ensures put { OnOk result (out.new.items ≡ out.old.items ++ found_text known_as.now finding) }
+fn put_found(out: &mut Vec<u8>, part: &ToldPart) -> Result<(), AllocError>
+    ensures put { OnOk result (out.new.items
+        ≡ out.old.items ++ found_text part.now.known_as part.now.refuted.finding) }
 {
-    match known_as {
-        None => put(out, finding_title(finding).as_bytes()),
+    match &part.known_as {
+        None => put(out, finding_title(part.refuted.finding).as_bytes()),
         Some(name) => {
             put(out, name.as_bytes())?;
             put(out, b", ")?;
-            put_short_title(out, finding)
+            put_short_title(out, part)
         }
     }
 }
@@ -153,7 +150,7 @@ fn put_heading(out: &mut Vec<u8>, part: &ToldPart) -> Result<(), AllocError>
 {
     put_number(out, b"part of ", part.txns.len())?;
     put(out, noun_of(part.txns.len()))?;
-    put_found(out, &part.known_as, part.refuted.finding)?;
+    put_found(out, part)?;
     put(out, b"\n")
 }
 

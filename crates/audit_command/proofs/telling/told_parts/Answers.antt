@@ -1,4 +1,4 @@
-use Rattle.std.proofs.Common.{◌∷◌, [], ◌++◌, map, sym, ap, ◌∙◌, subst}
+use Rattle.std.proofs.Common.{◌∷◌, [], ◌++◌, map, sym, ap, ◌∙◌, subst, arith, length}
 use Rattle.session_log.specs.Text.{view}
 use Rattle.session_log.specs.Version.{first_line}
 use Rattle.audit_command.specs.Audited.{AreToldParts}
