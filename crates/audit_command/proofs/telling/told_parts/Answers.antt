@@ -24,6 +24,6 @@ returns g c = record {
       let as_many = c.in_ok-put_least_first.ensures.as_many in
       c.without_doubles.ensures.parts level n ss c.args.options.now.faults
       (omega (arith, ap length one, grown, as_many))
-      (omega (arith, ap length one, few, as_many, c.in_ok-more.ensures.at_most, c.saturating_sub.ensures))
+      (omega (arith, ap length one, few, as_many, c.in_ok-more.ensures.at_most, c.saturating_sub-count.ensures))
       sorted;
 }
