@@ -1,11 +1,12 @@
 -- What cycles are called, by what their edges are: in plain words, and behind these in brackets the
 -- name that the literature has (Adya 1999; Elle).
 use Rattle.std.specs.Prelude.{ℕ, ◌==◌, ◌&&◌, ◌||◌, not, Bool, true, false, if◌then◌else◌, List, []}
-use Rattle.std.specs.Prelude.{◌∷◌, length, codes, Option, None, Some}
+use Rattle.std.specs.Prelude.{◌∷◌, ◌+◌, length, take, codes, Option, None, Some}
 use Rattle.session_log.specs.Text.{ClientSession}
 use Rattle.reasons.specs.declared.reason.Reason.{Reason}
 use Rattle.reasons.specs.declared.reason.Reason.TheVariants as reason
-use Rattle.tell_reasons.specs.Versions.{left_at}
+use Rattle.tell_reasons.specs.Versions.{left_at, read_at}
+use Rattle.tell_reasons.specs.declared.why.ChainOrder.{ChainOrder}
 use Rattle.tell_reasons.specs.declared.why.Why.{Why}
 use Rattle.tell_reasons.specs.declared.why.Why.TheVariants as why
 use Rattle.tell_steps.specs.declared.item.Item.{Item}
@@ -15,6 +16,7 @@ use Rattle.tell_decision.specs.declared.names.Missed.TheVariants.{Nothing, One, 
 use Rattle.tell_decision.specs.declared.names.EdgeKind.{EdgeKind}
 use Rattle.tell_decision.specs.declared.names.EdgeKind.TheVariants as kind
 use Rattle.tell_decision.specs.declared.names.Shape.{Shape}
+use Rattle.tell_decision.specs.declared.names.Circle.{Circle}
 
 -- ---- edges
 -- an anti-dependency misses a write, and so does an order of versions
@@ -177,8 +179,65 @@ with_order_of whole s = record {
   beside = s.beside;
 }
 
--- the name of the cycle behind steps, which takes the order that its steps take
+-- ---- a cycle behind steps
+abbrev pub is_edge : Item → Bool
+is_edge (item.Edge a b w) = true
+is_edge _ = false
+
+-- how many edges stand first
+abbrev pub edges_first : List Item → ℕ
+edges_first [] = 0
+edges_first (i ∷ rest) = if is_edge i then 1 + edges_first rest else 0
+
+-- the circle of these edges
+abbrev pub circle_of : List ClientSession → List Item → Circle
+circle_of ss items = record { line = shape_after ss no_edges items; edges = length items }
+
+-- by the order that a step refutes: from who reads the key at this place, as the step says, and would
+-- miss what the other chain writes; or from who wrote it
+abbrev pub kind_refuted : Option ℕ → EdgeKind
+kind_refuted (Some i) = kind.Missed
+kind_refuted None = kind.Written
+
+-- what refutes the other order of a step from this node, where these stand behind the step: its
+-- edges, and the one by that order, which closes their circle
+abbrev pub refuting : List ClientSession → ChainOrder → ℕ → List Item → Circle
+refuting ss o u items = record {
+  line = with_kind (shape_after ss no_edges (take (edges_first items) items))
+      (kind_refuted (read_at ss o.key u));
+  edges = edges_first items + 1;
+}
+
+abbrev pub misses_more : Missed → Missed → Bool
+misses_more Nothing m = false
+misses_more One Nothing = true
+misses_more One One = false
+misses_more One More = false
+misses_more More Nothing = true
+misses_more More One = true
+misses_more More More = false
+
+-- the one that misses more writes; of equals the first
+abbrev pub milder : Circle → Circle → Circle
+milder c d = if misses_more d.line.missed c.line.missed then d else c
+
+-- of a circle, and what refutes the other order of this item, if it is a step
+abbrev pub milder_with : List ClientSession → Circle → Item → List Item → Circle
+milder_with ss c (item.Step n o u v) behind = milder c (refuting ss o u behind)
+milder_with ss c _ behind = c
+
+abbrev pub mildest_after : List ClientSession → Circle → List Item → Circle
+mildest_after ss c [] = c
+mildest_after ss c (i ∷ items) = mildest_after ss (milder_with ss c i items) items
+
+-- The log does not say which order the store had: that of the steps, against which the cycle
+-- stands, or one that a step refutes. The mildest of these; of equals the cycle, else the first
+-- step.
+abbrev pub mildest : List ClientSession → List Item → Circle
+mildest ss items = mildest_after ss (circle_of ss (behind_cycle items)) items
+
+-- the name of a cycle behind steps, of the mildest of these, with the order that all of them take
 abbrev pub name_behind : List ClientSession → List Item → List ℕ
 name_behind ss items =
-    name (with_order_of (shape_after ss no_edges items)
-    (shape_after ss no_edges (behind_cycle items))) (length (behind_cycle items))
+    name (with_order_of (shape_after ss no_edges items) (mildest ss items).line)
+    (mildest ss items).edges

@@ -1,14 +1,16 @@
 //! What cycles are called, by what their edges are: in plain words, and behind these in brackets
 //! the name that the literature has.
 
-ghost use Rattle.std.specs.Prelude.{◌≡◌};
+ghost use Rattle.std.specs.Prelude.{◌≡◌, ◌≤◌, length};
+ghost use Rattle.tell_reasons.specs.Events.{is_read_in};
+ghost use Rattle.tell_reasons.specs.Versions as told;
 ghost use Rattle.tell_reasons.specs.Versions.{left_at};
 ghost use Rattle.tell_decision.specs.Names as spec;
 
 use reasons::Reason;
-use serializability::NodeIx;
+use serializability::{Event, NodeIx};
 use session_history::History;
-use tell_reasons::{Why, left_at};
+use tell_reasons::{ChainOrder, Why, left_at};
 use tell_steps::Item;
 
 /// How many edges of a cycle miss a write.
@@ -45,6 +47,13 @@ pub struct Shape {
     pub first: bool,
     pub last: bool,
     pub beside: bool,
+}
+
+/// A circle of edges: what they are, and how many.
+#[derive(Clone, Copy)]
+pub struct Circle {
+    pub line: Shape,
+    pub edges: usize,
 }
 
 /// What an edge of this reason is.
@@ -292,17 +301,140 @@ fn behind_cycle(items: &[Item]) -> &[Item]
     &[]
 }
 
-/// The name of the cycle behind these steps, which takes the order of sessions and of moments that
-/// the steps take.
+/// Whether an item is an edge.
+fn is_edge(item: Item) -> bool
+    ensures { result ≡ spec.is_edge item }
+{
+    match item {
+        Item::Edge { .. } => true,
+        _ => false,
+    }
+}
+
+/// How many edges stand first.
+fn edges_first(items: &[Item]) -> usize
+    ensures count { result ≡ spec.edges_first items.now }
+    ensures within { result ≤ length items.now }
+{
+    for i in 0..items.len() {
+        if !is_edge(items[i]) {
+            return i;
+        }
+    }
+    items.len()
+}
+
+/// The circle of these edges.
+fn circle_of(history: &History, items: &[Item]) -> Circle
+    ensures { result ≡ spec.circle_of history.now items.now }
+{
+    Circle {
+        line: shape_of(history, items),
+        edges: items.len(),
+    }
+}
+
+/// Whether an operation reads the key.
+fn reads(event: Event, key: usize) -> bool
+    ensures { result ≡ is_read_in key event }
+{
+    match event {
+        Event::Read { key: read, .. } => key == read,
+        Event::Write { .. } => false,
+    }
+}
+
+/// The first read of a key in a node.
+fn read_at(history: &History, key: usize, node: NodeIx) -> Option<usize>
+    ensures { result ≡ told.read_at history.now key node }
+{
+    history
+        .events_of(node)
+        .iter()
+        .position(|event| reads(*event, key))
+}
+
+/// What an edge by the order that a step refutes is, from a node that reads the key or wrote it.
+fn kind_refuted(history: &History, key: usize, source: NodeIx) -> EdgeKind
+    ensures { result ≡ spec.kind_refuted (told.read_at history.now key source) }
+{
+    match read_at(history, key, source) {
+        Some(_) => EdgeKind::Missed,
+        None => EdgeKind::Written,
+    }
+}
+
+/// What refutes the other order of a step from this node, where these stand behind the step: its
+/// edges, and the one by that order, which closes their circle.
+fn refuting(history: &History, order: ChainOrder, source: NodeIx, behind: &[Item]) -> Circle
+    ensures { result ≡ spec.refuting history.now order source behind.now }
+{
+    let count = edges_first(behind);
+    let line = shape_of(history, &behind[..count]);
+    Circle {
+        line: with_kind(line, kind_refuted(history, order.key, source)),
+        edges: count + 1,
+    }
+}
+
+/// Whether the first is more.
+fn misses_more(missed: Missed, than: Missed) -> bool
+    ensures { result ≡ spec.misses_more missed than }
+{
+    match (missed, than) {
+        (Missed::One, Missed::Nothing) => true,
+        (Missed::More, Missed::Nothing) => true,
+        (Missed::More, Missed::One) => true,
+        _ => false,
+    }
+}
+
+/// The one that misses more writes; of equals the first.
+fn milder(circle: Circle, other: Circle) -> Circle
+    ensures { result ≡ spec.milder circle other }
+{
+    if misses_more(other.line.missed, circle.line.missed) {
+        other
+    } else {
+        circle
+    }
+}
+
+/// The milder one of a circle and what refutes the other order of this item, if it is a step.
+fn milder_with(history: &History, circle: Circle, item: Item, behind: &[Item]) -> Circle
+    ensures { result ≡ spec.milder_with history.now circle item behind.now }
+{
+    match item {
+        Item::Step { order, source, .. } => {
+            milder(circle, refuting(history, order, source, behind))
+        }
+        _ => circle,
+    }
+}
+
+/// The mildest of the cycle behind steps, and of what refutes the other order of each step: the log
+/// does not say which of these orders the store had.
+fn mildest(history: &History, items: &[Item]) -> Circle
+    ensures { result ≡ spec.mildest history.now items.now }
+{
+    let mut circle = circle_of(history, behind_cycle(items));
+    for i in 0..items.len() {
+        circle = milder_with(history, circle, items[i], &items[i + 1..]);
+    }
+    circle
+}
+
+/// The name of the cycle behind these steps: of the mildest of these, with the order of sessions
+/// and of moments that all of them take.
 pub fn name_behind(history: &History, items: &[Item]) -> &'static str
     ensures { result.now ≡ spec.name_behind history.now items.now }
 {
     let whole = shape_of(history, items);
-    let cycle = behind_cycle(items);
+    let circle = mildest(history, items);
     let line = Shape {
         session: whole.session,
         moments: whole.moments,
-        ..shape_of(history, cycle)
+        ..circle.line
     };
-    name(line, cycle.len())
+    name(line, circle.edges)
 }
