@@ -1,6 +1,7 @@
 -- Operations of nodes, and the events that a history keeps of them.
 use Rattle.std.proofs.Common.{◌≡◌, ℕ, suc, ◌+◌, ◌<◌, Bool, true, false, List, [], ◌∷◌, length, Option, Some, refl, sym, ap, ◌∙◌, subst, arith}
 use Rattle.std.specs.Prelude.{slice_get, decimal, IfSome}
+use Rattle.std.specs.Option.{option_map_or}
 use Rattle.std.specs.Str.{bytes_eq}
 use Rattle.std.proofs.lemmas.Bool.{false≢true}
 use Rattle.std.proofs.lemmas.List.{length-map}
@@ -20,6 +21,7 @@ use Rattle.reason_laws.proofs.Numbers.{ops_is, listed_at}
 use Rattle.reasons.proofs.Ops.{op_of, key_of_event}
 use Rattle.tell_reasons.specs.Events.{event_wid}
 use Rattle.tell_reasons.specs.Reasons.{op_at, key_text, wid_text, op_wid}
+use Rattle.tell_reasons.specs.Versions.{key_number}
 
 pub event_count : (ss : List ClientSession) (v : ℕ) → length ((log_of ss).ops v) ≡ length (ops_of ss v)
 event_count ss v = ap (λ es. length es) (ops_is ss v) ∙ length-map (ops_of ss v) (event_of (keys_in ss))
@@ -72,3 +74,7 @@ wid_told ss v i e h =
 -- a place among a node's events is one among its operations
 pub within_ops : (ss : List ClientSession) (v : ℕ) (es : List Event) (o : Option ℕ) → es ≡ (log_of ss).ops v → IfSome o (λ i. i < length es) → IfSome o (λ i. i < length (ops_of ss v))
 within_ops ss v es o own h = subst (λ n. IfSome o (λ i. i < n)) (ap (λ l. length l) own ∙ event_count ss v) h
+
+-- the number of an operation's key is that of its event
+pub number_told : (ss : List ClientSession) (v i : ℕ) (e : Event) → slice_get ((log_of ss).ops v) i ≡ Some e → event_key e ≡ key_number ss v i
+number_told ss v i e h = sym (ap (λ (o : Option Event). option_map_or event_key o 0) h)

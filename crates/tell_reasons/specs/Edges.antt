@@ -1,12 +1,39 @@
 -- How it is told why one node stands before another, in a line.
-use Rattle.std.specs.Prelude.{ℕ, ◌+◌, List, [], ◌∷◌, ◌++◌, codes, decimal, Option, None}
-use Rattle.std.specs.Prelude.{Some}
+use Rattle.std.specs.Prelude.{ℕ, ◌+◌, ◌==◌, if◌then◌else◌, List, [], ◌∷◌, ◌++◌, codes, decimal}
+use Rattle.std.specs.Prelude.{unwrap_or, Option, None, Some}
 use Rattle.tell_reasons.specs.declared.why.ChainOrder.{ChainOrder}
 use Rattle.tell_reasons.specs.declared.why.Why.{Why}
 use Rattle.tell_reasons.specs.declared.why.Why.TheVariants as why
-use Rattle.tell_reasons.specs.Reasons.{before_text, reason_text}
-use Rattle.tell_reasons.specs.Versions.{held_text, version_text}
+use Rattle.log_definitions.specs.Serial.{session_of, begun_of, ended_of}
+use Rattle.log_lines.specs.Placed.{begin_in}
+use Rattle.reasons.specs.declared.reason.Reason.{Reason}
+use Rattle.reasons.specs.declared.reason.Reason.TheVariants as reason
+use Rattle.tell_reasons.specs.Reasons.{before_text, named, op_at, op_in_line, op_wid, in_line}
+use Rattle.tell_reasons.specs.Reasons.{key_and_wid, wid_text, reads_text, end_in_line}
+use Rattle.tell_reasons.specs.Versions.{behind_text, held_text, version_text}
 use Rattle.log_lines.specs.declared.placed.PlacedHistory.{PlacedHistory}
+
+-- whether operation i of node v names the initial value itself, or an update of it
+abbrev pub origin_text : PlacedHistory → ℕ → ℕ → List ℕ
+origin_text log v i = if op_wid (op_at log.history.now v i) == 0 then codes ", the initial value"
+    else behind_text log 0 v i
+
+abbrev pub reason_text : PlacedHistory → ℕ → ℕ → Reason → List ℕ
+reason_text log a b reason.Session = codes "session " ++ decimal (session_of log.history.now a)
+reason_text log a b (reason.Read written read) =
+    reads_text log b read ++ codes ", which " ++ named log a ++ codes " wrote"
+    ++ op_in_line log a written
+reason_text log a b (reason.Overwritten read overwrites) =
+    reads_text log a read ++ codes ", and " ++ named log b ++ codes " overwrites it with "
+    ++ wid_text (op_at log.history.now b overwrites) ++ op_in_line log b overwrites
+reason_text log a b (reason.Initial read begins) =
+    reads_text log a read ++ origin_text log a read ++ codes ", and " ++ named log b
+    ++ codes " wrote " ++ key_and_wid (op_at log.history.now b begins)
+    ++ op_in_line log b begins
+reason_text log a b reason.Moments =
+    named log a ++ codes " ended at " ++ decimal (unwrap_or (ended_of log.history.now a) 0)
+    ++ end_in_line log a ++ codes ", " ++ named log b ++ codes " began at "
+    ++ decimal (unwrap_or (begun_of log.history.now b) 0) ++ in_line (begin_in log b)
 
 -- by which step a version comes first, from 1, or that it is supposed to
 abbrev pub comes_by : Option ℕ → List ℕ

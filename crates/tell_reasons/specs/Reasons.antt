@@ -1,21 +1,19 @@
 -- How it is told why one node stands before another, in the log's own lines. Operations count from
 -- 0.
-use Rattle.std.specs.Prelude.{ℕ, ◌+◌, ◌<◌, ◌≤◌, ◌^◌, ◌==◌, if◌then◌else◌, List, [], ◌∷◌, ◌++◌}
+use Rattle.std.specs.Prelude.{ℕ, ◌+◌, ◌<◌, ◌≤◌, ◌^◌, List, [], ◌∷◌, ◌++◌}
 use Rattle.std.specs.Prelude.{codes, decimal, slice_get, unwrap_or, Option, None}
 use Rattle.std.specs.Prelude.{Some}
 use Rattle.session_log.specs.Text.{ClientSession}
 use Rattle.session_log.specs.declared.session.Op.{Op}
 use Rattle.session_log.specs.declared.session.Op.TheVariants.{Read, Write}
 use Rattle.log_definitions.specs.WellFormed.{keys_in}
-use Rattle.log_definitions.specs.Serial.{session_of, ops_of, begun_of, ended_of}
+use Rattle.log_definitions.specs.Serial.{ops_of}
 use Rattle.log_definitions.specs.Numbers.{log_of}
 use Rattle.session_history.specs.Tables.{name_in}
 use Rattle.order_text.specs.Text.{name_text}
-use Rattle.log_lines.specs.Placed.{place_in, begin_in, op_line_in, end_line_in}
+use Rattle.log_lines.specs.Placed.{place_in, op_line_in, end_line_in}
 use Rattle.log_lines.specs.declared.placed.PlacedHistory.{PlacedHistory}
 use Rattle.reasons.specs.Given.{IsReason}
-use Rattle.reasons.specs.declared.reason.Reason.{Reason}
-use Rattle.reasons.specs.declared.reason.Reason.TheVariants as reason
 use Rattle.tell_reasons.specs.declared.why.Why.{Why}
 use Rattle.tell_reasons.specs.declared.why.Why.TheVariants as why
 
@@ -70,28 +68,6 @@ does_text log v does i = named log v ++ does ++ key_and_wid (op_at log.history.n
 
 abbrev pub reads_text : PlacedHistory → ℕ → ℕ → List ℕ
 reads_text log v i = does_text log v (codes " reads ") i
-
--- whether an operation names the initial value itself, or what stands behind it
-abbrev pub origin_text : Option Op → List ℕ
-origin_text op = if op_wid op == 0 then codes ", the initial value" else
-    codes ", which goes back to the initial value"
-
-abbrev pub reason_text : PlacedHistory → ℕ → ℕ → Reason → List ℕ
-reason_text log a b reason.Session = codes "session " ++ decimal (session_of log.history.now a)
-reason_text log a b (reason.Read written read) =
-    reads_text log b read ++ codes ", which " ++ named log a ++ codes " wrote"
-    ++ op_in_line log a written
-reason_text log a b (reason.Overwritten read overwrites) =
-    reads_text log a read ++ codes ", and " ++ named log b ++ codes " overwrites it with "
-    ++ wid_text (op_at log.history.now b overwrites) ++ op_in_line log b overwrites
-reason_text log a b (reason.Initial read begins) =
-    reads_text log a read ++ origin_text (op_at log.history.now a read) ++ codes ", and "
-    ++ named log b ++ codes " wrote " ++ key_and_wid (op_at log.history.now b begins)
-    ++ op_in_line log b begins
-reason_text log a b reason.Moments =
-    named log a ++ codes " ended at " ++ decimal (unwrap_or (ended_of log.history.now a) 0)
-    ++ end_in_line log a ++ codes ", " ++ named log b ++ codes " began at "
-    ++ decimal (unwrap_or (begun_of log.history.now b) 0) ++ in_line (begin_in log b)
 
 -- `A before B: ` and why
 abbrev pub before_text : PlacedHistory → ℕ → ℕ → List ℕ

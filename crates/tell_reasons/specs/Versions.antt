@@ -1,6 +1,9 @@
 -- Versions of a key, by their writers.
-use Rattle.std.specs.Prelude.{ℕ, ◌==◌, if◌then◌else◌, List, [], ◌++◌, position, codes, decimal}
-use Rattle.std.specs.Prelude.{Option, None, Some}
+use Rattle.std.specs.Prelude.{ℕ, ◌==◌, if◌then◌else◌, Bool, true, false, List, [], ◌++◌, position}
+use Rattle.std.specs.Prelude.{codes, decimal, slice_get, Option, None, Some}
+use Rattle.std.specs.Option.{option_map_or}
+use Rattle.serializability.specs.Polygraph.{source}
+use Rattle.session_history.specs.Rows.{event_key}
 use Rattle.session_log.specs.Text.{ClientSession}
 use Rattle.log_definitions.specs.Numbers.{log_of}
 use Rattle.tell_reasons.specs.Events.{is_write_in, is_read_in}
@@ -40,24 +43,61 @@ version_text log x v = version_at log v (left_at log.history.now x v)
 abbrev pub write_text : PlacedHistory → ℕ → ℕ → List ℕ
 write_text log v i = does_text log v (codes " wrote ") i
 
-abbrev pub back_text : ℕ → List ℕ
-back_text version = codes ", which goes back to " ++ decimal version
+-- the number of the key of operation i of node v
+abbrev pub key_number : List ClientSession → ℕ → ℕ → ℕ
+key_number ss v i = option_map_or event_key (slice_get ((log_of ss).ops v) i) 0
 
--- that an operation names what stands behind this version, where it is another
-abbrev pub behind_text : ℕ → ℕ → List ℕ
-behind_text wid version = if wid == version then [] else back_text version
+-- a key's initial value, or its version of this identity
+abbrev pub base_text : ℕ → List ℕ
+base_text base = if base == 0 then codes "the initial value" else decimal base
 
--- the version of a key that a node has, by its last write of it, or else by its first read, and
--- that it goes back to that of `head`: `9.16 reads k1 16013 (line 1193), which goes back to 16009`
+-- that version itself, or one that goes back to it by reads and writes
+abbrev pub old_text : Bool → ℕ → List ℕ
+old_text true base = base_text base
+old_text false base = codes "an update of " ++ base_text base
+
+-- over what node v wrote, by its first read of the key: ` over 16009`
+abbrev pub over_at : List ClientSession → ℕ → ℕ → Option ℕ → List ℕ
+over_at ss base v None = []
+over_at ss base v (Some i) = codes " over " ++ old_text (op_wid (op_at ss v i) == base) base
+
+abbrev pub over_text : List ClientSession → ℕ → ℕ → ℕ → List ℕ
+over_text ss x base v = over_at ss base v (read_at ss x v)
+
+-- who wrote what was read, and over what: `, which 4.2 wrote (line 77) over 16009`
+abbrev pub writer_at : PlacedHistory → ℕ → ℕ → ℕ → Option ℕ → List ℕ
+writer_at log x base w None = codes ", " ++ old_text false base
+writer_at log x base w (Some i) = codes ", which " ++ named log w ++ codes " wrote"
+    ++ op_in_line log w i ++ over_text log.history.now x base w
+
+abbrev pub writer_text : PlacedHistory → ℕ → ℕ → Option ℕ → List ℕ
+writer_text log x base None = codes ", " ++ old_text false base
+writer_text log x base (Some w) = writer_at log x base w (left_at log.history.now x w)
+
+abbrev pub source_text : PlacedHistory → ℕ → ℕ → ℕ → List ℕ
+source_text log x base v = writer_text log x base (source (log_of log.history.now) v x)
+
+-- who wrote what operation i of node v reads, where that is not the version `base` itself
+abbrev pub behind_text : PlacedHistory → ℕ → ℕ → ℕ → List ℕ
+behind_text log base v i = if op_wid (op_at log.history.now v i) == base then [] else
+    source_text log (key_number log.history.now v i) base v
+
+-- over what node v wrote operation i, where that does not leave the version `base` itself
+abbrev pub updates_text : List ClientSession → ℕ → ℕ → ℕ → List ℕ
+updates_text ss base v i = if op_wid (op_at ss v i) == base then [] else
+    over_text ss (key_number ss v i) base v
+
+-- the version of a key that a node has, by its last write of it, or else by its first read, and how
+-- that goes back to that of `head`: `9.16 reads k1 16013 (line 1193), which 4.2 wrote (line 77) over
+-- 16009`
 abbrev pub had_at : PlacedHistory → ℕ → ℕ → Option ℕ → List ℕ
 had_at log version v None = named log v
-had_at log version v (Some i) =
-    reads_text log v i ++ behind_text (op_wid (op_at log.history.now v i)) version
+had_at log version v (Some i) = reads_text log v i ++ behind_text log version v i
 
 abbrev pub held_at : PlacedHistory → ℕ → ℕ → Option ℕ → Option ℕ → List ℕ
 held_at log version v None read = had_at log version v read
 held_at log version v (Some i) read =
-    write_text log v i ++ behind_text (op_wid (op_at log.history.now v i)) version
+    write_text log v i ++ updates_text log.history.now version v i
 
 abbrev pub held_text : PlacedHistory → ℕ → ℕ → ℕ → List ℕ
 held_text log x head v = held_at log (version_of log.history.now x head) v
@@ -78,7 +118,7 @@ if_text version = codes "    if " ++ decimal version ++ codes " came first, "
 abbrev pub other_text : PlacedHistory → ℕ → ℕ → ℕ → List ℕ
 other_text log version u i =
     named log u ++ codes ", which reads " ++ wid_text (op_at log.history.now u i)
-    ++ op_in_line log u i ++ behind_text (op_wid (op_at log.history.now u i)) version
+    ++ op_in_line log u i ++ behind_text log version u i
 
 -- `, would come before 11.1, but 11.1 comes before 14.1:`
 abbrev pub would_text : PlacedHistory → ℕ → ℕ → List ℕ

@@ -9,15 +9,15 @@ ghost use Rattle.reasons.specs.declared.reason.Reason.TheVariants as kind;
 ghost use Rattle.log_definitions.specs.Serial.{session_of, ops_of, begun_of, ended_of};
 ghost use Rattle.log_definitions.specs.Numbers.{log_of};
 ghost use Rattle.log_lines.specs.Placed.{begin_in};
-ghost use Rattle.tell_reasons.specs.Reasons.{before_text, reason_text, origin_text, CanTell};
-ghost use Rattle.tell_reasons.specs.Reasons.{end_in_line, in_line, op_at};
-ghost use Rattle.tell_reasons.specs.Edges.{why_text, comes_text, comes_by};
+ghost use Rattle.tell_reasons.specs.Reasons.{before_text, end_in_line, in_line, CanTell};
+ghost use Rattle.tell_reasons.specs.Edges.{origin_text, reason_text, why_text, comes_text};
+ghost use Rattle.tell_reasons.specs.Edges.{comes_by};
 
 use crate::phrases::{
     begin_of, end_of, put_does, put_in_line, put_key_and_wid, put_named, put_number,
     put_op_in_line, put_wid, wid_at,
 };
-use crate::versions::{put_held, put_version};
+use crate::versions::{put_behind, put_held, put_version};
 use crate::why::{ChainOrder, Why};
 use crate::writers::put_text;
 use log_lines::PlacedHistory;
@@ -94,26 +94,25 @@ fn put_overwritten(
     put_op_in_line(out, log, b, overwrites)
 }
 
-/// Appends whether an operation names the initial value itself, or what stands behind it.
+/// Appends whether an operation names the initial value itself, or who wrote an update of it that it
+/// names.
 fn put_origin(
     out: &mut Vec<u8>,
-    history: &History,
+    log: &PlacedHistory<'_>,
     node: NodeIx,
     op: usize,
 ) -> Result<(), AllocError>
-    requires op { op < length (ops_of history.now node) }
-    ensures text { OnOk result (out.new.items ≡ out.old.items ++ origin_text
-        (op_at history.now node op)) }
+    requires op { op < length (ops_of log.now.history.now node) }
+    ensures text { OnOk result (out.new.items ≡ out.old.items ++ origin_text log.now node op) }
 {
-    if wid_at(history, node, op) == 0 {
-        out.extend_from_slice(b", the initial value")?;
+    if wid_at(log.history, node, op) == 0 {
+        put_text(out, b", the initial value")
     } else {
-        out.extend_from_slice(b", which goes back to the initial value")?;
+        put_behind(out, log, 0, node, op)
     }
-    Ok(())
 }
 
-/// Appends that `a` reads a key's initial value, or what stands behind it, and `b` wrote the key.
+/// Appends that `a` reads a key's initial value, or an update of it, and `b` wrote the key.
 #[tactic(auto, using(reason_laws::proofs::Numbers::within, crate::proofs::Ops::op_below))]
 fn put_initial(
     out: &mut Vec<u8>,
@@ -128,7 +127,7 @@ fn put_initial(
         ++ reason_text log.now a b (kind.Initial read write)) }
 {
     put_does(out, log, a, b" reads ", read)?;
-    put_origin(out, log.history, a, read)?;
+    put_origin(out, log, a, read)?;
     put_named(out, b", and ", log, b)?;
     out.extend_from_slice(b" wrote ")?;
     put_key_and_wid(out, log.history, b, write)?;

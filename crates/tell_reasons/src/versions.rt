@@ -1,17 +1,23 @@
 //! Versions of a key, by their writers.
 
-ghost use Rattle.std.specs.Prelude.{◌≡◌, ◌<◌, ◌≤◌, ◌++◌, length, IfSome, OnOk};
+ghost use Rattle.std.specs.Prelude.{◌≡◌, ◌<◌, ◌≤◌, ◌++◌, length, Some, false, codes, IfSome};
+ghost use Rattle.std.specs.Prelude.{OnOk};
 ghost use Rattle.reason_laws.specs.Reasons.{IsNode};
 ghost use Rattle.log_definitions.specs.Serial.{ops_of};
 ghost use Rattle.log_definitions.specs.Numbers.{log_of};
 ghost use Rattle.tell_reasons.specs.Versions as spec;
-ghost use Rattle.tell_reasons.specs.Versions.{version_at, version_text, versions_text, back_text};
-ghost use Rattle.tell_reasons.specs.Versions.{behind_text, if_text, other_text, would_text};
-ghost use Rattle.tell_reasons.specs.Versions.{since_at, since_text, had_at, held_text};
+ghost use Rattle.tell_reasons.specs.Versions.{version_at, version_text, versions_text, base_text};
+ghost use Rattle.tell_reasons.specs.Versions.{old_text, over_at, over_text, writer_at, writer_text};
+ghost use Rattle.tell_reasons.specs.Versions.{source_text, behind_text, updates_text, if_text};
+ghost use Rattle.tell_reasons.specs.Versions.{other_text, would_text, since_at, since_text, had_at};
+ghost use Rattle.tell_reasons.specs.Versions.{held_text};
 
-use crate::phrases::{put_does, put_key, put_named, put_number, put_op_in_line, put_wid, wid_at};
+use crate::phrases::{
+    event_at, key_of, put_does, put_key, put_named, put_number, put_op_in_line, put_wid, wid_at,
+};
 use crate::places::{first_read_among, last_among};
 use crate::why::ChainOrder;
+use crate::writers::put_text;
 use log_lines::PlacedHistory;
 use serializability::NodeIx;
 use session_history::History;
@@ -77,27 +83,181 @@ fn version_of(history: &History, key: usize, node: NodeIx) -> u64
     }
 }
 
-/// Appends to which version another goes back.
-fn put_back(out: &mut Vec<u8>, version: u64) -> Result<(), AllocError>
-    ensures text { OnOk result (out.new.items ≡ out.old.items ++ back_text version) }
+/// The number of the key of an operation.
+fn key_number(history: &History, node: NodeIx, op: usize) -> usize
+    requires op { op < length (ops_of history.now node) }
+    ensures key { result ≡ spec.key_number history.now node op }
+    ensures known { result < (log_of history.now).keys }
 {
-    out.extend_from_slice(b", which goes back to ")?;
-    put_number(out, version)
+    key_of(event_at(history, node, op))
 }
 
-/// Appends that an operation names what stands behind this version, where it is another.
-fn put_behind(out: &mut Vec<u8>, wid: u64, version: u64) -> Result<(), AllocError>
-    ensures text { OnOk result (out.new.items ≡ out.old.items ++ behind_text wid version) }
+/// Appends a key's initial value, or the identity of its version.
+fn put_base(out: &mut Vec<u8>, base: u64) -> Result<(), AllocError>
+    ensures text { OnOk result (out.new.items ≡ out.old.items ++ base_text base) }
 {
-    if wid == version {
-        Ok(())
+    if base == 0 {
+        put_text(out, b"the initial value")
     } else {
-        put_back(out, version)
+        put_number(out, base)
     }
 }
 
-/// Appends a node's first read of a key, and to which version that goes back, as `9.16 reads k1
-/// 16013 (line 1193), which goes back to 16009`.
+/// Appends an update of that version.
+fn put_update(out: &mut Vec<u8>, base: u64) -> Result<(), AllocError>
+    ensures text { OnOk result (out.new.items ≡ out.old.items ++ old_text false base) }
+{
+    out.extend_from_slice(b"an update of ")?;
+    put_base(out, base)
+}
+
+/// Appends that version itself, or an update of it.
+fn put_old(out: &mut Vec<u8>, itself: bool, base: u64) -> Result<(), AllocError>
+    ensures text { OnOk result (out.new.items ≡ out.old.items ++ old_text itself base) }
+{
+    if itself {
+        put_base(out, base)
+    } else {
+        put_update(out, base)
+    }
+}
+
+/// Appends over what a node wrote, by this read, as ` over 16009`.
+fn put_over_at(
+    out: &mut Vec<u8>,
+    history: &History,
+    base: u64,
+    node: NodeIx,
+    op: usize,
+) -> Result<(), AllocError>
+    requires op { op < length (ops_of history.now node) }
+    ensures text { OnOk result (out.new.items
+        ≡ out.old.items ++ over_at history.now base node (Some op)) }
+{
+    out.extend_from_slice(b" over ")?;
+    put_old(out, wid_at(history, node, op) == base, base)
+}
+
+/// Appends over what a node wrote a key, by its first read of it.
+fn put_over(
+    out: &mut Vec<u8>,
+    history: &History,
+    key: usize,
+    base: u64,
+    node: NodeIx,
+) -> Result<(), AllocError>
+    ensures text { OnOk result (out.new.items
+        ≡ out.old.items ++ over_text history.now key base node) }
+{
+    match read_at(history, key, node) {
+        Some(op) => put_over_at(out, history, base, node, op),
+        None => Ok(()),
+    }
+}
+
+/// Appends that what was read is an update of that version.
+fn put_some_update(out: &mut Vec<u8>, base: u64) -> Result<(), AllocError>
+    ensures text { OnOk result (out.new.items
+        ≡ out.old.items ++ (codes ", " ++ old_text false base)) }
+{
+    out.extend_from_slice(b", ")?;
+    put_update(out, base)
+}
+
+/// Appends that this write of `writer` was read, and over what it was written.
+#[tactic(auto, using(crate::proofs::Begun::op_within))]
+fn put_writer_at(
+    out: &mut Vec<u8>,
+    log: &PlacedHistory<'_>,
+    key: usize,
+    base: u64,
+    writer: NodeIx,
+    op: usize,
+) -> Result<(), AllocError>
+    requires op { op < length (ops_of log.now.history.now writer) }
+    ensures text { OnOk result (out.new.items
+        ≡ out.old.items ++ writer_at log.now key base writer (Some op)) }
+{
+    put_named(out, b", which ", log, writer)?;
+    out.extend_from_slice(b" wrote")?;
+    put_op_in_line(out, log, writer, op)?;
+    put_over(out, log.history, key, base, writer)
+}
+
+/// Appends that what `writer` wrote last to a key was read, and over what it was written.
+fn put_writer(
+    out: &mut Vec<u8>,
+    log: &PlacedHistory<'_>,
+    key: usize,
+    base: u64,
+    writer: NodeIx,
+) -> Result<(), AllocError>
+    ensures text { OnOk result (out.new.items
+        ≡ out.old.items ++ writer_text log.now key base (Some writer)) }
+{
+    match left_at(log.history, key, writer) {
+        Some(op) => put_writer_at(out, log, key, base, writer, op),
+        None => put_some_update(out, base),
+    }
+}
+
+/// Appends who wrote what a node reads of a key, and over what.
+fn put_source(
+    out: &mut Vec<u8>,
+    log: &PlacedHistory<'_>,
+    key: usize,
+    base: u64,
+    node: NodeIx,
+) -> Result<(), AllocError>
+    requires key { key < (log_of log.now.history.now).keys }
+    ensures text { OnOk result (out.new.items ≡ out.old.items ++ source_text log.now key base node) }
+{
+    match log.history.source_of(node, key) {
+        Some(writer) => put_writer(out, log, key, base, writer),
+        None => put_some_update(out, base),
+    }
+}
+
+/// Appends who wrote what an operation reads, and over what, where that is not the version `base`
+/// itself.
+pub fn put_behind(
+    out: &mut Vec<u8>,
+    log: &PlacedHistory<'_>,
+    base: u64,
+    node: NodeIx,
+    op: usize,
+) -> Result<(), AllocError>
+    requires op { op < length (ops_of log.now.history.now node) }
+    ensures text { OnOk result (out.new.items ≡ out.old.items ++ behind_text log.now base node op) }
+{
+    if wid_at(log.history, node, op) == base {
+        Ok(())
+    } else {
+        put_source(out, log, key_number(log.history, node, op), base, node)
+    }
+}
+
+/// Appends over what a node wrote, where that does not leave the version `base` itself.
+fn put_updates(
+    out: &mut Vec<u8>,
+    history: &History,
+    base: u64,
+    node: NodeIx,
+    op: usize,
+) -> Result<(), AllocError>
+    requires op { op < length (ops_of history.now node) }
+    ensures text { OnOk result (out.new.items
+        ≡ out.old.items ++ updates_text history.now base node op) }
+{
+    if wid_at(history, node, op) == base {
+        Ok(())
+    } else {
+        put_over(out, history, key_number(history, node, op), base, node)
+    }
+}
+
+/// Appends a node's first read of a key, and how that goes back to a version, as `9.16 reads k1
+/// 16013 (line 1193), which 4.2 wrote (line 77) over 16009`.
 #[tactic(auto, using(reason_laws::proofs::Numbers::within))]
 fn put_had(
     out: &mut Vec<u8>,
@@ -113,14 +273,14 @@ fn put_had(
     match read_at(log.history, key, node) {
         Some(op) => {
             put_does(out, log, node, b" reads ", op)?;
-            put_behind(out, wid_at(log.history, node, op), version)
+            put_behind(out, log, version, node, op)
         }
         None => put_named(out, b"", log, node),
     }
 }
 
 /// Appends the version of a key that a node has, by its last write of it, or else by its first
-/// read, and that it goes back to that of `head`.
+/// read, and how that goes back to that of `head`.
 pub fn put_held(
     out: &mut Vec<u8>,
     log: &PlacedHistory<'_>,
@@ -135,7 +295,7 @@ pub fn put_held(
     match left_at(log.history, key, node) {
         Some(op) => {
             put_does(out, log, node, b" wrote ", op)?;
-            put_behind(out, wid_at(log.history, node, op), version)
+            put_updates(out, log.history, version, node, op)
         }
         None => put_had(out, log, version, key, node),
     }
@@ -188,7 +348,7 @@ fn put_other(
     out.extend_from_slice(b", which reads ")?;
     put_wid(out, log.history, node, op)?;
     put_op_in_line(out, log, node, op)?;
-    put_behind(out, wid_at(log.history, node, op), version)
+    put_behind(out, log, version, node, op)
 }
 
 /// Appends what would follow, and what does, as `, would come before 11.1, but 11.1 comes before

@@ -1,6 +1,5 @@
-use Rattle.std.proofs.Common.{◌++◌, ap, ◌∙◌}
 use Rattle.std.specs.Prelude.{codes}
-use Rattle.tell_reasons.specs.Reasons.{named, op_at, op_wid, wid_text, op_in_line}
+use Rattle.tell_reasons.specs.Reasons.{named, op_at, wid_text, op_in_line}
 use Rattle.tell_reasons.specs.Versions.{behind_text}
 use Rattle.tell_reasons.proofs.Texts.{five_joined}
 use Rattle.std.proofs.lemmas.Result.{on_ok_weaker}
@@ -10,7 +9,6 @@ pub returns : goal.returns
 returns c =
     let log = c.args.log.now in
     let old = c.args.out.now.items in
-    let version = c.args.version in
     let op = op_at log.history.now c.args.node c.args.op in
     let one = c.put_named.new.out.items in
     let two = c.extend_from_slice.new.self.items in
@@ -20,8 +18,7 @@ returns c =
     record {
       text =
           on_ok_weaker c.put_behind.result
-          (λ e. five_joined old (named log c.args.node) (codes ", which reads ") (wid_text op) (op_in_line log c.args.node c.args.op) (behind_text (op_wid op) version) one two mid four new
-          c.in_ok-put_named.ensures.text c.in_ok-extend_from_slice.ensures.items c.in_ok-put_wid.ensures.text c.in_ok-put_op_in_line.ensures.text
-          (e ∙ ap (λ w. four ++ behind_text w version) c.wid_at.ensures.wid))
+          (λ e. five_joined old (named log c.args.node) (codes ", which reads ") (wid_text op) (op_in_line log c.args.node c.args.op) (behind_text log c.args.version c.args.node c.args.op) one two mid four new
+          c.in_ok-put_named.ensures.text c.in_ok-extend_from_slice.ensures.items c.in_ok-put_wid.ensures.text c.in_ok-put_op_in_line.ensures.text e)
           c.put_behind.ensures.text;
     }
