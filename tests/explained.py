@@ -53,7 +53,7 @@ KINDS = [('session', 'session %s' % NUMBER, 'black'), ('read', '.+ reads .+, whi
          ('moments', '.+ ended at .+, .+ began at .+', 'purple')]
 # What has to be met among the logs, so that each form of line is tried.
 WANTED = ['A1', 'A2', 'A3', 'A4', 'A5', 'A6', 'A7', 'A8', 'A9', 'serializable', 'tree', 'unknown', 'refused', 'A9 forced',
-          'made by hand', 'on the page']
+          'A9 named by a step', 'made by hand', 'on the page']
 WANTED += ['%s %s' % (code, kind) for code in ('A8', 'A9') for kind in ('session', 'read', 'anti-dependency', 'version order', 'moments')]
 WANTED += ['A8 of 4 edges or more', 'steps 1', 'steps 2', 'steps 3', 'steps 4 or more', 'a walk of 4 edges or more', 'a cycle with 2 steps']
 WANTED += ['tree ' + kind for kind in ('session', 'read', 'anti-dependency', 'version order', 'moments', 'forced', 'decided',
@@ -182,11 +182,15 @@ class Log:
         """What a cycle is called, by the kinds of its edges."""
         return self.named_by([self.reason(a, b)[0] for a, b in zip(names, names[1:])])
 
-    def named_by(self, kinds, below=()):
-        """What a cycle of edges of these kinds is called, where the steps below it take edges of these."""
-        misses = [kind in ('anti-dependency', 'version order', 'missed write') for kind in kinds]
+    def misses(self, kinds):
+        """Whether edges of these kinds miss a write, one by one."""
+        return [kind in ('anti-dependency', 'version order', 'missed write') for kind in kinds]
+
+    def named_by(self, kinds, besides=()):
+        """What a cycle of edges of these kinds is called, where what is told besides takes edges of these."""
+        misses = self.misses(kinds)
         missed, are_apart = sum(misses), not any(one and two for one, two in zip(misses, misses[1:] + misses[:1]))
-        every = {*kinds, *below}
+        every = {*kinds, *besides}
         by_order = lambda none, session, moments: moments if 'moments' in every else session if 'session' in every else none
         if not missed and 'read' in kinds:
             return by_order('circular information flow (G1c)', *('a read from the future (G1c%s)' % end for end in ('-process', '-realtime')))
@@ -345,7 +349,7 @@ class Telling:
     def __init__(self, log, lines, what):
         self.log, self.lines, self.what, self.at = log, lines, what, 0
         self.steps, self.used, self.leaves, self.left_out, self.met = [], set(), 0, 0, collections.Counter()
-        self.taken = set()
+        self.taken, self.refuting = set(), []
 
     def line_at(self, place, form, depth):
         """What the line at this place says, if it has this form, behind two blanks for each decision above."""
@@ -415,7 +419,9 @@ class Telling:
         follows = self.log.side(key, second, first) + [(self.log.last_of(key, second), first)]
         told((u, v) in follows, '%s: the other side has no such edge' % where)
         self.no_way_around(where, walk)
-        self.taken |= {self.log.reason(a, b)[0] for a, b, _ in walk}
+        kinds = self.kinds(walk)
+        self.taken |= {*kinds}
+        self.refuting.append(kinds + ['missed write' if since else 'order of writes'])
         for a, _, _ in walk[:-1]:
             for w, _ in self.log.side(key, second, first):
                 told(w == u or not self.log.reason(a, w)[0], '%s: %s is nearer, behind %s' % (where, w, a))
@@ -424,16 +430,22 @@ class Telling:
         self.met['a step by a walk alone' if since is None else 'a step by a read' + ' that goes back' * ('goes back' in lines[1])] += 1
 
     def known_as(self, edges):
-        """The name of the cycle that these edges close, which is the last line."""
-        kinds = [self.log.reason(a, b)[0] or self.kind_of_step(a, ground) for a, b, ground in edges]
-        right = 'known as: ' + self.log.named_by(kinds, self.taken)
+        """The name of the cycle that these edges close, which is the last line: that of the mildest among this cycle and what refutes the
+        other order of each step. Of these one that misses more writes is milder, up to two; of equals the cycle, else the first."""
+        cycle = self.kinds(edges)
+        mildest = max([cycle] + self.refuting, key=lambda kinds: min(2, sum(self.log.misses(kinds))))
+        right = 'known as: ' + self.log.named_by(mildest, {*cycle} | self.taken)
         told(self.rest() == [right], 'wanted %r' % right)
         self.at += 1
         self.met['A9 ' + right] += 1
+        self.met['A9 named by a step'] += mildest is not cycle
 
-    def kind_of_step(self, name, number):
-        """The kind of an edge by the step of this number from this transaction."""
-        key, _, _ = self.steps[number - 1]
+    def kinds(self, edges):
+        """The kinds of edges, each with the number of the step that it rests on, if there is one."""
+        return [self.log.reason(a, b)[0] or self.kind_by_order(a, self.steps[ground - 1][0]) for a, b, ground in edges]
+
+    def kind_by_order(self, name, key):
+        """The kind of an edge from this transaction by an order of two versions of the key."""
         return 'order of writes' if self.log.named[name].writes(key) else 'missed write'
 
     def no_way_around(self, where, edges):
