@@ -26,8 +26,11 @@ EDGE = re.compile('%s before %s: (.+)' % (NODE, NODE))
 VERSION = r'[1-9][0-9]*, which %s wrote \(line [1-9][0-9]*\)' % NODE
 VERSIONS = '%s: %s, comes before %s' % (KEY, VERSION, VERSION)
 STEP = re.compile(r'\[%s\] %s:' % (NUMBER, VERSIONS))
-SINCE = re.compile(r'    if [1-9][0-9]* came first, %s, which reads [0-9]+ \(line [1-9][0-9]*\)(?:, which goes back to [1-9][0-9]*)?, '
-                   'would come before %s, but %s comes before %s:' % (NODE, NODE, NODE, NODE))
+# Over what a version was written that is an update of another; and of one that was read, by whom.
+OVER = r' over (?:an update of )?(?:[1-9][0-9]*|the initial value)'
+BEHIND = r'(?:, which [1-9][0-9]*\.[1-9][0-9]* wrote \(line [1-9][0-9]*\)%s)' % OVER
+SINCE = re.compile(r'    if [1-9][0-9]* came first, %s, which reads [0-9]+ \(line [1-9][0-9]*\)%s?, '
+                   'would come before %s, but %s comes before %s:' % (NODE, BEHIND, NODE, NODE, NODE))
 CYCLE = re.compile('cycle from %s:' % NODE)
 ORDER = re.compile('suppose %s:' % VERSIONS)
 LEAVES = re.compile('whichever of these versions came first, a cycle closes(?:, %s in all; the first 1000 of them)?:' % NUMBER)
@@ -35,8 +38,8 @@ CROSSED = 'no serial order allows all four reads: in any, one of these pairs is 
 PAIR = re.compile(r'    %s reads %s %s \(line %s\) and %s %s \(line %s\)' % (NODE, KEY, NUMBER, NUMBER, KEY, NUMBER, NUMBER))
 LONG_FORK = 'known as: long fork (G-nonadjacent-item)'
 # What is said of an edge of a step or of a decided order: whose operation, its key, and what Q wrote, behind this.
-KEPT = ('%s (?:reads|wrote) %s [1-9][0-9]* \\(line [1-9][0-9]*\\)(?:, which goes back to [1-9][0-9]*)?, which %%s before [1-9][0-9]*, '
-        'which %s wrote \\(line [1-9][0-9]*\\)' % (NODE, KEY, NODE))
+KEPT = ('%s (?:reads|wrote) %s [1-9][0-9]* \\(line [1-9][0-9]*\\)(?:%s|%s)?, which %%s before [1-9][0-9]*, '
+        'which %s wrote \\(line [1-9][0-9]*\\)' % (NODE, KEY, BEHIND, OVER, NODE))
 # By how many decisions the walk of a step is indented.
 WALK = 2
 BY_STEP, SUPPOSED = re.compile(KEPT % r'by \[([0-9]+)\] comes'), re.compile(KEPT % 'is supposed to come')
@@ -47,9 +50,8 @@ EVERY_CUBE, MOST_LEAVES = 'not serializable: every cube is refuted', 1000
 READ = re.compile('not serializable: A[1-6] .+ at %s op %s' % (NODE, NUMBER))
 UPDATE = re.compile(r'not serializable: A7 lost update of %s from [0-9.]+ by %s and %s' % (KEY, NODE, NODE))
 # The form of what is said of an edge by its kind, and the colour in a graph.
-KINDS = [('session', 'session %s' % NUMBER, 'black'), ('read', '.+ reads .+, which %s wrote .+' % NODE, 'blue'),
-         ('anti-dependency', '.+ reads .+, and .+ overwrites it with .+', 'red'),
-         ('version order', '.+ reads .+, (?:the|which goes back to the) initial value, and .+ wrote .+', 'darkgreen'),
+KINDS = [('session', 'session %s' % NUMBER, 'black'), ('version order', '.+ reads .+ the initial value, and .+ wrote .+', 'darkgreen'),
+         ('read', '.+ reads .+, which %s wrote .+' % NODE, 'blue'), ('anti-dependency', '.+ reads .+, and .+ overwrites it with .+', 'red'),
          ('moments', '.+ ended at .+, .+ began at .+', 'purple')]
 # What has to be met among the logs, so that each form of line is tried.
 WANTED = ['A1', 'A2', 'A3', 'A4', 'A5', 'A6', 'A7', 'A8', 'A9', 'serializable', 'tree', 'unknown', 'refused', 'A9 forced',
@@ -58,7 +60,8 @@ WANTED += ['%s %s' % (code, kind) for code in ('A8', 'A9') for kind in ('session
 WANTED += ['A8 of 4 edges or more', 'steps 1', 'steps 2', 'steps 3', 'steps 4 or more', 'a walk of 4 edges or more', 'a cycle with 2 steps']
 WANTED += ['tree ' + kind for kind in ('session', 'read', 'anti-dependency', 'version order', 'moments', 'forced', 'decided',
                                        'of depth 2', 'of depth 3', 'of depth 4 or more', 'of more than 1000 leaves')]
-WANTED += ['a step by a read', 'a step by a read that goes back', 'a step by a walk alone', 'forced that goes back', 'decided that goes back']
+WANTED += ['a step by a read', 'a step by a read of an update', 'a step by a walk alone', 'forced over an update', 'decided over an update']
+WANTED += ['forced reads of an update', 'forced wrote of an update', 'decided reads of an update']
 WANTED += ['A9 known as: ' + name for name in
            ('a missed write in a circle (G-single)', 'a missed write and sessions in a circle (G-single-process)',
             'writes and moments in a circle (G0-realtime)', 'a read from the future (G1c-process)', 'read skew (G-single)',
@@ -246,9 +249,9 @@ class Log:
         for write in b.ops:
             for read in a.reads(write.key)[:1] if write.kind == 'w' and not b.reads(write.key) else ():
                 if read.wid in self.initial_chain(write.key):
-                    goes = 'which goes back to the' if read.wid else 'the'
-                    said = (a.name, read.key, read.wid, read.line, goes, b.name, write.key, write.wid, write.line)
-                    yield '%s reads %s %d (line %d), %s initial value, and %s wrote %s %d (line %d)' % said
+                    read_it = self.behind(read, 0) or ', the initial value'
+                    said = (a.name, read.key, read.wid, read.line, read_it, b.name, write.key, write.wid, write.line)
+                    yield '%s reads %s %d (line %d)%s, and %s wrote %s %d (line %d)' % said
 
     def by_moments(self, a, b):
         if None not in (a.ended, b.begun) and a.ended < b.begun:
@@ -283,10 +286,22 @@ class Log:
         left = [(name, self.named[name].writes(key)[-1]) for name in (first, second)]
         return '%s: %s, comes before %s' % (key, *('%d, which %s wrote (line %d)' % (op.wid, name, op.line) for name, op in left))
 
-    def back(self, op, key, first):
-        """To which version what an operation names goes back, that of the first writer of a chain, where it is another."""
+    def over(self, it, key, base):
+        """Over what a transaction wrote the key, by its first read of it: this version, or an update of it."""
+        read = next((op.wid for op in it.ops if (op.kind, op.key) == ('r', key)), None)
+        return '' if read is None else ' over %s%s' % ('' if read == base else 'an update of ', base or 'the initial value')
+
+    def behind(self, read, base):
+        """Who wrote what a read names, and over what, where that is not this version itself."""
+        if read.wid == base:
+            return ''
+        writer = self.writers[read.key, read.wid]
+        return ', which %s wrote (line %d)%s' % (writer.name, writer.writes(read.key)[-1].line, self.over(writer, read.key, base))
+
+    def update(self, it, op, key, first):
+        """How what an operation names is an update of the version of the first writer of a chain, where it is another."""
         left = self.named[first].writes(key)[-1].wid
-        return '' if op.wid == left else ', which goes back to %d' % left
+        return self.behind(op, left) if op.kind == 'r' else self.over(it, key, left) if op.wid != left else ''
 
     def said_of_kept(self, edge, key, first, which):
         """What is said of an edge that an order of versions of this key has, in which the chain behind this one is the first, where `which`
@@ -294,7 +309,7 @@ class Log:
         a, b = (self.named[name] for name in edge)
         op = (a.writes(key)[-1:] or [op for op in a.ops if (op.kind, op.key) == ('r', key)])[0]
         left, verb = b.writes(key)[-1], 'wrote' if op.kind == 'w' else 'reads'
-        said = (a.name, verb, key, op.wid, op.line, self.back(op, key, first), which, left.wid, b.name, left.line)
+        said = (a.name, verb, key, op.wid, op.line, self.update(a, op, key, first), which, left.wid, b.name, left.line)
         return '%s %s %s %d (line %d)%s, which %s before %d, which %s wrote (line %d)' % said
 
     def said_of_step(self, number, key, first, second, u, v):
@@ -302,7 +317,7 @@ class Log:
         the key."""
         lines = ['[%s] %s:' % (number, self.said_of_order(key, first, second))]
         for read in [op for op in self.named[u].ops if (op.kind, op.key) == ('r', key)][:u != second]:
-            said = (self.named[second].writes(key)[-1].wid, u, read.wid, read.line, self.back(read, key, second), v, v, u)
+            said = (self.named[second].writes(key)[-1].wid, u, read.wid, read.line, self.update(self.named[u], read, key, second), v, v, u)
             lines.append('    if %d came first, %s, which reads %d (line %d)%s, would come before %s, but %s comes before %s:' % said)
         return lines
 
@@ -427,7 +442,7 @@ class Telling:
                 told(w == u or not self.log.reason(a, w)[0], '%s: %s is nearer, behind %s' % (where, w, a))
         self.steps.append((key, first, self.log.side(key, first, second)))
         self.met['a walk of 4 edges or more'] += len(walk) > 3
-        self.met['a step by a walk alone' if since is None else 'a step by a read' + ' that goes back' * ('goes back' in lines[1])] += 1
+        self.met['a step by a walk alone' if since is None else 'a step by a read' + ' of an update' * (' over ' in lines[1])] += 1
 
     def known_as(self, edges):
         """The name of the cycle that these edges close, which is the last line: that of the mildest among this cycle and what refutes the
@@ -533,7 +548,8 @@ class Telling:
             self.used |= {rights[said]} if kind == 'forced' else set()
             self.met['%s %s' % (self.what if decided or self.what == 'A9' else 'step', kind)] += 1
             self.met['an order of 2 decided above'] += len(rights) > 1
-            self.met['%s that goes back' % kind] += kind in ('forced', 'decided') and 'goes back' in said
+            self.met['%s over an update' % kind] += kind in ('forced', 'decided') and ' over an update of ' in said
+            self.met['%s %s of an update' % (kind, said.split(' ')[1])] += kind in ('forced', 'decided') and ' over ' in said
             found.append((a, b, rights[said]))
         told(found, '%s: no edge at %r' % (where, self.rest()))
         return found
@@ -611,7 +627,8 @@ def graph_of(text, checked, explained):
     else:
         edges = list(edges_of(log, lines))
         parts = {name for edge in edges for name in edge[:2]}
-        named = {int(line) for _, _, said, _, colour in edges if colour not in ('orange', 'gray') for line in re.findall(r'\(line ([0-9]+)\)', said)}
+        shown = [re.sub(BEHIND, '', said) for _, _, said, _, colour in edges if colour not in ('orange', 'gray')]
+        named = {int(line) for said in shown for line in re.findall(r'\(line ([0-9]+)\)', said)}
         drawn = ['"%s" [label="%s"];' % (it.name, '\\n'.join([it.name] + ['%s %s %d (line %d)' % op for op in it.ops if op.line in named]))
                  for it in (log.transactions if log else ()) if it.name in parts]
         drawn += ['"%s" -> "%s" [label="%s" color="%s"];' % (a, b, kind, colour) for a, b, _, kind, colour in edges]
@@ -695,7 +712,7 @@ def spoilt(r, text, checked, explained):
             yield 'a step is named that is no earlier one', instead(n, bare[n].replace(named, '[%d]' % later))
         yield 'a step of number 0 is named', instead(n, bare[n].replace(named, '[0]'))
         yield 'a step is called a supposition', instead(n, bare[n].replace('by %s comes' % named, 'is supposed to come'))
-        yield from spoilt_back(bare, n, instead)
+        yield from spoilt_update(bare, n, instead)
     if orders:
         yield from spoilt_tree(r, log, lines, bare, without, instead)
     if not steps:
@@ -732,7 +749,7 @@ def spoilt(r, text, checked, explained):
         yield 'a cycle behind steps is indented', lines[:n] + ['    ' + lines[n]] + lines[n + 1:]
     n = steps[int(number) - 1]
     for place in range(len(both)):
-        for at in [found.start() for found in re.finditer(r'[0-9]+(?=, which|[)]|$| \(line)', both[place])]:
+        for at in [found.start() for found in re.finditer(r'[0-9]+(?=, which|, would|[)]|$| \(line)', both[place])]:
             spoilt_line = both[place][:at] + '9' + both[place][at:]
             yield 'another number in a step', stepped(*(both[:place] + [spoilt_line] + both[place + 1:]))
     yield 'all numbers one higher', renamed(lines, 1)
@@ -753,15 +770,22 @@ def spoilt_crossed(r, lines):
     yield 'a read is indented otherwise', lines[:n] + [lines[n][2:]] + lines[n + 1:]
 
 
-def spoilt_back(bare, n, instead):
-    """The same of what an edge by an order says of the version to which another goes back."""
+def spoilt_update(bare, n, instead):
+    """The same of what an edge by an order says of the version of which another is an update."""
     head, tail = re.fullmatch(r'(.*?\(line [0-9]+\))(.*)', bare[n]).groups()
-    back = re.match(r', which goes back to ([0-9]+)', tail)
-    if back:
-        yield 'it is not told to what a version goes back', instead(n, head + tail[back.end():])
-        yield 'a version goes back to another', instead(n, head + ', which goes back to %s9' % back[1] + tail[back.end():])
-    else:
-        yield 'a version goes back to itself', instead(n, head + ', which goes back to %s' % bare[n][:len(head)].split(' ')[-3] + tail)
+    update = re.match('(?:%s|%s)?' % (BEHIND, OVER), tail)[0]
+    tail = tail[len(update):]
+    if update:
+        yield 'it is not told over what a version was written', instead(n, head + tail)
+        yield 'a version was written over another', instead(n, head + update + '9' + tail)
+        of = ' over an update of ' if ' over an update of ' in update else ' over '
+        yield 'a version was written over an update, or over none', instead(n, head + update.replace(of, ' over ' * (of != ' over ') or ' over an update of ') + tail)
+    if update.startswith(','):
+        yield 'it is not told who wrote a version', instead(n, head + ' over ' + update.split(' over ')[1] + tail)
+        yield 'another wrote a version', instead(n, head + re.sub(r'[.]([0-9]+) wrote', r'.\1\g<1> wrote', update) + tail)
+        yield 'another line wrote a version', instead(n, head + update.replace(' (line ', ' (line 9') + tail)
+    if not update:
+        yield 'a version was written over itself', instead(n, head + ' over %s' % head.split(' ')[-3] + tail)
 
 
 def spoilt_tree(r, log, lines, bare, without, instead):
@@ -797,7 +821,7 @@ def spoilt_tree(r, log, lines, bare, without, instead):
     chosen = [(n, *found.groups()) for n, found in ((n, EDGE.fullmatch(line)) for n, line in enumerate(bare)) if found and SUPPOSED.fullmatch(found[3])]
     for n, a, b, said in chosen[:3]:
         found = SUPPOSED.fullmatch(said)
-        yield from spoilt_back(bare, n, instead)
+        yield from spoilt_update(bare, n, instead)
         yield 'an order of another key is named', instead(n, '%s before %s: %s' % (a, b, said[:found.end(2)] + '_' + said[found.end(2):]))
         yield 'a supposition is called a step', instead(n, '%s before %s: %s' % (a, b, said.replace('is supposed to come', 'by [1] comes')))
         for it in log.nodes:
@@ -885,8 +909,14 @@ BY_HAND = [
     # version order, behind a chain of two writers, with the first operation and not the least key
     by_hand('session 1, begin, r z 0, r x 0, w x 1, commit, session 2, begin, r x 1, w x 2, r y 4, r z 0, commit, '
             'session 3, begin, w x 3, w z 9, w y 4, commit', 'A8 cycle of known edges', 'cycle 2.1 3.1 2.1',
-            '2.1 before 3.1: 2.1 reads x 1 (line 9), which goes back to the initial value, and 3.1 wrote x 3 (line 16)',
+            '2.1 before 3.1: 2.1 reads x 1 (line 9), which 1.1 wrote (line 5) over the initial value, and 3.1 wrote x 3 (line 16)',
             '3.1 before 2.1: 2.1 reads y 4 (line 11), which 3.1 wrote (line 18)',
+            'known as: read skew (G-single)'),
+    # version order, behind a chain of two writers that is read to its end
+    by_hand('session 1, begin, r x 0, w x 1, commit, session 2, begin, r x 1, w x 5, w x 2, commit, session 3, begin, r x 2, r y 4, commit, '
+            'session 4, begin, w x 3, w y 4, commit', 'A8 cycle of known edges', 'cycle 3.1 4.1 3.1',
+            '3.1 before 4.1: 3.1 reads x 2 (line 14), which 2.1 wrote (line 10) over an update of the initial value, and 4.1 wrote x 3 (line 19)',
+            '4.1 before 3.1: 3.1 reads y 4 (line 15), which 4.1 wrote (line 20)',
             'known as: read skew (G-single)'),
     # a read, an anti-dependency and moments one way, an anti-dependency and the order of versions the other
     by_hand('log 3, session 1, begin 1, w x 1, r y 0, r u 0, w u 2, w v 3, commit 3, session 2, begin 5, r v 0, r u 0, r y 0, w y 4, r x 1, '

@@ -188,8 +188,9 @@ def fault_of_picture(boxes, arrows, text):
             return 'an arrow without its box: %s' % name
         if first == second and 'read' not in looks:
             return 'an arrow to itself: %s' % name
-        for line in map(int, LINE.findall(name)) if 'otherwise' not in looks else ():
-            if not any(line in boxes[it]['lines'] for it in (first, second)):
+        ends = re.sub(explained.BEHIND, '', name)
+        for line in map(int, LINE.findall(name if 'bold' in looks else ends)) if 'otherwise' not in looks else ():
+            if not any(line in boxes[it]['lines'] for it in ((first, second) if '(line %d)' % line in ends else boxes)):
                 return 'line %d is not marked: %s' % (line, name)
     for name, box in boxes.items():
         if not box['name']:

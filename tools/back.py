@@ -9,7 +9,7 @@ PARTS = re.compile(r'''
     | (?P<own>(?:and\ overwrote\ with\ [0-9]+|writes\ itself\ only\ later)\ \(line\ (?P<own_at>[0-9]+)\))
     | (?P<head>(?:^\[[0-9]+\]|\bsuppose)\ )%(key)s:\ (?P<head_id>[0-9]+),\ which\ (?P<head_writer>%(name)s)\ wrote\ \(line\ (?P<head_at>[0-9]+)\)
     | (?P<before>comes\ before\ )(?P<before_id>[0-9]+),\ which\ (?P<before_writer>%(name)s)\ wrote\ \(line\ (?P<before_at>[0-9]+)\)
-    | (?P<version>(?:^\ *if|goes\ back\ to)\ )(?P<version_id>[0-9]+)\b
+    | (?P<version>(?:^\ *if|\bover|an\ update\ of)\ )(?P<version_id>[0-9]+)\b
     | (?P<of_key>(?:which\ no\ transaction\ wrote|A7\ lost\ update)(?:\ (?:to|of)\ %(key)s)?)(?:\ from\ [0-9.]+)?
     | (?P<session>:\ session\ [0-9]+$)
     | \ op\ [0-9]+$ | \ \(lines?\ [0-9]+(?:\ to\ [0-9]+)?\)

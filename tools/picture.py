@@ -40,8 +40,7 @@ KINDS = {
     'session': 'both are of one session, in this order',
     'read': 'the second one read what the first one wrote',
     'anti-dependency': 'the first one read a version that the second one wrote over, and so had not seen that write',
-    'version order': "the first one saw the key's initial value, or a version that goes back to it; the second one wrote the key and had not "
-                     'read it',
+    'version order': "the first one saw the key's initial value, or an update of it; the second one wrote the key and had not read it",
     'moments': 'the first one was committed before the second one began',
     'forced': 'a step of pruning keeps it: the other way is impossible',
     'decided': 'it holds in this branch: an order of two versions is supposed',
@@ -122,8 +121,9 @@ class Scene:
             for name in (edge.first, edge.second):
                 self.tell(name, *self.history.lines_of(name, edge.lines), support=support)
         for edge in edges:
-            if edge.key and look == 'bold':
-                self.add_ground(edge.first, edge.key)
+            key = edge.parts[0] if edge.kind == 'version order' else edge.key
+            if key and look == 'bold':
+                self.add_ground(edge.first, key)
 
     def arrow_of(self, edge):
         """An edge as an arrow between the operations that are told of it."""

@@ -12,8 +12,11 @@ EDGE = re.compile('%s before %s: (.+)' % (NODE, NODE))
 VERSION = r'([0-9]+), which %s wrote \(line %s\)' % (NODE, NUMBER)
 VERSIONS = '%s: %s, comes before %s' % (KEY, VERSION, VERSION)
 STEP = re.compile(r'\[%s\] %s:' % (NUMBER, VERSIONS))
-SINCE = re.compile(r'    if [0-9]+ came first, %s, which reads [0-9]+ \(line %s\)(?:, which goes back to [0-9]+)?, would come before %s, but %s comes before %s:'
-                   % (NODE, NUMBER, NODE, NODE, NODE))
+# Over what a version was written that is an update of another; and of one that was read, by whom.
+OVER = r' over (?:an update of )?(?:[0-9]+|the initial value)'
+BEHIND = r'(?:, which [1-9][0-9]*\.[1-9][0-9]* wrote \(line [1-9][0-9]*\)%s)' % OVER
+SINCE = re.compile(r'    if [0-9]+ came first, %s, which reads [0-9]+ \(line %s\)%s?, would come before %s, but %s comes before %s:'
+                   % (NODE, NUMBER, BEHIND, NODE, NODE, NODE))
 CYCLE = re.compile('cycle from %s:' % NODE)
 ORDER = re.compile('suppose %s:' % VERSIONS)
 KNOWN = re.compile('known as: (.+)')
@@ -21,7 +24,7 @@ LEAVES = re.compile('whichever of these versions came first, a cycle closes(?:, 
 CROSSED = re.compile('no serial order allows all four reads: in any, one of these pairs is never current:')
 PAIR = re.compile(r'    %s reads %s ([0-9]+) \(line %s\) and %s ([0-9]+) \(line %s\)' % (NODE, KEY, NUMBER, KEY, NUMBER))
 # What is said of an edge by an order of versions: what its first transaction has of the key, and what the second one wrote.
-KEPT = r'%s (?:reads|wrote) %s ([0-9]+) \(line %s\)(?:, which goes back to [0-9]+)?, which %%s before %s' % (NODE, KEY, NUMBER, VERSION)
+KEPT = r'%s (?:reads|wrote) %s ([0-9]+) \(line %s\)(?:%s|%s)?, which %%s before %s' % (NODE, KEY, NUMBER, BEHIND, OVER, VERSION)
 # By how many decisions the walk of a step is indented.
 WALK = 2
 # Where a line of an anomaly names a transaction.
@@ -29,9 +32,9 @@ TELLS = re.compile('(?:^|, which |; )%s (?=reads |read |wrote |writes |overwrite
 # The kinds of what is said of an edge, by its form; the first that fits.
 KINDS = [('session', re.compile('session %s' % NUMBER)), ('forced', re.compile(KEPT % r'by \[([0-9]+)\] comes')),
          ('decided', re.compile(KEPT % 'is supposed to come')),
+         ('version order', re.compile('.+ reads %s [0-9]+ .+ the initial value, and .+ wrote .+' % KEY)),
          ('read', re.compile('.+ reads .+, which [1-9][0-9.]+ wrote .+')),
          ('anti-dependency', re.compile('.+ reads .+, and .+ overwrites it with .+')),
-         ('version order', re.compile('.+ reads %s [0-9]+ .+, (?:the|which goes back to the) initial value, and .+ wrote .+' % KEY)),
          ('moments', re.compile('.+ ended at ([0-9]+) .+, .+ began at ([0-9]+) .+'))]
 # The code of a log of which every cube is refuted: it has none of its own.
 TREE = 'tree'
