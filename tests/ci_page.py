@@ -16,7 +16,7 @@ TWICE = 'session 1\nbegin\nw x 1\nw y 1\ncommit\n'
 # For each log: its text, or None where there is none, the status, the verdict of JSON, and what a person reads.
 LOGS = {
     'serializable': (GOOD, 0, 'serializable', 'serializable\n'),
-    'refuted': (LOST, 1, 'not serializable', 'A7 lost update'),
+    'refuted': (LOST, 1, 'not serializable', 'lost update (G-single), A7'),
     'short and refuted': (SHORT + 'session 2\nbegin\nr y 7\ncommit\n', 1, 'not serializable', 'A1 unknown read'),
     'short': (SHORT, 3, 'unknown', '1 committed, 1000 asked for'),
     'empty': ('', 3, 'unknown', '0 committed, 1000 asked for'),
@@ -106,7 +106,7 @@ class Checks:
                 got, said, files = self.bash(words, text, log)
                 found = json.loads(files['verdict.json'])
                 self.expect(got == status and found['verdict'] == verdict, '%s: status %d, %s' % (name, got, found))
-                self.expect(told.strip() in said + files['verdict.json'] or found['code'] == told[:2], '%s: %s %s' % (name, said, found))
+                self.expect(told.strip() in said + files['verdict.json'] or found['code'] in (told[:2], told[-2:]), '%s: %s %s' % (name, said, found))
                 self.expect(set(files) == {'verdict.json', *(['part.log', 'part.log.map'] if status == 1 else [])}, '%s: %s' % (name, set(files)))
                 if status == 1:
                     self.part(name, log, files)

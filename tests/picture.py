@@ -15,6 +15,7 @@ HERE = os.path.dirname(os.path.abspath(__file__))
 TOP = os.path.dirname(HERE)
 sys.path.insert(0, HERE)
 import explained, generate
+from certificates import Part
 
 sys.path.insert(0, os.path.join(TOP, 'tools'))
 import picture
@@ -238,7 +239,7 @@ def explained_by_audit(program, path):
     if ran.returncode != 1:
         return None
     end = next(place for place, line in enumerate(lines) if re.match('the whole log|sessions [0-9]+$', line))
-    return ''.join(line + '\n' for line in ['not serializable: ' + lines[0].split(': ', 1)[1], *lines[2:end]])
+    return ''.join(line + '\n' for line in ['not serializable: ' + Part(*lines[:2], []).title, *lines[2:end]])
 
 
 class Checks:

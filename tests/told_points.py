@@ -11,7 +11,7 @@ import argparse, collections, concurrent.futures, os, re, sys
 HERE = os.path.dirname(os.path.abspath(__file__))
 sys.path.insert(0, HERE)
 import generate, levels, reference
-from certificates import call, must
+from certificates import Part, call, must
 
 CASES, SEED, SHOWN = 600, 1, 20
 LANES = min(4, os.cpu_count())
@@ -219,7 +219,7 @@ def told(program, text, level):
     lines = said.split('\n')
     names = set(re.findall(NAME + ' \\(lines', lines[2]))
     why = lines[3:next(at for at, line in enumerate(lines) if line.startswith('sessions '))]
-    log, code = Log(text), lines[1].split(': ')[1].split(' ')[0]
+    log, code = Log(text), Part(*lines[1:3], []).code
     keys = {key for _, key, _ in list(log.reads) + list(log.writes)}
     must(all('_' + key not in line for line in why for key in keys), 'a lock is told: %r' % why)
     again = call(program, 'explain', '--level', level, text=text)[1]
@@ -228,7 +228,7 @@ def told(program, text, level):
         if why[0] == BY_SEARCH:
             must(why[1] == 'why they have no serial order either:' and not any('(G2-' in line for line in why), 'told: %r' % why)
             return {'by a search'}
-        if re.fullmatch('A[1-6]', code):
+        if code and re.fullmatch('A[1-6]', code):
             for wid, line in re.findall(r'reads? %s (\d+)(?: before)? \(line (\d+)\)' % KEY[1:-1], '\n'.join(why)):
                 must(log.lines[int(line) - 1].split(' ')[::2] == ['r', wid], 'line %s is another one: %r' % (line, why))
             return {line[len('known as: '):] for line in why if line.startswith('known as: ')} | {code}
