@@ -938,6 +938,21 @@ BY_HAND = [
     by_hand('session 1, begin, w x 1, r y 2, commit, begin, r x 1, w y 2, commit', 'A8 cycle of known edges', 'cycle 1.1 1.2 1.1',
             '1.1 before 1.2: session 1', '1.2 before 1.1: 1.1 reads y 2 (line 4), which 1.2 wrote (line 8)',
             'known as: a read from the future (G1c-process)'),
+    # neither order of two versions, and no write is missed in either
+    by_hand('session 1, begin, w x 1, commit, begin, w x 2, w y 4, commit, session 2, begin, r x 1, w x 3, r y 4, commit',
+            'A9 pruning ends in a cycle', '[1] x: 1, which 1.1 wrote (line 3), comes before 2, which 1.2 wrote (line 6):',
+            '    1.1 before 1.2: session 1', 'cycle from 1.2:', '1.2 before 2.1: 2.1 reads y 4 (line 13), which 1.2 wrote (line 7)',
+            '2.1 before 1.2: 2.1 wrote x 3 (line 12), which goes back to 1, which by [1] comes before 2, which 1.2 wrote (line 6)',
+            'known as: a read from the future (G1c-process)'),
+    # neither order, and what the step refutes is milder than the cycle
+    by_hand('session 1, begin, w x 1, r y 5, commit, begin, r z 0, commit, session 2, begin, w x 2, w y 5, commit, '
+            'session 3, begin, r x 2, w z 3, commit',
+            'A9 pruning ends in a cycle', '[1] x: 1, which 1.1 wrote (line 3), comes before 2, which 2.1 wrote (line 11):',
+            '    if 2 came first, 3.1, which reads 2 (line 16), would come before 1.1, but 1.1 comes before 3.1:',
+            '    1.1 before 1.2: session 1', '    1.2 before 3.1: 1.2 reads z 0 (line 7), the initial value, and 3.1 wrote z 3 (line 17)',
+            'cycle from 2.1:', '2.1 before 1.1: 1.1 reads y 5 (line 4), which 2.1 wrote (line 12)',
+            '1.1 before 2.1: 1.1 wrote x 1 (line 3), which by [1] comes before 2, which 2.1 wrote (line 11)',
+            'known as: missed writes and sessions in a circle (G2-item-process)'),
 ]
 
 

@@ -5,7 +5,7 @@ use Rattle.std.specs.Prelude.{◌∷◌, ◌+◌, length, take, codes, Option, N
 use Rattle.session_log.specs.Text.{ClientSession}
 use Rattle.reasons.specs.declared.reason.Reason.{Reason}
 use Rattle.reasons.specs.declared.reason.Reason.TheVariants as reason
-use Rattle.tell_reasons.specs.Versions.{left_at, read_at}
+use Rattle.tell_reasons.specs.Versions.{left_at}
 use Rattle.tell_reasons.specs.declared.why.ChainOrder.{ChainOrder}
 use Rattle.tell_reasons.specs.declared.why.Why.{Why}
 use Rattle.tell_reasons.specs.declared.why.Why.TheVariants as why
@@ -193,18 +193,17 @@ edges_first (i ∷ rest) = if is_edge i then 1 + edges_first rest else 0
 abbrev pub circle_of : List ClientSession → List Item → Circle
 circle_of ss items = record { line = shape_after ss no_edges items; edges = length items }
 
--- by the order that a step refutes: from who reads the key at this place, as the step says, and would
--- miss what the other chain writes; or from who wrote it
-abbrev pub kind_refuted : Option ℕ → EdgeKind
-kind_refuted (Some i) = kind.Missed
-kind_refuted None = kind.Written
+-- By the order that a step refutes: from the second version's own writer, or from one that reads that
+-- version or what goes back to it, as the step's second line says, and would miss the first one.
+abbrev pub kind_refuted : ChainOrder → ℕ → EdgeKind
+kind_refuted o u = if u == o.second then kind.Written else kind.Missed
 
 -- what refutes the other order of a step from this node, where these stand behind the step: its
 -- edges, and the one by that order, which closes their circle
 abbrev pub refuting : List ClientSession → ChainOrder → ℕ → List Item → Circle
 refuting ss o u items = record {
   line = with_kind (shape_after ss no_edges (take (edges_first items) items))
-      (kind_refuted (read_at ss o.key u));
+      (kind_refuted o u);
   edges = edges_first items + 1;
 }
 

@@ -2,13 +2,11 @@
 //! the name that the literature has.
 
 ghost use Rattle.std.specs.Prelude.{◌≡◌, ◌≤◌, length};
-ghost use Rattle.tell_reasons.specs.Events.{is_read_in};
-ghost use Rattle.tell_reasons.specs.Versions as told;
 ghost use Rattle.tell_reasons.specs.Versions.{left_at};
 ghost use Rattle.tell_decision.specs.Names as spec;
 
 use reasons::Reason;
-use serializability::{Event, NodeIx};
+use serializability::NodeIx;
 use session_history::History;
 use tell_reasons::{ChainOrder, Why, left_at};
 use tell_steps::Item;
@@ -334,33 +332,15 @@ fn circle_of(history: &History, items: &[Item]) -> Circle
     }
 }
 
-/// Whether an operation reads the key.
-fn reads(event: Event, key: usize) -> bool
-    ensures { result ≡ is_read_in key event }
+/// What an edge by the order that a step refutes is: from the second version's own writer, or from
+/// one that reads it or what goes back to it, and would miss the first one.
+fn kind_refuted(order: ChainOrder, source: NodeIx) -> EdgeKind
+    ensures { result ≡ spec.kind_refuted order source }
 {
-    match event {
-        Event::Read { key: read, .. } => key == read,
-        Event::Write { .. } => false,
-    }
-}
-
-/// The first read of a key in a node.
-fn read_at(history: &History, key: usize, node: NodeIx) -> Option<usize>
-    ensures { result ≡ told.read_at history.now key node }
-{
-    history
-        .events_of(node)
-        .iter()
-        .position(|event| reads(*event, key))
-}
-
-/// What an edge by the order that a step refutes is, from a node that reads the key or wrote it.
-fn kind_refuted(history: &History, key: usize, source: NodeIx) -> EdgeKind
-    ensures { result ≡ spec.kind_refuted (told.read_at history.now key source) }
-{
-    match read_at(history, key, source) {
-        Some(_) => EdgeKind::Missed,
-        None => EdgeKind::Written,
+    if source.get() == order.second.get() {
+        EdgeKind::Written
+    } else {
+        EdgeKind::Missed
     }
 }
 
@@ -372,7 +352,7 @@ fn refuting(history: &History, order: ChainOrder, source: NodeIx, behind: &[Item
     let count = edges_first(behind);
     let line = shape_of(history, &behind[..count]);
     Circle {
-        line: with_kind(line, kind_refuted(history, order.key, source)),
+        line: with_kind(line, kind_refuted(order, source)),
         edges: count + 1,
     }
 }
