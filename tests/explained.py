@@ -942,7 +942,7 @@ BY_HAND = [
     by_hand('session 1, begin, w x 1, commit, begin, w x 2, w y 4, commit, session 2, begin, r x 1, w x 3, r y 4, commit',
             'A9 pruning ends in a cycle', '[1] x: 1, which 1.1 wrote (line 3), comes before 2, which 1.2 wrote (line 6):',
             '    1.1 before 1.2: session 1', 'cycle from 1.2:', '1.2 before 2.1: 2.1 reads y 4 (line 13), which 1.2 wrote (line 7)',
-            '2.1 before 1.2: 2.1 wrote x 3 (line 12), which goes back to 1, which by [1] comes before 2, which 1.2 wrote (line 6)',
+            '2.1 before 1.2: 2.1 wrote x 3 (line 12) over 1, which by [1] comes before 2, which 1.2 wrote (line 6)',
             'known as: a read from the future (G1c-process)'),
     # neither order, and what the step refutes is milder than the cycle
     by_hand('session 1, begin, w x 1, r y 5, commit, begin, r z 0, commit, session 2, begin, w x 2, w y 5, commit, '
