@@ -302,8 +302,7 @@ step_of ss entries clean d k q at =
       at = map_get (order_by ss) posts k q at;
       two_chains = keeps.two_chains;
       refuted = inl refuted;
-      inner = sh.walk.inner;
-      shape = sh.walk.shape;
+      ends = record { inner = sh.walk.inner; shape = sh.walk.shape };
       rests = subst (LineRests ss (sides_of ss (map (order_by ss) posts)) k) (sym sh.walk.shape) rests;
     }
 
@@ -351,8 +350,7 @@ closed_of ss entries clean d line c =
     walk_rests ss (sides_of ss K) (length K) edges (edge_rests ss p g posts posts (length K) (λ j q e. (omega (arith, slice_get_within posts j q e, many), e))) w.inner c.0 c.0 start w.steps in
     record {
       start = c.0;
-      inner = w.inner;
-      shape = w.shape;
+      ends = record { inner = w.inner; shape = w.shape };
       rests = subst (LineRests ss (sides_of ss K) (length K)) (sym w.shape) rests;
     }
 

@@ -4,9 +4,8 @@ pub mod Answers
 pub mod Chosen
 pub mod Marking
 pub mod Ledgers
-pub mod Shortcuts
 pub mod ChainSides
 pub mod Telling
 pub mod Leading
 pub mod Covering
-pub mod Proposals
+pub mod Checked

@@ -253,7 +253,7 @@ told_step ss kept posts marks numbers steps i number o q items new is room at he
     let Refuted : ChainOrder → Type 0 = λ z. Follows (log_of ss) (turned z) (q.edge.0, q.edge.1) in
     let refuted : Refuted o = subst Refuted same s.refuted in
     let told_next : AreStepsTold ss next (items ++ (item.Step (count + 1) o q.edge.0 q.edge.1 ∷ h.against)) =
-    step steps items t.told o two_chains q.edge.0 q.edge.1 refuted s.inner h.against (subst (λ l. IsLineTold ss steps [] l h.against) s.shape h.line) in
+    step steps items t.told o two_chains q.edge.0 q.edge.1 refuted s.ends.inner h.against (subst (λ l. IsLineTold ss steps [] l h.against) s.ends.shape h.line) in
     let whole : items ++ (item.Step (count + 1) o q.edge.0 q.edge.1 ∷ h.against) ≡ new =
     ap (λ n. items ++ (item.Step n o q.edge.0 q.edge.1 ∷ h.against)) (sym is) ∙ ap (λ l. items ++ l) (sym h.whole) ∙ sym more.appended in
     record {
@@ -312,15 +312,15 @@ dead_told ss kept entries marks numbers steps line before mid new start edges co
     (let Among : List Item → Type 0 = λ l. Contains l x in
     let there : Among mid = subst Among (sym is) (Contains-append_left before (item.Cycle start edges ∷ []) x h) in
     subst Among (sym last.appended) (Contains-append_left mid last.items x there)) in
-    let start_is : c.start ≡ start = ap (λ l. get_or l 0 0) (sym c.shape) ∙ sym first in
-    let edges_are : length c.inner + 1 ≡ edges = (let e = ap length c.shape in let f = length_push c.inner c.start in omega (arith, e, f, many)) in
-    let told : IsLineTold ss steps [] (c.start ∷ (c.inner ++ c.start ∷ [])) last.items = subst (λ l. IsLineTold ss steps [] l last.items) c.shape last.kind in
+    let start_is : c.start ≡ start = ap (λ l. get_or l 0 0) (sym c.ends.shape) ∙ sym first in
+    let edges_are : length c.ends.inner + 1 ≡ edges = (let e = ap length c.ends.shape in let f = length_push c.ends.inner c.start in omega (arith, e, f, many)) in
+    let told : IsLineTold ss steps [] (c.start ∷ (c.ends.inner ++ c.start ∷ [])) last.items = subst (λ l. IsLineTold ss steps [] l last.items) c.ends.shape last.kind in
     record {
       steps = steps;
       before = before;
-      round = item.Cycle c.start (length c.inner + 1) ∷ last.items;
+      round = item.Cycle c.start (length c.ends.inner + 1) ∷ last.items;
       told = t.told;
-      cycle = closes c.start c.inner last.items told;
+      cycle = closes c.start c.ends.inner last.items told;
       whole = last.appended
           ∙ ap (λ l. l ++ last.items) is
           ∙ append_assoc before (item.Cycle start edges ∷ []) last.items

@@ -35,6 +35,11 @@ pub record AreEntries (ss : List ClientSession) (entries : List LedgerEntry) : T
 abbrev pub kept_by : List ClientSession → List LedgerEntry → List ChainOrder
 kept_by ss entries = map (kept_order (orders_in (log_of ss))) (posts_in entries)
 
+-- it leads from the one node to the other
+pub record HasEnds (first last : ℕ) (line : List ℕ) : Type 0 where
+  pub inner : List ℕ
+  pub shape : line ≡ first ∷ (inner ++ last ∷ [])
+
 -- the edge follows from the other way round, and the walk leads against it and rests on what earlier entries
 -- keep
 pub record IsStep (ss : List ClientSession) (kept : List ChainOrder) (k : ℕ)
@@ -43,8 +48,7 @@ pub record IsStep (ss : List ClientSession) (kept : List ChainOrder) (k : ℕ)
   pub at : slice_get kept k ≡ Some order
   pub two_chains : IsOrder (log_of ss) order
   pub refuted : Follows (log_of ss) (turned order) q.edge
-  pub inner : List ℕ
-  pub shape : q.walk ≡ q.edge.1 ∷ (inner ++ q.edge.0 ∷ [])
+  pub ends : HasEnds q.edge.1 q.edge.0 q.walk
   pub rests : LineRests ss (sides_of ss kept) k q.walk
 
 pub record AreSteps (ss : List ClientSession) (kept : List ChainOrder)
@@ -56,6 +60,5 @@ pub record AreSteps (ss : List ClientSession) (kept : List ChainOrder)
 pub record IsClosed (ss : List ClientSession) (kept : List ChainOrder)
     (line : List ℕ) : Type 0 where
   pub start : ℕ
-  pub inner : List ℕ
-  pub shape : line ≡ start ∷ (inner ++ start ∷ [])
+  pub ends : HasEnds start start line
   pub rests : LineRests ss (sides_of ss kept) (length kept) line

@@ -4,7 +4,6 @@ pub mod View
 pub mod Firsts
 pub mod Lines
 pub mod Marks
-pub mod Shorter
 pub mod Ledgers
 pub mod Told
 pub mod Held

@@ -15,7 +15,7 @@ use Rattle.prune_ledger.specs.Ledger.{edges_after, AreShown}
 use Rattle.prune_ledger.specs.Pruned.{kept_by, posts_in}
 use Rattle.prune_ledger.specs.declared.ledger.LedgerEntry.{LedgerEntry}
 use Rattle.tell_steps.specs.declared.item.Item.{Item}
-use Rattle.tell_steps.specs.Steps.{edges_in, IsLineTold}
+use Rattle.tell_steps.specs.Steps.{IsOrder, edges_in, IsLineTold}
 use Rattle.tell_steps.specs.View.{StepsView}
 use Rattle.tell_steps.specs.Firsts.{IsFirstIn, HasSide, AreFirsts, cell, cells}
 use Rattle.tell_steps.specs.declared.ground.Ground.{Ground}
@@ -142,10 +142,11 @@ pub record AreAnswers (ss : List ClientSession)
   pub each : (a b : ℕ) → a ≤ (log_of ss).nodes → b ≤ (log_of ss).nodes
       → IsNoted ss a b (slice_index_or table (cell (log_of ss).nodes a b) None)
 
--- the kept orders, and of each edge the first of them that has it
+-- the kept orders of two chains, and of each edge the first of them that has it
 pub record AreGrounds (ss : List ClientSession) (grounds : Grounds) : Type 0 where
   pub nodes : grounds.nodes ≡ (log_of ss).nodes
   pub few : grounds.nodes ≤ MAX_NODES
+  pub orders : All (IsOrder (log_of ss)) grounds.kept.items
   pub firsts : AreFirsts grounds.nodes (sides_of ss grounds.kept.items) grounds.firsts.items
 
 -- the log is clean, and the grounds are those of its edges

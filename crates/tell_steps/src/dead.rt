@@ -14,7 +14,7 @@ use crate::lines::put_edges;
 use crate::marks::needed_entries;
 use crate::orders::{choice_orders, kept_orders};
 use crate::proposed::tell_proposed;
-use crate::shorter::{shortened, shorter_line};
+use crate::shorter::{shortened, shorter_cycle};
 use crate::steps::told_steps;
 use prune_ledger::{Ledger, LedgerEntry};
 use reasons::Reason;
@@ -87,7 +87,7 @@ fn tell_with(
         history,
         grounds: &grounds,
     };
-    let round = shorter_line(&basis, answers, cycle)?;
+    let round = shorter_cycle(&basis, answers, cycle)?;
     let line = round.as_slice();
     let shorter = shortened(&basis, answers, chains, entries, &[line])?;
     tell_steps(&basis, answers, &shorter, line)

@@ -6,7 +6,7 @@ ghost use Rattle.chain_laws.specs.Chains.{tail, edges_to};
 ghost use Rattle.log_definitions.specs.Numbers.{log_of};
 ghost use Rattle.tell_steps.specs.Steps.{IsOrder, edges_in, Follows};
 
-use crate::firsts::place_of;
+use crate::chain::first_chain;
 use serializability::NodeIx;
 use tell_reasons::ChainOrder;
 use write_chains::{Chain, Chains};
@@ -34,11 +34,7 @@ pub fn has_edge(chains: &Chains<'_>, order: ChainOrder, a: NodeIx, b: NodeIx) ->
     if order.second.get() != b.get() {
         return false;
     }
-    let others = chains.chains_of(order.key);
-    match place_of(others, order.first) {
-        Some(place) => leads_from(&others[place], a),
-        None => unreachable!(),
-    }
+    leads_from(first_chain(chains, order), a)
 }
 
 /// Whether an edge leads from the last writer of the order's first chain to the other chain.
@@ -50,11 +46,7 @@ fn is_from_tail(chains: &Chains<'_>, order: &ChainOrder, a: NodeIx, b: NodeIx) -
     if b.get() != order.second.get() {
         return false;
     }
-    let others = chains.chains_of(order.key);
-    match place_of(others, order.first) {
-        Some(place) => others[place].tail.get() == a.get(),
-        None => false,
-    }
+    first_chain(chains, *order).tail.get() == a.get()
 }
 
 /// Whether the edge follows from the order.

@@ -1,18 +1,17 @@
 //! Of each edge, the first order that has it.
 
-ghost use Rattle.std.specs.Prelude.{◌≡◌, ◌≢◌, ◌<◌, ◌≤◌, ◌++◌, ◌∷◌, [], ℕ, List, length, map, IfOk};
-ghost use Rattle.std.specs.Prelude.{IfSome, IfNone, slice_index_or};
-ghost use Rattle.std.specs.List.{All, Contains};
+ghost use Rattle.std.specs.Prelude.{◌≡◌, ◌≤◌, ◌++◌, ◌∷◌, [], ℕ, List, length, map, IfOk};
+ghost use Rattle.std.specs.List.{All};
 ghost use Rattle.serializability.specs.Polygraph.{Edge};
 ghost use Rattle.serializability.specs.declared.node.TheConstants.{MAX_NODES};
 ghost use Rattle.log_definitions.specs.Numbers.{log_of};
 ghost use Rattle.chain_laws.specs.Chains.{edges_to};
-ghost use Rattle.write_chains.specs.declared.chain.Chain as chain;
 ghost use Rattle.tell_steps.specs.Steps.{IsOrder, edges_in};
 ghost use Rattle.tell_steps.specs.Firsts as spec;
 ghost use Rattle.tell_steps.specs.Lines.{sides_of, AreGrounds};
 
 use crate::cell::{cell, cells};
+use crate::chain::first_chain;
 use crate::ground::Grounds;
 use serializability::NodeIx;
 use std::alloc::{AllocError, Global};
@@ -70,21 +69,6 @@ fn note_side(table: &mut [Option<usize>], nodes: usize, first: &Chain, second: N
     }
 }
 
-/// The place of the chain with this head, where there is one.
-pub fn place_of(chains: &[Chain], head: NodeIx) -> Option<usize>
-    ensures within { IfSome result (λ k. k < length chains.now) }
-    ensures head { IfSome result (λ k. (d : chain.Chain)
-        → (slice_index_or chains.now k d).head ≡ head) }
-    ensures none { IfNone result (All (λ c. c.head ≢ head) chains.now) }
-{
-    for (place, chain) in chains.iter().enumerate() {
-        if chain.head == head {
-            return Some(place);
-        }
-    }
-    None
-}
-
 /// Notes that an entry keeps the order.
 fn note_order(
     table: &mut [Option<usize>],
@@ -101,10 +85,8 @@ fn note_order(
         spec.AreFirsts nodes sides table.old →
         spec.AreFirsts nodes (sides ++ edges_in (log_of chains.now) order ∷ []) table.new }
 {
-    let others = chains.chains_of(order.key);
-    if let Some(place) = place_of(others, order.first) {
-        note_side(table, nodes, &others[place], order.second, entry);
-    }
+    let first = first_chain(chains, order);
+    note_side(table, nodes, first, order.second, entry);
 }
 
 /// Of each edge, the first of these orders that has it.

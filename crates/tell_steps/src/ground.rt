@@ -116,7 +116,7 @@ pub fn is_between(history: &History, node: NodeIx) -> bool
     node.get() != 0 && node.get() <= history.committed()
 }
 
-/// Whether the log shows that `a` stands before `b`.
+/// Whether the log shows that `a` stands before `b`, where both are nodes other than node 0.
 pub fn shows(
     basis: &LogAndGrounds<'_>,
     answers: &mut [Option<Option<Reason>>],
@@ -125,11 +125,15 @@ pub fn shows(
 ) -> Result<bool, AllocError>
     requires basis { IsBasis basis.now }
     requires answers { AreAnswers basis.now.history.now answers.old }
-    requires first { IsBetween basis.now.history.now a }
-    requires second { IsBetween basis.now.history.now b }
     ensures answers { AreAnswers basis.now.history.now answers.new }
     ensures shown { IfOk result (λ shown. IsTrue shown → HaveNone basis.now.history.now a b → ⊥) }
 {
+    if !is_between(basis.history, a) {
+        return Ok(false);
+    }
+    if !is_between(basis.history, b) {
+        return Ok(false);
+    }
     match answer(basis.alloc, answers, basis.history, a, b)? {
         Some(_reason) => Ok(true),
         None => Ok(false),

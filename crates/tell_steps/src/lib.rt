@@ -5,6 +5,8 @@
 #![tactic(auto)]
 
 mod cell;
+mod chain;
+mod checks;
 mod dead;
 mod decided;
 mod firsts;
@@ -13,7 +15,6 @@ mod ground;
 mod item;
 mod lines;
 mod marks;
-mod near;
 mod orders;
 mod proposed;
 mod shorter;

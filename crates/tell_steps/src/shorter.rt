@@ -1,16 +1,16 @@
-//! Shorter walks: an edge that the log shows in place of a way around.
+//! Shorter walks: an edge that the log shows in place of a way around. Nothing is promised of how
+//! they are found: each is taken only where it is shown to be right.
 
-ghost use Rattle.std.specs.Prelude.{◌≡◌, ℕ, ◌+◌, ◌<◌, length, reverse, IfOk};
+ghost use Rattle.std.specs.Prelude.{◌≡◌, ◌<◌, length, IfOk};
 ghost use Rattle.log_definitions.specs.Numbers.{log_of};
 ghost use Rattle.tell_steps.specs.Steps.{IsOrder};
-ghost use Rattle.tell_steps.specs.Lines.{IsLineOfNodes, AreAnswers, IsBasis};
-ghost use Rattle.tell_steps.specs.Ledgers.{AreSteps};
-ghost use Rattle.tell_steps.specs.Shorter.{Leads, KeepsEnds, LeadsTo, IsNearOn, IsWalkOf};
-ghost use Rattle.tell_steps.specs.Shorter.{KeepsPost, IsShort};
+ghost use Rattle.tell_steps.specs.Lines.{AreAnswers, IsBasis};
+ghost use Rattle.tell_steps.specs.Ledgers.{IsStep, AreSteps, IsClosed};
 
+use crate::chain::first_chain;
+use crate::checks::{is_closed, is_step};
 use crate::ground::{LogAndGrounds, shows};
 use crate::marks::needed_entries;
-use crate::near::{Near, nearest};
 use crate::orders::turned;
 use prune_ledger::LedgerEntry;
 use prune_ledger::messages::Refutation;
@@ -21,100 +21,115 @@ use std::alloc::{AllocError, Global};
 use tell_reasons::ChainOrder;
 use write_chains::Chains;
 
-/// The first place of a line from which the log shows an edge to this one; where it shows none, the
-/// place before.
+/// The place of the first of these nodes from which the log shows an edge to another; where it
+/// shows none, that of the last.
 fn earliest(
     basis: &LogAndGrounds<'_>,
     answers: &mut [Option<Option<Reason>>],
-    line: &[NodeIx],
-    at: usize,
+    nodes: &[NodeIx],
+    end: NodeIx,
 ) -> Result<usize, AllocError>
     requires basis { IsBasis basis.now }
     requires answers { AreAnswers basis.now.history.now answers.old }
-    requires line { IsLineOfNodes basis.now.history.now line.now }
-    requires behind { 0 < at }
-    requires within { at < length line.now }
     ensures answers { AreAnswers basis.now.history.now answers.new }
-    ensures before { IfOk result (λ place. place < at) }
-    ensures leads { IfOk result (λ place. Leads basis.now.history.now line.now place at) }
 {
-    let end = line[at];
-    for place in 0..at - 1 {
-        let shown = shows(basis, answers, line[place], end)?;
+    for (place, node) in nodes.iter().enumerate() {
+        let shown = shows(basis, answers, *node, end)?;
         if shown {
             return Ok(place);
         }
     }
-    Ok(at - 1)
+    Ok(nodes.len().saturating_sub(1))
 }
 
-/// Goes on from this place of a line to its first: each node is reached from the first that the log
-/// shows to stand before it. The last comes first.
-fn back_to_start(
+/// Leads along a line to another node: each node is reached from the first one that the log shows
+/// to stand before it.
+fn walk_to(
     basis: &LogAndGrounds<'_>,
     answers: &mut [Option<Option<Reason>>],
     line: &[NodeIx],
-    place: usize,
-    behind: Vec<NodeIx>,
+    end: NodeIx,
 ) -> Result<Vec<NodeIx>, AllocError>
     requires basis { IsBasis basis.now }
     requires answers { AreAnswers basis.now.history.now answers.old }
-    requires line { IsLineOfNodes basis.now.history.now line.now }
-    requires within { place < length line.now }
     ensures answers { AreAnswers basis.now.history.now answers.new }
-    ensures short { IfOk result (λ made. (end : ℕ) →
-        IsShort basis.now.history.now line.now end place (reverse behind.items) →
-        IsShort basis.now.history.now line.now end 0 made.items) }
 {
-    let mut back = behind;
-    let mut at = place;
-    while 0 < at {
-        at = earliest(basis, answers, line, at)?;
-        back.push(line[at])?;
+    let mut back = Vec::new(basis.alloc);
+    back.push(end)?;
+    let mut next = earliest(basis, answers, line, end)?;
+    for (place, node) in line.iter().enumerate().rev() {
+        if place == next {
+            back.push(*node)?;
+            next = earliest(basis, answers, &line[..place], *node)?;
+        }
     }
     back.reverse();
     Ok(back)
 }
 
 /// A line with the same ends, of some of its nodes.
-pub fn shorter_line(
+fn shorter_line(
     basis: &LogAndGrounds<'_>,
     answers: &mut [Option<Option<Reason>>],
     line: &[NodeIx],
 ) -> Result<Vec<NodeIx>, AllocError>
     requires basis { IsBasis basis.now }
     requires answers { AreAnswers basis.now.history.now answers.old }
-    requires line { IsLineOfNodes basis.now.history.now line.now }
     ensures answers { AreAnswers basis.now.history.now answers.new }
-    ensures ends { IfOk result (λ made. KeepsEnds basis.now.history.now line.now made.items) }
 {
-    let mut behind = Vec::new(basis.alloc);
-    let last = line.len() - 1;
-    behind.push(line[last])?;
-    let made = back_to_start(basis, answers, line, last, behind)?;
-    Ok(made)
+    let Some(end) = line.last() else {
+        return Ok(Vec::new(basis.alloc));
+    };
+    walk_to(basis, answers, &line[..line.len().saturating_sub(1)], *end)
 }
 
-/// A line with the same first node, that leads from this place of it to another node.
-fn line_to(
+/// A walk that begins as a line does and leads to the first of these nodes that the log shows to
+/// stand behind the first place of the line, of those from which it goes on by two edges or more.
+fn walk_to_one(
     basis: &LogAndGrounds<'_>,
     answers: &mut [Option<Option<Reason>>],
     line: &[NodeIx],
-    near: Near,
-) -> Result<Vec<NodeIx>, AllocError>
+    ends: &[NodeIx],
+) -> Result<Option<Vec<NodeIx>>, AllocError>
     requires basis { IsBasis basis.now }
     requires answers { AreAnswers basis.now.history.now answers.old }
-    requires line { IsLineOfNodes basis.now.history.now line.now }
-    requires near { IsNearOn basis.now.history.now line.now near }
     ensures answers { AreAnswers basis.now.history.now answers.new }
-    ensures leads { IfOk result (λ made. LeadsTo basis.now.history.now line.now near.source
-        made.items) }
 {
-    let mut behind = Vec::new(basis.alloc);
-    behind.push(near.source)?;
-    behind.push(line[near.place])?;
-    let made = back_to_start(basis, answers, line, near.place, behind)?;
-    Ok(made)
+    for place in 0..line.len().saturating_sub(2) {
+        for end in ends {
+            let shown = shows(basis, answers, line[place], *end)?;
+            if shown {
+                return Ok(Some(walk_to(basis, answers, &line[..place + 1], *end)?));
+            }
+        }
+    }
+    Ok(None)
+}
+
+/// A post against the same order by a shorter walk, from a nearer node where there is one.
+fn shorter_post(
+    basis: &LogAndGrounds<'_>,
+    answers: &mut [Option<Option<Reason>>],
+    chains: &Chains<'_>,
+    order: ChainOrder,
+    post: &Refutation,
+) -> Result<Refutation, AllocError>
+    requires basis { IsBasis basis.now }
+    requires answers { AreAnswers basis.now.history.now answers.old }
+    requires order { IsOrder (log_of chains.now) order }
+    ensures answers { AreAnswers basis.now.history.now answers.new }
+{
+    let line = shorter_line(basis, answers, &post.walk)?;
+    let readers = first_chain(chains, order).readers.as_slice();
+    let nearer = walk_to_one(basis, answers, &line, readers)?;
+    let walk = nearer.unwrap_or(line);
+    let source = walk.last().copied().unwrap_or(post.edge.source());
+    Ok(Refutation {
+        choice: post.choice,
+        side: post.side,
+        edge: Edge::new(source, post.edge.target()),
+        walk,
+    })
 }
 
 /// The same post.
@@ -131,43 +146,34 @@ fn same_post(alloc: Global, post: &Refutation) -> Result<Refutation, AllocError>
     })
 }
 
-/// A post that tells the same: where it is to be told, by a shorter walk, to a nearer source where
-/// the log shows one.
-fn shorter_post(
+/// A step that keeps the same order: where it is to be told, by a shorter walk if that is right.
+fn shorter_step(
     basis: &LogAndGrounds<'_>,
     answers: &mut [Option<Option<Reason>>],
     chains: &Chains<'_>,
-    order: ChainOrder,
+    entry: usize,
     post: &Refutation,
     is_told: bool,
 ) -> Result<Refutation, AllocError>
     requires basis { IsBasis basis.now }
     requires answers { AreAnswers basis.now.history.now answers.old }
     requires chains { chains.now ≡ basis.now.history.now }
-    requires order { IsOrder (log_of basis.now.history.now) order }
-    requires walk { IsWalkOf basis.now.history.now order post.now }
+    requires within { entry < length basis.now.grounds.now.kept.items }
+    requires step { IsStep basis.now.history.now basis.now.grounds.now.kept.items entry post.now }
     ensures answers { AreAnswers basis.now.history.now answers.new }
-    ensures keeps { IfOk result (KeepsPost basis.now.history.now order post.now) }
+    ensures step { IfOk result (IsStep basis.now.history.now basis.now.grounds.now.kept.items
+        entry) }
 {
     if !is_told {
         return same_post(basis.alloc, post);
     }
-    let walk = shorter_line(basis, answers, &post.walk)?;
-    let line = walk.as_slice();
-    match nearest(basis, answers, chains, order, line)? {
-        Some(near) => Ok(Refutation {
-            choice: post.choice,
-            side: post.side,
-            edge: Edge::new(near.source, post.edge.target()),
-            walk: line_to(basis, answers, line, near)?,
-        }),
-        None => Ok(Refutation {
-            choice: post.choice,
-            side: post.side,
-            edge: post.edge,
-            walk,
-        }),
+    let order = turned(basis.grounds.kept[entry]);
+    let made = shorter_post(basis, answers, chains, order, post)?;
+    let right = is_step(basis, answers, chains, entry, &made)?;
+    if right {
+        return Ok(made);
     }
+    same_post(basis.alloc, post)
 }
 
 /// The entries of a ledger, of which the marked ones have shorter walks.
@@ -189,8 +195,7 @@ fn shorter_entries(
 {
     let mut made = Vec::with_capacity(basis.alloc, entries.len())?;
     for (entry, found) in entries.iter().enumerate() {
-        let order = turned(basis.grounds.kept[entry]);
-        let post = shorter_post(basis, answers, chains, order, &found.post, marks[entry])?;
+        let post = shorter_step(basis, answers, chains, entry, &found.post, marks[entry])?;
         made.push(LedgerEntry {
             seat: found.seat,
             post,
@@ -217,4 +222,27 @@ pub fn shortened(
 {
     let marks = needed_entries(basis, answers, entries, lines)?;
     shorter_entries(basis, answers, chains, &marks, entries)
+}
+
+/// A cycle of some nodes of this one, if that is right, and else this one.
+pub fn shorter_cycle(
+    basis: &LogAndGrounds<'_>,
+    answers: &mut [Option<Option<Reason>>],
+    cycle: &[NodeIx],
+) -> Result<Vec<NodeIx>, AllocError>
+    requires basis { IsBasis basis.now }
+    requires answers { AreAnswers basis.now.history.now answers.old }
+    requires closed { IsClosed basis.now.history.now basis.now.grounds.now.kept.items cycle.now }
+    ensures answers { AreAnswers basis.now.history.now answers.new }
+    ensures closed { IfOk result (λ made. IsClosed basis.now.history.now
+        basis.now.grounds.now.kept.items made.items) }
+{
+    let made = shorter_line(basis, answers, cycle)?;
+    let right = is_closed(basis, answers, &made)?;
+    if right {
+        return Ok(made);
+    }
+    let mut same = Vec::new(basis.alloc);
+    same.extend_from_slice(cycle)?;
+    Ok(same)
 }

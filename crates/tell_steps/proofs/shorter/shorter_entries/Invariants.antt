@@ -1,5 +1,5 @@
 use Rattle.tell_steps.specs.Lines.{AreAnswers}
-use Rattle.tell_steps.proofs.Shortcuts.{AreFrontSteps}
+use Rattle.tell_steps.proofs.Checked.{AreFrontSteps}
 use Rattle.tell_steps.proofs.shorter.shorter_entries.Given as goal
 
 abbrev pub invariant-loop-entry : goal.invariant-loop-entry

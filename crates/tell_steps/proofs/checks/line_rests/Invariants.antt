@@ -1,6 +1,6 @@
 use Rattle.std.proofs.Common.{◌+◌, ◌<◌, ℕ, get_or}
 use Rattle.tell_steps.specs.Lines.{AreAnswers, Rests, sides_of}
-use Rattle.tell_steps.proofs.proposed.line_rests.Given as goal
+use Rattle.tell_steps.proofs.checks.line_rests.Given as goal
 
 abbrev pub invariant-loop-i : goal.invariant-loop-i
 invariant-loop-i l = record {

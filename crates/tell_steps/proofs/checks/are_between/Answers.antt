@@ -3,7 +3,7 @@ use Rattle.std.specs.List.{All}
 use Rattle.std.proofs.lemmas.List.{take_all}
 use Rattle.std.proofs.lemmas.List.Elements.{All-more}
 use Rattle.tell_steps.specs.Lines.{IsBetween}
-use Rattle.tell_steps.proofs.proposed.are_between.Goals as goal
+use Rattle.tell_steps.proofs.checks.are_between.Goals as goal
 
 pub loop-node-preserved : goal.loop-node-preserved
 loop-node-preserved c =

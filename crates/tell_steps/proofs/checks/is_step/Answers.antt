@@ -5,8 +5,8 @@ use Rattle.std.proofs.lemmas.Result.{IfOk-weaker}
 use Rattle.prune_ledger.specs.Posted.{Posted}
 use Rattle.tell_steps.specs.Lines.{sides_of, LineRests}
 use Rattle.tell_steps.specs.Ledgers.{IsStep}
-use Rattle.tell_steps.proofs.Proposals.{checked_step}
-use Rattle.tell_steps.proofs.proposed.is_step.Goals as goal
+use Rattle.tell_steps.proofs.Checked.{checked_step}
+use Rattle.tell_steps.proofs.checks.is_step.Goals as goal
 
 pub returns-clause-step : goal.returns-clause-step
 returns-clause-step c =
@@ -25,5 +25,5 @@ returns-clause-step c =
     let P : Bool → Type 0 = λ rests. rests ≡ true → LineRests ss (sides_of ss kept) i c.deref-2.result.now in
     let Q : Bool → Type 0 = λ step. step ≡ true → IsStep ss kept i q in
     IfOk-weaker c.line_rests.result P Q
-    (λ x h t. checked_step ss kept i o c.turned-order.result q c.args.chains.now c.deref.result.now c.deref-2.result.now c.source-source.result c.target-target.result at c.requires.orders c.requires.chains c.turned-order.ensures.order walk again source target follows ends (h t))
+    (λ x h t. checked_step ss kept i o c.turned-order.result q c.args.chains.now c.deref.result.now c.deref-2.result.now c.source-source.result c.target-target.result at c.requires.basis.grounds.orders c.requires.chains c.turned-order.ensures.order walk again source target follows ends (h t))
     c.line_rests.ensures.rests

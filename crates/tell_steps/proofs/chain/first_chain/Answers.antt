@@ -1,0 +1,8 @@
+use Rattle.log_definitions.specs.Numbers.{log_of}
+use Rattle.tell_steps.proofs.ChainSides.{view_of, no_chain}
+use Rattle.tell_steps.proofs.chain.first_chain.Goals as goal
+
+pub unreachable-requires : goal.unreachable-requires
+unreachable-requires c =
+    let o = c.args.order in
+    no_chain (log_of c.args.chains.now) o.key o.first c.chains_of-others.result.now c.chains_of-others.ensures.chains c.in-None.ensures.none c.requires.order.one

@@ -1,5 +1,0 @@
-use Rattle.tell_steps.specs.Lines.{AreAnswers}
-use Rattle.tell_steps.proofs.near.near_among.Given as goal
-
-abbrev pub invariant-loop-place : goal.invariant-loop-place
-invariant-loop-place l = AreAnswers l.basis.history.now l.answers
