@@ -184,6 +184,7 @@ tree_joined ss choices nodes items h =
       last = h.last;
       root = cube_joined ss h.steps h.orders nodes 0 0 [] 0 h.last h.tree h.root;
       count = h.count;
+      needed = λ k lt. named_joined items k (h.needed k lt);
       whole =
           ap joined_items h.whole
           ∙ joined_apart h.before (leaves_items leaves ++ h.tree) (leaves_apart leaves (nat_lt 1 leaves) h.tree apart)

@@ -1,10 +1,10 @@
 -- What forced steps hold of the lines that they were made for.
-use Rattle.std.proofs.Common.{◌≡◌, ◌⊎◌, ℕ, zero, suc, ◌+◌, ◌<◌, Bool, List, [], ◌∷◌, ◌++◌, length, get_or, Some, refl, sym, ap, ◌∙◌, subst, inl, inr, arith, Bor}
+use Rattle.std.proofs.Common.{◌≡◌, ◌⊎◌, ℕ, zero, suc, ◌+◌, ◌<◌, ◌≤◌, Option, List, [], ◌∷◌, ◌++◌, length, get_or, Some, refl, sym, ap, ◌∙◌, subst, inl, inr, arith}
 use Rattle.std.specs.Prelude.{slice_get}
 use Rattle.std.specs.List.{All, Contains}
-use Rattle.std.proofs.lemmas.Option.{slice_get_within, slice_get-get_or, get_or_from_slice_get}
-use Rattle.std.proofs.lemmas.List.{length-map}
-use Rattle.std.proofs.lemmas.List.Elements.{All-nil, All-cons, All-push, All-weaker, All-contains}
+use Rattle.std.proofs.lemmas.Option.{slice_get_within, slice_get-get_or}
+use Rattle.std.proofs.lemmas.List.{length-map, map-append}
+use Rattle.std.proofs.lemmas.List.Elements.{All-nil, All-cons, All-push, All-contains}
 use Rattle.reach_laws.specs.Reach.{Walk}
 use Rattle.session_log.specs.Text.{ClientSession}
 use Rattle.serializability.specs.Polygraph.{Edge}
@@ -13,26 +13,22 @@ use Rattle.chain_laws.specs.Chains.{chain_polygraph}
 use Rattle.log_definitions.specs.Numbers.{log_of}
 use Rattle.reasons.specs.Given.{HaveNone}
 use Rattle.prune_ledger.specs.Ledger.{edges_after}
-use Rattle.prune_ledger.specs.Posted.{Posted}
 use Rattle.prune_ledger.specs.Pruned.{posts_in}
 use Rattle.prune_ledger.specs.Pruned as pruned
 use Rattle.prune_ledger.specs.declared.ledger.LedgerEntry.{LedgerEntry}
 use Rattle.tell_reasons.specs.declared.why.ChainOrder.{ChainOrder}
-use Rattle.tell_steps.specs.declared.item.Item.{Item}
-use Rattle.tell_steps.specs.Steps.{edges_in, IsOrder, IsFirstWith, NoStepHas, AreStepsTold, none, step}
-use Rattle.tell_steps.specs.Firsts.{HasSide, IsFirstIn, NoneHas}
+use Rattle.tell_steps.specs.Steps.{edges_in, IsOrder, IsFirstWith, NoStepHas}
+use Rattle.tell_steps.specs.Firsts.{HasSide, IsFirstIn, NoneHas, AreFirsts}
 use Rattle.tell_steps.specs.View.{StepsView}
-use Rattle.tell_steps.specs.Lines.{sides_of, IsBetween, IsUnshown, HasLedger, IsLineOfNodes, IsStepOf, OneHas, IsCovered, HasEdges, LineStands}
-use Rattle.tell_steps.specs.Marks as marks
+use Rattle.tell_steps.specs.Lines.{sides_of, IsBetween, IsUnshown, HasLedger, IsLineOfNodes, IsStepOf, OneHas, IsCovered, HasEdges, LineStands, AreGrounds}
+use Rattle.tell_steps.specs.declared.ground.Grounds.{Grounds}
+use Rattle.serializability.specs.declared.node.TheConstants.{MAX_NODES}
 use Rattle.tell_steps.specs.Ledgers.{AreEntries, kept_by}
-use Rattle.tell_steps.specs.Told.{AreTold}
+use Rattle.tell_steps.specs.Told.{HasSteps}
 use Rattle.tell_steps.proofs.Ledgers.{Given, map_get, order_by, edge_leads, edge_rests, walk_end}
 use Rattle.tell_steps.proofs.Places.{one_of}
 
 -- ---- places
-contains_get : {X : Type 0} (xs : List X) (k : ℕ) (x : X) → slice_get xs k ≡ Some x → Contains xs x
-contains_get xs k x e = (k, slice_get_within xs k x e, get_or_from_slice_get xs k x x e)
-
 front_at : (front back : List ℕ) (a b : ℕ) → get_or (front ++ a ∷ b ∷ back) (length front) 0 ≡ a
 front_at [] back a b = refl
 front_at (x ∷ front) back a b = front_at front back a b
@@ -72,60 +68,43 @@ round_nodes ss edges leads start inner line shape w =
     let whole : IsLineOfNodes ss (start ∷ (inner ++ start ∷ [])) = record { some = omega arith; nodes = walk_nodes (IsBetween ss) edges leads inner start start here w } in
     subst (IsLineOfNodes ss) (sym shape) whole
 
--- each step's order is one of two chains
-pub orders_told : (ss : List ClientSession) (steps : List ChainOrder) (items : List Item) → AreStepsTold ss steps items → All (IsOrder (log_of ss)) steps
-orders_told ss [] [] none = All-nil (IsOrder (log_of ss))
-orders_told ss all whole (step steps items told o two u v refuted inner against line) = All-push (IsOrder (log_of ss)) steps o (orders_told ss steps items told) two
-
 -- ---- what the lines need stands in steps
-module _ (ss : List ClientSession) (entries : List LedgerEntry) (posts : List Posted) (marked : List Bool) (numbers : List ℕ) (steps : List ChainOrder) (items : List Item) (clean : IsClean (log_of ss)) where
-  abbrev K : List ChainOrder
-  K = kept_by ss entries
+unshown : (ss : List ClientSession) (entries : List LedgerEntry) (kept : List ChainOrder) → IsClean (log_of ss) → kept ≡ kept_by ss entries → (e : Edge) → IsBetween ss e.0 → Contains (edges_after (chain_polygraph (log_of ss)) (pruned.kept_by entries)) e → HaveNone ss e.0 e.1 → IsUnshown ss (sides_of ss kept) e.0 e.1
+unshown ss entries kept clean same e lo c have =
+    let posts = posts_in entries in
+    let K = kept_by ss entries in
+    let many : length posts ≡ length K = sym (length-map posts (order_by ss)) in
+    let sides : length (sides_of ss K) ≡ length K = length-map K (edges_in (log_of ss)) in
+    let r = edge_rests ss (chain_polygraph (log_of ss)) (own_given ss clean) posts posts (length K) (λ j q at. (omega (arith, slice_get_within posts j q at, many), at)) e.0 e.1 c lo in
+    let here : IsUnshown ss (sides_of ss K) e.0 e.1 = record { first = lo; second = r.second; none = have; kept = subst (λ n. HasSide (sides_of ss K) n (e.0, e.1)) (sym sides) (r.kept have) } in
+    subst (λ k. IsUnshown ss (sides_of ss k) e.0 e.1) (sym same) here
 
-  unshown : (e : Edge) → IsBetween ss e.0 → Contains (edges_after (chain_polygraph (log_of ss)) (pruned.kept_by entries)) e → HaveNone ss e.0 e.1 → IsUnshown ss (sides_of ss K) e.0 e.1
-  unshown e lo c have =
-      let posts = posts_in entries in
-      let many : length posts ≡ length K = sym (length-map posts (order_by ss)) in
-      let sides : length (sides_of ss K) ≡ length K = length-map K (edges_in (log_of ss)) in
-      let r = edge_rests ss (chain_polygraph (log_of ss)) (own_given ss clean) posts posts (length K) (λ j q at. (omega (arith, slice_get_within posts j q at, many), at)) e.0 e.1 c lo in
-      record {
-        first = lo;
-        second = r.second;
-        none = have;
-        kept = subst (λ n. HasSide (sides_of ss K) n (e.0, e.1)) (sym sides) (r.kept have);
-      }
+pub line_covered : (ss : List ClientSession) (entries : List LedgerEntry) (kept steps : List ChainOrder) → IsClean (log_of ss) → kept ≡ kept_by ss entries → (line : List ℕ) → HasSteps ss kept steps line → IsCovered (record { sessions = ss; entries = entries; orders = steps }) line
+line_covered ss entries kept steps clean same line h = record {
+  each = λ e at lo c have.
+      (let i = length at.front in
+      let within : i + 1 < length line = subst (λ l. i + 1 < length l) (sym at.shape) (front_within at.front at.back e.0 e.1) in
+      let a : get_or line i 0 ≡ e.0 = ap (λ l. get_or l i 0) at.shape ∙ front_at at.front at.back e.0 e.1 in
+      let b : get_or line (i + 1) 0 ≡ e.1 = ap (λ l. get_or l (i + 1) 0) at.shape ∙ front_next at.front at.back e.0 e.1 in
+      let P : ℕ → ℕ → Type 0 = λ u v. IsUnshown ss (sides_of ss kept) u v → OneHas ss steps (u, v) in
+      let there : P (get_or line i 0) (get_or line (i + 1) 0) = h.each i within in
+      let here : P e.0 e.1 = subst (λ u. P u e.1) a (subst (λ v. P (get_or line i 0) v) b there) in
+      here (unshown ss entries kept clean same e lo c have));
+}
 
-  has_step : AreTold ss K posts marked numbers steps (length K) items → (e : Edge) → marks.IsMarked (sides_of ss K) marked e → OneHas ss steps e
-  has_step t e m =
-      let log = log_of ss in
-      let sides : length (sides_of ss K) ≡ length K = length-map K (edges_in log) in
-      let below : m.entry < length K = omega (arith, sides, slice_get_within (sides_of ss K) m.entry m.first.side m.first.at) in
-      let n = t.numbered m.entry below m.marked in
-      let side : m.first.side ≡ edges_in log n.order = one_of (sides_of ss K) m.entry m.first.side (edges_in log n.order) m.first.at (map_get (edges_in log) K m.entry n.order n.at) in
-      let P : List Edge → Type 0 = λ l. Contains l e in
-      record {
-        order = n.order;
-        among = contains_get steps (get_or numbers m.entry 0) n.order n.stands;
-        has = subst P side m.first.within;
-      }
-
-  line_covered : AreTold ss K posts marked numbers steps (length K) items → (line : List ℕ) → marks.IsCovered ss (sides_of ss K) marked line (length line) → IsCovered (record { sessions = ss; entries = entries; orders = steps }) line
-  line_covered t line h = record {
-    each = λ e at lo c have.
-        (let i = length at.front in
-        let within : i + 1 < length line = subst (λ l. i + 1 < length l) (sym at.shape) (front_within at.front at.back e.0 e.1) in
-        let a : get_or line i 0 ≡ e.0 = ap (λ l. get_or l i 0) at.shape ∙ front_at at.front at.back e.0 e.1 in
-        let b : get_or line (i + 1) 0 ≡ e.1 = ap (λ l. get_or l (i + 1) 0) at.shape ∙ front_next at.front at.back e.0 e.1 in
-        let P : ℕ → ℕ → Type 0 = λ u v. IsUnshown ss (sides_of ss K) u v → marks.IsMarked (sides_of ss K) marked (u, v) in
-        let there : P (get_or line i 0) (get_or line (i + 1) 0) = h.each i (omega (arith, within)) within in
-        let here : P e.0 e.1 = subst (λ u. P u e.1) a (subst (λ v. P (get_or line i 0) v) b there) in
-        has_step t e (here (unshown e lo c have)));
-  }
-
-  pub lines_covered : AreTold ss K posts marked numbers steps (length K) items → (lines : List (Bor (List ℕ))) → All (λ (l : Bor (List ℕ)). marks.IsCovered ss (sides_of ss K) marked l.now (length l.now)) lines
-      → All (λ (l : Bor (List ℕ)). IsCovered (record { sessions = ss; entries = entries; orders = steps }) l.now) lines
-  lines_covered t lines h = All-weaker (λ (l : Bor (List ℕ)). marks.IsCovered ss (sides_of ss K) marked l.now (length l.now)) (λ (l : Bor (List ℕ)). IsCovered (record { sessions = ss; entries = entries; orders = steps }) l.now)
-      (λ l c. line_covered t l.now c) lines h
+-- ---- one more order
+pub grounds_more : (ss : List ClientSession) (old new : Grounds) (o : ChainOrder) (table : List (Option ℕ)) → AreGrounds ss old → IsOrder (log_of ss) o → new.nodes ≡ old.nodes → new.kept.items ≡ old.kept.items ++ o ∷ [] → new.firsts.items ≡ table
+    → ((sides : List (List Edge)) → length sides ≡ length old.kept.items → AreFirsts old.nodes sides old.firsts.items → AreFirsts old.nodes (sides ++ edges_in (log_of ss) o ∷ []) table) → AreGrounds ss new
+grounds_more ss old new o table h two nodes kept firsts noted =
+    let log = log_of ss in
+    let sides : sides_of ss old.kept.items ++ edges_in log o ∷ [] ≡ sides_of ss new.kept.items = sym (map-append (edges_in log) old.kept.items (o ∷ [])) ∙ sym (ap (sides_of ss) kept) in
+    let here = noted (sides_of ss old.kept.items) (length-map old.kept.items (edges_in log)) h.firsts in
+    record {
+      nodes = nodes ∙ h.nodes;
+      few = subst (λ n. n ≤ MAX_NODES) (sym nodes) h.few;
+      orders = subst (All (IsOrder log)) (sym kept) (All-push (IsOrder log) old.kept.items o h.orders two);
+      firsts = subst (λ n. AreFirsts n (sides_of ss new.kept.items) new.firsts.items) (sym nodes) (subst (AreFirsts old.nodes (sides_of ss new.kept.items)) (sym firsts) (subst (λ l. AreFirsts old.nodes l table) sides here));
+    }
 
 -- ---- why an edge stands
 pub first_step : (ss : List ClientSession) (steps : List ChainOrder) (e : Edge) (k : ℕ) (o : ChainOrder) → slice_get steps k ≡ Some o → IsFirstIn (sides_of ss steps) e k → IsFirstWith (log_of ss) steps k o e
@@ -150,16 +129,6 @@ no_step ss steps e n = record {
       let at : slice_get steps among.0 ≡ Some o = slice_get-get_or steps among.0 o among.1 ∙ ap Some among.2 in
       n.none among.0 (edges_in log o) (map_get (edges_in log) steps among.0 o at) c);
 }
-
-pub steps_covered : (ss : List ClientSession) (entries : List LedgerEntry) (kept : List ChainOrder) (posts : List Posted) (marked : List Bool) (numbers : List ℕ) (steps orders : List ChainOrder) (items : List Item) → IsClean (log_of ss) → kept ≡ kept_by ss entries → orders ≡ steps
-    → AreTold ss kept posts marked numbers steps (length kept) items → (lines : List (Bor (List ℕ))) → All (λ (l : Bor (List ℕ)). marks.IsCovered ss (sides_of ss kept) marked l.now (length l.now)) lines
-    → All (λ (l : Bor (List ℕ)). IsCovered (record { sessions = ss; entries = entries; orders = orders }) l.now) lines
-steps_covered ss entries kept posts marked numbers steps orders items clean e same t lines h =
-    let told : AreTold ss (kept_by ss entries) posts marked numbers steps (length (kept_by ss entries)) items = subst (λ k. AreTold ss k posts marked numbers steps (length k) items) e t in
-    let covered : All (λ (l : Bor (List ℕ)). marks.IsCovered ss (sides_of ss (kept_by ss entries)) marked l.now (length l.now)) lines =
-    subst (λ k. All (λ (l : Bor (List ℕ)). marks.IsCovered ss (sides_of ss k) marked l.now (length l.now)) lines) e h in
-    let P : List ChainOrder → Type 0 = λ os. All (λ (l : Bor (List ℕ)). IsCovered (record { sessions = ss; entries = entries; orders = os }) l.now) lines in
-    subst P (sym same) (lines_covered ss entries posts marked numbers steps items clean told lines covered)
 
 -- ---- lines over what steps and decided orders have
 step_at : (line : List ℕ) (i : ℕ) → i + 1 < length line → IsStepOf line (get_or line i 0, get_or line (i + 1) 0)

@@ -349,8 +349,7 @@ closed_of ss entries clean d line c =
     let rests : LineRests ss (sides_of ss K) (length K) (c.0 ∷ (w.inner ++ c.0 ∷ [])) =
     walk_rests ss (sides_of ss K) (length K) edges (edge_rests ss p g posts posts (length K) (λ j q e. (omega (arith, slice_get_within posts j q e, many), e))) w.inner c.0 c.0 start w.steps in
     record {
-      start = c.0;
-      ends = record { inner = w.inner; shape = w.shape };
+      round = record { start = c.0; ends = record { inner = w.inner; shape = w.shape } };
       rests = subst (LineRests ss (sides_of ss K) (length K)) (sym w.shape) rests;
     }
 

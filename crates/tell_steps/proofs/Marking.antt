@@ -12,7 +12,6 @@ use Rattle.prune_ledger.specs.Posted.{Posted}
 use Rattle.prune_ledger.specs.declared.ledger.LedgerEntry.{LedgerEntry}
 use Rattle.tell_steps.specs.Lines.{IsUnshown, LineRests, IsEntry}
 use Rattle.tell_steps.specs.Marks.{is_set, IsMarked, AreMore, AreSameFrom, AreNoOthers, IsFirstUnshown, IsNeededBy, IsEdgeMarked, IsCovered, IsLineMarked, IsWalkMarked, AreCovered, IsNeededByLine, IsNeededByWalk, AreNeeded}
-use Rattle.known_graph.proofs.Listed.{In-from_Contains}
 use Rattle.tell_steps.proofs.FirstSides.{Sides, first_below}
 use Rattle.tell_steps.proofs.Places.{one_of}
 
@@ -152,17 +151,6 @@ all_needed ss sides entries lines first mid new blank h w = record {
     | inr n ↦ inr n
   ];
 }
-
--- of one line
-pub needed_by_one : (ss : List ClientSession) (sides : Sides) (marks : List Bool) (entries : List LedgerEntry) (l : Bor (List ℕ)) → AreNeeded ss sides marks entries (l ∷ []) → (k : ℕ) → is_set marks k ≡ true
-    → IsNeededBy ss sides l.now k ⊎ IsNeededByWalk ss sides marks entries k
-needed_by_one ss sides marks entries l h k t = elim (h.each k t) [
-  | inl n ↦ inl (elim (In-from_Contains (l ∷ []) n.line n.among) [
-    | inl same ↦ subst (λ (x : Bor (List ℕ)). IsNeededBy ss sides x.now k) (sym same) n.edge
-    | inr none ↦ absurd none
-  ])
-  | inr w ↦ inr w
-]
 
 pub lines_covered_more : (ss : List ClientSession) (sides : Sides) (a b : List Bool) (lines : List (Bor (List ℕ))) → AreMore a b → All (λ (l : Bor (List ℕ)). IsCovered ss sides a l.now (length l.now)) lines → All (λ (l : Bor (List ℕ)). IsCovered ss sides b l.now (length l.now)) lines
 lines_covered_more ss sides a b lines m h = All-weaker (λ (l : Bor (List ℕ)). IsCovered ss sides a l.now (length l.now)) (λ (l : Bor (List ℕ)). IsCovered ss sides b l.now (length l.now)) (λ l c. covered_more ss sides a b l.now (length l.now) m c) lines h

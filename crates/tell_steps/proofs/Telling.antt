@@ -1,12 +1,13 @@
 -- How lines and steps are told.
-use Rattle.std.proofs.Common.{◌≡◌, ℕ, zero, suc, ◌+◌, ◌-◌, ◌<◌, ◌≤◌, Bool, true, false, List, [], ◌∷◌, ◌++◌, length, get_or, set, drop, Some, ◌⊎◌, sym, ap, ◌∙◌, subst, inl, inr, arith, append_assoc}
+use Rattle.std.proofs.Common.{◌≡◌, ◌⊎◌, ℕ, zero, suc, ◌+◌, ◌-◌, ◌<◌, ◌≤◌, Bool, true, false, List, [], ◌∷◌, ◌++◌, length, get_or, drop, Some, refl, sym, ap, ◌∙◌, subst, inl, inr, arith, append_assoc, Bor}
 use Rattle.std.specs.Prelude.{slice_get}
-use Rattle.std.specs.List.{Contains}
+use Rattle.std.specs.List.{All, Contains}
 use Rattle.std.proofs.lemmas.Bool.{cases_lt, false≢true}
-use Rattle.std.proofs.lemmas.Option.{slice_get_within}
-use Rattle.std.proofs.lemmas.List.{append-nil, drop_more, drop_all, get_or-set_same, get_or-set_other, length_push}
-use Rattle.std.proofs.lemmas.List.Elements.{Contains-append_left, Contains-append_right}
+use Rattle.std.proofs.lemmas.Option.{slice_get_within, get_or_from_slice_get}
+use Rattle.std.proofs.lemmas.List.{append-nil, drop_more, drop_all, length_push, length-map}
+use Rattle.std.proofs.lemmas.List.Elements.{Contains-append_left, Contains-append_right, All-weaker}
 use Rattle.reach_laws.proofs.Walks.{Contains-here}
+use Rattle.known_graph.proofs.Listed.{In-from_Contains}
 use Rattle.session_log.specs.Text.{ClientSession}
 use Rattle.serializability.specs.Polygraph.{Edge}
 use Rattle.log_definitions.specs.Numbers.{log_of}
@@ -19,17 +20,17 @@ use Rattle.tell_reasons.specs.declared.why.Why.{Why}
 use Rattle.tell_reasons.specs.declared.why.Why.TheVariants.{Known, Forced, Chosen}
 use Rattle.tell_steps.specs.declared.item.Item.{Item}
 use Rattle.tell_steps.specs.declared.item.Item.TheVariants as item
-use Rattle.tell_steps.specs.Steps.{turned, edges_in, IsOrder, Follows, IsFirstWith, IsWhy, IsLineTold, ends, goes, AreStepsTold, none, step, closes, IsNamed, IsDeadTold}
-use Rattle.tell_steps.specs.Firsts.{IsFirstIn}
-use Rattle.tell_steps.specs.Lines.{sides_of, IsUnshown, LineRests}
-use Rattle.tell_steps.specs.Marks.{is_set, IsCovered, IsNeededBy, IsNeededByWalk}
+use Rattle.tell_steps.specs.Steps.{turned, edges_in, IsOrder, Follows, IsFirstWith, IsWhy, IsLineTold, ends, goes, AreStepsTold, none, step, IsCycleTold, closes, IsNamed, IsDeadTold}
+use Rattle.tell_steps.specs.Firsts.{IsFirstIn, HasSide}
+use Rattle.tell_steps.specs.Lines.{sides_of, IsUnshown, LineRests, OneHas, LineStands, IsRound, IsNeededIn}
+use Rattle.tell_steps.specs.Marks.{is_set, IsMarked, IsCovered, AreNeeded}
 use Rattle.tell_steps.specs.Ledgers.{IsStep, IsClosed}
-use Rattle.tell_steps.specs.Told.{LineNumbered, IsPut, EdgesTold, LinePut, StepPut, IsKeptBefore, IsNumberOf, IsOfMarked, IsLineNamed, AreTold}
+use Rattle.tell_steps.specs.Told.{IsPut, EdgesTold, IsRoundTold, IsStepTold, IsKeptBefore, IsTold, HasStep, IsOfMarked, IsEdgeTold, AreEdgesTold, AreTold, HasSteps, AreToldFor}
 use Rattle.desk.proofs.Seating.{get_front, get_last}
-use Rattle.tell_steps.proofs.Places.{get_cases, one_of}
-use Rattle.tell_steps.proofs.FirstSides.{Sides, first_unique, first_below}
+use Rattle.tell_steps.proofs.Places.{get_cases, one_of, contains_get}
+use Rattle.tell_steps.proofs.FirstSides.{first_below}
 use Rattle.tell_steps.proofs.Answers.{reason_not_none}
-use Rattle.tell_steps.proofs.Ledgers.{get_map, map_get, posts_many}
+use Rattle.tell_steps.proofs.Ledgers.{map_get, posts_many}
 
 -- ---- the edges of a line
 edges_more : (ss : List ClientSession) (steps decided : List ChainOrder) (line : List ℕ) (i : ℕ) (before : List Item) (why : Why) → i + 1 < length line → EdgesTold ss steps decided line i before
@@ -74,46 +75,18 @@ pub put_all : (ss : List ClientSession) (steps decided : List ChainOrder) (line 
     → IsPut out new (IsLineTold ss steps decided line)
 put_all ss steps decided line i out new some le lt h = record { items = h.items; appended = h.appended; kind = edges_all ss steps decided line i h.items some le lt h.kind }
 
--- ---- numbers of steps
-first_with : (ss : List ClientSession) (kept steps : List ChainOrder) (e : Edge) (k r : ℕ) (o : ChainOrder) → slice_get kept k ≡ Some o → IsFirstIn (sides_of ss kept) e k → IsNumberOf kept steps k r → IsFirstWith (log_of ss) steps r o e
-first_with ss kept steps e k r o here f m =
-    let log = log_of ss in
-    let same : m.order ≡ o = one_of kept k m.order o m.at here in
-    let side : f.side ≡ edges_in log o = one_of (sides_of ss kept) k f.side (edges_in log o) f.at (map_get (edges_in log) kept k o here) in
-    let P : List Edge → Type 0 = λ l. Contains l e in
-    let Stands : ChainOrder → Type 0 = λ z. slice_get steps r ≡ Some z in
-    record {
-      at = subst Stands same m.stands;
-      has = subst P side f.within;
-      before = λ s o' lt at c.
-          (let b = m.earlier s o' lt at in
-          f.first b.entry (edges_in log o') b.below (map_get (edges_in log) kept b.entry o' b.at) c);
-    }
+-- ---- edges among items
+edge_told : (ss : List ClientSession) (steps decided : List ChainOrder) (line : List ℕ) (items : List Item) → IsLineTold ss steps decided line items → (i : ℕ) → i + 1 < length line → IsEdgeTold ss steps decided (get_or line i 0) (get_or line (i + 1) 0) items
+edge_told ss steps decided line items (ends v) i lt = absurd (omega (arith, lt))
+edge_told ss steps decided line items (goes a b rest why more w h) zero lt = record { why = why; by = w; among = Contains-here (item.Edge a b why) more }
+edge_told ss steps decided line items (goes a b rest why more w h) (suc i) lt =
+    let e : suc i + 1 ≡ suc (i + 1) = omega arith in
+    let u = get_or (b ∷ rest) i 0 in
+    let v = get_or (b ∷ rest) (i + 1) 0 in
+    let t = edge_told ss steps decided (b ∷ rest) more h i (omega (arith, lt)) in
+    let there : IsEdgeTold ss steps decided u v (item.Edge a b why ∷ more) = record { why = t.why; by = t.by; among = Contains-append_right (item.Edge a b why ∷ []) more (item.Edge u v t.why) t.among } in
+    subst (λ k. IsEdgeTold ss steps decided u (get_or (a ∷ b ∷ rest) k 0) (item.Edge a b why ∷ more)) (sym e) there
 
--- the marked entries that the line needs are told already
-pub line_numbered : (ss : List ClientSession) (kept : List ChainOrder) (posts : List Posted) (marks : List Bool) (numbers : List ℕ) (steps : List ChainOrder) (entries : ℕ) (items : List Item) (line : List ℕ) → AreTold ss kept posts marks numbers steps entries items
-    → LineRests ss (sides_of ss kept) entries line → IsCovered ss (sides_of ss kept) marks line (length line) → LineNumbered ss kept numbers steps line
-line_numbered ss kept posts marks numbers steps entries items line t rests covered = record {
-  each = λ i lt. record {
-    number = λ none_ k o here first.
-        (let r = rests.each i lt in
-        let k' = r.kept none_ in
-        let u : IsUnshown ss (sides_of ss kept) (get_or line i 0) (get_or line (i + 1) 0) = record {
-          first = r.first;
-          second = r.second;
-          none = none_;
-          kept = record { number = k'.number; below = slice_get_within (sides_of ss kept) k'.number k'.side k'.at; side = k'.side; at = k'.at; within = k'.within };
-        } in
-        let m = covered.each i (omega (arith, lt)) lt u in
-        let e : Edge = (get_or line i 0, get_or line (i + 1) 0) in
-        let same : m.entry ≡ k = first_unique (sides_of ss kept) e m.entry k m.first first in
-        let below : k < entries = first_below (sides_of ss kept) entries e k first ((rests.each i lt).kept none_) in
-        let marked : is_set marks k ≡ true = ap (λ j. get_or marks j false) (sym same) ∙ m.marked in
-        first_with ss kept steps e k (get_or numbers k 0) o here first (t.numbered k below marked));
-  };
-}
-
--- ---- names
 -- why an edge stands of which the log shows no reason
 one_step : (ss : List ClientSession) (steps : List ChainOrder) (e : Edge) (j k : ℕ) (o p : ChainOrder) → IsFirstWith (log_of ss) steps j o e → IsFirstWith (log_of ss) steps k p e → j ≡ k
 one_step ss steps e j k o p f g = elim (cases_lt j k) [
@@ -124,102 +97,57 @@ one_step ss steps e j k o p f g = elim (cases_lt j k) [
   ])
 ]
 
-why_forced : (ss : List ClientSession) (steps : List ChainOrder) (a b r : ℕ) (o : ChainOrder) (why : Why) → IsWhy ss steps [] a b why → HaveNone ss a b → IsFirstWith (log_of ss) steps r o (a, b) → why ≡ Forced r o
-why_forced ss steps a b r o (Known x) w have f = absurd (reason_not_none ss a b x w.0 have)
-why_forced ss steps a b r o (Forced k p) w have f =
+why_forced : (ss : List ClientSession) (steps decided : List ChainOrder) (a b r : ℕ) (o : ChainOrder) (why : Why) → IsWhy ss steps decided a b why → HaveNone ss a b → IsFirstWith (log_of ss) steps r o (a, b) → why ≡ Forced r o
+why_forced ss steps decided a b r o (Known x) w have f = absurd (reason_not_none ss a b x w.0 have)
+why_forced ss steps decided a b r o (Forced k p) w have f =
     let e : k ≡ r = one_step ss steps (a, b) k r p o w.1 f in
     let Stands : ℕ → Type 0 = λ n. slice_get steps n ≡ Some p in
     let same : p ≡ o = one_of steps r p o (subst Stands e w.1.at) f.at in
     ap (λ n. Forced n p) e ∙ ap (λ z. Forced r z) same
-why_forced ss steps a b r o (Chosen p) w have f = absurd (omega (arith, w.2.1))
+why_forced ss steps decided a b r o (Chosen p) w have f = absurd (w.1.none o (contains_get steps r o f.at) f.has)
 
--- an edge of a told line that stands by a step
-edge_told : (ss : List ClientSession) (steps : List ChainOrder) (line : List ℕ) (items : List Item) → IsLineTold ss steps [] line items → (i r : ℕ) (o : ChainOrder) → i + 1 < length line → HaveNone ss (get_or line i 0) (get_or line (i + 1) 0)
-    → IsFirstWith (log_of ss) steps r o (get_or line i 0, get_or line (i + 1) 0) → Contains items (item.Edge (get_or line i 0) (get_or line (i + 1) 0) (Forced r o))
-edge_told ss steps line items (ends v) i r o lt have f = absurd (omega (arith, lt))
-edge_told ss steps line items (goes a b rest why more w h) zero r o lt have f =
-    let P : Why → Type 0 = λ y. Contains (item.Edge a b why ∷ more) (item.Edge a b y) in
-    subst P (why_forced ss steps a b r o why w have f) (Contains-here (item.Edge a b why) more)
-edge_told ss steps line items (goes a b rest why more w h) (suc i) r o lt have f =
-    let e : suc i + 1 ≡ suc (i + 1) = omega arith in
-    let u = get_or (b ∷ rest) i 0 in
-    let P : ℕ → Type 0 = λ k. HaveNone ss u (get_or (a ∷ b ∷ rest) k 0) → IsFirstWith (log_of ss) steps r o (u, get_or (a ∷ b ∷ rest) k 0) → Contains (item.Edge a b why ∷ more) (item.Edge u (get_or (a ∷ b ∷ rest) k 0) (Forced r o)) in
-    let there : P (suc (i + 1)) = λ n g. Contains-append_right (item.Edge a b why ∷ []) more (item.Edge u (get_or (b ∷ rest) (i + 1) 0) (Forced r o)) (edge_told ss steps (b ∷ rest) more h i r o (omega (arith, lt)) n g) in
-    subst P (sym e) there have f
+edge_named : (ss : List ClientSession) (steps decided : List ChainOrder) (a b r : ℕ) (o : ChainOrder) (items : List Item) → IsEdgeTold ss steps decided a b items → HaveNone ss a b → IsFirstWith (log_of ss) steps r o (a, b) → IsNamed items r
+edge_named ss steps decided a b r o items t have f =
+    let P : Why → Type 0 = λ why. Contains items (item.Edge a b why) in
+    record { first = a; second = b; order = o; among = subst P (why_forced ss steps decided a b r o t.why t.by have f) t.among }
 
-line_named : (ss : List ClientSession) (kept : List ChainOrder) (numbers : List ℕ) (steps : List ChainOrder) (entries : ℕ) (line : List ℕ) (items : List Item) → LineRests ss (sides_of ss kept) entries line → LineNumbered ss kept numbers steps line
-    → IsLineTold ss steps [] line items → IsLineNamed ss (sides_of ss kept) numbers entries line items
-line_named ss kept numbers steps entries line items rests n told = record {
-  each = λ i lt k f.
-      (let r = get_map (edges_in (log_of ss)) kept k f.first.side f.first.at in
+pub named_among : (items new : List Item) (r : ℕ) → ((x : Item) → Contains items x → Contains new x) → IsNamed items r → IsNamed new r
+named_among items new r up n = record { first = n.first; second = n.second; order = n.order; among = up (item.Edge n.first n.second (Forced r n.order)) n.among }
+
+-- a step that a told line needs
+pub needed_named : (ss : List ClientSession) (steps decided : List ChainOrder) (lines : List (Bor (List ℕ))) (r : ℕ) (items : List Item) (n : IsNeededIn ss steps lines r) → IsLineTold ss steps decided n.line.now items → IsNamed items r
+needed_named ss steps decided lines r items n h =
+    let line = n.line.now in
+    edge_named ss steps decided (get_or line n.place 0) (get_or line (n.place + 1) 0) r n.order items (edge_told ss steps decided line items h n.place n.within) n.none n.first
+
+-- ---- more steps
+why_later : (ss : List ClientSession) (steps : List ChainOrder) (o : ChainOrder) (a b : ℕ) (why : Why) → IsWhy ss steps [] a b why → IsWhy ss (steps ++ o ∷ []) [] a b why
+why_later ss steps o a b (Known r) w = w
+why_later ss steps o a b (Forced k p) w =
+    let f = w.1 in (
+      w.0,
       record {
-        below = first_below (sides_of ss kept) entries (get_or line i 0, get_or line (i + 1) 0) k f.first ((rests.each i lt).kept f.none);
-        order = r.0;
-        among = edge_told ss steps line items told i (get_or numbers k 0) r.0 lt f.none ((n.each i lt).number f.none k r.0 r.1.0 f.first);
-      });
+        at = get_front steps (o ∷ []) k p f.at;
+        has = f.has;
+        before = λ j q lt at c. elim (get_cases steps o q j at) [
+          | inl before ↦ f.before j q lt before c
+          | inr last ↦ absurd (omega (arith, last.0, lt, slice_get_within steps k p f.at))
+        ];
+      },
+    )
+why_later ss steps o a b (Chosen p) w = absurd (omega (arith, w.2.1))
+
+edges_later : (ss : List ClientSession) (steps : List ChainOrder) (o : ChainOrder) (line : List ℕ) (items new : List Item) → ((x : Item) → Contains items x → Contains new x) → AreEdgesTold ss steps line items → AreEdgesTold ss (steps ++ o ∷ []) line new
+edges_later ss steps o line items new up h = record {
+  each = λ i lt.
+      (let t = h.each i lt in
+      let a = get_or line i 0 in
+      let b = get_or line (i + 1) 0 in
+      record { why = t.why; by = why_later ss steps o a b t.why t.by; among = up (item.Edge a b t.why) t.among });
 }
 
-named_among : (ss : List ClientSession) (sides : Sides) (numbers : List ℕ) (entries : ℕ) (line : List ℕ) (items new : List Item) → ((x : Item) → Contains items x → Contains new x) → IsLineNamed ss sides numbers entries line items
-    → IsLineNamed ss sides numbers entries line new
-named_among ss sides numbers entries line items new up h = record {
-  each = λ i lt k f. (let n = h.each i lt k f in record { below = n.below; order = n.order; among = up (item.Edge (get_or line i 0) (get_or line (i + 1) 0) (Forced (get_or numbers k 0) n.order)) n.among });
-}
-
-named_later : (ss : List ClientSession) (sides : Sides) (numbers : List ℕ) (i : ℕ) (line : List ℕ) (items : List Item) → IsLineNamed ss sides numbers i line items → IsLineNamed ss sides numbers (i + 1) line items
-named_later ss sides numbers i line items h = record { each = λ j lt k f. (let n = h.each j lt k f in record { below = omega (arith, n.below); order = n.order; among = n.among }) }
-
--- the entry behind these has a number now
-number_before : (numbers : List ℕ) (i count k : ℕ) → k < i → get_or numbers k 0 ≡ get_or (set numbers i count) k 0
-number_before numbers i count k below = let apart : k ≡ i → ⊥ = λ e. omega (arith, e, below) in sym (get_or-set_other numbers i k count 0 apart)
-
-named_next : (ss : List ClientSession) (sides : Sides) (numbers : List ℕ) (i count : ℕ) (line : List ℕ) (items : List Item) → IsLineNamed ss sides numbers i line items → IsLineNamed ss sides (set numbers i count) (i + 1) line items
-named_next ss sides numbers i count line items h = record {
-  each = λ j lt k f.
-      (let n = h.each j lt k f in
-      let P : ℕ → Type 0 = λ r. Contains items (item.Edge (get_or line j 0) (get_or line (j + 1) 0) (Forced r n.order)) in
-      record { below = omega (arith, n.below); order = n.order; among = subst P (number_before numbers i count k n.below) n.among });
-}
-
-of_later : (marks : List Bool) (numbers : List ℕ) (i s : ℕ) → IsOfMarked marks numbers i s → IsOfMarked marks numbers (i + 1) s
-of_later marks numbers i s h = record { entry = h.entry; below = omega (arith, h.below); marked = h.marked; number = h.number }
-
-of_next : (marks : List Bool) (numbers : List ℕ) (i count s : ℕ) → IsOfMarked marks numbers i s → IsOfMarked marks (set numbers i count) (i + 1) s
-of_next marks numbers i count s h = record { entry = h.entry; below = omega (arith, h.below); marked = h.marked; number = sym (number_before numbers i count h.entry h.below) ∙ h.number }
-
--- ---- steps
-pub told_none : (ss : List ClientSession) (kept : List ChainOrder) (posts : List Posted) (marks : List Bool) (numbers : List ℕ) → AreTold ss kept posts marks numbers [] 0 []
-told_none ss kept posts marks numbers = record {
-  told = none;
-  from = λ s o at. absurd (cc);
-  numbered = λ k lt t. absurd (omega (arith, lt));
-  only = λ s lt. absurd (omega (arith, lt));
-  walks = λ k q lt at t. absurd (omega (arith, lt));
-}
-
-kept_later : (kept : List ChainOrder) (i : ℕ) (o : ChainOrder) → IsKeptBefore kept i o → IsKeptBefore kept (i + 1) o
-kept_later kept i o h = record { entry = h.entry; below = omega (arith, h.below); at = h.at }
-
-pub told_skip : (ss : List ClientSession) (kept : List ChainOrder) (posts : List Posted) (marks : List Bool) (numbers : List ℕ) (steps : List ChainOrder) (i : ℕ) (items : List Item) → is_set marks i ≡ false → AreTold ss kept posts marks numbers steps i items
-    → AreTold ss kept posts marks numbers steps (i + 1) items
-told_skip ss kept posts marks numbers steps i items f t = record {
-  told = t.told;
-  from = λ s o at. kept_later kept i o (t.from s o at);
-  numbered = λ k lt m. elim (cases_lt k i) [
-    | inl below ↦ t.numbered k below m
-    | inr ge ↦ absurd (unmarked k lt ge m)
-  ];
-  only = λ s lt. of_later marks numbers i s (t.only s lt);
-  walks = λ k q lt at m. elim (cases_lt k i) [
-    | inl below ↦ named_later ss (sides_of ss kept) numbers i q.walk items (t.walks k q below at m)
-    | inr ge ↦ absurd (unmarked k lt ge m)
-  ];
-}
-  where
-    unmarked : (k : ℕ) → k < i + 1 → i ≤ k → is_set marks k ≡ true → ⊥
-    unmarked k lt ge m = let same : k ≡ i = omega (arith, lt, ge) in false≢true (sym f ∙ ap (λ j. get_or marks j false) (sym same) ∙ m)
-
-number_kept : (kept steps : List ChainOrder) (o : ChainOrder) (k r : ℕ) → IsNumberOf kept steps k r → IsNumberOf kept (steps ++ o ∷ []) k r
-number_kept kept steps o k r m = record {
+told_later : (kept steps : List ChainOrder) (o : ChainOrder) (k r : ℕ) → IsTold kept steps k r → IsTold kept (steps ++ o ∷ []) k r
+told_later kept steps o k r m = record {
   order = m.order;
   at = m.at;
   stands = get_front steps (o ∷ []) r m.order m.stands;
@@ -229,122 +157,223 @@ number_kept kept steps o k r m = record {
   ];
 }
 
--- a marked entry, told behind these steps
-pub told_step : (ss : List ClientSession) (kept : List ChainOrder) (posts : List Posted) (marks : List Bool) (numbers : List ℕ) (steps : List ChainOrder) (i number : ℕ) (o : ChainOrder) (q : Posted) (items new : List Item) → number ≡ length steps + 1 → i < length numbers
-    → slice_get kept i ≡ Some o → slice_get posts i ≡ Some q → is_set marks i ≡ true → IsStep ss kept i q → IsCovered ss (sides_of ss kept) marks q.walk (length q.walk) → StepPut ss kept numbers number o q items new
-    → AreTold ss kept posts marks numbers steps i items → AreTold ss kept posts marks (set numbers i (length steps)) (steps ++ o ∷ []) (i + 1) new
-told_step ss kept posts marks numbers steps i number o q items new is room at here marked s covered put t =
-    let next = steps ++ o ∷ [] in
-    let count = length steps in
-    let same : s.order ≡ o = one_of kept i s.order o s.at at in
-    let sides = sides_of ss kept in
-    let numbered = line_numbered ss kept posts marks numbers steps i items q.walk t s.rests covered in
-    let more = put.each steps numbered in
-    let h = more.kind in
-    let got : get_or (set numbers i count) i 0 ≡ count = get_or-set_same numbers i count 0 room in
-    let front : (x : Item) → Contains items x → Contains new x = λ x c. subst (λ l. Contains l x) (sym more.appended) (Contains-append_left items more.items x c) in
-    let back : (x : Item) → Contains h.against x → Contains new x = λ x c.
-    (let Among : List Item → Type 0 = λ l. Contains l x in
-    let put_there : Among more.items = subst Among (sym h.whole) (Contains-append_right (item.Step number o q.edge.0 q.edge.1 ∷ []) h.against x c) in
-    subst Among (sym more.appended) (Contains-append_right items more.items x put_there)) in
-    let own : IsLineNamed ss sides (set numbers i count) (i + 1) q.walk new =
-    named_next ss sides numbers i count q.walk new (named_among ss sides numbers i q.walk h.against new back (line_named ss kept numbers steps i q.walk h.against s.rests numbered h.line)) in
-    let two_chains : IsOrder (log_of ss) o = subst (IsOrder (log_of ss)) same s.two_chains in
-    let Refuted : ChainOrder → Type 0 = λ z. Follows (log_of ss) (turned z) (q.edge.0, q.edge.1) in
-    let refuted : Refuted o = subst Refuted same s.refuted in
-    let told_next : AreStepsTold ss next (items ++ (item.Step (count + 1) o q.edge.0 q.edge.1 ∷ h.against)) =
-    step steps items t.told o two_chains q.edge.0 q.edge.1 refuted s.ends.inner h.against (subst (λ l. IsLineTold ss steps [] l h.against) s.ends.shape h.line) in
-    let whole : items ++ (item.Step (count + 1) o q.edge.0 q.edge.1 ∷ h.against) ≡ new =
-    ap (λ n. items ++ (item.Step n o q.edge.0 q.edge.1 ∷ h.against)) (sym is) ∙ ap (λ l. items ++ l) (sym h.whole) ∙ sym more.appended in
+-- ---- what lines rest on among steps
+first_with : (ss : List ClientSession) (kept steps : List ChainOrder) (e : Edge) (k r : ℕ) → IsFirstIn (sides_of ss kept) e k → (m : IsTold kept steps k r) → IsFirstWith (log_of ss) steps r m.order e
+first_with ss kept steps e k r f m =
+    let log = log_of ss in
+    let side : f.side ≡ edges_in log m.order = one_of (sides_of ss kept) k f.side (edges_in log m.order) f.at (map_get (edges_in log) kept k m.order m.at) in
+    let P : List Edge → Type 0 = λ l. Contains l e in
     record {
-      told = subst (AreStepsTold ss next) whole told_next;
-      from = λ r p at'. elim (get_cases steps o p r at') [
-        | inl before ↦ kept_later kept i p (t.from r p before)
-        | inr last ↦ record { entry = i; below = omega arith; at = subst (λ z. slice_get kept i ≡ Some z) last.1 at }
-      ];
-      numbered = λ k lt m. elim (cases_lt k i) [
-        | inl below ↦ subst (IsNumberOf kept next k) (number_before numbers i count k below) (number_kept kept steps o k (get_or numbers k 0) (t.numbered k below m))
-        | inr ge ↦ (let is_last : k ≡ i = omega (arith, lt, ge) in
-            let now : IsNumberOf kept next i count = record {
-              order = o;
-              at = at;
-              stands = get_last steps o;
-              earlier = λ r p lt' at'. elim (get_cases steps o p r at') [
-                | inl before ↦ t.from r p before
-                | inr last ↦ absurd (omega (arith, last.0, lt'))
-              ];
-            } in
-            let P : ℕ → Type 0 = λ j. IsNumberOf kept next j (get_or (set numbers i count) j 0) in
-            subst P (sym is_last) (subst (IsNumberOf kept next i) (sym got) now))
-      ];
-      only = λ r lt. elim (cases_lt r count) [
-        | inl below ↦ of_next marks numbers i count r (t.only r below)
-        | inr ge ↦ (let is_last : r ≡ count = omega (arith, lt, ge, length_push steps o) in record { entry = i; below = omega arith; marked = marked; number = got ∙ sym is_last })
-      ];
-      walks = λ k p lt at' m. elim (cases_lt k i) [
-        | inl below ↦ named_next ss sides numbers i count p.walk new (named_among ss sides numbers i p.walk items new front (t.walks k p below at' m))
-        | inr ge ↦ (let is_last : i ≡ k = omega (arith, lt, ge) in
-            let one : q ≡ p = one_of posts k q p (ap (slice_get posts) (sym is_last) ∙ here) at' in
-            subst (λ (z : Posted). IsLineNamed ss sides (set numbers i count) (i + 1) z.walk new) one own)
-      ];
+      at = m.stands;
+      has = subst P side f.within;
+      before = λ s o lt at c.
+          (let b = m.earlier s o lt at in
+          f.first b.entry (edges_in log o) b.below (map_get (edges_in log) kept b.entry o b.at) c);
     }
 
--- the step of a marked entry that the line needs
-step_named : (ss : List ClientSession) (sides : Sides) (numbers : List ℕ) (entries : ℕ) (line : List ℕ) (items all : List Item) (k s : ℕ) → ((x : Item) → Contains items x → Contains all x) → IsLineNamed ss sides numbers entries line items
-    → IsNeededBy ss sides line k → get_or numbers k 0 ≡ s → IsNamed all s
-step_named ss sides numbers entries line items all k s up h n is =
-    let a = get_or line n.place 0 in
-    let b = get_or line (n.place + 1) 0 in
-    let e = h.each n.place n.within k n.edge in
-    let P : ℕ → Type 0 = λ r. Contains all (item.Edge a b (Forced r e.order)) in
-    record { first = a; second = b; order = e.order; among = subst P is (up (item.Edge a b (Forced (get_or numbers k 0) e.order)) e.among) }
+-- a step has what a marked entry before this one keeps
+has_step : (ss : List ClientSession) (kept : List ChainOrder) (posts : List Posted) (marks : List Bool) (steps : List ChainOrder) (entries : ℕ) (items : List Item) (e : Edge) → AreTold ss kept posts marks steps entries items → IsMarked (sides_of ss kept) marks e → HasSide (sides_of ss kept) entries e → OneHas ss steps e
+has_step ss kept posts marks steps entries items e t m h =
+    let n = t.each m.entry (first_below (sides_of ss kept) entries e m.entry m.first h) m.marked in
+    record { order = n.told.order; among = contains_get steps n.step n.told.order n.told.stands; has = (first_with ss kept steps e m.entry n.step m.first n.told).has }
 
--- ---- all of it: the cycle, told behind the steps
-pub dead_told : (ss : List ClientSession) (kept : List ChainOrder) (entries : List LedgerEntry) (marks : List Bool) (numbers : List ℕ) (steps : List ChainOrder) (line : List ℕ) (before mid new : List Item) (start edges : ℕ) → length kept ≡ length entries → AreTold ss kept (posts_in entries) marks numbers steps (length kept) before
-    → ((k : ℕ) → is_set marks k ≡ true → IsNeededBy ss (sides_of ss kept) line k ⊎ IsNeededByWalk ss (sides_of ss kept) marks entries k) → IsClosed ss kept line → IsCovered ss (sides_of ss kept) marks line (length line) → start ≡ get_or line 0 0 → edges ≡ length line - 1 → mid ≡ before ++ item.Cycle start edges ∷ [] → LinePut ss kept numbers line mid new → IsDeadTold ss new
-dead_told ss kept entries marks numbers steps line before mid new start edges count t need c covered first many is put =
-    let sides = sides_of ss kept in
-    let numbered = line_numbered ss kept (posts_in entries) marks numbers steps (length kept) before line t c.rests covered in
-    let last = put.each steps numbered in
-    let own : IsLineNamed ss sides numbers (length kept) line last.items = line_named ss kept numbers steps (length kept) line last.items c.rests numbered last.kind in
-    let back : (x : Item) → Contains last.items x → Contains new x = λ x h. subst (λ l. Contains l x) (sym last.appended) (Contains-append_right mid last.items x h) in
-    let front : (x : Item) → Contains before x → Contains new x = λ x h.
-    (let Among : List Item → Type 0 = λ l. Contains l x in
-    let there : Among mid = subst Among (sym is) (Contains-append_left before (item.Cycle start edges ∷ []) x h) in
-    subst Among (sym last.appended) (Contains-append_left mid last.items x there)) in
-    let start_is : c.start ≡ start = ap (λ l. get_or l 0 0) (sym c.ends.shape) ∙ sym first in
-    let edges_are : length c.ends.inner + 1 ≡ edges = (let e = ap length c.ends.shape in let f = length_push c.ends.inner c.start in omega (arith, e, f, many)) in
-    let told : IsLineTold ss steps [] (c.start ∷ (c.ends.inner ++ c.start ∷ [])) last.items = subst (λ l. IsLineTold ss steps [] l last.items) c.ends.shape last.kind in
-    record {
-      steps = steps;
-      before = before;
-      round = item.Cycle c.start (length c.ends.inner + 1) ∷ last.items;
-      told = t.told;
-      cycle = closes c.start c.ends.inner last.items told;
-      whole = last.appended
-          ∙ ap (λ l. l ++ last.items) is
-          ∙ append_assoc before (item.Cycle start edges ∷ []) last.items
-          ∙ ap (λ v. before ++ item.Cycle v edges ∷ last.items) (sym start_is)
-          ∙ ap (λ n. before ++ item.Cycle c.start n ∷ last.items) (sym edges_are);
-      needed = λ s lt.
-          (let m = t.only s lt in
-          elim (need m.entry m.marked) [
-            | inl n ↦ step_named ss sides numbers (length kept) line last.items new m.entry s back own n m.number
-            | inr w ↦ (let below : w.entry < length kept = omega (arith, slice_get_within (posts_in entries) w.entry w.post w.at, posts_many entries, count) in
-                step_named ss sides numbers (length kept) w.post.walk before new m.entry s front (t.walks w.entry w.post below w.at w.marked) w.edge m.number)
-          ]);
-    }
-
--- ---- lines that rest on more
-pub rests_later : (ss : List ClientSession) (sides : Sides) (bound more : ℕ) (line : List ℕ) → bound ≤ more → LineRests ss sides bound line → LineRests ss sides more line
-rests_later ss sides bound more line le h = record {
-  some = h.some;
-  nodes = h.nodes;
+walk_stands : (ss : List ClientSession) (kept : List ChainOrder) (posts : List Posted) (marks : List Bool) (steps : List ChainOrder) (entries : ℕ) (items : List Item) (line : List ℕ) → AreTold ss kept posts marks steps entries items → LineRests ss (sides_of ss kept) entries line
+    → IsCovered ss (sides_of ss kept) marks line (length line) → LineStands ss steps [] line
+walk_stands ss kept posts marks steps entries items line t rests covered = record {
+  some = rests.some;
   each = λ i lt.
-      (let r = h.each i lt in
+      (let r = rests.each i lt in
+      let e : Edge = (get_or line i 0, get_or line (i + 1) 0) in
       record {
         first = r.first;
         second = r.second;
-        kept = λ none_. (let s = r.kept none_ in record { number = s.number; below = omega (arith, s.below, le); side = s.side; at = s.at; within = s.within });
+        has = λ have.
+            (let h = r.kept have in
+            let u : IsUnshown ss (sides_of ss kept) e.0 e.1 = record {
+              first = r.first;
+              second = r.second;
+              none = have;
+              kept = record { number = h.number; below = slice_get_within (sides_of ss kept) h.number h.side h.at; side = h.side; at = h.at; within = h.within };
+            } in
+            inl (has_step ss kept posts marks steps entries items e t (covered.each i (omega (arith, lt)) lt u) h));
       });
+}
+
+-- ---- steps
+pub told_none : (ss : List ClientSession) (kept : List ChainOrder) (posts : List Posted) (marks : List Bool) → AreTold ss kept posts marks [] 0 []
+told_none ss kept posts marks = record {
+  told = none;
+  each = λ k lt t. absurd (omega (arith, lt));
+  only = λ s lt. absurd (omega (arith, lt));
+  walks = λ k q lt at t. absurd (omega (arith, lt));
+}
+
+of_later : (kept steps : List ChainOrder) (marks : List Bool) (i s : ℕ) → IsOfMarked kept steps marks i s → IsOfMarked kept steps marks (i + 1) s
+of_later kept steps marks i s h = record { entry = h.entry; below = omega (arith, h.below); marked = h.marked; told = h.told }
+
+pub told_skip : (ss : List ClientSession) (kept : List ChainOrder) (posts : List Posted) (marks : List Bool) (steps : List ChainOrder) (i : ℕ) (items : List Item) → is_set marks i ≡ false → AreTold ss kept posts marks steps i items → AreTold ss kept posts marks steps (i + 1) items
+told_skip ss kept posts marks steps i items f t = record {
+  told = t.told;
+  each = λ k lt m. t.each k (before k lt m) m;
+  only = λ s lt. of_later kept steps marks i s (t.only s lt);
+  walks = λ k q lt at m. t.walks k q (before k lt m) at m;
+}
+  where
+    before : (k : ℕ) → k < i + 1 → is_set marks k ≡ true → k < i
+    before k lt m = elim (cases_lt k i) [
+      | inl below ↦ below
+      | inr ge ↦ (let same : k ≡ i = omega (arith, lt, ge) in absurd (false≢true (sym f ∙ ap (λ j. get_or marks j false) (sym same) ∙ m)))
+    ]
+
+-- a marked entry, told behind these steps
+pub step_stands : (ss : List ClientSession) (kept : List ChainOrder) (posts : List Posted) (marks : List Bool) (steps : List ChainOrder) (i : ℕ) (q : Posted) (items : List Item) → IsStep ss kept i q → IsCovered ss (sides_of ss kept) marks q.walk (length q.walk)
+    → AreTold ss kept posts marks steps i items → LineStands ss steps [] q.walk
+step_stands ss kept posts marks steps i q items s covered t = walk_stands ss kept posts marks steps i items q.walk t s.rests covered
+
+pub told_step : (ss : List ClientSession) (kept : List ChainOrder) (posts : List Posted) (marks : List Bool) (steps next : List ChainOrder) (i : ℕ) (o : ChainOrder) (q : Posted) (items new : List Item) → next ≡ steps ++ o ∷ [] → slice_get kept i ≡ Some o → slice_get posts i ≡ Some q → is_set marks i ≡ true
+    → IsStep ss kept i q → IsPut items new (IsStepTold ss steps o q) → AreTold ss kept posts marks steps i items → AreTold ss kept posts marks next (i + 1) new
+told_step ss kept posts marks steps next i o q items new is at here marked s more t = subst (λ os. AreTold ss kept posts marks os (i + 1) new) (sym is) made
+  where
+    later : List ChainOrder
+    later = steps ++ o ∷ []
+
+    h : IsStepTold ss steps o q more.items
+    h = more.kind
+
+    front : (x : Item) → Contains items x → Contains new x
+    front x c = subst (λ l. Contains l x) (sym more.appended) (Contains-append_left items more.items x c)
+
+    back : (x : Item) → Contains h.against x → Contains new x
+    back x c =
+        let Among : List Item → Type 0 = λ l. Contains l x in
+        let put : Among more.items = subst Among (sym h.whole) (Contains-append_right (item.Step (length steps + 1) o q.edge.0 q.edge.1 ∷ []) h.against x c) in
+        subst Among (sym more.appended) (Contains-append_right items more.items x put)
+
+    own : AreEdgesTold ss later q.walk new
+    own = edges_later ss steps o q.walk h.against new back (record { each = edge_told ss steps [] q.walk h.against h.line })
+
+    now : IsTold kept later i (length steps)
+    now = record {
+      order = o;
+      at = at;
+      stands = get_last steps o;
+      earlier = λ r p lt at'. elim (get_cases steps o p r at') [
+        | inl before ↦
+            let m = t.only r (slice_get_within steps r p before) in
+            record { entry = m.entry; below = m.below; at = subst (λ z. slice_get kept m.entry ≡ Some z) (one_of steps r m.told.order p m.told.stands before) m.told.at }
+        | inr last ↦ absurd (omega (arith, last.0, lt))
+      ];
+    }
+
+    told : AreStepsTold ss later new
+    told =
+        let same : s.order ≡ o = one_of kept i s.order o s.at at in
+        let Refuted : ChainOrder → Type 0 = λ z. Follows (log_of ss) (turned z) (q.edge.0, q.edge.1) in
+        let all : AreStepsTold ss later (items ++ (item.Step (length steps + 1) o q.edge.0 q.edge.1 ∷ h.against)) =
+        step steps items t.told o (subst (IsOrder (log_of ss)) same s.two_chains) q.edge.0 q.edge.1 (subst Refuted same s.refuted) s.ends.inner h.against (subst (λ l. IsLineTold ss steps [] l h.against) s.ends.shape h.line) in
+        subst (AreStepsTold ss later) (ap (λ l. items ++ l) (sym h.whole) ∙ sym more.appended) all
+
+    made : AreTold ss kept posts marks later (i + 1) new
+    made = record {
+      told = told;
+      each = λ k lt m. elim (cases_lt k i) [
+        | inl below ↦ (let n = t.each k below m in record { step = n.step; told = told_later kept steps o k n.step n.told })
+        | inr ge ↦ (let last : i ≡ k = omega (arith, lt, ge) in record { step = length steps; told = subst (λ j. IsTold kept later j (length steps)) last now })
+      ];
+      only = λ r lt. elim (cases_lt r (length steps)) [
+        | inl below ↦ (let m = t.only r below in record { entry = m.entry; below = omega (arith, m.below); marked = m.marked; told = told_later kept steps o m.entry r m.told })
+        | inr ge ↦ (let last : length steps ≡ r = omega (arith, lt, ge, length_push steps o) in record { entry = i; below = omega arith; marked = marked; told = subst (IsTold kept later i) last now })
+      ];
+      walks = λ k p lt at' m. elim (cases_lt k i) [
+        | inl below ↦ edges_later ss steps o p.walk items new front (t.walks k p below at' m)
+        | inr ge ↦ (let last : i ≡ k = omega (arith, lt, ge) in
+            let one : q ≡ p = one_of posts k q p (ap (slice_get posts) (sym last) ∙ here) at' in
+            subst (λ (z : Posted). AreEdgesTold ss later z.walk new) one own)
+      ];
+    }
+
+-- ---- what lines need
+line_steps : (ss : List ClientSession) (kept : List ChainOrder) (posts : List Posted) (marks : List Bool) (steps : List ChainOrder) (items : List Item) (line : List ℕ) → AreTold ss kept posts marks steps (length kept) items → IsCovered ss (sides_of ss kept) marks line (length line) → HasSteps ss kept steps line
+line_steps ss kept posts marks steps items line t covered = record {
+  each = λ i lt u.
+      (let e : Edge = (get_or line i 0, get_or line (i + 1) 0) in
+      let many : length (sides_of ss kept) ≡ length kept = length-map kept (edges_in (log_of ss)) in
+      has_step ss kept posts marks steps (length kept) items e t (covered.each i (omega (arith, lt)) lt u) (subst (λ n. HasSide (sides_of ss kept) n e) many u.kept));
+}
+
+pub told_for : (ss : List ClientSession) (kept : List ChainOrder) (entries : List LedgerEntry) (marks : List Bool) (steps : List ChainOrder) (items : List Item) (lines : List (Bor (List ℕ))) → length kept ≡ length entries → AreTold ss kept (posts_in entries) marks steps (length kept) items
+    → All (λ (l : Bor (List ℕ)). IsCovered ss (sides_of ss kept) marks l.now (length l.now)) lines → AreNeeded ss (sides_of ss kept) marks entries lines → AreToldFor ss kept steps items lines
+told_for ss kept entries marks steps items lines count t covered need = record {
+  told = t.told;
+  stand = All-weaker (λ (l : Bor (List ℕ)). IsCovered ss (sides_of ss kept) marks l.now (length l.now)) (λ (l : Bor (List ℕ)). HasSteps ss kept steps l.now) (λ l c. line_steps ss kept (posts_in entries) marks steps items l.now t c) lines covered;
+  needed = λ s lt.
+      (let m = t.only s lt in
+      elim (need.each m.entry m.marked) [
+        | inl n ↦ (let line = n.line.now in
+            let i = n.edge.place in
+            inr (record {
+              line = n.line;
+              among = n.among;
+              place = i;
+              within = n.edge.within;
+              none = n.edge.edge.none;
+              order = m.told.order;
+              first = first_with ss kept steps (get_or line i 0, get_or line (i + 1) 0) m.entry s n.edge.edge.first m.told;
+            }))
+        | inr w ↦ (let walk = w.post.walk in
+            let i = w.edge.place in
+            let a = get_or walk i 0 in
+            let b = get_or walk (i + 1) 0 in
+            let below : w.entry < length kept = omega (arith, slice_get_within (posts_in entries) w.entry w.post w.at, posts_many entries, count) in
+            inl (edge_named ss steps [] a b s m.told.order items ((t.walks w.entry w.post below w.at w.marked).each i w.edge.within) w.edge.edge.none (first_with ss kept steps (a, b) m.entry s w.edge.edge.first m.told)))
+      ]);
+}
+
+-- a line that rests on what the entries keep, among the steps that were told for it
+pub closed_stands : (ss : List ClientSession) (kept steps : List ChainOrder) (line : List ℕ) → LineRests ss (sides_of ss kept) (length kept) line → HasSteps ss kept steps line → LineStands ss steps [] line
+closed_stands ss kept steps line rests has = record {
+  some = rests.some;
+  each = λ i lt.
+      (let r = rests.each i lt in
+      let e : Edge = (get_or line i 0, get_or line (i + 1) 0) in
+      let many : length kept ≡ length (sides_of ss kept) = sym (length-map kept (edges_in (log_of ss))) in
+      record { first = r.first; second = r.second; has = λ have. inl (has.each i lt (record { first = r.first; second = r.second; none = have; kept = subst (λ n. HasSide (sides_of ss kept) n e) many (r.kept have) })) });
+}
+
+-- ---- all of it: a cycle, told behind the steps
+pub round_cycle : (ss : List ClientSession) (steps decided : List ChainOrder) (line : List ℕ) (items : List Item) → IsRoundTold ss steps decided line items → IsCycleTold ss steps decided items
+round_cycle ss steps decided line items h =
+    let r = h.round in
+    subst (IsCycleTold ss steps decided) (sym h.whole) (closes r.start r.ends.inner h.edges (subst (λ l. IsLineTold ss steps decided l h.edges) r.ends.shape h.told))
+
+pub round_told : (ss : List ClientSession) (steps decided : List ChainOrder) (line : List ℕ) (old mid new : List Item) (start edges : ℕ) → IsRound line → start ≡ get_or line 0 start → edges ≡ length line - 1 → mid ≡ old ++ item.Cycle start edges ∷ [] → IsPut mid new (IsLineTold ss steps decided line) → IsPut old new (IsRoundTold ss steps decided line)
+round_told ss steps decided line old mid new start edges r first many is put =
+    let start_is : start ≡ r.start = first ∙ ap (λ l. get_or l 0 start) r.ends.shape in
+    let edges_are : edges ≡ length r.ends.inner + 1 = (let e = ap length r.ends.shape in let f = length_push r.ends.inner r.start in omega (arith, e, f, many)) in
+    record {
+      items = item.Cycle start edges ∷ put.items;
+      appended = put.appended ∙ ap (λ l. l ++ put.items) is ∙ append_assoc old (item.Cycle start edges ∷ []) put.items;
+      kind = record { round = r; edges = put.items; told = put.kind; whole = ap (λ v. item.Cycle v edges ∷ put.items) start_is ∙ ap (λ n. item.Cycle r.start n ∷ put.items) edges_are };
+    }
+
+pub round_named : (ss : List ClientSession) (steps decided : List ChainOrder) (lines : List (Bor (List ℕ))) (r : ℕ) (items : List Item) (n : IsNeededIn ss steps lines r) → IsRoundTold ss steps decided n.line.now items → IsNamed items r
+round_named ss steps decided lines r items n h =
+    let head = item.Cycle h.round.start (length h.round.ends.inner + 1) ∷ [] in
+    named_among h.edges items r (λ x c. subst (λ l. Contains l x) (sym h.whole) (Contains-append_right head h.edges x c)) (needed_named ss steps decided lines r h.edges n h.told)
+
+pub dead_told : (ss : List ClientSession) (kept steps : List ChainOrder) (line : Bor (List ℕ)) (before new : List Item) → AreToldFor ss kept steps before (line ∷ []) → IsPut before new (IsRoundTold ss steps [] line.now) → IsDeadTold ss new
+dead_told ss kept steps line before new t put = record {
+  steps = steps;
+  before = before;
+  round = put.items;
+  told = t.told;
+  cycle = round_cycle ss steps [] line.now put.items put.kind;
+  whole = put.appended;
+  needed = λ s lt. elim (t.needed s lt) [
+    | inl n ↦ named_among before new s (λ x c. subst (λ l. Contains l x) (sym put.appended) (Contains-append_left before put.items x c)) n
+    | inr n ↦
+        let same : line ≡ n.line = elim (In-from_Contains (line ∷ []) n.line n.among) [ inl e ↦ e | inr no ↦ absurd no ] in
+        let own = round_named ss steps [] (line ∷ []) s put.items n (subst (λ (l : Bor (List ℕ)). IsRoundTold ss steps [] l.now put.items) same put.kind) in
+        named_among put.items new s (λ x c. subst (λ l. Contains l x) (sym put.appended) (Contains-append_right before put.items x c)) own
+  ];
 }

@@ -2,7 +2,6 @@
 use Rattle.std.specs.Prelude.{◌≡◌}
 use Rattle.serializability.specs.Reads.{IsClean}
 use Rattle.log_definitions.specs.Numbers.{log_of}
-use Rattle.tell_steps.specs.Steps.{AreStepsTold}
 use Rattle.tell_steps.specs.Lines.{AreAnswers, AreGrounds}
 use Rattle.tell_steps.specs.View.{StepsView}
 use Rattle.tell_steps.specs.declared.forced.Steps.TheInside.{Inside}
@@ -16,11 +15,10 @@ steps_view s = record {
       = s.grounds.kept.items;
 }
 
--- the chains are those of the sessions, the items tell the steps, of each edge the first step that
--- has it is held, and answers are right
+-- the chains are those of the sessions, of each edge the first step that has it is held, and answers
+-- are right
 pub record AreForced (s : Inside) : Type 0 where
   pub clean : IsClean (log_of s.history.now)
   pub same : s.chains.now ≡ s.history.now
-  pub told : AreStepsTold s.history.now s.grounds.kept.items s.told.items
   pub firsts : AreGrounds s.history.now s.grounds
   pub answers : AreAnswers s.history.now s.answers.items

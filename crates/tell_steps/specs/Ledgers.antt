@@ -13,7 +13,7 @@ use Rattle.prune_ledger.specs.declared.ledger.Ledger.{Ledger}
 use Rattle.tell_reasons.specs.declared.why.ChainOrder.{ChainOrder}
 use Rattle.tell_steps.specs.Steps.{IsOrder, turned, Follows}
 use Rattle.tell_steps.specs.Orders.{orders_in, kept_order}
-use Rattle.tell_steps.specs.Lines.{sides_of, LineRests}
+use Rattle.tell_steps.specs.Lines.{sides_of, HasEnds, IsRound, LineRests}
 
 -- a ledger of the chains' polygraph, whose known edges are no others, that ends in a cycle
 pub record IsDeadLedger (ss : List ClientSession) (ledger : Ledger) : Type 0 where
@@ -35,11 +35,6 @@ pub record AreEntries (ss : List ClientSession) (entries : List LedgerEntry) : T
 abbrev pub kept_by : List ClientSession → List LedgerEntry → List ChainOrder
 kept_by ss entries = map (kept_order (orders_in (log_of ss))) (posts_in entries)
 
--- it leads from the one node to the other
-pub record HasEnds (first last : ℕ) (line : List ℕ) : Type 0 where
-  pub inner : List ℕ
-  pub shape : line ≡ first ∷ (inner ++ last ∷ [])
-
 -- the edge follows from the other way round, and the walk leads against it and rests on what earlier entries
 -- keep
 pub record IsStep (ss : List ClientSession) (kept : List ChainOrder) (k : ℕ)
@@ -59,6 +54,5 @@ pub record AreSteps (ss : List ClientSession) (kept : List ChainOrder)
 -- the line closes, and rests on what the entries keep
 pub record IsClosed (ss : List ClientSession) (kept : List ChainOrder)
     (line : List ℕ) : Type 0 where
-  pub start : ℕ
-  pub ends : HasEnds start start line
+  pub round : IsRound line
   pub rests : LineRests ss (sides_of ss kept) (length kept) line

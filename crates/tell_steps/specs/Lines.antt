@@ -1,6 +1,7 @@
 -- Lines of nodes, and what their edges rest on.
 use Rattle.std.specs.Prelude.{◌≡◌, ◌↔◌, ◌⊎◌, ℕ, ◌+◌, ◌<◌, ◌≤◌, List, [], ◌∷◌, ◌++◌, length, map}
 use Rattle.std.specs.Prelude.{Option, None, Some, slice_index, slice_index_or}
+use Rattle.std.specs.Borrow.{Bor}
 use Rattle.std.specs.List.{All, Contains}
 use Rattle.session_log.specs.Text.{ClientSession}
 use Rattle.serializability.specs.Polygraph.{Edge, Polygraph}
@@ -14,12 +15,9 @@ use Rattle.tell_reasons.specs.declared.why.ChainOrder.{ChainOrder}
 use Rattle.prune_ledger.specs.Ledger.{edges_after, AreShown}
 use Rattle.prune_ledger.specs.Pruned.{kept_by, posts_in}
 use Rattle.prune_ledger.specs.declared.ledger.LedgerEntry.{LedgerEntry}
-use Rattle.tell_steps.specs.declared.item.Item.{Item}
-use Rattle.tell_steps.specs.Steps.{IsOrder, edges_in, IsLineTold}
+use Rattle.tell_steps.specs.Steps.{IsOrder, edges_in, IsFirstWith}
 use Rattle.tell_steps.specs.View.{StepsView}
 use Rattle.tell_steps.specs.Firsts.{IsFirstIn, HasSide, AreFirsts, cell, cells}
-use Rattle.tell_steps.specs.declared.ground.Ground.{Ground}
-use Rattle.tell_steps.specs.declared.ground.Ground.TheVariants as ground
 use Rattle.tell_steps.specs.declared.ground.Grounds.{Grounds}
 use Rattle.tell_steps.specs.declared.ground.LogAndGrounds.{LogAndGrounds}
 
@@ -40,6 +38,16 @@ pub record HasLedger (ss : List ClientSession) (entries : List LedgerEntry) : Ty
 pub record IsLineOfNodes (ss : List ClientSession) (line : List ℕ) : Type 0 where
   pub some : 0 < length line
   pub nodes : All (IsBetween ss) line
+
+-- the line leads from the one node to the other
+pub record HasEnds (first last : ℕ) (line : List ℕ) : Type 0 where
+  pub inner : List ℕ
+  pub shape : line ≡ first ∷ (inner ++ last ∷ [])
+
+-- the line ends where it begins
+pub record IsRound (line : List ℕ) : Type 0 where
+  pub start : ℕ
+  pub ends : HasEnds start start line
 
 -- two nodes of the line stand side by side
 pub record IsStepOf (line : List ℕ) (e : Edge) : Type 0 where
@@ -70,12 +78,17 @@ pub record HasEdges (s : StepsView) (decided : List ChainOrder) (line : List ℕ
       (edges_after (chain_polygraph (log_of s.sessions)) (kept_by s.entries)) e
       ⊎ OneHas s.sessions decided e
 
--- the line's edges are told behind these items
-pub record TellsLine (s : StepsView) (decided : List ChainOrder) (line : List ℕ)
-    (old now : List Item) : Type 0 where
-  pub edges : List Item
-  pub added : now ≡ old ++ edges
-  pub told : IsLineTold s.sessions s.orders decided line edges
+-- step k is the first that has an edge of one of these lines of which the log shows no reason
+pub record IsNeededIn (ss : List ClientSession) (steps : List ChainOrder)
+    (lines : List (Bor (List ℕ))) (k : ℕ) : Type 0 where
+  pub line : Bor (List ℕ)
+  pub among : Contains lines line
+  pub place : ℕ
+  pub within : place + 1 < length line.now
+  pub none : HaveNone ss (slice_index line.now place) (slice_index line.now (place + 1))
+  pub order : ChainOrder
+  pub first : IsFirstWith (log_of ss) steps k order
+      (slice_index line.now place, slice_index line.now (place + 1))
 
 -- ---- of lines over what steps and decided orders have
 -- both are nodes, and where the log shows no reason of the edge, a step or a decided order has it
@@ -162,7 +175,3 @@ sides_by basis = sides_of basis.history.now basis.grounds.now.kept.items
 abbrev pub IsEntry : List ClientSession → List (List Edge) → ℕ → ℕ → Option ℕ → Type 0
 IsEntry ss sides a b None = IsUnshown ss sides a b → ⊥
 IsEntry ss sides a b (Some k) = HaveNone ss a b × IsFirstIn sides (a, b) k
-
-abbrev pub IsGround : List ClientSession → List (List Edge) → ℕ → ℕ → Ground → Type 0
-IsGround ss sides a b (ground.Known r) = IsGiven ss a b r
-IsGround ss sides a b (ground.Kept k) = HaveNone ss a b × IsFirstIn sides (a, b) k

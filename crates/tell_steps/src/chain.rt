@@ -27,9 +27,10 @@ pub fn place_of(chains: &[Chain], head: NodeIx) -> Option<usize>
 }
 
 /// The chain that stands first in an order.
-pub fn first_chain<'a>(chains: &'a Chains<'_>, order: ChainOrder) -> &'a Chain
-    requires order { IsOrder (log_of chains.now) order }
-    ensures chain { chain_view result.now ≡ chain_from (log_of chains.now) order.key order.first }
+pub fn first_chain<'a>(chains: &'a Chains<'_>, order: &ChainOrder) -> &'a Chain
+    requires order { IsOrder (log_of chains.now) order.now }
+    ensures chain { chain_view result.now ≡ chain_from (log_of chains.now) order.now.key
+        order.now.first }
 {
     let others = chains.chains_of(order.key);
     match place_of(others, order.first) {

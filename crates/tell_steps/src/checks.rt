@@ -3,8 +3,9 @@
 
 ghost use Rattle.std.specs.Prelude.{◌≡◌, ◌<◌, length, IsTrue, IfOk};
 ghost use Rattle.std.specs.List.{All};
-ghost use Rattle.tell_steps.specs.Lines.{IsBetween, Rests, LineRests, AreAnswers, IsBasis, sides_by};
-ghost use Rattle.tell_steps.specs.Ledgers.{HasEnds, IsStep, AreSteps, IsClosed};
+ghost use Rattle.tell_steps.specs.Lines.{HasEnds, IsBetween, Rests, LineRests, AreAnswers, IsBasis};
+ghost use Rattle.tell_steps.specs.Lines.{sides_by};
+ghost use Rattle.tell_steps.specs.Ledgers.{IsStep, AreSteps, IsClosed};
 
 use crate::decided::follows;
 use crate::ground::{LogAndGrounds, entry_of, is_between, shows};

@@ -10,8 +10,7 @@ ghost use Rattle.tell_steps.specs.Ledgers.{IsDeadLedger, AreEntries, AreSteps, I
 use crate::firsts::grounds_of;
 use crate::ground::{Grounds, LogAndGrounds, no_answers};
 use crate::item::Item;
-use crate::lines::put_edges;
-use crate::marks::needed_entries;
+use crate::lines::put_cycle;
 use crate::orders::{choice_orders, kept_orders};
 use crate::proposed::tell_proposed;
 use crate::shorter::{shortened, shorter_cycle};
@@ -38,29 +37,32 @@ pub fn grounds_in(
 {
     let orders = choice_orders(alloc, chains)?;
     let kept = kept_orders(alloc, &orders, entries)?;
-    grounds_of(alloc, chains, kept)
+    grounds_of(alloc, chains, &kept)
 }
 
 /// The steps that this cycle needs, which tell entries of a ledger, and the cycle.
 pub fn tell_steps(
     basis: &LogAndGrounds<'_>,
     answers: &mut [Option<Option<Reason>>],
+    chains: &Chains<'_>,
     entries: &[LedgerEntry],
     cycle: &[NodeIx],
 ) -> Result<Vec<Item>, AllocError>
     requires basis { IsBasis basis.now }
     requires answers { AreAnswers basis.now.history.now answers.old }
+    requires chains { chains.now ≡ basis.now.history.now }
     requires steps { AreSteps basis.now.history.now basis.now.grounds.now.kept.items entries.now }
     requires closed { IsClosed basis.now.history.now basis.now.grounds.now.kept.items cycle.now }
     ensures told { IfOk result (λ items. IsDeadTold basis.now.history.now items.items) }
 {
-    let marks = needed_entries(basis, answers, entries, &[cycle])?;
-    let told = told_steps(basis, answers, &marks, entries)?;
+    let told = told_steps(basis, answers, chains, entries, &[cycle])?;
     let mut items = told.items;
-    let start = cycle[0];
-    let edges = cycle.len() - 1;
-    items.extend_from_slice(&[Item::Cycle { start, edges }])?;
-    put_edges(&mut items, basis, answers, &told.numbers, cycle)?;
+    let steps = LogAndGrounds {
+        alloc: basis.alloc,
+        history: basis.history,
+        grounds: &told.grounds,
+    };
+    put_cycle(&mut items, &steps, answers, chains, &[], cycle)?;
     Ok(items)
 }
 
@@ -90,7 +92,7 @@ fn tell_with(
     let round = shorter_cycle(&basis, answers, cycle)?;
     let line = round.as_slice();
     let shorter = shortened(&basis, answers, chains, entries, &[line])?;
-    tell_steps(&basis, answers, &shorter, line)
+    tell_steps(&basis, answers, chains, &shorter, line)
 }
 
 /// A dead ledger, told as forced steps, and the cycle that they end in: only the steps that the

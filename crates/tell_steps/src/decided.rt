@@ -34,7 +34,7 @@ pub fn has_edge(chains: &Chains<'_>, order: ChainOrder, a: NodeIx, b: NodeIx) ->
     if order.second.get() != b.get() {
         return false;
     }
-    leads_from(first_chain(chains, order), a)
+    leads_from(first_chain(chains, &order), a)
 }
 
 /// Whether an edge leads from the last writer of the order's first chain to the other chain.
@@ -46,7 +46,7 @@ fn is_from_tail(chains: &Chains<'_>, order: &ChainOrder, a: NodeIx, b: NodeIx) -
     if b.get() != order.second.get() {
         return false;
     }
-    first_chain(chains, *order).tail.get() == a.get()
+    first_chain(chains, order).tail.get() == a.get()
 }
 
 /// Whether the edge follows from the order.

@@ -1,6 +1,6 @@
 //! Of each edge, the first order that has it.
 
-ghost use Rattle.std.specs.Prelude.{◌≡◌, ◌≤◌, ◌++◌, ◌∷◌, [], ℕ, List, length, map, IfOk};
+ghost use Rattle.std.specs.Prelude.{◌≡◌, ◌≤◌, ◌++◌, ◌∷◌, [], ℕ, List, length, map, IfOk, OnOk};
 ghost use Rattle.std.specs.List.{All};
 ghost use Rattle.serializability.specs.Polygraph.{Edge};
 ghost use Rattle.serializability.specs.declared.node.TheConstants.{MAX_NODES};
@@ -8,7 +8,7 @@ ghost use Rattle.log_definitions.specs.Numbers.{log_of};
 ghost use Rattle.chain_laws.specs.Chains.{edges_to};
 ghost use Rattle.tell_steps.specs.Steps.{IsOrder, edges_in};
 ghost use Rattle.tell_steps.specs.Firsts as spec;
-ghost use Rattle.tell_steps.specs.Lines.{sides_of, AreGrounds};
+ghost use Rattle.tell_steps.specs.Lines.{AreGrounds};
 
 use crate::cell::{cell, cells};
 use crate::chain::first_chain;
@@ -74,57 +74,65 @@ fn note_order(
     table: &mut [Option<usize>],
     nodes: usize,
     chains: &Chains,
-    order: ChainOrder,
+    order: &ChainOrder,
     entry: usize,
 )
     requires nodes { nodes ≡ (log_of chains.now).nodes }
     requires few { nodes ≤ MAX_NODES }
-    requires order { IsOrder (log_of chains.now) order }
+    requires order { IsOrder (log_of chains.now) order.now }
     requires count { length table.old ≡ spec.cells nodes }
     ensures noted { (sides : List (List Edge)) → length sides ≡ entry →
         spec.AreFirsts nodes sides table.old →
-        spec.AreFirsts nodes (sides ++ edges_in (log_of chains.now) order ∷ []) table.new }
+        spec.AreFirsts nodes (sides ++ edges_in (log_of chains.now) order.now ∷ []) table.new }
 {
     let first = first_chain(chains, order);
     note_side(table, nodes, first, order.second, entry);
 }
 
-/// Of each edge, the first of these orders that has it.
-fn firsts_of(
-    alloc: Global,
-    chains: &Chains,
-    nodes: usize,
-    kept: &[ChainOrder],
-) -> Result<Vec<Option<usize>>, AllocError>
-    requires nodes { nodes ≡ (log_of chains.now).nodes }
-    requires few { nodes ≤ MAX_NODES }
-    requires orders { All (IsOrder (log_of chains.now)) kept.now }
-    ensures firsts { IfOk result (λ table.
-        spec.AreFirsts nodes (sides_of chains.now kept.now) table.items) }
-{
-    let mut firsts = vec![in alloc; None; cells(nodes)]?;
-    let table = firsts.as_mut_slice();
-    for (entry, order) in kept.iter().enumerate() {
-        note_order(table, nodes, chains, *order, entry);
-    }
-    Ok(firsts)
-}
-
-/// The orders that the entries of a ledger keep, with the first of them for each edge.
-pub fn grounds_of(
-    alloc: Global,
-    chains: &Chains,
-    kept: Vec<ChainOrder>,
-) -> Result<Grounds, AllocError>
-    requires orders { All (IsOrder (log_of chains.now)) kept.items }
+/// No orders.
+pub fn no_grounds(alloc: Global, chains: &Chains<'_>) -> Result<Grounds, AllocError>
     ensures grounds { IfOk result (AreGrounds chains.now) }
-    ensures kept { IfOk result (λ grounds. grounds.kept.items ≡ kept.items) }
+    ensures none { IfOk result (λ grounds. grounds.kept.items ≡ []) }
 {
     let nodes = chains.history().committed();
-    let firsts = firsts_of(alloc, chains, nodes, &kept)?;
     Ok(Grounds {
         nodes,
-        kept,
-        firsts,
+        kept: Vec::new(alloc),
+        firsts: vec![in alloc; None; cells(nodes)]?,
     })
+}
+
+/// Keeps an order behind the others.
+pub fn keep(
+    grounds: &mut Grounds,
+    chains: &Chains<'_>,
+    order: ChainOrder,
+) -> Result<(), AllocError>
+    requires grounds { AreGrounds chains.now grounds.old }
+    requires order { IsOrder (log_of chains.now) order }
+    ensures grounds { OnOk result (AreGrounds chains.now grounds.new) }
+    ensures kept { OnOk result (grounds.new.kept.items ≡ grounds.old.kept.items ++ order ∷ []) }
+{
+    let (nodes, entry) = (grounds.nodes, grounds.kept.len());
+    let table = grounds.firsts.as_mut_slice();
+    note_order(table, nodes, chains, &order, entry);
+    grounds.kept.push(order)?;
+    Ok(())
+}
+
+/// These orders, with the first of them for each edge.
+pub fn grounds_of(
+    alloc: Global,
+    chains: &Chains<'_>,
+    kept: &[ChainOrder],
+) -> Result<Grounds, AllocError>
+    requires orders { All (IsOrder (log_of chains.now)) kept.now }
+    ensures grounds { IfOk result (AreGrounds chains.now) }
+    ensures kept { IfOk result (λ grounds. grounds.kept.items ≡ kept.now) }
+{
+    let mut grounds = no_grounds(alloc, chains)?;
+    for order in kept {
+        keep(&mut grounds, chains, *order)?;
+    }
+    Ok(grounds)
 }

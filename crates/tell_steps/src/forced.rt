@@ -1,20 +1,18 @@
 //! The forced steps that some lines need.
 
-ghost use Rattle.std.specs.Prelude.{◌≡◌, length, IfOk, OnOk};
+ghost use Rattle.std.specs.Prelude.{◌≡◌, ◌⊎◌, ℕ, ◌<◌, length, IfOk, OnOk};
 ghost use Rattle.std.specs.List.{All};
 ghost use Rattle.serializability.specs.Reads.{IsClean};
 ghost use Rattle.log_definitions.specs.Numbers.{log_of};
-ghost use Rattle.tell_steps.specs.Steps.{IsOrder, IsWhy, IsLineTold, AreStepsTold};
-ghost use Rattle.tell_steps.specs.Lines.{HasLedger, IsLineOfNodes, IsCovered, HasEdges, TellsLine};
-ghost use Rattle.tell_steps.specs.Lines.{Stands, LineStands, AreAnswers, IsBasis};
-ghost use Rattle.tell_steps.specs.Told.{IsPut, WhyPut};
+ghost use Rattle.tell_steps.specs.Steps.{IsOrder, AreStepsTold, IsNamed};
+ghost use Rattle.tell_steps.specs.Lines.{HasLedger, IsLineOfNodes, IsCovered, HasEdges, IsRound};
+ghost use Rattle.tell_steps.specs.Lines.{IsNeededIn};
+ghost use Rattle.tell_steps.specs.Told.{IsPut, IsRoundTold};
 
 use crate::dead::grounds_in;
-use crate::decided::order_with;
-use crate::firsts::grounds_of;
-use crate::ground::{Grounds, LogAndGrounds, answer, entry_with, kept_order, no_answers};
+use crate::ground::{Grounds, LogAndGrounds, no_answers};
 use crate::item::Item;
-use crate::marks::needed_entries;
+use crate::lines::put_cycle;
 use crate::shorter::shortened;
 use crate::steps::told_steps;
 use prune_ledger::LedgerEntry;
@@ -23,7 +21,7 @@ use serializability::NodeIx;
 use session_history::History;
 use std::alloc::{AllocError, Global};
 use std::marker::Model;
-use tell_reasons::{ChainOrder, Why};
+use tell_reasons::ChainOrder;
 use write_chains::Chains;
 
 /// The forced steps of a ledger that some lines need. Contracts see the sessions, the ledger's
@@ -34,7 +32,6 @@ pub struct Steps<'a> {
     chains: &'a Chains<'a>,
     entries: &'a [LedgerEntry],
     grounds: Grounds,
-    told: Vec<Item>,
     /// Of each edge that was asked for, why it stands, where the log shows it.
     answers: Vec<Option<Option<Reason>>>,
 }
@@ -52,20 +49,23 @@ impl<'a> Model for Steps<'a> {
 }
 
 /// The forced steps of a ledger that these lines need, each of which rests on what the log shows
-/// and on earlier steps.
+/// and on earlier steps, and the items that tell them.
 pub fn steps_of<'a>(
     alloc: Global,
     history: &'a History,
     chains: &'a Chains<'a>,
     entries: &'a [LedgerEntry],
     lines: &[&[NodeIx]],
-) -> Result<Steps<'a>, AllocError>
+) -> Result<(Steps<'a>, Vec<Item>), AllocError>
     requires clean { IsClean (log_of history.now) }
     requires chains { chains.now ≡ history.now }
     requires ledger { HasLedger history.now entries.now }
-    ensures sessions { IfOk result (λ s. s.sessions ≡ history.now) }
-    ensures entries { IfOk result (λ s. s.entries ≡ entries.now) }
-    ensures covered { IfOk result (λ s. All (λ line. IsCovered s line.now) lines.now) }
+    ensures sessions { IfOk result (λ made. made.0.sessions ≡ history.now) }
+    ensures entries { IfOk result (λ made. made.0.entries ≡ entries.now) }
+    ensures told { IfOk result (λ made. AreStepsTold history.now made.0.orders made.1.items) }
+    ensures covered { IfOk result (λ made. All (λ line. IsCovered made.0 line.now) lines.now) }
+    ensures needed { IfOk result (λ made. (k : ℕ) → k < length made.0.orders
+        → IsNamed made.1.items k ⊎ IsNeededIn history.now made.0.orders lines.now k) }
 {
     let grounds = grounds_in(alloc, history, chains, entries)?;
     let mut table = no_answers(alloc, history)?;
@@ -76,120 +76,23 @@ pub fn steps_of<'a>(
         grounds: &grounds,
     };
     let shorter = shortened(&basis, answers, chains, entries, lines)?;
-    let walks = shorter.as_slice();
-    let marks = needed_entries(&basis, answers, walks, lines)?;
-    let told = told_steps(&basis, answers, &marks, walks)?;
-    let firsts = grounds_of(alloc, chains, told.orders)?;
-    Ok(Steps {
+    let told = told_steps(&basis, answers, chains, &shorter, lines)?;
+    let steps = Steps {
         history,
         chains,
         entries,
-        grounds: firsts,
-        told: told.items,
+        grounds: told.grounds,
         answers: table,
-    })
-}
-
-/// Why `a` stands before `b`: where the log does not show it, by the first of these steps that has
-/// the edge, and where none has, by the first of the decided orders that has it.
-fn why_among(
-    basis: &LogAndGrounds<'_>,
-    answers: &mut [Option<Option<Reason>>],
-    chains: &Chains<'_>,
-    decided: &[ChainOrder],
-    a: NodeIx,
-    b: NodeIx,
-) -> Result<Why, AllocError>
-    requires basis { IsBasis basis.now }
-    requires chains { chains.now ≡ basis.now.history.now }
-    requires decided { All (IsOrder (log_of basis.now.history.now)) decided.now }
-    requires answers { AreAnswers basis.now.history.now answers.old }
-    requires stands { Stands basis.now.history.now basis.now.grounds.now.kept.items decided.now a
-        b }
-    ensures answers { AreAnswers basis.now.history.now answers.new }
-    ensures why { IfOk result (IsWhy basis.now.history.now basis.now.grounds.now.kept.items
-        decided.now a b) }
-{
-    match answer(basis.alloc, answers, basis.history, a, b)? {
-        Some(reason) => Ok(Why::Known(reason)),
-        None => match entry_with(basis.grounds, a, b) {
-            Some(step) => {
-                let order = kept_order(basis.grounds, step);
-                Ok(Why::Forced { step, order })
-            }
-            None => match order_with(chains, decided, a, b) {
-                Some(order) => Ok(Why::Chosen(order)),
-                None => unreachable!(),
-            },
-        },
-    }
-}
-
-/// Appends an edge, and why it stands among these steps.
-fn put_edge_among(
-    items: &mut Vec<Item>,
-    basis: &LogAndGrounds<'_>,
-    answers: &mut [Option<Option<Reason>>],
-    chains: &Chains<'_>,
-    decided: &[ChainOrder],
-    first: NodeIx,
-    second: NodeIx,
-) -> Result<(), AllocError>
-    requires basis { IsBasis basis.now }
-    requires chains { chains.now ≡ basis.now.history.now }
-    requires decided { All (IsOrder (log_of basis.now.history.now)) decided.now }
-    requires answers { AreAnswers basis.now.history.now answers.old }
-    requires stands { Stands basis.now.history.now basis.now.grounds.now.kept.items decided.now
-        first second }
-    ensures answers { AreAnswers basis.now.history.now answers.new }
-    ensures put { OnOk result (WhyPut basis.now.history.now basis.now.grounds.now.kept.items
-        decided.now first second items.old.items items.new.items) }
-{
-    let why: Why = why_among(basis, answers, chains, decided, first, second)?;
-    items.extend_from_slice(&[Item::Edge { first, second, why }])
-}
-
-/// Appends the edges of a line, each with why it stands among these steps.
-fn put_edges_among(
-    items: &mut Vec<Item>,
-    basis: &LogAndGrounds<'_>,
-    answers: &mut [Option<Option<Reason>>],
-    chains: &Chains<'_>,
-    decided: &[ChainOrder],
-    line: &[NodeIx],
-) -> Result<(), AllocError>
-    requires basis { IsBasis basis.now }
-    requires chains { chains.now ≡ basis.now.history.now }
-    requires decided { All (IsOrder (log_of basis.now.history.now)) decided.now }
-    requires answers { AreAnswers basis.now.history.now answers.old }
-    requires stands { LineStands basis.now.history.now basis.now.grounds.now.kept.items decided.now
-        line.now }
-    ensures answers { AreAnswers basis.now.history.now answers.new }
-    ensures put { OnOk result (IsPut items.old.items items.new.items
-        (IsLineTold basis.now.history.now basis.now.grounds.now.kept.items decided.now line.now)) }
-{
-    for i in 0..line.len() - 1 {
-        put_edge_among(items, basis, answers, chains, decided, line[i], line[i + 1])?;
-    }
-    Ok(())
+    };
+    Ok((steps, told.items))
 }
 
 impl<'a> Steps<'a> {
-    /// The steps as items, in the ledger's order.
-    pub fn items(&self, alloc: Global) -> Result<Vec<Item>, AllocError>
-        ensures told { IfOk result (λ items. AreStepsTold self.now.sessions self.now.orders
-            items.items) }
-    {
-        let mut items: Vec<Item> = Vec::new(alloc);
-        items.extend_from_slice(&self.told)?;
-        Ok(items)
-    }
-
-    /// Appends the edges of a line, each with why it stands: by a reason in the log, by the first
+    /// Appends a cycle, and its edges, each with why it stands: by a reason in the log, by the first
     /// step that has the edge, or by a decided order that has it. One of these is there by what is
     /// required, so the one error is that memory runs out. What the log shows of an edge is looked
     /// up once.
-    pub fn put_line(
+    pub fn put_cycle(
         &mut self,
         alloc: Global,
         items: &mut Vec<Item>,
@@ -200,9 +103,10 @@ impl<'a> Steps<'a> {
         requires decided { All (IsOrder (log_of self.old.sessions)) decided.now }
         requires covered { IsCovered self.old line.now }
         requires edges { HasEdges self.old decided.now line.now }
+        requires round { IsRound line.now }
         ensures same { self.new ≡ self.old }
-        ensures told { OnOk result (TellsLine self.old decided.now line.now items.old.items
-            items.new.items) }
+        ensures told { OnOk result (IsPut items.old.items items.new.items
+            (IsRoundTold self.old.sessions self.old.orders decided.now line.now)) }
     {
         let basis = LogAndGrounds {
             alloc,
@@ -210,6 +114,6 @@ impl<'a> Steps<'a> {
             grounds: &self.grounds,
         };
         let answers = self.answers.as_mut_slice();
-        put_edges_among(items, &basis, answers, self.chains, decided, line)
+        put_cycle(items, &basis, answers, self.chains, decided, line)
     }
 }

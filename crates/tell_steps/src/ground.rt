@@ -10,8 +10,7 @@ ghost use Rattle.serializability.specs.declared.node.TheConstants.{MAX_NODES};
 ghost use Rattle.log_definitions.specs.Numbers.{log_of};
 ghost use Rattle.reasons.specs.Given.{HaveNone};
 ghost use Rattle.tell_steps.specs.Firsts as spec;
-ghost use Rattle.tell_steps.specs.Lines.{sides_by, IsBetween, Rests, IsAnswer, AreAnswers, IsBasis};
-ghost use Rattle.tell_steps.specs.Lines.{IsEntry, IsGround};
+ghost use Rattle.tell_steps.specs.Lines.{sides_by, IsBetween, IsAnswer, AreAnswers, IsBasis, IsEntry};
 
 use crate::cell::{cell, cells};
 use reasons::{Reason, reason_of};
@@ -20,16 +19,8 @@ use session_history::History;
 use std::alloc::{AllocError, Global};
 use tell_reasons::ChainOrder;
 
-/// What an edge rests on.
-#[derive(Clone, Copy)]
-pub enum Ground {
-    /// The log shows it.
-    Known(Reason),
-    /// The first entry of the ledger that keeps it.
-    Kept(usize),
-}
-
-/// The orders that a ledger's entries keep, and of each edge the first entry that keeps it.
+/// Orders of two chains, as the entries of a ledger keep them or as steps tell them, and of each edge
+/// the first of them that has it.
 #[derive(Drop)]
 pub struct Grounds {
     pub nodes: usize,
@@ -37,7 +28,7 @@ pub struct Grounds {
     pub firsts: Vec<Option<usize>>,
 }
 
-/// What edges are told by: the log, and the orders that a ledger's entries keep.
+/// What edges are told by: the log, and orders of two chains.
 #[derive(Drop)]
 pub struct LogAndGrounds<'a> {
     pub alloc: Global,
@@ -80,19 +71,6 @@ pub fn answer(
             Ok(found)
         }
     }
-}
-
-/// The first entry that keeps the edge, where one does.
-fn first_with(grounds: &Grounds, a: NodeIx, b: NodeIx) -> usize
-    requires few { grounds.now.nodes ≤ MAX_NODES }
-    requires first { a ≤ grounds.now.nodes }
-    requires second { b ≤ grounds.now.nodes }
-    requires count { length grounds.now.firsts.items ≡ spec.cells grounds.now.nodes }
-    ensures first { (sides : List (List Edge)) →
-        spec.AreFirsts grounds.now.nodes sides grounds.now.firsts.items →
-        spec.HasSide sides (length sides) (a, b) → spec.IsFirstIn sides (a, b) result }
-{
-    grounds.firsts[cell(grounds.nodes, a, b)].unwrap_or(0)
 }
 
 /// The first entry that keeps the edge, where one does.
@@ -171,24 +149,4 @@ pub fn kept_order(grounds: &Grounds, entry: usize) -> ChainOrder
     ensures order { slice_get grounds.now.kept.items entry ≡ Some result }
 {
     grounds.kept[entry]
-}
-
-/// What the edge from `a` to `b` rests on.
-pub fn ground_of(
-    basis: &LogAndGrounds<'_>,
-    answers: &mut [Option<Option<Reason>>],
-    a: NodeIx,
-    b: NodeIx,
-) -> Result<Ground, AllocError>
-    requires basis { IsBasis basis.now }
-    requires answers { AreAnswers basis.now.history.now answers.old }
-    requires rests { Rests basis.now.history.now (sides_by basis.now)
-        (length basis.now.grounds.now.kept.items) a b }
-    ensures answers { AreAnswers basis.now.history.now answers.new }
-    ensures ground { IfOk result (IsGround basis.now.history.now (sides_by basis.now) a b) }
-{
-    match answer(basis.alloc, answers, basis.history, a, b)? {
-        Some(reason) => Ok(Ground::Known(reason)),
-        None => Ok(Ground::Kept(first_with(basis.grounds, a, b))),
-    }
 }

@@ -116,7 +116,7 @@ fn tell_right(
     ensures told { IfOk result (λ told. IfSome told (λ items.
         IsDeadTold history.now items.items)) }
 {
-    let grounds = grounds_of(alloc, chains, kept)?;
+    let grounds = grounds_of(alloc, chains, &kept)?;
     let mut table = no_answers(alloc, history)?;
     let answers = table.as_mut_slice();
     let basis = LogAndGrounds {
@@ -132,7 +132,7 @@ fn tell_right(
     if !closed {
         return Ok(None);
     }
-    Ok(Some(tell_steps(&basis, answers, entries, cycle)?))
+    Ok(Some(tell_steps(&basis, answers, chains, entries, cycle)?))
 }
 
 /// A dead history, told by steps and a cycle of few words, where such are proposed and right.

@@ -120,7 +120,7 @@ fn shorter_post(
     ensures answers { AreAnswers basis.now.history.now answers.new }
 {
     let line = shorter_line(basis, answers, &post.walk)?;
-    let readers = first_chain(chains, order).readers.as_slice();
+    let readers = first_chain(chains, &order).readers.as_slice();
     let nearer = walk_to_one(basis, answers, &line, readers)?;
     let walk = nearer.unwrap_or(line);
     let source = walk.last().copied().unwrap_or(post.edge.source());

@@ -37,14 +37,14 @@ use Rattle.tell_reasons.specs.declared.why.ChainOrder.{ChainOrder}
 use Rattle.tell_steps.specs.View.{StepsView}
 use Rattle.tell_steps.specs.Orders.{choice_of}
 use Rattle.tell_steps.specs.Steps.{IsOrder, edges_in}
-use Rattle.tell_steps.specs.Lines.{IsBetween, IsLineOfNodes, IsCovered, OneHas, HasEdges}
+use Rattle.tell_steps.specs.Lines.{IsBetween, IsLineOfNodes, IsCovered, OneHas, HasEdges, IsRound}
 use Rattle.tell_steps.proofs.Chosen.{turned_order}
 use Rattle.tell_steps.proofs.Ledgers.{order_leads}
 use Rattle.tell_steps.proofs.Covering.{ledger_leads, round_nodes}
 use Rattle.tell_trees.specs.declared.visits.Visit.{Visit}
 use Rattle.tell_trees.specs.Orders.{AreOrdersOf, no_order, sided, order_at}
 use Rattle.tell_trees.specs.Searched.{IsSearched}
-use Rattle.tell_trees.specs.Told.{IsRound, CanTell, decided_at}
+use Rattle.tell_trees.specs.Told.{CanTell, decided_at}
 use Rattle.tell_trees.specs.Visits.{cycle_in, line_of}
 use Rattle.tell_trees.proofs.Facts.{cube_among}
 
@@ -120,7 +120,7 @@ module _ (ss : List ClientSession) (entries : List LedgerEntry) (orders : List C
       let start = slice_index line 0 in
       let w = walk_of (edges_under h.poly cube) line start start t in (
         record { each = λ e step. edge_known cube e (walk_step (edges_under h.poly cube) start start w.inner step.front step.back e.0 e.1 w.steps (sym w.shape ∙ step.shape)) },
-        record { start = start; inner = w.inner; shape = w.shape },
+        record { start = start; ends = record { inner = w.inner; shape = w.shape } },
       )
 
   view_same : (decided : List ChainOrder) (line : List ℕ) → HasEdges (record { sessions = ss; entries = entries; orders = s.orders }) decided line → HasEdges s decided line

@@ -1,6 +1,6 @@
 -- What pruning leaves of a history is what its search looks at.
-use Rattle.std.proofs.Common.{◌≡◌, ◌↔◌, ℕ, ◌<◌, List, [], ◌++◌, length, sym, ap, ◌∙◌, subst, append_assoc, inl, inr}
-use Rattle.std.specs.List.{All, Contains}
+use Rattle.std.proofs.Common.{◌≡◌, ◌↔◌, ◌⊎◌, ℕ, ◌<◌, List, [], ◌++◌, length, map, sym, ap, ◌∙◌, subst, append_assoc, inl, inr, Bor}
+use Rattle.std.specs.List.{All, Contains, filter_map}
 use Rattle.std.proofs.lemmas.List.Elements.{All-nil, All-cons, All-append, Contains-append_left, Contains-append_right, Contains-append_cases}
 use Rattle.session_log.specs.Text.{ClientSession}
 use Rattle.serializability.specs.Log.{Log}
@@ -19,19 +19,20 @@ use Rattle.cube_laws.proofs.Lists.{within, map_length}
 use Rattle.tell_reasons.specs.declared.why.ChainOrder.{ChainOrder}
 use Rattle.tell_steps.specs.View.{StepsView}
 use Rattle.tell_steps.specs.Orders.{choice_of}
-use Rattle.tell_steps.specs.Lines.{HasLedger}
-use Rattle.tell_steps.specs.Steps.{IsOrder, AreStepsTold}
+use Rattle.tell_steps.specs.Lines.{HasLedger, IsNeededIn}
+use Rattle.tell_steps.specs.Steps.{IsOrder, AreStepsTold, IsNamed}
 use Rattle.tell_steps.specs.declared.item.Item.{Item}
+use Rattle.tell_steps.proofs.Telling.{named_among}
 use Rattle.tell_trees.specs.declared.visits.Visit.{Visit}
 use Rattle.tell_trees.specs.Orders.{AreOrdersOf}
 use Rattle.tell_trees.specs.Searched.{IsSearched}
 use Rattle.tell_trees.specs.Told.{AddsVisits}
 use Rattle.tell_trees.specs.Trees.{IsCubeTold, IsTreeTold, leaves_items}
-use Rattle.tell_trees.specs.Visits.{IsTree, DecidesAmong, IsVisited, leaf_count}
+use Rattle.tell_trees.specs.Visits.{IsTree, DecidesAmong, IsVisited, leaf_count, line_of}
 use Rattle.tell_trees.specs.Visits as visited
 use Rattle.tell_trees.proofs.Counted.{told_count}
 use Rattle.tell_trees.proofs.Facts.{decides_among}
-use Rattle.tell_trees.proofs.Tellings.{root_told}
+use Rattle.tell_trees.proofs.Tellings.{root_told, line_named}
 
 module _ (p : Polygraph) (log : Log) (known : (e : Edge) → (Contains p.known e ↔ Contains (chain_polygraph log).known e)) (choices : p.choices ≡ chain_choices log) (kept : List Entry) (e : Edge) where
   to_chains : Contains (edges_after p kept) e → Contains (edges_after (chain_polygraph log) kept) e
@@ -97,20 +98,27 @@ module _ (ss : List ClientSession) (entries : List LedgerEntry) (orders : List C
   pub searched_among : DecidesAmong (length orders) nodes
   searched_among = subst (λ n. DecidesAmong n nodes) (sym orders_count) (decides_among h.poly nodes h.shown)
 
-  pub whole_told : (s : StepsView) → s.sessions ≡ ss → (visits : List Visit) (last : ℕ) → IsVisited nodes 0 0 last visits → (before mid items : List Item) → AreStepsTold s.sessions s.orders before → mid ≡ before ++ leaves_items (leaf_count nodes)
-      → AddsVisits s orders nodes visits mid items → (choices : List Choice) → AreOrdersOf (log_of ss) choices orders → IsTreeTold ss choices nodes items
-  whole_told s of_log visits last v before mid items steps mid_is a choices sides =
+  pub whole_told : (s : StepsView) → s.sessions ≡ ss → (visits : List Visit) (last : ℕ) → IsVisited nodes 0 0 last visits → (before mid items : List Item) → AreStepsTold ss s.orders before → mid ≡ before ++ leaves_items (leaf_count nodes)
+      → AddsVisits s orders nodes visits mid items → (lines : List (Bor (List ℕ))) → map (λ (l : Bor (List ℕ)). l.now) lines ≡ filter_map (line_of nodes) visits → ((k : ℕ) → k < length s.orders → IsNamed before k ⊎ IsNeededIn ss s.orders lines k) → (choices : List Choice) → AreOrdersOf (log_of ss) choices orders → IsTreeTold ss choices nodes items
+  whole_told s of_log visits last v before mid items steps mid_is a lines lines_are needed choices sides =
       let each = subst (λ (zs : List ClientSession). All (IsOrder (log_of zs)) orders) (sym of_log) h.sides.each in
+      let whole : items ≡ before ++ (leaves_items (leaf_count nodes) ++ a.own) = a.added ∙ ap (λ l. l ++ a.own) mid_is ∙ append_assoc before (leaves_items (leaf_count nodes)) a.own in
       let root = root_told s orders nodes h.poly h.shown each orders_count last visits a.own v a.told in
       record {
         steps = s.orders;
         orders = orders;
         before = before;
         tree = a.own;
-        told = subst (λ (zs : List ClientSession). AreStepsTold zs s.orders before) of_log steps;
+        told = steps;
         sides = sides;
         last = last;
         root = subst (λ (zs : List ClientSession). IsCubeTold zs s.orders orders nodes 0 0 [] 0 last a.own) of_log root;
         count = told_count h.poly nodes h.shown last visits v;
-        whole = a.added ∙ ap (λ l. l ++ a.own) mid_is ∙ append_assoc before (leaves_items (leaf_count nodes)) a.own;
+        whole = whole;
+        needed = λ k lt. elim (needed k lt) [
+          | inl n ↦ named_among before items k (λ x c. subst (λ l. Contains l x) (sym whole) (Contains-append_left before (leaves_items (leaf_count nodes) ++ a.own) x c)) n
+          | inr n ↦
+              let own = line_named s orders nodes visits a.own a.told lines lines_are k (subst (λ (zs : List ClientSession). IsNeededIn zs s.orders lines k) (sym of_log) n) in
+              named_among a.own items k (λ x c. subst (λ l. Contains l x) (sym a.added) (Contains-append_right mid a.own x c)) own
+        ];
       }

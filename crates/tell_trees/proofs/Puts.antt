@@ -1,6 +1,6 @@
 -- What is appended for visited nodes.
 use Rattle.std.proofs.Common.{◌≡◌, ℕ, ◌+◌, ◌-◌, ◌<◌, List, [], ◌∷◌, ◌++◌, length, map, get_or, Option, Some, None, refl, sym, ap, ◌∙◌, subst, append_assoc, arith}
-use Rattle.std.proofs.lemmas.List.{append-nil, length-append}
+use Rattle.std.proofs.lemmas.List.{append-nil}
 use Rattle.std.specs.Prelude.{slice_get, IfSome, option_and_then}
 use Rattle.cube_laws.specs.declared.tree.CubeDecision.{CubeDecision}
 use Rattle.cube_laws.specs.declared.tree.TreeNode.{TreeNode}
@@ -8,48 +8,24 @@ use Rattle.std.specs.Option.{option_map}
 use Rattle.cube_laws.proofs.Lists.{some_is, there}
 use Rattle.tell_reasons.specs.declared.why.ChainOrder.{ChainOrder}
 use Rattle.tell_steps.specs.View.{StepsView}
-use Rattle.tell_steps.specs.Lines.{TellsLine}
-use Rattle.tell_steps.specs.Steps as steps
-use Rattle.tell_steps.specs.Steps.{IsLineTold, IsCycleTold}
+use Rattle.tell_steps.specs.Told.{IsPut, IsRoundTold}
 use Rattle.tell_steps.specs.declared.item.Item.{Item}
 use Rattle.tell_steps.specs.declared.item.Item.TheVariants as item
 use Rattle.tell_trees.specs.declared.visits.Visit.{Visit}
 use Rattle.tell_trees.specs.Orders.{order_at}
-use Rattle.tell_trees.specs.Told.{IsRound, CanTell, decided_at, decision_items, AddsLeaf, AddsVisit, AddsVisits}
+use Rattle.tell_trees.specs.Told.{CanTell, decided_at, decision_items, AddsLeaf, AddsVisit, AddsVisits}
 use Rattle.tell_trees.specs.Visits.{IsTree, DecidesAmong, line_of}
 use Rattle.tell_trees.proofs.Facts.{up_cube, up_before, up_end}
 use Rattle.tell_trees.proofs.Tellings.{told_more}
-
--- ---- a cycle
-round_length : (line : List ℕ) (r : IsRound line) → length line ≡ length r.inner + 1 + 1
-round_length line r = omega (arith, ap length r.shape, length-append r.inner (r.start ∷ []))
-
-pub round_long : (line : List ℕ) → IsRound line → 1 < length line
-round_long line r = omega (arith, round_length line r)
-
-pub cycle_added : (s : StepsView) (decided : List ChainOrder) (line : List ℕ) (old mid now : List Item) (start : ℕ) → CanTell s decided line → start ≡ get_or line 0 start → mid ≡ old ++ item.Cycle start (length line - 1) ∷ []
-    → TellsLine s decided line mid now → AddsLeaf s decided (Some line) old now
-cycle_added s decided line old mid now start can start_is mid_is t =
-    let r = can.round in
-    let edges = length line - 1 in
-    let first : start ≡ r.start = start_is ∙ ap (λ (l : List ℕ). get_or l 0 start) r.shape in
-    let count = round_length line r in
-    let many : length line - 1 ≡ length r.inner + 1 = omega (arith, count) in
-    let told : IsCycleTold s.sessions s.orders decided (item.Cycle start edges ∷ t.edges) =
-    subst (λ (z : Item). IsCycleTold s.sessions s.orders decided (z ∷ t.edges)) (λ i. let a = sym first in let b = sym many in item.Cycle (a i) (b i))
-    (steps.closes r.start r.inner t.edges (subst (λ (l : List ℕ). IsLineTold s.sessions s.orders decided l t.edges) r.shape t.told)) in
-    record {
-      cycle = item.Cycle start edges ∷ t.edges;
-      added = t.added ∙ ap (λ l. l ++ t.edges) mid_is ∙ append_assoc old (item.Cycle start edges ∷ []) t.edges;
-      told = told;
-    }
 
 -- ---- a leaf
 pub line_can : (s : StepsView) (decided : List ChainOrder) (o : Option (List ℕ)) (line : List ℕ) → Some line ≡ o → IfSome o (CanTell s decided) → CanTell s decided line
 line_can s decided o line e c = subst (λ (z : Option (List ℕ)). IfSome z (CanTell s decided)) (sym e) c
 
-pub leaf_added : (s : StepsView) (decided same : List ChainOrder) (o : Option (List ℕ)) (line : List ℕ) (old now : List Item) → Some line ≡ o → decided ≡ same → AddsLeaf s decided (Some line) old now → AddsLeaf s same o old now
-leaf_added s decided same o line old now e f a = subst (λ (z : Option (List ℕ)). AddsLeaf s same z old now) e (subst (λ (d : List ChainOrder). AddsLeaf s d (Some line) old now) f a)
+pub leaf_added : (s : StepsView) (decided same : List ChainOrder) (o : Option (List ℕ)) (line : List ℕ) (old now : List Item) → Some line ≡ o → decided ≡ same → IsPut old now (IsRoundTold s.sessions s.orders decided line) → AddsLeaf s same o old now
+leaf_added s decided same o line old now e f p =
+    let a : AddsLeaf s decided (Some line) old now = record { cycle = p.items; added = p.appended; told = p.kind } in
+    subst (λ (z : Option (List ℕ)). AddsLeaf s same z old now) e (subst (λ (d : List ChainOrder). AddsLeaf s d (Some line) old now) f a)
 
 pub no_leaf_added : (s : StepsView) (decided : List ChainOrder) (o : Option (List ℕ)) (old : List Item) → None ≡ o → AddsLeaf s decided o old old
 no_leaf_added s decided o old e =

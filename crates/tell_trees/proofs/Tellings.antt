@@ -1,8 +1,10 @@
 -- What is told of a tree's nodes, depth first, is the tree told.
-use Rattle.std.proofs.Common.{◌≡◌, ℕ, ◌+◌, ◌-◌, ◌<◌, Bool, true, false, cond, List, [], ◌∷◌, ◌++◌, length, map, Option, Some, None, refl, sym, ap, ◌∙◌, subst, append_assoc, arith}
+use Rattle.std.proofs.Common.{◌≡◌, ℕ, ◌+◌, ◌-◌, ◌<◌, Bool, true, false, cond, List, [], ◌∷◌, ◌++◌, length, map, Option, Some, None, refl, sym, ap, ◌∙◌, subst, inl, inr, append_assoc, arith, Bor}
 use Rattle.std.proofs.lemmas.List.{append-nil}
 use Rattle.std.specs.Prelude.{slice_get, option_and_then}
-use Rattle.std.specs.List.{All}
+use Rattle.std.specs.List.{All, Contains, filter_map, cons_option}
+use Rattle.std.proofs.lemmas.List.Elements.{Contains-append_left, Contains-append_right}
+use Rattle.known_graph.proofs.Listed.{In, In-from_Contains}
 use Rattle.serializability.specs.Polygraph.{Polygraph}
 use Rattle.pruning_laws.specs.declared.side.Side.{Side}
 use Rattle.pruning_laws.specs.declared.side.Side.TheVariants.{One, Two}
@@ -14,7 +16,10 @@ use Rattle.cube_laws.specs.Trees.{cube_of, IsChild, IsRefutationTree}
 use Rattle.cube_laws.proofs.Lists.{some_is}
 use Rattle.tell_reasons.specs.declared.why.ChainOrder.{ChainOrder}
 use Rattle.tell_steps.specs.View.{StepsView}
-use Rattle.tell_steps.specs.Steps.{turned, IsOrder, IsCycleTold}
+use Rattle.tell_steps.specs.Steps.{turned, IsOrder, IsCycleTold, IsNamed}
+use Rattle.tell_steps.specs.Lines.{IsNeededIn}
+use Rattle.tell_steps.specs.Told.{IsRoundTold}
+use Rattle.tell_steps.proofs.Telling.{round_cycle, round_named, named_among}
 use Rattle.tell_steps.specs.declared.item.Item.{Item}
 use Rattle.tell_steps.specs.declared.item.Item.TheVariants as item
 use Rattle.tell_trees.specs.declared.visits.Visit.{Visit}
@@ -25,6 +30,11 @@ use Rattle.tell_trees.specs.Trees as told
 use Rattle.tell_trees.specs.Visits.{cycle_in, line_of, IsVisitOf, IsVisited}
 use Rattle.tell_trees.specs.Visits as visited
 use Rattle.tell_trees.proofs.Facts.{child_cube, root_decides, root_cube}
+
+in_map : {A B : Type 0} (f : A → B) (xs : List A) (x : A) → In x xs → In (f x) (map f xs)
+in_map f [] x i = i
+in_map f (y ∷ xs) x (inl e) = inl (ap f e)
+in_map f (y ∷ xs) x (inr i) = inr (in_map f xs x i)
 
 module _ (s : StepsView) (orders : List ChainOrder) (nodes : List TreeNode) where
   pub told_more : (vs : List Visit) (v : Visit) (a b : List Item) → AreVisitsTold s orders nodes vs a → IsVisitTold s orders nodes v b → AreVisitsTold s orders nodes (vs ++ v ∷ []) (a ++ b)
@@ -47,6 +57,37 @@ module _ (s : StepsView) (orders : List ChainOrder) (nodes : List TreeNode) wher
   -- ---- the lines of visited nodes
   leaf_line : (v : Visit) (x : TreeNode) (told_is : Bool) (g : Growth) → IsVisitOf nodes told_is x v → x.growth ≡ g → line_of nodes v ≡ cond told_is (cycle_in g) None
   leaf_line v x told_is g h e = (λ i. cond (h.told_is i) (option_and_then (λ (y : TreeNode). cycle_in y.growth) (h.here i)) None) ∙ ap (λ z. cond told_is (cycle_in z) None) e
+
+  -- a told line is told as a cycle
+  record IsToldIn (line : List ℕ) (items : List Item) : Type 0 where
+    pub decided : List ChainOrder
+    pub round : List Item
+    pub told : IsRoundTold s.sessions s.orders decided line round
+    pub among : (x : Item) → Contains round x → Contains items x
+
+  told_in : (vs : List Visit) (items : List Item) → AreVisitsTold s orders nodes vs items → (line : List ℕ) → In line (filter_map (line_of nodes) vs) → IsToldIn line items
+  told_in [] items h line i = absurd i
+  told_in (v ∷ vs) items h line i = go (line_of nodes v) h.2.leaf i
+    where
+      own : (x : Item) → Contains h.2.after x → Contains items x
+      own x c = subst (λ l. Contains l x) (sym h.4) (Contains-append_left h.0 h.1 x (subst (λ l. Contains l x) (sym h.2.whole) (Contains-append_right (decision_items orders v.depth h.2.node.decision) h.2.after x c)))
+
+      later : In line (filter_map (line_of nodes) vs) → IsToldIn line items
+      later j =
+          let r = told_in vs h.1 h.3 line j in
+          record { decided = r.decided; round = r.round; told = r.told; among = λ x c. subst (λ l. Contains l x) (sym h.4) (Contains-append_right h.0 h.1 x (r.among x c)) }
+
+      go : (o : Option (List ℕ)) → IsLeafTold s (decided_at orders nodes v.node) o h.2.after → In line (cons_option o (filter_map (line_of nodes) vs)) → IsToldIn line items
+      go None t j = later j
+      go (Some l) t (inl same) = record { decided = decided_at orders nodes v.node; round = h.2.after; told = subst (λ z. IsRoundTold s.sessions s.orders (decided_at orders nodes v.node) z h.2.after) same t; among = own }
+      go (Some l) t (inr j) = later j
+
+  -- what a told line needs is named
+  pub line_named : (vs : List Visit) (items : List Item) → AreVisitsTold s orders nodes vs items → (lines : List (Bor (List ℕ))) → map (λ (l : Bor (List ℕ)). l.now) lines ≡ filter_map (line_of nodes) vs → (k : ℕ) → IsNeededIn s.sessions s.orders lines k → IsNamed items k
+  line_named vs items h lines e k n =
+      let i : In n.line.now (map (λ (l : Bor (List ℕ)). l.now) lines) = in_map (λ (l : Bor (List ℕ)). l.now) lines n.line (In-from_Contains lines n.line n.among) in
+      let r = told_in vs items h n.line.now (subst (In n.line.now) e i) in
+      named_among r.round items k r.among (round_named s.sessions s.orders r.decided lines k r.round n r.told)
 
   -- ---- a node with all below it
   pub record IsNodeTold (i n k : ℕ) (items : List Item) : Type 0 where
@@ -84,7 +125,7 @@ module _ (s : StepsView) (orders : List ChainOrder) (nodes : List TreeNode) wher
     none_told decided o items e h = subst (λ z. IsLeafTold s decided z items) e h
 
     cycle_told : (decided : List ChainOrder) (o : Option (List ℕ)) (line : List ℕ) (items : List Item) → o ≡ Some line → IsLeafTold s decided o items → IsCycleTold s.sessions s.orders decided items
-    cycle_told decided o line items e h = subst (λ z. IsLeafTold s decided z items) e h
+    cycle_told decided o line items e h = round_cycle s.sessions s.orders decided line items (subst (λ z. IsLeafTold s decided z items) e h)
 
     pub node_told : {i n k : ℕ} {vs : List Visit} → IsVisited nodes i n k vs → (items : List Item) → AreVisitsTold s orders nodes vs items → IsNodeTold i n k items
     node_told (visited.leaf v n x line lt of g) items h =

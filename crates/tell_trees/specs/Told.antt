@@ -7,19 +7,14 @@ use Rattle.cube_laws.specs.declared.tree.TreeNode.{TreeNode}
 use Rattle.cube_laws.specs.Trees.{cube_of}
 use Rattle.tell_reasons.specs.declared.why.ChainOrder.{ChainOrder}
 use Rattle.tell_steps.specs.View.{StepsView}
-use Rattle.tell_steps.specs.Lines.{IsLineOfNodes, IsCovered, HasEdges}
-use Rattle.tell_steps.specs.Steps.{IsOrder, IsCycleTold}
+use Rattle.tell_steps.specs.Lines.{IsLineOfNodes, IsCovered, HasEdges, IsRound}
+use Rattle.tell_steps.specs.Steps.{IsOrder}
+use Rattle.tell_steps.specs.Told.{IsRoundTold}
 use Rattle.tell_steps.specs.declared.item.Item.{Item}
 use Rattle.tell_steps.specs.declared.item.Item.TheVariants as item
 use Rattle.tell_trees.specs.Orders.{order_at}
 use Rattle.tell_trees.specs.Visits.{line_of}
 use Rattle.tell_trees.specs.declared.visits.Visit.{Visit}
-
--- the line ends where it begins
-pub record IsRound (line : List ℕ) : Type 0 where
-  pub start : ℕ
-  pub inner : List ℕ
-  pub shape : line ≡ start ∷ (inner ++ start ∷ [])
 
 -- the steps were made for the line, and where these orders of two chains are decided it is a cycle
 pub record CanTell (s : StepsView) (decided : List ChainOrder) (line : List ℕ) : Type 0 where
@@ -42,7 +37,7 @@ decision_items orders depth (Some d) = item.Decided (depth - 1)
 -- the cycle, where there is one
 abbrev pub IsLeafTold : StepsView → List ChainOrder → Option (List ℕ) → List Item → Type 0
 IsLeafTold s decided None items = items ≡ []
-IsLeafTold s decided (Some line) items = IsCycleTold s.sessions s.orders decided items
+IsLeafTold s decided (Some line) items = IsRoundTold s.sessions s.orders decided line items
 
 -- what a visited node decides itself, and its cycle, where it is a leaf that is told
 pub record IsVisitTold (s : StepsView) (orders : List ChainOrder) (nodes : List TreeNode)

@@ -1,6 +1,6 @@
 -- How a refutation tree is told, depth first.
 use Rattle.std.specs.Prelude.{◌≡◌, ℕ, ◌+◌, ◌<◌, nat_lt, if◌then◌else◌, List, [], ◌∷◌, ◌++◌}
-use Rattle.std.specs.Prelude.{Some, slice_get}
+use Rattle.std.specs.Prelude.{Some, length, slice_get}
 use Rattle.session_log.specs.Text.{ClientSession}
 use Rattle.serializability.specs.Polygraph.{Choice}
 use Rattle.pruning_laws.specs.declared.side.Side.TheVariants.{One}
@@ -8,7 +8,7 @@ use Rattle.log_definitions.specs.Numbers.{log_of}
 use Rattle.cube_laws.specs.declared.tree.Growth.TheVariants.{Leaf, Inner}
 use Rattle.cube_laws.specs.declared.tree.TreeNode.{TreeNode}
 use Rattle.tell_reasons.specs.declared.why.ChainOrder.{ChainOrder}
-use Rattle.tell_steps.specs.Steps.{turned, IsOrder, AreStepsTold, IsCycleTold}
+use Rattle.tell_steps.specs.Steps.{turned, IsOrder, AreStepsTold, IsCycleTold, IsNamed}
 use Rattle.tell_steps.specs.declared.item.Item.{Item}
 use Rattle.tell_steps.specs.declared.item.Item.TheVariants as item
 use Rattle.tell_trees.specs.Orders.{AreOrdersOf, order_at}
@@ -52,9 +52,9 @@ leaves_items count = if nat_lt 1 count then item.Leaves count ∷ [] else []
 abbrev pub told_leaves : ℕ → ℕ
 told_leaves count = if nat_lt MAX_LEAVES count then MAX_LEAVES else count
 
--- of a tree with these nodes, over these choices: steps; how many leaves it has, where it has more
--- than one; and then the cube of its first node, in which nothing is decided, with as many leaves as
--- are told of so many
+-- of a tree with these nodes, over these choices: steps, each of which an edge of a cycle or of a later
+-- step's walk stands by; how many leaves it has, where it has more than one; and then the cube of its
+-- first node, in which nothing is decided, with as many leaves as are told of so many
 pub record IsTreeTold (ss : List ClientSession) (choices : List Choice) (nodes : List TreeNode)
     (items : List Item) : Type 0 where
   pub steps : List ChainOrder
@@ -67,3 +67,4 @@ pub record IsTreeTold (ss : List ClientSession) (choices : List Choice) (nodes :
   pub root : IsCubeTold ss steps orders nodes 0 0 [] 0 last tree
   pub count : last ≡ told_leaves (leaf_count nodes)
   pub whole : items ≡ before ++ (leaves_items (leaf_count nodes) ++ tree)
+  pub needed : (k : ℕ) → k < length steps → IsNamed items k

@@ -16,7 +16,6 @@ ghost use Rattle.tell_trees.specs.Visits.{IsTree, DecidesAmong, line_of};
 use crate::visits::{Visit, told_line};
 use cube_laws::{CubeDecision, TreeNode};
 use pruning_laws::Side;
-use serializability::NodeIx;
 use std::alloc::{AllocError, Global};
 use tell_reasons::ChainOrder;
 use tell_steps::{Item, Steps};
@@ -104,25 +103,6 @@ fn decided_orders(
     Ok(decided)
 }
 
-/// Appends a cycle of a cube in which these orders are decided.
-fn put_cycle(
-    alloc: Global,
-    items: &mut Vec<Item>,
-    steps: &mut Steps<'_>,
-    decided: &[ChainOrder],
-    line: &[NodeIx],
-) -> Result<(), AllocError>
-    requires line { CanTell steps.old decided.now line.now }
-    ensures same { steps.new ≡ steps.old }
-    ensures told { OnOk result (AddsLeaf steps.old decided.now
-        (Some line.now) items.old.items items.new.items) }
-{
-    let start = line[0];
-    let edges = line.len() - 1;
-    items.extend_from_slice(&[Item::Cycle { start, edges }])?;
-    steps.put_line(alloc, items, decided, line)
-}
-
 /// Appends the cycle of a visited node, where it is a leaf that is told.
 fn put_leaf(
     alloc: Global,
@@ -145,7 +125,7 @@ fn put_leaf(
     match told_line(nodes, visit) {
         Some(line) => {
             let decided = decided_orders(alloc, orders, nodes, visit.node, visit.depth)?;
-            put_cycle(alloc, items, steps, &decided, line)
+            steps.put_cycle(alloc, items, &decided, line)
         }
         None => Ok(()),
     }

@@ -63,8 +63,7 @@ fn tell_nodes(
     let visits = visits(alloc, nodes)?;
     let leaves = count_leaves(nodes);
     let lines = told_lines(alloc, nodes, &visits, leaves)?;
-    let mut steps = steps_of(alloc, history, chains, entries, &lines)?;
-    let mut items = steps.items(alloc)?;
+    let (mut steps, mut items) = steps_of(alloc, history, chains, entries, &lines)?;
     put_leaves(&mut items, leaves)?;
     put_visits(alloc, &mut items, &mut steps, orders, nodes, &visits)?;
     Ok(items)

@@ -4,5 +4,8 @@ use Rattle.tell_steps.proofs.chain.first_chain.Goals as goal
 
 pub unreachable-requires : goal.unreachable-requires
 unreachable-requires c =
-    let o = c.args.order in
+    let o = c.args.order.now in
     no_chain (log_of c.args.chains.now) o.key o.first c.chains_of-others.result.now c.chains_of-others.ensures.chains c.in-None.ensures.none c.requires.order.one
+
+pub returns : goal.returns
+returns c = ?

@@ -1,26 +1,48 @@
-use Rattle.std.proofs.Common.{length, arith}
+use Rattle.std.proofs.Common.{subst}
+use Rattle.std.specs.List.{All, Contains}
+use Rattle.serializability.specs.Polygraph.{Edge}
+use Rattle.log_definitions.specs.Numbers.{log_of}
+use Rattle.tell_steps.specs.Steps.{edges_in}
 use Rattle.tell_steps.specs.Lines.{sides_of}
-use Rattle.tell_steps.proofs.FirstSides.{first_below}
+use Rattle.tell_steps.proofs.Covering.{first_step, first_within, no_step, none_left}
 use Rattle.tell_steps.proofs.lines.why_of.Goals as goal
 
-pub bounds-numbers-entry : goal.bounds-numbers-entry
-bounds-numbers-entry c =
-    let kept = c.args.basis.now.grounds.now.kept.items in
-    let g = rw c.in-Kept.is at c.in_ok-reason.ensures.ground in
-    omega (arith, first_below (sides_of c.args.basis.now.history.now kept) (length kept) (c.args.a, c.args.b) c.in-Kept.entry g.1 (c.requires.rests.kept g.0), c.requires.numbers)
+pub returns-in-Some-clause-why : goal.returns-in-Some-clause-why
+returns-in-Some-clause-why c =
+    let g = rw c.in-Some.is at c.in_ok-reason.ensures.answer in
+    (g.holds, g.first, g.least)
 
 pub kept_order-order-requires : goal.kept_order-order-requires
 kept_order-order-requires c =
-    let kept = c.args.basis.now.grounds.now.kept.items in
-    let g = rw c.in-Kept.is at c.in_ok-reason.ensures.ground in
-    record { entry = first_below (sides_of c.args.basis.now.history.now kept) (length kept) (c.args.a, c.args.b) c.in-Kept.entry g.1 (c.requires.rests.kept g.0) }
+    let ss = c.args.basis.now.history.now in
+    let steps = c.args.basis.now.grounds.now.kept.items in
+    let e : Edge = (c.args.a, c.args.b) in
+    record { entry = first_within ss steps e c.in-Some-entry_with.step (c.in-Some-entry_with.ensures.found (sides_of ss steps) c.requires.basis.grounds.firsts) }
 
-pub returns-in-Known-clause-why : goal.returns-in-Known-clause-why
-returns-in-Known-clause-why c =
-    let g = rw c.in-Known.is at c.in_ok-reason.ensures.ground in
-    record { each = λ steps n. (g.holds, g.first, g.least) }
+pub returns-in-Some-entry_with-clause-why : goal.returns-in-Some-entry_with-clause-why
+returns-in-Some-entry_with-clause-why c =
+    let ss = c.args.basis.now.history.now in
+    let steps = c.args.basis.now.grounds.now.kept.items in
+    let e : Edge = (c.args.a, c.args.b) in
+    ((rw c.in-None.is at c.in_ok-reason.ensures.answer), first_step ss steps e c.in-Some-entry_with.step c.kept_order-order.result c.kept_order-order.ensures.order (c.in-Some-entry_with.ensures.found (sides_of ss steps) c.requires.basis.grounds.firsts))
 
-pub returns-in-Kept-clause-why : goal.returns-in-Kept-clause-why
-returns-in-Kept-clause-why c =
-    let g = rw c.in-Kept.is at c.in_ok-reason.ensures.ground in
-    record { each = λ steps n. (g.0, n.number g.0 c.in-Kept.entry c.kept_order-order.result c.kept_order-order.ensures.order g.1) }
+pub returns-in-Some-order_with-clause-why : goal.returns-in-Some-order_with-clause-why
+returns-in-Some-order_with-clause-why c =
+    let ss = c.args.basis.now.history.now in
+    let steps = c.args.basis.now.grounds.now.kept.items in
+    let e : Edge = (c.args.a, c.args.b) in
+    let o = c.in-Some-order_with.order in (
+      (rw c.in-None.is at c.in_ok-reason.ensures.answer),
+      no_step ss steps e (c.in-None-entry_with.ensures.found (sides_of ss steps) c.requires.basis.grounds.firsts),
+      c.in-Some-order_with.ensures.among,
+      subst (λ s. Contains (edges_in (log_of s) o) e) c.requires.chains c.in-Some-order_with.ensures.edge,
+    )
+
+pub unreachable-requires : goal.unreachable-requires
+unreachable-requires c =
+    let ss = c.args.basis.now.history.now in
+    let steps = c.args.basis.now.grounds.now.kept.items in
+    let decided = c.args.decided.now in
+    let e : Edge = (c.args.a, c.args.b) in
+    none_left ss steps decided e (c.requires.stands.has (rw c.in-None.is at c.in_ok-reason.ensures.answer)) (c.in-None-entry_with.ensures.found (sides_of ss steps) c.requires.basis.grounds.firsts)
+    (subst (λ s. All (λ o. Contains (edges_in (log_of s) o) e → ⊥) decided) c.requires.chains c.in-None-order_with.ensures.none)

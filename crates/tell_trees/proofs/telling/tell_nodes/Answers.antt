@@ -1,4 +1,4 @@
-use Rattle.std.proofs.Common.{◌≡◌, ℕ, ◌<◌, List, ◌++◌, length, Bor, ◌∙◌, sym, ap, subst}
+use Rattle.std.proofs.Common.{◌≡◌, ℕ, ◌<◌, List, ◌++◌, length, map, Bor, ◌∙◌, sym, ap, subst}
 use Rattle.std.specs.Prelude.{IfSome}
 use Rattle.std.specs.List.{filter_map}
 use Rattle.std.proofs.lemmas.List.Elements.{All-same}
@@ -39,7 +39,8 @@ returns c =
     let s = c.in_ok-steps.steps in let nodes = c.args.nodes.now in let orders = c.args.orders.now in
     record {
       told = whole_told c.args.history.now c.args.entries.now orders nodes c.requires.searched s c.in_ok-steps.ensures.sessions c.in_ok-visits.visits.items c.in_ok-visits.ensures.visited.0 c.in_ok-visits.ensures.visited.1
-          c.in_ok-items.items.items c.put_leaves.new.items.items c.put_visits.new.items.items c.in_ok-items.ensures.told
-          (subst (λ n. c.put_leaves.new.items.items ≡ c.in_ok-items.items.items ++ leaves_items n) c.count_leaves-leaves.ensures.count c.in_ok-put_leaves.ensures.added)
-          (subst (λ (vs : List Visit). AddsVisits s orders nodes vs c.put_leaves.new.items.items c.put_visits.new.items.items) c.deref-3.ensures.value c.in_ok-put_visits.ensures.told);
+          c.in_ok-steps.items.items c.put_leaves.new.items.items c.put_visits.new.items.items c.in_ok-steps.ensures.told
+          (subst (λ n. c.put_leaves.new.items.items ≡ c.in_ok-steps.items.items ++ leaves_items n) c.count_leaves-leaves.ensures.count c.in_ok-put_leaves.ensures.added)
+          (subst (λ (vs : List Visit). AddsVisits s orders nodes vs c.put_leaves.new.items.items c.put_visits.new.items.items) c.deref-3.ensures.value c.in_ok-put_visits.ensures.told)
+          c.deref-2.result.now (ap (map (λ (l : Bor (List ℕ)). l.now)) c.deref-2.ensures.value ∙ c.in_ok-lines.ensures.lines ∙ ap (filter_map (line_of nodes)) c.deref.ensures.value) c.in_ok-steps.ensures.needed;
     }

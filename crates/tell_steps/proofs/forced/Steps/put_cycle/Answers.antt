@@ -2,10 +2,10 @@ use Rattle.std.proofs.Common.{sym, subst}
 use Rattle.tell_steps.specs.View.{StepsView}
 use Rattle.tell_steps.specs.Lines.{LineStands}
 use Rattle.tell_steps.proofs.Covering.{line_stands}
-use Rattle.tell_steps.proofs.forced.Steps.put_line.Goals as goal
+use Rattle.tell_steps.proofs.forced.Steps.put_cycle.Goals as goal
 
-pub put_edges_among-requires-clause-stands : goal.put_edges_among-requires-clause-stands
-put_edges_among-requires-clause-stands c =
+pub put_cycle-requires-clause-stands : goal.put_cycle-requires-clause-stands
+put_cycle-requires-clause-stands c =
     let decided = c.args.decided.now in
     let line = c.args.line.now in
     subst (λ (s : StepsView). LineStands s.sessions s.orders decided line) (sym c.self.view_is) (line_stands c.args.self.now decided line c.requires.line c.requires.covered c.requires.edges)
