@@ -57,10 +57,11 @@ fn walk_to(
     let mut back = Vec::new(basis.alloc);
     back.push(end)?;
     let mut next = earliest(basis, answers, line, end)?;
-    for (place, node) in line.iter().enumerate().rev() {
+    for done in 0..line.len() {
+        let place = line.len() - 1 - done;
         if place == next {
-            back.push(*node)?;
-            next = earliest(basis, answers, &line[..place], *node)?;
+            back.push(line[place])?;
+            next = earliest(basis, answers, &line[..place], line[place])?;
         }
     }
     back.reverse();
