@@ -17,4 +17,5 @@ grounds_of-requires c =
     let ss = c.args.history.now in
     let orders_are : c.deref.result.now ≡ orders_in (log_of ss) = c.deref.ensures.value ∙ c.in_ok-orders.ensures.list ∙ ap (λ s. orders_in (log_of s)) c.requires.chains in
     let e : c.in_ok-kept.kept.items ≡ kept_by ss c.args.entries.now = kept_are ss c.args.entries.now c.deref.result.now c.in_ok-kept.kept.items orders_are c.in_ok-kept.ensures.kept in
-    record { orders = subst (λ s. All (IsOrder (log_of s)) c.in_ok-kept.kept.items) (sym c.requires.chains) (subst (All (IsOrder (log_of ss))) (sym e) (kept_orders_are ss c.args.entries.now c.requires.clean c.requires.entries)) }
+    let orders = subst (All (IsOrder (log_of ss))) (sym (c.deref-2.ensures.value ∙ e)) (kept_orders_are ss c.args.entries.now c.requires.clean c.requires.entries) in
+    record { orders = subst (λ s. All (IsOrder (log_of s)) c.deref-2.result.now) (sym c.requires.chains) orders }
