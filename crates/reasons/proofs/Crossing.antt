@@ -1,17 +1,16 @@
 -- Crossed reads of the sessions, and four nodes of the log that read all four pairs.
-use Rattle.std.proofs.Common.{◌≡◌, ◌≢◌, ℕ, ◌<◌, ◌≤◌, true, List, None, Some, refl, sym, ap, ◌∙◌, subst, arith, eq-eqb}
+use Rattle.std.proofs.Common.{◌≡◌, ◌≢◌, ℕ, ◌<◌, ◌≤◌, true, List, Some, sym, ap, ◌∙◌, subst, eq-eqb}
 use Rattle.std.specs.Prelude.{slice_get}
 use Rattle.session_log.specs.Text.{ClientSession}
 use Rattle.session_log.specs.declared.session.Op.TheVariants.{Read}
 use Rattle.serializability.specs.declared.event.Event.TheVariants as event
 use Rattle.serializability.specs.declared.event.Event.{Event}
-use Rattle.serializability.specs.Log.{Log}
 use Rattle.serializability.specs.Reads.{IsFinal, IsClean}
 use Rattle.serializability.specs.Polygraph.{source}
 use Rattle.serializability.proofs.Sources.{source_is, source_from}
 use Rattle.log_definitions.specs.WellFormed.{keys_in}
 use Rattle.log_definitions.specs.Numbers.{number_in, log_of}
-use Rattle.reason_laws.specs.Reasons.{IsNode, IsOpAt, ReadsAt}
+use Rattle.reason_laws.specs.Reasons.{IsNode, ReadsAt}
 use Rattle.reason_laws.specs.Crossed.{ReadsPair, AreCrossed}
 use Rattle.reason_laws.specs.declared.crossing.Crossing.{Crossing}
 use Rattle.reason_laws.specs.declared.crossing.PairRead.{PairRead}
@@ -50,15 +49,6 @@ some_read ss clean v x h none =
     let read = reads_in ss v x f.w f.before f.reads f.external in
     let is = let op = read.is.read in event_at ss v read.place (Read read.key f.w) op in
     none read.place (event.Read (number_in (keys_in ss) read.key) f.w) is (eq-eqb (number_in (keys_in ss) read.key) x read.number)
-
-pub one_key_of : (log : Log) (v x y : ℕ) → ReadsKeys log v x y → ReadsKeys log v x x
-one_key_of log v x y h = let b = h.both in record { one = h.one; two = h.one; both = record { low = b.low; high = b.high; first = b.first; second = b.first } }
-
-pub other_key_of : (log : Log) (v x y : ℕ) → ReadsKeys log v x y → ReadsKeys log v y y
-other_key_of log v x y h = let b = h.both in record { one = h.two; two = h.two; both = record { low = b.low; high = b.high; first = b.second; second = b.second } }
-
-pub keys_of : (log : Log) (v x u y w : ℕ) → ReadsBoth log v x u y w → ReadsKeys log v x y
-keys_of log v x u y w b = record { one = u; two = w; both = b }
 
 -- ---- reads of one version
 -- what reads a version of the key with this number reads this identity of this key

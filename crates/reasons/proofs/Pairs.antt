@@ -1,7 +1,7 @@
 -- What the readers of a key read, one by one.
-use Rattle.std.proofs.Common.{◌≡◌, ◌≢◌, ℕ, zero, suc, ◌+◌, ◌<◌, ◌≤◌, List, [], ◌∷◌, ◌++◌, length, get_or, Option, None, Some, refl, sym, ap, ◌∙◌, subst, inl, inr, arith}
+use Rattle.std.proofs.Common.{◌≡◌, ℕ, zero, suc, ◌+◌, ◌<◌, ◌≤◌, List, [], ◌∷◌, ◌++◌, Option, None, Some, refl, sym, ap, ◌∙◌, subst, inl, inr, arith}
 use Rattle.std.specs.Prelude.{map}
-use Rattle.std.specs.List.{Contains, cons_option, filter_map, range_with_len, AllByRecursion}
+use Rattle.std.specs.List.{Contains, cons_option, filter_map, AllByRecursion}
 use Rattle.std.specs.Option.{option_map}
 use Rattle.std.proofs.lemmas.Bool.{cases_eq}
 use Rattle.std.proofs.lemmas.List.{get_or-map, length-map}
@@ -70,11 +70,14 @@ each_both : (log : Log) (r x u : ℕ) → 0 < r → r ≤ log.nodes → source l
 each_both log r x u low high from [] h = tt
 each_both log r x u low high from (p ∷ ps) h = (record { low = low; high = high; first = from; second = h.0.1 }, each_both log r x u low high from ps h.1)
 
-by_reads : (r u : ℕ) (reads : List ReadFrom) → map (λ read. pair r u read.key read.source) reads ≡ pairs_by r u (map (λ read. (read.key, read.source)) reads)
+abbrev pub pair_of : ReadFrom → ℕ × ℕ
+pair_of read = (read.key, read.source)
+
+by_reads : (r u : ℕ) (reads : List ReadFrom) → map (λ read. pair r u read.key read.source) reads ≡ pairs_by r u (map pair_of reads)
 by_reads r u [] = refl
 by_reads r u (read ∷ reads) = ap (λ l. pair r u read.key read.source ∷ l) (by_reads r u reads)
 
-pub pairs_read : (log : Log) (r u : ℕ) (reads : List ReadFrom) → map (λ read. (read.key, read.source)) reads ≡ sources_of log r → map (λ read. pair r u read.key read.source) reads ≡ pairs_by r u (sources_of log r)
+pub pairs_read : (log : Log) (r u : ℕ) (reads : List ReadFrom) → map pair_of reads ≡ sources_of log r → map (λ read. pair r u read.key read.source) reads ≡ pairs_by r u (sources_of log r)
 pairs_read log r u reads e = by_reads r u reads ∙ ap (pairs_by r u) e
 
 -- ---- one node more

@@ -1,5 +1,5 @@
 -- Four nodes that read all four pairs, found among what the readers of a key read.
-use Rattle.std.proofs.Common.{◌≡◌, ◌≢◌, ◌⊎◌, ℕ, ◌+◌, ◌<◌, ◌≤◌, Bool, true, false, List, [], ◌∷◌, ◌++◌, length, take, get_or, Option, None, Some, refl, sym, ap, ◌∙◌, subst, inl, inr, arith, eqb, eqb-true, eq-eqb, cond}
+use Rattle.std.proofs.Common.{◌≡◌, ◌≢◌, ◌⊎◌, ℕ, ◌+◌, ◌<◌, Bool, true, false, List, [], ◌∷◌, ◌++◌, length, take, get_or, Option, None, Some, refl, sym, ap, ◌∙◌, subst, inl, inr, arith, eqb, eqb-true, eq-eqb, cond}
 use Rattle.std.specs.Prelude.{is_some}
 use Rattle.std.specs.Option.{option_map}
 use Rattle.std.specs.List.{Contains}
@@ -8,17 +8,15 @@ use Rattle.std.specs.declared.cmp.Ordering.{Ordering}
 use Rattle.std.specs.declared.cmp.Ordering.TheVariants.{Less, Equal, Greater}
 use Rattle.std.specs.BTreeMap.{BTreeMap, get, is_at, Updates}
 use Rattle.std.specs.Ordering.{nat_cmp}
-use Rattle.std.proofs.lemmas.Bool.{cases_eq, ne_eqb, false≢true}
+use Rattle.std.proofs.lemmas.Bool.{cases_eq, false≢true}
 use Rattle.std.proofs.lemmas.List.{take_more}
 use Rattle.std.proofs.lemmas.List.Elements.{Contains-push, Contains-push_cases, Contains-append_left}
 use Rattle.std.proofs.lemmas.Map.Lookups.{exact_unsigned, exact_pairs}
 use Rattle.serializability.specs.Log.{Log}
-use Rattle.serializability.specs.Reads.{IsClean, IsFinal, last_write}
-use Rattle.serializability.specs.Polygraph.{source, committed}
+use Rattle.serializability.specs.Reads.{IsClean, IsFinal}
 use Rattle.serializability.proofs.Sources.{source_is}
-use Rattle.serializability.proofs.Places.{each_of_filter, each_of_range}
-use Rattle.reach_laws.proofs.Walks.{each_from_contained}
 use Rattle.session_history.specs.Tables.{writers_in}
+use Rattle.write_chains.proofs.Nexts.{writer_among}
 use Rattle.reasons.specs.declared.crossings.Pair.{Pair}
 use Rattle.reasons.specs.declared.crossings.Shared.{Shared}
 use Rattle.reasons.specs.declared.crossings.Square.{Square}
@@ -196,10 +194,7 @@ square_from log x n u pairs s h first q =
 
 writer_in : (log : Log) (x u w : ℕ) → 0 < u → IsFinal log u x w → Contains (writers_in log x) u
 writer_in log x u w wrote (inl f) = absurd (omega (arith, f.0, wrote))
-writer_in log x u w wrote (inr f) =
-    let In : ℕ → Type 0 = Contains (writers_in log x) in
-    each_of_range (λ v. is_some (last_write x (log.ops v)) ≡ true → In v) 1 log.nodes
-    (each_of_filter In (λ v. is_some (last_write x (log.ops v))) (committed log) (each_from_contained In (writers_in log x) (λ v c. c))) u f.0 (omega (arith, f.1)) (ap is_some f.2)
+writer_in log x u w wrote (inr f) = writer_among log x u (record { low = f.0; high = f.1; writer = ap is_some f.2 })
 
 -- no version that a node wrote has such nodes
 module _ (log : Log) (clean : IsClean log) (x : ℕ) (pairs : List Pair) (writers : List ℕ) (are : writers ≡ writers_in log x) (h : ArePairs log x (log.nodes + 1) pairs) (none : (u : ℕ) → Contains writers u → NoSquareOf pairs u) where

@@ -1,4 +1,4 @@
-use Rattle.std.proofs.Common.{None, sym, ap, ◌∙◌, subst}
+use Rattle.std.proofs.Common.{sym, ap, ◌∙◌, subst}
 use Rattle.std.specs.BTreeMap.{get}
 use Rattle.reasons.specs.Squares.{pair_cmp}
 use Rattle.reasons.proofs.Squares.{Put, put, at, looked_again, shared_put}
