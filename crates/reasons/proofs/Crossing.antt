@@ -14,13 +14,14 @@ use Rattle.reason_laws.specs.Reasons.{IsNode, ReadsAt}
 use Rattle.reason_laws.specs.Crossed.{ReadsPair, AreCrossed}
 use Rattle.reason_laws.specs.declared.crossing.Crossing.{Crossing}
 use Rattle.reason_laws.specs.declared.crossing.PairRead.{PairRead}
+use Rattle.reason_laws.proofs.Found.{final_one}
 use Rattle.reason_laws.proofs.Numbers.{within, node_from, before_at, reads_after, none_before, reads_in, reads_key}
 use Rattle.reasons.specs.Events.{is_read_of}
 use Rattle.reasons.specs.Squares.{IsReadFrom, IsPairFrom, ReadsBoth, ReadsKeys, IsSquare}
 use Rattle.reasons.specs.declared.crossings.Square.{Square}
 use Rattle.reasons.proofs.Positions.{FirstAt}
 use Rattle.reasons.proofs.Ops.{event_at, read_at, same_key}
-use Rattle.reasons.proofs.Overwrites.{final_one, read_event, earlier_read}
+use Rattle.reasons.proofs.Overwrites.{read_event, earlier_read}
 
 -- ---- the first read of a key
 pub first_from : (ss : List ClientSession) → IsClean (log_of ss) → (v i x u : ℕ) → 0 < v → v ≤ (log_of ss).nodes → source (log_of ss) v x ≡ Some u → FirstAt (is_read_of x) ((log_of ss).ops v) i → IsReadFrom ss v i x u
