@@ -10,5 +10,5 @@ pub returns : goal.returns
 returns c =
     let made = c.in_ok-log.ensures in
     record {
-      explained = IfOk-weaker c.explain_placed.result _ _ (λ text h. (c.args.decision.now, (c.requires.decided, record { log = c.in_ok-log.log; sessions = made.history; places = made.places; why = h }))) c.explain_placed.ensures.why;
+      explained = IfOk-weaker c.explain_placed.result _ _ (λ text h. (c.args.decision.now, c.requires.decided, record { log = c.in_ok-log.log; sessions = made.history; places = made.places; why = h })) c.explain_placed.ensures.why;
     }

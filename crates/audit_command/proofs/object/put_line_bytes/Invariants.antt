@@ -4,4 +4,4 @@ use Rattle.audit_command.specs.Objects.{line_byte}
 use Rattle.audit_command.proofs.object.put_line_bytes.Given as goal
 
 abbrev pub invariant-loop-byte : goal.invariant-loop-byte
-invariant-loop-byte g l = l.out.items ++ flat_map line_byte (drop l.byte-index l.bytes) ≡ l.initial.out.items ++ flat_map line_byte l.bytes
+invariant-loop-byte l = l.out.items ++ flat_map line_byte (drop l.byte-index l.bytes) ≡ l.initial.out.items ++ flat_map line_byte l.bytes
