@@ -2,7 +2,7 @@ use Rattle.std.proofs.Common.{◌<◌, sym, ◌∙◌, subst}
 use Rattle.log_definitions.specs.Numbers.{log_of}
 use Rattle.reasons.proofs.Ops.{key_below}
 use Rattle.tell_reasons.proofs.Ops.{number_told}
-use Rattle.tell_reasons.proofs.versions.key_number.Goals as goal
+use Rattle.tell_reasons.proofs.phrases.key_number.Goals as goal
 
 pub returns : goal.returns
 returns c =
