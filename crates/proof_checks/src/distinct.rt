@@ -27,7 +27,7 @@ fn place_of(literal: Literal) -> usize
 }
 
 /// The opposite of a literal.
-fn negated(literal: Literal) -> Literal
+pub(crate) fn negated(literal: Literal) -> Literal
     ensures { result ≡ negated literal }
 {
     Literal {
@@ -94,7 +94,11 @@ impl Marks {
     }
 
     /// Keeps a literal, unless it is marked, and marks it.
-    fn keep_one(&mut self, literal: Literal, kept: &mut Vec<Literal>) -> Result<(), AllocError>
+    pub(crate) fn keep_one(
+        &mut self,
+        literal: Literal,
+        kept: &mut Vec<Literal>,
+    ) -> Result<(), AllocError>
         requires { IsMarking self.old kept.old.items }
         ensures kept { OnOk result (kept.new.items ≡ with_literal kept.old.items literal) }
         ensures marked { OnOk result (IsMarking self.new kept.new.items) }
