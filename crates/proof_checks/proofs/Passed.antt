@@ -1,10 +1,22 @@
 -- What the steps of a DRAT proof do to its first fault, and which clauses stand at its end.
-use Rattle.std.proofs.Common.{◌≡◌, ℕ, suc, ◌<◌, Bool, true, false, ◌↔◌, IsTrue, List, [], ◌∷◌, Contains, Option, Some, None, refl, sym, ap, ◌∙◌, arith}
+use Rattle.std.proofs.Common.{◌≡◌, ℕ, suc, ◌<◌, Bool, true, false, not, ◌||◌, if◌then◌else◌, ◌↔◌, IsTrue, List, [], ◌∷◌, ◌++◌, length, Contains, Option, Some, None, refl, sym, ap, subst, ◌∙◌, inl, inr, arith}
 use Rattle.std.specs.List.{list_any}
+use Rattle.std.proofs.lemmas.List.Elements.{Contains-append_right}
 use Rattle.std.proofs.lemmas.List.Folds.{list_any_at}
 use Rattle.serializability.specs.declared.literal.Literal.{Literal}
-use Rattle.proof_checks.specs.Distinct.{distinct}
-use Rattle.proof_checks.specs.Ends.{is_nil, is_empty_clause}
+use Rattle.proof_text.specs.Steps.{DratStep}
+use Rattle.proof_text.specs.declared.drat.DratAction.{DratAction}
+use Rattle.proof_text.specs.declared.drat.DratAction.TheVariants.{Add, Delete}
+use Rattle.proof_text.specs.declared.fault.ProofFault.{ProofFault}
+use Rattle.proof_text.specs.declared.fault.ProofFault.TheVariants.{BadLine, NotImplied, NoEmptyClause, TooLong, Memory}
+use Rattle.proof_checks.specs.Distinct.{distinct, is_tautology}
+use Rattle.proof_checks.specs.Drat.{adds, is_idle, IsDratFault, ended, bad_line, idle, not_implied, added, refuted, IsDratStop}
+use Rattle.proof_checks.specs.Ends.{is_nil, is_empty_clause, end_fault}
+use Rattle.proof_checks.specs.Held.{Holds}
+use Rattle.proof_checks.specs.Passed.{IsAddition, GoesOn, IsPassed, IsStepStop, IsNext}
+use Rattle.proof_checks.specs.Propagation.{IsImplied}
+use Rattle.proof_checks.proofs.Once.{tautology_distinct}
+use Rattle.proof_checks.proofs.Propagating.{holds_itself}
 
 -- whether the empty clause stands, by a test and by a list
 stands_in : (cs : List (Option (List Literal))) → list_any is_empty_clause cs ≡ true → Contains cs (Some [])
@@ -26,3 +38,100 @@ same_nil : (ls : List Literal) → is_nil (distinct ls) ≡ is_nil ls
 unfolding distinct
 same_nil [] = refl
 same_nil (l ∷ ls) = refl
+
+-- the end of a proof is the same for the clauses that the checker has
+same_empty : (cs held : List (Option (List Literal))) → Holds cs held → list_any is_empty_clause cs ≡ list_any is_empty_clause held
+same_empty cs held hs = by_test (list_any is_empty_clause cs) (list_any is_empty_clause held) refl refl
+  where
+    there : list_any is_empty_clause cs ≡ true → list_any is_empty_clause held ≡ true
+    there e = let at = hs.all [] (stands_in cs e) in list_any_at is_empty_clause held at.0 (Some []) at.1 (ap is_empty_clause at.2)
+
+    back : list_any is_empty_clause held ≡ true → list_any is_empty_clause cs ≡ true
+    back e = elim (hs.only [] (stands_in held e)) [
+      | inl at ↦ list_any_at is_empty_clause cs at.0 (Some []) at.1 (ap is_empty_clause at.2)
+      | inr root ↦ let none = root.unit in cc
+    ]
+
+    by_test : (a b : Bool) → list_any is_empty_clause cs ≡ a → list_any is_empty_clause held ≡ b → list_any is_empty_clause cs ≡ list_any is_empty_clause held
+    by_test true b e f = e ∙ sym (there e)
+    by_test false true e f = back f ∙ sym f
+    by_test false false e f = e ∙ sym f
+
+-- a step that is passed over
+idle_when : (s : DratStep) (a : DratAction) (t : Bool) → s.action ≡ a → is_tautology s.literals ≡ t → is_idle s ≡ (not (adds a) || t)
+idle_when s a t e f = ap (λ (b : DratAction). not (adds b) || is_tautology s.literals) e ∙ ap (λ b. not (adds a) || b) f
+
+passed_over : (line : ℕ) (s : DratStep) (cs held new : List (Option (List Literal))) → Holds cs held → new ≡ held → is_idle s ≡ true → IsPassed line s cs new true
+passed_over line s cs held new hs e i = λ left. record { new = cs; holds = subst (Holds cs) (sym e) hs; same = λ fault h. idle line s left cs fault i h }
+
+pub passed_deletion : (line : ℕ) (s : DratStep) (cs held new : List (Option (List Literal))) → s.action ≡ Delete → Holds cs held → new ≡ held → IsPassed line s cs new true
+passed_deletion line s cs held new a hs e = passed_over line s cs held new hs e (idle_when s Delete (is_tautology s.literals) a refl)
+
+tautology_of : (s : DratStep) (c : List Literal) (t : Bool) → IsAddition s c → is_tautology c ≡ t → is_idle s ≡ t
+tautology_of s c t a e = idle_when s Add t a.adds (sym (tautology_distinct s.literals) ∙ (sym (ap is_tautology a.literals) ∙ e))
+
+pub passed_tautology : (line : ℕ) (s : DratStep) (c : List Literal) (cs held new : List (Option (List Literal))) → IsAddition s c → is_tautology c ≡ true → Holds cs held → new ≡ held → IsPassed line s cs new true
+passed_tautology line s c cs held new a t hs e = passed_over line s cs held new hs e (tautology_of s c true a t)
+
+-- a step that adds a clause
+pub passed_addition : (line : ℕ) (s : DratStep) (c : List Literal) (cs held : List (Option (List Literal))) → IsAddition s c → is_tautology c ≡ false → IsImplied cs c → is_nil c ≡ false → Holds (cs ++ Some c ∷ []) held → IsPassed line s cs held true
+passed_addition line s c cs held a t i n hs = λ left. record {
+  new = cs ++ Some c ∷ [];
+  holds = hs;
+  same = λ fault h. added line s left cs fault (tautology_of s c false a t) (subst (IsImplied cs) a.literals i) (sym (ap is_nil a.literals ∙ same_nil s.literals) ∙ n) (subst (λ (d : List Literal). IsDratFault left (cs ++ Some d ∷ []) fault) a.literals h);
+}
+
+pub passed_refutation : (line : ℕ) (s : DratStep) (c : List Literal) (cs held : List (Option (List Literal))) → IsAddition s c → is_tautology c ≡ false → IsImplied cs c → is_nil c ≡ true → Holds (cs ++ Some c ∷ []) held → IsPassed line s cs held false
+passed_refutation line s c cs held a t i n hs = λ left. subst (IsDratFault ((line, Some s) ∷ left) cs) none (refuted line s left cs (tautology_of s c false a t) (subst (IsImplied cs) a.literals i) (sym (ap is_nil a.literals ∙ same_nil s.literals) ∙ n))
+  where
+    nil_is : (d : List Literal) → is_nil d ≡ true → d ≡ []
+    nil_is [] e = refl
+    nil_is (l ∷ d) e = cc
+
+    last : Contains (cs ++ Some c ∷ []) (Some [])
+    last = subst (λ (d : List Literal). Contains (cs ++ Some c ∷ []) (Some d)) (nil_is c n) (Contains-append_right cs (Some c ∷ []) (Some c) (0, (omega arith), refl))
+
+    none : None ≡ end_fault held
+    none = let at = hs.all [] last in sym (ap (λ b. if b then None else Some NoEmptyClause) (list_any_at is_empty_clause held at.0 (Some []) at.1 (ap is_empty_clause at.2)))
+
+pub stopped : (line : ℕ) (s : DratStep) (c : List Literal) (cs : List (Option (List Literal))) → IsAddition s c → is_tautology c ≡ false → (IsImplied cs c → ⊥) → IsStepStop line s cs (NotImplied line)
+stopped line s c cs a t n = λ left. not_implied line s left cs (tautology_of s c false a t) (λ i. n (subst (IsImplied cs) (sym a.literals) i))
+
+-- the next step
+pub next_none : (all left : List (ℕ × Option DratStep)) (cs held : List (Option (List Literal))) → all ≡ [] → Holds cs held → IsNext all left cs held false
+next_none all left cs held e hs =
+    subst (λ (steps : List (ℕ × Option DratStep)). IsDratFault steps cs (end_fault held)) (sym e)
+    (subst (IsDratFault [] cs) (ap (λ b. if b then None else Some NoEmptyClause) (same_empty cs held hs)) (ended cs))
+
+pub next_step : (all left : List (ℕ × Option DratStep)) (line : ℕ) (s : DratStep) (cs held : List (Option (List Literal))) (on : Bool) → all ≡ (line, Some s) ∷ left → IsPassed line s cs held on → IsNext all left cs held on
+next_step all left line s cs held true e p = (subst (λ (steps : List (ℕ × Option DratStep)). GoesOn steps left cs held) (sym e) (p left), let long = ap length e in omega (arith, long))
+next_step all left line s cs held false e p = subst (λ (steps : List (ℕ × Option DratStep)). IsDratFault steps cs (end_fault held)) (sym e) (p left)
+
+pub next_stop : (all left : List (ℕ × Option DratStep)) (line : ℕ) (s : DratStep) (cs : List (Option (List Literal))) (f : ProofFault) → all ≡ (line, Some s) ∷ left → IsStepStop line s cs f → IsDratStop all cs f
+next_stop all left line s cs f e p = subst (λ (steps : List (ℕ × Option DratStep)). IsDratStop steps cs f) (sym e) (p left)
+
+pub next_bad : (all rest : List (ℕ × Option DratStep)) (line : ℕ) (cs : List (Option (List Literal))) → all ≡ (line, None) ∷ rest → IsDratStop all cs (BadLine line)
+next_bad all rest line cs e = subst (λ (steps : List (ℕ × Option DratStep)). IsDratFault steps cs (Some (BadLine line))) (sym e) (bad_line line rest cs)
+
+-- from step to step
+pub goes_first : (all steps : List (ℕ × Option DratStep)) (cs held : List (Option (List Literal))) → steps ≡ all → Holds cs held → GoesOn all steps cs held
+goes_first all steps cs held e hs = record { new = cs; holds = hs; same = λ fault h. subst (λ (ss : List (ℕ × Option DratStep)). IsDratFault ss cs fault) e h }
+
+pub goes_more : (all now left : List (ℕ × Option DratStep)) (old held new : List (Option (List Literal))) (on : Bool) (g : GoesOn all now old held) → IsNext now left g.new new on → on ≡ true → GoesOn all left old new
+goes_more all now left old held new true g n e = record { new = n.0.new; holds = n.0.holds; same = λ fault h. g.same fault (n.0.same fault h) }
+goes_more all now left old held new false g n e = cc
+
+pub goes_less : (now left : List (ℕ × Option DratStep)) (old new : List (Option (List Literal))) (on : Bool) → IsNext now left old new on → on ≡ true → length left < length now
+goes_less now left old new true n e = n.1
+goes_less now left old new false n e = cc
+
+pub goes_ended : (all now left : List (ℕ × Option DratStep)) (old held new : List (Option (List Literal))) (on : Bool) (g : GoesOn all now old held) → IsNext now left g.new new on → on ≡ false → IsDratFault all old (end_fault new)
+goes_ended all now left old held new true g n e = cc
+goes_ended all now left old held new false g n e = g.same (end_fault new) n
+
+pub goes_stopped : (all now : List (ℕ × Option DratStep)) (old held : List (Option (List Literal))) (f : ProofFault) (g : GoesOn all now old held) → IsDratStop now g.new f → IsDratStop all old f
+goes_stopped all now old held (BadLine k) g h = g.same (Some (BadLine k)) h
+goes_stopped all now old held (NotImplied k) g h = g.same (Some (NotImplied k)) h
+goes_stopped all now old held NoEmptyClause g h = g.same (Some NoEmptyClause) h
+goes_stopped all now old held TooLong g h = g.same (Some TooLong) h
+goes_stopped all now old held Memory g h = tt

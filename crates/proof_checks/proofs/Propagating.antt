@@ -27,6 +27,13 @@ stands_at cs k c h = by_slot (slice_get cs k) refl h
     by_slot (Some s) e h = let stands : slice_get cs k ≡ Some (Some c) = e ∙ ap Some h in
         (k, slice_get_within cs k (Some c) stands, get_or_from_slice_get cs k (Some c) (Some c) stands)
 
+pub within_clauses : (cs : List (Option (List Literal))) (k : ℕ) (c : List Literal) → clause_at cs k ≡ Some c → k < length cs
+within_clauses cs k c h = by_slot (slice_get cs k) refl h
+  where
+    by_slot : (o : Option (Option (List Literal))) → slice_get cs k ≡ o → unwrap_or o None ≡ Some c → k < length cs
+    by_slot None e h = cc
+    by_slot (Some s) e h = slice_get_within cs k s e
+
 pub at_stands : (cs : List (Option (List Literal))) (c : List Literal) (p : Contains cs (Some c)) → clause_at cs p.0 ≡ Some c
 at_stands cs c p = ap (λ o. unwrap_or o None) (slice_get-get_or cs p.0 (Some c) p.1 ∙ ap Some p.2)
 
@@ -45,8 +52,8 @@ self_same l = eq-eqb (code_of l) (code_of l) refl
 
 -- with more clauses more is made false, and with more literals assumed
 pub false_more : (cs ds : List (Option (List Literal))) (c : List Literal) (l : Literal) → ((d : List Literal) → Contains cs (Some d) → Contains ds (Some d)) → IsMadeFalse cs c l → IsMadeFalse ds c l
-false_more cs ds c l more (assumed l h) = assumed l h
-false_more cs ds c l more (forced d l stands h others) = forced d l (more d stands) h (λ m a b. false_more cs ds c m more (others m a b))
+false_more cs ds c _ more (assumed l h) = assumed l h
+false_more cs ds c _ more (forced d l stands h others) = forced d l (more d stands) h (λ m a b. false_more cs ds c m more (others m a b))
 
 pub implied_more : (cs ds : List (Option (List Literal))) (c : List Literal) → ((d : List Literal) → Contains cs (Some d) → Contains ds (Some d)) → IsImplied cs c → IsImplied ds c
 implied_more cs ds c more i = record {
@@ -56,8 +63,8 @@ implied_more cs ds c more i = record {
 }
 
 pub false_always : (cs : List (Option (List Literal))) (c : List Literal) (l : Literal) → IsMadeFalse cs [] l → IsMadeFalse cs c l
-false_always cs c l (assumed l h) = cc
-false_always cs c l (forced d l stands h others) = forced d l stands h (λ m a b. false_always cs c m (others m a b))
+false_always cs c _ (assumed l h) = cc
+false_always cs c _ (forced d l stands h others) = forced d l stands h (λ m a b. false_always cs c m (others m a b))
 
 -- roots add nothing
 root_false : (cs : List (Option (List Literal))) (d : List Literal) (x l : Literal) (c : List Literal) → d ≡ x ∷ [] → IsMadeFalse cs [] (negated x) → is_among d (negated l) ≡ true → IsMadeFalse cs c l
@@ -70,12 +77,12 @@ root_false cs d x l c e r h = by_test (is_same (negated l) x) refl (ap (λ (ms :
     by_test false s t = cc
 
 pub held_false : (cs held : List (Option (List Literal))) (c : List Literal) (l : Literal) → Holds cs held → IsMadeFalse held c l → IsMadeFalse cs c l
-held_false cs held c l hs (assumed l h) = assumed l h
-held_false cs held c l hs (forced d l stands h others) = by_case (hs.only d stands)
+held_false cs held c _ hs (assumed l h) = assumed l h
+held_false cs held c _ hs (forced d l stands h others) = by_case (λ m a b. held_false cs held c m hs (others m a b)) (hs.only d stands)
   where
-    by_case : (Contains cs (Some d) ⊎ IsRoot cs d) → IsMadeFalse cs c l
-    by_case (inl there) = forced d l there h (λ m a b. held_false cs held c m hs (others m a b))
-    by_case (inr root) = root_false cs d root.literal l c root.unit root.made_true h
+    by_case : ((m : Literal) → is_among d m ≡ true → is_same m (negated l) ≡ false → IsMadeFalse cs c m) → (Contains cs (Some d) ⊎ IsRoot cs d) → IsMadeFalse cs c l
+    by_case rest (inl there) = forced d l there h rest
+    by_case rest (inr root) = root_false cs d root.literal l c root.unit root.made_true h
 
 -- where a literal is false whatever is assumed, and so is its opposite here, a clause has no literal left
 clash : (cs : List (Option (List Literal))) (c : List Literal) (x : Literal) → IsMadeFalse cs [] (negated x) → IsMadeFalse cs c x → IsImplied cs c
@@ -127,8 +134,8 @@ holds_added cs held new c hs e = subst (Holds (cs ++ Some c ∷ [])) (sym e) (re
     ]
 
 alone : (c d : List Literal) → Contains (Some c ∷ []) (Some d) → d ≡ c
-alone c d (zero, p) = let e : Some c ≡ Some d = p.1 in cc
-alone c d (suc k, p) = absurd (omega (arith, p.0))
+alone c d (zero, le, e) = let same : Some c ≡ Some d = e in cc
+alone c d (suc k, le, e) = absurd (omega (arith, le))
 
 pub holds_root : (cs held new : List (Option (List Literal))) (l : Literal) → Holds cs held → new ≡ held ++ Some (l ∷ []) ∷ [] → IsMadeFalse held [] (negated l) → Holds cs new
 holds_root cs held new l hs e r = subst (Holds cs) (sym e) (record { all = λ d p. Contains-append_left held (Some (l ∷ []) ∷ []) (Some d) (hs.all d p); only = only })

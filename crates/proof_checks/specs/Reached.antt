@@ -1,5 +1,6 @@
 -- How far a propagation is that looks at one clause after the other.
-use Rattle.std.specs.Prelude.{◌≡◌, ℕ, ◌≤◌, Bool, true, false, ◌⊎◌, List, Option, Some, length}
+use Rattle.std.specs.Prelude.{◌≡◌, ℕ, ◌≤◌, Bool, true, false, ◌⊎◌, List, [], ◌∷◌, ◌++◌, Option}
+use Rattle.std.specs.Prelude.{Some, length}
 use Rattle.std.specs.Prelude.{IsTrue, IsFalse}
 use Rattle.std.specs.List.{Contains}
 use Rattle.serializability.specs.declared.literal.Literal.{Literal}
@@ -8,8 +9,6 @@ use Rattle.proof_checks.specs.Distinct.{is_same, is_among, negated, with_literal
 use Rattle.proof_checks.specs.Propagation.{IsImplied, IsMadeFalse}
 use Rattle.proof_checks.specs.declared.plain.Left.{Left}
 use Rattle.proof_checks.specs.declared.plain.Left.TheVariants as left
-use Rattle.proof_checks.specs.declared.plain.Looked.{Looked}
-use Rattle.proof_checks.specs.declared.plain.Looked.TheVariants.{Closed, Done, Open}
 
 -- all literals of a clause but l are among these
 pub record IsLast (marked d : List Literal) (l : Literal) : Type 0 where
@@ -50,15 +49,6 @@ pub record Keeps (clauses : List (Option (List Literal))) (c old new : List Lite
   pub are_false : AreFalse clauses c new
   pub done : (d : List Literal) → IsDone old d → IsDone new d
 
--- a look at the clause with a number
-abbrev pub Looks : List (Option (List Literal)) → List Literal → List Literal → List Literal → ℕ
-    → Looked → Type 0
-Looks clauses c old new k Closed = IsImplied clauses c
-Looks clauses c old new k Done = Keeps clauses c old new
-    × ((d : List Literal) → clause_at clauses k ≡ Some d → IsDone new d)
-Looks clauses c old new k Open = (new ≡ old)
-    × ((d : List Literal) → clause_at clauses k ≡ Some d → IsOpen new d)
-
 -- a look at each of the clauses with these numbers, of which some are kept
 pub record Passes (clauses : List (Option (List Literal))) (c old new : List Literal)
     (numbers kept : List ℕ) : Type 0 where
@@ -68,6 +58,13 @@ pub record Passes (clauses : List (Option (List Literal))) (c old new : List Lit
   pub fewer : length kept ≤ length numbers
   pub quiet : length kept ≡ length numbers → (k : ℕ) (d : List Literal) → Contains kept k
       → clause_at clauses k ≡ Some d → IsOpen new d
+
+-- a look at one more clause, unless it had no literal left
+abbrev pub Visits : List (Option (List Literal)) → List Literal → List Literal → List Literal → ℕ
+    → List ℕ → List ℕ → Bool → Type 0
+Visits clauses c old new k before kept true = IsImplied clauses c
+Visits clauses c old new k before kept false = (first : List Literal) (front : List ℕ)
+    → Passes clauses c first old front before → Passes clauses c first new (front ++ k ∷ []) kept
 
 abbrev pub PassesOr : List (Option (List Literal)) → List Literal → List Literal → List Literal
     → List ℕ → List ℕ → Bool → Type 0

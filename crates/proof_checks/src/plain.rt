@@ -1,10 +1,11 @@
 //! Unit propagation to its end, which looks at each clause: the last word on a step where the
 //! search finds nothing.
 
-ghost use Rattle.std.specs.Prelude.{ℕ, ◌<◌, List, Contains, IfOk, OnOk};
+ghost use Rattle.std.specs.Prelude.{ℕ, ◌<◌, List, [], ◌∷◌, ◌++◌, Contains, IfOk, OnOk, IsFalse};
 ghost use Rattle.serializability.specs.declared.literal.Literal.{Literal};
+ghost use Rattle.proof_checks.specs.Distinct.{is_among};
 ghost use Rattle.proof_checks.specs.Marks.{HasRounds, IsMarking};
-ghost use Rattle.proof_checks.specs.Reached.{AreFalse, Covers, EndsAt, IsLeft, Looks, PassesOr};
+ghost use Rattle.proof_checks.specs.Reached.{AreFalse, Covers, EndsAt, IsLeft, PassesOr, Visits};
 
 use crate::distinct::{Marks, negated};
 use refutation::Checker;
@@ -13,10 +14,25 @@ use std::alloc::{AllocError, Global};
 use std::mem;
 
 /// What is left of a clause when its marked literals are taken away.
+#[derive(Clone, Copy)]
 enum Left {
     Nothing,
     One(Literal),
     More,
+}
+
+impl Left {
+    /// What is left of a clause with an unmarked literal more.
+    fn with(self, literal: Literal) -> Left
+        ensures { (marked clause : List Literal) → IsFalse (is_among marked literal) →
+            IsLeft marked clause self → IsLeft marked (clause ++ literal ∷ []) result }
+    {
+        match self {
+            Left::Nothing => Left::One(literal),
+            Left::One(other) if other == literal => Left::One(other),
+            _ => Left::More,
+        }
+    }
 }
 
 /// What is left of a clause.
@@ -24,59 +40,49 @@ fn what_is_left(marks: &Marks, clause: &[Literal]) -> Left
     ensures { (marked : List Literal) → IsMarking marks.now marked →
         IsLeft marked clause.now result }
 {
-    let mut one: Option<Literal> = None;
+    let mut left = Left::Nothing;
     for &literal in clause {
         if !marks.has(literal) {
-            match one {
-                Some(other) if other != literal => return Left::More,
-                _ => one = Some(literal),
-            }
+            left = left.with(literal);
         }
     }
-    match one {
-        None => Left::Nothing,
-        Some(literal) => Left::One(literal),
-    }
+    left
 }
 
-/// What a look at a clause gave.
-#[derive(Clone, Copy)]
-enum Looked {
-    /// All its literals are made false.
-    Closed,
-    /// All but one are, and so is the opposite of that one now; or there is no such clause.
-    Done,
-    /// Two of its literals are not.
-    Open,
-}
-
-/// Looks at the clause with a number, where these literals are made false, all of them marked.
-fn look(
+/// Looks at the clause with a number, where these literals are made false, all of them marked. Makes
+/// the opposite of its last literal false, and keeps its number where it has two. Whether it had
+/// none.
+fn visit(
     checker: &Checker,
     number: usize,
     marks: &mut Marks,
     made_false: &mut Vec<Literal>,
-) -> Result<Looked, AllocError>
+    kept: &mut Vec<usize>,
+) -> Result<bool, AllocError>
     requires { IsMarking marks.old made_false.old.items }
     ensures marking { OnOk result (IsMarking marks.new made_false.new.items) }
-    ensures looks { (c : List Literal) → AreFalse checker.now.clauses c made_false.old.items →
-        IfOk result (Looks checker.now.clauses c made_false.old.items made_false.new.items number) }
+    ensures visits { (c : List Literal) → AreFalse checker.now.clauses c made_false.old.items →
+        IfOk result (Visits checker.now.clauses c made_false.old.items made_false.new.items number
+        kept.old.items kept.new.items) }
 {
     let Some(clause) = checker.clause(number) else {
-        return Ok(Looked::Done);
+        return Ok(false);
     };
     match what_is_left(marks, clause) {
-        Left::Nothing => Ok(Looked::Closed),
+        Left::Nothing => Ok(true),
         Left::One(literal) => {
             marks.keep_one(negated(literal), made_false)?;
-            Ok(Looked::Done)
+            Ok(false)
         }
-        Left::More => Ok(Looked::Open),
+        Left::More => {
+            kept.push(number)?;
+            Ok(false)
+        }
     }
 }
 
-/// Looks at each of the clauses with these numbers, and keeps those that are open. Whether one had
-/// no literal left.
+/// Looks at each of the clauses with these numbers, and keeps those that have two literals left.
+/// Whether one had none.
 fn pass(
     checker: &Checker,
     numbers: &[usize],
@@ -92,10 +98,8 @@ fn pass(
 {
     kept.clear();
     for &number in numbers {
-        match look(checker, number, marks, made_false)? {
-            Looked::Closed => return Ok(true),
-            Looked::Done => {}
-            Looked::Open => kept.push(number)?,
+        if visit(checker, number, marks, made_false, kept)? {
+            return Ok(true);
         }
     }
     Ok(false)

@@ -1,17 +1,17 @@
 //! What unit propagation finds of a step: the clauses that the checker is to be shown. Nothing
 //! rests on it: where it finds none, `plain` has the last word.
 
-ghost use Rattle.std.specs.Prelude.{◌≡◌, ◌∷◌, [], List, Option, Some, IfOk, OnOk, IsTrue};
+ghost use Rattle.std.specs.Prelude.{◌≡◌, ◌∷◌, [], List, Option, Some, IfOk, OnOk, IsTrue, IsFalse};
 ghost use Rattle.serializability.specs.declared.literal.Literal.{Literal};
 ghost use Rattle.refutation.specs.Follows.{Entails};
 ghost use Rattle.refutation.specs.Numbered.{clause_at};
-ghost use Rattle.proof_checks.specs.Distinct.{negated};
+ghost use Rattle.proof_checks.specs.Distinct.{is_same, negated};
 ghost use Rattle.proof_checks.specs.Held.{Holds};
 ghost use Rattle.proof_checks.specs.Marks.{HasRounds, IsMarking};
 ghost use Rattle.proof_checks.specs.Passed.{IsFound, IsTaken};
 ghost use Rattle.proof_checks.specs.Propagation.{IsMadeFalse};
 
-use crate::distinct::{Marks, negated};
+use crate::distinct::{Marks, has, is_same, negated};
 use crate::index::Index;
 use crate::plain::is_implied;
 use refutation::{Checker, take_step};
@@ -176,15 +176,23 @@ impl Search {
         let Some(clause) = checker.clause(reason) else {
             return false;
         };
-        let mut found = false;
         for &other in clause {
-            if other == literal {
-                found = true;
-            } else if !self.is_false_root(checker, other) {
+            if !self.is_it_or_false(checker, literal, other) {
                 return false;
             }
         }
-        found
+        has(clause, literal)
+    }
+
+    /// Whether one literal is the other, or false by a unit clause that stands.
+    fn is_it_or_false(&self, checker: &Checker, literal: Literal, other: Literal) -> bool
+        ensures { IsTrue result → IsFalse (is_same other literal) →
+            IsMadeFalse checker.now.clauses [] other }
+    {
+        if is_same(other, literal) {
+            return true;
+        }
+        self.is_false_root(checker, other)
     }
 
     /// Whether a literal is false by a unit clause that stands.
@@ -212,10 +220,28 @@ impl Search {
             Holds clauses checker.old.clauses →
             IfOk result (IsTaken clauses checker.new.clauses literals.now) }
     {
-        if self.take_found(checker, literals)? || self.take_renewed(checker, literals)? {
+        if self.take_hinted(checker, literals)? {
             return Ok(true);
         }
         self.take_plainly(checker, marks, literals)
+    }
+
+    /// Has the checker take a step where hints are found for it, at last among all clauses. Whether
+    /// it did.
+    fn take_hinted(
+        &mut self,
+        checker: &mut Checker,
+        literals: &[Literal],
+    ) -> Result<bool, AllocError>
+        ensures follows { Entails checker.old.clauses checker.new.clauses }
+        ensures found { (clauses : List (Option (List Literal))) →
+            Holds clauses checker.old.clauses →
+            IfOk result (IsFound clauses checker.new.clauses literals.now) }
+    {
+        if self.take_found(checker, literals)? {
+            return Ok(true);
+        }
+        self.take_renewed(checker, literals)
     }
 
     /// Finds the clauses that a step follows from, and has the checker take it. Whether it did.
