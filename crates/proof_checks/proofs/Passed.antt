@@ -1,10 +1,15 @@
 -- What the steps of a DRAT proof do to its first fault, and which clauses stand at its end.
-use Rattle.std.proofs.Common.{◌≡◌, ℕ, suc, ◌<◌, Bool, true, false, not, ◌||◌, if◌then◌else◌, ◌↔◌, IsTrue, List, [], ◌∷◌, ◌++◌, length, Contains, Option, Some, None, refl, sym, ap, subst, ◌∙◌, inl, inr, arith}
+use Rattle.std.proofs.Common.{◌≡◌, ℕ, suc, ◌<◌, Bool, true, false, not, ◌||◌, ◌==◌, if◌then◌else◌, ◌↔◌, IsTrue, List, [], ◌∷◌, ◌++◌, length, Contains, Option, Some, None, Result, Ok, Err, IfOk, IfErr, refl, sym, ap, subst, ◌∙◌, inl, inr, arith}
 use Rattle.std.specs.List.{list_any}
+use Rattle.std.proofs.lemmas.Bool.{eqb-true}
 use Rattle.std.proofs.lemmas.List.Elements.{Contains-append_right}
 use Rattle.std.proofs.lemmas.List.Folds.{list_any_at}
 use Rattle.serializability.specs.declared.literal.Literal.{Literal}
+use Rattle.proof_text.specs.Faults.{fault_of_step}
+use Rattle.proof_text.specs.Reads.{IsRead}
 use Rattle.proof_text.specs.Steps.{DratStep}
+use Rattle.proof_text.specs.declared.fault.StepFault.{StepFault}
+use Rattle.proof_text.specs.declared.fault.StepFault.TheVariants as step
 use Rattle.proof_text.specs.declared.drat.DratAction.{DratAction}
 use Rattle.proof_text.specs.declared.drat.DratAction.TheVariants.{Add, Delete}
 use Rattle.proof_text.specs.declared.fault.ProofFault.{ProofFault}
@@ -13,9 +18,9 @@ use Rattle.proof_checks.specs.Distinct.{distinct, is_tautology}
 use Rattle.proof_checks.specs.Drat.{adds, is_idle, IsDratFault, ended, bad_line, idle, not_implied, added, refuted, IsDratStop}
 use Rattle.proof_checks.specs.Ends.{is_nil, is_empty_clause, end_fault}
 use Rattle.proof_checks.specs.Held.{Holds}
-use Rattle.proof_checks.specs.Passed.{IsAddition, GoesOn, IsPassed, IsStepStop, IsNext}
+use Rattle.proof_checks.specs.Passed.{IsAddition, IsTaken, GoesOn, IsPassed, IsStepStop, IsNext}
 use Rattle.proof_checks.specs.Propagation.{IsImplied}
-use Rattle.proof_checks.proofs.Once.{tautology_distinct}
+use Rattle.proof_checks.proofs.Once.{tautology_distinct, nil_kept}
 use Rattle.proof_checks.proofs.Propagating.{holds_itself}
 
 -- whether the empty clause stands, by a test and by a list
@@ -32,12 +37,6 @@ empty_stands false cs h = by_test (list_any is_empty_clause cs) refl
     by_test : (t : Bool) → list_any is_empty_clause cs ≡ t → false ≡ list_any is_empty_clause cs
     by_test true e = h.1 (stands_in cs e) ∙ sym e
     by_test false e = sym e
-
--- the literals of a clause, each once, are none where the literals are
-same_nil : (ls : List Literal) → is_nil (distinct ls) ≡ is_nil ls
-unfolding distinct
-same_nil [] = refl
-same_nil (l ∷ ls) = refl
 
 -- the end of a proof is the same for the clauses that the checker has
 same_empty : (cs held : List (Option (List Literal))) → Holds cs held → list_any is_empty_clause cs ≡ list_any is_empty_clause held
@@ -74,22 +73,22 @@ pub passed_tautology : (line : ℕ) (s : DratStep) (c : List Literal) (cs held n
 passed_tautology line s c cs held new a t hs e = passed_over line s cs held new hs e (tautology_of s c true a t)
 
 -- a step that adds a clause
-pub passed_addition : (line : ℕ) (s : DratStep) (c : List Literal) (cs held : List (Option (List Literal))) → IsAddition s c → is_tautology c ≡ false → IsImplied cs c → is_nil c ≡ false → Holds (cs ++ Some c ∷ []) held → IsPassed line s cs held true
-passed_addition line s c cs held a t i n hs = λ left. record {
+pub passed_addition : (line : ℕ) (s : DratStep) (c : List Literal) (cs held : List (Option (List Literal))) → IsAddition s c → is_tautology c ≡ false → IsImplied cs c → (empty : Bool) → empty ≡ (length c == 0) → empty ≡ false → Holds (cs ++ Some c ∷ []) held → IsPassed line s cs held true
+passed_addition line s c cs held a t i empty n f hs = λ left. record {
   new = cs ++ Some c ∷ [];
   holds = hs;
-  same = λ fault h. added line s left cs fault (tautology_of s c false a t) (subst (IsImplied cs) a.literals i) (sym (ap is_nil a.literals ∙ same_nil s.literals) ∙ n) (subst (λ (d : List Literal). IsDratFault left (cs ++ Some d ∷ []) fault) a.literals h);
+  same = λ fault h. added line s left cs fault (tautology_of s c false a t) (subst (IsImplied cs) a.literals i) (sym (nil_kept c s.literals a.literals) ∙ (sym n ∙ f)) (subst (λ (d : List Literal). IsDratFault left (cs ++ Some d ∷ []) fault) a.literals h);
 }
 
-pub passed_refutation : (line : ℕ) (s : DratStep) (c : List Literal) (cs held : List (Option (List Literal))) → IsAddition s c → is_tautology c ≡ false → IsImplied cs c → is_nil c ≡ true → Holds (cs ++ Some c ∷ []) held → IsPassed line s cs held false
-passed_refutation line s c cs held a t i n hs = λ left. subst (IsDratFault ((line, Some s) ∷ left) cs) none (refuted line s left cs (tautology_of s c false a t) (subst (IsImplied cs) a.literals i) (sym (ap is_nil a.literals ∙ same_nil s.literals) ∙ n))
+pub passed_refutation : (line : ℕ) (s : DratStep) (c : List Literal) (cs held : List (Option (List Literal))) → IsAddition s c → is_tautology c ≡ false → IsImplied cs c → (empty : Bool) → empty ≡ (length c == 0) → empty ≡ true → Holds (cs ++ Some c ∷ []) held → IsPassed line s cs held false
+passed_refutation line s c cs held a t i empty n f hs = λ left. subst (IsDratFault ((line, Some s) ∷ left) cs) none (refuted line s left cs (tautology_of s c false a t) (subst (IsImplied cs) a.literals i) (sym (nil_kept c s.literals a.literals) ∙ (sym n ∙ f)))
   where
-    nil_is : (d : List Literal) → is_nil d ≡ true → d ≡ []
+    nil_is : (d : List Literal) → (length d == 0) ≡ true → d ≡ []
     nil_is [] e = refl
-    nil_is (l ∷ d) e = cc
+    nil_is (l ∷ d) e = let none = eqb-true (length (l ∷ d)) 0 e in absurd (omega (arith, none))
 
     last : Contains (cs ++ Some c ∷ []) (Some [])
-    last = subst (λ (d : List Literal). Contains (cs ++ Some c ∷ []) (Some d)) (nil_is c n) (Contains-append_right cs (Some c ∷ []) (Some c) (0, (omega arith), refl))
+    last = subst (λ (d : List Literal). Contains (cs ++ Some c ∷ []) (Some d)) (nil_is c (sym n ∙ f)) (Contains-append_right cs (Some c ∷ []) (Some c) (0, (omega arith), refl))
 
     none : None ≡ end_fault held
     none = let at = hs.all [] last in sym (ap (λ b. if b then None else Some NoEmptyClause) (list_any_at is_empty_clause held at.0 (Some []) at.1 (ap is_empty_clause at.2)))
@@ -103,15 +102,25 @@ next_none all left cs held e hs =
     subst (λ (steps : List (ℕ × Option DratStep)). IsDratFault steps cs (end_fault held)) (sym e)
     (subst (IsDratFault [] cs) (ap (λ b. if b then None else Some NoEmptyClause) (same_empty cs held hs)) (ended cs))
 
-pub next_step : (all left : List (ℕ × Option DratStep)) (line : ℕ) (s : DratStep) (cs held : List (Option (List Literal))) (on : Bool) → all ≡ (line, Some s) ∷ left → IsPassed line s cs held on → IsNext all left cs held on
+next_step : (all left : List (ℕ × Option DratStep)) (line : ℕ) (s : DratStep) (cs held : List (Option (List Literal))) (on : Bool) → all ≡ (line, Some s) ∷ left → IsPassed line s cs held on → IsNext all left cs held on
 next_step all left line s cs held true e p = (subst (λ (steps : List (ℕ × Option DratStep)). GoesOn steps left cs held) (sym e) (p left), let long = ap length e in omega (arith, long))
 next_step all left line s cs held false e p = subst (λ (steps : List (ℕ × Option DratStep)). IsDratFault steps cs (end_fault held)) (sym e) (p left)
 
-pub next_stop : (all left : List (ℕ × Option DratStep)) (line : ℕ) (s : DratStep) (cs : List (Option (List Literal))) (f : ProofFault) → all ≡ (line, Some s) ∷ left → IsStepStop line s cs f → IsDratStop all cs f
+next_stop : (all left : List (ℕ × Option DratStep)) (line : ℕ) (s : DratStep) (cs : List (Option (List Literal))) (f : ProofFault) → all ≡ (line, Some s) ∷ left → IsStepStop line s cs f → IsDratStop all cs f
 next_stop all left line s cs f e p = subst (λ (steps : List (ℕ × Option DratStep)). IsDratStop steps cs f) (sym e) (p left)
 
-pub next_bad : (all rest : List (ℕ × Option DratStep)) (line : ℕ) (cs : List (Option (List Literal))) → all ≡ (line, None) ∷ rest → IsDratStop all cs (BadLine line)
-next_bad all rest line cs e = subst (λ (steps : List (ℕ × Option DratStep)). IsDratFault steps cs (Some (BadLine line))) (sym e) (bad_line line rest cs)
+pub read_stop : (all left : List (ℕ × Option DratStep)) (made : DratAction → DratStep) (cs : List (Option (List Literal))) (f : StepFault) → IsRead all left made (Err f) → IsDratStop all cs (fault_of_step f)
+read_stop all left made cs (step.BadLine line) h = subst (λ (steps : List (ℕ × Option DratStep)). IsDratFault steps cs (Some (BadLine line))) (sym h.1) (bad_line line h.0 cs)
+read_stop all left made cs (step.NotImplied line) h = absurd h
+read_stop all left made cs step.Memory h = tt
+
+pub next_on : (all left : List (ℕ × Option DratStep)) (line : ℕ) (s : DratStep) (cs held : List (Option (List Literal))) (r : Result Bool StepFault) → all ≡ (line, Some s) ∷ left → IfOk r (IsPassed line s cs held) → IfOk r (IsNext all left cs held)
+next_on all left line s cs held (Ok on) e p = next_step all left line s cs held on e p
+next_on all left line s cs held (Err f) e p = tt
+
+pub next_fault : (all left : List (ℕ × Option DratStep)) (line : ℕ) (s : DratStep) (cs : List (Option (List Literal))) (r : Result Bool StepFault) → all ≡ (line, Some s) ∷ left → IfErr r (λ f. IsStepStop line s cs (fault_of_step f)) → IfErr r (λ f. IsDratStop all cs (fault_of_step f))
+next_fault all left line s cs (Ok on) e p = tt
+next_fault all left line s cs (Err f) e p = next_stop all left line s cs (fault_of_step f) e p
 
 -- from step to step
 pub goes_first : (all steps : List (ℕ × Option DratStep)) (cs held : List (Option (List Literal))) → steps ≡ all → Holds cs held → GoesOn all steps cs held
@@ -135,3 +144,12 @@ goes_stopped all now old held (NotImplied k) g h = g.same (Some (NotImplied k)) 
 goes_stopped all now old held NoEmptyClause g h = g.same (Some NoEmptyClause) h
 goes_stopped all now old held TooLong g h = g.same (Some TooLong) h
 goes_stopped all now old held Memory g h = tt
+
+-- what taking a clause says
+pub taken_so : (cs held : List (Option (List Literal))) (c d : List Literal) (b : Bool) → d ≡ c → IsTaken cs held d b → b ≡ true → IsTaken cs held c true
+taken_so cs held c d false e t b = cc
+taken_so cs held c d true e t b = subst (λ (ls : List Literal). IsTaken cs held ls true) e t
+
+pub taken_not : (cs held : List (Option (List Literal))) (c d : List Literal) (b : Bool) → d ≡ c → IsTaken cs held d b → b ≡ false → IsImplied cs c → ⊥
+taken_not cs held c d true e t b = cc
+taken_not cs held c d false e t b = subst (λ (ls : List Literal). IsTaken cs held ls false) e t

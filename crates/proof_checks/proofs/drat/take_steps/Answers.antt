@@ -1,3 +1,4 @@
+use Rattle.std.proofs.lemmas.Result.{err_from_is_err_and}
 use Rattle.proof_text.specs.Binary.{drat_steps_in}
 use Rattle.proof_text.specs.Faults.{fault_of_step}
 use Rattle.refutation.proofs.Units.{entails_then}
@@ -30,7 +31,9 @@ returns-in_err-take_next-clause-follows c = entails_then c.args.checker.now.clau
 
 pub returns-in_err-take_next-clause-fault : goal.returns-in_err-take_next-clause-fault
 returns-in_err-take_next-clause-fault c =
-    let g = c.loop-drat.invariant.goes in goes_stopped _ c.loop-drat.steps c.args.checker.now.clauses c.loop-drat.checker.clauses _ g (c.in_err-take_next.ensures.fault g.new g.holds)
+    let g = c.loop-drat.invariant.goes in
+    let p = err_from_is_err_and c.from_residual-in_err-take_next.result c.from_residual-in_err-take_next.ensures.1 in
+    rw (p.1, p.2) (goes_stopped (drat_steps_in c.args.binary c.args.variables c.args.proof.now) c.loop-drat.steps c.args.checker.now.clauses c.loop-drat.checker.clauses (fault_of_step c.in_err-take_next.field-0.0) g (c.in_err-take_next.ensures.fault g.new g.holds))
 
 pub returns-then-not-branch-clause-follows : goal.returns-then-not-branch-clause-follows
 returns-then-not-branch-clause-follows c = entails_then c.args.checker.now.clauses c.loop-drat.checker.clauses c.take_next.new.checker.clauses c.loop-drat.invariant.follows c.take_next.ensures.follows

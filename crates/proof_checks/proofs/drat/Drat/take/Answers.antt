@@ -3,8 +3,8 @@ use Rattle.proof_checks.specs.Distinct.{distinct}
 use Rattle.proof_checks.proofs.Passed.{passed_deletion}
 use Rattle.proof_checks.proofs.drat.Drat.take.Goals as goal
 
-pub returns-in-Delete-clause-on : goal.returns-in-Delete-clause-on
-returns-in-Delete-clause-on c = λ cs hs. passed_deletion c.args.line (record { action = c.args.action; literals = c.args.self.now.literals.items }) cs c.args.checker.now.clauses c.args.checker.now.clauses c.in-Delete.is hs refl
+pub returns-in_ok-forget-in-Delete-clause-on : goal.returns-in_ok-forget-in-Delete-clause-on
+returns-in_ok-forget-in-Delete-clause-on c = λ cs hs. passed_deletion c.args.line (record { action = c.args.action; literals = c.args.self.now.literals.items }) cs c.args.checker.now.clauses c.args.checker.now.clauses c.in-Delete.is hs refl
 
 pub returns-in-Add-clause-on : goal.returns-in-Add-clause-on
 returns-in-Add-clause-on c = λ cs hs. c.add.ensures.on (record { action = c.args.action; literals = c.args.self.now.literals.items }) (record { adds = c.in-Add.is; literals = c.in_ok-keep.ensures.kept ∙ ap distinct c.deref.ensures.value }) cs hs
