@@ -5,8 +5,6 @@ use Rattle.serializability.specs.declared.literal.Literal.{Literal}
 use Rattle.proof_text.specs.Forms.{form_of_text}
 use Rattle.proof_text.specs.declared.TheConstants.{MAX_PROOF_BYTES}
 use Rattle.proof_text.specs.declared.form.Form.{Form}
-use Rattle.proof_text.specs.declared.form.Form.TheVariants.{Lrat, Drat, BinaryDrat}
-use Rattle.proof_text.specs.declared.fault.StepFault.TheVariants as step
 use Rattle.proof_text.specs.declared.fault.ProofFault.TheVariants.{NoEmptyClause}
 use Rattle.proof_checks.specs.Checked.{Given, IsFaultOf, IsAccepted, HasFaultWithin}
 use Rattle.proof_checks.specs.Ends.{is_empty_clause, end_fault}

@@ -1,11 +1,10 @@
 -- What hints close follows by unit propagation, and what follows so follows.
-use Rattle.std.proofs.Common.{◌≡◌, ℕ, zero, suc, ◌+◌, ◌<◌, ◌≤◌, length, take, take_all, get_or, add-one, Bool, true, false, not, ◌||◌, if◌then◌else◌, List, [], ◌∷◌, ◌++◌, filter, replicate, Contains, Option, Some, None, Result, Ok, Err, IfOk, slice_get, slice_set, refl, sym, ap, subst, ◌∙◌, ◌⊎◌, inl, inr}
+use Rattle.std.proofs.Common.{◌≡◌, ℕ, zero, suc, ◌+◌, ◌<◌, ◌≤◌, length, take, take_all, get_or, add-one, Bool, true, false, not, ◌||◌, if◌then◌else◌, List, [], ◌∷◌, ◌++◌, Option, Some, None, Result, Ok, Err, IfOk, slice_get, refl, sym, ap, subst, ◌∙◌, ◌⊎◌, inl, inr}
 use Rattle.std.proofs.Math.Seq.{take-suc}
-use Rattle.std.specs.List.{list_any, AllByRecursion}
 use Rattle.std.specs.Option.{option_map}
 use Rattle.serializability.specs.Formula.{value_of, literal_true, clause_true}
 use Rattle.serializability.specs.declared.literal.Literal.{Literal}
-use Rattle.refutation.specs.Follows.{met, SatisfiesAll, Follows, Entails}
+use Rattle.refutation.specs.Follows.{SatisfiesAll, Follows, Entails}
 use Rattle.refutation.specs.Hinted.{looked, hinted}
 use Rattle.refutation.specs.Known.{value_is, known_false, left_of, with_true, with_false, all_open}
 use Rattle.refutation.specs.Numbered.{clause_at}
@@ -30,7 +29,7 @@ left_cases known (y ∷ d) m h = by_test (left_cases known d m) (known_false kno
     by_test rest true e (inl s) = inl (subst (λ (x : Literal). known_false known x ≡ true) (sym (alike m y s)) e)
     by_test rest true e (inr r) = rest r
     by_test rest false e (inl s) = inr (or_left (is_same m y) (is_among (left_of known d) m) s)
-    by_test rest false e (inr r) = elim (rest r) [ | inl f ↦ inl f | inr t ↦ inr (or_right (is_same m y) (is_among (left_of known d) m) t) ]
+    by_test rest false e (inr r) = elim (rest r) [ inl f ↦ inl f | inr t ↦ inr (or_right (is_same m y) (is_among (left_of known d) m) t) ]
 
 left_stands : (known : List (Option Bool)) (d : List Literal) (m : Literal) → is_among (left_of known d) m ≡ true → is_among d m ≡ true
 left_stands known [] m h = cc
@@ -38,7 +37,7 @@ left_stands known (y ∷ d) m h = by_test (left_stands known d m) (known_false k
   where
     by_test : (is_among (left_of known d) m ≡ true → is_among d m ≡ true) → (b : Bool) → is_among (if not b then y ∷ left_of known d else left_of known d) m ≡ true → (is_same m y || is_among d m) ≡ true
     by_test rest true h = or_right (is_same m y) (is_among d m) (rest h)
-    by_test rest false h = elim (or_cases (is_same m y) (is_among (left_of known d) m) h) [ | inl s ↦ or_left (is_same m y) (is_among d m) s | inr r ↦ or_right (is_same m y) (is_among d m) (rest r) ]
+    by_test rest false h = elim (or_cases (is_same m y) (is_among (left_of known d) m) h) [ inl s ↦ or_left (is_same m y) (is_among d m) s | inr r ↦ or_right (is_same m y) (is_among d m) (rest r) ]
 
 -- what is known to be false where a literal more is known to be true
 same_sign : (v p : Bool) → value_is (Some (Some v)) (not p) ≡ true → p ≡ not v
@@ -82,7 +81,7 @@ closed_by (n ∷ hints) cs c known k h = by_clause (closed_by hints cs c) (claus
     others : (d : List Literal) (x m : Literal) → left_of known d ≡ x ∷ [] → is_among d m ≡ true → is_same m x ≡ false → IsMadeFalse cs c m
     others d x m e b n = elim (left_cases known d m b) [
       | inl f ↦ k m f
-      | inr t ↦ elim (or_cases (is_same m x) false (ap (λ (ls : List Literal). is_among ls m) (sym e) ∙ t)) [ | inl s ↦ absurd (both (is_same m x) s n) | inr w ↦ cc ]
+      | inr t ↦ elim (or_cases (is_same m x) false (ap (λ (ls : List Literal). is_among ls m) (sym e) ∙ t)) [ inl s ↦ absurd (both (is_same m x) s n) | inr w ↦ cc ]
     ]
 
     made : (d : List Literal) (x : Literal) → clause_at cs n ≡ Some d → left_of known d ≡ x ∷ [] → IsMadeFalse cs c (negated x)
@@ -94,9 +93,9 @@ closed_by (n ∷ hints) cs c known k h = by_clause (closed_by hints cs c) (claus
     by_left rest d [] at e h = record {
       clause = d;
       stands = stands_at cs n d at;
-      all_false = λ m b. elim (left_cases known d m b) [ | inl f ↦ k m f | inr t ↦ absurd (both (is_among [] m) (ap (λ (ls : List Literal). is_among ls m) (sym e) ∙ t) refl) ];
+      all_false = λ m b. elim (left_cases known d m b) [ inl f ↦ k m f | inr t ↦ absurd (both (is_among [] m) (ap (λ (ls : List Literal). is_among ls m) (sym e) ∙ t) refl) ];
     }
-    by_left rest d (x ∷ []) at e h = rest (with_true known x) (λ m f. elim (known_cases known x m f) [ | inl s ↦ subst (IsMadeFalse cs c) (sym s) (made d x at e) | inr g ↦ k m g ]) h
+    by_left rest d (x ∷ []) at e h = rest (with_true known x) (λ m f. elim (known_cases known x m f) [ inl s ↦ subst (IsMadeFalse cs c) (sym s) (made d x at e) | inr g ↦ k m g ]) h
     by_left rest d (x ∷ y ∷ more) at e h = cc
 
     by_clause : ((now : List (Option Bool)) → ((m : Literal) → known_false now m ≡ true → IsMadeFalse cs c m) → hinted hints cs now ≡ true → IsImplied cs c) → (o : Option (List Literal)) → clause_at cs n ≡ o → looked (option_map (left_of known) o) (λ l. hinted hints cs (with_true known l)) ≡ true → IsImplied cs c
@@ -104,7 +103,7 @@ closed_by (n ∷ hints) cs c known k h = by_clause (closed_by hints cs c) (claus
     by_clause rest (Some d) e h = by_left rest d (left_of known d) e refl h
 
 pub hinted_implied : (hints : List ℕ) (cs : List (Option (List Literal))) (c : List Literal) (n : ℕ) → hinted hints cs (with_false c (all_open n)) ≡ true → IsImplied cs c
-hinted_implied hints cs c n h = closed_by hints cs c (with_false c (all_open n)) (λ m f. elim (assumed_cases c (all_open n) m f) [ | inl o ↦ absurd (open_false n m.variable (not m.positive) o) | inr t ↦ assumed m t ]) h
+hinted_implied hints cs c n h = closed_by hints cs c (with_false c (all_open n)) (λ m f. elim (assumed_cases c (all_open n) m f) [ inl o ↦ absurd (open_false n m.variable (not m.positive) o) | inr t ↦ assumed m t ]) h
 
 -- what is made false is false
 false_among : (values : List Bool) (c : List Literal) (l : Literal) → clause_true values c ≡ false → is_among c l ≡ true → literal_true values l ≡ false
@@ -113,7 +112,7 @@ false_among values (x ∷ c) l f h = by_test (false_among values c l) (literal_t
   where
     by_test : (clause_true values c ≡ false → is_among c l ≡ true → literal_true values l ≡ false) → (b : Bool) → literal_true values x ≡ b → (b || clause_true values c) ≡ false → literal_true values l ≡ false
     by_test rest true e f = cc
-    by_test rest false e f = elim (or_cases (is_same l x) (is_among c l) h) [ | inl s ↦ ap (literal_true values) (alike l x s) ∙ e | inr r ↦ rest f r ]
+    by_test rest false e f = elim (or_cases (is_same l x) (is_among c l) h) [ inl s ↦ ap (literal_true values) (alike l x s) ∙ e | inr r ↦ rest f r ]
 
 none_true : (values : List Bool) (d : List Literal) → ((m : Literal) → is_among d m ≡ true → literal_true values m ≡ false) → clause_true values d ≡ false
 none_true values [] h = refl
@@ -168,7 +167,7 @@ entails_added cs new c e f = record { each = λ values all. subst (SatisfiesAll 
 pub root_at : (cs : List (Option (List Literal))) (k : ℕ) (l x : Literal) → x ≡ negated l → clause_at cs k ≡ Some (x ∷ []) → IsMadeFalse cs [] l
 root_at cs k l x e h = forced (x ∷ []) l (stands_at cs k (x ∷ []) h)
     (or_left (is_same (negated l) x) false (ap (is_same (negated l)) e ∙ self_same (negated l)))
-    (λ m a f. elim (or_cases (is_same m x) false a) [ | inl s ↦ absurd (both (is_same m x) s (ap (is_same m) e ∙ f)) | inr w ↦ cc ])
+    (λ m a f. elim (or_cases (is_same m x) false a) [ inl s ↦ absurd (both (is_same m x) s (ap (is_same m) e ∙ f)) | inr w ↦ cc ])
 
 pub root_forced : (cs : List (Option (List Literal))) (k : ℕ) (l : Literal) (d : List Literal) → clause_at cs k ≡ Some d → is_among d l ≡ true → ((m : Literal) → is_among d m ≡ true → is_same m l ≡ false → IsMadeFalse cs [] m) → IsMadeFalse cs [] (negated l)
 root_forced cs k l d h a others = forced d (negated l) (stands_at cs k d h) (subst (λ (x : Literal). is_among d x ≡ true) (sym (twice_negated l)) a)

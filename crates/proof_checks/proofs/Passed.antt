@@ -14,14 +14,13 @@ use Rattle.proof_text.specs.declared.drat.DratAction.{DratAction}
 use Rattle.proof_text.specs.declared.drat.DratAction.TheVariants.{Add, Delete}
 use Rattle.proof_text.specs.declared.fault.ProofFault.{ProofFault}
 use Rattle.proof_text.specs.declared.fault.ProofFault.TheVariants.{BadLine, NotImplied, NoEmptyClause, TooLong, Memory}
-use Rattle.proof_checks.specs.Distinct.{distinct, is_tautology}
+use Rattle.proof_checks.specs.Distinct.{is_tautology}
 use Rattle.proof_checks.specs.Drat.{adds, is_idle, IsDratFault, ended, bad_line, idle, not_implied, added, refuted, IsDratStop}
-use Rattle.proof_checks.specs.Ends.{is_nil, is_empty_clause, end_fault}
+use Rattle.proof_checks.specs.Ends.{is_empty_clause, end_fault}
 use Rattle.proof_checks.specs.Held.{Holds}
 use Rattle.proof_checks.specs.Passed.{IsAddition, IsTaken, GoesOn, IsPassed, IsStepStop, IsNext}
 use Rattle.proof_checks.specs.Propagation.{IsImplied}
 use Rattle.proof_checks.proofs.Once.{tautology_distinct, nil_kept}
-use Rattle.proof_checks.proofs.Propagating.{holds_itself}
 
 -- whether the empty clause stands, by a test and by a list
 stands_in : (cs : List (Option (List Literal))) → list_any is_empty_clause cs ≡ true → Contains cs (Some [])

@@ -1,18 +1,10 @@
 -- What unit propagation makes false.
-use Rattle.std.proofs.Common.{◌≡◌, ℕ, zero, suc, ◌+◌, ◌<◌, Bool, true, false, not, ◌||◌, if◌then◌else◌, IsTrue, IsFalse, List, [], ◌∷◌, ◌++◌, length, filter, replicate, map, Contains, Option, Some, None, slice_get, slice_set, unwrap_or, get_or, refl, sym, ap, subst, ◌∙◌, ◌⊎◌, inl, inr, arith}
-use Rattle.std.specs.List.{list_any}
-use Rattle.std.specs.Option.{option_map}
-use Rattle.std.proofs.lemmas.Bool.{eqb-true, eq-eqb, or_parts}
+use Rattle.std.proofs.Common.{◌≡◌, ℕ, zero, suc, ◌<◌, Bool, true, false, not, ◌||◌, List, [], ◌∷◌, ◌++◌, length, Contains, Option, Some, None, slice_get, unwrap_or, refl, sym, ap, subst, ◌∙◌, ◌⊎◌, inl, inr, arith}
+use Rattle.std.proofs.lemmas.Bool.{eqb-true, eq-eqb}
 use Rattle.std.proofs.lemmas.List.Elements.{Contains-append_left, Contains-append_right, Contains-append_cases}
 use Rattle.std.proofs.lemmas.Option.{slice_get-get_or, slice_get_within, get_or_from_slice_get}
-use Rattle.serializability.specs.Formula.{literal_true, clause_true}
 use Rattle.serializability.specs.declared.literal.Literal.{Literal}
-use Rattle.refutation.specs.Follows.{met, SatisfiesAll, Follows, Entails}
-use Rattle.refutation.specs.Hinted.{looked, hinted}
-use Rattle.refutation.specs.Known.{value_is, known_false, left_of, with_true, with_false, all_open}
 use Rattle.refutation.specs.Numbered.{clause_at}
-use Rattle.refutation.proofs.Places.{written_cases}
-use Rattle.refutation.proofs.Units.{satisfied_at}
 use Rattle.proof_checks.specs.Distinct.{code_of, is_same, is_among, negated}
 use Rattle.proof_checks.specs.Held.{IsRoot, Holds}
 use Rattle.proof_checks.specs.Propagation.{IsMadeFalse, assumed, forced, IsImplied}

@@ -1,7 +1,6 @@
 -- A propagation that looks at one clause after the other, to its end.
 use Rattle.std.proofs.Common.{◌≡◌, ℕ, zero, suc, ◌+◌, ◌<◌, ◌≤◌, Bool, true, false, not, ◌||◌, if◌then◌else◌, List, [], ◌∷◌, ◌++◌, length, take, get_or, Contains, Option, Some, None, refl, sym, ap, subst, ◌∙◌, ◌⊎◌, inl, inr, arith, length-append, add-one, take_all}
 use Rattle.std.proofs.Math.Seq.{take-suc}
-use Rattle.std.specs.List.{list_any}
 use Rattle.std.proofs.lemmas.Bool.{cases_eq}
 use Rattle.std.proofs.lemmas.List.Folds.{list_any-append}
 use Rattle.std.proofs.lemmas.List.Elements.{Contains-append_left, Contains-append_right, Contains-append_cases}
@@ -9,7 +8,7 @@ use Rattle.serializability.specs.declared.literal.Literal.{Literal}
 use Rattle.refutation.specs.Numbered.{clause_at}
 use Rattle.proof_checks.specs.Distinct.{is_same, is_among, negated, with_literal}
 use Rattle.proof_checks.specs.Propagation.{IsMadeFalse, assumed, forced, IsImplied}
-use Rattle.proof_checks.specs.Reached.{IsLast, IsOpen, IsDone, IsLeft, AreFalse, Keeps, Passes, Visits, Covers, EndsAt, PassesOr}
+use Rattle.proof_checks.specs.Reached.{IsLast, IsOpen, IsDone, IsLeft, AreFalse, Keeps, Passes, Visits, Covers, PassesOr}
 use Rattle.proof_checks.specs.declared.plain.Left.{Left}
 use Rattle.proof_checks.specs.declared.plain.Left.TheVariants as left
 use Rattle.proof_checks.proofs.Propagating.{stands_at, at_stands, within_clauses, twice_negated, alike, self_same}
@@ -49,7 +48,7 @@ more_cases ls x m h = by_case (or_cases (is_among ls m) (is_same m x || false) (
   where
     by_case : ((is_among ls m ≡ true) ⊎ ((is_same m x || false) ≡ true)) → (is_among ls m ≡ true) ⊎ (m ≡ x)
     by_case (inl a) = inl a
-    by_case (inr b) = elim (or_cases (is_same m x) false b) [ | inl s ↦ inr (alike m x s) | inr f ↦ cc ]
+    by_case (inr b) = elim (or_cases (is_same m x) false b) [ inl s ↦ inr (alike m x s) | inr f ↦ cc ]
 
 pub more_left : (ls : List Literal) (x m : Literal) → is_among ls m ≡ true → is_among (ls ++ x ∷ []) m ≡ true
 more_left ls x m h = list_any-append (is_same m) ls (x ∷ []) ∙ or_left (is_among ls m) (is_same m x || false) h
@@ -62,7 +61,7 @@ with_cases : (ls : List Literal) (x m : Literal) → is_among (with_literal ls x
 with_cases ls x m h = by_test (is_among ls x) h
   where
     by_test : (b : Bool) → is_among (ls ++ (if b then [] else x ∷ [])) m ≡ true → (is_among ls m ≡ true) ⊎ (m ≡ x)
-    by_test true h = elim (or_cases (is_among ls m) false (sym (list_any-append (is_same m) ls []) ∙ h)) [ | inl a ↦ inl a | inr b ↦ cc ]
+    by_test true h = elim (or_cases (is_among ls m) false (sym (list_any-append (is_same m) ls []) ∙ h)) [ inl a ↦ inl a | inr b ↦ cc ]
     by_test false h = more_cases ls x m h
 
 with_left : (ls : List Literal) (x m : Literal) → is_among ls m ≡ true → is_among (with_literal ls x) m ≡ true
@@ -83,16 +82,16 @@ with_unmarked : (ls : List Literal) (x m : Literal) → is_among ls m ≡ false 
 with_unmarked ls x m f n = by_test (is_among (with_literal ls x) m) refl
   where
     by_test : (b : Bool) → is_among (with_literal ls x) m ≡ b → is_among (with_literal ls x) m ≡ false
-    by_test true e = elim (with_cases ls x m e) [ | inl a ↦ absurd (both (is_among ls m) a f) | inr s ↦ absurd (n s) ]
+    by_test true e = elim (with_cases ls x m e) [ inl a ↦ absurd (both (is_among ls m) a f) | inr s ↦ absurd (n s) ]
     by_test false e = e
 
 -- what is left of a clause with a literal more
 pub left_marked : (marked ds : List Literal) (x : Literal) (l : Left) → IsLeft marked ds l → is_among marked x ≡ true → IsLeft marked (ds ++ x ∷ []) l
-left_marked marked ds x left.Nothing h t = λ m a. elim (more_cases ds x m a) [ | inl b ↦ h m b | inr e ↦ subst (λ (y : Literal). is_among marked y ≡ true) (sym e) t ]
+left_marked marked ds x left.Nothing h t = λ m a. elim (more_cases ds x m a) [ inl b ↦ h m b | inr e ↦ subst (λ (y : Literal). is_among marked y ≡ true) (sym e) t ]
 left_marked marked ds x (left.One y) h t = record {
   stands = more_left ds x y h.stands;
   unmarked = h.unmarked;
-  others = λ m a n. elim (more_cases ds x m a) [ | inl b ↦ h.others m b n | inr e ↦ subst (λ (y : Literal). is_among marked y ≡ true) (sym e) t ];
+  others = λ m a n. elim (more_cases ds x m a) [ inl b ↦ h.others m b n | inr e ↦ subst (λ (y : Literal). is_among marked y ≡ true) (sym e) t ];
 }
 left_marked marked ds x left.More h t = record {
   one = h.one;
@@ -104,62 +103,16 @@ left_marked marked ds x left.More h t = record {
   two_unmarked = h.two_unmarked;
 }
 
-pub left_first : (marked ds : List Literal) (x : Literal) → is_among marked x ≡ false → IsLeft marked ds left.Nothing → IsLeft marked (ds ++ x ∷ []) (left.One x)
-left_first marked ds x f h = record {
-  stands = more_last ds x;
-  unmarked = f;
-  others = λ m a n. elim (more_cases ds x m a) [ | inl b ↦ h m b | inr e ↦ absurd (differ m x e n) ];
-}
-
-pub left_again : (marked ds : List Literal) (x y : Literal) → y ≡ x → IsLeft marked ds (left.One y) → IsLeft marked (ds ++ x ∷ []) (left.One y)
-left_again marked ds x y e h = record {
-  stands = more_left ds x y h.stands;
-  unmarked = h.unmarked;
-  others = λ m a n. elim (more_cases ds x m a) [ | inl b ↦ h.others m b n | inr s ↦ absurd (differ m y (s ∙ sym e) n) ];
-}
-
-pub left_second : (marked ds : List Literal) (x y : Literal) → (y ≡ x → ⊥) → is_among marked x ≡ false → IsLeft marked ds (left.One y) → IsLeft marked (ds ++ x ∷ []) left.More
-left_second marked ds x y n f h = record {
-  one = y;
-  two = x;
-  one_stands = more_left ds x y h.stands;
-  two_stands = more_last ds x;
-  differ = unlike (is_same y x) refl;
-  one_unmarked = h.unmarked;
-  two_unmarked = f;
-}
-  where
-    unlike : (b : Bool) → is_same y x ≡ b → is_same y x ≡ false
-    unlike true e = absurd (n (alike y x e))
-    unlike false e = e
-
-pub left_more : (marked ds : List Literal) (x : Literal) → IsLeft marked ds left.More → IsLeft marked (ds ++ x ∷ []) left.More
-left_more marked ds x h = record {
-  one = h.one;
-  two = h.two;
-  one_stands = more_left ds x h.one h.one_stands;
-  two_stands = more_left ds x h.two h.two_stands;
-  differ = h.differ;
-  one_unmarked = h.one_unmarked;
-  two_unmarked = h.two_unmarked;
-}
-
--- a look at a clause
-keeps_same : (cs : List (Option (List Literal))) (c marked : List Literal) → AreFalse cs c marked → Keeps cs c marked marked
-keeps_same cs c marked a = record { are_false = a; done = λ d h. h }
-
+-- one pass after another
 keeps_then : (cs : List (Option (List Literal))) (c old now new : List Literal) → Keeps cs c old now → Keeps cs c now new → Keeps cs c old new
 keeps_then cs c old now new a b = record { are_false = b.are_false; done = λ d h. b.done d (a.done d h) }
-
-pub closed_here : (cs : List (Option (List Literal))) (c marked d : List Literal) (k : ℕ) → clause_at cs k ≡ Some d → AreFalse cs c marked → IsLeft marked d left.Nothing → IsImplied cs c
-closed_here cs c marked d k e a h = record { clause = d; stands = stands_at cs k d e; all_false = λ m b. a.made_false m (h m b) }
 
 -- the opposite of a last literal is made false
 last_keeps : (cs : List (Option (List Literal))) (c old d : List Literal) (l : Literal) (k : ℕ) → clause_at cs k ≡ Some d → AreFalse cs c old → IsLast old d l → Keeps cs c old (with_literal old (negated l))
 last_keeps cs c old d l k at a h = record {
   are_false = record {
     assumed = λ m b. lifted m (a.assumed m b);
-    made_false = λ m b. elim (with_cases old (negated l) m b) [ | inl t ↦ a.made_false m t | inr s ↦ subst (IsMadeFalse cs c) (sym s) made ];
+    made_false = λ m b. elim (with_cases old (negated l) m b) [ inl t ↦ a.made_false m t | inr s ↦ subst (IsMadeFalse cs c) (sym s) made ];
   };
   done = done_before;
 }
@@ -192,10 +145,7 @@ last_done old d l h = record {
   made_true = with_last old (negated l);
 }
 
--- a pass
-no_number : (k : ℕ) → Contains [] k → ⊥
-no_number k p = omega (arith, p.1)
-
+-- a list of one number
 one_number : (n k : ℕ) → Contains (n ∷ []) k → k ≡ n
 one_number n k (zero, le, e) = sym e
 one_number n k (suc i, le, e) = absurd (omega (arith, le))
@@ -203,31 +153,23 @@ one_number n k (suc i, le, e) = absurd (omega (arith, le))
 this_number : (n : ℕ) → Contains (n ∷ []) n
 this_number n = (zero, (omega arith), refl)
 
-pub passes_none : (cs : List (Option (List Literal))) (c marked : List Literal) (kept : List ℕ) → kept ≡ [] → AreFalse cs c marked → Passes cs c marked marked [] kept
-passes_none cs c marked kept f a = record {
-  keeps = keeps_same cs c marked a;
-  looked = λ k d p h. absurd (no_number k p);
-  fewer = omega (arith, ap length f);
-  quiet = λ s k d p h. absurd (no_number k (subst (λ (ns : List ℕ). Contains ns k) f p));
-}
-
 -- one more clause is done with
 passes_done : (cs : List (Option (List Literal))) (c first old new : List Literal) (front before : List ℕ) (n : ℕ) → Keeps cs c old new → ((d : List Literal) → clause_at cs n ≡ Some d → IsDone new d) → Passes cs c first old front before → Passes cs c first new (front ++ n ∷ []) before
 passes_done cs c first old new front before n keeps done p = record {
   keeps = keeps_then cs c first old new p.keeps keeps;
-  looked = λ k d q h. elim (Contains-append_cases front (n ∷ []) k q) [ | inl b ↦ earlier k d b h | inr b ↦ inr (done d (ap (clause_at cs) (sym (one_number n k b)) ∙ h)) ];
+  looked = λ k d q h. elim (Contains-append_cases front (n ∷ []) k q) [ inl b ↦ earlier k d b h | inr b ↦ inr (done d (ap (clause_at cs) (sym (one_number n k b)) ∙ h)) ];
   fewer = let le = p.fewer in omega (arith, length-append front (n ∷ []), le);
   quiet = λ s k d q h. absurd (let le = p.fewer in omega (arith, length-append front (n ∷ []), le, s));
 }
   where
     earlier : (k : ℕ) (d : List Literal) → Contains front k → clause_at cs k ≡ Some d → Contains before k ⊎ IsDone new d
-    earlier k d q h = elim (p.looked k d q h) [ | inl b ↦ inl b | inr b ↦ inr (keeps.done d b) ]
+    earlier k d q h = elim (p.looked k d q h) [ inl b ↦ inl b | inr b ↦ inr (keeps.done d b) ]
 
 -- one more is open
 passes_open : (cs : List (Option (List Literal))) (c first old : List Literal) (front before : List ℕ) (n : ℕ) → ((d : List Literal) → clause_at cs n ≡ Some d → IsOpen old d) → Passes cs c first old front before → Passes cs c first old (front ++ n ∷ []) (before ++ n ∷ [])
 passes_open cs c first old front before n is_open p = record {
   keeps = p.keeps;
-  looked = λ k d q h. elim (Contains-append_cases front (n ∷ []) k q) [ | inl b ↦ earlier k d b h | inr b ↦ inl (Contains-append_right before (n ∷ []) k (subst (Contains (n ∷ [])) (sym (one_number n k b)) (this_number n))) ];
+  looked = λ k d q h. elim (Contains-append_cases front (n ∷ []) k q) [ inl b ↦ earlier k d b h | inr b ↦ inl (Contains-append_right before (n ∷ []) k (subst (Contains (n ∷ [])) (sym (one_number n k b)) (this_number n))) ];
   fewer = let le = p.fewer in omega (arith, length-append front (n ∷ []), length-append before (n ∷ []), le);
   quiet = λ s k d q h. let same : length before ≡ length front = omega (arith, length-append front (n ∷ []), length-append before (n ∷ []), s) in
       elim (Contains-append_cases before (n ∷ []) k q) [
@@ -237,10 +179,7 @@ passes_open cs c first old front before n is_open p = record {
 }
   where
     earlier : (k : ℕ) (d : List Literal) → Contains front k → clause_at cs k ≡ Some d → Contains (before ++ n ∷ []) k ⊎ IsDone old d
-    earlier k d q h = elim (p.looked k d q h) [ | inl b ↦ inl (Contains-append_left before (n ∷ []) k b) | inr b ↦ inr b ]
-
-pub visits_none : (cs : List (Option (List Literal))) (c marked : List Literal) (k : ℕ) (before : List ℕ) → clause_at cs k ≡ None → AreFalse cs c marked → Visits cs c marked marked k before before false
-visits_none cs c marked k before e a = λ first front p. passes_done cs c first marked marked front before k (keeps_same cs c marked a) (λ d h. cc) p
+    earlier k d q h = elim (p.looked k d q h) [ inl b ↦ inl (Contains-append_left before (n ∷ []) k b) | inr b ↦ inr b ]
 
 pub visits_last : (cs : List (Option (List Literal))) (c old new d : List Literal) (l : Literal) (k : ℕ) (before : List ℕ) → clause_at cs k ≡ Some d → AreFalse cs c old → IsLeft old d (left.One l) → new ≡ with_literal old (negated l) → Visits cs c old new k before before false
 visits_last cs c old new d l k before at a h e = subst (λ (now : List Literal). Visits cs c old now k before before false) (sym e)
@@ -254,10 +193,6 @@ pub visited : (cs : List (Option (List Literal))) (c first old new : List Litera
 visited cs c first old new numbers before kept i n true less v e p = cc
 visited cs c first old new numbers before kept i n false less v e p = subst (λ (ns : List ℕ). Passes cs c first new ns kept) (sym (rw add-one (take-suc numbers i n less))) (v first (take i numbers) p)
 
-pub visited_closed : (cs : List (Option (List Literal))) (c old new : List Literal) (k : ℕ) (before kept : List ℕ) (b : Bool) → Visits cs c old new k before kept b → b ≡ true → IsImplied cs c
-visited_closed cs c old new k before kept true v e = v
-visited_closed cs c old new k before kept false v e = cc
-
 pub pass_closed : (cs : List (Option (List Literal))) (c old new : List Literal) (numbers kept : List ℕ) (b : Bool) → PassesOr cs c old new numbers kept b → b ≡ true → IsImplied cs c
 pass_closed cs c old new numbers kept true p e = p
 pass_closed cs c old new numbers kept false p e = cc
@@ -266,13 +201,10 @@ pub pass_over : (cs : List (Option (List Literal))) (c old new : List Literal) (
 pass_over cs c old new numbers kept true p e = cc
 pass_over cs c old new numbers kept false p e = p
 
-pub fewer_left : (cs : List (Option (List Literal))) (c old new : List Literal) (numbers kept : List ℕ) → Passes cs c old new numbers kept → (length kept ≡ length numbers → ⊥) → length kept < length numbers
-fewer_left cs c old new numbers kept p n = let le = p.fewer in omega (arith, le, n)
-
 -- from pass to pass
 pub covers_more : (cs : List (Option (List Literal))) (c old new : List Literal) (numbers kept : List ℕ) → Covers cs old numbers → Passes cs c old new numbers kept → Covers cs new kept
 covers_more cs c old new numbers kept v p = record {
-  each = λ k d h. elim (v.each k d h) [ | inl b ↦ p.looked k d b h | inr b ↦ inr (p.keeps.done d b) ];
+  each = λ k d h. elim (v.each k d h) [ inl b ↦ p.looked k d b h | inr b ↦ inr (p.keeps.done d b) ];
 }
 
 pub covers_all : (cs : List (Option (List Literal))) (marked : List Literal) (numbers : List ℕ) → ((k : ℕ) → k < length cs → Contains numbers k) → Covers cs marked numbers
@@ -283,7 +215,7 @@ pub not_implied : (cs : List (Option (List Literal))) (c old marked : List Liter
 not_implied cs c old marked numbers kept v p same i = wrong
   where
     settled : (d : List Literal) → Contains cs (Some d) → IsOpen marked d ⊎ IsDone marked d
-    settled d s = elim ((covers_more cs c old marked numbers kept v p).each s.0 d (at_stands cs d s)) [ | inl b ↦ inl (p.quiet same s.0 d b (at_stands cs d s)) | inr b ↦ inr b ]
+    settled d s = elim ((covers_more cs c old marked numbers kept v p).each s.0 d (at_stands cs d s)) [ inl b ↦ inl (p.quiet same s.0 d b (at_stands cs d s)) | inr b ↦ inr b ]
 
     marked_by : (d : List Literal) (x : Literal) → IsOpen marked d ⊎ IsDone marked d → ((m : Literal) → is_among d m ≡ true → is_same m x ≡ false → is_among marked m ≡ true) → is_among marked (negated x) ≡ true
     marked_by d x (inl o) others = by_first (is_same o.one x) refl

@@ -13,7 +13,6 @@ use Rattle.proof_text.specs.declared.fault.ProofFault.TheVariants.{TooLong, Memo
 use Rattle.proof_text.specs.declared.TheConstants.{MAX_PROOF_BYTES}
 use Rattle.proof_checks.specs.Lrat.{lrat_fault}
 use Rattle.proof_checks.specs.Drat.{IsDratFault}
-use Rattle.proof_checks.specs.Ends.{end_fault}
 
 -- the clauses of a formula, its variables, which count from 1, and how many numbers of variables
 -- the checker knows

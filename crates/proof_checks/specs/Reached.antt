@@ -5,7 +5,7 @@ use Rattle.std.specs.Prelude.{IsTrue, IsFalse}
 use Rattle.std.specs.List.{Contains}
 use Rattle.serializability.specs.declared.literal.Literal.{Literal}
 use Rattle.refutation.specs.Numbered.{clause_at}
-use Rattle.proof_checks.specs.Distinct.{is_same, is_among, negated, with_literal}
+use Rattle.proof_checks.specs.Distinct.{is_same, is_among, negated}
 use Rattle.proof_checks.specs.Propagation.{IsImplied, IsMadeFalse}
 use Rattle.proof_checks.specs.declared.plain.Left.{Left}
 use Rattle.proof_checks.specs.declared.plain.Left.TheVariants as left
@@ -40,9 +40,9 @@ pub record IsDone (marked d : List Literal) : Type 0 where
 
 -- these are made false, and those of c are among them
 pub record AreFalse (clauses : List (Option (List Literal))) (c marked : List Literal) : Type 0
-    where
-  pub assumed : (l : Literal) → IsTrue (is_among c l) → IsTrue (is_among marked l)
-  pub made_false : (l : Literal) → IsTrue (is_among marked l) → IsMadeFalse clauses c l
+  where
+    pub assumed : (l : Literal) → IsTrue (is_among c l) → IsTrue (is_among marked l)
+    pub made_false : (l : Literal) → IsTrue (is_among marked l) → IsMadeFalse clauses c l
 
 -- what is made false stays so, and a clause that is done with
 pub record Keeps (clauses : List (Option (List Literal))) (c old new : List Literal) : Type 0 where
