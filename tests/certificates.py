@@ -17,7 +17,7 @@ WEAKER = {'strict snapshot isolation': 'strict_snapshot', 'snapshot isolation': 
 STATUS = {'serializable': 0, 'not serializable': 1, 'unknown': 3, 'refused': 2}
 HEADING = re.compile(r'part of (\d+) transactions?: (.+)')
 TRANSACTION = re.compile(r'(\d+)\.(\d+) \(lines (\d+) to (\d+)\)')
-OBJECT = ['verdict', 'code', 'known_as', 'part', 'explanation', 'without_moments', 'strict_snapshot', 'snapshot', 'faults', 'reason', *COUNTS[:-1], 'version']
+OBJECT = ['verdict', 'code', 'known_as', 'part', 'explanation', 'without_moments', 'strict_snapshot', 'snapshot', 'snapshot_fault', 'faults', 'reason', *COUNTS[:-1], 'version']
 # Of parts of so many nodes all orders are tried.
 TRIED = 9
 LATE = 600
@@ -115,7 +115,7 @@ class Answer:
         middle, tail = rest[:-len(COUNTS)], [line.split(' ') for line in rest[-len(COUNTS):]]
         must([pair[0] for pair in tail] == list(COUNTS) and all(len(pair) == 2 and pair[1].isdecimal() for pair in tail), 'counts %r' % tail)
         self.counts = {name: int(number) for name, number in tail}
-        self.parts, self.codes, self.without, self.weaker, self.advice = [], [], None, {}, []
+        self.parts, self.codes, self.without, self.weaker, self.shown, self.advice = [], [], None, {}, None, []
         if self.verdict == 'not serializable':
             self.refuted(middle, faults)
         elif self.verdict == 'unknown':
@@ -126,7 +126,12 @@ class Answer:
         must(self.counts['part'] == (len(self.parts[0].lines) if self.parts else 0), 'the count of the part %d' % self.counts['part'])
 
     def below(self, middle):
-        """Takes the lines of weaker levels, and of what holds without moments, from the end of these."""
+        """Takes the part that breaks the weakest level, the lines of weaker levels, and that of what holds without moments, from the end of these."""
+        broken = 'the whole log: %s not kept' % list(WEAKER)[-1]
+        if broken in middle[:-1]:
+            place = middle.index(broken) + 1
+            self.shown = Part(*middle[place:place + 2], middle[place + 2:])
+            del middle[place:]
         for level in reversed(WEAKER):
             found = re.fullmatch('the whole log: %s (kept|not kept|unknown)' % level, middle[-1]) if middle else None
             if found:
@@ -144,7 +149,8 @@ class Answer:
         while faults > 1 and re.fullmatch(r'(A[1-9]|no code) [1-9][0-9]*', middle[-1]):
             self.codes.insert(0, middle.pop())
         self.parts = [Part(middle[at], middle[at + 1], middle[at + 2:end]) for at, end in zip(heads, heads[1:] + [len(middle)])]
-        must(len({tuple(sorted(part.lines)) for part in self.parts}) == len(self.parts), 'a part is told twice')
+        told = self.parts + [self.shown] * (self.shown is not None)
+        must(len({tuple(sorted(part.lines)) for part in told}) == len(told), 'a part is told twice')
         codes = sorted(part.code or 'no code' for part in self.parts)
         wanted = ['%s %d' % (code, codes.count(code)) for code in dict.fromkeys(codes)]
         must(self.codes == (wanted if faults > 1 else []), 'codes %r, wanted %r' % (self.codes, wanted))
@@ -290,6 +296,13 @@ def part_said(part):
     return [{'transaction': '%d.%d' % name, 'lines': list(both)} for name, both in part.lines.items()]
 
 
+def check_fault(part, said, explain):
+    if part is None:
+        return must(said is None, 'JSON: a part %r' % said)
+    wanted = dict(code=part.code, known_as=part.known_as, part=part_said(part), **(dict(explanation=part.why) if explain else {}))
+    must(said == wanted, 'JSON: fault %r, wanted %r' % (said, wanted))
+
+
 def check_object(answer, said, explain=False):
     """JSON says what text says."""
     status, line, error = said
@@ -302,12 +315,11 @@ def check_object(answer, said, explain=False):
     must((it['verdict'], it['without_moments']) == (answer.verdict, answer.without), 'JSON: %r' % it)
     weaker = {name: answer.weaker.get(level) for level, name in WEAKER.items()}
     must({name: it[name] for name in weaker} == weaker, 'JSON: levels %r' % it)
+    check_fault(answer.shown, it['snapshot_fault'], explain)
     must(it['reason'] == (answer.first.split(': ', 1)[1] if answer.verdict == 'unknown' else None), 'JSON: reason %r' % it['reason'])
     must(len(it['faults']) == len(answer.parts), 'JSON: %d faults' % len(it['faults']))
     for part, each in zip(answer.parts, it['faults']):
-        must((each['code'], each['part']) == (part.code, part_said(part)), 'JSON: fault %r' % each)
-        must(each.get('explanation') == (part.why if explain else None), 'JSON: explanation %r' % each)
-        must(each['known_as'] == part.known_as, 'JSON: known as %r' % each['known_as'])
+        check_fault(part, each, explain)
     first = it['faults'][0] if it['faults'] else dict(code=None, known_as=None, part=[])
     must({name: it.get(name) for name in first} == first, 'JSON: the first fault stands otherwise in front')
     return it

@@ -270,10 +270,10 @@ class Log:
         return left
 
     def has_crossed(self):
-        """Whether all four pairs of two versions of a key and two of another were read; initial values do not count."""
+        """Whether all four pairs of two versions of a key and two of another were read."""
         beside = {}
         for it in self.nodes:
-            read = {op.key: op.wid for op in it.ops if op.kind == 'r' and op.wid and it.reads(op.key)[:1] == [op]}
+            read = {op.key: op.wid for op in it.ops if op.kind == 'r' and it.reads(op.key)[:1] == [op]}
             for key, other in itertools.permutations(read, 2):
                 beside.setdefault((key, other), {}).setdefault(read[key], set()).add(read[other])
         return any(len(one & two) > 1 for seen in beside.values() for one, two in itertools.combinations(seen.values(), 2))

@@ -183,6 +183,10 @@ class Log:
         asked = [level for level in LEVELS if 'snapshot' in level and level not in self.silent] if answer.verdict == 'not serializable' else []
         wanted = {LEVELS[level]: 'kept' if self.kept[level] else 'not kept' for level in asked}
         must(answer.weaker == wanted, 'weaker levels: %r, wanted %r' % (answer.weaker, wanted))
+        if answer.weaker.get(LEVELS['snapshot']) == 'not kept':
+            self.check_shown(answer)
+        else:
+            must(answer.shown is None, 'a part breaks snapshot isolation, which is kept')
         certificates.check_object(answer, call(self.program, 'audit', '--at-least', '0', '--format', 'json', text=self.text))
         least = certificates.Answer(call(self.program, 'audit', '--at-least', '0', '--budget', '1', text=self.text))
         if least.verdict == 'unknown':
@@ -191,6 +195,16 @@ class Log:
             must(told, 'weaker levels behind %r: %r, of %r' % (least.first, least.weaker, asked))
         bare = certificates.Answer(call(self.program, 'audit', '--at-least', '0', '--only', text=self.text))
         must((bare.first, bare.without, bare.weaker) == (answer.first, None, {}), 'with --only: %r, %r' % (bare.first, bare.weaker))
+
+    def check_shown(self, answer):
+        """That a part is told that has no snapshot order: that behind the last level, or one that stands before."""
+        def has_order(part):
+            told = certificates.check_told(self.sessions, self.text, part)
+            return Points([(number, [it for _, it in its]) for number, its in told], 'snapshot').has_order()
+        if answer.shown is not None:
+            must(not has_order(answer.shown), 'the part that breaks snapshot isolation has a snapshot order')
+        else:
+            must(not all(map(has_order, answer.parts)), 'no part is told that breaks snapshot isolation')
 
     def judged_at(self, level):
         order, part = self.at + '.order', self.at + '.part'

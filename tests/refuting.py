@@ -4,7 +4,7 @@
 For each log of examples/ and some hundred made ones, and for its reduced and its plain formula: where the formula cannot be satisfied, each
 proof that a solver writes must be accepted, and so must the LRAT that this file makes of it. Then the proofs are damaged in every way:
 cut after each byte, literals and numbers changed, lines exchanged, left out, and told twice, and given with a neighbour's log, among
-these many that an order explains; and clauses that they need are deleted first. What the program says of each must be what the plain checker says, line and all; and it must never be
+these many that an order explains; and clauses that they need are deleted first, which DRAT forgives. What the program says of each must be what the plain checker says, line and all; and it must never be
 yes where an assignment satisfies the formula. R1 to R4 are the program's own refusals of a proof: docs/FORMATS.md has them in words.
 
 The solvers are those that are installed: cadical, which writes DRAT in both forms, and cryptominisat5, whose FRAT becomes DRAT here.
@@ -128,14 +128,12 @@ def binary_steps(proof, variables):
 
 
 def judge_drat(clauses, steps):
+    """The first fault: a clause is to follow from those of the formula and all that were added before it. Deletions ask for nothing."""
     standing = [frozenset(clause) for clause in clauses]
     roots = propagated(standing, ())
     for line, deletes, found in steps:
         clause = frozenset(found)
-        if deletes:
-            if len(clause) > 1 and clause in standing:
-                standing.remove(clause)
-        elif not any(-literal in clause for literal in clause):
+        if not deletes and not any(-literal in clause for literal in clause):
             if roots is not None and not roots & clause and propagated(standing, roots | {-literal for literal in clause}) is not None:
                 raise Bad('R2 line %d' % line)
             if not clause:
@@ -404,22 +402,20 @@ class Runs:
 
 
     def deletions(self):
-        """Clauses that a proof needs, and deletes before: it is refused, at the line that the plain checker has, in each form."""
+        """Clauses that a proof needs, and deletes before, and all that it adds: DRAT is accepted in each form; where a clause then does not follow, it
+        is refused at the line that the plain checker has. LRAT is refused."""
         log = os.path.join(generate.EXAMPLES, 'crossed_readers.log')
         variables, clauses = read_formula(self.call('encode', log)[1])
         own = own_proof(clauses)
         deleted = lambda some: b''.join(b'd %s 0\n' % b' '.join(b'%d' % literal for literal in clause) for clause in some)
-        needed = [clause for clause in clauses if judged((variables, clauses), deleted([clause]) + own) != REFUTED]
-        self.expect(needed and self.refute('proof', log, [], own) == REFUTED, 'no clause is needed')
-        for some in [[clause] for clause in needed] + [needed, clauses]:
-            proof = deleted(some) + own
+        added = [line + b'\n' for line in own.split(b'\n')[:-1]]
+        eager = b''.join(b''.join(added[:place]) + b''.join(b'd ' + line for line in added[:place]) for place in range(1, len(added))) + added[-1]
+        for proof in [deleted([clause]) + own for clause in clauses] + [deleted(clauses) + own, own, deleted(clauses) + eager]:
             for form in (proof, binary_of(proof, variables)):
-                got, wanted = self.refute('proof', log, [], form), judged((variables, clauses), form)
-                self.expect(got == wanted != REFUTED, '%d clauses are deleted: %r, wanted %r' % (len(some), got, wanted))
-            # what is deleted and added again stands
-            proof = deleted(some) + b''.join(line[2:] + b'\n' for line in deleted(some).split(b'\n')[:-1]) + own
+                self.expect(self.refute('proof', log, [], form) == REFUTED == judged((variables, clauses), form), 'deletions are not passed over: %r' % form)
+        for proof in [deleted(some) + b''.join(added[place:]) for some in ([], clauses) for place in range(1, len(added))]:
             got, wanted = self.refute('proof', log, [], proof), judged((variables, clauses), proof)
-            self.expect(got == wanted, '%d clauses are deleted and added: %r, wanted %r' % (len(some), got, wanted))
+            self.expect(got == wanted, 'clauses are deleted, and some not added: %r, wanted %r' % (got, wanted))
         first = lrat_of(clauses, own, variables).split(b'\n')[0]
         used = first.split(b' 0 ')[1].split(b' ')[0]
         proof = b'%d d %s 0\n' % (len(clauses), used) + lrat_of(clauses, own, variables)

@@ -22,15 +22,17 @@ use Rattle.judging.specs.declared.level.Level.{Level}
 use Rattle.judging.specs.declared.level.Level.TheVariants as level
 use Rattle.judging.specs.declared.judged.Why.{Why}
 use Rattle.judging.specs.declared.judged.Tried.{Tried}
+use Rattle.judging.specs.declared.judged.Verdict.{Verdict}
 use Rattle.judging.specs.declared.judged.Verdict.TheVariants as verdict
 use Rattle.judging.specs.declared.means.JudgeMeans.{JudgeMeans}
 use Rattle.audit_command.specs.Counts.{AreCounts}
-use Rattle.audit_command.specs.Distinct.{AreDistinct}
+use Rattle.audit_command.specs.Distinct.{AreDistinct, is_told}
 use Rattle.audit_command.specs.Levels.{asks_moments}
 use Rattle.audit_command.specs.Words.{status_of}
 use Rattle.audit_command.specs.Places.{told_by}
 use Rattle.audit_command.specs.Report.{report_text}
-use Rattle.audit_command.specs.Objects.{report_object, refusal_object}
+use Rattle.audit_command.specs.Why.{IsWhyWhere}
+use Rattle.audit_command.specs.Objects.{report_object, refusal_object, parts_of}
 use Rattle.audit_command.specs.declared.options.AuditOptions.{AuditOptions}
 use Rattle.audit_command.specs.declared.told.ToldPart.{ToldPart}
 use Rattle.audit_command.specs.declared.told.Word.{Word}
@@ -63,22 +65,24 @@ pub record AreTotals (ss : List ClientSession) (t : Totals) : Type 0 where
 -- ---- the answer
 
 -- it is told of a part of the log that it has no order, and so the log has none; its transactions
--- are told by their names and lines in the log, whose first session begins at line n
-pub record IsPartTold (level : Level) (n : ℕ) (ss : List ClientSession) (p : ToldPart)
+-- are told by their names and lines in the log, whose first session begins at line n; and why it has
+-- none, where that is asked for
+pub record IsPartTold (o : AuditOptions) (n : ℕ) (ss : List ClientSession) (p : ToldPart)
     : Type 0 where
-  pub part : IsToldPart level ss p.refuted
+  pub part : IsToldPart o.means.level ss p.refuted
   pub txns : p.txns.items ≡ told_by p.refuted.flags n (resolved ss)
+  pub why : IsWhyWhere o.explain o.means.level n (resolved ss) p.refuted p.why.items
 
-abbrev pub AreToldParts : Level → ℕ → List ClientSession → List ToldPart → Type 0
-AreToldParts level n ss parts = AllByRecursion (IsPartTold level n ss) parts
+abbrev pub AreToldParts : AuditOptions → ℕ → List ClientSession → List ToldPart → Type 0
+AreToldParts o n ss parts = AllByRecursion (IsPartTold o n ss) parts
 
 -- of these parts, one at least and no more than are asked for, no two have the same transactions
-pub record AreParts (level : Level) (n : ℕ) (ss : List ClientSession) (asked : ℕ)
+pub record AreParts (o : AuditOptions) (n : ℕ) (ss : List ClientSession)
     (parts : List ToldPart) : Type 0 where
   pub some : 0 < length parts
-  pub at_most : length parts ≤ 1 + (asked - 1)
+  pub at_most : length parts ≤ 1 + (o.faults - 1)
   pub distinct : AreDistinct parts
-  pub told : AreToldParts level n ss parts
+  pub told : AreToldParts o n ss parts
 
 -- it is not decided, and why
 abbrev pub IsOpen : JudgeMeans → List ClientSession → Type 0
@@ -103,7 +107,7 @@ IsAnswer o n ss answer.Serializable = HasOrderAt o.means.level ss × (o.at_least
     × (asks_moments o.level ≡ true → states_moments ss ≡ true)
 IsAnswer o n ss answer.NoMoments = HasOrderAt o.means.level ss × (o.at_least ≤ nodes_in ss)
     × (asks_moments o.level ≡ true) × (states_moments ss ≡ false)
-IsAnswer o n ss (answer.NotSerializable parts) = AreParts o.means.level n ss o.faults parts.items
+IsAnswer o n ss (answer.NotSerializable parts) = AreParts o n ss parts.items
 IsAnswer o n ss (answer.TooFew committed asked) = (committed ≡ nodes_in ss)
     × (asked ≡ o.at_least) × (committed < o.at_least)
     × (HasOrderAt o.means.level ss ⊎ IsOpen o.means ss)
@@ -147,15 +151,43 @@ is_kept _ = false
 abbrev pub at_snapshot : JudgeMeans → JudgeMeans
 at_snapshot m = record m { level = level.Snapshot }
 
+abbrev pub asked_at_snapshot : AuditOptions → AuditOptions
+asked_at_snapshot o = record o { means = at_snapshot o.means }
+
+-- the verdict, in a word
+abbrev pub verdict_word : Verdict → Word
+verdict_word (verdict.Serializable order) = word.Serializable
+verdict_word (verdict.NotSerializable told) = word.NotSerializable
+verdict_word (verdict.Undecided why tried) = word.Unknown
+
+-- the part, unless one of these has its transactions
+abbrev pub unless_told : ToldPart → List ToldPart → Option ToldPart
+unless_told p parts = if is_told p.txns.items parts then None else Some p
+
+-- a part that has no snapshot order; it is told, unless a part of the answer has its transactions
+pub record IsShown (o : AuditOptions) (n : ℕ) (ss : List ClientSession) (a : Answer)
+    (shown : Option ToldPart) : Type 0 where
+  pub part : ToldPart
+  pub told : IsPartTold (asked_at_snapshot o) n ss part
+  pub where_other : shown ≡ unless_told part (parts_of a)
+
+-- where snapshot isolation was not kept, such a part shows it
+abbrev pub IsShownBy : AuditOptions → ℕ → List ClientSession → Answer → Option Word
+    → Option ToldPart → Type 0
+IsShownBy o n ss a (Some word.NotSerializable) shown = IsShown o n ss a shown
+IsShownBy o n ss a _ shown = shown ≡ None
+
 -- What holds: of serial orders without moments, of snapshot isolation in the order of the stated
--- moments, and of it without them, which is kept where one of the others is.
-pub record IsWeaker (o : AuditOptions) (ss : List ClientSession) (a : Answer) (w : Weaker)
+-- moments, and of it without them, which is kept where one of the others is; and what shows that it
+-- was not. The first line of the log is number n.
+pub record IsWeaker (o : AuditOptions) (n : ℕ) (ss : List ClientSession) (a : Answer) (w : Weaker)
     : Type 0 where
   pub without : IsWordWhere o.means (without_moments ss) (asks_strict o ss a) w.without_moments
   pub strict : IsWordWhere (at_snapshot o.means) ss (asks_strict o ss a) w.strict_snapshot
   pub plain : IsWordWhere (at_snapshot o.means) (without_moments ss) (asks_plain o ss a) w.snapshot
   pub below : (is_kept w.without_moments || is_kept w.strict_snapshot) ≡ true
       → w.snapshot ≡ Some word.Serializable
+  pub shown : IsShownBy o n (without_moments ss) a w.snapshot w.shown
 
 -- ---- files
 
@@ -212,6 +244,7 @@ weaker_of t = record {
   without_moments = t.without_moments;
   strict_snapshot = t.strict_snapshot;
   snapshot = t.snapshot;
+  shown = t.shown;
 }
 
 -- the text in the form that is asked for
@@ -226,7 +259,8 @@ pub record IsAudited (o : AuditOptions) (log : List ℕ) (a : Audited) : Type 0 
   pub told : Told
   pub level : told.level ≡ o.level
   pub answer : IsAnswer o (first_line (version_of log)) (seen o.no_moments sessions) told.answer
-  pub weaker : IsWeaker o (seen o.no_moments sessions) told.answer (weaker_of told)
+  pub weaker : IsWeaker o (first_line (version_of log)) (seen o.no_moments sessions) told.answer
+      (weaker_of told)
   pub totals : AreTotals (seen o.no_moments sessions) told.totals
   pub ends : a.reply.status ≡ status_of told.answer
   pub text : a.reply.text.items ≡ text_in o.form o told

@@ -1,10 +1,11 @@
 pub mod Audited
-pub mod Levels
 pub mod Counts
 pub mod Distinct
+pub mod Levels
 pub mod Objects
+pub mod Orders
 pub mod Places
 pub mod Report
-pub mod Words
-pub mod Orders
 pub mod Resolved
+pub mod Why
+pub mod Words

@@ -1,6 +1,6 @@
 -- The report as one object of JSON.
 use Rattle.std.specs.Prelude.{ℕ, ◌==◌, ◌/◌, ◌%◌, ◌+◌, nat_lt, Bool, if◌then◌else◌, List, []}
-use Rattle.std.specs.Prelude.{◌∷◌, ◌++◌, codes, Option, Some, None}
+use Rattle.std.specs.Prelude.{◌∷◌, ◌++◌, codes, length, take, Option, Some, None}
 use Rattle.std.specs.List.{flat_map}
 use Rattle.std.specs.String.{string_bytes}
 use Rattle.std.specs.Prelude.{String}
@@ -69,8 +69,13 @@ txn_object t = field (codes "{\"transaction\":\"") t.session ++ field (codes "."
     ++ field (codes "\",\"lines\":[") t.first
     ++ field (codes ",") t.last ++ codes "]}"
 
-abbrev pub line_value : String Global → List ℕ
-line_value text = quoted (string_bytes text)
+-- the lines of a text, each between quotes, with commas between them
+abbrev pub line_byte : ℕ → List ℕ
+line_byte b = if b == 10 then codes "\",\"" else escaped_byte b
+
+abbrev pub lines_value : List ℕ → List ℕ
+lines_value [] = []
+lines_value (b ∷ bs) = 34 ∷ flat_map line_byte (take (length bs) (b ∷ bs)) ++ 34 ∷ []
 
 -- its code, its name in the field, its transactions, and why, where that is asked for
 unfoldable pub part_values : ToldPart → List ℕ
@@ -78,8 +83,8 @@ part_values p = codes "\"code\":" ++ code_value (code_number p.refuted.finding)
     ++ codes ",\"known_as\":" ++ quoted_or_null p.known_as
     ++ codes ",\"part\":" ++ list_value txn_object p.txns.items
 
-unfoldable pub explanation_value : List (String Global) → List ℕ
-explanation_value lines = codes ",\"explanation\":" ++ list_value line_value lines
+unfoldable pub explanation_value : List ℕ → List ℕ
+explanation_value text = codes ",\"explanation\":[" ++ lines_value text ++ codes "]"
 
 unfoldable pub why_values : Bool → ToldPart → List ℕ
 why_values explain p = if explain then explanation_value p.why.items else []
@@ -149,14 +154,23 @@ why_unknown a = codes ",\"reason\":" ++ reason_value a
 unfoldable pub head_values : Bool → Told → List ℕ
 head_values explain told = level_value told.level ++ 44 ∷ first_values explain (parts_of told.answer)
 
+-- the part that shows that it was not, where it is told
+abbrev pub part_or_null : Bool → Option ToldPart → List ℕ
+part_or_null explain None = codes "null"
+part_or_null explain (Some p) = part_object explain p
+
+unfoldable pub shown_value : Bool → Option ToldPart → List ℕ
+shown_value explain p = codes ",\"snapshot_fault\":" ++ part_or_null explain p
+
 -- what holds without moments and at weaker levels
-unfoldable pub weaker_values : Told → List ℕ
-weaker_values told = without_value told.without_moments ++ strict_value told.strict_snapshot
-    ++ snapshot_value told.snapshot
+unfoldable pub weaker_values : Bool → Told → List ℕ
+weaker_values explain told = without_value told.without_moments
+    ++ strict_value told.strict_snapshot ++ snapshot_value told.snapshot
+    ++ shown_value explain told.shown
 
 -- what stands behind the verdict
 abbrev pub rest_of_object : Bool → List ℕ → Told → List ℕ
-rest_of_object explain version told = head_values explain told ++ weaker_values told
+rest_of_object explain version told = head_values explain told ++ weaker_values explain told
     ++ faults_value explain (parts_of told.answer)
     ++ why_unknown told.answer ++ count_values told.totals ++ version_value version
 

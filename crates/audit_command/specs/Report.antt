@@ -97,7 +97,7 @@ listed txns = codes "transactions " ++ txns_text txns ++ 10 ∷ []
 
 -- these, and why it has no order
 unfoldable pub part_text : ToldPart → List ℕ
-part_text p = heading_of p ++ listed p.txns.items ++ lines_of p.why.items
+part_text p = heading_of p ++ listed p.txns.items ++ p.why.items
 
 -- so many of the parts have the code of this number, or none
 abbrev pub code_count : List ToldPart → ℕ → ℕ
@@ -142,10 +142,16 @@ level_row level None = []
 level_row level (Some word) = codes "the whole log: " ++ level_title level ++ codes " "
     ++ kept_text word ++ 10 ∷ []
 
+-- the part that shows that the last level was not kept, where it is told
+abbrev pub shown_text : Option ToldPart → List ℕ
+shown_text None = []
+shown_text (Some p) = part_text p
+
 -- what holds without moments and at weaker levels
 unfoldable pub weaker_text : Told → List ℕ
 weaker_text told = without_text told.without_moments
     ++ level_row StrictSnapshot told.strict_snapshot ++ level_row Snapshot told.snapshot
+    ++ shown_text told.shown
 
 -- so many transactions has the first part that is told
 abbrev pub first_size : List ToldPart → ℕ

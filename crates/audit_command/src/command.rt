@@ -100,13 +100,16 @@ fn audit_sessions<R: Threads + Wait + Clock + Eprint + Sync, P: Progress>(
         part,
     } = know(rt, alloc, version, sessions, states, options, progress)?;
     let Answered { answer, order } = answered;
-    let weaker = judge_weaker(rt, alloc, &answer, states, sessions, options, progress)?;
+    let weaker = judge_weaker(
+        rt, alloc, version, &answer, states, sessions, options, progress,
+    )?;
     let told = Told {
         level: options.level,
         answer,
         without_moments: weaker.without_moments,
         strict_snapshot: weaker.strict_snapshot,
         snapshot: weaker.snapshot,
+        shown: weaker.shown,
         totals,
     };
     let reply = reply_of(alloc, options, &told)?;

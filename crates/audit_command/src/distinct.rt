@@ -2,7 +2,7 @@
 
 ghost use Rattle.std.specs.Prelude.{◌≡◌, ◌+◌, ◌-◌, ◌≤◌, ◌<◌, ℕ, List, length, IfOk};
 ghost use Rattle.session_log.specs.Text.{ClientSession};
-ghost use Rattle.judging.specs.declared.level.Level.{Level};
+ghost use Rattle.audit_command.specs.declared.options.AuditOptions.{AuditOptions};
 ghost use Rattle.audit_command.specs.Audited.{AreToldParts, AreParts};
 ghost use Rattle.audit_command.specs.Distinct.{has_txns, is_told};
 
@@ -17,7 +17,7 @@ fn has_txns(part: &ToldPart, txns: &[ToldTxn]) -> bool
 }
 
 /// Whether one of the parts has these transactions.
-fn is_told(parts: &[ToldPart], txns: &[ToldTxn]) -> bool
+pub fn is_told(parts: &[ToldPart], txns: &[ToldTxn]) -> bool
     ensures told { result ≡ is_told txns.now parts.now }
 {
     parts.iter().any(|part| has_txns(part, txns))
@@ -25,10 +25,10 @@ fn is_told(parts: &[ToldPart], txns: &[ToldTxn]) -> bool
 
 /// The parts, but for each that has the transactions of one before it.
 pub fn without_doubles(alloc: Global, parts: Vec<ToldPart>) -> Result<Vec<ToldPart>, AllocError>
-    ensures parts { (level : Level) (n : ℕ) (ss : List ClientSession) (asked : ℕ)
-        → 0 < length parts.items → length parts.items ≤ 1 + (asked - 1)
-        → AreToldParts level n ss parts.items
-        → IfOk result (λ kept. AreParts level n ss asked kept.items) }
+    ensures parts { (o : AuditOptions) (n : ℕ) (ss : List ClientSession)
+        → 0 < length parts.items → length parts.items ≤ 1 + (o.faults - 1)
+        → AreToldParts o n ss parts.items
+        → IfOk result (λ kept. AreParts o n ss kept.items) }
 {
     let mut kept = Vec::new(alloc);
     for part in parts {

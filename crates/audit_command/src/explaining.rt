@@ -1,15 +1,18 @@
 //! Why a part has no order, in lines, in the names and the lines of the whole log.
 
-ghost use Rattle.std.specs.Prelude.{◌≡◌, ◌+◌, ◌<◌, ◌^◌, length, map, IfOk};
+ghost use Rattle.std.specs.Prelude.{◌≡◌, ◌+◌, ◌<◌, ◌^◌, length, map, IfOk, IfSome};
 ghost use Rattle.std.specs.List.{flat_map, AllByRecursion};
 ghost use Rattle.session_log.specs.Text.{IsLegal, view, view_txn, txn_lines};
 ghost use Rattle.log_definitions.specs.WellFormed.{log_lines};
 ghost use Rattle.log_lines.specs.Rows.{Fits, rows_of};
+ghost use Rattle.session_log.specs.Version.{first_line};
+ghost use Rattle.deciding.specs.Decides.{IsDecided};
 ghost use Rattle.judging.specs.Made.{IsMadeOf};
+ghost use Rattle.audit_command.specs.Why.{table_of, Explains, IsSerialWhy};
 
 use crate::places::{behind, sum};
 use call_options::Format;
-use deciding::{Means, decide};
+use deciding::{Decision, Means, decide};
 use desk::gate::OpenGate;
 use judging::RefutedPart;
 use log_lines::{LogPlaces, PlacedHistory};
@@ -33,7 +36,8 @@ const KNOWN_AS: &str = "known as: ";
 /// Why a part has no order.
 #[derive(Drop)]
 pub struct Explained {
-    pub lines: Vec<String>,
+    /// In lines; nothing where it is too large to be told.
+    pub text: Vec<u8>,
     /// What the field calls such a fault, where it has a name.
     pub known_as: Option<String>,
 }
@@ -72,6 +76,8 @@ pub fn places_of(
     requires made { IsMadeOf (map view sessions.now) refuted.now }
     ensures fits { IfOk result (λ places. Fits (map view refuted.now.part.items)
         (rows_of places)) }
+    ensures rows { IfOk result (λ places. rows_of places
+        ≡ table_of (first_line version) (map view sessions.now) refuted.now.flags) }
 {
     match &refuted.flags {
         Some(flags) => part_places(alloc, version, sessions, flags, &refuted.part),
@@ -79,27 +85,44 @@ pub fn places_of(
     }
 }
 
-/// Why a history has no order, by where its transactions stand.
+/// Why a decision about a history stands, by where its transactions do.
+fn text_of_decision(
+    alloc: Global,
+    history: &History,
+    places: &LogPlaces,
+    decision: &Decision,
+) -> Result<Vec<u8>, AllocError>
+    requires fits { Fits history.now (rows_of places.now) }
+    requires decided { IsDecided history.now decision.now }
+    ensures explained { IfOk result (λ text.
+        Explains history.now (rows_of places.now) text.items) }
+{
+    let log = PlacedHistory::of(alloc, history, places)?;
+    explain_placed(alloc, &log, Format::Text, decision)
+}
+
+/// Why a history has no order, by where its transactions stand; `None` where it has too many
+/// choices.
 fn text_of_history<R: Threads + Wait + Clock + Sync>(
     rt: &R,
     alloc: Global,
     history: &History,
     places: &LogPlaces,
     means: &Means,
-) -> Result<Vec<u8>, AllocError>
+) -> Result<Option<Vec<u8>>, AllocError>
     requires fits { Fits history.now (rows_of places.now) }
+    ensures explained { IfOk result (λ told. IfSome told (λ text.
+        Explains history.now (rows_of places.now) text.items)) }
 {
     match decide(rt, alloc, history, means, &OpenGate) {
-        Ok(decision) => {
-            let log = PlacedHistory::of(alloc, history, places)?;
-            explain_placed(alloc, &log, Format::Text, &decision)
-        }
-        Err(PolyFault::TooManyChoices) => Ok(Vec::new(alloc)),
+        Ok(decision) => Ok(Some(text_of_decision(alloc, history, places, &decision)?)),
+        Err(PolyFault::TooManyChoices) => Ok(None),
         Err(PolyFault::Memory) => Err(AllocError),
     }
 }
 
-/// Why a part has no order; nothing where it, or the log, has more lines than any log.
+/// Why a part has no order; `None` where it, or the log, has more lines than any log, or the part
+/// more than `check` takes.
 fn text_of_part<R: Threads + Wait + Clock + Sync>(
     rt: &R,
     alloc: Global,
@@ -107,40 +130,33 @@ fn text_of_part<R: Threads + Wait + Clock + Sync>(
     sessions: &[Session],
     refuted: &RefutedPart,
     means: &Means,
-) -> Result<Vec<u8>, AllocError>
+) -> Result<Option<Vec<u8>>, AllocError>
     requires legal { AllByRecursion IsLegal (map view refuted.now.part.items) }
     requires made { IsMadeOf (map view sessions.now) refuted.now }
+    ensures explained { IfOk result (λ told. IfSome told (λ text.
+        Explains (map view refuted.now.part.items)
+        (table_of (first_line version) (map view sessions.now) refuted.now.flags) text.items)) }
 {
     if line_count(sessions)? > MANY_LINES || line_count(&refuted.part)? > MANY_LINES {
-        return Ok(Vec::new(alloc));
+        return Ok(None);
     }
     let places = places_of(alloc, version, sessions, refuted)?;
     match History::build(alloc, Version::One, copy_log(alloc, &refuted.part)?) {
         Ok(history) => text_of_history(rt, alloc, &history, &places, means),
         Err(LogFault::Memory) => Err(AllocError),
-        Err(_) => Ok(Vec::new(alloc)),
+        Err(_) => Ok(None),
     }
 }
 
-/// The name that the field has for a fault, where a line tells it.
-fn name_in(alloc: Global, line: &str) -> Result<Option<String>, AllocError> {
-    match line.strip_prefix(KNOWN_AS) {
-        Some(name) => Ok(Some(String::from_str(alloc, name)?)),
-        None => Ok(None),
-    }
-}
-
-/// The lines of a text, and the name that one of them tells.
-fn lines_in(alloc: Global, text: &str) -> Result<Explained, AllocError> {
-    let mut lines = Vec::new(alloc);
-    let mut known_as = None;
-    for line in text.lines() {
-        if let Some(name) = name_in(alloc, line)? {
-            known_as = Some(name);
+/// The name that the field has for a fault, where a line of a text tells it.
+fn name_in(alloc: Global, text: &[u8]) -> Result<Option<String>, AllocError> {
+    let mut found = None;
+    for line in std::str::from_utf8(text).unwrap_or("").lines() {
+        if let Some(name) = line.strip_prefix(KNOWN_AS) {
+            found = Some(String::from_str(alloc, name)?);
         }
-        lines.push(String::from_str(alloc, line)?)?;
     }
-    Ok(Explained { lines, known_as })
+    Ok(found)
 }
 
 /// Why a part of these sessions, which are those of a log of this version with their outcomes
@@ -155,7 +171,17 @@ pub fn explain_serial<R: Threads + Wait + Clock + Sync>(
 ) -> Result<Explained, AllocError>
     requires legal { AllByRecursion IsLegal (map view refuted.now.part.items) }
     requires made { IsMadeOf (map view sessions.now) refuted.now }
+    ensures why { IfOk result (λ told.
+        IsSerialWhy (first_line version) (map view sessions.now) refuted.now told.text.items) }
 {
-    let text = text_of_part(rt, alloc, version, sessions, refuted, means)?;
-    lines_in(alloc, std::str::from_utf8(&text).unwrap_or(""))
+    match text_of_part(rt, alloc, version, sessions, refuted, means)? {
+        Some(text) => {
+            let known_as = name_in(alloc, &text)?;
+            Ok(Explained { text, known_as })
+        }
+        None => Ok(Explained {
+            text: Vec::new(alloc),
+            known_as: None,
+        }),
+    }
 }

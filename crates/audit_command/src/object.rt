@@ -1,16 +1,17 @@
 //! The report as one object of JSON.
 
 ghost use Rattle.std.specs.Prelude.{◌≡◌, ◌++◌, ◌<◌, OnOk, IfOk};
+ghost use Rattle.std.specs.List.{flat_map};
 ghost use Rattle.audit_command.specs.Objects.{hex_digit, escaped_byte, escaped, quoted};
 ghost use Rattle.audit_command.specs.Objects.{quoted_or_null, word_or_null, code_value};
 ghost use Rattle.audit_command.specs.Objects.{behind_comma, joined, list_value, txn_object};
-ghost use Rattle.audit_command.specs.Objects.{line_value, part_values, why_values, part_object};
+ghost use Rattle.audit_command.specs.Objects.{line_byte, lines_value, part_values, why_values, part_object};
 ghost use Rattle.audit_command.specs.Objects.{first_values, reason_value, count_values};
 ghost use Rattle.audit_command.specs.Objects.{version_value, verdict_value, report_object};
 ghost use Rattle.audit_command.specs.Objects.{parts_of, rest_of_object, explanation_value, without_value};
 ghost use Rattle.audit_command.specs.Objects.{faults_value, why_unknown, behind_verdict, level_value};
 ghost use Rattle.audit_command.specs.Objects.{kept_or_null, strict_value, snapshot_value};
-ghost use Rattle.audit_command.specs.Objects.{head_values, weaker_values};
+ghost use Rattle.audit_command.specs.Objects.{head_values, weaker_values, part_or_null, shown_value};
 
 use crate::codes::{code_number, kept_text, verdict_text, word_of, word_text};
 use crate::lines::{put, put_number};
@@ -133,24 +134,36 @@ fn put_txns(out: &mut Vec<u8>, txns: &[ToldTxn]) -> Result<(), AllocError>
     }
 }
 
-fn put_more_lines(out: &mut Vec<u8>, lines: &[String]) -> Result<(), AllocError>
-    ensures put { OnOk result (out.new.items ≡ out.old.items ++ behind_comma line_value lines.now) }
+/// Appends a byte of lines: a line feed ends a value, and begins the next.
+fn put_line_byte(out: &mut Vec<u8>, byte: u8) -> Result<(), AllocError>
+    ensures put { OnOk result (out.new.items ≡ out.old.items ++ line_byte byte) }
 {
-    for line in lines {
-        put(out, b",")?;
-        put_quoted(out, line.as_bytes())?;
+    if byte == b'\n' {
+        put(out, b"\",\"")
+    } else {
+        put_escaped(out, byte)
+    }
+}
+
+fn put_line_bytes(out: &mut Vec<u8>, bytes: &[u8]) -> Result<(), AllocError>
+    ensures put { OnOk result (out.new.items ≡ out.old.items ++ flat_map line_byte bytes.now) }
+{
+    for byte in bytes {
+        put_line_byte(out, *byte)?;
     }
     Ok(())
 }
 
-fn put_lines(out: &mut Vec<u8>, lines: &[String]) -> Result<(), AllocError>
-    ensures put { OnOk result (out.new.items ≡ out.old.items ++ joined line_value lines.now) }
+/// Appends the lines of a text, each between quotes.
+fn put_lines(out: &mut Vec<u8>, text: &[u8]) -> Result<(), AllocError>
+    ensures put { OnOk result (out.new.items ≡ out.old.items ++ lines_value text.now) }
 {
-    match lines {
+    match text {
         [] => Ok(()),
-        [first, behind @ ..] => {
-            put_quoted(out, first.as_bytes())?;
-            put_more_lines(out, behind)
+        [lines @ .., _] => {
+            put(out, b"\"")?;
+            put_line_bytes(out, lines)?;
+            put(out, b"\"")
         }
     }
 }
@@ -170,13 +183,12 @@ fn put_part_values(out: &mut Vec<u8>, part: &ToldPart) -> Result<(), AllocError>
 }
 
 #[tactic(auto, unfolding(crate::specs::Objects::explanation_value))]
-fn put_explanation(out: &mut Vec<u8>, lines: &[String]) -> Result<(), AllocError>
-    ensures put { OnOk result (out.new.items ≡ out.old.items ++ explanation_value lines.now) }
+fn put_explanation(out: &mut Vec<u8>, text: &[u8]) -> Result<(), AllocError>
+    ensures put { OnOk result (out.new.items ≡ out.old.items ++ explanation_value text.now) }
 {
     put(out, b",\"explanation\":[")?;
-    put_lines(out, lines)?;
-    put(out, b"]")?;
-    Ok(())
+    put_lines(out, text)?;
+    put(out, b"]")
 }
 
 /// Appends why a part has no order, where that is asked for.
@@ -239,7 +251,7 @@ fn put_first(out: &mut Vec<u8>, explain: bool, parts: &[ToldPart]) -> Result<(),
 }
 
 /// The parts of an answer.
-fn parts_of(answer: &Answer) -> &[ToldPart]
+pub fn parts_of(answer: &Answer) -> &[ToldPart]
     ensures parts { result.now ≡ parts_of answer.now }
 {
     match answer {
@@ -380,14 +392,36 @@ fn put_head(out: &mut Vec<u8>, explain: bool, told: &Told) -> Result<(), AllocEr
     put_first(out, explain, parts_of(&told.answer))
 }
 
+fn put_part_or_null(
+    out: &mut Vec<u8>,
+    explain: bool,
+    part: &Option<ToldPart>,
+) -> Result<(), AllocError>
+    ensures put { OnOk result (out.new.items ≡ out.old.items ++ part_or_null explain part.now) }
+{
+    match part {
+        None => put(out, b"null"),
+        Some(part) => put_part(out, explain, part),
+    }
+}
+
+#[tactic(auto, unfolding(crate::specs::Objects::shown_value))]
+fn put_shown(out: &mut Vec<u8>, explain: bool, shown: &Option<ToldPart>) -> Result<(), AllocError>
+    ensures put { OnOk result (out.new.items ≡ out.old.items ++ shown_value explain shown.now) }
+{
+    put(out, b",\"snapshot_fault\":")?;
+    put_part_or_null(out, explain, shown)
+}
+
 /// Appends what holds without moments and at weaker levels.
 #[tactic(auto, unfolding(crate::specs::Objects::weaker_values))]
-fn put_weaker(out: &mut Vec<u8>, told: &Told) -> Result<(), AllocError>
-    ensures put { OnOk result (out.new.items ≡ out.old.items ++ weaker_values told.now) }
+fn put_weaker(out: &mut Vec<u8>, explain: bool, told: &Told) -> Result<(), AllocError>
+    ensures put { OnOk result (out.new.items ≡ out.old.items ++ weaker_values explain told.now) }
 {
     put_without(out, told.without_moments)?;
     put_strict(out, told.strict_snapshot)?;
-    put_snapshot(out, told.snapshot)
+    put_snapshot(out, told.snapshot)?;
+    put_shown(out, explain, &told.shown)
 }
 
 /// Appends what stands behind the verdict.
@@ -396,7 +430,7 @@ fn put_rest(out: &mut Vec<u8>, explain: bool, version: &str, told: &Told) -> Res
         ++ rest_of_object explain version.now told.now) }
 {
     put_head(out, explain, told)?;
-    put_weaker(out, told)?;
+    put_weaker(out, explain, told)?;
     put_faults(out, explain, parts_of(&told.answer))?;
     put_why_unknown(out, &told.answer)?;
     put_counts(out, &told.totals)?;

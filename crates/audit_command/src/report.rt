@@ -7,6 +7,7 @@ ghost use Rattle.audit_command.specs.Report.{middle_text, without_text, part_siz
 ghost use Rattle.audit_command.specs.Report.{parts_text, first_size, report_text, too_few, heading_of};
 ghost use Rattle.audit_command.specs.Report.{listed, codes_where, behind_first, level_text, reason_line};
 ghost use Rattle.audit_command.specs.Report.{level_row, weaker_text, short_title, found_text};
+ghost use Rattle.audit_command.specs.Report.{shown_text};
 
 use crate::codes::{code_number, finding_title, kept_text, verdict_text, word_of, word_text};
 use crate::lines::{put, put_count, put_line, put_lines, put_name, put_number};
@@ -169,7 +170,7 @@ fn put_part(out: &mut Vec<u8>, part: &ToldPart) -> Result<(), AllocError>
 {
     put_heading(out, part)?;
     put_listed(out, &part.txns)?;
-    put_lines(out, &part.why)
+    put(out, &part.why)
 }
 
 /// How many of the parts have the code of this number.
@@ -286,6 +287,16 @@ fn put_level_row(out: &mut Vec<u8>, level: Isolation, word: Option<Word>) -> Res
     }
 }
 
+/// Appends the part that shows that the last level was not kept, where it is told.
+fn put_shown(out: &mut Vec<u8>, shown: &Option<ToldPart>) -> Result<(), AllocError>
+    ensures put { OnOk result (out.new.items ≡ out.old.items ++ shown_text shown.now) }
+{
+    match shown {
+        None => Ok(()),
+        Some(part) => put_part(out, part),
+    }
+}
+
 /// Appends what holds without moments and at weaker levels, where that is told.
 #[tactic(auto, unfolding(crate::specs::Report::weaker_text))]
 fn put_weaker(out: &mut Vec<u8>, told: &Told) -> Result<(), AllocError>
@@ -293,7 +304,8 @@ fn put_weaker(out: &mut Vec<u8>, told: &Told) -> Result<(), AllocError>
 {
     put_without(out, told.without_moments)?;
     put_level_row(out, Isolation::StrictSnapshot, told.strict_snapshot)?;
-    put_level_row(out, Isolation::Snapshot, told.snapshot)
+    put_level_row(out, Isolation::Snapshot, told.snapshot)?;
+    put_shown(out, &told.shown)
 }
 
 /// How many transactions the first part has.

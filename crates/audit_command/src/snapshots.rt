@@ -1,9 +1,11 @@
 //! Why a part has no order of the level at which it was judged.
 
-ghost use Rattle.std.specs.Prelude.{map};
+ghost use Rattle.std.specs.Prelude.{map, IfOk};
 ghost use Rattle.std.specs.List.{AllByRecursion};
 ghost use Rattle.session_log.specs.Text.{IsLegal, view};
+ghost use Rattle.session_log.specs.Version.{first_line};
 ghost use Rattle.judging.specs.Made.{IsMadeOf};
+ghost use Rattle.audit_command.specs.Why.{IsWhyOf, IsWhy};
 
 use crate::explaining::{Explained, MANY_LINES, explain_serial, line_count, places_of};
 use deciding::Means;
@@ -17,7 +19,7 @@ use std::time::Clock;
 use tell_snapshots::{Told, tell_snapshots};
 
 /// What is told of a part that a search over its formula refutes, which tells nothing for people.
-const NONE_LEFT: &str = "no order of them is left: a search shows it";
+const NONE_LEFT: &[u8] = b"no order of them is left: a search shows it\n";
 
 /// What stands before the lines that say why a part has no serial order, where these say nothing of
 /// snapshots.
@@ -28,23 +30,28 @@ const NO_SERIAL_ORDER: &str = "why they have no serial order either:";
 /// What stands in the names of faults that snapshot isolation allows.
 const ALLOWED: &str = "(G2-";
 
+/// Appends a line.
+fn put_line(text: &mut Vec<u8>, line: &str) -> Result<(), AllocError> {
+    text.extend_from_slice(line.as_bytes())?;
+    text.extend_from_slice(b"\n")
+}
+
 /// Why a part that has no snapshot order has no serial order, without the names of faults that
 /// snapshot isolation allows.
 fn below_snapshot(alloc: Global, explained: Explained) -> Result<Explained, AllocError> {
-    let Explained { lines, known_as } = explained;
-    let mut why = Vec::new(alloc);
-    why.push(String::from_str(alloc, NO_POINTS_LEFT)?)?;
-    if !lines.is_empty() {
-        why.push(String::from_str(alloc, NO_SERIAL_ORDER)?)?;
+    let mut text = Vec::new(alloc);
+    put_line(&mut text, NO_POINTS_LEFT)?;
+    if !explained.text.is_empty() {
+        put_line(&mut text, NO_SERIAL_ORDER)?;
     }
-    for line in lines {
+    for line in std::str::from_utf8(&explained.text).unwrap_or("").lines() {
         if !line.contains(ALLOWED) {
-            why.push(line)?;
+            put_line(&mut text, line)?;
         }
     }
     Ok(Explained {
-        lines: why,
-        known_as: known_as.filter(|name| !name.contains(ALLOWED)),
+        text,
+        known_as: explained.known_as.filter(|name| !name.contains(ALLOWED)),
     })
 }
 
@@ -55,20 +62,29 @@ fn owned(alloc: Global, name: Option<&'static str>) -> Result<Option<String>, Al
     }
 }
 
-/// Lines, and behind them a name, where there is one.
+/// A text, and behind it a name, where there is one.
 fn with_name(
     alloc: Global,
-    lines: Vec<String>,
+    text: Vec<u8>,
     name: Option<&'static str>,
 ) -> Result<Explained, AllocError> {
-    let mut lines = lines;
+    let mut text = text;
     if let Some(name) = name {
-        lines.push(format!(in alloc; "known as: {name}")?)?;
+        put_line(&mut text, &format!(in alloc; "known as: {name}")?)?;
     }
     Ok(Explained {
-        lines,
+        text,
         known_as: owned(alloc, name)?,
     })
+}
+
+/// These lines.
+fn text_of_lines(alloc: Global, lines: &[String]) -> Result<Vec<u8>, AllocError> {
+    let mut text = Vec::new(alloc);
+    for line in lines {
+        put_line(&mut text, line)?;
+    }
+    Ok(text)
 }
 
 /// Why a part has no snapshot order, by its snapshots and commits; `None` where circles of these do
@@ -86,7 +102,10 @@ fn explain_points(
     }
     let places = places_of(alloc, version, sessions, refuted)?;
     match tell_snapshots(alloc, &refuted.part, &places)? {
-        Some(Told { lines, known_as }) => Ok(Some(with_name(alloc, lines, known_as)?)),
+        Some(Told { lines, known_as }) => {
+            let text = text_of_lines(alloc, &lines)?;
+            Ok(Some(with_name(alloc, text, known_as)?))
+        }
         None => Ok(None),
     }
 }
@@ -131,23 +150,13 @@ fn explain_snapshot<R: Threads + Wait + Clock + Sync>(
 {
     if let Finding::Anomaly(anomaly) = refuted.finding {
         let explained = explain_serial(rt, alloc, version, sessions, refuted, means)?;
-        return with_name(alloc, explained.lines, name_at_snapshots(anomaly));
+        return with_name(alloc, explained.text, name_at_snapshots(anomaly));
     }
     if let Some(explained) = explain_points(alloc, version, sessions, refuted)? {
         return Ok(explained);
     }
     let explained = explain_serial(rt, alloc, version, sessions, refuted, means)?;
     below_snapshot(alloc, explained)
-}
-
-/// That no order of a part is left.
-fn none_left(alloc: Global) -> Result<Explained, AllocError> {
-    let mut lines = Vec::new(alloc);
-    lines.push(String::from_str(alloc, NONE_LEFT)?)?;
-    Ok(Explained {
-        lines,
-        known_as: None,
-    })
 }
 
 /// Why a part has no serial order.
@@ -161,13 +170,18 @@ fn explain_order<R: Threads + Wait + Clock + Sync>(
 ) -> Result<Explained, AllocError>
     requires legal { AllByRecursion IsLegal (map view refuted.now.part.items) }
     requires made { IsMadeOf (map view sessions.now) refuted.now }
+    ensures why { IfOk result (λ told. IsWhyOf refuted.now.finding (first_line version)
+        (map view sessions.now) refuted.now told.text.items) }
 {
     match refuted.finding {
-        Finding::Formula => none_left(alloc),
+        Finding::Formula => Ok(Explained {
+            text: Vec::from_slice(alloc, NONE_LEFT)?,
+            known_as: None,
+        }),
         Finding::Anomaly(anomaly) => {
             let explained = explain_serial(rt, alloc, version, sessions, refuted, means)?;
             Ok(Explained {
-                lines: explained.lines,
+                text: explained.text,
                 known_as: owned(alloc, name_of(anomaly))?,
             })
         }
@@ -189,6 +203,8 @@ pub fn explain_part<R: Threads + Wait + Clock + Sync>(
 ) -> Result<Explained, AllocError>
     requires legal { AllByRecursion IsLegal (map view refuted.now.part.items) }
     requires made { IsMadeOf (map view sessions.now) refuted.now }
+    ensures why { IfOk result (λ told. IsWhy means.now.level (first_line version)
+        (map view sessions.now) refuted.now told.text.items) }
 {
     let deciding = &means.deciding;
     match means.level {

@@ -9,7 +9,7 @@ ghost use Rattle.piece_laws.specs.Logs.{IsSoundLog, IsLog};
 ghost use Rattle.judging.specs.Judges.{IsVerdict};
 ghost use Rattle.judging.specs.Made.{IsMade, IsToldPart};
 ghost use Rattle.judging.specs.Levels.{IsLogAt, IsOrderAt, HasOrderAt};
-ghost use Rattle.judging.specs.declared.level.Level.{Level};
+ghost use Rattle.audit_command.specs.declared.options.AuditOptions.{AuditOptions};
 ghost use Rattle.audit_command.specs.Audited.{nodes_in, IsPartTold, AreToldParts, AreParts};
 ghost use Rattle.audit_command.specs.Audited.{IsAnswered, IsOrderText, IsOrderFile, IsOpen, states_moments};
 ghost use Rattle.audit_command.specs.Resolved.{IsResolved, IsPartOf, IsPartOfVerdict};
@@ -51,31 +51,26 @@ pub struct JudgedLog<'a> {
     pub proposal: &'a Proposal,
 }
 
-/// A part, told.
-fn told_part<R: Threads + Wait + Clock + Sync>(
+/// A part of these sessions, which are those of a log of this version with their outcomes known,
+/// told.
+pub fn told_part<R: Threads + Wait + Clock + Sync>(
     rt: &R,
     alloc: Global,
-    log: &JudgedLog<'_>,
+    version: Version,
+    sessions: &[Session],
     refuted: RefutedPart,
     options: &AuditOptions<'_>,
 ) -> Result<ToldPart, AllocError>
-    requires part { IsPartOf (map view log.now.sessions.now) refuted }
-    ensures told { (ss : List ClientSession) → map view log.now.sessions.now ≡ resolved ss
+    requires part { IsPartOf (map view sessions.now) refuted }
+    ensures told { (ss : List ClientSession) → map view sessions.now ≡ resolved ss
         → IsToldPart options.now.means.level ss refuted
-        → IfOk result (IsPartTold options.now.means.level (first_line log.now.version) ss) }
+        → IfOk result (IsPartTold options.now (first_line version) ss) }
 {
-    let txns = told_txns(alloc, log.version, log.sessions, &refuted.flags)?;
-    let explained = explain_part(
-        rt,
-        alloc,
-        log.version,
-        log.sessions,
-        &refuted,
-        &options.means,
-    )?;
-    let Explained { lines, known_as } = explained;
+    let txns = told_txns(alloc, version, sessions, &refuted.flags)?;
+    let explained = explain_part(rt, alloc, version, sessions, &refuted, &options.means)?;
+    let Explained { text, known_as } = explained;
     let why = if options.explain {
-        lines
+        text
     } else {
         Vec::new(alloc)
     };
@@ -99,8 +94,8 @@ fn add_parts<R: Threads + Wait + Clock + Sync>(
     requires parts { AllByRecursion (IsPartOf (map view log.now.sessions.now)) parts.items }
     ensures told { (ss : List ClientSession) → map view log.now.sessions.now ≡ resolved ss
         → AllByRecursion (IsToldPart options.now.means.level ss) parts.items
-        → AreToldParts options.now.means.level (first_line log.now.version) ss told.old.items
-        → OnOk result (AreToldParts options.now.means.level (first_line log.now.version) ss
+        → AreToldParts options.now (first_line log.now.version) ss told.old.items
+        → OnOk result (AreToldParts options.now (first_line log.now.version) ss
         told.new.items) }
     ensures more { OnOk result (length told.old.items ≤ length told.new.items) }
     ensures at_most { OnOk result (length told.new.items
@@ -111,15 +106,16 @@ fn add_parts<R: Threads + Wait + Clock + Sync>(
         let Some(part) = left.pop() else {
             break 'parts;
         };
-        told.push(told_part(rt, alloc, log, part, options)?)?;
+        let part = told_part(rt, alloc, log.version, log.sessions, part, options)?;
+        told.push(part)?;
     }
     Ok(())
 }
 
 /// Puts parts into the order of their sizes, the least one first.
 fn put_least_first(told: &mut Vec<ToldPart>) -> Result<(), AllocError>
-    ensures told { (level : Level) (n : ℕ) (ss : List ClientSession)
-        → AreToldParts level n ss told.old.items → AreToldParts level n ss told.new.items }
+    ensures told { (o : AuditOptions) (n : ℕ) (ss : List ClientSession)
+        → AreToldParts o n ss told.old.items → AreToldParts o n ss told.new.items }
     ensures as_many { length told.new.items ≡ length told.old.items }
 {
     told.sort_by_key(|part| part.txns.len())
@@ -140,8 +136,8 @@ fn told_parts<R: Threads + Wait + Clock + Eprint + Sync, P: Progress>(
     requires first { IsPartOf (map view log.now.sessions.now) first }
     ensures told { (ss : List ClientSession) → AllByRecursion IsLegal ss → IsSoundLog ss
         → map view log.now.sessions.now ≡ resolved ss → IsToldPart options.now.means.level ss first
-        → IfOk result (λ told. AreParts options.now.means.level (first_line log.now.version) ss
-        options.now.faults told.items) }
+        → IfOk result (λ told. AreParts options.now (first_line log.now.version) ss
+        told.items) }
 {
     let count = options.faults.saturating_sub(1);
     let more = more_parts(
@@ -155,7 +151,8 @@ fn told_parts<R: Threads + Wait + Clock + Eprint + Sync, P: Progress>(
         progress,
     )?;
     let mut told = Vec::new(alloc);
-    told.push(told_part(rt, alloc, log, first, options)?)?;
+    let first = told_part(rt, alloc, log.version, log.sessions, first, options)?;
+    told.push(first)?;
     add_parts(rt, alloc, log, more, options, &mut told)?;
     put_least_first(&mut told)?;
     without_doubles(alloc, told)

@@ -23,7 +23,7 @@ pub struct ToldPart {
     /// What the field calls such a fault, where it has a name.
     pub known_as: Option<String>,
     /// Why it has no order, in lines, where that is asked for.
-    pub why: Vec<String>,
+    pub why: Vec<u8>,
 }
 
 /// The verdict, in a word.
@@ -69,5 +69,8 @@ pub struct Told {
     /// stated moments, and without them.
     pub strict_snapshot: Option<Word>,
     pub snapshot: Option<Word>,
+    /// The part that shows that snapshot isolation was not kept, where no part of the answer has its
+    /// transactions.
+    pub shown: Option<ToldPart>,
     pub totals: Totals,
 }

@@ -3,22 +3,30 @@
 ghost use Rattle.std.specs.Prelude.{◌≡◌, ◌||◌, true, false, List, Some, map, IfOk};
 ghost use Rattle.std.specs.List.{AllByRecursion};
 ghost use Rattle.session_log.specs.Text.{ClientSession, IsLegal, view, view_txn};
+ghost use Rattle.session_log.specs.Version.{first_line};
 ghost use Rattle.log_definitions.specs.Unknown.{resolved};
 ghost use Rattle.piece_laws.specs.Logs.{IsSoundLog, IsLog};
 ghost use Rattle.judging.specs.Judges.{IsVerdict};
+ghost use Rattle.judging.specs.Made.{IsMade};
 ghost use Rattle.level_laws.specs.Without.{without_moments};
 ghost use Rattle.judging.specs.declared.means.JudgeMeans.{JudgeMeans};
 ghost use Rattle.audit_command.specs.Audited.{states_moment, some_state, states_moments};
 ghost use Rattle.audit_command.specs.Audited.{IsWord, IsWordWhere, IsWeaker};
 ghost use Rattle.audit_command.specs.Audited.{asks_levels, is_serial, asks_strict, asks_plain, is_kept};
-ghost use Rattle.audit_command.specs.Audited.{at_snapshot};
+ghost use Rattle.audit_command.specs.Audited.{at_snapshot, asked_at_snapshot, verdict_word};
+ghost use Rattle.audit_command.specs.Audited.{unless_told, IsShownBy};
+ghost use Rattle.audit_command.specs.Resolved.{IsPartOfVerdict};
 ghost use Rattle.audit_command.specs.declared.told.Word.TheVariants as word;
 
+use crate::distinct::is_told;
+use crate::object::parts_of;
 use crate::options::AuditOptions;
-use crate::told::{Answer, Word};
+use crate::telling::told_part;
+use crate::told::{Answer, ToldPart, Word};
 use judging::{JudgeMeans, Level, Verdict, judge_known_log, leave_out_moments};
 use progress::Progress;
-use session_log::{Session, Txn};
+use proposals::Flags;
+use session_log::{Session, Txn, Version};
 use std::alloc::{AllocError, Global};
 use std::io::Eprint;
 use std::sync::Wait;
@@ -26,11 +34,21 @@ use std::thread::Threads;
 use std::time::Clock;
 
 /// What holds of a log as if it stated no moments, and at weaker levels, where that is asked for.
-#[derive(Clone, Copy)]
+#[derive(Drop)]
 pub struct Weaker {
     pub without_moments: Option<Word>,
     pub strict_snapshot: Option<Word>,
     pub snapshot: Option<Word>,
+    /// The part that shows that snapshot isolation was not kept, where no part of the answer has its
+    /// transactions.
+    pub shown: Option<ToldPart>,
+}
+
+/// Whether snapshot isolation was kept, and the part that shows that it was not.
+#[derive(Drop)]
+struct Plain {
+    word: Option<Word>,
+    shown: Option<ToldPart>,
 }
 
 /// Whether a transaction states a moment.
@@ -65,6 +83,7 @@ pub fn state_moments(sessions: &[Session]) -> bool
 
 /// The verdict, in a word.
 fn word_of(verdict: &Verdict) -> Word
+    ensures is { result ≡ verdict_word verdict.now }
     ensures word { (m : JudgeMeans) (ss : List ClientSession) → IsVerdict m ss verdict.now
         → IsWord m ss result }
 {
@@ -137,11 +156,36 @@ fn at_snapshot(means: &JudgeMeans) -> JudgeMeans
     }
 }
 
-/// The verdict on these sessions, whose outcomes are known.
+/// What is asked, at the level of snapshots.
+fn asked_at_snapshot<'a>(options: &AuditOptions<'a>) -> AuditOptions<'a>
+    ensures at { result ≡ asked_at_snapshot options.now }
+{
+    AuditOptions {
+        means: at_snapshot(&options.means),
+        ..*options
+    }
+}
+
+/// Which transactions the first part of an answer has.
+fn first_flags(answer: &Answer) -> Option<&Flags> {
+    match answer {
+        Answer::NotSerializable(parts) => parts
+            .first()
+            .and_then(|part| part.refuted.flags.as_ref()),
+        Answer::Serializable
+        | Answer::NoMoments
+        | Answer::TooFew { .. }
+        | Answer::Undecided { .. } => None,
+    }
+}
+
+/// The verdict on these sessions, whose outcomes are known; the part of these flags is looked at
+/// first.
 fn word_on<R: Threads + Wait + Clock + Eprint + Sync, P: Progress>(
     rt: &R,
     alloc: Global,
     sessions: &[Session],
+    first: Option<&Flags>,
     means: &JudgeMeans,
     progress: &mut P,
 ) -> Result<Word, AllocError>
@@ -149,7 +193,7 @@ fn word_on<R: Threads + Wait + Clock + Eprint + Sync, P: Progress>(
     ensures word { IfOk result (λ word. (ss : List ClientSession) → AllByRecursion IsLegal ss
         → IsSoundLog ss → map view sessions.now ≡ resolved ss → IsWord means.now ss word) }
 {
-    let verdict = judge_known_log(rt, alloc, sessions, means, progress)?;
+    let verdict = judge_known_log(rt, alloc, sessions, first, means, progress)?;
     Ok(word_of(&verdict))
 }
 
@@ -158,6 +202,7 @@ fn word_where<R: Threads + Wait + Clock + Eprint + Sync, P: Progress>(
     rt: &R,
     alloc: Global,
     sessions: &[Session],
+    first: Option<&Flags>,
     is_asked: bool,
     means: &JudgeMeans,
     progress: &mut P,
@@ -168,33 +213,109 @@ fn word_where<R: Threads + Wait + Clock + Eprint + Sync, P: Progress>(
         → IsWordWhere means.now ss is_asked word) }
 {
     if is_asked {
-        Ok(Some(word_on(rt, alloc, sessions, means, progress)?))
+        Ok(Some(word_on(rt, alloc, sessions, first, means, progress)?))
     } else {
         Ok(None)
     }
 }
 
-/// The verdict on these sessions, whose outcomes are known, where it is asked for: that the level is
-/// kept, where a stronger one is.
-fn word_below<R: Threads + Wait + Clock + Eprint + Sync, P: Progress>(
+/// The part, unless one of these has its transactions.
+fn unless_told(part: ToldPart, parts: &[ToldPart]) -> Option<ToldPart>
+    ensures told { result ≡ unless_told part parts.now }
+{
+    if is_told(parts, &part.txns) {
+        None
+    } else {
+        Some(part)
+    }
+}
+
+/// The part that shows a verdict at the level of snapshots, unless the answer has one of its
+/// transactions.
+fn shown_by<R: Threads + Wait + Clock + Sync>(
     rt: &R,
     alloc: Global,
+    version: Version,
     sessions: &[Session],
+    answer: &Answer,
+    verdict: Verdict,
+    options: &AuditOptions<'_>,
+) -> Result<Option<ToldPart>, AllocError>
+    requires part { IsPartOfVerdict (map view sessions.now) verdict }
+    ensures shown { (ss : List ClientSession) → map view sessions.now ≡ resolved ss
+        → IsVerdict (at_snapshot options.now.means) ss verdict → IsMade (resolved ss) verdict
+        → IfOk result (IsShownBy options.now (first_line version) ss answer.now (Some (verdict_word verdict))) }
+{
+    match verdict {
+        Verdict::NotSerializable(refuted) => {
+            let below = asked_at_snapshot(options);
+            let part = told_part(rt, alloc, version, sessions, refuted, &below)?;
+            Ok(unless_told(part, parts_of(answer)))
+        }
+        Verdict::Serializable(_) | Verdict::Undecided { .. } => Ok(None),
+    }
+}
+
+/// Whether these sessions, whose outcomes are known, kept snapshot isolation, and what shows that
+/// they did not.
+fn plain_on<R: Threads + Wait + Clock + Eprint + Sync, P: Progress>(
+    rt: &R,
+    alloc: Global,
+    version: Version,
+    sessions: &[Session],
+    answer: &Answer,
+    options: &AuditOptions<'_>,
+    progress: &mut P,
+) -> Result<Plain, AllocError>
+    requires log { IsLog (map view sessions.now) }
+    ensures word { IfOk result (λ plain. (ss : List ClientSession) → AllByRecursion IsLegal ss
+        → IsSoundLog ss → map view sessions.now ≡ resolved ss
+        → IsWordWhere (at_snapshot options.now.means) ss true plain.word) }
+    ensures shown { IfOk result (λ plain. (ss : List ClientSession) → AllByRecursion IsLegal ss
+        → IsSoundLog ss → map view sessions.now ≡ resolved ss
+        → IsShownBy options.now (first_line version) ss answer.now plain.word plain.shown) }
+{
+    let means = at_snapshot(&options.means);
+    let verdict = judge_known_log(rt, alloc, sessions, first_flags(answer), &means, progress)?;
+    let word = Some(word_of(&verdict));
+    let shown = shown_by(rt, alloc, version, sessions, answer, verdict, options)?;
+    Ok(Plain { word, shown })
+}
+
+/// The same, where it is asked for: it is kept where a stronger level is.
+fn plain_where<R: Threads + Wait + Clock + Eprint + Sync, P: Progress>(
+    rt: &R,
+    alloc: Global,
+    version: Version,
+    sessions: &[Session],
+    answer: &Answer,
     is_implied: bool,
     is_asked: bool,
-    means: &JudgeMeans,
+    options: &AuditOptions<'_>,
     progress: &mut P,
-) -> Result<Option<Word>, AllocError>
+) -> Result<Plain, AllocError>
     requires log { IsLog (map view sessions.now) }
-    ensures kept { IfOk result (λ told. is_implied ≡ true → told ≡ Some word.Serializable) }
-    ensures word { IfOk result (λ word. is_implied ≡ false → (ss : List ClientSession)
+    ensures kept { IfOk result (λ plain. is_implied ≡ true → plain.word ≡ Some word.Serializable) }
+    ensures word { IfOk result (λ plain. is_implied ≡ false → (ss : List ClientSession)
         → AllByRecursion IsLegal ss → IsSoundLog ss → map view sessions.now ≡ resolved ss
-        → IsWordWhere means.now ss is_asked word) }
+        → IsWordWhere (at_snapshot options.now.means) ss is_asked plain.word) }
+    ensures shown { IfOk result (λ plain. (ss : List ClientSession) → AllByRecursion IsLegal ss
+        → IsSoundLog ss → map view sessions.now ≡ resolved ss
+        → IsShownBy options.now (first_line version) ss answer.now plain.word plain.shown) }
 {
     if is_implied {
-        Ok(Some(Word::Serializable))
+        return Ok(Plain {
+            word: Some(Word::Serializable),
+            shown: None,
+        });
+    }
+    if is_asked {
+        plain_on(rt, alloc, version, sessions, answer, options, progress)
     } else {
-        word_where(rt, alloc, sessions, is_asked, means, progress)
+        Ok(Plain {
+            word: None,
+            shown: None,
+        })
     }
 }
 
@@ -203,6 +324,7 @@ fn word_below<R: Threads + Wait + Clock + Eprint + Sync, P: Progress>(
 pub fn judge_weaker<R: Threads + Wait + Clock + Eprint + Sync, P: Progress>(
     rt: &R,
     alloc: Global,
+    version: Version,
     answer: &Answer,
     states: bool,
     sessions: Vec<Session>,
@@ -212,20 +334,25 @@ pub fn judge_weaker<R: Threads + Wait + Clock + Eprint + Sync, P: Progress>(
     requires log { IsLog (map view sessions.items) }
     ensures weaker { (ss : List ClientSession) → AllByRecursion IsLegal ss → IsSoundLog ss
         → map view sessions.items ≡ resolved ss → states ≡ states_moments ss
-        → IfOk result (IsWeaker options.now ss answer.now) }
+        → IfOk result (IsWeaker options.now (first_line version) ss answer.now) }
 {
     let means = at_snapshot(&options.means);
+    let first = first_flags(answer);
     let mut sessions = sessions;
     let is_strict = asks_strict(options, answer, states);
-    let strict_snapshot = word_where(rt, alloc, &sessions, is_strict, &means, progress)?;
+    let strict_snapshot = word_where(rt, alloc, &sessions, first, is_strict, &means, progress)?;
     leave_out_moments(&mut sessions);
-    let without_moments = word_where(rt, alloc, &sessions, is_strict, &options.means, progress)?;
+    let own = &options.means;
+    let without_moments = word_where(rt, alloc, &sessions, first, is_strict, own, progress)?;
     let is_implied = is_one_kept(without_moments, strict_snapshot);
     let is_plain = asks_plain(options, answer, states);
-    let snapshot = word_below(rt, alloc, &sessions, is_implied, is_plain, &means, progress)?;
+    let plain = plain_where(
+        rt, alloc, version, &sessions, answer, is_implied, is_plain, options, progress,
+    )?;
     Ok(Weaker {
         without_moments,
         strict_snapshot,
-        snapshot,
+        snapshot: plain.word,
+        shown: plain.shown,
     })
 }

@@ -245,7 +245,7 @@ fn judge_ordered<R: Threads + Wait + Clock + Sync>(
 }
 
 /// What is said of a log whose outcomes are known, by what is proposed of it.
-fn judge_known<R: Threads + Wait + Clock + Sync>(
+pub fn judge_known<R: Threads + Wait + Clock + Sync>(
     rt: &R,
     alloc: Global,
     sessions: &[Session],
@@ -267,7 +267,7 @@ fn judge_known<R: Threads + Wait + Clock + Sync>(
 }
 
 /// Tells how many transactions are searched, where a part is proposed.
-fn tell_search<R: Clock + Eprint, P: Progress>(rt: &R, proposal: &Proposal, progress: &mut P) {
+pub fn tell_search<R: Clock + Eprint, P: Progress>(rt: &R, proposal: &Proposal, progress: &mut P) {
     let flags = match proposal {
         Proposal::Part(flags) => flags,
         Proposal::Stuck(stuck) => &stuck.around,

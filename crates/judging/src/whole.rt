@@ -1,21 +1,23 @@
 //! A log of any length, judged by what is proposed of it.
 
-ghost use Rattle.std.specs.Prelude.{◌≡◌, List, map, IfOk};
+ghost use Rattle.std.specs.Prelude.{◌≡◌, List, map, IfOk, IfSome};
 ghost use Rattle.std.specs.List.{AllByRecursion};
 ghost use Rattle.session_log.specs.Text.{ClientSession, IsLegal, view};
 ghost use Rattle.log_definitions.specs.Unknown.{resolved};
 ghost use Rattle.piece_laws.specs.Logs.{IsSoundLog, IsLog};
 ghost use Rattle.judging.specs.Levels.{IsLogAt};
 ghost use Rattle.judging.specs.Judges.{IsVerdict};
-ghost use Rattle.judging.specs.Made.{IsMade};
+ghost use Rattle.judging.specs.Finds.{IsSaid};
+ghost use Rattle.judging.specs.Made.{IsMade, IsToldPart};
 
-use crate::judged::Verdict;
-use crate::judging::judge;
+use crate::judged::{RefutedPart, Verdict};
+use crate::judging::{judge, judge_known, judge_part, tell_search};
 use crate::level::{LevelLog, log_at, propose_at};
 use crate::means::JudgeMeans;
+use crate::trial::Attempt;
 use known_outcomes::resolve;
 use progress::Progress;
-use proposals::Proposal;
+use proposals::{Flags, Proposal};
 use session_log::Session;
 use std::alloc::{AllocError, Global};
 use std::io::Eprint;
@@ -66,11 +68,54 @@ pub fn judge_whole<R: Threads + Wait + Clock + Eprint + Sync, P: Progress>(
     })
 }
 
-/// Judges a log by its sessions with their outcomes known, which are these.
+/// The part of these flags, where it shows that a log has no order.
+fn shown_by<R: Threads + Wait + Clock + Sync>(
+    rt: &R,
+    alloc: Global,
+    sessions: &[Session],
+    flags: Option<&Flags>,
+    means: &JudgeMeans,
+) -> Result<Option<RefutedPart>, AllocError>
+    requires log { IsLog (map view sessions.now) }
+    ensures { IfOk result (λ found. IfSome found (IsToldPart means.now.level (map view sessions.now))) }
+{
+    let Some(flags) = flags else {
+        return Ok(None);
+    };
+    match judge_part(rt, alloc, sessions, flags, means)? {
+        Attempt::Refuted(told) => Ok(Some(told)),
+        Attempt::Open(_) => Ok(None),
+    }
+}
+
+/// What is said of a log whose outcomes are known: first of the part of these flags.
+fn judge_anew<R: Threads + Wait + Clock + Eprint + Sync, P: Progress>(
+    rt: &R,
+    alloc: Global,
+    sessions: &[Session],
+    first: Option<&Flags>,
+    means: &JudgeMeans,
+    progress: &mut P,
+) -> Result<Verdict, AllocError>
+    requires log { IsLog (map view sessions.now) }
+    ensures { IfOk result (IsSaid means.now (map view sessions.now)) }
+{
+    if let Some(told) = shown_by(rt, alloc, sessions, first, means)? {
+        return Ok(Verdict::NotSerializable(told));
+    }
+    let at = log_at(alloc, means.level, sessions)?;
+    let proposal = propose_at(rt, alloc, sessions, &at, &[], means, progress)?;
+    tell_search(rt, &proposal, progress);
+    judge_known(rt, alloc, sessions, &at, &proposal, means)
+}
+
+/// Judges a log by its sessions with their outcomes known, which are these: a part that may show
+/// that it has no order is looked at first.
 pub fn judge_known_log<R: Threads + Wait + Clock + Eprint + Sync, P: Progress>(
     rt: &R,
     alloc: Global,
     sessions: &[Session],
+    first: Option<&Flags>,
     means: &JudgeMeans,
     progress: &mut P,
 ) -> Result<Verdict, AllocError>
@@ -78,8 +123,7 @@ pub fn judge_known_log<R: Threads + Wait + Clock + Eprint + Sync, P: Progress>(
     ensures verdict { IfOk result (λ verdict. (ss : List ClientSession) → AllByRecursion IsLegal ss
         → IsSoundLog ss → map view sessions.now ≡ resolved ss
         → IsVerdict means.now ss verdict) }
+    ensures made { IfOk result (IsMade (map view sessions.now)) }
 {
-    let at = log_at(alloc, means.level, sessions)?;
-    let proposal = propose_at(rt, alloc, sessions, &at, &[], means, progress)?;
-    judge(rt, alloc, sessions, &at, &proposal, means, progress)
+    judge_anew(rt, alloc, sessions, first, means, progress)
 }

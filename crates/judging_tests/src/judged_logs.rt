@@ -239,7 +239,7 @@ fn moments_are_left_out(rt: HostRuntime) {
         .any(|session| session.txns.iter().any(states));
     assert!(rt; !any);
     let timeless = known_log(&rt, alloc, TIMELESS);
-    let verdict = judge_known_log(&rt, alloc, &timeless, &means, &mut Quiet);
+    let verdict = judge_known_log(&rt, alloc, &timeless, None, &means, &mut Quiet);
     see_serial(&rt, &verdict.expect(&rt, "memory"), 2);
 }
 

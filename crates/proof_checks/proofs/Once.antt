@@ -119,7 +119,7 @@ any_distinct test alike (l ∷ ls) = by_test (any_distinct test alike ls) (test 
     by_test rest true e = ap (λ b. b || list_any test (filter (λ m. not (is_same l m)) (distinct ls))) e ∙ sym (ap (λ b. b || list_any test ls) e)
     by_test rest false e = ap (λ b. test l || b) (any_others test alike l (distinct ls) e ∙ rest)
 
-same_literal : (l m : Literal) → code_of l ≡ code_of m → l ≡ m
+pub same_literal : (l m : Literal) → code_of l ≡ code_of m → l ≡ m
 same_literal l m e = by_signs l.positive m.positive refl refl
   where
     by_signs : (p q : Bool) → l.positive ≡ p → m.positive ≡ q → l ≡ m

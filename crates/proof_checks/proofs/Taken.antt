@@ -100,8 +100,8 @@ pub read_end : (n : ℕ) (p : Proof) (all : List (ℕ × Option LratStep)) → a
 unfolding lrat_fault
 read_end n p all e = ap (λ (ss : List (ℕ × Option LratStep)). lrat_fault n ss p) e
 
-pub read_step : (all left : List (ℕ × Option LratStep)) (made : LratAction → LratStep) (o : Option (ℕ × LratAction)) (line : ℕ) (a : LratAction) → IsRead all left made (Ok o) → o ≡ Some (line, a) → all ≡ (line, Some (made a)) ∷ left
-read_step all left made o line a h e = subst (λ (q : Option (ℕ × LratAction)). IsRead all left made (Ok q)) e h
+pub read_step : {A S : Type 0} (all left : List (ℕ × Option S)) (made : A → S) (o : Option (ℕ × A)) (line : ℕ) (a : A) → IsRead all left made (Ok o) → o ≡ Some (line, a) → all ≡ (line, Some (made a)) ∷ left
+read_step {A} all left made o line a h e = subst (λ (q : Option (ℕ × A)). IsRead all left made (Ok q)) e h
 
 fault_behind : (n line : ℕ) (p new : Proof) (all left : List (ℕ × Option LratStep)) (s : LratStep) (empty : Bool) → all ≡ (line, Some s) ∷ left → step_fault n line p s ≡ None → new ≡ after_step p s → adds_empty s ≡ empty → lrat_fault n all p ≡ (if empty then None else lrat_fault n left new)
 unfolding lrat_fault

@@ -1,5 +1,6 @@
 -- What checking a proof says.
-use Rattle.std.specs.Prelude.{◌≡◌, ℕ, ◌<◌, ◌≤◌, true, false, List, [], Option, None, Some, length}
+use Rattle.std.specs.Prelude.{◌≡◌, ℕ, ◌<◌, ◌≤◌, Bool, true, false, List, [], Option, None, Some}
+use Rattle.std.specs.Prelude.{length}
 use Rattle.serializability.specs.declared.literal.Literal.{Literal}
 use Rattle.refutation.specs.Standing.{Standing}
 use Rattle.proof_text.specs.Steps.{lrat_steps}
@@ -11,8 +12,7 @@ use Rattle.proof_text.specs.declared.fault.ProofFault.{ProofFault}
 use Rattle.proof_text.specs.declared.fault.ProofFault.TheVariants.{TooLong, Memory}
 use Rattle.proof_text.specs.declared.TheConstants.{MAX_PROOF_BYTES}
 use Rattle.proof_checks.specs.Lrat.{lrat_fault}
-use Rattle.proof_checks.specs.Drat.{IsDratFault, IsDratEnd}
-use Rattle.proof_checks.specs.Ends.{end_fault}
+use Rattle.proof_checks.specs.Drat.{IsDratFault}
 
 -- the clauses of a formula, its variables, which count from 1, and how many numbers of variables
 -- the checker knows
@@ -26,27 +26,21 @@ abbrev pub lrat_fault_of : Given → List ℕ → Option ProofFault
 lrat_fault_of g proof = lrat_fault g.known (lrat_steps g.variables proof)
     (record { clauses = g.clauses; added = [] })
 
--- a proof of this form has this fault
-abbrev pub HasFault : Form → Given → List ℕ → ProofFault → Type 0
-HasFault Lrat g proof f = lrat_fault_of g proof ≡ Some f
-HasFault Drat g proof f = IsDratFault (drat_steps_in false g.variables proof) f
-HasFault BinaryDrat g proof f = IsDratFault (drat_steps_in true g.variables proof) f
+-- the first fault of a DRAT proof, in its binary form or as text; none where it shows that
+abbrev pub IsDratFaultOf : Bool → Given → List ℕ → Option ProofFault → Type 0
+IsDratFaultOf binary g proof fault =
+    IsDratFault (drat_steps_in binary g.variables proof) g.clauses fault
 
--- a proof of this form has no fault, as far as that does not rest on what unit propagation finds
-abbrev pub HasNoFault : Form → Given → List ℕ → Type 0
-HasNoFault Lrat g proof = lrat_fault_of g proof ≡ None
-HasNoFault _ g proof = Unit {0}
+-- the first fault of a proof of this form, or none
+abbrev pub IsFaultOf : Form → Given → List ℕ → Option ProofFault → Type 0
+IsFaultOf Lrat g proof fault = lrat_fault_of g proof ≡ fault
+IsFaultOf Drat g proof fault = IsDratFaultOf false g proof fault
+IsFaultOf BinaryDrat g proof fault = IsDratFaultOf true g proof fault
 
 -- the same fault, where memory may run out
 abbrev pub IsStepsFault : Form → Given → List ℕ → ProofFault → Type 0
 IsStepsFault form g proof Memory = Unit {0}
-IsStepsFault form g proof f = HasFault form g proof f
-
--- the steps of a proof of this form end where these clauses stand
-abbrev pub IsEnded : Form → Given → List ℕ → List (Option (List Literal)) → Type 0
-IsEnded Lrat g proof clauses = lrat_fault_of g proof ≡ end_fault clauses
-IsEnded Drat g proof clauses = IsDratEnd (drat_steps_in false g.variables proof) clauses
-IsEnded BinaryDrat g proof clauses = IsDratEnd (drat_steps_in true g.variables proof) clauses
+IsStepsFault form g proof f = IsFaultOf form g proof (Some f)
 
 -- what a checker was given
 abbrev pub given_to : Standing → ℕ → Given
@@ -55,12 +49,12 @@ given_to s variables = record { clauses = s.clauses; variables = variables; know
 -- a proof of at most 1 GiB is accepted
 pub record IsAccepted (g : Given) (proof : List ℕ) : Type 0 where
   pub within : length proof ≤ MAX_PROOF_BYTES
-  pub faultless : HasNoFault (form_of_text proof) g proof
+  pub faultless : IsFaultOf (form_of_text proof) g proof None
 
 -- a proof of at most 1 GiB has this fault
 pub record HasFaultWithin (g : Given) (proof : List ℕ) (f : ProofFault) : Type 0 where
   pub within : length proof ≤ MAX_PROOF_BYTES
-  pub fault : HasFault (form_of_text proof) g proof f
+  pub fault : IsFaultOf (form_of_text proof) g proof (Some f)
 
 -- the fault of a proof: more than 1 GiB exactly where it has them, and each other one within;
 -- memory may run out at any

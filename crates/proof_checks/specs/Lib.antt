@@ -2,7 +2,10 @@ pub mod Checked
 pub mod Distinct
 pub mod Drat
 pub mod Ends
+pub mod Held
 pub mod Kept
 pub mod Lrat
 pub mod Marks
 pub mod Passed
+pub mod Propagation
+pub mod Reached

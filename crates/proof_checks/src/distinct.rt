@@ -3,8 +3,8 @@
 ghost use Rattle.std.specs.Prelude.{◌≡◌, ℕ, ◌<◌, ◌^◌, List, [], ◌++◌, ◌∷◌, length};
 ghost use Rattle.std.specs.Prelude.{slice_index, OnOk};
 ghost use Rattle.serializability.specs.declared.literal.Literal.{Literal};
-ghost use Rattle.proof_checks.specs.Distinct.{code_of, distinct, is_among, is_tautology};
-ghost use Rattle.proof_checks.specs.Distinct.{negated, with_literal};
+ghost use Rattle.proof_checks.specs.Distinct.{code_of, distinct, is_among, is_same};
+ghost use Rattle.proof_checks.specs.Distinct.{is_tautology, negated, with_literal};
 ghost use Rattle.proof_checks.specs.Marks.{HasRounds, IsMarking};
 
 use serializability::Literal;
@@ -26,8 +26,27 @@ fn place_of(literal: Literal) -> usize
     2 * literal.variable as usize + usize::from(!literal.positive)
 }
 
+/// Whether two literals are the same.
+pub(crate) fn is_same(one: Literal, two: Literal) -> bool
+    ensures { result ≡ is_same one two }
+{
+    place_of(one) == place_of(two)
+}
+
+/// Whether a literal is among these.
+pub(crate) fn has(literals: &[Literal], literal: Literal) -> bool
+    ensures { result ≡ is_among literals.now literal }
+{
+    for &other in literals {
+        if is_same(literal, other) {
+            return true;
+        }
+    }
+    false
+}
+
 /// The opposite of a literal.
-fn negated(literal: Literal) -> Literal
+pub(crate) fn negated(literal: Literal) -> Literal
     ensures { result ≡ negated literal }
 {
     Literal {
@@ -94,7 +113,11 @@ impl Marks {
     }
 
     /// Keeps a literal, unless it is marked, and marks it.
-    fn keep_one(&mut self, literal: Literal, kept: &mut Vec<Literal>) -> Result<(), AllocError>
+    pub(crate) fn keep_one(
+        &mut self,
+        literal: Literal,
+        kept: &mut Vec<Literal>,
+    ) -> Result<(), AllocError>
         requires { IsMarking self.old kept.old.items }
         ensures kept { OnOk result (kept.new.items ≡ with_literal kept.old.items literal) }
         ensures marked { OnOk result (IsMarking self.new kept.new.items) }

@@ -1,13 +1,16 @@
 //! DRAT: each step is found to follow by unit propagation.
 
-ghost use Rattle.std.specs.Prelude.{◌≡◌, IfOk, IfErr, OnOk};
+ghost use Rattle.std.specs.Prelude.{◌≡◌, List, Option, IfOk, IfErr, OnOk};
+ghost use Rattle.serializability.specs.declared.literal.Literal.{Literal};
 ghost use Rattle.refutation.specs.Follows.{Entails};
 ghost use Rattle.proof_text.specs.Binary.{drat_steps_in};
 ghost use Rattle.proof_text.specs.Faults.{fault_of_step};
-ghost use Rattle.proof_checks.specs.Drat.{IsDratEnd, IsDratStop};
+ghost use Rattle.proof_text.specs.Steps.{DratStep};
+ghost use Rattle.proof_checks.specs.Drat.{IsDratFault, IsDratStop};
+ghost use Rattle.proof_checks.specs.Ends.{end_fault};
+ghost use Rattle.proof_checks.specs.Held.{Holds};
 ghost use Rattle.proof_checks.specs.Marks.{HasRounds, IsMarking};
-ghost use Rattle.proof_checks.specs.Passed.{GoesOn, IsAdded, IsNotAdded};
-ghost use Rattle.proof_checks.specs.Passed.{IsStepStop, IsStop, Passed};
+ghost use Rattle.proof_checks.specs.Passed.{IsAddition, IsNext, IsPassed, IsStepStop};
 
 use crate::distinct::Marks;
 use crate::search::Search;
@@ -49,8 +52,12 @@ impl Drat {
         requires { HasRounds self.old.marks }
         ensures follows { Entails checker.old.clauses checker.new.clauses }
         ensures rounds { OnOk result (HasRounds self.new.marks) }
-        ensures on { IfOk result (GoesOn steps.old steps.new checker.new.clauses) }
-        ensures fault { IfErr result (λ f. IsStop steps.old (fault_of_step f)) }
+        ensures on { (clauses : List (Option (List Literal))) →
+            Holds clauses checker.old.clauses →
+            IfOk result (IsNext steps.old steps.new clauses checker.new.clauses) }
+        ensures fault { (clauses : List (Option (List Literal))) →
+            Holds clauses checker.old.clauses →
+            IfErr result (λ f. IsDratStop steps.old clauses (fault_of_step f)) }
     {
         match steps.read(&mut self.literals)? {
             None => Ok(false),
@@ -68,15 +75,19 @@ impl Drat {
         requires { HasRounds self.old.marks }
         ensures follows { Entails checker.old.clauses checker.new.clauses }
         ensures rounds { OnOk result (HasRounds self.new.marks) }
-        ensures on { IfOk result (Passed checker.new.clauses
-            (record { action = action; literals = self.old.literals.items })) }
-        ensures fault { IfErr result (λ f. IsStepStop line
-            (record { action = action; literals = self.old.literals.items }) (fault_of_step f)) }
+        ensures on { (clauses : List (Option (List Literal))) →
+            Holds clauses checker.old.clauses → IfOk result (IsPassed line
+            (record { action = action; literals = self.old.literals.items })
+            clauses checker.new.clauses) }
+        ensures fault { (clauses : List (Option (List Literal))) →
+            Holds clauses checker.old.clauses → IfErr result (λ f. IsStepStop line
+            (record { action = action; literals = self.old.literals.items })
+            clauses (fault_of_step f)) }
     {
         self.marks.keep(&self.literals, &mut self.clause)?;
         match action {
             DratAction::Delete => {
-                self.search.forget(checker, &self.marks, &self.clause)?;
+                self.search.forget(&self.marks, &self.clause)?;
                 Ok(true)
             }
             DratAction::Add => self.add(checker, line),
@@ -88,14 +99,18 @@ impl Drat {
     fn add(&mut self, checker: &mut Checker, line: usize) -> Result<bool, StepFault>
         requires { IsMarking self.old.marks self.old.clause.items }
         ensures follows { Entails checker.old.clauses checker.new.clauses }
-        ensures marks { self.new.marks ≡ self.old.marks }
-        ensures on { IfOk result (λ on. IsAdded checker.new.clauses self.old.clause.items on) }
-        ensures fault { IfErr result (λ f. IsNotAdded line self.old.clause.items f) }
+        ensures rounds { OnOk result (HasRounds self.new.marks) }
+        ensures on { (s : DratStep) → IsAddition s self.old.clause.items →
+            (clauses : List (Option (List Literal))) → Holds clauses checker.old.clauses →
+            IfOk result (IsPassed line s clauses checker.new.clauses) }
+        ensures fault { (s : DratStep) → IsAddition s self.old.clause.items →
+            (clauses : List (Option (List Literal))) → Holds clauses checker.old.clauses →
+            IfErr result (λ f. IsStepStop line s clauses (fault_of_step f)) }
     {
         if self.marks.is_tautology(&self.clause) {
             return Ok(true);
         }
-        if !self.search.take(checker, &self.clause)? {
+        if !self.search.take(checker, &mut self.marks, &self.clause)? {
             return Err(StepFault::NotImplied { line });
         }
         if self.clause.is_empty() {
@@ -116,10 +131,10 @@ pub(crate) fn take_steps(
     binary: bool,
 ) -> Result<(), StepFault>
     ensures follows { Entails checker.old.clauses checker.new.clauses }
-    ensures ended { OnOk result
-        (IsDratEnd (drat_steps_in binary variables proof.now) checker.new.clauses) }
-    ensures fault { IfErr result (λ f.
-        IsDratStop (drat_steps_in binary variables proof.now) (fault_of_step f)) }
+    ensures ended { OnOk result (IsDratFault (drat_steps_in binary variables proof.now)
+        checker.old.clauses (end_fault checker.new.clauses)) }
+    ensures fault { IfErr result (λ f. IsDratStop (drat_steps_in binary variables proof.now)
+        checker.old.clauses (fault_of_step f)) }
 {
     let mut drat = Drat::new(alloc, checker, variables)?;
     drat.search.settle(checker)?;

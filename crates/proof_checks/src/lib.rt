@@ -9,6 +9,7 @@ mod distinct;
 mod drat;
 mod index;
 mod lrat;
+mod plain;
 mod search;
 #[cfg(test)]
 mod tests;
@@ -17,8 +18,9 @@ ghost use Rattle.std.specs.Prelude.{OnOk, IfErr};
 ghost use Rattle.refutation.specs.Follows.{Entails, IsRefuted};
 ghost use Rattle.proof_text.specs.Faults.{fault_of_step};
 ghost use Rattle.proof_text.specs.Forms.{form_of_text};
-ghost use Rattle.proof_checks.specs.Checked.{IsAccepted, IsEnded, IsProofFault, IsStepsFault};
+ghost use Rattle.proof_checks.specs.Checked.{IsAccepted, IsFaultOf, IsProofFault, IsStepsFault};
 ghost use Rattle.proof_checks.specs.Checked.{given_to};
+ghost use Rattle.proof_checks.specs.Ends.{end_fault};
 
 use proof_text::{Form, MAX_PROOF_BYTES, ProofFault, StepFault, form_of};
 use refutation::Checker;
@@ -32,8 +34,8 @@ fn take_steps(
     proof: &[u8],
 ) -> Result<(), StepFault>
     ensures follows { Entails checker.old.clauses checker.new.clauses }
-    ensures ended { OnOk result (IsEnded (form_of_text proof.now) (given_to checker.old variables)
-        proof.now checker.new.clauses) }
+    ensures ended { OnOk result (IsFaultOf (form_of_text proof.now) (given_to checker.old variables)
+        proof.now (end_fault checker.new.clauses)) }
     ensures fault { IfErr result (λ f. IsStepsFault (form_of_text proof.now)
         (given_to checker.old variables) proof.now (fault_of_step f)) }
 {

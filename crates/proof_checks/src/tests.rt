@@ -40,8 +40,13 @@ fn drat(rt: HostRuntime) {
     assert_eq!(rt; shown(&rt, b"0\n"), not_implied(1));
     assert_eq!(rt; shown(&rt, b"1 0\n"), Err(ProofFault::NoEmptyClause));
     assert_eq!(rt; shown(&rt, b"1 0\n3 0\n"), bad_line(2));
-    assert_eq!(rt; shown(&rt, b"d 1 2 0\n1 0\n"), not_implied(2));
-    assert_eq!(rt; shown(&rt, b"d 1 2 0\n-1 0\n0\n"), not_implied(3));
+    assert_eq!(rt; shown(&rt, b"d 1 2 0\n0\n"), not_implied(2));
+    assert_eq!(rt;
+        shown(&rt, b"d 1 2 0\n1 0\n"),
+        Err(ProofFault::NoEmptyClause)
+    );
+    assert_eq!(rt; shown(&rt, b"d 1 2 0\n-1 0\n0\n"), Ok(()));
+    assert_eq!(rt; shown(&rt, b"1 0\nd -1 2 0\nd 1 0\n0\n"), Ok(()));
 }
 
 #[test]

@@ -16,6 +16,7 @@ use Rattle.reason_laws.specs.Crossed.{ReadsPair, AreCrossed}
 use Rattle.reason_laws.specs.declared.crossing.Crossing.{Crossing}
 use Rattle.reason_laws.specs.declared.crossing.PairRead.{PairRead}
 use Rattle.reason_laws.specs.Reasons.{IsNode, ReadsAt}
+use Rattle.reason_laws.proofs.Found.{final_one}
 use Rattle.reason_laws.proofs.Kept.{Serial, serial, source_before, reader_before}
 use Rattle.reason_laws.proofs.Numbers.{before_at, reads_after, none_before}
 
@@ -42,15 +43,8 @@ from_read log order s r x w u before reads external final =
     }
 
 -- ---- two versions of a key
--- the final writes of one node name one identity
-one_final : (log : Log) (v x w y : ℕ) → IsFinal log v x w → IsFinal log v x y → w ≡ y
-one_final log v x w y (inl a) (inl b) = a.1 ∙ sym b.1
-one_final log v x w y (inl a) (inr b) = absurd (omega (arith, a.0, b.0))
-one_final log v x w y (inr a) (inl b) = absurd (omega (arith, a.0, b.0))
-one_final log v x w y (inr a) (inr b) = let same : Some w ≡ Some y = sym a.2 ∙ b.2 in cc
-
 nodes_apart : (log : Log) (p q x w y : ℕ) → IsFinal log p x w → IsFinal log q x y → w ≢ y → q ≢ p
-nodes_apart log p q x w y a b apart e = apart (one_final log p x w y a (subst (λ n. IsFinal log n x y) e b))
+nodes_apart log p q x w y a b apart e = apart (final_one log p x w y a (subst (λ n. IsFinal log n x y) e b))
 
 -- who reads the version that came first stands before the writer of the other, or is it
 not_past : (log : Log) (order : List ℕ) → Serial log order → (r x w p q y : ℕ) → From log order r x w p → IsFinal log q x y → Before order p q → place_of (0 ∷ order) r ≤ place_of (0 ∷ order) q

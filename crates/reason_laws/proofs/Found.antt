@@ -25,7 +25,8 @@ final_positive : (log : Log) (v x w : ℕ) → 0 < v → IsFinal log v x w → l
 final_positive log v x w lo (inl z) = absurd (omega (arith, z.0, lo))
 final_positive log v x w lo (inr f) = f.2
 
-final_one : (log : Log) (u x v w : ℕ) → IsFinal log u x v → IsFinal log u x w → v ≡ w
+-- the final writes of one node name one identity
+pub final_one : (log : Log) (u x v w : ℕ) → IsFinal log u x v → IsFinal log u x w → v ≡ w
 final_one log u x v w (inl a) (inl b) = a.1 ∙ sym b.1
 final_one log u x v w (inl a) (inr b) = absurd (omega (arith, a.0, b.0))
 final_one log u x v w (inr a) (inl b) = absurd (omega (arith, b.0, a.0))

@@ -23,7 +23,7 @@ use Rattle.reason_laws.proofs.Numbers.{within, node_from, before_at, reads_after
 use Rattle.reasons.specs.Initials.{IsBackIn, IsOfInitial, FollowsInitial, IsBegun, IsBeginning, BeginsBehind, ArePlain}
 use Rattle.reasons.specs.Given.{NoneInitial}
 use Rattle.reasons.proofs.Ops.{event_at, write_at, item_at}
-use Rattle.reasons.proofs.Overwrites.{final_one}
+use Rattle.reason_laws.proofs.Found.{final_one}
 
 -- ---- links, one after the other
 linked_more : (ss : List ClientSession) (key : List ℕ) (wid : ℕ) (ls : List Link) (l : Link) → AreLinked ss key wid ls → IsNode ss l.node → ReadsAt ss l.node l.read key (left_by wid ls) → WritesLastAt ss l.node l.write key l.wid → AreLinked ss key wid (ls ++ l ∷ [])

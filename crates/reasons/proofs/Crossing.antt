@@ -1,28 +1,29 @@
--- Reads of all four pairs of two versions of a key and two of another, from who wrote them.
-use Rattle.std.proofs.Common.{◌≡◌, ◌≢◌, ℕ, ◌<◌, ◌≤◌, Bool, true, false, not, ◌&&◌, List, Option, None, Some, refl, sym, ap, ◌∙◌, subst, arith, eqb-true, eq-eqb}
-use Rattle.std.specs.Prelude.{◌==◌, if◌then◌else◌, IfSome, slice_get}
-use Rattle.std.proofs.lemmas.Bool.{false≢true, and_parts, not-true}
+-- Crossed reads of the sessions, and four nodes of the log that read all four pairs.
+use Rattle.std.proofs.Common.{◌≡◌, ◌≢◌, ℕ, ◌<◌, ◌≤◌, true, List, Some, sym, ap, ◌∙◌, subst, eq-eqb}
+use Rattle.std.specs.Prelude.{slice_get}
 use Rattle.session_log.specs.Text.{ClientSession}
 use Rattle.session_log.specs.declared.session.Op.TheVariants.{Read}
 use Rattle.serializability.specs.declared.event.Event.TheVariants as event
+use Rattle.serializability.specs.declared.event.Event.{Event}
 use Rattle.serializability.specs.Reads.{IsFinal, IsClean}
 use Rattle.serializability.specs.Polygraph.{source}
-use Rattle.serializability.proofs.Sources.{source_is}
+use Rattle.serializability.proofs.Sources.{source_is, source_from}
 use Rattle.log_definitions.specs.WellFormed.{keys_in}
 use Rattle.log_definitions.specs.Numbers.{number_in, log_of}
-use Rattle.reason_laws.specs.Reasons.{IsNode, IsOpAt, ReadsAt}
-use Rattle.reason_laws.proofs.Numbers.{within, node_from, reads_key}
-use Rattle.reasons.specs.Events.{is_read_of}
-use Rattle.reason_laws.specs.Crossed.{AreCrossed}
+use Rattle.reason_laws.specs.Reasons.{IsNode, ReadsAt}
+use Rattle.reason_laws.specs.Crossed.{ReadsPair, AreCrossed}
 use Rattle.reason_laws.specs.declared.crossing.Crossing.{Crossing}
-use Rattle.reasons.specs.Crossed.{IsReadFrom, IsPairFrom, joined, is_row, IsRow, are_two, crossing_of}
-use Rattle.reasons.specs.declared.crossed.PairFrom.{PairFrom}
-use Rattle.reasons.specs.declared.crossed.ReadFrom.{ReadFrom}
-use Rattle.reasons.specs.declared.crossed.Row.{Row}
+use Rattle.reason_laws.specs.declared.crossing.PairRead.{PairRead}
+use Rattle.reason_laws.proofs.Found.{final_one}
+use Rattle.reason_laws.proofs.Numbers.{within, node_from, before_at, reads_after, none_before, reads_in, reads_key}
+use Rattle.reasons.specs.Events.{is_read_of}
+use Rattle.reasons.specs.Squares.{IsReadFrom, IsPairFrom, ReadsBoth, ReadsKeys, IsSquare}
+use Rattle.reasons.specs.declared.crossings.Square.{Square}
 use Rattle.reasons.proofs.Positions.{FirstAt}
 use Rattle.reasons.proofs.Ops.{event_at, read_at, same_key}
-use Rattle.reasons.proofs.Overwrites.{final_one, read_event, earlier_read}
+use Rattle.reasons.proofs.Overwrites.{read_event, earlier_read}
 
+-- ---- the first read of a key
 pub first_from : (ss : List ClientSession) → IsClean (log_of ss) → (v i x u : ℕ) → 0 < v → v ≤ (log_of ss).nodes → source (log_of ss) v x ≡ Some u → FirstAt (is_read_of x) ((log_of ss).ops v) i → IsReadFrom ss v i x u
 first_from ss clean v i x u low high from r =
     let node = node_from ss v low high in
@@ -41,8 +42,14 @@ first_from ss clean v i x u low high from r =
       final = f.final;
     }
 
-pub pair_joined : (ss : List ClientSession) (x y v : ℕ) (one two : ReadFrom) (p : PairFrom) → p ≡ joined v one two → IsReadFrom ss v one.op x one.source → IsReadFrom ss v two.op y two.source → IsPairFrom ss x y p
-pair_joined ss x y v one two p e first second = subst (IsPairFrom ss x y) (sym e) (record { first = first; second = second })
+-- a node that reads a key has a read of it
+pub some_read : (ss : List ClientSession) → IsClean (log_of ss) → (v x : ℕ) → ReadsKeys (log_of ss) v x x → ((k : ℕ) (e : Event) → slice_get ((log_of ss).ops v) k ≡ Some e → is_read_of x e ≡ true → ⊥) → ⊥
+some_read ss clean v x h none =
+    let b = h.both in
+    let f = source_is (log_of ss) clean v x h.one b.low b.high b.first in
+    let read = reads_in ss v x f.w f.before f.reads f.external in
+    let is = let op = read.is.read in event_at ss v read.place (Read read.key f.w) op in
+    none read.place (event.Read (number_in (keys_in ss) read.key) f.w) is (eq-eqb (number_in (keys_in ss) read.key) x read.number)
 
 -- ---- reads of one version
 -- what reads a version of the key with this number reads this identity of this key
@@ -53,6 +60,7 @@ same_read ss v i t j x u h g =
     let wid : h.wid ≡ g.wid = final_one (log_of ss) u x h.wid g.wid h.final g.final in
     subst (λ k. ReadsAt ss v i k g.wid) key (subst (λ n. ReadsAt ss v i h.key n) wid h.reads)
 
+-- the same, where another reads another version of the key
 same_named : (ss : List ClientSession) (v i t j x u w : ℕ) → (h : IsReadFrom ss v i x u) (g : IsReadFrom ss t j x w) → ReadsAt ss v i g.key h.wid
 same_named ss v i t j x u w h g =
     let read = h.reads.read in
@@ -63,34 +71,6 @@ wids_apart : (ss : List ClientSession) → IsClean (log_of ss) → (v i t j x u 
 wids_apart ss clean v i t j x u w h g apart e =
     apart (clean.apart u w x g.wid (subst (λ n. IsFinal (log_of ss) u x n) e h.final) g.final)
 
-record RowFacts (ss : List ClientSession) (x y : ℕ) (r : Row) : Type 0 where
-  one : IsPairFrom ss x y r.one
-  two : IsPairFrom ss x y r.two
-  alike : r.two.first ≡ r.one.first
-  apart : r.one.second ≢ r.two.second
-
-differ : (a b : ℕ) → not (a == b) ≡ true → a ≢ b
-differ a b t e = false≢true (sym (not-true (a == b) t) ∙ eq-eqb a b e)
-
-row_facts : (ss : List ClientSession) (x y : ℕ) (r : Row) → IsRow ss x y r → RowFacts ss x y r
-row_facts ss x y r h =
-    let parts = and_parts (r.one.first == r.two.first) (not (r.one.second == r.two.second)) h.row in
-    record { one = h.one; two = h.two; alike = sym (eqb-true r.one.first r.two.first parts.0); apart = differ r.one.second r.two.second parts.1 }
-
-record Two (one two : Row) : Type 0 where
-  first : one.one.first ≢ two.one.first
-  this : two.one.second ≡ one.one.second
-  that : two.two.second ≡ one.two.second
-
-two_facts : (one two : Row) → are_two one two ≡ true → Two one two
-two_facts one two t =
-    let a = and_parts (not (one.one.first == two.one.first)) ((one.one.second == two.one.second) && (one.two.second == two.two.second)) t in
-    let b = and_parts (one.one.second == two.one.second) (one.two.second == two.two.second) a.1 in
-    record { first = differ one.one.first two.one.first a.0; this = sym (eqb-true one.one.second two.one.second b.0); that = sym (eqb-true one.two.second two.two.second b.1) }
-
-from_with : (ss : List ClientSession) (v i x u w : ℕ) → u ≡ w → IsReadFrom ss v i x u → IsReadFrom ss v i x w
-from_with ss v i x u w e h = subst (IsReadFrom ss v i x) e h
-
 -- the same of what another reads, who reads this identity of a key
 twice : (ss : List ClientSession) (v i t j x u : ℕ) (key : List ℕ) → IsReadFrom ss v i x u → (g : IsReadFrom ss t j x u) → ReadsAt ss t j key g.wid → ReadsAt ss v i key g.wid
 twice ss v i t j x u key h g r =
@@ -100,44 +80,95 @@ twice ss v i t j x u key h g r =
     let named : g.key ≡ key = cc in
     subst (λ k. ReadsAt ss v i k g.wid) named (same_read ss v i t j x u h g)
 
-crossed_by : (ss : List ClientSession) → IsClean (log_of ss) → (x y : ℕ) (one two : Row) → RowFacts ss x y one → RowFacts ss x y two → Two one two → AreCrossed ss (record { one_one = one.one.pair; one_two = one.two.pair; two_one = two.one.pair; two_two = two.two.pair })
-crossed_by ss clean x y one two r t f =
-    let a = r.one.first in
-    let b = t.one.first in
-    let c = r.one.second in
-    let d = r.two.second in
-    let p = one.one.pair in
-    let q = one.two.pair in
-    let m = two.one.pair in
-    let n = two.two.pair in
-    let first : IsReadFrom ss q.node q.first x one.one.first = from_with ss q.node q.first x one.two.first one.one.first r.alike r.two.first in
-    let second : IsReadFrom ss n.node n.first x two.one.first = from_with ss n.node n.first x two.two.first two.one.first t.alike t.two.first in
-    let this : IsReadFrom ss m.node m.second y one.one.second = from_with ss m.node m.second y two.one.second one.one.second f.this t.one.second in
-    let that : IsReadFrom ss n.node n.second y one.two.second = from_with ss n.node n.second y two.two.second one.two.second f.that t.two.second in
-    let lead : ReadsAt ss m.node m.first a.key b.wid = same_named ss m.node m.first p.node p.first x two.one.first one.one.first b a in
-    let trail : ReadsAt ss q.node q.second c.key d.wid = same_named ss q.node q.second p.node p.second y one.two.second one.one.second d c in
+-- ---- from the log to the sessions
+pub crossed_by : (ss : List ClientSession) → IsClean (log_of ss) → (s : Square) (q : IsSquare (log_of ss) s) (c : Crossing) → IsPairFrom ss s.first q.one s.second q.this c.one_one → IsPairFrom ss s.first q.one s.second q.that c.one_two → IsPairFrom ss s.first q.two s.second q.this c.two_one → IsPairFrom ss s.first q.two s.second q.that c.two_two → AreCrossed ss c
+crossed_by ss clean s q k one_one one_two two_one two_two =
+    let a = one_one.first in
+    let b = two_one.first in
+    let c = one_one.second in
+    let d = one_two.second in
+    let p = k.one_one in
+    let t = k.one_two in
+    let m = k.two_one in
+    let n = k.two_two in
+    let x = s.first in
+    let y = s.second in
+    let lead : ReadsAt ss m.node m.first a.key b.wid = same_named ss m.node m.first p.node p.first x q.two q.one b a in
+    let trail : ReadsAt ss t.node t.second c.key d.wid = same_named ss t.node t.second p.node p.second y q.that q.this d c in
     record {
       first = a.key;
       second = c.key;
       one = a.wid;
       two = b.wid;
-      apart = wids_apart ss clean p.node p.first m.node m.first x one.one.first two.one.first a b f.first;
+      apart = wids_apart ss clean p.node p.first m.node m.first x q.one q.two a b q.apart;
       this = c.wid;
       that = d.wid;
-      apart_too = wids_apart ss clean p.node p.second q.node q.second y one.one.second one.two.second c d r.apart;
+      apart_too = wids_apart ss clean p.node p.second t.node t.second y q.this q.that c d q.apart_too;
       one_one = record { node = a.node; first = a.reads; second = c.reads };
-      one_two = record { node = first.node; first = same_read ss q.node q.first p.node p.first x one.one.first first a; second = trail };
-      two_one = record { node = b.node; first = lead; second = same_read ss m.node m.second p.node p.second y one.one.second this c };
+      one_two = record { node = d.node; first = same_read ss t.node t.first p.node p.first x q.one one_two.first a; second = trail };
+      two_one = record { node = b.node; first = lead; second = same_read ss m.node m.second p.node p.second y q.this two_one.second c };
       two_two = record {
-        node = second.node;
-        first = twice ss n.node n.first m.node m.first x two.one.first a.key second b lead;
-        second = twice ss n.node n.second q.node q.second y one.two.second c.key that d trail;
+        node = two_two.first.node;
+        first = twice ss n.node n.first m.node m.first x q.two a.key two_two.first b lead;
+        second = twice ss n.node n.second t.node t.second y q.that c.key two_two.second d trail;
       };
     }
 
-pub crossed_from : (ss : List ClientSession) → IsClean (log_of ss) → (x y : ℕ) (one two : Row) → IsRow ss x y one → IsRow ss x y two → (o : Option Crossing) → o ≡ crossing_of one two → IfSome o (λ c. AreCrossed ss c)
-crossed_from ss clean x y one two r t o e = subst (λ p. IfSome p (λ c. AreCrossed ss c)) (sym e) (go (are_two one two) refl)
-  where
-    go : (b : Bool) → are_two one two ≡ b → IfSome (if b then Some (record { one_one = one.one.pair; one_two = one.two.pair; two_one = two.one.pair; two_two = two.two.pair }) else None) (λ c. AreCrossed ss c)
-    go true f = crossed_by ss clean x y one two (row_facts ss x y one r) (row_facts ss x y two t) (two_facts one two f)
-    go false f = tt
+-- ---- from the sessions to the log
+-- who wrote a version that is read
+record Version (ss : List ClientSession) (key : List ℕ) (wid : ℕ) : Type 0 where
+  node : ℕ
+  final : IsFinal (log_of ss) node (number_in (keys_in ss) key) wid
+
+version_of : (ss : List ClientSession) → IsClean (log_of ss) → (v i : ℕ) (key : List ℕ) (wid : ℕ) → IsNode ss v → ReadsAt ss v i key wid → Version ss key wid
+version_of ss clean v i key wid node r =
+    let f = clean.external v (number_in (keys_in ss) key) wid (before_at ss v i) (reads_after ss v i key wid node r.read) (none_before ss v i key wid r) in
+    record { node = f.0; final = f.2 }
+
+reads_it : (ss : List ClientSession) → IsClean (log_of ss) → (v i : ℕ) (key : List ℕ) (wid : ℕ) → IsNode ss v → ReadsAt ss v i key wid → (w : Version ss key wid) → source (log_of ss) v (number_in (keys_in ss) key) ≡ Some w.node
+reads_it ss clean v i key wid node r w =
+    source_from (log_of ss) clean v (number_in (keys_in ss) key) w.node wid (before_at ss v i) (reads_after ss v i key wid node r.read) (none_before ss v i key wid r) w.final
+
+both_of : (ss : List ClientSession) → IsClean (log_of ss) → (p : PairRead) (key : List ℕ) (wid : ℕ) (other : List ℕ) (beside : ℕ) → ReadsPair ss p key wid other beside → (u : Version ss key wid) (w : Version ss other beside) → ReadsBoth (log_of ss) p.node (number_in (keys_in ss) key) u.node (number_in (keys_in ss) other) w.node
+both_of ss clean p key wid other beside h u w =
+    let node = h.node in
+    record {
+      low = node.0;
+      high = within ss p.node node;
+      first = reads_it ss clean p.node p.first key wid node h.first u;
+      second = reads_it ss clean p.node p.second other beside node h.second w;
+    }
+
+-- versions of one writer are one version
+versions_apart : (ss : List ClientSession) (key : List ℕ) (a b : ℕ) → a ≢ b → (u : Version ss key a) (w : Version ss key b) → u.node ≢ w.node
+versions_apart ss key a b apart u w same =
+    let x = number_in (keys_in ss) key in
+    apart (final_one (log_of ss) w.node x a b (subst (λ n. IsFinal (log_of ss) n x a) same u.final) w.final)
+
+pub none_crossed : (ss : List ClientSession) → IsClean (log_of ss) → ((s : Square) → IsSquare (log_of ss) s → ⊥) → (c : Crossing) → AreCrossed ss c → ⊥
+none_crossed ss clean none c h =
+    let one = version_of ss clean c.one_one.node c.one_one.first h.first h.one h.one_one.node h.one_one.first in
+    let two = version_of ss clean c.two_one.node c.two_one.first h.first h.two h.two_one.node h.two_one.first in
+    let this = version_of ss clean c.one_one.node c.one_one.second h.second h.this h.one_one.node h.one_one.second in
+    let that = version_of ss clean c.one_two.node c.one_two.second h.second h.that h.one_two.node h.one_two.second in
+    none
+    (record {
+      first = number_in (keys_in ss) h.first;
+      second = number_in (keys_in ss) h.second;
+      one_one = c.one_one.node;
+      one_two = c.one_two.node;
+      two_one = c.two_one.node;
+      two_two = c.two_two.node;
+    })
+    (record {
+      one = one.node;
+      two = two.node;
+      apart = versions_apart ss h.first h.one h.two h.apart one two;
+      this = this.node;
+      that = that.node;
+      apart_too = versions_apart ss h.second h.this h.that h.apart_too this that;
+      one_one = both_of ss clean c.one_one h.first h.one h.second h.this h.one_one one this;
+      one_two = both_of ss clean c.one_two h.first h.one h.second h.that h.one_two one that;
+      two_one = both_of ss clean c.two_one h.first h.two h.second h.this h.two_one two this;
+      two_two = both_of ss clean c.two_two h.first h.two h.second h.that h.two_two two that;
+    })

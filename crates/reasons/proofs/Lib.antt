@@ -6,4 +6,7 @@ pub mod Overwrites
 pub mod Walked
 pub mod Beginnings
 pub mod Begun
+pub mod Pairs
+pub mod Looks
+pub mod Squares
 pub mod Crossing

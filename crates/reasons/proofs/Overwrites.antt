@@ -1,5 +1,5 @@
 -- The write that is not seen.
-use Rattle.std.proofs.Common.{◌≡◌, ◌≢◌, ℕ, ◌≤◌, true, List, Option, None, Some, refl, sym, ap, ◌∙◌, subst, inl, inr, arith, eqb-true, eq-eqb}
+use Rattle.std.proofs.Common.{◌≡◌, ◌≢◌, ℕ, ◌≤◌, true, List, Option, None, Some, refl, sym, ap, ◌∙◌, subst, arith, eqb-true, eq-eqb}
 use Rattle.std.specs.Prelude.{slice_get}
 use Rattle.std.proofs.lemmas.Bool.{false≢true}
 use Rattle.session_log.specs.Text.{ClientSession}
@@ -7,13 +7,14 @@ use Rattle.session_log.specs.declared.session.Op.TheVariants.{Read, Write}
 use Rattle.serializability.specs.declared.event.Event.{Event}
 use Rattle.serializability.specs.declared.event.Event.TheVariants as event
 use Rattle.serializability.specs.Log.{Log}
-use Rattle.serializability.specs.Reads.{IsFinal, IsClean}
+use Rattle.serializability.specs.Reads.{IsClean}
 use Rattle.serializability.specs.Polygraph.{source}
 use Rattle.serializability.proofs.Sources.{source_is, source_from}
 use Rattle.log_definitions.specs.WellFormed.{keys_in}
 use Rattle.log_definitions.specs.Serial.{ops_of}
 use Rattle.log_definitions.specs.Numbers.{number_in, log_of}
 use Rattle.reason_laws.specs.Reasons.{IsNode, IsOpAt, IsNoWriteOf, ReadsAt, IsOverwrittenBy}
+use Rattle.reason_laws.proofs.Found.{final_one}
 use Rattle.reason_laws.proofs.Numbers.{within, before_at, reads_after, none_before, reads_key}
 use Rattle.reasons.specs.Events.{same_source, reads_alike, is_read_of}
 use Rattle.reasons.specs.Given.{IsLeastOverwrite, NoneOverwritten}
@@ -38,12 +39,6 @@ alike log a b x t = let s = same_from (source log a x) (source log b x) t in rec
 
 from_same : (o p : Option ℕ) (u : ℕ) → o ≡ Some u → p ≡ Some u → same_source o p ≡ true
 from_same o p u e f = ap (λ q. same_source q p) e ∙ ap (same_source (Some u)) f ∙ eq-eqb u u refl
-
-pub final_one : (log : Log) (u x v w : ℕ) → IsFinal log u x v → IsFinal log u x w → v ≡ w
-final_one log u x v w (inl a) (inl b) = a.1 ∙ sym b.1
-final_one log u x v w (inl a) (inr b) = absurd (omega (arith, a.0, b.0))
-final_one log u x v w (inr a) (inl b) = absurd (omega (arith, b.0, a.0))
-final_one log u x v w (inr a) (inr b) = let e = a.2 in let f = b.2 in cc
 
 -- ---- from the sessions
 alike_where : (ss : List ClientSession) → IsClean (log_of ss) → (a b i j : ℕ) (r : IsOverwrittenBy ss a i b j) → reads_alike (log_of ss) a b (number_in (keys_in ss) r.key) ≡ true

@@ -1,58 +1,28 @@
--- Reads of two keys, and who wrote what is read.
-use Rattle.std.specs.Prelude.{◌≡◌, ℕ, ◌==◌, ◌&&◌, not, Bool, true, if◌then◌else◌, List, Option}
-use Rattle.std.specs.Prelude.{None, Some}
+-- Whether crossed reads are told.
+use Rattle.std.specs.Prelude.{ℕ, ◌+◌, ◌*◌, ◌≤◌, List, length, Option, None, Some}
+use Rattle.std.specs.List.{sum_by}
 use Rattle.session_log.specs.Text.{ClientSession}
-use Rattle.serializability.specs.Reads.{IsFinal}
-use Rattle.log_definitions.specs.WellFormed.{keys_in}
-use Rattle.log_definitions.specs.Numbers.{number_in, log_of}
-use Rattle.reason_laws.specs.Reasons.{IsNode, ReadsAt}
+use Rattle.serializability.specs.Log.{Log}
+use Rattle.serializability.specs.Polygraph.{committed}
+use Rattle.log_definitions.specs.Numbers.{log_of}
+use Rattle.session_history.specs.Tables.{sources_of, writers_in}
+use Rattle.reason_laws.specs.Crossed.{AreCrossed}
 use Rattle.reason_laws.specs.declared.crossing.Crossing.{Crossing}
-use Rattle.reasons.specs.declared.crossed.PairFrom.{PairFrom}
-use Rattle.reasons.specs.declared.crossed.ReadFrom.{ReadFrom}
-use Rattle.reasons.specs.declared.crossed.Row.{Row}
+use Rattle.reasons.specs.declared.crossed.TheConstants.{MAX_LOOKS}
 
--- operation i of the node reads the key of this number, before any own write of it, as node u's
--- final write
-pub record IsReadFrom (ss : List ClientSession) (v i x u : ℕ) : Type 0 where
-  pub node : IsNode ss v
-  pub key : List ℕ
-  pub number : number_in (keys_in ss) key ≡ x
-  pub wid : ℕ
-  pub reads : ReadsAt ss v i key wid
-  pub final : IsFinal (log_of ss) u x wid
+-- how often a search for them looks at what a node reads: at each two keys that it reads, once for
+-- each version of the first, the initial one among them
+abbrev pub looks_at : Log → ℕ → ℕ
+looks_at log r = sum_by (λ read. length (sources_of log r)
+    * (length (writers_in log read.0) + 1)) (sources_of log r)
 
--- the reads of the keys of these numbers
-pub record IsPairFrom (ss : List ClientSession) (x y : ℕ) (p : PairFrom) : Type 0 where
-  pub first : IsReadFrom ss p.pair.node p.pair.first x p.first
-  pub second : IsReadFrom ss p.pair.node p.pair.second y p.second
+abbrev pub looks : Log → ℕ
+looks log = sum_by (looks_at log) (committed log)
 
--- the reads of one node
-abbrev pub joined : ℕ → ReadFrom → ReadFrom → PairFrom
-joined v one two = record {
-  pair = record { node = v; first = one.op; second = two.op };
-  first = one.source;
-  second = two.source;
-}
+abbrev pub AreSought : List ClientSession → Type 0
+AreSought ss = looks (log_of ss) ≤ MAX_LOOKS
 
--- both read one version of the first key, and two versions of the second
-abbrev pub is_row : PairFrom → PairFrom → Bool
-is_row one two = (one.first == two.first) && not (one.second == two.second)
-
-pub record IsRow (ss : List ClientSession) (x y : ℕ) (r : Row) : Type 0 where
-  pub one : IsPairFrom ss x y r.one
-  pub two : IsPairFrom ss x y r.two
-  pub row : is_row r.one r.two ≡ true
-
--- two rows of two versions of the first key, with the same two of the second
-abbrev pub are_two : Row → Row → Bool
-are_two one two =
-    not (one.one.first == two.one.first)
-    && ((one.one.second == two.one.second) && (one.two.second == two.two.second))
-
-abbrev pub crossing_of : Row → Row → Option Crossing
-crossing_of one two = if are_two one two then Some (record {
-  one_one = one.one.pair;
-  one_two = one.two.pair;
-  two_one = two.one.pair;
-  two_two = two.two.pair;
-}) else None
+-- some are told exactly where the log has some and they are sought
+abbrev pub IsCrossedAnswer : List ClientSession → Option Crossing → Type 0
+IsCrossedAnswer ss None = AreSought ss → (c : Crossing) → AreCrossed ss c → ⊥
+IsCrossedAnswer ss (Some c) = AreSought ss × AreCrossed ss c

@@ -1,33 +1,49 @@
-//! Looks for transactions that read all four pairs of two versions of a key and two of another.
+//! Looks for four nodes that read all four pairs of two versions of a key and two of another. A
+//! version is given by the node that wrote it.
 //!
-//! Nothing is promised of what is found, which `crossed` looks at once more.
+//! For each key and each version of it that a node wrote, it looks once at what is read beside any
+//! version of the key.
+
+ghost use Rattle.std.specs.Prelude.{◌≡◌, ◌≢◌, ◌<◌, ◌≤◌, ◌+◌, ◌++◌, ◌∷◌, [], List, IfOk, OnOk};
+ghost use Rattle.std.specs.Prelude.{IfSome, IfNone};
+ghost use Rattle.std.specs.BTreeMap.{get};
+ghost use Rattle.std.specs.List.{Contains};
+ghost use Rattle.serializability.specs.Reads.{IsClean};
+ghost use Rattle.log_definitions.specs.Numbers.{log_of};
+ghost use Rattle.session_history.specs.Tables.{sources_of};
+ghost use Rattle.reasons.specs.declared.crossings.Pair.{Pair as PairView};
+ghost use Rattle.reasons.specs.declared.crossings.Square.{Square as SquareView};
+ghost use Rattle.reasons.specs.Squares as spec;
+ghost use Rattle.reasons.specs.Squares.{pairs_by, ArePairs, AreBeside, AreShared, pair_cmp};
+ghost use Rattle.reasons.specs.Squares.{IsLooked, IsSquareOf, NoSquareOf, IsSquare, NoSquare};
 
 use serializability::NodeIx;
+use serializability::numbers::node;
 use session_history::History;
 use std::alloc::{AllocError, Global};
+use std::collections::BTreeMap;
 
-/// How many readings a search looks at, at the most.
-const MAX_LOOKS: usize = 20_000_000;
-
-/// A node that reads a version of a key, by the node that wrote it.
+/// A node that reads a version of the key that is looked at, and a version of any key.
 #[derive(Clone, Copy)]
-struct Reading {
-    key: usize,
-    source: NodeIx,
-    reader: NodeIx,
+pub struct Pair {
+    pub reader: NodeIx,
+    pub version: NodeIx,
+    pub key: usize,
+    pub source: NodeIx,
 }
 
-/// A version of a key, by the node that wrote it, and what its readers read of other keys.
-#[derive(Drop)]
-struct SeenBeside {
-    source: NodeIx,
-    beside: Vec<Reading>,
+/// A version that is read beside two versions of a key, and who reads it beside which.
+#[derive(Clone, Copy)]
+pub struct Shared {
+    pub source: NodeIx,
+    pub left: NodeIx,
+    pub right: NodeIx,
 }
 
 /// Two keys, and who reads which versions of them: `one_two` version one of the first key and
 /// version two of the second.
 #[derive(Clone, Copy)]
-pub struct Candidate {
+pub struct Square {
     pub first: usize,
     pub second: usize,
     pub one_one: NodeIx,
@@ -36,179 +52,206 @@ pub struct Candidate {
     pub two_two: NodeIx,
 }
 
-/// The node of this number, and node 0 where there is none.
-fn node_at(number: usize) -> NodeIx {
-    NodeIx::new(number).unwrap_or(NodeIx::INITIAL)
-}
-
-/// Who reads which version of each key, but for initial values.
-fn readings(alloc: Global, history: &History) -> Result<Vec<Vec<Reading>>, AllocError> {
-    let mut readings = Vec::new(alloc);
-    for _ in 0..history.keys() {
-        readings.push(Vec::new(alloc))?;
-    }
-    for number in 1..history.committed().saturating_add(1) {
-        let reader = node_at(number);
-        for read in history.reads_of(reader) {
-            let (key, source) = (read.key, read.source);
-            if source == NodeIx::INITIAL {
-                continue;
-            }
-            if let Some(readings) = readings.get_mut(key) {
-                readings.push(Reading {
-                    key,
-                    source,
-                    reader,
-                })?;
-            }
-        }
-    }
-    Ok(readings)
-}
-
-/// The versions of a key that are read, each with what its readers read of other keys.
-fn versions(
-    alloc: Global,
+/// Appends what a reader of a version reads.
+fn put_reads(
+    pairs: &mut Vec<Pair>,
     history: &History,
-    mut readings: Vec<Reading>,
-) -> Result<Vec<SeenBeside>, AllocError> {
-    readings.sort_by_key(|reading| reading.source.get())?;
-    let mut versions: Vec<SeenBeside> = Vec::new(alloc);
-    for reading in &readings {
-        if versions.last().map(|version| version.source) != Some(reading.source) {
-            versions.push(SeenBeside {
-                source: reading.source,
-                beside: Vec::new(alloc),
-            })?;
-        }
-        if let Some(version) = versions.last_mut() {
-            put_beside(&mut version.beside, history, *reading)?;
-        }
-    }
-    for version in &mut versions {
-        version
-            .beside
-            .sort_by_key(|reading| (reading.key, reading.source.get()))?;
-    }
-    Ok(versions)
-}
-
-/// Appends what a reader of a version reads of other keys.
-fn put_beside(
-    beside: &mut Vec<Reading>,
-    history: &History,
-    reading: Reading,
-) -> Result<(), AllocError> {
-    for read in history.reads_of(reading.reader) {
-        if read.key != reading.key && read.source != NodeIx::INITIAL {
-            beside.push(Reading {
-                key: read.key,
-                source: read.source,
-                reader: reading.reader,
-            })?;
-        }
+    reader: NodeIx,
+    version: NodeIx,
+) -> Result<(), AllocError>
+    ensures put { OnOk result (pairs.new.items
+        ≡ pairs.old.items ++ pairs_by reader version (sources_of (log_of history.now) reader)) }
+{
+    let reads = history.reads_of(reader);
+    for read in reads {
+        pairs.push(Pair {
+            reader,
+            version,
+            key: read.key,
+            source: read.source,
+        })?;
     }
     Ok(())
 }
 
-/// Who reads a version beside version one of a key, and who beside version two.
-#[derive(Clone, Copy)]
-struct Shared {
-    beside_one: Reading,
-    beside_two: Reading,
-}
-
-impl Shared {
-    /// Whether another one is of the same key and of another version.
-    fn differs(self, other: Shared) -> bool {
-        self.beside_one.key == other.beside_one.key
-            && self.beside_one.source != other.beside_one.source
+/// Appends what a node reads, where it reads the key.
+fn put_node(
+    pairs: &mut Vec<Pair>,
+    history: &History,
+    key: usize,
+    reader: NodeIx,
+) -> Result<(), AllocError>
+    requires clean { IsClean (log_of history.now) }
+    requires low { 0 < reader }
+    requires high { reader ≤ (log_of history.now).nodes }
+    requires key { key < (log_of history.now).keys }
+    ensures put { OnOk result (ArePairs (log_of history.now) key reader pairs.old.items →
+        ArePairs (log_of history.now) key (reader + 1) pairs.new.items) }
+{
+    match history.source_of(reader, key) {
+        Some(version) => put_reads(pairs, history, reader, version),
+        None => Ok(()),
     }
 }
 
-/// Two versions of one key that are read beside the same two of another.
-#[derive(Clone, Copy)]
-struct Square {
-    before: Shared,
-    now: Shared,
+/// What the readers of a key read.
+fn pairs_at(alloc: Global, history: &History, key: usize) -> Result<Vec<Pair>, AllocError>
+    requires clean { IsClean (log_of history.now) }
+    requires key { key < (log_of history.now).keys }
+    ensures pairs { IfOk result (λ pairs. ArePairs (log_of history.now) key
+        ((log_of history.now).nodes + 1) pairs.items) }
+{
+    let mut pairs = Vec::new(alloc);
+    for number in 1..history.committed() + 1 {
+        put_node(&mut pairs, history, key, node(number))?;
+    }
+    Ok(pairs)
 }
 
-/// The place of a reading among those of a version.
-fn place_of(reading: Reading) -> (usize, usize) {
-    (reading.key, reading.source.get())
+/// Enters what is read beside the version.
+fn put_beside(
+    beside: &mut BTreeMap<(usize, usize), NodeIx>,
+    version: NodeIx,
+    pair: &Pair,
+) -> Result<(), AllocError>
+    ensures put { OnOk result ((front : List PairView) →
+        AreBeside front version (get pair_cmp beside.old) →
+        AreBeside (front ++ pair.now ∷ []) version (get pair_cmp beside.new)) }
+{
+    if pair.version == version {
+        beside.insert((pair.key, pair.source.get()), pair.reader)?;
+    }
+    Ok(())
 }
 
-/// Two versions of one key, each of which is read beside both of these.
-fn common(one: &[Reading], two: &[Reading]) -> Option<Square> {
-    let mut last: Option<Shared> = None;
-    let (mut i, mut j) = (0, 0);
-    for _ in 0..one.len().saturating_add(two.len()) {
-        let beside_one = *one.get(i)?;
-        let beside_two = *two.get(j)?;
-        let (left, right) = (place_of(beside_one), place_of(beside_two));
-        if right < left {
-            j = j.saturating_add(1);
-            continue;
+/// A reader of the version for each version of each key that is read beside it.
+fn beside_of(
+    alloc: Global,
+    pairs: &[Pair],
+    version: NodeIx,
+) -> Result<BTreeMap<(usize, usize), NodeIx>, AllocError>
+    ensures beside { IfOk result (λ beside. AreBeside pairs.now version (get pair_cmp beside)) }
+{
+    let mut beside = BTreeMap::new(alloc);
+    for pair in pairs {
+        put_beside(&mut beside, version, pair)?;
+    }
+    Ok(beside)
+}
+
+/// What is read beside another version, where it is read beside this one too.
+fn meeting(
+    beside: &BTreeMap<(usize, usize), NodeIx>,
+    version: NodeIx,
+    pair: &Pair,
+) -> Option<Shared>
+    ensures { result ≡ spec.meeting (get pair_cmp beside.now) version pair.now }
+{
+    if pair.version == version {
+        return None;
+    }
+    let left = beside.get(&(pair.key, pair.source.get())).copied()?;
+    Some(Shared {
+        source: pair.source,
+        left,
+        right: pair.reader,
+    })
+}
+
+/// Who reads two versions of the second key, each beside both versions of the first.
+fn square_of(first: usize, second: usize, before: Shared, now: Shared) -> Option<Square>
+    ensures { result ≡ spec.square_of first second before now }
+{
+    if before.source == now.source {
+        None
+    } else {
+        Some(Square {
+            first,
+            second,
+            one_one: before.left,
+            one_two: now.left,
+            two_one: before.right,
+            two_two: now.right,
+        })
+    }
+}
+
+/// Looks at one pair more.
+fn look(
+    beside: &BTreeMap<(usize, usize), NodeIx>,
+    shared: &mut BTreeMap<(usize, usize), Shared>,
+    key: usize,
+    version: NodeIx,
+    pair: &Pair,
+) -> Result<Option<Square>, AllocError>
+    ensures looked { IfOk result (λ found. (pairs front : List PairView) →
+        Contains pairs pair.now → AreBeside pairs version (get pair_cmp beside.now) →
+        AreShared pairs front version (get pair_cmp beside.now) (get pair_cmp shared.old) →
+        IsLooked pairs version (get pair_cmp beside.now) (get pair_cmp shared.new) key
+        (front ++ pair.now ∷ []) found) }
+{
+    let Some(now) = meeting(beside, version, pair) else {
+        return Ok(None);
+    };
+    let place = (pair.version.get(), pair.key);
+    match shared.get(&place).copied() {
+        Some(before) => Ok(square_of(key, pair.key, before, now)),
+        None => {
+            shared.insert(place, now)?;
+            Ok(None)
         }
-        i = i.saturating_add(1);
-        if left == right {
-            let now = Shared {
-                beside_one,
-                beside_two,
-            };
-            if let Some(before) = last {
-                if before.differs(now) {
-                    return Some(Square { before, now });
-                }
-            }
-            last = Some(now);
+    }
+}
+
+/// Four nodes of which two read this version of the key, where there are such.
+fn square_with(
+    alloc: Global,
+    pairs: &[Pair],
+    key: usize,
+    version: NodeIx,
+) -> Result<Option<Square>, AllocError>
+    ensures square { IfOk result (λ found.
+        IfSome found (λ s. (s.first ≡ key) × IsSquareOf pairs.now version s)) }
+    ensures none { IfOk result (λ found. IfNone found (NoSquareOf pairs.now version)) }
+{
+    let beside = beside_of(alloc, pairs, version)?;
+    let mut shared = BTreeMap::new(alloc);
+    for pair in pairs {
+        if let Some(square) = look(&beside, &mut shared, key, version, pair)? {
+            return Ok(Some(square));
         }
     }
-    None
+    Ok(None)
 }
 
-/// Who reads which versions, of this key and another.
-fn found_in(key: usize, square: &Square) -> Candidate {
-    let second = square.now.beside_one.key;
-    let one_one = square.before.beside_one.reader;
-    let one_two = square.now.beside_one.reader;
-    let two_one = square.before.beside_two.reader;
-    let two_two = square.now.beside_two.reader;
-    Candidate {
-        first: key,
-        second,
-        one_one,
-        one_two,
-        two_one,
-        two_two,
-    }
-}
-
-/// Two of these versions of a key that are read beside the same two of another.
-fn among(key: usize, versions: &[SeenBeside], looks: &mut usize) -> Option<Candidate> {
-    for (place, two) in versions.iter().enumerate() {
-        for one in versions.iter().take(place) {
-            let size = one.beside.len().saturating_add(two.beside.len());
-            *looks = looks.saturating_add(size);
-            if MAX_LOOKS < *looks {
-                return None;
-            }
-            if let Some(square) = common(&one.beside, &two.beside) {
-                return Some(found_in(key, &square));
-            }
+/// Four nodes of which this is the first key, where there are such.
+fn square_at(alloc: Global, history: &History, key: usize) -> Result<Option<Square>, AllocError>
+    requires clean { IsClean (log_of history.now) }
+    requires key { key < (log_of history.now).keys }
+    ensures square { IfOk result (λ found. IfSome found (IsSquare (log_of history.now))) }
+    ensures none { IfOk result (λ found. IfNone found (NoSquare (log_of history.now) key)) }
+{
+    let pairs = pairs_at(alloc, history, key)?;
+    let writers = history.writers_of(key);
+    for version in writers {
+        if let Some(square) = square_with(alloc, &pairs, key, *version)? {
+            return Ok(Some(square));
         }
     }
-    None
+    Ok(None)
 }
 
-/// Two keys of which all four pairs of two versions and two are read, where such are found.
-pub fn find(alloc: Global, history: &History) -> Result<Option<Candidate>, AllocError> {
-    let mut looks = 0;
-    for (key, readings) in readings(alloc, history)?.into_iter().enumerate() {
-        let versions = versions(alloc, history, readings)?;
-        let found = among(key, &versions, &mut looks);
-        if found.is_some() {
-            return Ok(found);
+/// Four nodes that read all four pairs of two versions of a key and two of another, where there are
+/// such.
+pub fn square_in(alloc: Global, history: &History) -> Result<Option<Square>, AllocError>
+    requires clean { IsClean (log_of history.now) }
+    ensures square { IfOk result (λ found. IfSome found (IsSquare (log_of history.now))) }
+    ensures none { IfOk result (λ found.
+        IfNone found ((s : SquareView) → IsSquare (log_of history.now) s → ⊥)) }
+{
+    for key in 0..history.keys() {
+        if let Some(square) = square_at(alloc, history, key)? {
+            return Ok(Some(square));
         }
     }
     Ok(None)

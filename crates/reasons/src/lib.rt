@@ -12,5 +12,5 @@ mod overwritten;
 mod read;
 mod reason;
 
-pub use crossed::crossed_reads;
+pub use crossed::{MAX_LOOKS, crossed_reads};
 pub use reason::{Reason, reason_of};

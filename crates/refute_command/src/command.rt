@@ -61,10 +61,9 @@ fn refute_history<R: Threads + Wait + Clock + Sync, G: Gate>(
 /// cannot be satisfied.
 ///
 /// # Errors
-/// Those of the log and of its formula, as at `encode`; then those of the proof: R4 above 1 GiB,
-/// else the first of its steps that has none of the forms (R1) or does not follow (R2), or R3 where
-/// none derives the empty clause; the sink's failure; want of memory. Of LRAT this is the proof's
-/// first fault; of DRAT it is that up to what unit propagation finds.
+/// Those of the log and of its formula, as at `encode`; then the first fault of the proof: R4 above
+/// 1 GiB, else the first of its steps that has none of the forms (R1) or does not follow (R2), or R3
+/// where none derives the empty clause; the sink's failure; want of memory.
 pub fn refute<R: Threads + Wait + Clock + Sync, G: Gate, W: Sink>(
     rt: &R,
     alloc: Global,

@@ -1,6 +1,5 @@
 -- What is known of a history where its answer is to be explained.
 use Rattle.std.proofs.Common.{◌≡◌, ℕ, ◌+◌, List, [], ◌∷◌, ◌++◌, Option, sym, ap, ◌∙◌, subst, inl, inr}
-use Rattle.std.specs.Prelude.{IfSome}
 use Rattle.session_log.specs.Text.{ClientSession}
 use Rattle.serializability.specs.Log.{Log}
 use Rattle.serializability.specs.Polygraph.{Choice, Polygraph}
@@ -9,7 +8,7 @@ use Rattle.headline.proofs.Answered.{clean_log}
 use Rattle.log_definitions.specs.Numbers.{log_of, IsWellFormedList}
 use Rattle.log_lines.specs.declared.placed.PlacedHistory.{PlacedHistory}
 use Rattle.prune_ledger.specs.declared.ledger.Ledger.{Ledger}
-use Rattle.reason_laws.specs.Crossed.{AreCrossed}
+use Rattle.reasons.specs.Crossed.{IsCrossedAnswer}
 use Rattle.reason_laws.specs.declared.crossing.Crossing.{Crossing}
 use Rattle.reduction.specs.Chained.{IsKnownCycle, IsUnpruned}
 use Rattle.reduction.specs.Outcome.{IsDeadHistory}
@@ -36,13 +35,13 @@ dead_ledger ss ledger h = record {
 }
 
 -- ---- what is written
-pub tree_written : (choices : List Choice) (nodes : List TreeNode) (format : Format) (log : PlacedHistory) (found : Option Crossing) (items given : List Item) (text : List ℕ) → IfSome found (λ c. AreCrossed log.history.now c) → IsTreeTold log.history.now choices nodes items → given ≡ items → text ≡ tree_text format log found given → IsTreeWritten choices nodes format log text
+pub tree_written : (choices : List Choice) (nodes : List TreeNode) (format : Format) (log : PlacedHistory) (found : Option Crossing) (items given : List Item) (text : List ℕ) → IsCrossedAnswer log.history.now found → IsTreeTold log.history.now choices nodes items → given ≡ items → text ≡ tree_text format log found given → IsTreeWritten choices nodes format log text
 tree_written choices nodes format log found items given text crossed told same written = record { found = found; crossed = crossed; items = items; told = told; written = written ∙ ap (tree_text format log found) same }
 
 pub cycle_written : (line : List ℕ) (format : Format) (log : PlacedHistory) (items given : List Item) (text : List ℕ) → IsRoundTold log.history.now line items → given ≡ items → text ≡ cycle_text format log given → IsCycleWritten line format log text
 cycle_written line format log items given text told same written = record { items = items; told = told; written = written ∙ ap (cycle_text format log) same }
 
-pub dead_written : (format : Format) (log : PlacedHistory) (found : Option Crossing) (items given : List Item) (text : List ℕ) → IfSome found (λ c. AreCrossed log.history.now c) → IsDeadTold log.history.now items → given ≡ items → text ≡ dead_text format log found given → IsDeadWritten format log text
+pub dead_written : (format : Format) (log : PlacedHistory) (found : Option Crossing) (items given : List Item) (text : List ℕ) → IsCrossedAnswer log.history.now found → IsDeadTold log.history.now items → given ≡ items → text ≡ dead_text format log found given → IsDeadWritten format log text
 dead_written format log found items given text crossed told same written = record { found = found; crossed = crossed; items = items; told = told; written = written ∙ ap (dead_text format log found) same }
 
 -- ---- a line that leads back to where it begins

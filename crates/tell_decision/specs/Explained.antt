@@ -1,6 +1,6 @@
 -- Why there is no order, written behind what `check` says.
 use Rattle.std.specs.Prelude.{◌≡◌, ℕ, ◌==◌, false, if◌then◌else◌, List, [], ◌∷◌, ◌++◌, codes}
-use Rattle.std.specs.Prelude.{Option, None, Some, IfSome}
+use Rattle.std.specs.Prelude.{Option, None, Some}
 use Rattle.std.specs.List.{flat_map}
 use Rattle.session_log.specs.Text.{ClientSession}
 use Rattle.serializability.specs.declared.anomaly.Anomaly.{Anomaly}
@@ -8,8 +8,8 @@ use Rattle.log_lines.specs.Rows.{Table, rows_of}
 use Rattle.deciding.specs.declared.decision.Decision.{Decision}
 use Rattle.deciding.specs.declared.decision.Decision.TheVariants.{Serial, Anomalous, Cyclic, Dead}
 use Rattle.deciding.specs.declared.decision.Decision.TheVariants.{Refuted, Spent}
-use Rattle.reason_laws.specs.Crossed.{AreCrossed}
 use Rattle.reason_laws.specs.declared.crossing.Crossing.{Crossing}
+use Rattle.reasons.specs.Crossed.{IsCrossedAnswer}
 use Rattle.tell_reasons.specs.Anomalies.{IsAnomalyTold}
 use Rattle.tell_reasons.specs.Crossed.{crossing_text}
 use Rattle.tell_steps.specs.Steps.{IsLineTold, IsDeadTold}
@@ -80,12 +80,12 @@ pub record IsAnomalyExplained (format : Format) (log : PlacedHistory) (a : Anoma
   pub told : IsAnomalyTold log a lines
   pub written : text ≡ lines_text format lines
 
--- a refutation tree over these choices, and before it reads that rule out every order, where such
--- were found
+-- a refutation tree over these choices, and before it reads that rule out every order, where there
+-- are such and they are sought
 pub record IsTreeWritten (choices : List Choice) (nodes : List TreeNode) (format : Format)
     (log : PlacedHistory) (text : List ℕ) : Type 0 where
   pub found : Option Crossing
-  pub crossed : IfSome found (λ c. AreCrossed log.history.now c)
+  pub crossed : IsCrossedAnswer log.history.now found
   pub items : List Item
   pub told : IsTreeTold log.history.now choices nodes items
   pub written : text ≡ tree_text format log found items
@@ -109,11 +109,11 @@ pub record IsCycleWritten (line : List ℕ) (format : Format) (log : PlacedHisto
   pub told : IsRoundTold log.history.now line items
   pub written : text ≡ cycle_text format log items
 
--- reads that rule out every order, where such were found; the forced steps that the cycle of a dead
--- ledger needs, the cycle, and its name
+-- reads that rule out every order, where there are such and they are sought; the forced steps that
+-- the cycle of a dead ledger needs, the cycle, and its name
 pub record IsDeadWritten (format : Format) (log : PlacedHistory) (text : List ℕ) : Type 0 where
   pub found : Option Crossing
-  pub crossed : IfSome found (λ c. AreCrossed log.history.now c)
+  pub crossed : IsCrossedAnswer log.history.now found
   pub items : List Item
   pub told : IsDeadTold log.history.now items
   pub written : text ≡ dead_text format log found items

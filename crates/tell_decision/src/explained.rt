@@ -8,7 +8,6 @@ ghost use Rattle.cube_laws.specs.Trees.{IsRefutationTree};
 ghost use Rattle.tell_decision.specs.Explained.{IsAnomalyExplained, IsCycleWritten};
 ghost use Rattle.tell_decision.specs.Explained.{IsDeadWritten, IsTreeWritten};
 
-use crate::crossed::soon_crossed;
 use crate::cycles::cycle_items;
 use crate::steps::{dead_items, tree_items};
 use crate::written::{written_cycle, written_dead, written_lines, written_tree};
@@ -16,6 +15,7 @@ use call_options::Format;
 use cube_laws::Tree;
 use log_lines::PlacedHistory;
 use prune_ledger::{Ledger, Reduced};
+use reasons::crossed_reads;
 use reduction::open_chains;
 use serializability::{Anomaly, NodeIx};
 use session_history::History;
@@ -54,8 +54,8 @@ pub fn explain_cycle(
     written_cycle(alloc, log, format, &items)
 }
 
-/// Reads that rule out every order, where such are found; the forced steps that the cycle of a dead
-/// ledger needs, the cycle, and its name.
+/// Reads that rule out every order, where there are such and they are sought; the forced steps that
+/// the cycle of a dead ledger needs, the cycle, and its name.
 pub fn explain_dead(
     alloc: Global,
     log: &PlacedHistory<'_>,
@@ -68,12 +68,12 @@ pub fn explain_dead(
     let _invariant = log.history.committed();
     let chains = open_chains(alloc, log.history)?;
     let items = dead_items(alloc, log.history, &chains, ledger)?;
-    let found = soon_crossed(alloc, log.history)?;
+    let found = crossed_reads(alloc, log.history)?;
     written_dead(alloc, log, format, found, &items)
 }
 
-/// Reads that rule out every order, where such are found; the forced steps that the cycles of a
-/// refutation tree need, and the tree.
+/// Reads that rule out every order, where there are such and they are sought; the forced steps that
+/// the cycles of a refutation tree need, and the tree.
 pub fn explain_tree(
     alloc: Global,
     log: &PlacedHistory<'_>,
@@ -89,6 +89,6 @@ pub fn explain_tree(
     let _invariant = log.history.committed();
     let chains = open_chains(alloc, log.history)?;
     let items = tree_items(alloc, log.history, &chains, reduced, tree)?;
-    let found = soon_crossed(alloc, log.history)?;
+    let found = crossed_reads(alloc, log.history)?;
     written_tree(alloc, log, format, found, &items)
 }

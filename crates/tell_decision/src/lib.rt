@@ -3,7 +3,6 @@
 //! Called by `cobra_cli`, and by `audit_command` of a part's log. It knows no part and no status.
 #![tactic(auto)]
 
-mod crossed;
 mod cycles;
 mod explained;
 mod names;

@@ -1,9 +1,9 @@
+pub mod Joined
 pub mod Ops
 pub mod Begun
 pub mod Texts
 pub mod Found
 pub mod Written
-pub mod Keyed
 pub mod Told
 pub mod Updates
 pub mod Reported

@@ -1,6 +1,7 @@
 -- Texts that were appended, and what they tell.
-use Rattle.std.proofs.Common.{◌≡◌, ◌≢◌, ℕ, ◌<◌, List, [], ◌∷◌, ◌++◌, length, take, refl, sym, ap, ◌∙◌, subst, append_assoc}
-use Rattle.std.specs.Prelude.{codes, slice_get}
+use Rattle.std.proofs.Common.{◌≡◌, ◌≢◌, ℕ, ◌<◌, List, [], ◌∷◌, ◌++◌, length, take, Option, Some, refl, sym, ap, ◌∙◌, subst, append_assoc}
+use Rattle.std.specs.Prelude.{codes, slice_get, Result, OnOk}
+use Rattle.std.proofs.lemmas.Result.{on_ok_weaker}
 use Rattle.std.proofs.lemmas.Option.{slice_get_within}
 use Rattle.session_log.specs.Text.{ClientSession, view_txn}
 use Rattle.session_log.specs.declared.session.Op.TheVariants.{Write}
@@ -12,79 +13,66 @@ use Rattle.tell_reasons.specs.declared.writes.Keys.{Keys}
 use Rattle.tell_reasons.specs.declared.writes.Keys.TheVariants.{This, Any}
 use Rattle.tell_reasons.specs.declared.writes.WriteAt.{WriteAt}
 use Rattle.tell_reasons.specs.Reasons.{op_at, key_text, reads_text, op_wid}
-use Rattle.tell_reasons.specs.Anomalies.{Appends, IsRead, IsWriteAt, IsWriterTold, IsReadTold, IsBeforeTold, IsBadReadTold, wrote_text, elsewhere_text}
+use Rattle.tell_reasons.specs.Anomalies.{Appends, IsRead, IsWriteAt, IsWriterTold, IsReadTold, IsDoneTold, IsBeforeTold, IsBadReadTold, did_text, wrote_text, elsewhere_text}
 use Rattle.tell_reasons.specs.Anomalies.IsWriterTold.{initial, nobody, elsewhere, wrote}
-use Rattle.tell_reasons.specs.Writes.{IsNoneWrite, Finds}
+use Rattle.tell_reasons.specs.Writes.{IsNoneWrite, Finds, IsThere}
 use Rattle.tell_reasons.proofs.Texts.{two}
 use Rattle.tell_reasons.proofs.Written.{txn_ops, among_this, none_here, none_anywhere}
 
 -- ---- who wrote
-pub initial_told : (ss : List ClientSession) (table : Table) (read : ℕ) (key : List ℕ) (wid : ℕ) (old new : List ℕ) → wid ≡ 0 → new ≡ old ++ codes ", the initial value" → Appends old new (IsWriterTold ss table read key wid)
-initial_told ss table read key wid old new z e = record { text = codes ", the initial value"; added = e; told = initial z }
+pub initial_told : {T E : Type 0} (r : Result T E) (ss : List ClientSession) (table : Table) (read : ℕ) (key : List ℕ) (wid : ℕ) (old new : List ℕ) → wid ≡ 0 → OnOk r (new ≡ old ++ codes ", the initial value") → OnOk r (Appends old new (IsWriterTold ss table read key wid))
+initial_told r ss table read key wid old new z h = on_ok_weaker r (λ e. record { text = codes ", the initial value"; added = e; told = initial z }) h
 
-pub nobody_told : (ss : List ClientSession) (table : Table) (read : ℕ) (key : List ℕ) (wid : ℕ) (old new : List ℕ) → wid ≢ 0 → IsNoneWrite Any key wid (ops_in ss) → new ≡ old ++ codes ", which no transaction wrote"
-    → Appends old new (IsWriterTold ss table read key wid)
-nobody_told ss table read key wid old new nz none e = record { text = codes ", which no transaction wrote"; added = e; told = nobody nz (none_anywhere key wid (ops_in ss) none) }
+pub nobody_told : {T E : Type 0} (r : Result T E) (ss : List ClientSession) (table : Table) (read : ℕ) (key : List ℕ) (wid : ℕ) (old new : List ℕ) → wid ≢ 0 → IsNoneWrite Any key wid (ops_in ss) → OnOk r (new ≡ old ++ codes ", which no transaction wrote")
+    → OnOk r (Appends old new (IsWriterTold ss table read key wid))
+nobody_told r ss table read key wid old new nz none h = on_ok_weaker r (λ e. record { text = codes ", which no transaction wrote"; added = e; told = nobody nz (none_anywhere key wid (ops_in ss) none) }) h
 
--- the write that was found, as an operation of its transaction
-pub op_found : (ss : List ClientSession) (table : Table) (keys : Keys) (key : List ℕ) (wid : ℕ) (w : WriteAt) → Finds ss table keys key wid w → w.op < length w.txn.now.ops.items
-op_found ss table keys key wid w f = slice_get_within w.txn.now.ops.items w.op (Write f.written wid) f.write.writes
+-- the write that was found is an operation of its transaction, and has a line
+pub is_there : (ss : List ClientSession) (table : Table) (keys : Keys) (key : List ℕ) (wid : ℕ) (w : WriteAt) → Finds ss table keys key wid w → IsThere w
+is_there ss table keys key wid w f = record { op = slice_get_within w.txn.now.ops.items w.op (Write f.written wid) f.write.writes; lines = f.write.stands.lines }
 
-pub elsewhere_told : (ss : List ClientSession) (table : Table) (read : ℕ) (key : List ℕ) (wid : ℕ) (w : WriteAt) (old new : List ℕ) → wid ≢ 0 → IsNoneWrite This key wid (ops_in ss) → Finds ss table Any key wid w
-    → new ≡ old ++ elsewhere_text key w.session w.place.now.place (slice_get w.txn.now.ops.items w.op) (line_at (view_place w.place.now) w.op) → Appends old new (IsWriterTold ss table read key wid)
-elsewhere_told ss table read key wid w old new nz none f e =
+pub elsewhere_told : {T E : Type 0} (r : Result T E) (ss : List ClientSession) (table : Table) (read : ℕ) (key : List ℕ) (wid : ℕ) (w : WriteAt) (old new : List ℕ) → wid ≢ 0 → IsNoneWrite This key wid (ops_in ss) → Finds ss table Any key wid w
+    → OnOk r (new ≡ old ++ elsewhere_text key w.session w.place.now.place (slice_get w.txn.now.ops.items w.op) (line_at (view_place w.place.now) w.op)) → OnOk r (Appends old new (IsWriterTold ss table read key wid))
+elsewhere_told r ss table read key wid w old new nz none f h =
     let stands = f.write.stands in
     let before = ops_in (take stands.at ss) ++ (txn_ops (take stands.index stands.of.txns) ++ take w.op w.txn.now.ops.items) in
-    record {
+    on_ok_weaker r (λ e. record {
       text = elsewhere_text key w.session w.place.now.place (slice_get w.txn.now.ops.items w.op) (line_at (view_place w.place.now) w.op);
       added = e;
       told = elsewhere nz (none_here key wid (ops_in ss) none) f.written w.session f.place w.op (view_txn w.txn.now) (view_place w.place.now) (record { write = f.write; first = none_anywhere key wid before f.first });
-    }
+    }) h
 
-pub wrote_told : (ss : List ClientSession) (table : Table) (read : ℕ) (key : List ℕ) (wid : ℕ) (w : WriteAt) (old new : List ℕ) → Finds ss table This key wid w
-    → new ≡ old ++ wrote_text read key w.session (view_txn w.txn.now) (view_place w.place.now) w.op → Appends old new (IsWriterTold ss table read key wid)
-wrote_told ss table read key wid w old new f e = record {
+pub wrote_told : {T E : Type 0} (r : Result T E) (ss : List ClientSession) (table : Table) (read : ℕ) (key : List ℕ) (wid : ℕ) (w : WriteAt) (old new : List ℕ) → Finds ss table This key wid w
+    → OnOk r (new ≡ old ++ wrote_text read key w.session (view_txn w.txn.now) (view_place w.place.now) w.op) → OnOk r (Appends old new (IsWriterTold ss table read key wid))
+wrote_told r ss table read key wid w old new f h = on_ok_weaker r (λ e. record {
   text = wrote_text read key w.session (view_txn w.txn.now) (view_place w.place.now) w.op;
   added = e;
   told = wrote w.session f.place w.op (view_txn w.txn.now) (view_place w.place.now)
       (subst (λ k. IsWriteAt ss table k wid w.session f.place (view_txn w.txn.now) (view_place w.place.now) w.op) (sym (among_this key f.written f.among)) f.write);
-}
+}) h
 
 -- ---- a read
--- the rest of a read's line
-pub rest_told : (log : PlacedHistory) (v i line : ℕ) (old mid new key : List ℕ) (wid : ℕ) → IsRead (op_at log.history.now v i) → line ≡ op_line_in log v i → key ≡ key_text (op_at log.history.now v i) → wid ≡ op_wid (op_at log.history.now v i)
-    → Appends old mid (IsWriterTold log.history.now (table_in log) line key wid) → new ≡ mid ++ 10 ∷ [] → Appends old new (IsReadTold log v i [])
-rest_told log v i line old mid new key wid r l k w a q =
+-- what is said of it, who wrote what it names, and the end of its line
+pub read_told : (log : PlacedHistory) (v i line : ℕ) (said old one mid new key : List ℕ) (wid : ℕ) → IsRead (op_at log.history.now v i) → line ≡ op_line_in log v i → key ≡ key_text (op_at log.history.now v i) → wid ≡ op_wid (op_at log.history.now v i)
+    → one ≡ old ++ said → Appends one mid (IsWriterTold log.history.now (table_in log) line key wid) → new ≡ mid ++ 10 ∷ [] → Appends old new (IsReadTold log v i said)
+read_told log v i line said old one mid new key wid r l k w p a q =
     let keys : key ≡ r.key = k ∙ ap key_text r.is in
     let wids : wid ≡ r.wid = w ∙ ap op_wid r.is in
     let told : IsWriterTold log.history.now (table_in log) (op_line_in log v i) r.key r.wid a.text =
     subst (λ x. IsWriterTold log.history.now (table_in log) (op_line_in log v i) r.key x a.text) wids (subst (λ x. IsWriterTold log.history.now (table_in log) (op_line_in log v i) x wid a.text) keys (subst (λ x. IsWriterTold log.history.now (table_in log) x key wid a.text) l a.told)) in
     record {
-      text = a.text ++ 10 ∷ [];
-      added = two old a.text (10 ∷ []) mid new a.added q;
-      told = record { key = r.key; wid = r.wid; writer = a.text; reads = r.is; told = told; whole = refl };
+      text = said ++ (a.text ++ 10 ∷ []);
+      added = two old said (a.text ++ 10 ∷ []) one new p (two one a.text (10 ∷ []) mid new a.added q);
+      told = record { key = r.key; wid = r.wid; writer = a.text; reads = r.is; told = told; whole = sym (append_assoc said a.text (10 ∷ [])) };
     }
 
--- what is said in front of it
-pub said_told : (log : PlacedHistory) (v i : ℕ) (said old mid new : List ℕ) → mid ≡ old ++ said → Appends mid new (IsReadTold log v i []) → Appends old new (IsReadTold log v i said)
-said_told log v i said old mid new p a =
-    let r = a.told in
-    record {
-      text = said ++ a.text;
-      added = two old said a.text mid new p a.added;
-      told = record { key = r.key; wid = r.wid; writer = r.writer; reads = r.reads; told = r.told; whole = ap (λ t. said ++ t) r.whole ∙ sym (append_assoc said r.writer (10 ∷ [])) };
-    }
+-- a write, of which no more is told
+pub done_told : {T E : Type 0} (r : Result T E) (log : PlacedHistory) (v i : ℕ) (other : Option ℕ) (old new : List ℕ) → OnOk r (new ≡ old ++ (did_text log v (codes " wrote ") i ++ 10 ∷ [])) → OnOk r (Appends old new (IsDoneTold log v (Some i) other))
+done_told r log v i other old new h = on_ok_weaker r (λ e. record { text = did_text log v (codes " wrote ") i ++ 10 ∷ []; added = e; told = refl }) h
 
-pub bad_read : (log : PlacedHistory) (v i : ℕ) (old mid new : List ℕ) → Appends old mid (IsReadTold log v i (reads_text log v i))
-    → Appends mid new (IsBeforeTold log v i (key_text (op_at log.history.now v i)) (op_wid (op_at log.history.now v i))) → Appends old new (IsBadReadTold log v i)
-bad_read log v i old mid new a b =
-    let r = a.told in
-    let keys : key_text (op_at log.history.now v i) ≡ r.key = ap key_text r.reads in
-    let wids : op_wid (op_at log.history.now v i) ≡ r.wid = ap op_wid r.reads in
-    let done : IsBeforeTold log v i r.key r.wid b.text =
-    subst (λ x. IsBeforeTold log v i r.key x b.text) wids (subst (λ k. IsBeforeTold log v i k (op_wid (op_at log.history.now v i)) b.text) keys b.told) in
-    record {
-      text = a.text ++ b.text;
-      added = two old a.text b.text mid new a.added b.added;
-      told = record { line = a.text; before = b.text; read = a.told; done = done; whole = refl };
-    }
+pub bad_read : (log : PlacedHistory) (v i : ℕ) (old mid new : List ℕ) → Appends old mid (IsReadTold log v i (reads_text log v i)) → Appends mid new (IsBeforeTold log v i) → Appends old new (IsBadReadTold log v i)
+bad_read log v i old mid new a b = record {
+  text = a.text ++ b.text;
+  added = two old a.text b.text mid new a.added b.added;
+  told = record { line = a.text; before = b.text; read = a.told; done = b.told; whole = refl };
+}

@@ -1,9 +1,9 @@
 -- Nodes that read a key and write it.
-use Rattle.std.proofs.Common.{◌≡◌, ℕ, suc, ◌+◌, ◌-◌, ◌<◌, ◌≤◌, Bool, true, cond, eqb, List, [], ◌∷◌, ◌++◌, length, take, get_or, Option, None, Some, refl, sym, ap, ◌∙◌, subst, inl, inr, arith, eqb-true, eq-eqb}
-use Rattle.std.specs.Prelude.{codes, slice_get, position, reverse, unwrap_or}
+use Rattle.std.proofs.Common.{◌≡◌, ℕ, suc, ◌+◌, ◌-◌, ◌<◌, ◌≤◌, Bool, true, false, cond, eqb, List, [], ◌∷◌, ◌++◌, length, take, get_or, Option, None, Some, refl, sym, ap, ◌∙◌, subst, inl, inr, arith, eqb-true, eq-eqb}
+use Rattle.std.specs.Prelude.{codes, slice_get, position, reverse, IfSome}
 use Rattle.std.specs.Option.{option_map}
 use Rattle.std.proofs.lemmas.Bool.{cases_Bool, false≢true}
-use Rattle.std.proofs.lemmas.List.{length-reverse, get_or-reverse, take_all}
+use Rattle.std.proofs.lemmas.List.{length-reverse, length-take-le, get_or-reverse, get_or-take}
 use Rattle.std.proofs.lemmas.Option.{slice_get-get_or}
 use Rattle.std.proofs.lemmas.List.Quantifiers.{position-Some}
 use Rattle.session_log.specs.Text.{ClientSession}
@@ -18,13 +18,13 @@ use Rattle.log_definitions.specs.WellFormed.{keys_in}
 use Rattle.log_definitions.specs.Serial.{ops_of}
 use Rattle.log_definitions.specs.Numbers.{event_of, log_of}
 use Rattle.log_lines.specs.declared.placed.PlacedHistory.{PlacedHistory}
-use Rattle.tell_reasons.specs.Reasons.{op_at, key_text, key_bytes, named, wid_text, op_in_line, reads_text}
-use Rattle.tell_reasons.specs.Events.{is_write_in, is_read_in}
-use Rattle.tell_reasons.specs.Anomalies.{Appends, IsRead, IsReadTold, IsUpdateTold, AreUpdatesTold, is_read_of, is_write_of, last_position}
+use Rattle.tell_reasons.specs.Reasons.{op_at, named, wid_text, op_in_line, reads_text}
+use Rattle.tell_reasons.specs.Events.{is_write_in, is_read_in, is_other_in, last_position}
+use Rattle.tell_reasons.specs.Versions.{left_at, read_at}
+use Rattle.tell_reasons.specs.Anomalies.{Appends, IsRead, IsReadTold, IsUpdateTold, AreUpdatesTold}
 use Rattle.tell_reasons.proofs.Found.{none_at}
-use Rattle.tell_reasons.proofs.Keyed.{last_told, read_told}
 use Rattle.reasons.proofs.Ops.{op_of}
-use Rattle.tell_reasons.proofs.Ops.{event_count, key_told}
+use Rattle.tell_reasons.proofs.Ops.{event_count}
 use Rattle.tell_reasons.proofs.Texts.{two}
 
 -- ---- an item that passes
@@ -92,25 +92,7 @@ last_there p es h e =
     let item = get_or-reverse es back (event.Read 0 0) lt ∙ ap (λ k. get_or es k (event.Read 0 0)) index in
     none_at p (reverse es) back (event.Read 0 0) none (omega (arith, lt, size)) (ap p item ∙ h.passes)
 
--- ---- the read that is found first
-read_event : (x : ℕ) (e : Event) → is_read_in x e ≡ true → (w : ℕ) × (e ≡ event.Read x w)
-read_event x (event.Read k w) t = (w, let s = eqb-true x k t in cc)
-read_event x (event.Write k w) t = absurd (false≢true t)
-
-pub record IsFirstRead (ss : List ClientSession) (x v i : ℕ) : Type 0 where
-  pub wid : ℕ
-  pub event : slice_get ((log_of ss).ops v) i ≡ Some (event.Read x wid)
-  pub below : i < length (ops_of ss v)
-
-pub first_read : (ss : List ClientSession) (x v i : ℕ) → position (is_read_in x) ((log_of ss).ops v) ≡ Some i → IsFirstRead ss x v i
-first_read ss x v i e =
-    let es = (log_of ss).ops v in
-    let f = position-Some (is_read_in x) es i (event.Read 0 0) e in
-    let r = read_event x (get_or es i (event.Read 0 0)) f.1 in
-    let count = event_count ss v in
-    let lt = f.0 in
-    record { wid = r.0; event = slice_get-get_or es i (event.Read 0 0) lt ∙ ap (λ d. Some d) r.1; below = omega (arith, lt, count) }
-
+-- ---- a read that is found
 read_op : (keys : List (List ℕ)) (x w : ℕ) (o : Op) → event_of keys o ≡ event.Read x w → IsRead (Some o)
 read_op keys x w (Read key wid) e = record { key = key; wid = wid; is = refl }
 read_op keys x w (Write key wid) e = cc
@@ -120,36 +102,45 @@ is_read ss v i x w h =
     let o = op_of ss v i (event.Read x w) h in
     subst (λ (op : Option Op). IsRead op) (sym o.stands) (read_op (keys_in ss) x w o.op o.event)
 
-pub no_write : (ss : List ClientSession) (x u v i n : ℕ) → IsUpdate (log_of ss) x u v → position (is_read_in x) ((log_of ss).ops v) ≡ Some i → length (ops_of ss v) ≤ n
-    → None ≡ last_position (is_write_of (key_text (op_at ss v i))) (take n (ops_of ss v)) → ⊥
-no_write ss x u v i n h at le e =
+-- an event that passes a test that no write passes
+at_read : (ss : List ClientSession) (v i : ℕ) (p : Event → Bool) → ((k w : ℕ) → p (event.Write k w) ≡ false) → i < length ((log_of ss).ops v) → p (get_or ((log_of ss).ops v) i (event.Read 0 0)) ≡ true → IsRead (op_at ss v i)
+at_read ss v i p writes lt t = let es = (log_of ss).ops v in go (get_or es i (event.Read 0 0)) t (slice_get-get_or es i (event.Read 0 0) lt)
+  where
+    go : (e : Event) → p e ≡ true → slice_get ((log_of ss).ops v) i ≡ Some e → IsRead (op_at ss v i)
+    go (event.Read k w) t at = is_read ss v i k w at
+    go (event.Write k w) t at = absurd (false≢true (sym (writes k w) ∙ t))
+
+pub first_is_read : (ss : List ClientSession) (x v i : ℕ) → read_at ss x v ≡ Some i → IsRead (op_at ss v i)
+first_is_read ss x v i e = let f = position-Some (is_read_in x) ((log_of ss).ops v) i (event.Read 0 0) e in at_read ss v i (is_read_in x) (λ k w. refl) f.0 f.1
+
+-- among the first n
+pub other_is_read : (ss : List ClientSession) (v x w n : ℕ) (found : Option ℕ) → n ≤ length (ops_of ss v) → found ≡ position (is_other_in x w) (take n ((log_of ss).ops v)) → IfSome found (λ i. IsRead (op_at ss v i))
+other_is_read ss v x w n None le e = tt
+other_is_read ss v x w n (Some i) le e =
     let es = (log_of ss).ops v in
-    let r = first_read ss x v i at in
+    let d = event.Read 0 0 in
+    let f = position-Some (is_other_in x w) (take n es) i d (sym e) in
     let count = event_count ss v in
-    let told = last_told ss v i n (event.Read x r.wid) r.event in
-    let all = take_all n es (omega (arith, count, le)) in
-    let none = e ∙ sym told ∙ ap (λ l. last_position (is_write_in x) l) all in
-    last_there (is_write_in x) es (write_there x h.writes.0 es h.writes.1) none
+    let size = length-take-le n es (omega (arith, le, count)) in
+    let lt : i < n = omega (arith, f.0, size) in
+    let same : get_or (take n es) i d ≡ get_or es i d = get_or-take n es i d lt in
+    at_read ss v i (is_other_in x w) (λ k y. refl) (omega (arith, lt, le, count)) (ap (is_other_in x w) (sym same) ∙ f.1)
+
+pub no_write : (ss : List ClientSession) (x u v : ℕ) → IsUpdate (log_of ss) x u v → None ≡ last_position (is_write_in x) ((log_of ss).ops v) → ⊥
+no_write ss x u v h e = let es = (log_of ss).ops v in last_there (is_write_in x) es (write_there x h.writes.0 es h.writes.1) e
 
 -- ---- an update
-pub update_told : (log : PlacedHistory) (x v read write : ℕ) (old mid new : List ℕ) → position (is_read_in x) ((log_of log.history.now).ops v) ≡ Some read
-    → last_position (is_write_of (key_text (op_at log.history.now v read))) (ops_of log.history.now v) ≡ Some write → Appends old mid (IsReadTold log v read (reads_text log v read))
-    → new ≡ mid ++ (named log v ++ codes " overwrites it with " ++ wid_text (op_at log.history.now v write) ++ op_in_line log v write ++ 10 ∷ []) → Appends old new (IsUpdateTold log (key_bytes log.history.now x) v)
-update_told log x v read write old mid new at last a e =
-    let ss = log.history.now in
-    let r = first_read ss x v read at in
-    let key : key_bytes ss x ≡ key_text (op_at ss v read) = ap (λ o. unwrap_or o []) (key_told ss v read (event.Read x r.wid) r.event) in
-    let first = ap (λ k. position (is_read_of k) (ops_of ss v)) key ∙ sym (read_told ss v read (event.Read x r.wid) r.event) ∙ at in
-    let lasts = ap (λ k. last_position (is_write_of k) (ops_of ss v)) key ∙ last in
-    let tail = named log v ++ codes " overwrites it with " ++ wid_text (op_at ss v write) ++ op_in_line log v write ++ 10 ∷ [] in
+pub update_told : (log : PlacedHistory) (x v read write : ℕ) (old mid new : List ℕ) → read_at log.history.now x v ≡ Some read → left_at log.history.now x v ≡ Some write → Appends old mid (IsReadTold log v read (reads_text log v read))
+    → new ≡ mid ++ (named log v ++ codes " overwrites it with " ++ wid_text (op_at log.history.now v write) ++ op_in_line log v write ++ 10 ∷ []) → Appends old new (IsUpdateTold log x v)
+update_told log x v read write old mid new first last a e =
+    let tail = named log v ++ codes " overwrites it with " ++ wid_text (op_at log.history.now v write) ++ op_in_line log v write ++ 10 ∷ [] in
     record {
       text = a.text ++ tail;
       added = two old a.text tail mid new a.added e;
-      told = record { read = read; write = write; line = a.text; first = first; last = lasts; told = a.told; whole = refl };
+      told = record { read = read; write = write; line = a.text; first = first; last = last; told = a.told; whole = refl };
     }
 
-pub updates_told : (log : PlacedHistory) (x a b : ℕ) (old mid new : List ℕ) → Appends old mid (IsUpdateTold log (key_bytes log.history.now x) a) → Appends mid new (IsUpdateTold log (key_bytes log.history.now x) b)
-    → Appends old new (AreUpdatesTold log x a b)
+pub updates_told : (log : PlacedHistory) (x a b : ℕ) (old mid new : List ℕ) → Appends old mid (IsUpdateTold log x a) → Appends mid new (IsUpdateTold log x b) → Appends old new (AreUpdatesTold log x a b)
 updates_told log x a b old mid new p q = record {
   text = p.text ++ q.text;
   added = two old p.text q.text mid new p.added q.added;

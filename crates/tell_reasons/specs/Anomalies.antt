@@ -14,32 +14,19 @@ use Rattle.session_log.specs.declared.session.Outcome.TheVariants.{Commit, Abort
 use Rattle.serializability.specs.declared.anomaly.Anomaly.{Anomaly}
 use Rattle.serializability.specs.declared.anomaly.Anomaly.TheVariants as anomaly
 use Rattle.log_definitions.specs.Unknown.{ops_in}
-use Rattle.log_definitions.specs.Serial.{ops_of}
 use Rattle.order_text.specs.Text.{name_text}
 use Rattle.log_lines.specs.Rows.{TxnRow, Table, line_at}
 use Rattle.log_lines.specs.Places.{StandsAt}
 use Rattle.log_lines.specs.Placed.{table_in, op_line_in}
 use Rattle.log_lines.specs.declared.placed.PlacedHistory.{PlacedHistory}
-use Rattle.tell_reasons.specs.Reasons.{key_bytes, named, in_line, op_at, op_in_line, key_and_wid}
+use Rattle.tell_reasons.specs.Reasons.{named, in_line, op_at, op_in_line, key_and_wid}
 use Rattle.tell_reasons.specs.Reasons.{wid_text, reads_text}
+use Rattle.tell_reasons.specs.Versions.{left_at, read_at, written_before, other_before}
 
 -- ---- operations of a key
 abbrev pub is_write_of : List ℕ → Op → Bool
 is_write_of key (Read k wid) = false
 is_write_of key (Write k wid) = bytes_eq key k
-
-abbrev pub is_read_of : List ℕ → Op → Bool
-is_read_of key (Read k wid) = bytes_eq key k
-is_read_of key (Write k wid) = false
-
--- a read of the key that names another identity
-abbrev pub is_other_read : List ℕ → ℕ → Op → Bool
-is_other_read key wid (Read k w) = bytes_eq key k && not (w == wid)
-is_other_read key wid (Write k w) = false
-
--- the place of the last operation that passes
-abbrev pub last_position : {X : Type 0} → (X → Bool) → List X → Option ℕ
-last_position passes xs = option_map (λ back. length xs - (back + 1)) (position passes (reverse xs))
 
 -- the place of the first that passes behind place i
 abbrev pub next_position : {X : Type 0} → (X → Bool) → List X → ℕ → Option ℕ
@@ -72,12 +59,9 @@ outcome_text Abort line = codes " and aborted" ++ in_line line
 outcome_text Unknown line = codes ", whose outcome is unknown" ++ in_line line
 
 -- the read in this line stands in the transaction that begins at line `begin`, in front of its
--- write in line `written`
-abbrev pub is_early : ℕ → ℕ → ℕ → Bool
-is_early read begin written = nat_lt begin read && nat_lt read written
-
+-- write in line `written`, or it does not
 abbrev pub verb_text : ℕ → ℕ → ℕ → List ℕ
-verb_text read begin written = if is_early read begin written then
+verb_text read begin written = if nat_lt begin read && nat_lt read written then
     codes " writes itself only later" else codes " wrote"
 
 -- what stands in line `read` was written by operation i of this transaction
@@ -88,19 +72,12 @@ wrote_text read key session t row i =
     ++ overwrote_text t.ops row (next_position (is_write_of key) t.ops i)
     ++ outcome_text t.outcome row.end
 
--- nobody wrote it to this key
-abbrev pub not_here_text : List ℕ → List ℕ
-not_here_text key = codes ", which no transaction wrote to " ++ key ++ codes "; "
-
--- this transaction wrote what this operation says, in this line
-abbrev pub other_write_text : ℕ → ℕ → Option Op → ℕ → List ℕ
-other_write_text session place op line =
-    name_text (session, place) ++ codes " wrote " ++ key_and_wid op ++ in_line line
-
--- the identity was written to another key, by this operation
+-- nobody wrote the identity to this key, but this transaction to another one, by this operation in
+-- this line
 abbrev pub elsewhere_text : List ℕ → ℕ → ℕ → Option Op → ℕ → List ℕ
 elsewhere_text key session place op line =
-    not_here_text key ++ other_write_text session place op line
+    codes ", which no transaction wrote to " ++ key ++ codes "; " ++ name_text (session, place)
+    ++ codes " wrote " ++ key_and_wid op ++ in_line line
 
 -- none of these operations writes the identity under any key
 abbrev pub IsUnwritten : ℕ → List Op → Type 0
@@ -154,39 +131,38 @@ IsDoneTold log v (Some i) other text = text ≡ did_text log v (codes " wrote ")
 IsDoneTold log v None (Some i) text = IsReadTold log v i (did_text log v (codes " read ") i) text
 IsDoneTold log v None None text = text ≡ []
 
--- before its read of the key at operation i, which named this identity: its latest write of the
--- key, else its first read of another one
-abbrev pub IsBeforeTold : PlacedHistory → ℕ → ℕ → List ℕ → ℕ → List ℕ → Type 0
-IsBeforeTold log v i key wid text =
-    IsDoneTold log v (last_position (is_write_of key) (take i (ops_of log.history.now v)))
-    (position (is_other_read key wid) (take i (ops_of log.history.now v))) text
+-- before operation i, which reads a key: its latest write of the key, else its first read of another
+-- identity
+abbrev pub IsBeforeTold : PlacedHistory → ℕ → ℕ → List ℕ → Type 0
+IsBeforeTold log v i text =
+    IsDoneTold log v (written_before log.history.now v i) (other_before log.history.now v i) text
 
 -- a read that is an anomaly: operation i of node v
 pub record IsBadReadTold (log : PlacedHistory) (v i : ℕ) (text : List ℕ) : Type 0 where
   pub line : List ℕ
   pub before : List ℕ
   pub read : IsReadTold log v i (reads_text log v i) line
-  pub done : IsBeforeTold log v i read.key read.wid before
+  pub done : IsBeforeTold log v i before
   pub whole : text ≡ line ++ before
 
 -- ---- a lost update
--- node v reads the key first at operation `read`, and writes it last at operation `write`
-pub record IsUpdateTold (log : PlacedHistory) (key : List ℕ) (v : ℕ) (text : List ℕ) : Type 0 where
+-- node v reads key number x first at operation `read`, and writes it last at operation `write`
+pub record IsUpdateTold (log : PlacedHistory) (x v : ℕ) (text : List ℕ) : Type 0 where
   pub read : ℕ
   pub write : ℕ
   pub line : List ℕ
-  pub first : position (is_read_of key) (ops_of log.history.now v) ≡ Some read
-  pub last : last_position (is_write_of key) (ops_of log.history.now v) ≡ Some write
+  pub first : read_at log.history.now x v ≡ Some read
+  pub last : left_at log.history.now x v ≡ Some write
   pub told : IsReadTold log v read (reads_text log v read) line
   pub whole : text ≡ line ++ (named log v ++ codes " overwrites it with " ++ wid_text
       (op_at log.history.now v write) ++ op_in_line log v write ++ 10 ∷ [])
 
--- two nodes read the key of number x first and write it last
+-- two nodes read key number x first and write it last
 pub record AreUpdatesTold (log : PlacedHistory) (x a b : ℕ) (text : List ℕ) : Type 0 where
   pub one : List ℕ
   pub two : List ℕ
-  pub first : IsUpdateTold log (key_bytes log.history.now x) a one
-  pub second : IsUpdateTold log (key_bytes log.history.now x) b two
+  pub first : IsUpdateTold log x a one
+  pub second : IsUpdateTold log x b two
   pub whole : text ≡ one ++ two
 
 -- ---- an anomaly, whose operations count from 1

@@ -1,35 +1,28 @@
 -- How it is told that all four pairs of two versions of a key and two of another were read.
-use Rattle.std.specs.Prelude.{ℕ, ◌<◌, ◌≤◌, List, ◌++◌, codes, length}
+use Rattle.std.specs.Prelude.{ℕ, ◌<◌, List, ◌++◌, codes, length}
 use Rattle.session_log.specs.Text.{ClientSession}
 use Rattle.log_definitions.specs.Serial.{ops_of}
-use Rattle.log_definitions.specs.Numbers.{log_of}
 use Rattle.log_lines.specs.declared.placed.PlacedHistory.{PlacedHistory}
 use Rattle.reason_laws.specs.declared.crossing.Crossing.{Crossing}
 use Rattle.reason_laws.specs.declared.crossing.PairRead.{PairRead}
 use Rattle.tell_reasons.specs.Reasons.{reads_text, key_and_wid, op_at, op_in_line}
 
--- ` and y 3 (line 20)`
-abbrev pub beside_text : PlacedHistory → ℕ → ℕ → List ℕ
-beside_text log v i =
-    codes " and " ++ key_and_wid (op_at log.history.now v i) ++ op_in_line log v i
-
 -- `    5.1 reads x 1 (line 19) and y 3 (line 20)`
 abbrev pub pair_text : PlacedHistory → PairRead → List ℕ
 pair_text log p =
-    codes "    " ++ reads_text log p.node p.first ++ beside_text log p.node p.second ++ codes "\n"
-
-abbrev pub row_text : PlacedHistory → PairRead → PairRead → List ℕ
-row_text log p q = pair_text log p ++ pair_text log q
+    codes "    " ++ reads_text log p.node p.first ++ codes " and "
+    ++ key_and_wid (op_at log.history.now p.node p.second) ++ op_in_line log p.node p.second
+    ++ codes "\n"
 
 -- the four, and what that is called (Elle)
 abbrev pub crossing_text : PlacedHistory → Crossing → List ℕ
 crossing_text log c =
     codes "no serial order allows all four reads: in any, one of these pairs is never current:\n"
-    ++ row_text log c.one_one c.one_two ++ row_text log c.two_one c.two_two
+    ++ pair_text log c.one_one ++ pair_text log c.one_two
+    ++ pair_text log c.two_one ++ pair_text log c.two_two
     ++ codes "known as: long fork (G-nonadjacent-item)\n"
 
--- the node and its operations are there
+-- its operations are there
 pub record CanTellPair (ss : List ClientSession) (p : PairRead) : Type 0 where
-  pub node : p.node ≤ (log_of ss).nodes
   pub first : p.first < length (ops_of ss p.node)
   pub second : p.second < length (ops_of ss p.node)

@@ -1,5 +1,7 @@
 -- Operations on numbered keys.
-use Rattle.std.specs.Prelude.{ℕ, ◌==◌, ◌&&◌, not, Bool, false}
+use Rattle.std.specs.Prelude.{ℕ, ◌+◌, ◌-◌, ◌==◌, ◌&&◌, not, Bool, false, List, Option, length}
+use Rattle.std.specs.Prelude.{position, reverse}
+use Rattle.std.specs.Option.{option_map}
 use Rattle.serializability.specs.declared.event.Event.{Event}
 use Rattle.serializability.specs.declared.event.Event.TheVariants.{Read, Write}
 
@@ -22,3 +24,7 @@ is_read_in x (Write key wid) = false
 abbrev pub is_other_in : ℕ → ℕ → Event → Bool
 is_other_in x w (Read key wid) = (x == key) && not (wid == w)
 is_other_in x w (Write key wid) = false
+
+-- the place of the last operation that passes
+abbrev pub last_position : {X : Type 0} → (X → Bool) → List X → Option ℕ
+last_position passes xs = option_map (λ back. length xs - (back + 1)) (position passes (reverse xs))

@@ -5,3 +5,4 @@ pub mod Events
 pub mod Reasons
 pub mod Writes
 pub mod Versions
+pub mod Words

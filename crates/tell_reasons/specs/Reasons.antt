@@ -1,6 +1,6 @@
 -- How it is told why one node stands before another, in the log's own lines. Operations count from
 -- 0.
-use Rattle.std.specs.Prelude.{ℕ, ◌+◌, ◌<◌, ◌≤◌, ◌^◌, List, [], ◌∷◌, ◌++◌}
+use Rattle.std.specs.Prelude.{ℕ, ◌==◌, ◌+◌, ◌<◌, ◌≤◌, ◌^◌, List, [], ◌∷◌, ◌++◌, if◌then◌else◌}
 use Rattle.std.specs.Prelude.{codes, decimal, slice_get, unwrap_or, Option, None}
 use Rattle.std.specs.Prelude.{Some}
 use Rattle.session_log.specs.Text.{ClientSession}
@@ -60,6 +60,10 @@ op_wid (Some (Write key wid)) = wid
 -- the bytes of key number x
 abbrev pub key_bytes : List ClientSession → ℕ → List ℕ
 key_bytes ss x = unwrap_or (slice_get (keys_in ss) x) []
+
+-- a key's initial value, or its version of this identity
+abbrev pub base_text : ℕ → List ℕ
+base_text base = if base == 0 then codes "the initial value" else decimal base
 
 -- node v does this, in its line
 abbrev pub does_text : PlacedHistory → ℕ → List ℕ → ℕ → List ℕ

@@ -1,15 +1,14 @@
 -- Versions of a key, by their writers.
-use Rattle.std.specs.Prelude.{ℕ, ◌==◌, if◌then◌else◌, Bool, true, false, List, [], ◌++◌, position}
+use Rattle.std.specs.Prelude.{ℕ, ◌==◌, if◌then◌else◌, List, [], ◌++◌, position, take}
 use Rattle.std.specs.Prelude.{codes, decimal, slice_get, Option, None, Some}
 use Rattle.std.specs.Option.{option_map_or}
 use Rattle.serializability.specs.Polygraph.{source}
 use Rattle.session_history.specs.Rows.{event_key}
 use Rattle.session_log.specs.Text.{ClientSession}
 use Rattle.log_definitions.specs.Numbers.{log_of}
-use Rattle.tell_reasons.specs.Events.{is_write_in, is_read_in}
+use Rattle.tell_reasons.specs.Events.{is_write_in, is_read_in, is_other_in, last_position}
 use Rattle.tell_reasons.specs.Reasons.{named, key_bytes, op_at, op_wid, wid_text, op_in_line}
-use Rattle.tell_reasons.specs.Reasons.{does_text, reads_text}
-use Rattle.tell_reasons.specs.Anomalies.{last_position}
+use Rattle.tell_reasons.specs.Reasons.{does_text, reads_text, base_text}
 use Rattle.tell_reasons.specs.declared.why.ChainOrder.{ChainOrder}
 use Rattle.log_lines.specs.declared.placed.PlacedHistory.{PlacedHistory}
 
@@ -20,6 +19,20 @@ left_at ss x v = last_position (is_write_in x) ((log_of ss).ops v)
 
 abbrev pub read_at : List ClientSession → ℕ → ℕ → Option ℕ
 read_at ss x v = position (is_read_in x) ((log_of ss).ops v)
+
+-- the number of the key of operation i of node v
+abbrev pub key_number : List ClientSession → ℕ → ℕ → ℕ
+key_number ss v i = option_map_or event_key (slice_get ((log_of ss).ops v) i) 0
+
+-- the places of a node's last write before operation i of the same key, and of its first read of it
+-- that names another identity
+abbrev pub written_before : List ClientSession → ℕ → ℕ → Option ℕ
+written_before ss v i =
+    last_position (is_write_in (key_number ss v i)) (take i ((log_of ss).ops v))
+
+abbrev pub other_before : List ClientSession → ℕ → ℕ → Option ℕ
+other_before ss v i = position (is_other_in (key_number ss v i) (op_wid (op_at ss v i)))
+    (take i ((log_of ss).ops v))
 
 -- the identity of an operation, if there is one
 abbrev pub wid_of_place : List ClientSession → ℕ → Option ℕ → ℕ
@@ -39,39 +52,23 @@ version_at log v (Some i) = wid_text (op_at log.history.now v i) ++ codes ", whi
 abbrev pub version_text : PlacedHistory → ℕ → ℕ → List ℕ
 version_text log x v = version_at log v (left_at log.history.now x v)
 
--- that a node wrote this: `1.7 wrote k27 9001 (line 32)`
-abbrev pub write_text : PlacedHistory → ℕ → ℕ → List ℕ
-write_text log v i = does_text log v (codes " wrote ") i
-
--- the number of the key of operation i of node v
-abbrev pub key_number : List ClientSession → ℕ → ℕ → ℕ
-key_number ss v i = option_map_or event_key (slice_get ((log_of ss).ops v) i) 0
-
--- a key's initial value, or its version of this identity
-abbrev pub base_text : ℕ → List ℕ
-base_text base = if base == 0 then codes "the initial value" else decimal base
-
--- that version itself, or one that goes back to it by reads and writes
-abbrev pub old_text : Bool → ℕ → List ℕ
-old_text true base = base_text base
-old_text false base = codes "an update of " ++ base_text base
-
 -- over what node v wrote, by its first read of the key: ` over 16009`
 abbrev pub over_at : List ClientSession → ℕ → ℕ → Option ℕ → List ℕ
 over_at ss base v None = []
-over_at ss base v (Some i) = codes " over " ++ old_text (op_wid (op_at ss v i) == base) base
+over_at ss base v (Some i) = if op_wid (op_at ss v i) == base then codes " over " ++ base_text base
+    else codes " over an update of " ++ base_text base
 
 abbrev pub over_text : List ClientSession → ℕ → ℕ → ℕ → List ℕ
 over_text ss x base v = over_at ss base v (read_at ss x v)
 
 -- who wrote what was read, and over what: `, which 4.2 wrote (line 77) over 16009`
 abbrev pub writer_at : PlacedHistory → ℕ → ℕ → ℕ → Option ℕ → List ℕ
-writer_at log x base w None = codes ", " ++ old_text false base
+writer_at log x base w None = codes ", an update of " ++ base_text base
 writer_at log x base w (Some i) = codes ", which " ++ named log w ++ codes " wrote"
     ++ op_in_line log w i ++ over_text log.history.now x base w
 
 abbrev pub writer_text : PlacedHistory → ℕ → ℕ → Option ℕ → List ℕ
-writer_text log x base None = codes ", " ++ old_text false base
+writer_text log x base None = codes ", an update of " ++ base_text base
 writer_text log x base (Some w) = writer_at log x base w (left_at log.history.now x w)
 
 abbrev pub source_text : PlacedHistory → ℕ → ℕ → ℕ → List ℕ
@@ -97,7 +94,7 @@ had_at log version v (Some i) = reads_text log v i ++ behind_text log version v 
 abbrev pub held_at : PlacedHistory → ℕ → ℕ → Option ℕ → Option ℕ → List ℕ
 held_at log version v None read = had_at log version v read
 held_at log version v (Some i) read =
-    write_text log v i ++ updates_text log.history.now version v i
+    does_text log v (codes " wrote ") i ++ updates_text log.history.now version v i
 
 abbrev pub held_text : PlacedHistory → ℕ → ℕ → ℕ → List ℕ
 held_text log x head v = held_at log (version_of log.history.now x head) v
@@ -110,28 +107,16 @@ versions_text log o =
     key_bytes log.history.now o.key ++ codes ": " ++ version_text log o.key o.first
     ++ codes ", comes before " ++ version_text log o.key o.second
 
--- `    if 20 came first, `
-abbrev pub if_text : ℕ → List ℕ
-if_text version = codes "    if " ++ decimal version ++ codes " came first, "
-
--- `14.1, which reads 20 (line 68)`
-abbrev pub other_text : PlacedHistory → ℕ → ℕ → ℕ → List ℕ
-other_text log version u i =
-    named log u ++ codes ", which reads " ++ wid_text (op_at log.history.now u i)
-    ++ op_in_line log u i ++ behind_text log version u i
-
--- `, would come before 11.1, but 11.1 comes before 14.1:`
-abbrev pub would_text : PlacedHistory → ℕ → ℕ → List ℕ
-would_text log u v =
-    (codes ", would come before " ++ named log v) ++ (codes ", but " ++ named log v)
-    ++ (codes " comes before " ++ named log u) ++ codes ":\n"
-
 -- why one of two versions of a key comes first: u reads the other one, and comes after v. Nothing,
--- where u reads neither
+-- where u reads neither: `    if 20 came first, 14.1, which reads 20 (line 68), would come before
+-- 11.1, but 11.1 comes before 14.1:`
 abbrev pub since_at : PlacedHistory → ℕ → ℕ → ℕ → Option ℕ → List ℕ
 since_at log version u v None = []
 since_at log version u v (Some i) =
-    (if_text version ++ other_text log version u i) ++ would_text log u v
+    codes "    if " ++ decimal version ++ codes " came first, " ++ named log u
+    ++ codes ", which reads " ++ wid_text (op_at log.history.now u i) ++ op_in_line log u i
+    ++ behind_text log version u i ++ codes ", would come before " ++ named log v
+    ++ codes ", but " ++ named log v ++ codes " comes before " ++ named log u ++ codes ":\n"
 
 abbrev pub since_text : PlacedHistory → ChainOrder → ℕ → ℕ → List ℕ
 since_text log o u v = since_at log (version_of log.history.now o.key o.second) u v

@@ -1,5 +1,5 @@
 -- Where an identity is written.
-use Rattle.std.specs.Prelude.{◌≡◌, ℕ, ◌==◌, ◌&&◌, Bool, true, false, List, ◌++◌, length}
+use Rattle.std.specs.Prelude.{◌≡◌, ℕ, ◌<◌, ◌==◌, ◌&&◌, Bool, true, false, List, ◌++◌, length}
 use Rattle.std.specs.Prelude.{map, take, Some, slice_get}
 use Rattle.std.specs.List.{flat_map, Contains}
 use Rattle.std.specs.Str.{bytes_eq}
@@ -30,9 +30,10 @@ pub record IsNoneWrite (keys : Keys) (key : List ℕ) (wid : ℕ) (ops : List Op
   pub none : (written : List ℕ) → is_among keys key written ≡ true
       → ¬ Contains ops (Write written wid)
 
--- its transaction's place has a line for each operation
-abbrev pub HasLines : WriteAt → Type 0
-HasLines w = length w.place.now.ops.items ≡ length w.txn.now.ops.items
+-- it is an operation of its transaction, whose place has a line for each
+pub record IsThere (w : WriteAt) : Type 0 where
+  pub op : w.op < length w.txn.now.ops.items
+  pub lines : length w.place.now.ops.items ≡ length w.txn.now.ops.items
 
 -- the write that was found among a session's transactions, which have these places: the first that
 -- is sought
@@ -43,7 +44,7 @@ pub record FindsIn (number : ℕ) (txns : List Txn) (places : List TxnPlace) (ke
   pub session : number ≡ w.session
   pub txn : slice_get (map view_txn txns) index ≡ Some (view_txn w.txn.now)
   pub has : slice_get (map view_place places) index ≡ Some (view_place w.place.now)
-  pub lines : HasLines w
+  pub lines : length w.place.now.ops.items ≡ length w.txn.now.ops.items
   pub among : is_among keys key written ≡ true
   pub writes : slice_get w.txn.now.ops.items w.op ≡ Some (Write written wid)
   pub first : IsNoneWrite keys key wid (flat_map (λ t. t.ops) (take index (map view_txn txns))

@@ -10,12 +10,13 @@ mod phrases;
 mod places;
 mod versions;
 mod why;
+mod words;
 mod writers;
 mod writes;
 
 pub use anomalies::put_anomaly;
 pub use crossed::put_crossing;
 pub use edge::put_edge;
-pub use phrases::{put_key, put_key_and_wid, put_named, put_number, put_op_in_line};
+pub use phrases::{put_key_and_wid, put_named, put_number, put_op_in_line};
 pub use versions::{left_at, put_since, put_versions};
 pub use why::{ChainOrder, Why};

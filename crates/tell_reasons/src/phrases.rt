@@ -11,6 +11,7 @@ ghost use Rattle.order_text.specs.Text.{name_text};
 ghost use Rattle.session_history.specs.Rows.{event_key};
 ghost use Rattle.tell_reasons.specs.Events.{event_wid};
 ghost use Rattle.tell_reasons.specs.Reasons as spec;
+ghost use Rattle.tell_reasons.specs.Versions as versions;
 ghost use Rattle.tell_reasons.specs.Reasons.{named, in_line, op_at, op_in_line, op_wid};
 ghost use Rattle.tell_reasons.specs.Reasons.{key_and_wid, does_text};
 
@@ -20,6 +21,14 @@ use serializability::{Event, NodeIx};
 use session_history::History;
 use std::alloc::AllocError;
 
+/// Appends a text.
+pub fn put_text(out: &mut Vec<u8>, text: &[u8]) -> Result<(), AllocError>
+    ensures text { OnOk result (out.new.items ≡ out.old.items ++ text.now) }
+{
+    out.extend_from_slice(text)?;
+    Ok(())
+}
+
 /// Appends a number.
 pub fn put_number(out: &mut Vec<u8>, number: u64) -> Result<(), AllocError>
     ensures text { OnOk result (out.new.items ≡ out.old.items ++ decimal number) }
@@ -27,6 +36,17 @@ pub fn put_number(out: &mut Vec<u8>, number: u64) -> Result<(), AllocError>
     let mut digits = Buffer::new();
     out.extend_from_slice(digits.format(number).as_bytes())?;
     Ok(())
+}
+
+/// Appends a key's initial value, or the identity of its version.
+pub fn put_base(out: &mut Vec<u8>, base: u64) -> Result<(), AllocError>
+    ensures text { OnOk result (out.new.items ≡ out.old.items ++ spec.base_text base) }
+{
+    if base == 0 {
+        put_text(out, b"the initial value")
+    } else {
+        put_number(out, base)
+    }
 }
 
 /// Appends the name of a transaction.
@@ -113,7 +133,7 @@ pub fn put_op_in_line(
 }
 
 /// The number of the key of an event.
-pub fn key_of(event: Event) -> usize
+fn key_of(event: Event) -> usize
     ensures { result ≡ event_key event }
 {
     match event {
@@ -122,20 +142,12 @@ pub fn key_of(event: Event) -> usize
 }
 
 /// The identity that an event names.
-pub fn wid_of(event: Event) -> u64
+fn wid_of(event: Event) -> u64
     ensures { result ≡ event_wid event }
 {
     match event {
         Event::Read { wid, .. } | Event::Write { wid, .. } => wid,
     }
-}
-
-/// How many operations a node has.
-#[tactic(auto, using(crate::proofs::Ops::event_count))]
-pub fn op_count(history: &History, node: NodeIx) -> usize
-    ensures count { result ≡ length (ops_of history.now node) }
-{
-    history.events_of(node).len()
 }
 
 /// The line that ends a node.
@@ -148,11 +160,20 @@ pub fn end_of(log: &PlacedHistory<'_>, node: NodeIx) -> usize
 
 /// An operation of a node.
 #[tactic(auto, using(crate::proofs::Ops::event_count))]
-pub fn event_at(history: &History, node: NodeIx, op: usize) -> Event
+fn event_at(history: &History, node: NodeIx, op: usize) -> Event
     requires op { op < length (ops_of history.now node) }
     ensures event { slice_get ((log_of history.now).ops node) op ≡ Some result }
 {
     history.events_of(node)[op]
+}
+
+/// The number of the key of an operation.
+pub fn key_number(history: &History, node: NodeIx, op: usize) -> usize
+    requires op { op < length (ops_of history.now node) }
+    ensures key { result ≡ versions.key_number history.now node op }
+    ensures known { result < (log_of history.now).keys }
+{
+    key_of(event_at(history, node, op))
 }
 
 /// The bytes of the key of an operation.
@@ -176,29 +197,6 @@ pub fn wid_at(history: &History, node: NodeIx, op: usize) -> u64
     wid_of(event_at(history, node, op))
 }
 
-/// Appends the bytes of a key.
-pub fn put_key(out: &mut Vec<u8>, history: &History, key: usize) -> Result<(), AllocError>
-    requires key { key < (log_of history.now).keys }
-    ensures text { OnOk result (out.new.items ≡ out.old.items ++ spec.key_bytes history.now key) }
-{
-    out.extend_from_slice(history.key_text(key).as_bytes())?;
-    Ok(())
-}
-
-/// Appends the identity that an operation names.
-pub fn put_wid(
-    out: &mut Vec<u8>,
-    history: &History,
-    node: NodeIx,
-    op: usize,
-) -> Result<(), AllocError>
-    requires op { op < length (ops_of history.now node) }
-    ensures text { OnOk result (out.new.items
-        ≡ out.old.items ++ spec.wid_text (op_at history.now node op)) }
-{
-    put_number(out, wid_at(history, node, op))
-}
-
 /// Appends the key and the identity of an operation, with a space between.
 pub fn put_key_and_wid(
     out: &mut Vec<u8>,
@@ -212,7 +210,7 @@ pub fn put_key_and_wid(
 {
     out.extend_from_slice(key_at(history, node, op))?;
     out.push(b' ')?;
-    put_wid(out, history, node, op)
+    put_number(out, wid_at(history, node, op))
 }
 
 /// Appends what a node does, as `2.1 reads x 7 (line 12)`.

@@ -4,12 +4,13 @@ ghost use Rattle.std.specs.Prelude.{◌≡◌, ◌+◌, ◌<◌, ◌≤◌, leng
 ghost use Rattle.std.specs.Prelude.{IfSome};
 ghost use Rattle.log_definitions.specs.Serial.{ops_of};
 ghost use Rattle.log_definitions.specs.Numbers.{log_of};
-ghost use Rattle.tell_reasons.specs.Reasons.{op_at, op_wid, key_text};
-ghost use Rattle.tell_reasons.specs.Events.{is_write_in, is_read_in, is_other_in};
+ghost use Rattle.tell_reasons.specs.Reasons.{op_at};
+ghost use Rattle.tell_reasons.specs.Events.{is_write_in, is_read_in, is_other_in, last_position};
+ghost use Rattle.tell_reasons.specs.Versions.{written_before, other_before};
 ghost use Rattle.tell_reasons.specs.Anomalies as spec;
-ghost use Rattle.tell_reasons.specs.Anomalies.{last_position, next_position};
+ghost use Rattle.tell_reasons.specs.Anomalies.{next_position};
 
-use crate::phrases::{event_at, key_of, wid_of};
+use crate::phrases::{key_number, wid_at};
 use serializability::{Event, NodeIx};
 use session_history::History;
 use session_log::Op;
@@ -95,33 +96,26 @@ fn events_before(history: &History, node: NodeIx, count: usize) -> &[Event]
     front(history.events_of(node), count)
 }
 
-/// The last write, among the first `count` operations of a node, of the key of its operation `op`.
-pub fn last_write(history: &History, node: NodeIx, op: usize, count: usize) -> Option<usize>
+/// The last write before operation `op` of a node of the same key.
+pub fn last_write(history: &History, node: NodeIx, op: usize) -> Option<usize>
     requires op { op < length (ops_of history.now node) }
-    requires count { count ≤ length (ops_of history.now node) }
-    ensures place { result ≡ last_position (spec.is_write_of (key_text (op_at history.now node op)))
-        (take count (ops_of history.now node)) }
-    ensures within { IfSome result (λ i. i < count) }
+    ensures place { result ≡ written_before history.now node op }
+    ensures within { IfSome result (λ i. i < op) }
 {
-    let key = key_of(event_at(history, node, op));
-    last_among(events_before(history, node, count), key)
+    let key = key_number(history, node, op);
+    last_among(events_before(history, node, op), key)
 }
 
 /// The first read of the same key before operation `op` of a node that names another identity.
 pub fn other_read(history: &History, node: NodeIx, op: usize) -> Option<usize>
     requires op { op < length (ops_of history.now node) }
-    ensures place { let read = op_at history.now node op in
-        result ≡ position (spec.is_other_read (key_text read) (op_wid read))
-        (take op (ops_of history.now node)) }
+    ensures place { result ≡ other_before history.now node op }
     ensures within { IfSome result (λ i. i < op) }
     ensures read { IfSome result (λ i. spec.IsRead (op_at history.now node i)) }
 {
-    let event = event_at(history, node, op);
-    other_among(
-        events_before(history, node, op),
-        key_of(event),
-        wid_of(event),
-    )
+    let key = key_number(history, node, op);
+    let wid = wid_at(history, node, op);
+    other_among(events_before(history, node, op), key, wid)
 }
 
 /// The first of these that reads the key.
@@ -130,13 +124,6 @@ pub fn first_read_among(events: &[Event], key: usize) -> Option<usize>
     ensures within { IfSome result (λ i. i < length events.now) }
 {
     events.iter().position(|event| reads(*event, key))
-}
-
-/// The first read of a key in a node.
-pub fn first_read(history: &History, node: NodeIx, key: usize) -> Option<usize>
-    ensures place { result ≡ position (is_read_in key) ((log_of history.now).ops node) }
-{
-    first_read_among(history.events_of(node), key)
 }
 
 /// Whether an operation writes the key.

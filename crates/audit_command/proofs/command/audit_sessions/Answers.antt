@@ -47,6 +47,7 @@ returns g c =
     let totals = c.in_ok-sessions.field-0.totals in
     let order = c.in_ok-sessions.field-0.answered.order in
     let numbered = subst (λ n. IsAnswer o n judged answer) (ap first_line c.requires.version) known.answered.answer in
+    let below = subst (λ n. IsWeaker o n judged answer weaker) (ap first_line c.requires.version) (c.in_ok-weaker.ensures.weaker judged legal sound known.resolved states) in
     record {
       audited = record {
         sessions = ss;
@@ -57,11 +58,12 @@ returns g c =
           without_moments = weaker.without_moments;
           strict_snapshot = weaker.strict_snapshot;
           snapshot = weaker.snapshot;
+          shown = weaker.shown;
           totals = totals;
         };
         level = refl;
         answer = subst (λ l. IsAnswer o (first_line (version_of text)) l answer) e numbered;
-        weaker = subst (λ l. IsWeaker o l answer weaker) e (c.in_ok-weaker.ensures.weaker judged legal sound known.resolved states);
+        weaker = subst (λ l. IsWeaker o (first_line (version_of text)) l answer weaker) e below;
         totals = subst (λ l. AreTotals l totals) e known.totals;
         ends = c.in_ok-reply.ensures.ends;
         text = c.in_ok-reply.ensures.text;

@@ -15,10 +15,10 @@ loop-part-preserved-in-Continue-1 c =
     let apart = ap (is_told x.txns.items) (sym c.deref.ensures.value) ∙ ap (λ l. is_told l c.deref.result.now) (sym c.deref-in-loop-part.ensures.value) in
     record {
       whole = append_assoc seen (x ∷ []) more ∙ ap (λ l. seen ++ l) (sym c.in-Some.ensures.steps.0) ∙ i.whole;
-      told = λ level n ss all. (
-          let was = i.told level n ss all in
-          let split = subst (AreToldParts level n ss) c.in-Some.ensures.steps.0 was.0 in
-          (split.1, subst (AreToldParts level n ss) (sym grown) (all_more (IsPartTold level n ss) kept x was.1 split.0)));
+      told = λ o n ss all. (
+          let was = i.told o n ss all in
+          let split = subst (AreToldParts o n ss) c.in-Some.ensures.steps.0 was.0 in
+          (split.1, subst (AreToldParts o n ss) (sym grown) (all_more (IsPartTold o n ss) kept x was.1 split.0)));
       distinct = subst AreDistinct (sym grown) (one_more kept x i.distinct (apart ∙ sym c.is_told.ensures.told ∙ c.if-not-is_told.true));
       some = λ some. omega (arith, longer);
       at_most = omega (arith, longer, counted, i.at_most);
@@ -31,7 +31,7 @@ loop-part-preserved c =
     let step = c.in-Some.ensures.steps.0 in
     record {
       whole = append_assoc seen (x ∷ []) more ∙ ap (λ l. seen ++ l) (sym step) ∙ i.whole;
-      told = λ level n ss all. (let was = i.told level n ss all in ((subst (AreToldParts level n ss) step was.0).1, was.1));
+      told = λ o n ss all. (let was = i.told o n ss all in ((subst (AreToldParts o n ss) step was.0).1, was.1));
       distinct = i.distinct;
       some = λ some. subst (λ l. 0 < length l) c.deref.ensures.value (some_told c.deref-in-loop-part.result.now c.deref.result.now (sym c.is_told.ensures.told ∙ c.if-not-is_told.false));
       at_most = omega (arith, length-append seen (x ∷ []), i.at_most);
@@ -39,7 +39,7 @@ loop-part-preserved c =
 
 pub returns : goal.returns
 returns c = record {
-  parts = λ level n ss asked some most all.
+  parts = λ o n ss some most all.
       let i = c.loop-part.invariant in
       let seen = c.loop-part.yielded in
       let rest = c.loop-part.part-iterator.rest in
@@ -51,6 +51,6 @@ returns c = record {
         some = i.some (omega (arith, end, both, none, as_long, some));
         at_most = omega (arith, i.at_most, end, both, none, as_long, most);
         distinct = i.distinct;
-        told = (i.told level n ss all).1;
+        told = (i.told o n ss all).1;
       };
 }

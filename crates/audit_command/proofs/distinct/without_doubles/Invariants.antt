@@ -1,6 +1,6 @@
 use Rattle.std.proofs.Common.{◌≡◌, ℕ, ◌≤◌, ◌<◌, ◌++◌, List, length}
 use Rattle.session_log.specs.Text.{ClientSession}
-use Rattle.judging.specs.declared.level.Level.{Level}
+use Rattle.audit_command.specs.declared.options.AuditOptions.{AuditOptions}
 use Rattle.audit_command.specs.Audited.{AreToldParts}
 use Rattle.audit_command.specs.Distinct.{AreDistinct}
 use Rattle.audit_command.proofs.distinct.without_doubles.Given as goal
@@ -8,8 +8,8 @@ use Rattle.audit_command.proofs.distinct.without_doubles.Given as goal
 abbrev pub invariant-loop-part : goal.invariant-loop-part
 invariant-loop-part l = record {
   whole : l.yielded ++ l.part-iterator.rest.items ≡ l.fn.parts.items;
-  told : (level : Level) (n : ℕ) (ss : List ClientSession) → AreToldParts level n ss l.fn.parts.items
-      → AreToldParts level n ss l.part-iterator.rest.items × AreToldParts level n ss l.kept.items;
+  told : (o : AuditOptions) (n : ℕ) (ss : List ClientSession) → AreToldParts o n ss l.fn.parts.items
+      → AreToldParts o n ss l.part-iterator.rest.items × AreToldParts o n ss l.kept.items;
   distinct : AreDistinct l.kept.items;
   some : 0 < length l.yielded → 0 < length l.kept.items;
   at_most : length l.kept.items ≤ length l.yielded;

@@ -5,6 +5,7 @@ use Rattle.session_log.specs.Version.{first_line}
 use Rattle.log_lines.specs.Rows.{op_counts, op_counts_in}
 use Rattle.log_lines.proofs.Own.{own_fits}
 use Rattle.judging.specs.Made.{IsChosen}
+use Rattle.audit_command.specs.Why.{table_of}
 use Rattle.audit_command.proofs.explaining.places_of.Goals as goal
 
 pub returns-in-None : goal.returns-in-None
@@ -16,4 +17,5 @@ returns-in-None c =
       fits = IfOk-weaker c.own.result _ _
           (λ places e. ap op_counts e ∙ own_fits (first_line c.args.version) known ∙ ap op_counts_in (sym all))
           c.own.ensures.own;
+      rows = IfOk-weaker c.own.result _ _ (λ places e. e ∙ ap (table_of (first_line c.args.version) known) (sym c.in-None.is)) c.own.ensures.own;
     }

@@ -14,15 +14,15 @@ pub returns : goal.returns
 returns g c = record {
   told = λ ss legal sound e first.
       let n = first_line c.args.log.now.version in
-      let level = c.args.options.now.means.level in
-      let part = c.in_ok-told_part.field-0 in
+      let o = c.args.options.now in
+      let part = c.in_ok-first.first in
       let one = c.in_ok-push.ensures.items ∙ ap (λ l. l ++ part ∷ []) c.new-told.ensures.items in
-      let told = subst (AreToldParts level n ss) (sym one) (c.in_ok-told_part.ensures.told ss e first, tt) in
-      let sorted = c.in_ok-put_least_first.ensures.told level n ss (c.in_ok-add_parts.ensures.told ss e (c.in_ok-more.ensures.told ss legal sound e) told) in
+      let told = subst (AreToldParts o n ss) (sym one) (c.in_ok-first.ensures.told ss e first, tt) in
+      let sorted = c.in_ok-put_least_first.ensures.told o n ss (c.in_ok-add_parts.ensures.told ss e (c.in_ok-more.ensures.told ss legal sound e) told) in
       let grown = c.in_ok-add_parts.ensures.more in
       let few = c.in_ok-add_parts.ensures.at_most in
       let as_many = c.in_ok-put_least_first.ensures.as_many in
-      c.without_doubles.ensures.parts level n ss c.args.options.now.faults
+      c.without_doubles.ensures.parts o n ss
       (omega (arith, ap length one, grown, as_many))
       (omega (arith, ap length one, few, as_many, c.in_ok-more.ensures.at_most, c.saturating_sub-count.ensures))
       sorted;

@@ -14,8 +14,8 @@ dead_items-requires-clause-clean c = unpruned_clean c.args.log.now.history.now c
 pub dead_items-requires-clause-ledger : goal.dead_items-requires-clause-ledger
 dead_items-requires-clause-ledger c = dead_ledger c.args.log.now.history.now c.args.ledger.now c.requires.dead
 
-pub soon_crossed-requires : goal.soon_crossed-requires
-soon_crossed-requires c = record { clean = unpruned_clean c.args.log.now.history.now c.requires.dead.poly c.committed-invariant.ensures.well_formed c.requires.dead.unpruned }
+pub crossed_reads-requires : goal.crossed_reads-requires
+crossed_reads-requires c = record { clean = unpruned_clean c.args.log.now.history.now c.requires.dead.poly c.committed-invariant.ensures.well_formed c.requires.dead.unpruned }
 
 pub written_dead-requires-clause-items : goal.written_dead-requires-clause-items
 written_dead-requires-clause-items c =
@@ -31,6 +31,6 @@ written_dead-requires-clause-items c =
 pub returns : goal.returns
 returns c = record {
   written = IfOk-weaker c.written_dead.result _ _
-      (λ made e. dead_written c.args.format c.args.log.now c.in_ok-found.found c.in_ok-items.items.items c.deref.result.now made.items c.in_ok-found.ensures.crossed c.in_ok-items.ensures.told c.deref.ensures.value e)
+      (λ made e. dead_written c.args.format c.args.log.now c.in_ok-found.found c.in_ok-items.items.items c.deref.result.now made.items c.in_ok-found.ensures.answer c.in_ok-items.ensures.told c.deref.ensures.value e)
       c.written_dead.ensures.text;
 }

@@ -11,8 +11,8 @@ open_chains-requires-clause-clean c = unpruned_clean c.args.log.now.history.now 
 pub tree_items-requires-clause-clean : goal.tree_items-requires-clause-clean
 tree_items-requires-clause-clean c = unpruned_clean c.args.log.now.history.now c.requires.left.poly c.committed-invariant.ensures.well_formed c.requires.left.unpruned
 
-pub soon_crossed-requires : goal.soon_crossed-requires
-soon_crossed-requires c = record { clean = unpruned_clean c.args.log.now.history.now c.requires.left.poly c.committed-invariant.ensures.well_formed c.requires.left.unpruned }
+pub crossed_reads-requires : goal.crossed_reads-requires
+crossed_reads-requires c = record { clean = unpruned_clean c.args.log.now.history.now c.requires.left.poly c.committed-invariant.ensures.well_formed c.requires.left.unpruned }
 
 pub written_tree-requires-clause-items : goal.written_tree-requires-clause-items
 written_tree-requires-clause-items c =
@@ -28,6 +28,6 @@ written_tree-requires-clause-items c =
 pub returns : goal.returns
 returns c = record {
   written = IfOk-weaker c.written_tree.result _ _
-      (λ made e. tree_written c.args.reduced.now.poly.choices c.args.tree.now c.args.format c.args.log.now c.in_ok-found.found c.in_ok-items.items.items c.deref.result.now made.items c.in_ok-found.ensures.crossed c.in_ok-items.ensures.told c.deref.ensures.value e)
+      (λ made e. tree_written c.args.reduced.now.poly.choices c.args.tree.now c.args.format c.args.log.now c.in_ok-found.found c.in_ok-items.items.items c.deref.result.now made.items c.in_ok-found.ensures.answer c.in_ok-items.ensures.told c.deref.ensures.value e)
       c.written_tree.ensures.text;
 }

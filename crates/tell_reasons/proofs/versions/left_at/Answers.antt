@@ -1,6 +1,5 @@
 use Rattle.std.proofs.Common.{ap, ◌∙◌}
-use Rattle.tell_reasons.specs.Anomalies.{last_position}
-use Rattle.tell_reasons.specs.Events.{is_write_in}
+use Rattle.tell_reasons.specs.Events.{is_write_in, last_position}
 use Rattle.tell_reasons.proofs.Ops.{within_ops}
 use Rattle.tell_reasons.proofs.versions.left_at.Goals as goal
 

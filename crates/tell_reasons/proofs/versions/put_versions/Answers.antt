@@ -1,8 +1,9 @@
+use Rattle.std.proofs.Common.{◌++◌}
 use Rattle.std.specs.Prelude.{codes}
+use Rattle.std.proofs.lemmas.Result.{on_ok_weaker}
 use Rattle.tell_reasons.specs.Reasons.{key_bytes}
 use Rattle.tell_reasons.specs.Versions.{version_text}
-use Rattle.tell_reasons.proofs.Texts.{five_joined}
-use Rattle.std.proofs.lemmas.Result.{on_ok_weaker}
+use Rattle.tell_reasons.proofs.Texts.{four_joined}
 use Rattle.tell_reasons.proofs.versions.put_versions.Goals as goal
 
 pub returns : goal.returns
@@ -15,15 +16,13 @@ returns c =
     let first = version_text log order.key order.first in
     let before = codes ", comes before " in
     let second = version_text log order.key order.second in
-    let one = c.put_key.new.out.items in
-    let two = c.extend_from_slice.new.self.items in
-    let three = c.put_version.new.out.items in
-    let four = c.extend_from_slice-2.new.self.items in
+    let one = c.put_words.new.out.items in
+    let two = c.put_version.new.out.items in
+    let three = c.put_words-2.new.out.items in
     let new = c.put_version-2.new.out.items in
     record {
       text =
           on_ok_weaker c.put_version-2.result
-          (λ e. five_joined old key colon first before second one two three four new c.in_ok-put_key.ensures.text
-          c.in_ok-extend_from_slice.ensures.items c.in_ok-put_version.ensures.text c.in_ok-extend_from_slice-2.ensures.items e)
+          (λ e. four_joined old (key ++ colon) first before second one two three new c.in_ok-put_words.ensures.text c.in_ok-put_version.ensures.text c.in_ok-put_words-2.ensures.text e)
           c.put_version-2.ensures.text;
     }

@@ -1,0 +1,14 @@
+use Rattle.std.proofs.Common.{sym, subst}
+use Rattle.std.proofs.lemmas.Result.{IfOk-weaker}
+use Rattle.deciding.specs.Decides.{IsDecided}
+use Rattle.audit_command.proofs.explaining.text_of_decision.Goals as goal
+
+pub explain_placed-requires : goal.explain_placed-requires
+explain_placed-requires c = record { decided = subst (λ ss. IsDecided ss c.args.decision.now) (sym c.in_ok-log.ensures.history) c.requires.decided }
+
+pub returns : goal.returns
+returns c =
+    let made = c.in_ok-log.ensures in
+    record {
+      explained = IfOk-weaker c.explain_placed.result _ _ (λ text h. (c.args.decision.now, c.requires.decided, record { log = c.in_ok-log.log; sessions = made.history; places = made.places; why = h })) c.explain_placed.ensures.why;
+    }

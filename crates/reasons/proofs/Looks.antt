@@ -1,0 +1,51 @@
+-- How often a search for crossed reads looks at what is read, read by read.
+use Rattle.std.proofs.Common.{◌≡◌, ℕ, min, ◌+◌, ◌-◌, ◌*◌, ◌<◌, List, [], ◌∷◌, length, get_or, refl, sym, ap, ◌∙◌, subst, arith}
+use Rattle.std.specs.Prelude.{map}
+use Rattle.std.specs.List.{sum_by, AllByRecursion, range_with_len}
+use Rattle.std.proofs.lemmas.List.{length-map}
+use Rattle.std.proofs.lemmas.List.Sums.{sum_by-cons, sum_by_push}
+use Rattle.serializability.specs.Log.{Log}
+use Rattle.serializability.proofs.Places.{each_of_map}
+use Rattle.reach_laws.proofs.Walks.{each_contained}
+use Rattle.session_history.specs.Tables.{sources_of, writers_in}
+use Rattle.session_history.specs.declared.reads.ReadFrom.{ReadFrom}
+use Rattle.write_chains.proofs.Gathered.{range_push}
+use Rattle.reasons.specs.Crossed.{looks_at, looks}
+use Rattle.reasons.proofs.Pairs.{Read, reads_of, pair_of}
+
+-- at one read, where so many keys are read
+abbrev pub looks_by : Log → ℕ → ReadFrom → ℕ
+looks_by log count read = count * (length (writers_in log read.key) + 1)
+
+sum_mapped : {X Y : Type 0} (f : X → Y) (g : Y → ℕ) (xs : List X) → sum_by (λ x. g (f x)) xs ≡ sum_by g (map f xs)
+sum_mapped f g [] = refl
+sum_mapped f g (x ∷ xs) = sum_by-cons (λ x. g (f x)) x xs ∙ ap (λ n. g (f x) + n) (sum_mapped f g xs) ∙ sym (sum_by-cons g (f x) (map f xs))
+
+pub looks_all : (log : Log) (r : ℕ) (reads : List ReadFrom) → map pair_of reads ≡ sources_of log r → sum_by (looks_by log (length reads)) reads ≡ looks_at log r
+looks_all log r reads e =
+    let count : length reads ≡ length (sources_of log r) = sym (length-map reads pair_of) ∙ ap length e in
+    let weigh : ℕ → ℕ × ℕ → ℕ = λ n p. n * (length (writers_in log p.0) + 1) in
+    sum_mapped pair_of (weigh (length reads)) reads ∙ ap (sum_by (weigh (length reads))) e ∙ ap (λ n. sum_by (weigh n) (sources_of log r)) count
+
+-- its key is one of the log's
+pub key_read : (log : Log) (r : ℕ) (reads : List ReadFrom) → map pair_of reads ≡ sources_of log r → (i : ℕ) (read : ReadFrom) → i < length reads → read ≡ get_or reads i read → read.key < log.keys
+key_read log r reads e i read lt is =
+    (each_contained (λ (read : ReadFrom). Read log r (pair_of read)) reads read (each_of_map (Read log r) pair_of reads (subst (AllByRecursion (Read log r)) (sym e) (reads_of log r))) (i, lt, sym is)).0
+
+-- the nodes below this one
+abbrev pub looks_below : Log → ℕ → ℕ
+looks_below log r = sum_by (looks_at log) (range_with_len 1 (r - 1))
+
+pub looks_further : (log : Log) (r : ℕ) → 0 < r → looks_below log (r + 1) ≡ looks_below log r + looks_at log r
+looks_further log r low =
+    let count : r + 1 - 1 ≡ (r - 1) + 1 = omega (arith, low) in
+    let last : 1 + (r - 1) ≡ r = omega (arith, low) in
+    ap (λ n. sum_by (looks_at log) (range_with_len 1 n)) count ∙ ap (sum_by (looks_at log)) (range_push 1 (r - 1))
+    ∙ sum_by_push (looks_at log) (range_with_len 1 (r - 1)) (1 + (r - 1)) ∙ ap (λ n. looks_below log r + looks_at log n) last
+
+-- ---- up to a greatest number
+pub at_most_more : (m before sum more looks p product new : ℕ) → looks ≡ min (before + sum) m → product ≡ min p m → new ≡ min (looks + product) m → more ≡ sum + p → new ≡ min (before + more) m
+at_most_more m before sum more looks p product new a b c e = omega arith
+
+pub at_most_next : (m below looks at new next : ℕ) → looks ≡ min below m → new ≡ min (looks + at) m → next ≡ below + at → new ≡ min next m
+at_most_next m below looks at new next a b e = omega arith

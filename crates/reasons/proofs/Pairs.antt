@@ -1,0 +1,109 @@
+-- What the readers of a key read, one by one.
+use Rattle.std.proofs.Common.{◌≡◌, ℕ, zero, suc, ◌+◌, ◌<◌, ◌≤◌, List, [], ◌∷◌, ◌++◌, Option, None, Some, refl, sym, ap, ◌∙◌, subst, inl, inr, arith}
+use Rattle.std.specs.Prelude.{map}
+use Rattle.std.specs.List.{Contains, cons_option, filter_map, AllByRecursion}
+use Rattle.std.specs.Option.{option_map}
+use Rattle.std.proofs.lemmas.Bool.{cases_eq}
+use Rattle.std.proofs.lemmas.List.{get_or-map, length-map}
+use Rattle.std.proofs.lemmas.List.Elements.{Contains-append_left, Contains-append_right, Contains-append_cases}
+use Rattle.serializability.specs.Log.{Log}
+use Rattle.serializability.specs.Reads.{IsClean}
+use Rattle.serializability.specs.Polygraph.{source, all_keys}
+use Rattle.serializability.proofs.Sources.{source_is}
+use Rattle.serializability.proofs.Places.{each_from_range}
+use Rattle.reach_laws.proofs.Walks.{each_contained}
+use Rattle.session_history.specs.Tables.{sources_of, pair_at, pairs}
+use Rattle.session_history.specs.declared.reads.ReadFrom.{ReadFrom}
+use Rattle.reasons.specs.declared.crossings.Pair.{Pair}
+use Rattle.reasons.specs.Squares.{ReadsBoth, pair, pairs_by, ArePairs}
+
+-- a key that is read is one of the log's
+pub key_within : (log : Log) → IsClean log → (r x u : ℕ) → 0 < r → r ≤ log.nodes → source log r x ≡ Some u → x < log.keys
+key_within log clean r x u low high from = let f = source_is log clean r x u low high from in clean.keys r x f.w f.before f.reads
+
+-- ---- among what a node reads
+there : {X : Type 0} (y : X) (xs : List X) (x : X) → Contains xs x → Contains (y ∷ xs) x
+there y xs x c = (suc c.0, omega (arith, c.1), c.2)
+
+one_there : (o : Option (ℕ × ℕ)) (ps : List (ℕ × ℕ)) (p : ℕ × ℕ) → Contains ps p → Contains (cons_option o ps) p
+one_there None ps p c = c
+one_there (Some q) ps p c = there q ps p c
+
+one_here : (x w : ℕ) (o : Option ℕ) (ps : List (ℕ × ℕ)) → o ≡ Some w → Contains {X = ℕ × ℕ} (cons_option (option_map (λ w. (x, w)) o) ps) (x, w)
+one_here x w None ps e = cc
+one_here x w (Some y) ps e = let same : y ≡ w = cc in (0, omega arith, ap (λ n. (x, n)) same)
+
+among : (g : ℕ → Option ℕ) (a n x w : ℕ) → a ≤ x → x < a + n → g x ≡ Some w → Contains {X = ℕ × ℕ} (pairs g a n) (x, w)
+among g a zero x w low high e = absurd (omega arith)
+among g a (suc n) x w low high e =
+    let rest = pairs g (a + 1) n in
+    let In : ℕ → Type 0 = λ k. Contains {X = ℕ × ℕ} (cons_option (pair_at g k) rest) (x, w) in
+    elim (cases_eq a x) [
+      | inl same ↦ subst In (sym same) (one_here x w (g x) rest e)
+      | inr ne ↦ one_there (pair_at g a) rest (x, w) (among g (a + 1) n x w (omega (arith, ne)) (omega arith) e)
+    ]
+
+kept : (K : ℕ → Type 0) (g : ℕ → Option ℕ) (x : ℕ) (o : Option ℕ) (ps : List (ℕ × ℕ)) → K x → g x ≡ o → AllByRecursion {X = ℕ × ℕ} (λ p. K p.0 × (g p.0 ≡ Some p.1)) ps → AllByRecursion {X = ℕ × ℕ} (λ p. K p.0 × (g p.0 ≡ Some p.1)) (cons_option (option_map (λ w. (x, w)) o) ps)
+kept K g x None ps k e h = h
+kept K g x (Some w) ps k e h = ((k, e), h)
+
+each_read : (K : ℕ → Type 0) (g : ℕ → Option ℕ) (keys : List ℕ) → AllByRecursion K keys → AllByRecursion {X = ℕ × ℕ} (λ p. K p.0 × (g p.0 ≡ Some p.1)) (filter_map (pair_at g) keys)
+each_read K g [] h = tt
+each_read K g (x ∷ keys) h = kept K g x (g x) (filter_map (pair_at g) keys) h.0 refl (each_read K g keys h.1)
+
+-- a key of the log, and who wrote what is read of it
+abbrev pub Read : Log → ℕ → ℕ × ℕ → Type 0
+Read log r p = (p.0 < log.keys) × (source log r p.0 ≡ Some p.1)
+
+pub reads_of : (log : Log) (r : ℕ) → AllByRecursion (Read log r) (sources_of log r)
+reads_of log r = each_read (λ x. x < log.keys) (source log r) (all_keys log) (each_from_range (λ x. x < log.keys) 0 log.keys (λ x low high. omega (arith, high)))
+
+-- ---- the pairs of a node
+mapped : {X Y : Type 0} (f : X → Y) (xs : List X) (x : X) → Contains xs x → Contains (map f xs) (f x)
+mapped f xs x c = (c.0, omega (arith, c.1, length-map xs f), get_or-map f xs c.0 x (f x) c.1 ∙ ap f c.2)
+
+each_mapped : {X Y : Type 0} (f : X → Y) (P : Y → Type 0) (xs : List X) → AllByRecursion (λ x. P (f x)) xs → AllByRecursion P (map f xs)
+each_mapped f P [] h = tt
+each_mapped f P (x ∷ xs) h = (h.0, each_mapped f P xs h.1)
+
+each_both : (log : Log) (r x u : ℕ) → 0 < r → r ≤ log.nodes → source log r x ≡ Some u → (ps : List (ℕ × ℕ)) → AllByRecursion (Read log r) ps → AllByRecursion {X = ℕ × ℕ} (λ p. ReadsBoth log r x u p.0 p.1) ps
+each_both log r x u low high from [] h = tt
+each_both log r x u low high from (p ∷ ps) h = (record { low = low; high = high; first = from; second = h.0.1 }, each_both log r x u low high from ps h.1)
+
+abbrev pub pair_of : ReadFrom → ℕ × ℕ
+pair_of read = (read.key, read.source)
+
+by_reads : (r u : ℕ) (reads : List ReadFrom) → map (λ read. pair r u read.key read.source) reads ≡ pairs_by r u (map pair_of reads)
+by_reads r u [] = refl
+by_reads r u (read ∷ reads) = ap (λ l. pair r u read.key read.source ∷ l) (by_reads r u reads)
+
+pub pairs_read : (log : Log) (r u : ℕ) (reads : List ReadFrom) → map pair_of reads ≡ sources_of log r → map (λ read. pair r u read.key read.source) reads ≡ pairs_by r u (sources_of log r)
+pairs_read log r u reads e = by_reads r u reads ∙ ap (pairs_by r u) e
+
+-- ---- one node more
+pub node_further : (log : Log) → IsClean log → (x r u : ℕ) (old : List Pair) → 0 < r → r ≤ log.nodes → source log r x ≡ Some u → ArePairs log x r old → ArePairs log x (r + 1) (old ++ pairs_by r u (sources_of log r))
+node_further log clean x r u old low high from h =
+    let own = pairs_by r u (sources_of log r) in
+    let In : Pair → Type 0 = λ p. ReadsBoth log p.reader x p.version p.key p.source in
+    record {
+      sound = λ p c.
+          elim (Contains-append_cases old own p c) [
+            | inl c ↦ h.sound p c
+            | inr c ↦ each_contained In own p (each_mapped (λ (q : ℕ × ℕ). pair r u q.0 q.1) In (sources_of log r) (each_both log r x u low high from (sources_of log r) (reads_of log r))) c
+          ];
+      all = λ s v y w b lt.
+          elim (cases_eq s r) [
+            | inl same ↦ Contains-append_right old own (pair s v y w) (at s v y w b same)
+            | inr ne ↦ Contains-append_left old own (pair s v y w) (h.all s v y w b (omega (arith, ne, lt)))
+          ];
+    }
+  where
+    at : (s v y w : ℕ) → ReadsBoth log s x v y w → s ≡ r → Contains (pairs_by r u (sources_of log r)) (pair s v y w)
+    at s v y w b same =
+        let first : source log r x ≡ Some v = subst (λ n. source log n x ≡ Some v) same b.first in
+        let second : source log r y ≡ Some w = subst (λ n. source log n y ≡ Some w) same b.second in
+        let found : Some u ≡ Some v = sym from ∙ first in
+        let version : u ≡ v = cc in
+        let within = key_within log clean r y w low high second in
+        let is = mapped (λ (q : ℕ × ℕ). pair r u q.0 q.1) (sources_of log r) (y, w) (among (source log r) 0 log.keys y w (omega arith) (omega (arith, within)) second) in
+        subst (λ n. Contains (pairs_by r u (sources_of log r)) (pair n v y w)) (sym same) (subst (λ n. Contains (pairs_by r u (sources_of log r)) (pair r n y w)) version is)

@@ -1,0 +1,7 @@
+use Rattle.std.proofs.Common.{ℕ, take}
+use Rattle.std.specs.List.{Contains}
+use Rattle.reasons.specs.Squares.{NoSquareOf}
+use Rattle.reasons.proofs.crossings.square_at.Given as goal
+
+abbrev pub invariant-loop-version : goal.invariant-loop-version
+invariant-loop-version l = (u : ℕ) → Contains (take l.version-index l.writers) u → NoSquareOf l.pairs.items u

@@ -1,0 +1,45 @@
+-- What a line says, as a list of words.
+use Rattle.std.specs.Prelude.{ℕ, ◌<◌, ◌≤◌, List, [], ◌∷◌, ◌++◌, length, decimal}
+use Rattle.std.specs.List.{AllByRecursion}
+use Rattle.log_definitions.specs.Serial.{ops_of}
+use Rattle.log_definitions.specs.Numbers.{log_of}
+use Rattle.order_text.specs.Text.{name_text}
+use Rattle.log_lines.specs.declared.placed.PlacedHistory.{PlacedHistory}
+use Rattle.tell_reasons.specs.Reasons.{named, in_line, op_at, op_in_line, key_and_wid, wid_text}
+use Rattle.tell_reasons.specs.Reasons.{key_bytes, does_text, base_text}
+use Rattle.tell_reasons.specs.declared.words.Word.{Word}
+use Rattle.tell_reasons.specs.declared.words.Word.TheVariants.{Text, Number, Line, Name, Node, Key}
+use Rattle.tell_reasons.specs.declared.words.Word.TheVariants.{Operation, Identity, AtLine}
+use Rattle.tell_reasons.specs.declared.words.Word.TheVariants.{Does, Base}
+
+abbrev pub word_text : PlacedHistory → Word → List ℕ
+word_text log (Text text) = text.now
+word_text log (Number n) = decimal n
+word_text log (Line k) = in_line k
+word_text log (Name session place) = name_text (session, place)
+word_text log (Node v) = named log v
+word_text log (Key x) = key_bytes log.history.now x
+word_text log (Operation v i) = key_and_wid (op_at log.history.now v i)
+word_text log (Identity v i) = wid_text (op_at log.history.now v i)
+word_text log (AtLine v i) = op_in_line log v i
+word_text log (Does v does i) = does_text log v does.now i
+word_text log (Base base) = base_text base
+
+-- one behind the other
+abbrev pub words_text : PlacedHistory → List Word → List ℕ
+words_text log [] = []
+words_text log (word ∷ []) = word_text log word
+words_text log (word ∷ next ∷ more) = word_text log word ++ words_text log (next ∷ more)
+
+-- what a word names is there
+abbrev pub CanSay : PlacedHistory → Word → Type 0
+CanSay log (Node v) = v ≤ (log_of log.history.now).nodes
+CanSay log (Key x) = x < (log_of log.history.now).keys
+CanSay log (Operation v i) = i < length (ops_of log.history.now v)
+CanSay log (Identity v i) = i < length (ops_of log.history.now v)
+CanSay log (AtLine v i) = i < length (ops_of log.history.now v)
+CanSay log (Does v does i) = i < length (ops_of log.history.now v)
+CanSay log _ = Unit {0}
+
+abbrev pub CanSayAll : PlacedHistory → List Word → Type 0
+CanSayAll log words = AllByRecursion (CanSay log) words
