@@ -11,8 +11,8 @@ use Rattle.prune_ledger.specs.Pruned.{posts_in}
 use Rattle.prune_ledger.specs.declared.ledger.LedgerEntry.{LedgerEntry}
 use Rattle.tell_reasons.specs.declared.why.ChainOrder.{ChainOrder}
 use Rattle.tell_steps.specs.Steps.{IsOrder, Follows, turned}
-use Rattle.tell_steps.specs.Lines.{sides_of, LineRests}
-use Rattle.tell_steps.specs.Ledgers.{HasEnds, IsStep, AreSteps}
+use Rattle.tell_steps.specs.Lines.{sides_of, HasEnds, LineRests}
+use Rattle.tell_steps.specs.Ledgers.{IsStep, AreSteps}
 use Rattle.tell_steps.proofs.Places.{get_cases}
 
 -- ---- entries

@@ -372,7 +372,7 @@ dead_told ss kept steps line before new t put = record {
   needed = λ s lt. elim (t.needed s lt) [
     | inl n ↦ named_among before new s (λ x c. subst (λ l. Contains l x) (sym put.appended) (Contains-append_left before put.items x c)) n
     | inr n ↦
-        let same : line ≡ n.line = elim (In-from_Contains (line ∷ []) n.line n.among) [ inl e ↦ e | inr no ↦ absurd no ] in
+        let same : line ≡ n.line = elim (In-from_Contains (line ∷ []) n.line n.among) [ inl e ↦ e | inr other ↦ absurd other ] in
         let own = round_named ss steps [] (line ∷ []) s put.items n (subst (λ (l : Bor (List ℕ)). IsRoundTold ss steps [] l.now put.items) same put.kind) in
         named_among put.items new s (λ x c. subst (λ l. Contains l x) (sym put.appended) (Contains-append_right before put.items x c)) own
   ];

@@ -8,4 +8,6 @@ unreachable-requires c =
     no_chain (log_of c.args.chains.now) o.key o.first c.chains_of-others.result.now c.chains_of-others.ensures.chains c.in-None.ensures.none c.requires.order.one
 
 pub returns : goal.returns
-returns c = ?
+returns c =
+    let o = c.args.order.now in
+    record { chain = view_of (log_of c.args.chains.now) o.key o.first c.chains_of-others.result.now c.in-Some.place c.index-others-place.result c.chains_of-others.ensures.chains c.in-Some.ensures.within c.index-others-place.is c.in-Some.ensures.head }

@@ -1,6 +1,11 @@
-use Rattle.std.proofs.Common.{◌<◌, length, arith}
+use Rattle.std.proofs.Common.{◌-◌, length, refl}
+use Rattle.std.proofs.lemmas.Result.{on_ok_weaker}
 use Rattle.tell_steps.proofs.Telling.{round_told}
 use Rattle.tell_steps.proofs.lines.put_cycle.Goals as goal
 
 pub returns-clause-put : goal.returns-clause-put
-returns-clause-put c = ?
+returns-clause-put c =
+    let line = c.args.line.now in
+    on_ok_weaker c.put_edges.result
+    (λ put. round_told c.args.basis.now.history.now c.args.basis.now.grounds.now.kept.items c.args.decided.now line c.args.items.now.items c.extend_from_slice.new.self.items c.put_edges.new.items.items c.index-line-0.result (length line - 1)
+    c.requires.round c.index-line-0.is refl c.in_ok-extend_from_slice.ensures.items put) c.put_edges.ensures.put

@@ -1,4 +1,4 @@
-use Rattle.std.proofs.Common.{◌≡◌, ◌<◌, ◌≤◌, [], length, refl, sym, subst, ap, ◌∙◌, arith, Some}
+use Rattle.std.proofs.Common.{◌≡◌, ◌+◌, ◌<◌, ◌≤◌, [], length, refl, sym, subst, ap, ◌∙◌, arith, Some}
 use Rattle.std.specs.Prelude.{slice_get}
 use Rattle.std.specs.List.{All}
 use Rattle.std.proofs.lemmas.Option.{slice_get_read}
@@ -49,9 +49,9 @@ pub keep-requires-clause-order : goal.keep-requires-clause-order
 keep-requires-clause-order c =
     let kept = c.args.basis.now.grounds.now.kept.items in
     let i = c.loop-entry.entry in
-    let o = c.index-order.result.now in
+    let o = c.index.result.now in
     let below : i < length kept = omega (arith, c.loop-entry-test.true, c.requires.steps.count) in
-    subst (λ s. IsOrder (log_of s) o) (sym c.requires.chains) (subst (IsOrder (log_of c.args.basis.now.history.now)) (sym c.index-order.ensures) (c.requires.basis.grounds.orders i o below))
+    subst (λ s. IsOrder (log_of s) o) (sym c.requires.chains) (subst (IsOrder (log_of c.args.basis.now.history.now)) (sym c.index.ensures) (c.requires.basis.grounds.orders i o below))
 
 pub loop-entry-preserved : goal.loop-entry-preserved
 loop-entry-preserved c =
@@ -62,8 +62,8 @@ loop-entry-preserved c =
     let x = c.index-entries-entry.result in
     let here = post_at entries i x c.loop-entry-test.true c.index-entries-entry.is in
     let below : i < length kept = omega (arith, c.loop-entry-test.true, c.requires.steps.count) in
-    let o = c.index-order.result.now in
-    let at : slice_get kept i ≡ Some o = slice_get_read kept (length kept) i o refl below c.index-order.ensures in
+    let o = c.index.result.now in
+    let at : slice_get kept i ≡ Some o = slice_get_read kept (length kept) i o refl below c.index.ensures in
     record {
       answers = c.in_ok-put_step.ensures.answers;
       grounds = subst (λ s. AreGrounds s c.keep.new.grounds) c.requires.chains c.in_ok-keep.ensures.grounds;
