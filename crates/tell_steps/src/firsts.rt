@@ -103,11 +103,7 @@ pub fn no_grounds(alloc: Global, chains: &Chains<'_>) -> Result<Grounds, AllocEr
 }
 
 /// Keeps an order behind the others.
-pub fn keep(
-    grounds: &mut Grounds,
-    chains: &Chains<'_>,
-    order: ChainOrder,
-) -> Result<(), AllocError>
+pub fn keep(grounds: &mut Grounds, chains: &Chains<'_>, order: ChainOrder) -> Result<(), AllocError>
     requires grounds { AreGrounds chains.now grounds.old }
     requires order { IsOrder (log_of chains.now) order }
     ensures grounds { OnOk result (AreGrounds chains.now grounds.new) }
