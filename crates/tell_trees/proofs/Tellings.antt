@@ -67,20 +67,20 @@ module _ (s : StepsView) (orders : List ChainOrder) (nodes : List TreeNode) wher
 
   told_in : (vs : List Visit) (items : List Item) → AreVisitsTold s orders nodes vs items → (line : List ℕ) → In line (filter_map (line_of nodes) vs) → IsToldIn line items
   told_in [] items h line i = absurd i
-  told_in (v ∷ vs) items h line i = go (line_of nodes v) h.2.leaf i
+  told_in (v ∷ vs) items h line i = go (λ j. told_in vs h.1 h.3 line j) (line_of nodes v) h.2.leaf i
     where
       own : (x : Item) → Contains h.2.after x → Contains items x
       own x c = subst (λ l. Contains l x) (sym h.4) (Contains-append_left h.0 h.1 x (subst (λ l. Contains l x) (sym h.2.whole) (Contains-append_right (decision_items orders v.depth h.2.node.decision) h.2.after x c)))
 
-      later : In line (filter_map (line_of nodes) vs) → IsToldIn line items
-      later j =
-          let r = told_in vs h.1 h.3 line j in
+      later : (In line (filter_map (line_of nodes) vs) → IsToldIn line h.1) → In line (filter_map (line_of nodes) vs) → IsToldIn line items
+      later below j =
+          let r = below j in
           record { decided = r.decided; round = r.round; told = r.told; among = λ x c. subst (λ l. Contains l x) (sym h.4) (Contains-append_right h.0 h.1 x (r.among x c)) }
 
-      go : (o : Option (List ℕ)) → IsLeafTold s (decided_at orders nodes v.node) o h.2.after → In line (cons_option o (filter_map (line_of nodes) vs)) → IsToldIn line items
-      go None t j = later j
-      go (Some l) t (inl same) = record { decided = decided_at orders nodes v.node; round = h.2.after; told = subst (λ z. IsRoundTold s.sessions s.orders (decided_at orders nodes v.node) z h.2.after) same t; among = own }
-      go (Some l) t (inr j) = later j
+      go : (In line (filter_map (line_of nodes) vs) → IsToldIn line h.1) → (o : Option (List ℕ)) → IsLeafTold s (decided_at orders nodes v.node) o h.2.after → In line (cons_option o (filter_map (line_of nodes) vs)) → IsToldIn line items
+      go below None t j = later below j
+      go below (Some l) t (inl same) = record { decided = decided_at orders nodes v.node; round = h.2.after; told = subst (λ z. IsRoundTold s.sessions s.orders (decided_at orders nodes v.node) z h.2.after) same t; among = own }
+      go below (Some l) t (inr j) = later below j
 
   -- what a told line needs is named
   pub line_named : (vs : List Visit) (items : List Item) → AreVisitsTold s orders nodes vs items → (lines : List (Bor (List ℕ))) → map (λ (l : Bor (List ℕ)). l.now) lines ≡ filter_map (line_of nodes) vs → (k : ℕ) → IsNeededIn s.sessions s.orders lines k → IsNamed items k
