@@ -4,6 +4,7 @@ use Rattle.session_log.specs.declared.fault.Limit.{Limit}
 use Rattle.session_log.specs.declared.fault.Limit.TheVariants as limit
 use Rattle.session_log.specs.declared.fault.LogFault.{LogFault}
 use Rattle.session_log.specs.declared.fault.LogFault.TheVariants as fault
+use Rattle.fault_words.specs.Words.{IsSaidOf}
 
 abbrev pub limit_code : Limit → List ℕ
 limit_code limit.LogBytes = codes "L7 log-bytes"
@@ -47,7 +48,7 @@ place_of name (Some line) = name ++ 58 ∷ decimal line
 abbrev pub joined : List ℕ → List ℕ → List ℕ → List ℕ
 joined place words code = place ++ codes ": " ++ words ++ codes " (" ++ code ++ codes ")"
 
--- such a line, whatever the words are
+-- such a line, with what is said of the fault
 abbrev pub IsRefusalLine : List ℕ → LogFault → List ℕ → Type 0
-IsRefusalLine name f text = (words : List ℕ)
+IsRefusalLine name f text = (words : List ℕ) × IsSaidOf f words
     × (text ≡ joined (place_of name (line_of f)) words (code_of f))

@@ -4,8 +4,8 @@
 //! Called by `audit_command` and `cobra_poly`. It knows no history, and not which command ran.
 //!
 //! The fault and its line come from those who read the log. The words are made from that line, and
-//! from the lines before it, as far as it can be seen there what is wrong. No contract says what
-//! they are; the code and the line are those of the fault.
+//! from the lines before it, as far as it can be seen there what is wrong. They are those of the
+//! fault, but what is wrong with the form of a line is free; so is which earlier line is named.
 #![tactic(auto)]
 
 mod form;

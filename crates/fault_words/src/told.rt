@@ -1,9 +1,11 @@
 //! A fault in words.
 
-ghost use Rattle.std.specs.Prelude.{◌≡◌, ◌++◌, IfOk, codes};
+ghost use Rattle.std.specs.Prelude.{◌≡◌, ◌++◌, ℕ, IfOk, codes};
 ghost use Rattle.std.specs.String.{string_bytes};
 ghost use Rattle.fault_words.specs.Codes.{limit_code, code_of, line_of, place_of, joined};
 ghost use Rattle.fault_words.specs.Codes.{IsRefusalLine};
+ghost use Rattle.session_log.specs.declared.fault.LogFault.TheVariants.{OutsideTransaction};
+ghost use Rattle.fault_words.specs.Words.{Says, IsLimitSaid, IsSaidOf};
 
 use crate::form::{Number, Wrong, first_word, wrong_form};
 use crate::lines::{LogLine, earlier_line, line_at};
@@ -145,48 +147,57 @@ fn identity_of(line: &[u8]) -> Option<&[u8]> {
     Some(&words[blank + 1..])
 }
 
-/// What was said before, and where, as far as that is found.
+/// What is said of a thing, and the earlier line, as far as that is found.
 fn twice_words(
     alloc: Global,
     what: &str,
     said: &str,
     earlier: Option<usize>,
-) -> Result<String, AllocError> {
+) -> Result<String, AllocError>
+    ensures says { IfOk result (λ text. Says said.now (string_bytes text)) }
+{
     match earlier {
-        Some(line) => format!(in alloc; "{what} {said} before, in line {line}"),
-        None => format!(in alloc; "{what} {said} before"),
+        Some(line) => format!(in alloc; "{what}{said}, in line {line}"),
+        None => format!(in alloc; "{what}{said}"),
     }
 }
 
-fn session_twice_words(alloc: Global, log: &[u8], number: usize) -> Result<String, AllocError> {
+fn session_twice_words(alloc: Global, log: &[u8], number: usize) -> Result<String, AllocError>
+    ensures says { IfOk result (λ text. Says (codes " began before") (string_bytes text)) }
+{
     let Some(line) = line_at(log, number) else {
-        return twice_words(alloc, "this session", "began", None);
+        return twice_words(alloc, "this session", " began before", None);
     };
     let earlier = earlier_line(log, number, |bytes| bytes == line.bytes);
-    twice_words(alloc, "this session", "began", earlier)
+    twice_words(alloc, "this session", " began before", earlier)
 }
 
-fn write_twice_words(alloc: Global, log: &[u8], number: usize) -> Result<String, AllocError> {
+fn write_twice_words(alloc: Global, log: &[u8], number: usize) -> Result<String, AllocError>
+    ensures says { IfOk result (λ text. Says (codes " was written before") (string_bytes text)) }
+{
     let line = line_at(log, number);
     let Some(identity) = line.and_then(|line| identity_of(line.bytes)) else {
-        return twice_words(alloc, "this identity", "was written", None);
+        return twice_words(alloc, "this identity", " was written before", None);
     };
     let earlier = earlier_line(log, number, |bytes| identity_of(bytes) == Some(identity));
     let shown = quoted(alloc, identity)?;
     let what = format!(in alloc; "identity {shown}")?;
-    twice_words(alloc, &what, "was written", earlier)
+    twice_words(alloc, &what, " was written before", earlier)
 }
 
-fn outside_words(alloc: Global, log: &[u8], number: usize) -> Result<String, AllocError> {
-    let session = earlier_line(log, number, |bytes| bytes.starts_with(b"session"));
-    let words = match session {
-        Some(_) => "no transaction is open here: a `begin` is missing",
-        None => "the line stands before the first session",
-    };
-    String::from_str(alloc, words)
+fn outside_words(alloc: Global, log: &[u8], number: usize) -> Result<String, AllocError>
+    ensures said { (line : ℕ) → IfOk result (λ text.
+        IsSaidOf (OutsideTransaction line) (string_bytes text)) }
+{
+    match earlier_line(log, number, |bytes| bytes.starts_with(b"session")) {
+        Some(_) => String::from_str(alloc, "no transaction is open here: a `begin` is missing"),
+        None => String::from_str(alloc, "the line stands before the first session"),
+    }
 }
 
-fn limit_words(alloc: Global, log: &[u8], which: Limit) -> Result<String, AllocError> {
+fn limit_words(alloc: Global, log: &[u8], which: Limit) -> Result<String, AllocError>
+    ensures said { IfOk result (λ text. IsLimitSaid which (string_bytes text)) }
+{
     match which {
         Limit::LogBytes => {
             let most = if log.len() > MAX_LONG_LOG_BYTES {
@@ -210,28 +221,33 @@ fn limit_words(alloc: Global, log: &[u8], which: Limit) -> Result<String, AllocE
 }
 
 /// What is wrong with a log that has this fault, as a sentence without its end.
-pub fn words_of(alloc: Global, log: &[u8], fault: LogFault) -> Result<String, AllocError> {
-    let words = match fault {
-        LogFault::BadLine { line } => return bad_line_words(alloc, log, line),
-        LogFault::SessionTwice { line } => return session_twice_words(alloc, log, line),
-        LogFault::OutsideTransaction { line } => return outside_words(alloc, log, line),
-        LogFault::WriteTwice { line } => return write_twice_words(alloc, log, line),
-        LogFault::OverLimit { which } => return limit_words(alloc, log, which),
-        LogFault::OpenTransaction { .. } => {
-            "the transaction that begins here has no `commit`, `abort` or `unknown`"
-        }
-        LogFault::WriteZero { .. } => {
-            "identity 0 is that of the initial value, and no write can have it"
-        }
-        LogFault::UnknownNotLast { .. } => {
-            "the transaction stands behind one whose outcome is unknown: it needs a session of its own"
-        }
-        LogFault::EndsBeforeBegin { .. } => {
-            "the transaction ends at an earlier moment than it begins"
-        }
-        LogFault::Memory => "out of memory",
-    };
-    String::from_str(alloc, words)
+pub fn words_of(alloc: Global, log: &[u8], fault: LogFault) -> Result<String, AllocError>
+    ensures said { IfOk result (λ text. IsSaidOf fault (string_bytes text)) }
+{
+    match fault {
+        LogFault::BadLine { line } => bad_line_words(alloc, log, line),
+        LogFault::SessionTwice { line } => session_twice_words(alloc, log, line),
+        LogFault::OutsideTransaction { line } => outside_words(alloc, log, line),
+        LogFault::WriteTwice { line } => write_twice_words(alloc, log, line),
+        LogFault::OverLimit { which } => limit_words(alloc, log, which),
+        LogFault::OpenTransaction { .. } => String::from_str(
+            alloc,
+            "the transaction that begins here has no `commit`, `abort` or `unknown`",
+        ),
+        LogFault::WriteZero { .. } => String::from_str(
+            alloc,
+            "identity 0 is that of the initial value, and no write can have it",
+        ),
+        LogFault::UnknownNotLast { .. } => String::from_str(
+            alloc,
+            "the transaction stands behind one whose outcome is unknown: it needs a session of its own",
+        ),
+        LogFault::EndsBeforeBegin { .. } => String::from_str(
+            alloc,
+            "the transaction ends at an earlier moment than it begins",
+        ),
+        LogFault::Memory => String::from_str(alloc, "out of memory"),
+    }
 }
 
 /// The name of a log, with the line behind it where there is one.
