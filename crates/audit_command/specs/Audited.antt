@@ -71,7 +71,7 @@ pub record IsPartTold (o : AuditOptions) (n : ℕ) (ss : List ClientSession) (p 
     : Type 0 where
   pub part : IsToldPart o.means.level ss p.refuted
   pub txns : p.txns.items ≡ told_by p.refuted.flags n (resolved ss)
-  pub why : IsWhyWhere o.explain o.means.level n (resolved ss) p.refuted p.why.items
+  pub why : IsWhyWhere o.explain o.means n (resolved ss) p.refuted p.why.items
 
 abbrev pub AreToldParts : AuditOptions → ℕ → List ClientSession → List ToldPart → Type 0
 AreToldParts o n ss parts = AllByRecursion (IsPartTold o n ss) parts

@@ -14,6 +14,7 @@ use Rattle.isolation.specs.declared.level.Isolation.TheVariants.{StrictSnapshot,
 use Rattle.audit_command.specs.declared.told.ToldTxn.{ToldTxn}
 use Rattle.audit_command.specs.declared.told.ToldPart.{ToldPart}
 use Rattle.audit_command.specs.declared.told.Word.{Word}
+use Rattle.audit_command.specs.declared.told.Word.TheVariants as word
 use Rattle.audit_command.specs.declared.told.Answer.{Answer}
 use Rattle.audit_command.specs.declared.told.Answer.TheVariants as answer
 use Rattle.audit_command.specs.declared.told.Totals.{Totals}
@@ -136,22 +137,30 @@ unfoldable pub without_text : Option Word → List ℕ
 without_text None = []
 without_text (Some word) = codes "the whole log without moments: " ++ word_text word ++ 10 ∷ []
 
--- a line with the name of a level, and whether it was kept
+-- the name of a level, and whether it was kept
+unfoldable pub kept_line : Isolation → Word → List ℕ
+kept_line level word = codes "the whole log: " ++ level_title level ++ codes " " ++ kept_text word
+
+-- a line of these
 unfoldable pub level_row : Isolation → Option Word → List ℕ
 level_row level None = []
-level_row level (Some word) = codes "the whole log: " ++ level_title level ++ codes " "
-    ++ kept_text word ++ 10 ∷ []
+level_row level (Some word) = kept_line level word ++ 10 ∷ []
 
--- the part that shows that the last level was not kept, where it is told
-abbrev pub shown_text : Option ToldPart → List ℕ
-shown_text None = []
-shown_text (Some p) = part_text p
+-- which part shows that a level was not kept: one that stands above, or this one
+unfoldable pub shown_text : Word → Option ToldPart → List ℕ
+shown_text word.NotSerializable None = codes ", as shown above\n"
+shown_text word.NotSerializable (Some p) = codes ", as this part shows\n" ++ part_text p
+shown_text _ _ = 10 ∷ []
+
+-- of snapshot isolation a line, and the part that shows that it was not kept
+unfoldable pub snapshot_rows : Option Word → Option ToldPart → List ℕ
+snapshot_rows None shown = []
+snapshot_rows (Some word) shown = kept_line Snapshot word ++ shown_text word shown
 
 -- what holds without moments and at weaker levels
 unfoldable pub weaker_text : Told → List ℕ
 weaker_text told = without_text told.without_moments
-    ++ level_row StrictSnapshot told.strict_snapshot ++ level_row Snapshot told.snapshot
-    ++ shown_text told.shown
+    ++ level_row StrictSnapshot told.strict_snapshot ++ snapshot_rows told.snapshot told.shown
 
 -- so many transactions has the first part that is told
 abbrev pub first_size : List ToldPart → ℕ

@@ -1,11 +1,18 @@
 -- Why a part has no serial order, in the names and the lines of the whole log.
-use Rattle.std.specs.Prelude.{◌≡◌, ◌⊎◌, ℕ, Bool, true, false, List, [], map, codes, Option, None, Some, Vec}
+use Rattle.std.specs.Prelude.{◌≡◌, ◌⊎◌, ◌<◌, ℕ, Bool, true, false, List, [], length, map, codes}
+use Rattle.std.specs.Prelude.{Option, None, Some, Vec}
 use Rattle.std.specs.declared.alloc.Global.{Global}
 use Rattle.session_log.specs.Text.{ClientSession, view}
+use Rattle.session_log.specs.Version.{first_line}
+use Rattle.session_log.specs.declared.fault.LogFault.{LogFault}
+use Rattle.session_log.specs.declared.version.Version.TheVariants.{One}
+use Rattle.log_definitions.specs.WellFormed.{log_lines, list_fault}
 use Rattle.log_parts.specs.Picked.{flags_view, picked, is_kept}
 use Rattle.log_lines.specs.Rows.{Table, own_places}
 use Rattle.part_places.specs.PartRows.{part_table}
-use Rattle.deciding.specs.Decides.{IsDecided}
+use Rattle.polygraph.specs.declared.fault.PolyFault.TheVariants.{TooManyChoices}
+use Rattle.reduction.specs.Outcome.{IsReduceFault}
+use Rattle.deciding.specs.Decides.{Decides}
 use Rattle.deciding.specs.declared.decision.Decision.{Decision}
 use Rattle.tell_decision.specs.Explained.{IsExplained}
 use Rattle.call_options.specs.declared.format.Format.TheVariants.{Text}
@@ -14,6 +21,8 @@ use Rattle.judging.specs.declared.judged.Finding.TheVariants as finding
 use Rattle.judging.specs.declared.judged.RefutedPart.{RefutedPart}
 use Rattle.judging.specs.declared.level.Level.{Level}
 use Rattle.judging.specs.declared.level.Level.TheVariants as level
+use Rattle.judging.specs.declared.means.JudgeMeans.{JudgeMeans}
+use Rattle.audit_command.specs.declared.explaining.TheConstants.{MANY_LINES}
 
 -- where the flagged transactions of a log stand, whose first session begins at line n; or all of them
 abbrev pub table_of : ℕ → List ClientSession → Option (Vec (Vec Bool Global) Global) → Table
@@ -21,26 +30,40 @@ table_of n known None = own_places n known
 table_of n known (Some flags) = part_table (is_kept known (picked (flags_view flags.items) known))
     (flags_view flags.items) n known
 
--- a decision about these sessions, and the text that explains it by this table
-abbrev pub Explains : List ClientSession → Table → List ℕ → Type 0
-Explains ss table text = (d : Decision) × IsDecided ss d × IsExplained Text table ss d text
+-- a decision about these sessions within the budget, and the text that explains it by this table
+abbrev pub Explains : ℕ → List ClientSession → Table → List ℕ → Type 0
+Explains budget ss table text = (d : Decision) × Decides budget ss d × IsExplained Text table ss d text
 
--- why a part of these sessions has no serial order; nothing, where it is too large to be told
-abbrev pub IsSerialWhy : ℕ → List ClientSession → RefutedPart → List ℕ → Type 0
-IsSerialWhy n known p text = (text ≡ [])
-    ⊎ Explains (map view p.part.items) (table_of n known p.flags) text
+-- a part of these sessions is too large to be told: they have more lines than any log, or the part
+-- has; or `check` takes no log of the part, since it breaks a limit or has too many choices
+pub data IsTooLarge (known part : List ClientSession) : Type 0 where
+  lines : MANY_LINES < length (log_lines known) → IsTooLarge known part
+  part_lines : MANY_LINES < length (log_lines part) → IsTooLarge known part
+  limit : (f : LogFault) → list_fault (first_line One) part ≡ Some f → IsTooLarge known part
+  choices : IsReduceFault part TooManyChoices → IsTooLarge known part
+
+-- why a part of these sessions has no serial order; nothing exactly where it is too large to be told
+abbrev pub IsSerialWhy : ℕ → ℕ → List ClientSession → RefutedPart → List ℕ → Type 0
+IsSerialWhy budget n known p text =
+    ((text ≡ []) × IsTooLarge known (map view p.part.items))
+    ⊎ Explains budget (map view p.part.items) (table_of n known p.flags) text
 
 -- the same by what was found; what a search shows that learns is not told
-abbrev pub IsWhyOf : Finding → ℕ → List ClientSession → RefutedPart → List ℕ → Type 0
-IsWhyOf finding.Formula n known p text = text ≡ codes "no order of them is left: a search shows it\n"
-IsWhyOf _ n known p text = IsSerialWhy n known p text
+abbrev pub IsWhyOf : Finding → ℕ → ℕ → List ClientSession → RefutedPart → List ℕ → Type 0
+IsWhyOf finding.Formula budget n known p text =
+    text ≡ codes "no order of them is left: a search shows it\n"
+IsWhyOf _ budget n known p text = IsSerialWhy budget n known p text
 
 -- why it has no order of a level; at that of snapshots the words are free
-abbrev pub IsWhy : Level → ℕ → List ClientSession → RefutedPart → List ℕ → Type 0
-IsWhy level.Serializable n known p text = IsWhyOf p.finding n known p text
-IsWhy level.Snapshot n known p text = Unit {0}
+abbrev pub IsWhyAt : Level → ℕ → ℕ → List ClientSession → RefutedPart → List ℕ → Type 0
+IsWhyAt level.Serializable budget n known p text = IsWhyOf p.finding budget n known p text
+IsWhyAt level.Snapshot budget n known p text = Unit {0}
+
+-- the same of the level that is judged
+abbrev pub IsWhy : JudgeMeans → ℕ → List ClientSession → RefutedPart → List ℕ → Type 0
+IsWhy m n known p text = IsWhyAt m.level m.deciding.budget n known p text
 
 -- where it is asked for
-abbrev pub IsWhyWhere : Bool → Level → ℕ → List ClientSession → RefutedPart → List ℕ → Type 0
-IsWhyWhere false l n known p text = text ≡ []
-IsWhyWhere true l n known p text = IsWhy l n known p text
+abbrev pub IsWhyWhere : Bool → JudgeMeans → ℕ → List ClientSession → RefutedPart → List ℕ → Type 0
+IsWhyWhere false m n known p text = text ≡ []
+IsWhyWhere true m n known p text = IsWhy m n known p text

@@ -1,14 +1,16 @@
 //! Why a part has no order, in lines, in the names and the lines of the whole log.
 
-ghost use Rattle.std.specs.Prelude.{◌≡◌, ◌+◌, ◌<◌, ◌^◌, length, map, IfOk, IfSome};
+ghost use Rattle.std.specs.Prelude.{◌≡◌, ◌+◌, ◌<◌, ◌^◌, length, map, IfOk, MatchOption};
 ghost use Rattle.std.specs.List.{flat_map, AllByRecursion};
 ghost use Rattle.session_log.specs.Text.{IsLegal, view, view_txn, txn_lines};
 ghost use Rattle.log_definitions.specs.WellFormed.{log_lines};
 ghost use Rattle.log_lines.specs.Rows.{Fits, rows_of};
 ghost use Rattle.session_log.specs.Version.{first_line};
-ghost use Rattle.deciding.specs.Decides.{IsDecided};
+ghost use Rattle.polygraph.specs.declared.fault.PolyFault.TheVariants.{TooManyChoices};
+ghost use Rattle.reduction.specs.Outcome.{IsReduceFault};
+ghost use Rattle.deciding.specs.Decides.{Decides};
 ghost use Rattle.judging.specs.Made.{IsMadeOf};
-ghost use Rattle.audit_command.specs.Why.{table_of, Explains, IsSerialWhy};
+ghost use Rattle.audit_command.specs.Why.{table_of, Explains, IsTooLarge, IsSerialWhy};
 
 use crate::places::{behind, sum};
 use call_options::Format;
@@ -85,17 +87,18 @@ pub fn places_of(
     }
 }
 
-/// Why a decision about a history stands, by where its transactions do.
+/// Why a decision about a history within a budget stands, by where its transactions do.
 fn text_of_decision(
     alloc: Global,
     history: &History,
     places: &LogPlaces,
     decision: &Decision,
+    means: &Means,
 ) -> Result<Vec<u8>, AllocError>
     requires fits { Fits history.now (rows_of places.now) }
-    requires decided { IsDecided history.now decision.now }
+    requires decided { Decides means.now.budget history.now decision.now }
     ensures explained { IfOk result (λ text.
-        Explains history.now (rows_of places.now) text.items) }
+        Explains means.now.budget history.now (rows_of places.now) text.items) }
 {
     let log = PlacedHistory::of(alloc, history, places)?;
     explain_placed(alloc, &log, Format::Text, decision)
@@ -111,11 +114,12 @@ fn text_of_history<R: Threads + Wait + Clock + Sync>(
     means: &Means,
 ) -> Result<Option<Vec<u8>>, AllocError>
     requires fits { Fits history.now (rows_of places.now) }
-    ensures explained { IfOk result (λ told. IfSome told (λ text.
-        Explains history.now (rows_of places.now) text.items)) }
+    ensures explained { IfOk result (λ told. MatchOption told
+        (IsReduceFault history.now TooManyChoices)
+        (λ text. Explains means.now.budget history.now (rows_of places.now) text.items)) }
 {
     match decide(rt, alloc, history, means, &OpenGate) {
-        Ok(decision) => Ok(Some(text_of_decision(alloc, history, places, &decision)?)),
+        Ok(decision) => Ok(Some(text_of_decision(alloc, history, places, &decision, means)?)),
         Err(PolyFault::TooManyChoices) => Ok(None),
         Err(PolyFault::Memory) => Err(AllocError),
     }
@@ -133,8 +137,9 @@ fn text_of_part<R: Threads + Wait + Clock + Sync>(
 ) -> Result<Option<Vec<u8>>, AllocError>
     requires legal { AllByRecursion IsLegal (map view refuted.now.part.items) }
     requires made { IsMadeOf (map view sessions.now) refuted.now }
-    ensures explained { IfOk result (λ told. IfSome told (λ text.
-        Explains (map view refuted.now.part.items)
+    ensures explained { IfOk result (λ told. MatchOption told
+        (IsTooLarge (map view sessions.now) (map view refuted.now.part.items))
+        (λ text. Explains means.now.budget (map view refuted.now.part.items)
         (table_of (first_line version) (map view sessions.now) refuted.now.flags) text.items)) }
 {
     if line_count(sessions)? > MANY_LINES || line_count(&refuted.part)? > MANY_LINES {
@@ -172,7 +177,8 @@ pub fn explain_serial<R: Threads + Wait + Clock + Sync>(
     requires legal { AllByRecursion IsLegal (map view refuted.now.part.items) }
     requires made { IsMadeOf (map view sessions.now) refuted.now }
     ensures why { IfOk result (λ told.
-        IsSerialWhy (first_line version) (map view sessions.now) refuted.now told.text.items) }
+        IsSerialWhy means.now.budget (first_line version) (map view sessions.now) refuted.now
+        told.text.items) }
 {
     match text_of_part(rt, alloc, version, sessions, refuted, means)? {
         Some(text) => {

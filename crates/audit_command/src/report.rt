@@ -7,7 +7,7 @@ ghost use Rattle.audit_command.specs.Report.{middle_text, without_text, part_siz
 ghost use Rattle.audit_command.specs.Report.{parts_text, first_size, report_text, too_few, heading_of};
 ghost use Rattle.audit_command.specs.Report.{listed, codes_where, behind_first, level_text, reason_line};
 ghost use Rattle.audit_command.specs.Report.{level_row, weaker_text, short_title, found_text};
-ghost use Rattle.audit_command.specs.Report.{shown_text};
+ghost use Rattle.audit_command.specs.Report.{kept_line, snapshot_rows, shown_text};
 
 use crate::codes::{code_number, finding_title, kept_text, verdict_text, word_of, word_text};
 use crate::lines::{put, put_count, put_line, put_lines, put_name, put_number};
@@ -270,6 +270,17 @@ fn put_without(out: &mut Vec<u8>, word: Option<Word>) -> Result<(), AllocError>
     }
 }
 
+/// Appends the name of a level, and whether it was kept.
+#[tactic(auto, unfolding(crate::specs::Report::kept_line))]
+fn put_kept(out: &mut Vec<u8>, level: Isolation, word: Word) -> Result<(), AllocError>
+    ensures put { OnOk result (out.new.items ≡ out.old.items ++ kept_line level word) }
+{
+    put(out, b"the whole log: ")?;
+    put(out, level.title().as_bytes())?;
+    put(out, b" ")?;
+    put(out, kept_text(word).as_bytes())
+}
+
 /// Appends a line with the name of a level, and whether it was kept, where that is told.
 #[tactic(auto, unfolding(crate::specs::Report::level_row))]
 fn put_level_row(out: &mut Vec<u8>, level: Isolation, word: Option<Word>) -> Result<(), AllocError>
@@ -278,22 +289,46 @@ fn put_level_row(out: &mut Vec<u8>, level: Isolation, word: Option<Word>) -> Res
     match word {
         None => Ok(()),
         Some(word) => {
-            put(out, b"the whole log: ")?;
-            put(out, level.title().as_bytes())?;
-            put(out, b" ")?;
-            put(out, kept_text(word).as_bytes())?;
+            put_kept(out, level, word)?;
             put(out, b"\n")
         }
     }
 }
 
-/// Appends the part that shows that the last level was not kept, where it is told.
-fn put_shown(out: &mut Vec<u8>, shown: &Option<ToldPart>) -> Result<(), AllocError>
-    ensures put { OnOk result (out.new.items ≡ out.old.items ++ shown_text shown.now) }
+/// Ends the line of a level, and appends the part that shows that it was not kept, unless one above
+/// does.
+#[tactic(auto, unfolding(crate::specs::Report::shown_text))]
+fn put_shown(out: &mut Vec<u8>, word: Word, shown: &Option<ToldPart>) -> Result<(), AllocError>
+    ensures put { OnOk result (out.new.items ≡ out.old.items ++ shown_text word shown.now) }
 {
-    match shown {
+    match word {
+        Word::Serializable | Word::Unknown => put(out, b"\n"),
+        Word::NotSerializable => match shown {
+            None => put(out, b", as shown above\n"),
+            Some(part) => {
+                put(out, b", as this part shows\n")?;
+                put_part(out, part)
+            }
+        },
+    }
+}
+
+/// Appends whether snapshot isolation was kept, where that is told, and the part that shows that it
+/// was not.
+#[tactic(auto, unfolding(crate::specs::Report::snapshot_rows))]
+fn put_snapshot_rows(
+    out: &mut Vec<u8>,
+    word: Option<Word>,
+    shown: &Option<ToldPart>,
+) -> Result<(), AllocError>
+    ensures put { OnOk result (out.new.items ≡ out.old.items ++ snapshot_rows word shown.now) }
+{
+    match word {
         None => Ok(()),
-        Some(part) => put_part(out, part),
+        Some(word) => {
+            put_kept(out, Isolation::Snapshot, word)?;
+            put_shown(out, word, shown)
+        }
     }
 }
 
@@ -304,8 +339,7 @@ fn put_weaker(out: &mut Vec<u8>, told: &Told) -> Result<(), AllocError>
 {
     put_without(out, told.without_moments)?;
     put_level_row(out, Isolation::StrictSnapshot, told.strict_snapshot)?;
-    put_level_row(out, Isolation::Snapshot, told.snapshot)?;
-    put_shown(out, &told.shown)
+    put_snapshot_rows(out, told.snapshot, &told.shown)
 }
 
 /// How many transactions the first part has.

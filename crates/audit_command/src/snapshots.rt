@@ -170,8 +170,8 @@ fn explain_order<R: Threads + Wait + Clock + Sync>(
 ) -> Result<Explained, AllocError>
     requires legal { AllByRecursion IsLegal (map view refuted.now.part.items) }
     requires made { IsMadeOf (map view sessions.now) refuted.now }
-    ensures why { IfOk result (λ told. IsWhyOf refuted.now.finding (first_line version)
-        (map view sessions.now) refuted.now told.text.items) }
+    ensures why { IfOk result (λ told. IsWhyOf refuted.now.finding means.now.budget
+        (first_line version) (map view sessions.now) refuted.now told.text.items) }
 {
     match refuted.finding {
         Finding::Formula => Ok(Explained {
@@ -203,7 +203,7 @@ pub fn explain_part<R: Threads + Wait + Clock + Sync>(
 ) -> Result<Explained, AllocError>
     requires legal { AllByRecursion IsLegal (map view refuted.now.part.items) }
     requires made { IsMadeOf (map view sessions.now) refuted.now }
-    ensures why { IfOk result (λ told. IsWhy means.now.level (first_line version)
+    ensures why { IfOk result (λ told. IsWhy means.now (first_line version)
         (map view sessions.now) refuted.now told.text.items) }
 {
     let deciding = &means.deciding;

@@ -1,10 +1,10 @@
 use Rattle.std.proofs.Common.{sym, subst}
 use Rattle.std.proofs.lemmas.Result.{IfOk-weaker}
-use Rattle.deciding.specs.Decides.{IsDecided}
+use Rattle.deciding.specs.Decides.{Decides}
 use Rattle.audit_command.proofs.explaining.text_of_decision.Goals as goal
 
 pub explain_placed-requires : goal.explain_placed-requires
-explain_placed-requires c = record { decided = subst (λ ss. IsDecided ss c.args.decision.now) (sym c.in_ok-log.ensures.history) c.requires.decided }
+explain_placed-requires c = record { decided = record { budget = c.args.means.now.budget; decides = subst (λ ss. Decides c.args.means.now.budget ss c.args.decision.now) (sym c.in_ok-log.ensures.history) c.requires.decided } }
 
 pub returns : goal.returns
 returns c =
