@@ -2,8 +2,7 @@
 use Rattle.std.specs.Prelude.{ℕ, List, codes, Option, None, Some}
 use Rattle.serializability.specs.declared.anomaly.Anomaly.{Anomaly}
 use Rattle.serializability.specs.declared.anomaly.Anomaly.TheVariants as anomaly
-use Rattle.serializability.specs.declared.anomaly.ReadAnomaly.{ReadAnomaly}
-use Rattle.serializability.specs.declared.anomaly.ReadAnomaly.TheVariants as read
+use Rattle.serializability.specs.Anomalies.{anomaly_number}
 use Rattle.cobra_answers.specs.Verdicts.{read_title}
 use Rattle.cobra_answers.specs.declared.status.Status.{Status}
 use Rattle.cobra_answers.specs.declared.status.Status.TheVariants as status
@@ -16,18 +15,6 @@ use Rattle.audit_command.specs.declared.told.Answer.{Answer}
 use Rattle.audit_command.specs.declared.told.Answer.TheVariants as answer
 
 -- the number behind the A of a code, or 0
-abbrev pub read_number : ReadAnomaly → ℕ
-read_number read.Unknown = 1
-read_number read.Aborted = 2
-read_number read.Intermediate = 3
-read_number read.OwnWriteMissed = 4
-read_number read.Future = 5
-read_number read.Split = 6
-
-abbrev pub anomaly_number : Anomaly → ℕ
-anomaly_number (anomaly.Read kind v op) = read_number kind
-anomaly_number (anomaly.LostUpdate x u a b) = 7
-
 abbrev pub code_number : Finding → ℕ
 code_number (finding.Anomaly a) = anomaly_number a
 code_number finding.Cycle = 8

@@ -1,7 +1,7 @@
 //! The words for what stands against a part, and for verdicts.
 
 ghost use Rattle.std.specs.Prelude.{◌≡◌};
-ghost use Rattle.audit_command.specs.Words.{read_number, anomaly_number, code_number};
+ghost use Rattle.audit_command.specs.Words.{code_number};
 ghost use Rattle.audit_command.specs.Words.{anomaly_title, finding_title, word_text, word_of};
 ghost use Rattle.audit_command.specs.Words.{kept_text, verdict_text};
 
@@ -9,36 +9,14 @@ use crate::told::{Answer, Word};
 use cobra_answers::read_title;
 use isolation::Isolation;
 use judging::Finding;
-use session_history::{Anomaly, ReadAnomaly};
-
-fn read_number(kind: ReadAnomaly) -> usize
-    ensures number { result ≡ read_number kind }
-{
-    match kind {
-        ReadAnomaly::Unknown => 1,
-        ReadAnomaly::Aborted => 2,
-        ReadAnomaly::Intermediate => 3,
-        ReadAnomaly::OwnWriteMissed => 4,
-        ReadAnomaly::Future => 5,
-        ReadAnomaly::Split => 6,
-    }
-}
-
-fn anomaly_number(anomaly: Anomaly) -> usize
-    ensures number { result ≡ anomaly_number anomaly }
-{
-    match anomaly {
-        Anomaly::Read { kind, .. } => read_number(kind),
-        Anomaly::LostUpdate { .. } => 7,
-    }
-}
+use session_history::Anomaly;
 
 /// The number of the code of a finding, 1 to 9; 0 where it has none.
 pub fn code_number(finding: Finding) -> usize
     ensures number { result ≡ code_number finding }
 {
     match finding {
-        Finding::Anomaly(anomaly) => anomaly_number(anomaly),
+        Finding::Anomaly(anomaly) => usize::from(anomaly.number()),
         Finding::Cycle => 8,
         Finding::Dead => 9,
         Finding::Refuted | Finding::Formula => 0,

@@ -10,7 +10,7 @@ use Rattle.serializability.specs.Replay.{ListsOnce}
 use Rattle.serializability.specs.Formula.{Cnf}
 use Rattle.serializability.specs.Decoded.{before, IsDecoded}
 use Rattle.serializability.proofs.Ranks.{rank}
-use Rattle.serializability.specs.Anomalies.{anomaly_of}
+use Rattle.serializability.specs.Anomalies.{anomaly_of, anomaly_number}
 use Rattle.reach_laws.specs.Reach.{IsCyclic}
 use Rattle.reach_laws.proofs.Walks.{cycle_from}
 use Rattle.chain_laws.specs.Chains.{chain_polygraph, chain_choices}
@@ -26,7 +26,7 @@ use Rattle.order_text.specs.Text.{order_text}
 use Rattle.cobra_formulas.specs.declared.basis.Basis.{Basis}
 use Rattle.cobra_formulas.specs.declared.basis.Basis.TheVariants.{Anomalous, Chains}
 use Rattle.cobra_answers.specs.declared.status.Status.{Status}
-use Rattle.cobra_formulas.specs.Formulas.{anomaly_number, IsReducedFormula, by_anomaly, by_cycle, by_pruning, by_choices, IsFormulaFrom, IsFormulaOf}
+use Rattle.cobra_formulas.specs.Formulas.{IsReducedFormula, by_anomaly, by_cycle, by_pruning, by_choices, IsFormulaFrom, IsFormulaOf}
 use Rattle.cobra_cli.specs.Commands.{IsEncoding, IsAnswerTo, named_by, IsOrderText, IsDecoding, model, unsatisfiable, unknown, IsCounting}
 use Rattle.cobra_cli.specs.Statistics.{stats_text}
 use Rattle.cobra_formulas.proofs.SameEdges.{cycle_among, known_among}

@@ -9,7 +9,7 @@ use Rattle.serializability.specs.Formula.{Cnf}
 use Rattle.serializability.specs.Decoded.{before, IsDecoded}
 use Rattle.serializability.specs.Pairs.{Known}
 use Rattle.serializability.specs.Plain.{plain, contradiction}
-use Rattle.serializability.specs.Anomalies.{anomaly_of}
+use Rattle.serializability.specs.Anomalies.{anomaly_of, anomaly_number}
 use Rattle.reach_laws.specs.Reach.{Graph}
 use Rattle.chain_laws.specs.Chains.{chain_polygraph, chain_choices}
 use Rattle.pruning_laws.specs.Forced.{Sides, edges_with, open_from, pruned}
@@ -38,7 +38,7 @@ use Rattle.order_cnf.specs.Left.{formula_of_rest}
 use Rattle.cobra_formulas.specs.declared.basis.Basis.{Basis}
 use Rattle.cobra_formulas.specs.declared.basis.Basis.TheVariants.{Anomalous, Chains}
 use Rattle.cobra_formulas.specs.declared.formula.Belonging.{Belonging}
-use Rattle.cobra_formulas.specs.Formulas.{anomaly_number, IsReducedWithin, IsReducedFault, IsReducedFormula, by_anomaly, by_cycle, by_pruning, by_choices, IsFaithful}
+use Rattle.cobra_formulas.specs.Formulas.{IsReducedWithin, IsReducedFault, IsReducedFormula, by_anomaly, by_cycle, by_pruning, by_choices, IsFaithful}
 use Rattle.cobra_formulas.proofs.SameEdges.{Among, cycle_among, with_among, forced_among, dead_among}
 
 -- the pairs of rows are what reaches what

@@ -3,16 +3,13 @@ use Rattle.std.specs.Prelude.{◌≡◌, ℕ, nat_lt, if◌then◌else◌, List,
 use Rattle.std.specs.Prelude.{true, false}
 use Rattle.session_log.specs.Text.{ClientSession}
 use Rattle.serializability.specs.declared.anomaly.Anomaly.{Anomaly}
-use Rattle.serializability.specs.declared.anomaly.Anomaly.TheVariants as anomaly
-use Rattle.serializability.specs.declared.anomaly.ReadAnomaly.{ReadAnomaly}
-use Rattle.serializability.specs.declared.anomaly.ReadAnomaly.TheVariants as read
 use Rattle.serializability.specs.Log.{Log}
 use Rattle.serializability.specs.Polygraph.{bipaths}
 use Rattle.serializability.specs.Formula.{Cnf, Satisfies}
 use Rattle.serializability.specs.Decoded.{before, IsDecoded}
 use Rattle.serializability.specs.Pairs.{Known}
 use Rattle.serializability.specs.Plain.{contradiction}
-use Rattle.serializability.specs.Anomalies.{anomaly_of}
+use Rattle.serializability.specs.Anomalies.{anomaly_of, anomaly_number}
 use Rattle.reach_laws.specs.Reach.{IsCyclic}
 use Rattle.chain_laws.specs.Chains.{chain_polygraph, chain_choices}
 use Rattle.pruning_laws.specs.Forced.{Sides, IsForced, IsDead, edges_with, open_from, pruned}
@@ -28,20 +25,6 @@ use Rattle.order_cnf.specs.Limits.{plain_fault, size_fault, IsFault}
 use Rattle.cobra_formulas.specs.declared.basis.Basis.{Basis}
 use Rattle.cobra_formulas.specs.declared.basis.Basis.TheVariants.{Anomalous, Bipaths, Chains}
 use Rattle.order_cnf.specs.declared.plain.TheConstants.{MAX_PLAIN_NODES}
-
--- the number that an anomaly is printed with; 8 is a cycle of what is known, and 9 that pruning
--- ends in a cycle
-abbrev pub read_number : ReadAnomaly → ℕ
-read_number read.Unknown = 1
-read_number read.Aborted = 2
-read_number read.Intermediate = 3
-read_number read.OwnWriteMissed = 4
-read_number read.Future = 5
-read_number read.Split = 6
-
-abbrev pub anomaly_number : Anomaly → ℕ
-anomaly_number (anomaly.Read kind node op) = read_number kind
-anomaly_number (anomaly.LostUpdate key source first second) = 7
 
 -- ---- with `--plain`
 

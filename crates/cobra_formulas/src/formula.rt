@@ -13,7 +13,7 @@ ghost use Rattle.cobra_formulas.specs.Formulas.{IsReducedFault, IsFaithful};
 ghost use Rattle.cobra_formulas.specs.Formulas.{IsFormulaFrom, IsFormulaFault};
 ghost use Rattle.order_cnf.specs.declared.plain.TheConstants.{MAX_PLAIN_NODES};
 
-use crate::basis::{Basis, KNOWN_CYCLE, PRUNED_CYCLE, anomaly_number};
+use crate::basis::{Basis, KNOWN_CYCLE, PRUNED_CYCLE};
 use anomalies::classify;
 use desk::gate::Gate;
 use desk::seat_no::Workers;
@@ -59,7 +59,7 @@ fn plain_of(alloc: Global, history: &History) -> Result<Belonging, CnfFault>
         return Err(CnfFault::TooManyForPlain);
     }
     match classify(alloc, history)? {
-        Some(anomaly) => contradicted(alloc, anomaly_number(anomaly)),
+        Some(anomaly) => contradicted(alloc, anomaly.number()),
         None => {
             let formula = plain_formula(alloc, history)?;
             let basis = Basis::Bipaths(formula.choices());
@@ -105,7 +105,7 @@ fn reduced_of<R: Threads + Wait + Clock + Sync, G: Gate>(
     ensures fault { IfErr result (IsReducedFault history.now) }
 {
     match reduce(rt, alloc, history, workers, gate)? {
-        Reduction::Anomalous(anomaly) => contradicted(alloc, anomaly_number(anomaly)),
+        Reduction::Anomalous(anomaly) => contradicted(alloc, anomaly.number()),
         Reduction::Cyclic(_) => contradicted(alloc, KNOWN_CYCLE),
         Reduction::Dead(_) => contradicted(alloc, PRUNED_CYCLE),
         Reduction::Open { choices, reduced } => of_left(alloc, history, choices, reduced),

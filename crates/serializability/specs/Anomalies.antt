@@ -115,3 +115,16 @@ lost_updates log = flat_map (λ x. flat_map (λ u. map (lost_update x u)
 unfoldable pub anomaly_of : Log → Option Anomaly
 anomaly_of log = option_or (first_some (map (anomaly_at log) (places log)))
     (first_some (map (λ a. Some a) (lost_updates log)))
+
+-- the number in its code
+abbrev pub read_number : ReadAnomaly → ℕ
+read_number read.Unknown = 1
+read_number read.Aborted = 2
+read_number read.Intermediate = 3
+read_number read.OwnWriteMissed = 4
+read_number read.Future = 5
+read_number read.Split = 6
+
+abbrev pub anomaly_number : Anomaly → ℕ
+anomaly_number (anomaly.Read kind v op) = read_number kind
+anomaly_number (anomaly.LostUpdate x u a b) = 7

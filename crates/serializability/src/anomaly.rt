@@ -1,5 +1,8 @@
 //! Anomalies: what no serial order explains.
 
+ghost use Rattle.std.specs.Prelude.{◌≡◌};
+ghost use Rattle.serializability.specs.Anomalies.{read_number, anomaly_number};
+
 use crate::node::NodeIx;
 
 /// What is wrong with a read. A read is external where its transaction wrote the key not before it.
@@ -20,6 +23,21 @@ pub enum ReadAnomaly {
     Split,
 }
 
+impl ReadAnomaly {
+    fn number(self) -> u8
+        ensures number { result ≡ read_number self }
+    {
+        match self {
+            ReadAnomaly::Unknown => 1,
+            ReadAnomaly::Aborted => 2,
+            ReadAnomaly::Intermediate => 3,
+            ReadAnomaly::OwnWriteMissed => 4,
+            ReadAnomaly::Future => 5,
+            ReadAnomaly::Split => 6,
+        }
+    }
+}
+
 /// Why a log has no serial order, by one read or by one key.
 #[derive(Clone, Copy, Debug, PartialEq, Eq)]
 pub enum Anomaly {
@@ -36,4 +54,16 @@ pub enum Anomaly {
         first: NodeIx,
         second: NodeIx,
     },
+}
+
+impl Anomaly {
+    /// The number in its code, 1 to 7.
+    pub fn number(self) -> u8
+        ensures number { result ≡ anomaly_number self }
+    {
+        match self {
+            Anomaly::Read { kind, .. } => kind.number(),
+            Anomaly::LostUpdate { .. } => 7,
+        }
+    }
 }

@@ -5,8 +5,8 @@ use Rattle.cobra_formulas.proofs.formula.reduced_of.Goals as goal
 pub returns-in-Anomalous-clause-made : goal.returns-in-Anomalous-clause-made
 returns-in-Anomalous-clause-made g c =
     let reported = rw c.in-Anomalous.is at c.in_ok-anomaly.ensures.anomaly in
-    contradicted_made c.args.history.now c.anomaly_number.result c.contradicted.result
-    (made_from_anomaly c.args.history.now c.in-Anomalous.anomaly c.anomaly_number.result (sym reported) c.anomaly_number.ensures.number)
+    contradicted_made c.args.history.now c.number.result c.contradicted.result
+    (made_from_anomaly c.args.history.now c.in-Anomalous.anomaly c.number.result (sym reported) c.number.ensures.number)
     c.contradicted.ensures.formula c.contradicted.ensures.basis
 
 pub returns-in-Cyclic-clause-made : goal.returns-in-Cyclic-clause-made
