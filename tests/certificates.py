@@ -127,19 +127,22 @@ class Answer:
 
     def below(self, middle):
         """Takes the part that breaks the weakest level, the lines of weaker levels, and that of what holds without moments, from the end of these."""
-        broken = 'the whole log: %s not kept' % list(WEAKER)[-1]
+        last = list(WEAKER)[-1]
+        broken = 'the whole log: %s not kept, as this part shows' % last
         if broken in middle[:-1]:
             place = middle.index(broken) + 1
             self.shown = Part(*middle[place:place + 2], middle[place + 2:])
             del middle[place:]
         for level in reversed(WEAKER):
-            found = re.fullmatch('the whole log: %s (kept|not kept|unknown)' % level, middle[-1]) if middle else None
+            found = re.fullmatch('the whole log: %s (kept|not kept|unknown)(, as .+)?' % level, middle[-1]) if middle else None
             if found:
                 middle.pop()
                 self.weaker[level] = found[1]
+                shows = ', as %s' % ('shown above' if self.shown is None else 'this part shows') if (level, found[1]) == (last, 'not kept') else None
+                must(found[2] == shows, 'what shows it: %r' % found[0])
         must(not self.weaker or 'snapshot isolation' in self.weaker, 'levels: %r' % self.weaker)
-        if middle and middle[-1].startswith('the whole log without moments: '):
-            self.without = middle.pop()[len('the whole log without moments: '):]
+        if middle and middle[-1].startswith('the whole log without real time: '):
+            self.without = middle.pop()[len('the whole log without real time: '):]
             must(self.without in STATUS and self.without != 'refused', 'without moments %r' % self.without)
 
     def refuted(self, middle, faults):

@@ -135,7 +135,7 @@ middle_text faults _ = []
 
 unfoldable pub without_text : Option Word → List ℕ
 without_text None = []
-without_text (Some word) = codes "the whole log without moments: " ++ word_text word ++ 10 ∷ []
+without_text (Some word) = codes "the whole log without real time: " ++ word_text word ++ 10 ∷ []
 
 -- the name of a level, and whether it was kept
 unfoldable pub kept_line : Isolation → Word → List ℕ

@@ -263,7 +263,7 @@ fn put_without(out: &mut Vec<u8>, word: Option<Word>) -> Result<(), AllocError>
     match word {
         None => Ok(()),
         Some(word) => {
-            put(out, b"the whole log without moments: ")?;
+            put(out, b"the whole log without real time: ")?;
             put(out, word_text(word).as_bytes())?;
             put(out, b"\n")
         }
