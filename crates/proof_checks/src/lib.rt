@@ -1,6 +1,7 @@
 //! Solvers' proofs that a formula cannot be satisfied, checked: the steps of an LRAT proof by their
 //! hints, those of a DRAT proof by unit propagation. What finds the clauses that a step follows
-//! from is not trusted: the crate `refutation` looks at each of them.
+//! from is not trusted: the crate `refutation` looks at each of them. A root of a DRAT proof, and a
+//! clause that a plain look at all clauses shows, are given to it; that they follow is proved here.
 //!
 //! Called by `refute_command`. It knows no log: its formula may be any.
 #![tactic(auto)]
