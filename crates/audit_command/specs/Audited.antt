@@ -9,6 +9,7 @@ use Rattle.session_log.specs.declared.fault.LogFault.{LogFault}
 use Rattle.log_definitions.specs.Unknown.{txns_in, is_committed, resolved}
 use Rattle.log_definitions.specs.Serial.{IsSerialOrder}
 use Rattle.long_log_definitions.specs.LongLog.{IsLongLog, IsLongLogFault}
+use Rattle.fault_words.specs.Words.{IsSaidOf}
 use Rattle.order_text.specs.Text.{order_text}
 use Rattle.call_options.specs.declared.report_form.ReportForm.{ReportForm}
 use Rattle.call_options.specs.declared.report_form.ReportForm.TheVariants.{Text, Json}
@@ -268,10 +269,10 @@ pub record IsAudited (o : AuditOptions) (log : List ℕ) (a : Audited) : Type 0 
   pub order : IsOrderFile o.means.level (seen o.no_moments sessions)
       (order_asked told.answer o.order) a.order
 
--- what is said of a refused log: nothing, or an object, in which the words are free
+-- what is said of a refused log: nothing, or an object with what is said of the fault
 abbrev pub IsRefusal : ReportForm → AuditOptions → LogFault → List ℕ → Type 0
 IsRefusal Text o f text = text ≡ []
-IsRefusal Json o f text = (words : List ℕ)
+IsRefusal Json o f text = (words : List ℕ) × IsSaidOf f words
     × (text ≡ refusal_object o.quiet f words o.version.now)
 
 -- memory was refused; or the log is no long log, with this fault, and that is said
