@@ -147,6 +147,17 @@ fn identity_of(line: &[u8]) -> Option<&[u8]> {
     Some(&words[blank + 1..])
 }
 
+/// What is said of a thing, and more.
+#[tactic(auto, using(std::proofs::Common::append_assoc))]
+fn said_of(alloc: Global, what: &str, said: &str, more: &str) -> Result<String, AllocError>
+    ensures words { IfOk result (λ text. string_bytes text ≡ what.now ++ said.now ++ more.now) }
+{
+    let mut words = String::from_str(alloc, what)?;
+    words.push_str(said)?;
+    words.push_str(more)?;
+    Ok(words)
+}
+
 /// What is said of a thing, and the earlier line, as far as that is found.
 fn twice_words(
     alloc: Global,
@@ -157,8 +168,8 @@ fn twice_words(
     ensures says { IfOk result (λ text. Says said.now (string_bytes text)) }
 {
     match earlier {
-        Some(line) => format!(in alloc; "{what}{said}, in line {line}"),
-        None => format!(in alloc; "{what}{said}"),
+        Some(line) => said_of(alloc, what, said, &format!(in alloc; ", in line {line}")?),
+        None => said_of(alloc, what, said, ""),
     }
 }
 
