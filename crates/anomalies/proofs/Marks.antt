@@ -8,7 +8,8 @@ use Rattle.serializability.specs.Log.{Log}
 use Rattle.serializability.specs.Anomalies.{event_anomaly}
 use Rattle.anomalies.specs.declared.reads.LastUse.{LastUse}
 use Rattle.anomalies.specs.declared.reads.Usage.{Usage}
-use Rattle.anomalies.specs.Usage.{key_of, IsUsage, used_by, used_after, AreBelow, AreMarked}
+use Rattle.serializability.specs.Events.{event_key}
+use Rattle.anomalies.specs.Usage.{IsUsage, used_by, used_after, AreBelow, AreMarked}
 use Rattle.anomalies.proofs.Usages.{usage_more, usage_other}
 
 -- ---- before the first operation
@@ -27,14 +28,14 @@ marked_none v marks h = grind (arith, none_used, nothing_done, still_below)
 
 -- ---- one operation further
 abbrev pub mark_of : ℕ → List (Option LastUse) → Event → LastUse
-mark_of v marks e = record { node = v; used = used_after (used_by v (get_or marks (key_of e) None)) e }
+mark_of v marks e = record { node = v; used = used_after (used_by v (get_or marks (event_key e) None)) e }
 
 own_mark : (v : ℕ) (u : Usage) → used_by v (Some (record { node = v; used = u })) ≡ Some u
 own_mark v u = cond-true (eqb v v) (Some u) None (eq-eqb v v refl)
 
-pub marked_more : (log : Log) (v : ℕ) (before behind : List Event) (e : Event) (marks : List (Option LastUse)) → AreMarked v before marks → key_of e < length marks → event_anomaly log v before e behind ≡ None → AreMarked v (before ++ e ∷ []) (set marks (key_of e) (Some (mark_of v marks e)))
+pub marked_more : (log : Log) (v : ℕ) (before behind : List Event) (e : Event) (marks : List (Option LastUse)) → AreMarked v before marks → event_key e < length marks → event_anomaly log v before e behind ≡ None → AreMarked v (before ++ e ∷ []) (set marks (event_key e) (Some (mark_of v marks e)))
 marked_more log v before behind e marks h lt none =
-    let k = key_of e in
+    let k = event_key e in
     let m = mark_of v marks e in
     record {
       usages = λ x in_marks. elim (cases_eq k x) [

@@ -21,12 +21,12 @@ use Rattle.log_definitions.proofs.Nodes.{each_op}
 use Rattle.log_definitions.proofs.Scanning.{rules_where_no_fault}
 use Rattle.log_definitions.proofs.Identities.{WriteOnce, once_resolved, WriteOnce-filter, apart_at, one_writer, Has_written, same_write}
 use Rattle.log_definitions.proofs.Numbered.{numbered}
-use Rattle.anomalies.specs.Usage.{key_of}
+use Rattle.serializability.specs.Events.{event_key}
 
 pub record IsSound (log : Log) : Type 0 where
   pub numbered : IsNumbered log
   pub aborted_once : (x y w : ℕ) (a b : List Event) → Contains log.aborted a → Contains a (Write x w) → Contains log.aborted b → Contains b (Write y w) → x ≡ y
-  pub below : (v : ℕ) → AllByRecursion (λ e. key_of e < log.keys) (log.ops v)
+  pub below : (v : ℕ) → AllByRecursion (λ e. event_key e < log.keys) (log.ops v)
 
 -- one place holds one event
 pub same_at : (front : List Event) (d e : Event) (p q : List Event) → front ++ d ∷ p ≡ front ++ e ∷ q → d ≡ e
@@ -36,7 +36,7 @@ pub same_key : (x y w : ℕ) → Write x w ≡ Write y w → x ≡ y
 same_key x y w h = cc
 
 -- ---- keys
-events_below : (keys : List (List ℕ)) (ops : List Op) → AllByRecursion (λ o. Listed keys (op_key o)) ops → AllByRecursion (λ e. key_of e < length keys) (events_of keys ops)
+events_below : (keys : List (List ℕ)) (ops : List Op) → AllByRecursion (λ o. Listed keys (op_key o)) ops → AllByRecursion (λ e. event_key e < length keys) (events_of keys ops)
 events_below keys [] h = grind (arith, number_below)
 events_below keys (x ∷ ops) h = grind (arith, number_below, events_below keys ops h.1)
 

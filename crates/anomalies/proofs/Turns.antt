@@ -10,7 +10,8 @@ use Rattle.serializability.specs.Log.{Log}
 use Rattle.serializability.specs.Anomalies.{event_anomaly, anomaly_at}
 use Rattle.anomalies.specs.declared.reads.LastUse.{LastUse}
 use Rattle.anomalies.specs.declared.reads.Usage.{Usage}
-use Rattle.anomalies.specs.Usage.{StandsAt, key_of, IsUsage, used_by, used_after, AreMarked}
+use Rattle.serializability.specs.Events.{event_key}
+use Rattle.anomalies.specs.Usage.{StandsAt, IsUsage, used_by, used_after, AreMarked}
 use Rattle.anomalies.proofs.Sound.{IsSound}
 use Rattle.anomalies.proofs.Marks.{mark_of, marked_more}
 use Rattle.anomalies.proofs.Scan.{first_behind, first_behind-more}
@@ -27,7 +28,7 @@ holds_at P [] i d h lt = absurd (omega arith)
 holds_at P (e ∷ ops) zero d h lt = h.0
 holds_at P (e ∷ ops) (suc i) d h lt = holds_at P ops i d h.1 (omega arith)
 
-pub key_within : (log : Log) (v : ℕ) (ops : List Event) (i : ℕ) (d : Event) → IsSound log → Turn log v ops i → key_of (get_or ops i d) < log.keys
+pub key_within : (log : Log) (v : ℕ) (ops : List Event) (i : ℕ) (d : Event) → IsSound log → Turn log v ops i → event_key (get_or ops i d) < log.keys
 key_within log v ops i d sound t = grind (arith, holds_at)
 
 pub stands_at : (log : Log) (v : ℕ) (ops : List Event) (i : ℕ) (d : Event) → Turn log v ops i → StandsAt log v (take i ops) (get_or ops i d) (drop (i + 1) ops)
@@ -39,20 +40,20 @@ pub record Looked (log : Log) (v : ℕ) (ops : List Event) (i : ℕ) (d : Event)
   pub sound : IsSound log
   pub keys : length marks ≡ log.keys
   pub marked : AreMarked v (take i ops) marks
-  pub key_is : key ≡ key_of (get_or ops i d)
+  pub key_is : key ≡ event_key (get_or ops i d)
   pub used_is : used ≡ used_by v (get_or marks key mark)
 
-in_marks : (log : Log) (v : ℕ) (ops : List Event) (i : ℕ) (d : Event) (marks : List (Option LastUse)) (key : ℕ) (mark : Option LastUse) (used : Option Usage) → Looked log v ops i d marks key mark used → key_of (get_or ops i d) < length marks
+in_marks : (log : Log) (v : ℕ) (ops : List Event) (i : ℕ) (d : Event) (marks : List (Option LastUse)) (key : ℕ) (mark : Option LastUse) (used : Option Usage) → Looked log v ops i d marks key mark used → event_key (get_or ops i d) < length marks
 in_marks log v ops i d marks key mark used l = omega (arith, key_within log v ops i d l.sound l.turn, l.keys)
 
-used_here : (log : Log) (v : ℕ) (ops : List Event) (i : ℕ) (d : Event) (marks : List (Option LastUse)) (key : ℕ) (mark : Option LastUse) (used : Option Usage) → Looked log v ops i d marks key mark used → used ≡ used_by v (get_or marks (key_of (get_or ops i d)) None)
+used_here : (log : Log) (v : ℕ) (ops : List Event) (i : ℕ) (d : Event) (marks : List (Option LastUse)) (key : ℕ) (mark : Option LastUse) (used : Option Usage) → Looked log v ops i d marks key mark used → used ≡ used_by v (get_or marks (event_key (get_or ops i d)) None)
 used_here log v ops i d marks key mark used l = grind (arith, get_or_default, in_marks)
 
-pub scanned : (log : Log) (v : ℕ) (ops : List Event) (i : ℕ) (d : Event) (marks : List (Option LastUse)) (key : ℕ) (mark : Option LastUse) (used : Option Usage) (result : Option ReadAnomaly) → Looked log v ops i d marks key mark used → ((before behind : List Event) → StandsAt log v before (get_or ops i d) behind → IsUsage (key_of (get_or ops i d)) before used → result ≡ event_anomaly log v before (get_or ops i d) behind) → result ≡ event_anomaly log v (take i ops) (get_or ops i d) (drop (i + 1) ops)
+pub scanned : (log : Log) (v : ℕ) (ops : List Event) (i : ℕ) (d : Event) (marks : List (Option LastUse)) (key : ℕ) (mark : Option LastUse) (used : Option Usage) (result : Option ReadAnomaly) → Looked log v ops i d marks key mark used → ((before behind : List Event) → StandsAt log v before (get_or ops i d) behind → IsUsage (event_key (get_or ops i d)) before used → result ≡ event_anomaly log v before (get_or ops i d) behind) → result ≡ event_anomaly log v (take i ops) (get_or ops i d) (drop (i + 1) ops)
 scanned log v ops i d marks key mark used result l h =
-    let usage = l.marked.usages (key_of (get_or ops i d)) (in_marks log v ops i d marks key mark used l) in
+    let usage = l.marked.usages (event_key (get_or ops i d)) (in_marks log v ops i d marks key mark used l) in
     h (take i ops) (drop (i + 1) ops) (stands_at log v ops i d l.turn)
-    (subst (IsUsage (key_of (get_or ops i d)) (take i ops)) (sym (used_here log v ops i d marks key mark used l)) usage)
+    (subst (IsUsage (event_key (get_or ops i d)) (take i ops)) (sym (used_here log v ops i d marks key mark used l)) usage)
 
 pub found_here : (log : Log) (v : ℕ) (ops : List Event) (i : ℕ) (d : Event) (kind : ReadAnomaly) → Turn log v ops i → Some kind ≡ event_anomaly log v (take i ops) (get_or ops i d) (drop (i + 1) ops) → first_behind (anomaly_at log) v ops i ≡ Some (anomaly.Read kind v (i + 1))
 found_here log v ops i d kind t e =
@@ -71,7 +72,7 @@ marked_next log v ops i d marks key mark used after l none is =
     let e = get_or ops i d in
     let new : after ≡ (mark_of v marks e).used = is ∙ ap (λ u. used_after u e) (used_here log v ops i d marks key mark used l) in
     let next = marked_more log v (take i ops) (drop (i + 1) ops) e marks l.marked (in_marks log v ops i d marks key mark used l) (sym none) in
-    let written : set marks key (Some (record { node = v; used = after })) ≡ set marks (key_of e) (Some (mark_of v marks e)) =
-    ap (λ k. set marks k (Some (record { node = v; used = after }))) l.key_is ∙ ap (λ u. set marks (key_of e) (Some (record { node = v; used = u }))) new in
+    let written : set marks key (Some (record { node = v; used = after })) ≡ set marks (event_key e) (Some (mark_of v marks e)) =
+    ap (λ k. set marks k (Some (record { node = v; used = after }))) l.key_is ∙ ap (λ u. set marks (event_key e) (Some (record { node = v; used = u }))) new in
     let P : List (Option LastUse) → Type 0 = λ m. AreMarked v (take (i + 1) ops) m in
-    subst P (sym written) (subst (λ l. AreMarked v l (set marks (key_of e) (Some (mark_of v marks e)))) (sym (take_more ops i d l.turn.within)) next)
+    subst P (sym written) (subst (λ l. AreMarked v l (set marks (event_key e) (Some (mark_of v marks e)))) (sym (take_more ops i d l.turn.within)) next)

@@ -15,7 +15,8 @@ use Rattle.serializability.specs.Anomalies.{is_other_read, external_anomaly, rea
 use Rattle.serializability.proofs.Replays.{last_write-append}
 use Rattle.anomalies.specs.declared.reads.Usage.{Usage}
 use Rattle.anomalies.specs.declared.reads.Usage.TheVariants as usage
-use Rattle.anomalies.specs.Usage.{key_of, split_anomaly, own_write, names_other, IsUsage, used_after}
+use Rattle.serializability.specs.Events.{event_key}
+use Rattle.anomalies.specs.Usage.{split_anomaly, own_write, names_other, IsUsage, used_after}
 
 -- ---- the anomaly of a read
 or_none : {X : Type 0} (o : Option X) → option_or o None ≡ o
@@ -67,7 +68,7 @@ here_other x w y = ap (λ t. t && not (eqb w y)) (eq-eqb x x refl)
 usage_read : (x w : ℕ) (before : List Event) → last_write x before ≡ None → ((y : ℕ) → (list_any (is_other_read x y) before || (not (eqb w y) || false)) ≡ not (eqb w y)) → IsUsage x (before ++ Read x w ∷ []) (Some (usage.Read w))
 usage_read x w before none same = grind (arith, after_read, list_any-append, here_other)
 
-pub usage_more : (log : Log) (v : ℕ) (before behind : List Event) (e : Event) (used : Option Usage) → IsUsage (key_of e) before used → event_anomaly log v before e behind ≡ None → IsUsage (key_of e) (before ++ e ∷ []) (Some (used_after used e))
+pub usage_more : (log : Log) (v : ℕ) (before behind : List Event) (e : Event) (used : Option Usage) → IsUsage (event_key e) before used → event_anomaly log v before e behind ≡ None → IsUsage (event_key e) (before ++ e ∷ []) (Some (used_after used e))
 usage_more log v before behind (Write x w) used h none = record {
   own = after_write x w before;
   reads = λ bad y. some_is_none w bad;
@@ -85,10 +86,10 @@ usage_more log v before behind (Read x w) (Some (usage.Wrote own)) h none = reco
 }
 
 -- ---- one operation on another key further
-other_write : (x : ℕ) (before : List Event) (e : Event) → eqb (key_of e) x ≡ false → last_write x (before ++ e ∷ []) ≡ last_write x before
+other_write : (x : ℕ) (before : List Event) (e : Event) → eqb (event_key e) x ≡ false → last_write x (before ++ e ∷ []) ≡ last_write x before
 other_write x before v2 ne = grind (arith, after_read, last_write-append, cond-false)
 
-other_event : (x y : ℕ) (e : Event) → eqb (key_of e) x ≡ false → is_other_read x y e ≡ false
+other_event : (x y : ℕ) (e : Event) → eqb (event_key e) x ≡ false → is_other_read x y e ≡ false
 other_event x y (Read k w) ne = and_left (eqb k x) (not (eqb w y)) ne
 other_event x y (Write k w) ne = refl
 
@@ -96,5 +97,5 @@ or_neither : (a : Bool) → (a || (false || false)) ≡ a
 or_neither true = refl
 or_neither false = refl
 
-pub usage_other : (x : ℕ) (before : List Event) (e : Event) (used : Option Usage) → (key_of e ≡ x → ⊥) → IsUsage x before used → IsUsage x (before ++ e ∷ []) used
+pub usage_other : (x : ℕ) (before : List Event) (e : Event) (used : Option Usage) → (event_key e ≡ x → ⊥) → IsUsage x before used → IsUsage x (before ++ e ∷ []) used
 usage_other x before e used ne h = grind (arith, other_write, list_any-append, other_event, or_neither)

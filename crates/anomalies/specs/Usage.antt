@@ -20,10 +20,6 @@ pub record StandsAt (log : Log) (v : ℕ) (before : List Event) (event : Event)
   pub high : v ≤ log.nodes
   pub stands : log.ops v ≡ before ++ event ∷ behind
 
-abbrev pub key_of : Event → ℕ
-key_of (Read x w) = x
-key_of (Write x w) = x
-
 -- the anomaly of an external read of x as w where an earlier one names another identity
 abbrev pub split_anomaly : ℕ → ℕ → List Event → Option ReadAnomaly
 split_anomaly x w before = if list_any (is_other_read x w) before then Some Split else None

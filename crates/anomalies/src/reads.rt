@@ -8,7 +8,8 @@ ghost use Rattle.serializability.specs.Reads.{last_write};
 ghost use Rattle.serializability.specs.Anomalies.{external_anomaly, read_anomaly, event_anomaly};
 ghost use Rattle.serializability.specs.Anomalies.{places_from, places, anomaly_at, first_some};
 ghost use Rattle.log_definitions.specs.Numbers.{log_of, IsWellFormedList};
-ghost use Rattle.anomalies.specs.Usage.{StandsAt, IsUsage, AreBelow, key_of, used_by, used_after};
+ghost use Rattle.serializability.specs.Events.{event_key};
+ghost use Rattle.anomalies.specs.Usage.{StandsAt, IsUsage, AreBelow, used_by, used_after};
 ghost use Rattle.anomalies.specs.Usage.{split_anomaly};
 
 use session_history::{Anomaly, Event, History, NodeIx, ReadAnomaly};
@@ -58,7 +59,7 @@ fn node_anomaly(history: &History, node: NodeIx, marks: &mut [Option<LastUse>]) 
     ensures marks { AreBelow (node + 1) marks.new }
 {
     for (place, event) in history.events_of(node).iter().enumerate() {
-        let mark = &mut marks[key_of(*event)];
+        let mark = &mut marks[event.key()];
         let used = used_by(node, *mark);
         if let Some(kind) = event_anomaly(history, node, used, *event) {
             return Some(Anomaly::Read {
@@ -73,15 +74,6 @@ fn node_anomaly(history: &History, node: NodeIx, marks: &mut [Option<LastUse>]) 
         });
     }
     None
-}
-
-/// The key of an operation.
-fn key_of(event: Event) -> usize
-    ensures key { result ≡ key_of event }
-{
-    match event {
-        Event::Read { key, .. } | Event::Write { key, .. } => key,
-    }
 }
 
 /// What the node did to the key so far, by the key's mark.
@@ -113,7 +105,7 @@ fn event_anomaly(
 ) -> Option<ReadAnomaly>
     requires well_formed { IsWellFormedList history.now }
     ensures anomaly { let log = log_of history.now in (before behind : List Event) →
-        StandsAt log node before event behind → IsUsage (key_of event) before used →
+        StandsAt log node before event behind → IsUsage (event_key event) before used →
         result ≡ event_anomaly log node before event behind }
 {
     match event {

@@ -11,13 +11,13 @@ use Rattle.log_definitions.specs.Serial.{ops_of}
 use Rattle.log_definitions.specs.Numbers.{events_of, log_of}
 use Rattle.log_definitions.proofs.Keys.{Listed, all_listed, number_below}
 use Rattle.log_definitions.proofs.Nodes.{each_op}
-use Rattle.decode_order.specs.Replaying.{key_of}
+use Rattle.serializability.specs.Events.{event_key}
 
-numbers_below : (keys : List (List ℕ)) (ops : List Op) → AllByRecursion (λ o. Listed keys (text.key_of o)) ops → AllByRecursion (λ (e : Event). key_of e < length keys) (events_of keys ops)
+numbers_below : (keys : List (List ℕ)) (ops : List Op) → AllByRecursion (λ o. Listed keys (text.key_of o)) ops → AllByRecursion (λ (e : Event). event_key e < length keys) (events_of keys ops)
 numbers_below keys [] h = tt
 numbers_below keys (Read key w ∷ ops) h = (number_below keys key h.0, numbers_below keys ops h.1)
 numbers_below keys (Write key w ∷ ops) h = (number_below keys key h.0, numbers_below keys ops h.1)
 
-pub keys_below : (ss : List ClientSession) (v : ℕ) → AllByRecursion (λ (e : Event). key_of e < (log_of ss).keys) ((log_of ss).ops v)
+pub keys_below : (ss : List ClientSession) (v : ℕ) → AllByRecursion (λ (e : Event). event_key e < (log_of ss).keys) ((log_of ss).ops v)
 unfolding log_of
 keys_below ss v = numbers_below (keys_in ss) (ops_of ss v) (each_op (λ o. Listed (keys_in ss) (text.key_of o)) ss (all_listed ss) v)

@@ -31,11 +31,6 @@ first_before_ended earlier [] = None
 first_before_ended earlier (v ∷ behind) =
     if list_any (λ u. earlier u v) behind then Some v else first_before_ended earlier behind
 
--- the key that an operation reads or writes
-abbrev pub key_of : Event → ℕ
-key_of (Read x w) = x
-key_of (Write x w) = x
-
 -- an operation, with its node and its number there, from 1
 pub record PlacedOp : Type 0 where
   pub node : ℕ

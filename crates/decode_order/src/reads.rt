@@ -6,7 +6,8 @@ ghost use Rattle.std.specs.List.{AllByRecursion};
 ghost use Rattle.serializability.specs.Replay.{empty, after};
 ghost use Rattle.log_definitions.specs.Numbers.{log_of};
 ghost use Rattle.decode_order.specs.Replaying as spec;
-ghost use Rattle.decode_order.specs.Replaying.{key_of, held, meets, placed_from, in_replay};
+ghost use Rattle.serializability.specs.Events.{event_key};
+ghost use Rattle.decode_order.specs.Replaying.{held, meets, placed_from, in_replay};
 
 use serializability::NodeIx;
 use session_history::{Event, History};
@@ -35,7 +36,7 @@ pub fn first_mismatch(
 /// Replays the operations of a node, up to the first read that does not name what the map holds.
 /// The answer is its number, from 1.
 fn replay_node(store: &mut [u64], events: &[Event]) -> Option<usize>
-    requires keys { AllByRecursion (λ event. key_of event < length store.old) events.now }
+    requires keys { AllByRecursion (λ event. event_key event < length store.old) events.now }
     ensures first { MatchOption result
         ((v : ℕ) → spec.first_mismatch (held store.old) (placed_from v 1 events.now) ≡ None)
         (λ op. (v : ℕ) →
@@ -52,7 +53,7 @@ fn replay_node(store: &mut [u64], events: &[Event]) -> Option<usize>
 
 /// Replays an operation. The answer is false for a read that does not name what the map holds.
 fn replay_op(store: &mut [u64], event: Event) -> bool
-    requires key { key_of event < length store.old }
+    requires key { event_key event < length store.old }
     ensures met { result ≡ meets (held store.old) event }
     ensures after { held store.new ≡ after (held store.old) (event ∷ []) }
 {

@@ -28,12 +28,14 @@ IsLimitSaid limit.Committed text =
     text ≡ more_than MAX_NODES (codes " transactions that are committed or unknown")
 IsLimitSaid limit.Keys text = text ≡ more_than MAX_KEYS (codes " keys")
 
+abbrev pub IsOutsideSaid : List ℕ → Type 0
+IsOutsideSaid text = (text ≡ codes "no transaction is open here: a `begin` is missing")
+    ⊎ (text ≡ codes "the line stands before the first session")
+
 abbrev pub IsSaidOf : LogFault → List ℕ → Type 0
 IsSaidOf (fault.BadLine line) text = Unit {0}
 IsSaidOf (fault.SessionTwice line) text = Says (codes " began before") text
-IsSaidOf (fault.OutsideTransaction line) text =
-    (text ≡ codes "no transaction is open here: a `begin` is missing")
-    ⊎ (text ≡ codes "the line stands before the first session")
+IsSaidOf (fault.OutsideTransaction line) text = IsOutsideSaid text
 IsSaidOf (fault.OpenTransaction line) text =
     text ≡ codes "the transaction that begins here has no `commit`, `abort` or `unknown`"
 IsSaidOf (fault.WriteZero line) text =

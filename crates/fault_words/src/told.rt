@@ -1,11 +1,10 @@
 //! A fault in words.
 
-ghost use Rattle.std.specs.Prelude.{◌≡◌, ◌++◌, ℕ, IfOk, codes};
+ghost use Rattle.std.specs.Prelude.{◌≡◌, ◌++◌, IfOk, codes};
 ghost use Rattle.std.specs.String.{string_bytes};
 ghost use Rattle.fault_words.specs.Codes.{limit_code, code_of, line_of, place_of, joined};
 ghost use Rattle.fault_words.specs.Codes.{IsRefusalLine};
-ghost use Rattle.session_log.specs.declared.fault.LogFault.TheVariants.{OutsideTransaction};
-ghost use Rattle.fault_words.specs.Words.{Says, IsLimitSaid, IsSaidOf};
+ghost use Rattle.fault_words.specs.Words.{Says, IsLimitSaid, IsOutsideSaid, IsSaidOf};
 
 use crate::form::{Number, Wrong, first_word, wrong_form};
 use crate::lines::{LogLine, earlier_line, line_at};
@@ -197,8 +196,7 @@ fn write_twice_words(alloc: Global, log: &[u8], number: usize) -> Result<String,
 }
 
 fn outside_words(alloc: Global, log: &[u8], number: usize) -> Result<String, AllocError>
-    ensures said { (line : ℕ) → IfOk result (λ text.
-        IsSaidOf (OutsideTransaction line) (string_bytes text)) }
+    ensures said { IfOk result (λ text. IsOutsideSaid (string_bytes text)) }
 {
     match earlier_line(log, number, |bytes| bytes.starts_with(b"session")) {
         Some(_) => String::from_str(alloc, "no transaction is open here: a `begin` is missing"),

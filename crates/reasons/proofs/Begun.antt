@@ -9,7 +9,7 @@ use Rattle.serializability.specs.declared.event.Event.TheVariants as event
 use Rattle.serializability.specs.Reads.{IsClean}
 use Rattle.log_definitions.specs.WellFormed.{keys_in}
 use Rattle.log_definitions.specs.Numbers.{number_in, log_of}
-use Rattle.session_history.specs.Rows.{event_key}
+use Rattle.serializability.specs.Events.{event_key}
 use Rattle.reason_laws.specs.Reasons.{IsOpAt, left_by, IsOfInitialBefore}
 use Rattle.reasons.specs.Events.{is_read_of}
 use Rattle.reasons.specs.Initials.{BeginsBehind}

@@ -13,7 +13,7 @@ use Rattle.log_definitions.specs.Serial.{ops_of}
 use Rattle.log_definitions.specs.Numbers.{number_in, event_of, events_of, log_of}
 use Rattle.log_definitions.proofs.Keys.{number_below}
 use Rattle.serializability.specs.Log.{Log}
-use Rattle.session_history.specs.Rows.{event_key}
+use Rattle.serializability.specs.Events.{event_key}
 use Rattle.reason_laws.specs.Reasons.{IsNode, IsOpAt, IsReadBy}
 use Rattle.reason_laws.proofs.Texts.{one_key}
 use Rattle.reason_laws.proofs.Numbers.{ops_is, keys_is, listed_at}

@@ -4,7 +4,7 @@ ghost use Rattle.std.specs.Prelude.{◌≡◌, ◌<◌, ◌≤◌, ◌↔◌, Is
 ghost use Rattle.serializability.specs.Reads.{IsClean};
 ghost use Rattle.log_definitions.specs.Numbers.{log_of};
 ghost use Rattle.chain_laws.specs.Chains.{writes};
-ghost use Rattle.session_history.specs.Rows.{event_key};
+ghost use Rattle.serializability.specs.Events.{event_key};
 ghost use Rattle.reason_laws.specs.Reasons.{IsNode, IsOfInitialBefore};
 ghost use Rattle.reasons.specs.Initials.{IsOfInitial, FollowsInitial, IsBegun, IsBeginning};
 ghost use Rattle.reasons.specs.Initials.{BeginsBehind, ArePlain};
@@ -126,15 +126,6 @@ fn begins_behind_initial(
     Ok(None)
 }
 
-/// The number of the key of an operation.
-fn key_of(event: Event) -> usize
-    ensures { result ≡ event_key event }
-{
-    match event {
-        Event::Read { key, .. } | Event::Write { key, .. } => key,
-    }
-}
-
 /// The first read of `a` that stands before operation `begins` of `b` by the chain of the initial
 /// value of its key.
 fn read_before(history: &History, a: NodeIx, b: NodeIx, begins: usize) -> usize
@@ -143,7 +134,7 @@ fn read_before(history: &History, a: NodeIx, b: NodeIx, begins: usize) -> usize
     ensures is { IsOfInitialBefore history.now a result b begins }
     ensures least { (i : ℕ) → IsOfInitialBefore history.now a i b begins → result ≤ i }
 {
-    match first_read(history, a, key_of(history.events_of(b)[begins])) {
+    match first_read(history, a, history.events_of(b)[begins].key()) {
         Some(read) => read,
         None => unreachable!(),
     }

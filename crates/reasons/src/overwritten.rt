@@ -3,7 +3,7 @@
 ghost use Rattle.std.specs.Prelude.{◌≡◌, ◌≢◌, ◌<◌, None, IfSome, IfNone};
 ghost use Rattle.serializability.specs.Reads.{IsClean};
 ghost use Rattle.log_definitions.specs.Numbers.{log_of};
-ghost use Rattle.session_history.specs.Rows.{event_key};
+ghost use Rattle.serializability.specs.Events.{event_key};
 ghost use Rattle.reason_laws.specs.Reasons.{IsNode, IsOverwrittenBy};
 ghost use Rattle.reasons.specs.Events as spec;
 ghost use Rattle.reasons.specs.Given.{IsLeastOverwrite, NoneOverwritten};

@@ -7,3 +7,4 @@ pub mod Formula
 pub mod Decoded
 pub mod Plain
 pub mod Anomalies
+pub mod Events

@@ -13,7 +13,8 @@ use Rattle.serializability.proofs.Replays.{last_write-append}
 use Rattle.session_history.specs.declared.nodes.Node.{Node}
 use Rattle.session_history.specs.declared.rows.KeyRow.{KeyRow}
 use Rattle.session_history.specs.declared.rows.Reader.{Reader}
-use Rattle.session_history.specs.Rows.{RowView, reader_view, row_view, writer_if, reader_if, row_after, row_from, no_row, IsBelow, AreRows, event_key}
+use Rattle.session_history.specs.Rows.{RowView, reader_view, row_view, writer_if, reader_if, row_after, row_from, no_row, IsBelow, AreRows}
+use Rattle.serializability.specs.Events.{event_key}
 
 -- ---- one operation more
 

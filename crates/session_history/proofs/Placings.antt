@@ -16,7 +16,7 @@ use Rattle.log_definitions.specs.Serial.{Committed, committed_of, committed_in}
 use Rattle.log_definitions.specs.Numbers.{events_of}
 use Rattle.log_definitions.proofs.Settled.{ops_settled}
 use Rattle.session_history.specs.Taken.{Placed, placed_from, placed_in, NumberedNode, nodes_among, numbered_from, keys_among}
-use Rattle.session_history.specs.Rows.{event_key}
+use Rattle.serializability.specs.Events.{event_key}
 use Rattle.session_history.specs.Held.{numbered_node}
 use Rattle.session_history.proofs.Seen.{number_below, seen_here, seen_stays}
 

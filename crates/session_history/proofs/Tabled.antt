@@ -21,7 +21,8 @@ use Rattle.session_history.specs.Tables.{sources_of, node_named}
 use Rattle.session_history.specs.Taken.{Placed, placed_in, NumberedNode, node_view, nodes_among, numbered_from, keys_among, HoldsAll}
 use Rattle.session_history.specs.declared.nodes.Transactions.{Transactions}
 use Rattle.session_history.specs.Naming.{node_among}
-use Rattle.session_history.specs.Rows.{RowView, row_view, reader_view, event_key, row_after, row_from, no_row, writer_if, reader_if, AreRows}
+use Rattle.session_history.specs.Rows.{RowView, row_view, reader_view, row_after, row_from, no_row, writer_if, reader_if, AreRows}
+use Rattle.serializability.specs.Events.{event_key}
 use Rattle.session_history.specs.Sources.{AreReads, final_node, found_by, found_in, readers_of}
 use Rattle.session_history.specs.declared.reads.ReadFrom.{ReadFrom}
 use Rattle.session_history.specs.declared.rows.Reader.{Reader}

@@ -3,7 +3,6 @@ use Rattle.std.specs.Prelude.{◌≡◌, ℕ, ◌+◌, ◌<◌, List, [], ◌∷
 use Rattle.std.specs.Prelude.{Some, slice_get, All}
 use Rattle.std.specs.Option.{option_map}
 use Rattle.serializability.specs.declared.event.Event.{Event}
-use Rattle.serializability.specs.declared.event.Event.TheVariants as event
 use Rattle.serializability.specs.Reads.{last_write, external_read}
 use Rattle.session_history.specs.declared.rows.KeyRow.{KeyRow}
 use Rattle.session_history.specs.declared.rows.Reader.{Reader}
@@ -52,7 +51,3 @@ pub record IsBelow (v : ℕ) (row : RowView) : Type 0 where
 pub record AreRows (keys : ℕ) (f : ℕ → RowView) (rows : List KeyRow) : Type 0 where
   pub count : length rows ≡ keys
   pub each : (x : ℕ) → x < keys → option_map row_view (slice_get rows x) ≡ Some (f x)
-
-abbrev pub event_key : Event → ℕ
-event_key (event.Read k w) = k
-event_key (event.Write k w) = k

@@ -5,7 +5,8 @@ ghost use Rattle.std.specs.Prelude.{length, map, slice_get, All, OnOk, IfOk};
 ghost use Rattle.std.specs.Option.{option_map_or};
 ghost use Rattle.serializability.specs.declared.event.Event.{Event};
 ghost use Rattle.session_history.specs.Rows.{RowView, IsBelow, AreRows, row_after, row_from};
-ghost use Rattle.session_history.specs.Rows.{no_row, event_key};
+ghost use Rattle.session_history.specs.Rows.{no_row};
+ghost use Rattle.serializability.specs.Events.{event_key};
 ghost use Rattle.serializability.specs.declared.node.TheConstants.{MAX_NODES};
 
 use crate::nodes::{Node, node_at};
@@ -27,7 +28,8 @@ pub struct KeyRow {
 }
 
 impl KeyRow {
-    ghost use Rattle.session_history.specs.Rows.{RowView, IsBelow, row_view, row_after, event_key};
+    ghost use Rattle.session_history.specs.Rows.{RowView, IsBelow, row_view, row_after};
+    ghost use Rattle.serializability.specs.Events.{event_key};
 
     fn is_last_writer(&self, node: NodeIx) -> bool
         ensures { result ≡ option_map_or (λ v. v == node)
@@ -71,14 +73,6 @@ impl KeyRow {
     }
 }
 
-fn key_of(event: Event) -> usize
-    ensures { result ≡ event_key event }
-{
-    match event {
-        Event::Read { key, .. } | Event::Write { key, .. } => key,
-    }
-}
-
 /// Takes an operation of this node.
 fn enter(rows: &mut Vec<KeyRow>, node: NodeIx, event: Event) -> Result<(), AllocError>
     requires { event_key event < length rows.old.items }
@@ -88,7 +82,7 @@ fn enter(rows: &mut Vec<KeyRow>, node: NodeIx, event: Event) -> Result<(), Alloc
         AreRows keys (λ x. row_after (f x) x node front) rows.old.items →
         AreRows keys (λ x. row_after (f x) x node (front ++ event ∷ [])) rows.new.items) }
 {
-    let row = &mut rows[key_of(event)];
+    let row = &mut rows[event.key()];
     row.enter(node, event)?;
     Ok(())
 }

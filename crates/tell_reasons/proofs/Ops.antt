@@ -15,7 +15,7 @@ use Rattle.log_definitions.specs.WellFormed.{keys_in, key_of}
 use Rattle.log_definitions.specs.Serial.{ops_of}
 use Rattle.log_definitions.specs.Numbers.{number_in, event_of, log_of}
 use Rattle.log_definitions.proofs.Keys.{Listed}
-use Rattle.session_history.specs.Rows.{event_key}
+use Rattle.serializability.specs.Events.{event_key}
 use Rattle.reason_laws.specs.Reasons.{IsOpAt}
 use Rattle.reason_laws.proofs.Numbers.{ops_is, listed_at}
 use Rattle.reasons.proofs.Ops.{op_of, key_of_event}

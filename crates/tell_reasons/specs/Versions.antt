@@ -3,7 +3,7 @@ use Rattle.std.specs.Prelude.{ℕ, ◌==◌, if◌then◌else◌, List, [], ◌+
 use Rattle.std.specs.Prelude.{codes, decimal, slice_get, Option, None, Some}
 use Rattle.std.specs.Option.{option_map_or}
 use Rattle.serializability.specs.Polygraph.{source}
-use Rattle.session_history.specs.Rows.{event_key}
+use Rattle.serializability.specs.Events.{event_key}
 use Rattle.session_log.specs.Text.{ClientSession}
 use Rattle.log_definitions.specs.Numbers.{log_of}
 use Rattle.tell_reasons.specs.Events.{is_write_in, is_read_in, is_other_in, last_position}

@@ -8,7 +8,7 @@ ghost use Rattle.log_definitions.specs.Numbers.{log_of};
 ghost use Rattle.log_lines.specs.Rows.{view_place};
 ghost use Rattle.log_lines.specs.Placed.{row_in, place_in, begin_in, op_line_in, end_line_in};
 ghost use Rattle.order_text.specs.Text.{name_text};
-ghost use Rattle.session_history.specs.Rows.{event_key};
+ghost use Rattle.serializability.specs.Events.{event_key};
 ghost use Rattle.tell_reasons.specs.Events.{event_wid};
 ghost use Rattle.tell_reasons.specs.Reasons as spec;
 ghost use Rattle.tell_reasons.specs.Versions as versions;

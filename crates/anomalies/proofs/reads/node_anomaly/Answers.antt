@@ -11,20 +11,20 @@ use Rattle.anomalies.proofs.reads.node_anomaly.Goals as goal
 pub loop-place-init : goal.loop-place-init
 loop-place-init c = record { first = refl; marked = marked_none c.args.node c.args.marks.now c.requires.earlier }
 
-within : (c : goal.After-key_of) → c.key_of.result < length c.loop-place.marks
+within : (c : goal.After-key) → c.key.result < length c.loop-place.marks
 within c =
     let log = log_of c.args.history.now in
     let ops = c.events_of-event-items.result.now in
     let turn : Turn log c.args.node ops c.loop-place.place =
     record { own = c.events_of-event-items.ensures.events; within = c.loop-place-test.true; low = c.requires.low; high = c.requires.high } in
     let below = key_within log c.args.node ops c.loop-place.place (event.Read 0 0) (sound c.args.history.now c.requires.well_formed) turn in
-    omega (arith, below, c.key_of.ensures.key, c.loop-place.auto.marks, c.requires.keys)
+    omega (arith, below, c.key.ensures.key, c.loop-place.auto.marks, c.requires.keys)
 
-pub bounds-marks-key_of : goal.bounds-marks-key_of
-bounds-marks-key_of c = within c
+pub bounds-marks-key : goal.bounds-marks-key
+bounds-marks-key c = within c
 
-pub offset_bounds-marks-key_of : goal.offset_bounds-marks-key_of
-offset_bounds-marks-key_of c = omega (arith, within c)
+pub offset_bounds-marks-key : goal.offset_bounds-marks-key
+offset_bounds-marks-key c = omega (arith, within c)
 
 pub returns-in-Some-clause-anomaly : goal.returns-in-Some-clause-anomaly
 returns-in-Some-clause-anomaly c =
@@ -32,12 +32,12 @@ returns-in-Some-clause-anomaly c =
     let ops = c.events_of-event-items.result.now in
     let turn : Turn log c.args.node ops c.loop-place.place =
     record { own = c.events_of-event-items.ensures.events; within = c.loop-place-test.true; low = c.requires.low; high = c.requires.high } in
-    let looked : Looked log c.args.node ops c.loop-place.place (event.Read 0 0) c.loop-place.marks c.key_of.result c.index-marks-key_of.result c.used_by-used.result = record {
+    let looked : Looked log c.args.node ops c.loop-place.place (event.Read 0 0) c.loop-place.marks c.key.result c.index-marks-key.result c.used_by-used.result = record {
       turn = turn;
       sound = sound c.args.history.now c.requires.well_formed;
       keys = c.loop-place.auto.marks ∙ c.requires.keys;
       marked = c.loop-place.invariant.marked;
-      key_is = c.key_of.ensures.key;
+      key_is = c.key.ensures.key;
       used_is = c.used_by-used.ensures.used;
     } in
     let here = scanned _ _ _ _ _ _ _ _ _ _ looked c.in-Some.ensures.anomaly in
@@ -49,12 +49,12 @@ loop-place-preserved c =
     let ops = c.events_of-event-items.result.now in
     let turn : Turn log c.args.node ops c.loop-place.place =
     record { own = c.events_of-event-items.ensures.events; within = c.loop-place-test.true; low = c.requires.low; high = c.requires.high } in
-    let looked : Looked log c.args.node ops c.loop-place.place (event.Read 0 0) c.loop-place.marks c.key_of.result c.index-marks-key_of.result c.used_by-used.result = record {
+    let looked : Looked log c.args.node ops c.loop-place.place (event.Read 0 0) c.loop-place.marks c.key.result c.index-marks-key.result c.used_by-used.result = record {
       turn = turn;
       sound = sound c.args.history.now c.requires.well_formed;
       keys = c.loop-place.auto.marks ∙ c.requires.keys;
       marked = c.loop-place.invariant.marked;
-      key_is = c.key_of.ensures.key;
+      key_is = c.key.ensures.key;
       used_is = c.used_by-used.ensures.used;
     } in
     let here = scanned _ _ _ _ _ _ _ _ _ _ looked c.in_default.ensures.anomaly in

@@ -3,7 +3,8 @@ use Rattle.std.specs.List.{AllByRecursion}
 use Rattle.serializability.specs.declared.event.Event.{Event}
 use Rattle.serializability.specs.Replay.{after}
 use Rattle.log_definitions.specs.Numbers.{log_of}
-use Rattle.decode_order.specs.Replaying.{key_of, held, first_mismatch, placed_from}
+use Rattle.serializability.specs.Events.{event_key}
+use Rattle.decode_order.specs.Replaying.{held, first_mismatch, placed_from}
 use Rattle.decode_order.proofs.Keys.{keys_below}
 use Rattle.decode_order.proofs.Mismatch.{nodes_more, node_mismatch}
 use Rattle.decode_order.proofs.reads.first_mismatch.Goals as goal
@@ -11,9 +12,9 @@ use Rattle.decode_order.proofs.reads.first_mismatch.Goals as goal
 pub replay_node-requires : goal.replay_node-requires
 replay_node-requires c =
     let v = c.node-item.result in
-    let below : AllByRecursion (λ (e : Event). key_of e < length c.loop-node.store) ((log_of c.args.history.now).ops v) =
-    subst (λ n. AllByRecursion (λ (e : Event). key_of e < n) ((log_of c.args.history.now).ops v)) (sym c.loop-node.invariant.room) (keys_below c.args.history.now v) in
-    record { keys = subst (AllByRecursion (λ (e : Event). key_of e < length c.loop-node.store)) (sym c.events_of.ensures.events) below }
+    let below : AllByRecursion (λ (e : Event). event_key e < length c.loop-node.store) ((log_of c.args.history.now).ops v) =
+    subst (λ n. AllByRecursion (λ (e : Event). event_key e < n) ((log_of c.args.history.now).ops v)) (sym c.loop-node.invariant.room) (keys_below c.args.history.now v) in
+    record { keys = subst (AllByRecursion (λ (e : Event). event_key e < length c.loop-node.store)) (sym c.events_of.ensures.events) below }
 
 pub returns-in-Some : goal.returns-in-Some
 returns-in-Some c =

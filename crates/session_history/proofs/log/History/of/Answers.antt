@@ -1,6 +1,6 @@
 use Rattle.std.proofs.Common.{[], refl, ◌<◌, ℕ, List, ap, sym, ◌∙◌, arith, length, map, subst, All}
 use Rattle.session_log.specs.Text.{view}
-use Rattle.session_history.specs.Rows.{event_key}
+use Rattle.serializability.specs.Events.{event_key}
 use Rattle.session_history.specs.Taken.{placed_in}
 use Rattle.log_definitions.specs.Unknown.{ops_in, resolved}
 use Rattle.session_history.specs.declared.nodes.Node.{Node}
