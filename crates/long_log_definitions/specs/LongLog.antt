@@ -1,14 +1,13 @@
 -- What makes the text of legal sessions a long log, and which fault is meant where several stand.
-use Rattle.std.specs.Prelude.{◌≡◌, ℕ, if◌then◌else◌, nat_lt, nat_eq, List, length, map, Option}
-use Rattle.std.specs.Prelude.{Some, None}
+use Rattle.std.specs.Prelude.{◌≡◌, ℕ, nat_eq, List, map, Option, Some, None}
 use Rattle.std.specs.List.{AllByRecursion, IsDistinct}
 use Rattle.std.specs.Option.{option_or}
 use Rattle.session_log.specs.Text.{ClientSession, IsLegal, IsHeldBy, log_text}
 use Rattle.session_log.specs.Version.{first_line, version_of}
 use Rattle.session_log.specs.Faults.{grammar_fault}
-use Rattle.session_log.specs.declared.fault.Limit.TheVariants as limit
+use Rattle.session_log.specs.Blocks.{fault_of_size}
 use Rattle.session_log.specs.declared.fault.LogFault.{LogFault}
-use Rattle.session_log.specs.declared.fault.LogFault.TheVariants.{OverLimit, Memory}
+use Rattle.session_log.specs.declared.fault.LogFault.TheVariants.{Memory}
 use Rattle.log_definitions.specs.Unknown.{ops_in}
 use Rattle.log_definitions.specs.WellFormed.{log_lines, session_twice, write_twice, session_fault}
 use Rattle.log_definitions.specs.WellFormed.{write_fault, written}
@@ -16,8 +15,7 @@ use Rattle.long_log_definitions.specs.declared.limits.TheConstants.{MAX_LONG_LOG
 
 -- the limit on the whole text
 unfoldable pub size_fault : List ℕ → Option LogFault
-size_fault text = if nat_lt MAX_LONG_LOG_BYTES (length text) then Some
-    (OverLimit limit.LogBytes) else None
+size_fault text = fault_of_size MAX_LONG_LOG_BYTES None text
 
 -- the first fault of legal sessions, whose text begins at line n: a session number that stood
 -- before, then an identity that was written before

@@ -1,9 +1,9 @@
 -- Where words and lines end.
-use Rattle.std.proofs.Common.{◌≡◌, ℕ, ◌+◌, ◌<◌, ◌≤◌, suc, Bool, true, false, not, cond, List, [], ◌∷◌, length, take, drop, nat_lt, position, Some, None, refl, sym, ap, ◌∙◌, arith, length-drop, ◌==◌}
-use Rattle.std.proofs.lemmas.Bool.{not-false, ltb-false}
+use Rattle.std.proofs.Common.{◌≡◌, ℕ, ◌+◌, ◌<◌, ◌≤◌, Bool, true, false, not, List, [], ◌∷◌, length, take, drop, position, Some, None, refl, sym, ap, ◌∙◌, arith, length-drop, ◌==◌}
+use Rattle.std.proofs.lemmas.Bool.{not-false}
 use Rattle.std.proofs.lemmas.List.Sums.{prefix_len-le-length}
-use borrow.Author.Tests.{ltb-true}
 use Rattle.std.specs.List.{position_or_len}
+use Rattle.session_log.proofs.Lines.{take_step, drop_step, position_some, position_none}
 use Rattle.proof_text.specs.Words.{is_blank, onto_first, begins_word, words, lines, stated, is_passed}
 
 -- a byte of a word
@@ -16,12 +16,6 @@ is_feed b = b == 10
 words_blank : (b : ℕ) (bs : List ℕ) → is_blank b ≡ true → words (b ∷ bs) ≡ words bs
 unfolding words
 words_blank b bs e = rw e refl
-
-pub take_step : (b j k : ℕ) (bs : List ℕ) → j ≡ suc k → take j (b ∷ bs) ≡ b ∷ take k bs
-take_step b j k bs e = ap (λ j. take j (b ∷ bs)) e
-
-pub drop_step : (b j k : ℕ) (bs : List ℕ) → j ≡ suc k → drop j (b ∷ bs) ≡ drop k bs
-drop_step b j k bs e = ap (λ j. drop j (b ∷ bs)) e
 
 -- behind blanks
 pub words_skip : (bs : List ℕ) → words bs ≡ words (drop (position_or_len is_text bs) bs)
@@ -68,21 +62,7 @@ words_first (b ∷ bs) h = go (words_first bs) (is_blank b) (begins_word bs) ref
         let z = no_more bs f in
         rw (e, f) (cc (take_step b (1 + k) k bs (omega arith), drop_step b (1 + k) k bs (omega arith), z))
 
--- what `position` answers, by the first place
-position_cases : {X : Type 0} (p : X → Bool) (xs : List X) (t : Bool) → nat_lt (position_or_len p xs) (length xs) ≡ t → (i : ℕ) → Some i ≡ cond t (Some (position_or_len p xs)) None → (position_or_len p xs ≡ i) × (position_or_len p xs < length xs)
-position_cases p xs true e i is = (cc, ltb-true (position_or_len p xs) (length xs) e)
-position_cases p xs false e i is = cc
-
-pub position_some : {X : Type 0} (p : X → Bool) (xs : List X) (i : ℕ) → Some i ≡ position p xs → (position_or_len p xs ≡ i) × (position_or_len p xs < length xs)
-position_some p xs i is = position_cases p xs (nat_lt (position_or_len p xs) (length xs)) refl i is
-
-none_cases : {X : Type 0} (p : X → Bool) (xs : List X) (t : Bool) → nat_lt (position_or_len p xs) (length xs) ≡ t → None ≡ cond t (Some (position_or_len p xs)) None → length xs ≤ position_or_len p xs
-none_cases p xs true e is = cc
-none_cases p xs false e is = ltb-false (position_or_len p xs) (length xs) e
-
-pub position_none : {X : Type 0} (p : X → Bool) (xs : List X) → None ≡ position p xs → length xs ≤ position_or_len p xs
-position_none p xs is = none_cases p xs (nat_lt (position_or_len p xs) (length xs)) refl is
-
+-- where `position` answers nothing, and how far it looks
 pub position_end : {X : Type 0} (p : X → Bool) (xs : List X) → None ≡ position p xs → length xs ≡ position_or_len p xs
 position_end p xs is = omega (arith, position_none p xs is, prefix_len-le-length (λ x. not (p x)) xs)
 

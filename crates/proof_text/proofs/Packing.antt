@@ -6,6 +6,7 @@ use Rattle.std.proofs.lemmas.Slice.Eq.{bytes_eq-Decides}
 use Rattle.std.specs.Str.{bytes_eq}
 use Rattle.std.specs.Bool.{OnTrue, then_some}
 use Rattle.std.specs.Option.{OnSome}
+use Rattle.session_log.proofs.Lines.{take_step, drop_step, position_some, position_none}
 use Rattle.serializability.specs.declared.literal.Literal.{Literal}
 use Rattle.proof_text.specs.Words.{onto_first}
 use Rattle.proof_text.specs.Numbers.{first_number, before_zero, with_front, whole, if_whole, literal_of}
@@ -13,7 +14,6 @@ use Rattle.proof_text.specs.Binary.{action_of_word, binary_words, sevens, signed
 use Rattle.proof_text.specs.Steps.{DratStep, drat_with, steps_by}
 use Rattle.proof_text.specs.declared.number.Number.{Number}
 use Rattle.proof_text.specs.declared.drat.DratAction.{DratAction}
-use Rattle.proof_text.proofs.Cutting.{take_step, drop_step, position_some, position_none}
 use Rattle.proof_text.proofs.Stepping.{drat_is}
 use Rattle.proof_text.proofs.UpToZero.{read_steps}
 

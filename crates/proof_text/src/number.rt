@@ -8,6 +8,7 @@ ghost use Rattle.proof_text.specs.Numbers.{is_decimal, size_of, below_zero, not_
 ghost use Rattle.proof_text.specs.Numbers.{number_of, literal_of, id_of};
 
 use serializability::Literal;
+use session_log::all_digits;
 
 /// A number as it is written, without its sign.
 #[derive(Clone, Copy, PartialEq, Eq)]
@@ -19,12 +20,6 @@ pub(crate) struct Number {
 /// The most digits that a number may have.
 const MAX_DIGITS: usize = 18;
 
-fn all_digits(word: &[u8]) -> bool
-    ensures { result ≡ list_all is_ascii_digit word.now }
-{
-    word.iter().all(|b| b.is_ascii_digit())
-}
-
 /// Whether a word is of digits, as many as a number may have.
 fn is_decimal(word: &[u8]) -> bool
     ensures { result ≡ is_decimal word.now }
@@ -33,7 +28,7 @@ fn is_decimal(word: &[u8]) -> bool
 }
 
 /// What digits write.
-#[tactic(auto, using(crate::proofs::Digits::value_more, crate::proofs::Digits::value_small))]
+#[tactic(auto, using(session_log::proofs::Digits::value_more, crate::proofs::Digits::value_small))]
 fn value_of(word: &[u8]) -> u64
     requires digits { list_all is_ascii_digit word.now ≡ true }
     requires short { length word.now ≤ 18 }

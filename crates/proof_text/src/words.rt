@@ -1,7 +1,7 @@
 //! The lines of a text that say something, and the words of each.
 
 ghost use Rattle.std.specs.Prelude.{◌≡◌, ◌+◌, ◌^◌, ◌<◌, ◌≤◌, ℕ, [], ◌∷◌, not, length, drop};
-ghost use Rattle.std.specs.Prelude.{position, ◌==◌, MatchOption};
+ghost use Rattle.std.specs.Prelude.{position, MatchOption};
 ghost use Rattle.std.specs.List.{position_or_len};
 ghost use Rattle.proof_text.specs.Forms.{first_line};
 ghost use Rattle.proof_text.specs.Numbers.{numbers_of, first_number};
@@ -10,6 +10,7 @@ ghost use Rattle.proof_text.specs.Words.{is_delete, behind_delete, is_empty, sta
 ghost use Rattle.proof_text.specs.Words.{IsFound};
 
 use crate::number::{Number, number_of};
+use session_log::index_of;
 use std::marker::Model;
 
 /// The words of a line that are left.
@@ -116,13 +117,6 @@ fn cut_word(line: &[u8]) -> Option<(&[u8], &[u8])>
     Some(from.split_at(end_of_word(from)))
 }
 
-/// The place of the first line feed.
-fn first_feed(text: &[u8]) -> Option<usize>
-    ensures { result ≡ position (λ b. b == 10) text.now }
-{
-    text.iter().position(|b| *b == b'\n')
-}
-
 /// The first line of a text, and what stands behind it.
 #[tactic(auto, using(crate::proofs::Cutting::line_cuts))]
 pub(crate) fn cut_line(text: &[u8]) -> (&[u8], &[u8])
@@ -131,7 +125,7 @@ pub(crate) fn cut_line(text: &[u8]) -> (&[u8], &[u8])
         stated n (lines text.now) ≡ stated n (result.0.now ∷ lines result.1.now) }
     ensures shorter { 0 < length text.now → length result.1.now < length text.now }
 {
-    match first_feed(text) {
+    match index_of(text, b'\n') {
         Some(end) => (&text[..end], &text[end + 1..]),
         None => (text, &[]),
     }

@@ -1,16 +1,17 @@
 -- The blocks of a log, from left to right.
-use Rattle.std.proofs.Common.{◌≡◌, ℕ, ◌+◌, ◌≤◌, ◌^◌, Bool, true, false, cond, List, [], ◌∷◌, ◌++◌, length, Some, None, refl, sym, ap, ◌∙◌, arith, codes, append_assoc, length-append, if◌then◌else◌}
+use Rattle.std.proofs.Common.{◌≡◌, ◌≢◌, ℕ, zero, suc, ◌+◌, ◌≤◌, Bool, true, false, cond, List, [], ◌∷◌, ◌++◌, length, nat_eq, Option, Some, None, refl, sym, ap, ◌∙◌, arith, codes, append_assoc, length-append, if◌then◌else◌}
 use Rattle.std.specs.Prelude.{count_by}
 use Rattle.std.specs.Int.{from_bool}
+use Rattle.std.specs.Option.{option_eq}
 use Rattle.std.proofs.lemmas.List.{append-nil}
 use Rattle.std.proofs.lemmas.List.Sums.{sum_by-cons, sum_by-append}
 use Rattle.std.proofs.lemmas.List.Concat.{flat_map-append}
 use Rattle.session_log.specs.Lines.{lines, bytes_of}
 use Rattle.session_log.specs.Faults.{is_session_line, NoSessionLine}
-use Rattle.session_log.specs.Blocks.{ends_block, blocks, text_of, located, blocks_of, size_fault}
+use Rattle.session_log.specs.Blocks.{ends_block, blocks, text_of, located, blocks_of, session_limit_fault, fault_of_size}
 use Rattle.session_log.specs.declared.fault.LogFault.TheVariants.{OverLimit}
 use Rattle.session_log.specs.declared.fault.Limit.TheVariants.{Sessions}
-use Rattle.std.proofs.lemmas.Bool.{le-ltb, lt-ltb}
+use Rattle.std.proofs.lemmas.Bool.{eqb-true, eqb-false, le-ltb, lt-ltb}
 use Rattle.session_log.specs.declared.block.Block.{Block}
 use Rattle.session_log.specs.Version.{header_text, first_line, version_of, body_of}
 use Rattle.session_log.specs.declared.version.Version.{Version}
@@ -109,7 +110,7 @@ len_split text b r e = ap length e ∙ length-append b r
 counted_cons : (l : List ℕ × Bool) (ls rest : List (List ℕ × Bool)) → rest ≡ l ∷ ls → count_by is_session_line rest ≡ cond (is_session_line l) 1 0 + count_by is_session_line ls
 counted_cons l ls rest e = ap (count_by is_session_line) e ∙ sum_by-cons (λ l. cond (is_session_line l) 1 0) l ls
 
-pub first_counted : (k : ℕ) (t : Bool) (l : List ℕ × Bool) (ls rest : List (List ℕ × Bool)) → k ≡ from_bool t → t ≡ is_session_line l → rest ≡ l ∷ ls → (k + count_by is_session_line ls ≡ count_by is_session_line rest) × (k ≤ 64)
+pub first_counted : (k : ℕ) (t : Bool) (l : List ℕ × Bool) (ls rest : List (List ℕ × Bool)) → k ≡ from_bool t → t ≡ is_session_line l → rest ≡ l ∷ ls → (k + count_by is_session_line ls ≡ count_by is_session_line rest) × (k ≤ 1)
 first_counted k true l ls rest e f h = (ap (λ n. n + count_by is_session_line ls) e ∙ sym (counted_cons l ls rest h ∙ ap (λ t. cond t 1 0 + count_by is_session_line ls) (sym f)), omega (arith, e))
 first_counted k false l ls rest e f h = (ap (λ n. n + count_by is_session_line ls) e ∙ sym (counted_cons l ls rest h ∙ ap (λ t. cond t 1 0 + count_by is_session_line ls) (sym f)), omega (arith, e))
 
@@ -138,20 +139,36 @@ counted_behind text body b =
     omega (arith, all, none, same)
 
 -- the limit on sessions
-pub too_many : (text : List ℕ) (n m : ℕ) → length text ≤ 2 ^ 24 → n + 1 + m ≡ count_by is_session_line (lines text) → n ≡ 64 → size_fault text ≡ Some (OverLimit Sessions)
-unfolding size_fault
-too_many text n m small h e =
-    let fits = le-ltb (2 ^ 24) (length text) small in
-    let over = lt-ltb 64 (count_by is_session_line (lines text)) (omega (arith, h, e)) in
-    rw (fits, over) refl
+abbrev pub AreWithin : Option ℕ → ℕ → Type 0
+AreWithin None n = Unit {0}
+AreWithin (Some most) n = n ≤ most
 
-pub few_enough : (text rest : List ℕ) (n : ℕ) → length text ≤ 2 ^ 24 → n + count_by is_session_line (lines rest) ≡ count_by is_session_line (lines text) → n ≤ 64 → 0 ≡ length rest → size_fault text ≡ None
-unfolding size_fault
-few_enough text rest n small h few end =
-    let fits = le-ltb (2 ^ 24) (length text) small in
+none_within : (most : Option ℕ) → AreWithin most 0
+none_within None = tt
+none_within (Some m) = omega arith
+
+pub first_within : (most : Option ℕ) (n : ℕ) → most ≢ Some 0 → n ≤ 1 → AreWithin most n
+first_within None n h le = tt
+first_within (Some zero) n h le = absurd (h refl)
+first_within (Some (suc m)) n h le = omega (arith, le)
+
+pub next_within : (most : Option ℕ) (n : ℕ) → AreWithin most n → option_eq nat_eq most (Some n) ≡ false → AreWithin most (n + 1)
+next_within None n h e = tt
+next_within (Some m) n h e = omega (arith, h, eqb-false m n e)
+
+pub too_many : (most : Option ℕ) (text : List ℕ) (n m : ℕ) → n + 1 + m ≡ count_by is_session_line (lines text) → option_eq nat_eq most (Some n) ≡ true → session_limit_fault most text ≡ Some (OverLimit Sessions)
+too_many None text n m h e = cc
+too_many (Some most) text n m h e =
+    let over = lt-ltb most (count_by is_session_line (lines text)) (omega (arith, h, eqb-true most n e)) in
+    rw over refl
+
+pub few_enough : (most : Option ℕ) (text rest : List ℕ) (n : ℕ) → n + count_by is_session_line (lines rest) ≡ count_by is_session_line (lines text) → AreWithin most n → 0 ≡ length rest → session_limit_fault most text ≡ None
+few_enough None text rest n h few end = refl
+few_enough (Some most) text rest n h few end =
     let counted = count_end n (count_by is_session_line (lines text)) rest h end in
-    let under = le-ltb 64 (count_by is_session_line (lines text)) (omega (arith, counted, few)) in
-    rw (fits, under) refl
+    let under = le-ltb most (count_by is_session_line (lines text)) (omega (arith, counted, few)) in
+    rw under refl
 
-pub empty_fits : (text body : List ℕ) → length text ≤ 2 ^ 24 → 0 ≡ length body → body ≡ body_of text → size_fault text ≡ None
-empty_fits text body small end b = few_enough text body 0 small (omega (arith, counted_behind text body b)) (omega arith) end
+pub empty_fits : (bytes : ℕ) (most : Option ℕ) (text body : List ℕ) → length text ≤ bytes → 0 ≡ length body → body ≡ body_of text → fault_of_size bytes most text ≡ None
+empty_fits bytes most text body small end b =
+    rw (le-ltb bytes (length text) small) (few_enough most text body 0 (omega (arith, counted_behind text body b)) (none_within most) end)

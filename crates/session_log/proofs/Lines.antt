@@ -21,10 +21,10 @@ pub lines-nil : lines [] ≡ []
 unfolding lines
 lines-nil = refl
 
-take_step : (b j k : ℕ) (bs : List ℕ) → j ≡ suc k → take j (b ∷ bs) ≡ b ∷ take k bs
+pub take_step : (b j k : ℕ) (bs : List ℕ) → j ≡ suc k → take j (b ∷ bs) ≡ b ∷ take k bs
 take_step b j k bs e = ap (λ j. take j (b ∷ bs)) e
 
-drop_step : (b j k : ℕ) (bs : List ℕ) → j ≡ suc k → drop j (b ∷ bs) ≡ drop k bs
+pub drop_step : (b j k : ℕ) (bs : List ℕ) → j ≡ suc k → drop j (b ∷ bs) ≡ drop k bs
 drop_step b j k bs e = ap (λ j. drop j (b ∷ bs)) e
 
 -- up to the first LF

@@ -57,12 +57,20 @@ block_text text b = slice_range text b.start b.stop
 abbrev pub block_fault : List ℕ → Block → Option LogFault
 block_fault text b = first_fault b.version b.line Start (lines (block_text text b))
 
--- the limits on the whole text
+-- the limit on the lines that begin with `session`, where there is one
+abbrev pub session_limit_fault : Option ℕ → List ℕ → Option LogFault
+session_limit_fault None text = None
+session_limit_fault (Some most) text = if nat_lt most
+    (count_by is_session_line (lines text)) then Some (OverLimit limit.Sessions) else None
+
+-- the limits on the whole text: the first is on its bytes
+abbrev pub fault_of_size : ℕ → Option ℕ → List ℕ → Option LogFault
+fault_of_size bytes sessions text = if nat_lt bytes (length text) then Some
+    (OverLimit limit.LogBytes) else session_limit_fault sessions text
+
+-- the limits of a log
 unfoldable pub size_fault : List ℕ → Option LogFault
-size_fault text =
-    if nat_lt (MAX_LOG_BYTES) (length text) then Some (OverLimit limit.LogBytes) else
-    (if nat_lt MAX_SESSIONS (count_by is_session_line (lines text)) then Some
-    (OverLimit limit.Sessions) else None)
+size_fault text = fault_of_size MAX_LOG_BYTES (Some MAX_SESSIONS) text
 
 -- the first of these that is a fault
 abbrev pub first_of : List (Option LogFault) → Option LogFault

@@ -1,13 +1,13 @@
 //! A log, cut into the blocks of its sessions.
 
-ghost use Rattle.std.specs.Prelude.{◌≡◌, ◌<◌, ◌≤◌, ◌^◌, None, IfOk, IfErr, length, Contains, codes};
+ghost use Rattle.std.specs.Prelude.{◌≡◌, ◌≢◌, ◌<◌, Some, None, IfOk, IfErr, length, Contains, codes};
 ghost use Rattle.std.specs.Prelude.{nat_eq};
 ghost use Rattle.std.specs.List.{starts_with};
 ghost use Rattle.session_log.specs.Faults.{IsFault, IsSizeFault, IsGrammarFault};
 ghost use Rattle.session_log.specs.Text.{view, session_text, IsLegal, IsHeldBy};
 ghost use Rattle.session_log.specs.Version.{version_of, body_of};
 ghost use Rattle.session_log.specs.Blocks.{blocks_of, block_text, block_fault, size_fault};
-ghost use Rattle.session_log.specs.declared.limits.TheConstants.{MAX_LOG_BYTES};
+ghost use Rattle.session_log.specs.Blocks.{fault_of_size, session_limit_fault};
 
 use crate::fault::{Limit, LogFault};
 use crate::limits::{MAX_LOG_BYTES, MAX_SESSIONS};
@@ -47,7 +47,25 @@ pub fn cut(alloc: Global, log: &[u8]) -> Result<(Version, Vec<Block>), LogFault>
     ensures fault { IfErr result (λ f. IsFault f (size_fault log.now)) }
     ensures kind { IfErr result (λ f. IsSizeFault f) }
 {
-    if log.len() > MAX_LOG_BYTES {
+    cut_within(alloc, log, MAX_LOG_BYTES, Some(MAX_SESSIONS))
+}
+
+/// The same with other limits: on its bytes, and on the lines that begin with `session`, where
+/// there is one.
+pub fn cut_within(
+    alloc: Global,
+    log: &[u8],
+    bytes: usize,
+    sessions: Option<usize>,
+) -> Result<(Version, Vec<Block>), LogFault>
+    requires { sessions ≢ Some 0 }
+    ensures accepted { IfOk result (λ _. fault_of_size bytes sessions log.now ≡ None) }
+    ensures version { IfOk result (λ found. found.0 ≡ version_of log.now) }
+    ensures blocks { IfOk result (λ found. found.1.items ≡ blocks_of log.now) }
+    ensures fault { IfErr result (λ f. IsFault f (fault_of_size bytes sessions log.now)) }
+    ensures kind { IfErr result (λ f. IsSizeFault f) }
+{
+    if log.len() > bytes {
         return Err(LogFault::OverLimit {
             which: Limit::LogBytes,
         });
@@ -57,26 +75,27 @@ pub fn cut(alloc: Global, log: &[u8]) -> Result<(Version, Vec<Block>), LogFault>
     if body.is_empty() {
         return Ok((version, Vec::new(alloc)));
     }
-    Ok((version, cut_lines(alloc, log, version, body)?))
+    Ok((version, cut_lines(alloc, log, version, body, sessions)?))
 }
 
-/// The blocks of a log that has lines behind its header and keeps the limit on bytes.
+/// The blocks of a log that has lines behind its header.
 fn cut_lines(
     alloc: Global,
     log: &[u8],
     version: Version,
     body: &[u8],
+    most: Option<usize>,
 ) -> Result<Vec<Block>, LogFault>
     requires version { version ≡ version_of log.now }
     requires body { body.now ≡ body_of log.now }
     requires some { 0 < length body.now }
-    requires small { length log.now ≤ MAX_LOG_BYTES }
-    ensures accepted { IfOk result (λ _. size_fault log.now ≡ None) }
+    requires most { most ≢ Some 0 }
+    ensures accepted { IfOk result (λ _. session_limit_fault most log.now ≡ None) }
     ensures blocks { IfOk result (λ blocks. blocks.items ≡ blocks_of log.now) }
-    ensures fault { IfErr result (λ f. IsFault f (size_fault log.now)) }
+    ensures fault { IfErr result (λ f. IsFault f (session_limit_fault most log.now)) }
     ensures kind { IfErr result (λ f. IsSizeFault f) }
 {
-    let mut found = Vec::with_capacity(alloc, MAX_SESSIONS + 1)?;
+    let mut found = Vec::new(alloc);
     let (first, _, mut rest) = next_line(body);
     let mut sessions = usize::from(starts_session(first));
     let mut start = version.header().len();
@@ -86,7 +105,7 @@ fn cut_lines(
     while !rest.is_empty() {
         let (body, _, after) = next_line(rest);
         if starts_session(body) {
-            if sessions == MAX_SESSIONS {
+            if most == Some(sessions) {
                 return Err(LogFault::OverLimit {
                     which: Limit::Sessions,
                 });

@@ -18,7 +18,7 @@ mod short_bytes;
 mod version;
 mod words;
 
-pub use block::{Block, cut, parse_block};
+pub use block::{Block, cut, cut_within, parse_block};
 pub use fault::{Limit, LogFault};
 pub use key::Key;
 pub use limits::{MAX_KEYS, MAX_LOG_BYTES, MAX_OPERATIONS, MAX_SESSIONS};

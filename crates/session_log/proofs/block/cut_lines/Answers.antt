@@ -6,9 +6,9 @@ use Rattle.session_log.specs.Faults.{is_session_line}
 use Rattle.session_log.specs.Blocks.{blocks_of}
 use Rattle.session_log.specs.Version.{header_text, first_line, version_of, body_of}
 use Rattle.session_log.proofs.Versions.{header_and_body, header_room}
-use Rattle.session_log.proofs.Cutting.{blocks_from, start_blocks, block_ends, block_goes_on, blocks_end, len_split, first_counted, session_counted, other_counted, too_many, few_enough, counted_behind}
+use Rattle.session_log.proofs.Cutting.{blocks_from, start_blocks, block_ends, block_goes_on, blocks_end, len_split, first_counted, first_within, next_within, session_counted, other_counted, too_many, few_enough, counted_behind}
 use Rattle.session_log.proofs.block.cut_lines.Goals as goal
-use Rattle.session_log.proofs.block.cut_lines.Goals.{then-starts_session+else-sessions-eq-MAX_SESSIONS+in_ok-push, else-starts_session}
+use Rattle.session_log.proofs.block.cut_lines.Goals.{then-starts_session+else-eq+in_ok-push, else-starts_session}
 
 pub overflow_sub-at : goal.overflow_sub-at
 overflow_sub-at c =
@@ -33,20 +33,21 @@ loop-rest-init c =
     let behind = counted_behind c.args.log.now c.args.body.now c.requires.body in
     let room = header_room (version_of c.args.log.now) in
     record {
-      done = ap (λ o. o ++ blocks_from v (length c.header-start.result.now) c.first_line-line.result (length c.args.log.now - length rest) (c.first_line-line.result + 1) (lines rest)) c.in_ok-found.ensures.items ∙ start_blocks v c.args.log.now (body, ended) (lines rest) (length c.header-start.result.now) c.first_line-line.result (length c.args.log.now - length rest) (c.first_line-line.result + 1) c.requires.version (ap lines (sym c.requires.body) ∙ is) header first at refl;
+      done = ap (λ o. o ++ blocks_from v (length c.header-start.result.now) c.first_line-line.result (length c.args.log.now - length rest) (c.first_line-line.result + 1) (lines rest)) c.new-found.ensures.items ∙ start_blocks v c.args.log.now (body, ended) (lines rest) (length c.header-start.result.now) c.first_line-line.result (length c.args.log.now - length rest) (c.first_line-line.result + 1) c.requires.version (ap lines (sym c.requires.body) ∙ is) header first at refl;
       counted = counted.0 ∙ sym behind;
-      few = counted.1;
+      few = first_within c.args.most c.from-sessions.result c.requires.most counted.1;
       place = omega (arith, log, whole, len);
       room = omega (arith, at, header, first, room, len, c.next_line.ensures.shorter);
+      each = omega (arith, counted.1);
     }
 
-pub returns-then-sessions-eq-MAX_SESSIONS-clause-fault : goal.returns-then-sessions-eq-MAX_SESSIONS-clause-fault
-returns-then-sessions-eq-MAX_SESSIONS-clause-fault c =
+pub returns-then-eq-clause-fault : goal.returns-then-eq-clause-fault
+returns-then-eq-clause-fault c =
     let l : List ℕ × Bool = (c.next_line-in-loop-rest.result.0.now, c.next_line-in-loop-rest.result.1) in
     let ls = lines c.next_line-in-loop-rest.result.2.now in
     let yes = sym c.starts_session-in-loop-rest.ensures ∙ c.if-starts_session.true in
     let counted = session_counted c.loop-rest.sessions (count_by is_session_line (lines c.args.log.now)) l ls (lines c.loop-rest.rest.now) c.loop-rest.invariant.counted c.next_line-in-loop-rest.ensures.line yes in
-    too_many c.args.log.now c.loop-rest.sessions (count_by is_session_line ls) c.requires.small counted c.if-sessions-eq-MAX_SESSIONS.true
+    too_many c.args.most c.args.log.now c.loop-rest.sessions (count_by is_session_line ls) counted (sym c.eq.ensures ∙ c.if-eq.true)
 
 pub loop-rest-preserved : goal.loop-rest-preserved
 loop-rest-preserved c =
@@ -59,7 +60,7 @@ loop-rest-preserved c =
     let moved : length c.args.log.now - length rest ≡ c.loop-rest.at + length (bytes_of (body, ended)) = omega (arith, len, c.loop-rest.invariant.place) in
     record {
       done = elim c.if-starts_session.branch [
-        | then-starts_session+else-sessions-eq-MAX_SESSIONS+in_ok-push w ↦
+        | then-starts_session+else-eq+in_ok-push w ↦
             let yes = sym c.starts_session-in-loop-rest.ensures ∙ w.if-starts_session.true in
             rw (w.start-is, w.line-is) (block_ends c.args.version c.loop-rest.start c.loop-rest.line c.loop-rest.at c.loop-rest.n (body, ended) (lines rest) (lines c.loop-rest.rest.now) c.loop-rest.found.items c.if-starts_session.found.items (blocks_of c.args.log.now) (length c.args.log.now - length rest) (c.loop-rest.n + 1) c.loop-rest.invariant.done is yes (rw w.found-is w.in_ok-push.ensures.items) moved refl)
         | else-starts_session w ↦
@@ -67,21 +68,25 @@ loop-rest-preserved c =
             rw (w.start-is, w.line-is, w.found-is) (block_goes_on c.args.version c.loop-rest.start c.loop-rest.line c.loop-rest.at c.loop-rest.n (body, ended) (lines rest) (lines c.loop-rest.rest.now) c.loop-rest.found.items (blocks_of c.args.log.now) (length c.args.log.now - length rest) (c.loop-rest.n + 1) c.loop-rest.invariant.done is no moved refl)
       ];
       counted = elim c.if-starts_session.branch [
-        | then-starts_session+else-sessions-eq-MAX_SESSIONS+in_ok-push w ↦
+        | then-starts_session+else-eq+in_ok-push w ↦
             rw w.sessions-is (session_counted c.loop-rest.sessions total (body, ended) (lines rest) (lines c.loop-rest.rest.now) c.loop-rest.invariant.counted is (sym c.starts_session-in-loop-rest.ensures ∙ w.if-starts_session.true))
         | else-starts_session w ↦
             rw w.sessions-is (other_counted c.loop-rest.sessions total (body, ended) (lines rest) (lines c.loop-rest.rest.now) c.loop-rest.invariant.counted is (sym c.starts_session-in-loop-rest.ensures ∙ w.if-starts_session.false))
       ];
       few = elim c.if-starts_session.branch [
-        | then-starts_session+else-sessions-eq-MAX_SESSIONS+in_ok-push w ↦ omega (arith, w.sessions-is, w.if-sessions-eq-MAX_SESSIONS.false, c.loop-rest.invariant.few)
-        | else-starts_session w ↦ omega (arith, w.sessions-is, c.loop-rest.invariant.few)
+        | then-starts_session+else-eq+in_ok-push w ↦ rw w.sessions-is (next_within c.args.most c.loop-rest.sessions c.loop-rest.invariant.few (sym w.eq.ensures ∙ w.if-eq.false))
+        | else-starts_session w ↦ rw w.sessions-is c.loop-rest.invariant.few
       ];
       place = omega (arith, len, c.loop-rest.invariant.place);
       room = omega (arith, len, c.loop-rest.invariant.place, c.loop-rest.invariant.room, c.next_line-in-loop-rest.ensures.shorter);
+      each = elim c.if-starts_session.branch [
+        | then-starts_session+else-eq+in_ok-push w ↦ omega (arith, w.sessions-is, c.loop-rest.invariant.each)
+        | else-starts_session w ↦ omega (arith, w.sessions-is, c.loop-rest.invariant.each)
+      ];
     }
 
 pub returns-clause-accepted : goal.returns-clause-accepted
-returns-clause-accepted c = few_enough c.args.log.now c.loop-rest.rest.now c.loop-rest.sessions c.requires.small c.loop-rest.invariant.counted c.loop-rest.invariant.few (sym (eqb-true (length c.loop-rest.rest.now) 0 (sym c.is_empty.ensures ∙ c.loop-rest-test.false)))
+returns-clause-accepted c = few_enough c.args.most c.args.log.now c.loop-rest.rest.now c.loop-rest.sessions c.loop-rest.invariant.counted c.loop-rest.invariant.few (sym (eqb-true (length c.loop-rest.rest.now) 0 (sym c.is_empty.ensures ∙ c.loop-rest-test.false)))
 
 pub returns-clause-blocks : goal.returns-clause-blocks
 returns-clause-blocks c = c.in_ok-push-2.ensures.items ∙ blocks_end c.args.version c.loop-rest.start c.loop-rest.line c.loop-rest.at c.loop-rest.n c.loop-rest.rest.now c.loop-rest.found.items (blocks_of c.args.log.now) c.loop-rest.invariant.done (sym (eqb-true (length c.loop-rest.rest.now) 0 (sym c.is_empty.ensures ∙ c.loop-rest-test.false)))

@@ -3,7 +3,7 @@ use Rattle.std.specs.Prelude.{count_by}
 use Rattle.session_log.specs.Lines.{lines}
 use Rattle.session_log.specs.Faults.{is_session_line}
 use Rattle.session_log.specs.Blocks.{blocks_of}
-use Rattle.session_log.proofs.Cutting.{blocks_from}
+use Rattle.session_log.proofs.Cutting.{blocks_from, AreWithin}
 use Rattle.session_log.proofs.block.cut_lines.Given as goal
 
 abbrev pub invariant-loop-rest : goal.invariant-loop-rest
@@ -11,9 +11,10 @@ invariant-loop-rest l =
     record {
       done : l.found.items ++ blocks_from l.fn.version l.start l.line l.at l.n (lines l.rest) ≡ blocks_of l.fn.log;
       counted : l.sessions + count_by is_session_line (lines l.rest) ≡ count_by is_session_line (lines l.fn.log);
-      few : l.sessions ≤ 64;
+      few : AreWithin l.fn.most l.sessions;
       place : l.at + length l.rest ≡ length l.fn.log;
       room : l.n ≤ l.at + 1;
+      each : l.sessions ≤ l.n;
     }
 
 abbrev pub decreases-loop-rest : goal.decreases-loop-rest
