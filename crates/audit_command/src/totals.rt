@@ -8,18 +8,8 @@ ghost use Rattle.audit_command.specs.Audited.{nodes_in, AreTotals};
 
 use crate::counts::LogCounts;
 use crate::told::Totals;
-use session_log::{Outcome, Session, Txn};
+use session_log::{Session, Txn};
 use std::alloc::AllocError;
-
-/// Whether the transaction is committed.
-fn is_committed(txn: &Txn) -> bool
-    ensures { result ≡ is_committed (view_txn txn.now) }
-{
-    match txn.outcome {
-        Outcome::Commit => true,
-        Outcome::Abort | Outcome::Unknown => false,
-    }
-}
 
 /// How many of the transactions are committed.
 fn nodes_among(txns: &[Txn]) -> usize
@@ -27,7 +17,7 @@ fn nodes_among(txns: &[Txn]) -> usize
 {
     let mut nodes = 0;
     for txn in txns {
-        if is_committed(txn) {
+        if txn.is_committed() {
             nodes += 1;
         }
     }

@@ -6,7 +6,7 @@ ghost use Rattle.cutting.specs.Parts.{parts_view, piece_view};
 ghost use Rattle.cutting.specs.Splits.{AllSince, behind, IsNoLater, AreApart};
 ghost use Rattle.cutting.specs.Ends.{begins_since};
 
-use crate::known::{all_over, is_committed};
+use crate::known::all_over;
 use crate::part::{Cuts, Part, Piece};
 use session_log::Txn;
 use std::alloc::{AllocError, Global};
@@ -16,7 +16,7 @@ fn begins_since(txns: &[Txn], moment: u64) -> bool
     ensures { result ≡ begins_since moment (map view_txn txns.now) }
 {
     for txn in txns {
-        if is_committed(txn) {
+        if txn.is_committed() {
             return match txn.begun {
                 Some(begun) => moment <= begun,
                 None => false,

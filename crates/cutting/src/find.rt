@@ -1,6 +1,6 @@
 //! Where a log may be cut. Nothing here is trusted.
 
-use crate::known::{all_over, is_committed};
+use crate::known::all_over;
 use crate::part::Part;
 use crate::split::{Count, Proposal, take_first, whole};
 use session_log::{Op, Session, Txn};
@@ -47,7 +47,7 @@ fn raise_others(txns: &[Txn], spots: &mut [Spot]) {
     for back in 0..txns.len() {
         let txn = txns.len() - 1 - back;
         if let Some(spot) = spots.get_mut(txn) {
-            if !is_committed(&txns[txn]) {
+            if !txns[txn].is_committed() {
                 let begun = txns[txn].begun.unwrap_or(0);
                 spot.since = spot.since.max(begun.min(behind));
             }
@@ -61,7 +61,7 @@ fn spots_in(alloc: Global, session: usize, txns: &[Txn]) -> Result<Vec<Spot>, Al
     let mut spots = Vec::with_capacity(alloc, txns.len())?;
     let mut since = 0;
     for (txn, each) in txns.iter().enumerate() {
-        let is_node = is_committed(each);
+        let is_node = each.is_committed();
         if is_node {
             since = since.max(each.begun.unwrap_or(0));
         }
@@ -104,7 +104,7 @@ fn writes_of(
     let mut writes = Vec::new(alloc);
     for (i, spot) in spots.iter().enumerate() {
         if let Some(txn) = txn_at(sessions, *spot) {
-            if is_committed(txn) {
+            if txn.is_committed() {
                 add_writes(&mut writes, i, &txn.ops)?;
             }
         }
@@ -119,7 +119,7 @@ fn ends_of(alloc: Global, sessions: &[Session], spots: &[Spot]) -> Result<Vec<En
     for (i, spot) in spots.iter().enumerate() {
         if let Some(txn) = txn_at(sessions, *spot) {
             if let Some(ended) = txn.ended {
-                if is_committed(txn) {
+                if txn.is_committed() {
                     ends.push(EndOf { ended, spot: i })?;
                 }
             }
@@ -185,7 +185,7 @@ fn mark_all(
         };
         if i < spots.len() {
             if let Some(txn) = txn_at(sessions, spots[i]) {
-                if is_committed(txn) {
+                if txn.is_committed() {
                     mark_sources(spots, todo, writes, &txn.ops, moment)?;
                 }
             }

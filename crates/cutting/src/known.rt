@@ -13,7 +13,7 @@ ghost use Rattle.cutting.specs.Splits.{nodes_of, AllOver};
 ghost use Rattle.cutting.specs.Ends.{ended_before, IsEnded, IsKnownOver, raised};
 
 use crate::part::Part;
-use session_log::{Op, Outcome, Txn};
+use session_log::{Op, Txn};
 use std::alloc::{AllocError, Global};
 
 /// Where a write of a piece stands: the place of its part, of its transaction there, and of the
@@ -26,22 +26,12 @@ struct WriteAt {
     op: usize,
 }
 
-/// Whether the transaction is committed: outcomes are known.
-pub fn is_committed(txn: &Txn) -> bool
-    ensures { result ≡ is_committed (view_txn txn.now) }
-{
-    match txn.outcome {
-        Outcome::Commit => true,
-        Outcome::Abort | Outcome::Unknown => false,
-    }
-}
-
 /// Whether it is a node that ended before the moment.
 fn ended_before(txn: &Txn, moment: u64) -> bool
     ensures { result ≡ ended_before moment (view_txn txn.now) }
 {
     match txn.ended {
-        Some(ended) => is_committed(txn) && ended < moment,
+        Some(ended) => txn.is_committed() && ended < moment,
         None => false,
     }
 }
@@ -64,7 +54,7 @@ fn writes_of(alloc: Global, parts: &[Part]) -> Result<Vec<WriteAt>, AllocError> 
     let mut writes = Vec::new(alloc);
     for (part, each) in parts.iter().enumerate() {
         for (txn, it) in each.txns.iter().enumerate() {
-            if is_committed(it) {
+            if it.is_committed() {
                 add_writes(&mut writes, part, txn, &it.ops)?;
             }
         }
@@ -117,7 +107,7 @@ fn is_source(read: &Op, txn: &Txn, op: usize) -> bool
         × (reads_write read.now write ≡ true) }
 {
     match txn.ops.get(op) {
-        Some(write) => is_committed(txn) && reads_write(read, write),
+        Some(write) => txn.is_committed() && reads_write(read, write),
         None => false,
     }
 }
@@ -193,7 +183,7 @@ fn over_node<'a>(parts: &[Part<'a>], over: &[usize], part: usize, txn: usize) ->
         return None;
     }
     let it = parts.get(part)?.txns.get(txn)?;
-    if is_committed(it) { Some(it) } else { None }
+    if it.is_committed() { Some(it) } else { None }
 }
 
 /// Follows the reads of a node that is over.
@@ -282,7 +272,7 @@ fn is_covered(txns: &[Txn], over: usize) -> bool
         is_committed txn ≡ false }
 {
     for (i, txn) in txns.iter().enumerate() {
-        if over <= i && is_committed(txn) {
+        if over <= i && txn.is_committed() {
             return false;
         }
     }

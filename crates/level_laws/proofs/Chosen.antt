@@ -12,7 +12,8 @@ use Rattle.session_log.specs.declared.session.Op.TheVariants.{Read, Write}
 use Rattle.session_log.specs.declared.session.Outcome.TheVariants.{Unknown}
 use Rattle.serializability.specs.Replay.{ListsOnce}
 use Rattle.serializability.proofs.Places.{Has, Apart, each_of_filter}
-use Rattle.log_definitions.specs.Unknown.{is_commit, is_committed, txns_in, ops_in, settled_as, settle, settled, committed_ops, IsNeeded, IsClosed}
+use Rattle.log_definitions.specs.Unknown.{is_committed, txns_in, ops_in, settled_as, settle, settled, committed_ops, IsNeeded, IsClosed}
+use Rattle.session_log.specs.Text.{is_commit}
 use Rattle.log_definitions.specs.WellFormed.{written}
 use Rattle.log_definitions.specs.Serial.{Committed, committed_in, node_of, ops_of, initial}
 use Rattle.log_definitions.proofs.Members.{member, themselves}

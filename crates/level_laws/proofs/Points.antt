@@ -28,7 +28,8 @@ use Rattle.piece_laws.proofs.Sessions.{nodes_of}
 use Rattle.piece_laws.proofs.Identities.{ordered_node}
 use Rattle.piece_laws.proofs.Shifted.{orders_from_serial, serial_from_orders}
 use Rattle.level_laws.specs.Snapshot.{Point, snapshot, commit, number, IsSnapshotOrder}
-use Rattle.level_laws.specs.Split.{Locks, AreFresh, split, is_write, split_writers}
+use Rattle.level_laws.specs.Split.{Locks, AreFresh, split, split_writers}
+use Rattle.session_log.specs.Text.{is_write}
 use Rattle.level_laws.specs.Points.{points_from, points_at, points_along, PointsOfWriters}
 use Rattle.level_laws.proofs.Merge.{Across, pairs_flat}
 use Rattle.level_laws.proofs.Nodes.{start_node, end_node, both_nodes, nodes_are, split_nodes, split_learnt, start_in, end_in, twice_as_many}

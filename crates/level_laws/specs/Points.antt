@@ -8,7 +8,8 @@ use Rattle.log_definitions.specs.Unknown.{resolved}
 use Rattle.log_definitions.specs.Serial.{Committed, committed_in, IsSerialOrder}
 use Rattle.piece_laws.specs.Logs.{IsSoundLog}
 use Rattle.level_laws.specs.Snapshot.{Point, snapshot, commit, IsSnapshotOrder}
-use Rattle.level_laws.specs.Split.{Locks, AreFresh, is_write, split_writers}
+use Rattle.level_laws.specs.Split.{Locks, AreFresh, split_writers}
+use Rattle.session_log.specs.Text.{is_write}
 
 -- the points of its nodes that stand for node v: the snapshot and the commit apart, if it writes
 abbrev pub points_of_node : ℕ → List Op → List (List Point)

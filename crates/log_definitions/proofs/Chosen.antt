@@ -8,7 +8,8 @@ use Rattle.session_log.specs.declared.session.Op.{Op}
 use Rattle.session_log.specs.declared.session.Op.TheVariants.{Read, Write}
 use Rattle.session_log.specs.declared.session.Outcome.TheVariants.{Unknown}
 use Rattle.serializability.proofs.Places.{Has, Apart, each_of_flat_map, each_from_flat_map, each_from_append, each_of_filter}
-use Rattle.log_definitions.specs.Unknown.{is_commit, is_committed, txns_in, ops_in, settled_as, settled, committed_ops, IsNeeded, IsClosed}
+use Rattle.log_definitions.specs.Unknown.{is_committed, txns_in, ops_in, settled_as, settled, committed_ops, IsNeeded, IsClosed}
+use Rattle.session_log.specs.Text.{is_commit}
 use Rattle.log_definitions.specs.WellFormed.{written}
 use Rattle.log_definitions.specs.Serial.{Committed, committed_of, node_in, initial}
 use Rattle.log_definitions.proofs.Members.{member, themselves, each_weaker, each_member}

@@ -9,7 +9,8 @@ use Rattle.session_log.specs.Text.{ClientSession, Transaction}
 use Rattle.session_log.specs.declared.session.Outcome.{Outcome}
 use Rattle.session_log.specs.declared.session.Outcome.TheVariants.{Commit, Abort, Unknown}
 use Rattle.serializability.specs.declared.node.TheConstants.{MAX_NODES}
-use Rattle.log_definitions.specs.Unknown.{is_commit, is_committed, txns_in, settled_as, settle, settled, taken, resolved}
+use Rattle.log_definitions.specs.Unknown.{is_committed, txns_in, settled_as, settle, settled, taken, resolved}
+use Rattle.session_log.specs.Text.{is_commit}
 use Rattle.log_definitions.specs.WellFormed.{is_aborted}
 use Rattle.log_definitions.specs.Numbers.{log_of, IsWellFormedList}
 use Rattle.log_definitions.proofs.Nodes.{committed_count}

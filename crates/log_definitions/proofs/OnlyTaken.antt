@@ -9,7 +9,8 @@ use Rattle.session_log.specs.declared.session.Op.TheVariants.{Read, Write}
 use Rattle.session_log.specs.declared.session.Outcome.{Outcome}
 use Rattle.session_log.specs.declared.session.Outcome.TheVariants.{Commit, Abort, Unknown}
 use Rattle.serializability.proofs.Places.{Apart-from_IsDistinct, each_from_flat_map}
-use Rattle.log_definitions.specs.Unknown.{is_commit, is_committed, ops_in, settled_as, settle, settled, committed_ops, taken, IsClosed, IsWithin}
+use Rattle.log_definitions.specs.Unknown.{is_committed, ops_in, settled_as, settle, settled, committed_ops, taken, IsClosed, IsWithin}
+use Rattle.session_log.specs.Text.{is_commit}
 use Rattle.log_definitions.specs.WellFormed.{written}
 use Rattle.log_definitions.specs.Serial.{Committed, committed_of, committed_in, node_of, IsSerialOrder, IsSomeOrder}
 use Rattle.log_definitions.specs.Numbers.{IsWellFormedList}

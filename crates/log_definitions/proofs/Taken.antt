@@ -13,7 +13,8 @@ use Rattle.session_log.specs.declared.session.Op.TheVariants.{Read, Write}
 use Rattle.session_log.specs.declared.session.Outcome.{Outcome}
 use Rattle.session_log.specs.declared.session.Outcome.TheVariants.{Commit, Abort, Unknown}
 use Rattle.serializability.proofs.Places.{each_of_flat_map, each_from_flat_map, each_of_filter, each_from_filter}
-use Rattle.log_definitions.specs.Unknown.{is_commit, is_committed, is_unknown, txns_in, settled_as, settled, reads_write, reads_of, committed_ops, is_needed, taking, taking_times, taken, resolved, IsNeeded, IsClosed, IsWithin}
+use Rattle.log_definitions.specs.Unknown.{is_committed, is_unknown, txns_in, settled_as, settled, reads_write, reads_of, committed_ops, is_needed, taking, taking_times, taken, resolved, IsNeeded, IsClosed, IsWithin}
+use Rattle.session_log.specs.Text.{is_commit}
 use Rattle.log_definitions.proofs.Members.{member, themselves, each_weaker, any_member}
 use Rattle.log_definitions.proofs.Settled.{txn_ops, each_of_settled, each_from_settled}
 

@@ -5,16 +5,12 @@ use Rattle.std.specs.Prelude.{◌≡◌, ℕ, zero, suc, ◌==◌, ◌&&◌, ◌
 use Rattle.std.specs.Prelude.{if◌then◌else◌, List, length, map}
 use Rattle.std.specs.List.{filter, flat_map, list_any, Contains}
 use Rattle.std.specs.Str.{bytes_eq}
-use Rattle.session_log.specs.Text.{ClientSession, Transaction, is_unknown as is_unknown_outcome}
+use Rattle.session_log.specs.Text.{ClientSession, Transaction, is_commit}
+use Rattle.session_log.specs.Text.{is_unknown as is_unknown_outcome}
 use Rattle.session_log.specs.declared.session.Op.{Op}
 use Rattle.session_log.specs.declared.session.Op.TheVariants.{Read, Write}
 use Rattle.session_log.specs.declared.session.Outcome.{Outcome}
 use Rattle.session_log.specs.declared.session.Outcome.TheVariants.{Commit, Abort, Unknown}
-
-abbrev pub is_commit : Outcome → Bool
-is_commit Commit = true
-is_commit Abort = false
-is_commit Unknown = false
 
 abbrev pub is_committed : Transaction → Bool
 is_committed t = is_commit t.outcome

@@ -13,7 +13,7 @@ use Rattle.piece_laws.specs.Logs.{IsLearntLog}
 use Rattle.piece_laws.proofs.Sessions.{nodes_from, nodes_of}
 use Rattle.session_history.specs.Tables.{name_in}
 use Rattle.level_laws.specs.Snapshot.{Point, snapshot, commit}
-use Rattle.level_laws.specs.Split.{is_write}
+use Rattle.session_log.specs.Text.{is_write}
 use Rattle.level_laws.specs.Points.{points_from, points_at, points_along}
 use Rattle.level_laws.proofs.Nodes.{nodes_are}
 use Rattle.point_orders.specs.Text.{word_line, point_line, points_text}

@@ -3,11 +3,11 @@
 ghost use Rattle.std.specs.Prelude.{◌≡◌, ◌++◌, map, IfOk, OnOk};
 ghost use Rattle.std.specs.List.{list_any};
 ghost use Rattle.session_log.specs.Text.{view, view_txn};
-ghost use Rattle.log_definitions.specs.Unknown.{is_committed};
-ghost use Rattle.level_laws.specs.Split.{is_write, is_writer};
+ghost use Rattle.level_laws.specs.Split.{is_writer};
+ghost use Rattle.session_log.specs.Text.{is_write};
 ghost use Rattle.point_orders.specs.Halves.{halves_of, halves_from, halves_in};
 
-use session_log::{Op, Outcome, Session, Txn};
+use session_log::{Op, Session, Txn};
 use std::alloc::{AllocError, Global};
 
 /// Which points a transaction of the split log stands for: of the transaction of this session and
@@ -20,29 +20,11 @@ pub struct Half {
     pub has_commit: bool,
 }
 
-fn is_committed(txn: &Txn) -> bool
-    ensures committed { result ≡ is_committed (view_txn txn.now) }
-{
-    match txn.outcome {
-        Outcome::Commit => true,
-        Outcome::Abort | Outcome::Unknown => false,
-    }
-}
-
-fn is_write(op: &Op) -> bool
-    ensures write { result ≡ is_write op.now }
-{
-    match op {
-        Op::Read { .. } => false,
-        Op::Write { .. } => true,
-    }
-}
-
 fn has_write(ops: &[Op]) -> bool
     ensures write { result ≡ list_any is_write ops.now }
 {
     for op in ops {
-        if is_write(op) {
+        if op.is_write() {
             return true;
         }
     }
@@ -53,7 +35,7 @@ fn has_write(ops: &[Op]) -> bool
 fn is_writer(txn: &Txn) -> bool
     ensures writer { result ≡ is_writer (view_txn txn.now) }
 {
-    is_committed(txn) && has_write(&txn.ops)
+    txn.is_committed() && has_write(&txn.ops)
 }
 
 /// Appends what stands for a transaction of this session and place.
@@ -70,7 +52,7 @@ fn add_txn(halves: &mut Vec<Half>, session: u16, place: usize, txn: &Txn) -> Res
     if is_writer(txn) {
         halves.push(half(true, false))?;
         halves.push(half(false, true))?;
-    } else if is_committed(txn) {
+    } else if txn.is_committed() {
         halves.push(half(true, true))?;
     }
     Ok(())

@@ -11,7 +11,8 @@ use Rattle.session_log.specs.declared.session.Op.TheVariants.{Read, Write}
 use Rattle.session_log.specs.declared.session.Outcome.{Outcome}
 use Rattle.session_log.specs.declared.session.Outcome.TheVariants.{Commit, Abort, Unknown}
 use Rattle.serializability.proofs.Places.{Apart-from_IsDistinct, each_of_flat_map, each_of_map}
-use Rattle.log_definitions.specs.Unknown.{is_commit, is_unknown, txns_in, ops_in, settled_as, settled, committed_ops, taken, IsNeeded, IsClosed}
+use Rattle.log_definitions.specs.Unknown.{is_unknown, txns_in, ops_in, settled_as, settled, committed_ops, taken, IsNeeded, IsClosed}
+use Rattle.session_log.specs.Text.{is_commit}
 use Rattle.log_definitions.specs.WellFormed.{written}
 use Rattle.log_definitions.proofs.Members.{member, each_weaker, each_member}
 use Rattle.log_definitions.proofs.Taken.{Counts, each_from_committed, taken_least}

@@ -11,7 +11,8 @@ use Rattle.session_log.specs.declared.session.Op.{Op}
 use Rattle.session_log.specs.declared.session.Op.TheVariants.{Read, Write}
 use Rattle.session_log.specs.declared.session.Outcome.TheVariants.{Commit, Unknown}
 use Rattle.serializability.proofs.Places.{each_from_append, each_from_flat_map, each_of_map, each_from_map, length_mapped}
-use Rattle.log_definitions.specs.Unknown.{is_commit, settled_as, settled, committed_ops, taken, IsNeeded}
+use Rattle.log_definitions.specs.Unknown.{settled_as, settled, committed_ops, taken, IsNeeded}
+use Rattle.session_log.specs.Text.{is_commit}
 use Rattle.log_definitions.proofs.Members.{member, themselves, each_weaker, any_member}
 use Rattle.log_definitions.proofs.Taken.{Counts, EachCounted, each_of_committed, needed_taken}
 use Rattle.session_history.specs.Worklist.{ops_ended, committed_in_all, WriteView, unknown_writes, last_with, with_reads}

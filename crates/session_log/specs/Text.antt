@@ -98,6 +98,10 @@ IsLegalLine v (line.Begin moment) = IsLegalMoment v moment
 IsLegalLine v (line.Commit moment) = IsLegalMoment v moment
 IsLegalLine v _ = Unit {0}
 
+abbrev pub is_write : Op → Bool
+is_write (Read key wid) = false
+is_write (Write key wid) = true
+
 -- an operation that a log can hold: no write has identity 0, that of the initial value
 abbrev pub IsLegalOp : Op → Type 0
 IsLegalOp (Read key wid) = IsKey key × (wid < 2 ^ 64)
@@ -116,6 +120,11 @@ pub record IsLegalTxn (t : Transaction) : Type 0 where
   pub ended : IsMoment t.ended
   pub told : MayEndAt t.outcome t.ended
   pub ordered : is_earlier t.ended t.begun ≡ false
+
+abbrev pub is_commit : Outcome → Bool
+is_commit Commit = true
+is_commit Abort = false
+is_commit Unknown = false
 
 -- the client was not told how the transaction ended
 abbrev pub is_unknown : Outcome → Bool

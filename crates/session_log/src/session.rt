@@ -2,7 +2,7 @@
 
 ghost use Rattle.std.specs.Prelude.{◌≡◌};
 ghost use Rattle.session_log.specs.Moments.{is_earlier};
-ghost use Rattle.session_log.specs.Text.{is_unknown};
+ghost use Rattle.session_log.specs.Text.{is_write, is_commit, is_unknown};
 
 use crate::key::Key;
 
@@ -13,6 +13,17 @@ pub enum Op {
     Read { key: Key, wid: u64 },
     /// A write of `key`, under an identity of its own. A legal one is not 0.
     Write { key: Key, wid: u64 },
+}
+
+impl Op {
+    pub fn is_write(&self) -> bool
+        ensures { result ≡ is_write self.now }
+    {
+        match self {
+            Op::Read { .. } => false,
+            Op::Write { .. } => true,
+        }
+    }
 }
 
 /// A log of the greatest size can have millions of operations, and is read whole before they are
@@ -60,6 +71,18 @@ pub struct Txn {
     pub outcome: Outcome,
     pub begun: Option<u64>,
     pub ended: Option<u64>,
+}
+
+impl Txn {
+    /// Whether the client was told that it is committed.
+    pub fn is_committed(&self) -> bool
+        ensures { result ≡ is_commit self.now.outcome }
+    {
+        match self.outcome {
+            Outcome::Commit => true,
+            Outcome::Abort | Outcome::Unknown => false,
+        }
+    }
 }
 
 /// A client's session: its number, 1 to 65535 in a legal one, and its transactions in order.

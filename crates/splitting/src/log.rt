@@ -5,7 +5,8 @@ ghost use Rattle.std.specs.List.{IsDistinct, flat_map, list_any};
 ghost use Rattle.session_log.specs.Text.{view, view_txn};
 ghost use Rattle.log_definitions.specs.Unknown.{ops_in};
 ghost use Rattle.log_definitions.specs.WellFormed.{written};
-ghost use Rattle.level_laws.specs.Split.{Locks, is_writer, is_write, split_writers};
+ghost use Rattle.level_laws.specs.Split.{Locks, is_writer, split_writers};
+ghost use Rattle.session_log.specs.Text.{is_write};
 ghost use Rattle.splitting.specs.Locks.{locks_of, refusal, no_room, HasRoom};
 ghost use Rattle.splitting.specs.Room.{Fit, AreNamed};
 ghost use Rattle.splitting.specs.Halves.{parts, ops_by};
@@ -13,35 +14,23 @@ ghost use Rattle.splitting.specs.Halves.{parts, ops_by};
 use crate::halves::split_txn;
 use crate::room::NoRoom;
 use crate::survey::Survey;
-use session_log::{Op, Outcome, Session, Txn};
+use session_log::{Op, Session, Txn};
 use std::alloc::{AllocError, Global};
 
 /// The most bytes of a key.
 const MOST_BYTES: usize = 64;
 
-fn is_write(op: &Op) -> bool
-    ensures { result ≡ is_write op.now }
-{
-    match op {
-        Op::Read { .. } => false,
-        Op::Write { .. } => true,
-    }
-}
-
 fn any_write(ops: &[Op]) -> bool
     ensures { result ≡ list_any is_write ops.now }
 {
-    ops.iter().any(|op| is_write(op))
+    ops.iter().any(|op| op.is_write())
 }
 
 /// Whether the transaction committed and writes.
 pub fn is_writer(txn: &Txn) -> bool
     ensures { result ≡ is_writer (view_txn txn.now) }
 {
-    match txn.outcome {
-        Outcome::Commit => any_write(&txn.ops),
-        Outcome::Abort | Outcome::Unknown => false,
-    }
+    txn.is_committed() && any_write(&txn.ops)
 }
 
 /// The last identity for a lock that the writes of these operations give, which is this one before
@@ -52,7 +41,7 @@ fn last_behind(last: u64, ops: &[Op]) -> u64
 {
     let mut last = last;
     for op in ops {
-        if is_write(op) {
+        if op.is_write() {
             last += 1;
         }
     }

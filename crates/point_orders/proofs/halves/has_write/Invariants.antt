@@ -1,6 +1,6 @@
 use Rattle.std.proofs.Common.{◌≡◌, drop}
 use Rattle.std.specs.List.{list_any}
-use Rattle.level_laws.specs.Split.{is_write}
+use Rattle.session_log.specs.Text.{is_write}
 use Rattle.point_orders.proofs.halves.has_write.Given as goal
 
 abbrev pub invariant-loop-op : goal.invariant-loop-op
