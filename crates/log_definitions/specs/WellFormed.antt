@@ -90,25 +90,40 @@ list_fault n ss =
     option_or (session_fault (session_twice n (log_lines ss)))
     (option_or (limit_fault ss) (write_fault (write_twice n (log_lines ss))))
 
--- a well-formed log, which tells its version, and the sessions that it holds
-pub record IsWellFormed (text : List ℕ) (ss : List ClientSession) : Type 0 where
+-- the sessions of a text that has no fault of these two kinds: those of a text by its size, and those
+-- of legal sessions whose text begins at a line
+pub record IsLogWithin (text_fault : List ℕ → Option LogFault)
+    (sessions_fault : ℕ → List ClientSession → Option LogFault) (text : List ℕ)
+    (ss : List ClientSession) : Type 0 where
   pub legal : AllByRecursion IsLegal ss
   pub held : AllByRecursion (IsHeldBy (version_of text)) ss
   pub lines : text ≡ log_text (version_of text) ss
-  pub size : size_fault text ≡ None
-  pub sessions : list_fault (first_line (version_of text)) ss ≡ None
+  pub size : text_fault text ≡ None
+  pub sessions : sessions_fault (first_line (version_of text)) ss ≡ None
 
--- which fault a log is refused with: memory, or the first of those of the size, of the grammar and
+-- which fault a text is refused with: memory, or the first of those of the size, of the grammar and
 -- of the sessions
-pub data IsLogFault (text : List ℕ) : LogFault → Type 0 where
-  memory : IsLogFault text Memory
-  size : (f : LogFault) → size_fault text ≡ Some f → IsLogFault text f
-  grammar : (f : LogFault) → size_fault text ≡ None → grammar_fault text ≡ Some f
-      → IsLogFault text f
-  list : (f : LogFault) (ss : List ClientSession) → size_fault text ≡ None
+pub data IsFaultWithin (text_fault : List ℕ → Option LogFault)
+    (sessions_fault : ℕ → List ClientSession → Option LogFault)
+    (text : List ℕ) : LogFault → Type 0 where
+  memory : IsFaultWithin text_fault sessions_fault text Memory
+  size : (f : LogFault) → text_fault text ≡ Some f
+      → IsFaultWithin text_fault sessions_fault text f
+  grammar : (f : LogFault) → text_fault text ≡ None → grammar_fault text ≡ Some f
+      → IsFaultWithin text_fault sessions_fault text f
+  list : (f : LogFault) (ss : List ClientSession) → text_fault text ≡ None
       → AllByRecursion IsLegal ss → AllByRecursion (IsHeldBy (version_of text)) ss
-      → text ≡ log_text (version_of text) ss → list_fault (first_line (version_of text)) ss ≡ Some f
-      → IsLogFault text f
+      → text ≡ log_text (version_of text) ss
+      → sessions_fault (first_line (version_of text)) ss ≡ Some f
+      → IsFaultWithin text_fault sessions_fault text f
+
+-- a well-formed log, which tells its version, and the sessions that it holds
+abbrev pub IsWellFormed : List ℕ → List ClientSession → Type 0
+IsWellFormed = IsLogWithin size_fault list_fault
+
+-- which fault a log is refused with
+abbrev pub IsLogFault : List ℕ → LogFault → Type 0
+IsLogFault = IsFaultWithin size_fault list_fault
 
 -- the identities that operations write
 abbrev pub written : List Op → List ℕ

@@ -1,4 +1,3 @@
 pub mod Repeats
 pub mod Lines
-pub mod Faults
 pub mod Texts

@@ -1,70 +1,35 @@
 -- What holds of a text that is a long log, and of one that is none.
-use Rattle.std.proofs.Common.{◌≡◌, ◌≢◌, ℕ, ◌≤◌, ◌^◌, List, [], ◌∷◌, ◌++◌, length, Option, Some, None, refl, sym, ap, ◌∙◌, subst, arith, length-append, nat_eq}
+use Rattle.std.proofs.Common.{◌≡◌, ◌≢◌, ℕ, ◌≤◌, ◌^◌, List, [], ◌∷◌, ◌++◌, length, Some, None, sym, ap, ◌∙◌, subst, arith, length-append, nat_eq}
 use Rattle.std.specs.List.{IsDistinct, AllByRecursion}
 use Rattle.std.specs.Option.{option_or}
 use Rattle.session_log.specs.Text.{ClientSession, IsLegal, line_text, text_of_lines, log_text}
 use Rattle.session_log.specs.Version.{header_text, first_line, version_of}
 use Rattle.session_log.specs.Blocks as short
-use Rattle.session_log.specs.Faults.{grammar_fault}
 use Rattle.session_log.specs.declared.line.Line.{Line}
 use Rattle.session_log.specs.declared.fault.Limit.{Limit}
 use Rattle.session_log.specs.declared.fault.LogFault.{LogFault}
-use Rattle.session_log.specs.declared.fault.LogFault.TheVariants.{OverLimit, Memory}
+use Rattle.session_log.specs.declared.fault.LogFault.TheVariants.{OverLimit}
 use Rattle.session_log.specs.declared.version.Version.{Version}
-use Rattle.session_log.proofs.Whole.{grammar_fault_none, log_text_injective, log_by_lines}
+use Rattle.session_log.proofs.Whole.{log_by_lines}
 use Rattle.serializability.proofs.Places.{Apart-from_IsDistinct}
 use Rattle.serializability.proofs.Listed.{IsDistinct-from_Apart}
 use Rattle.log_definitions.specs.WellFormed.{log_lines, session_twice, write_twice, session_fault, write_fault, limit_fault, sessions_from, writes_from, written}
 use Rattle.log_definitions.specs.WellFormed as judged
-use Rattle.log_definitions.proofs.Accepted.{IsTextOfSome, sessions_where_no_fault}
+use Rattle.log_definitions.proofs.Refused.{NotMemory}
 use Rattle.piece_laws.specs.Logs.{IsSoundLog}
 use Rattle.piece_laws.proofs.Sound.{sound_where_legal}
 use Rattle.long_log_definitions.specs.LongLog.{size_fault, list_fault, IsLongLog, IsLongLogFault, memory, size, grammar, list, HasOwnNumbers}
 use Rattle.long_log_definitions.proofs.Repeats.{numbers, apart_where_none, none_where_apart}
 use Rattle.long_log_definitions.proofs.Lines.{session_numbers, written_identities}
-use Rattle.long_log_definitions.proofs.Faults.{NotMemory, size_fault_named, list_fault_named, grammar_fault_named}
 
-pub one_list : (text : List ℕ) (a b : List ClientSession) → IsLongLog text a → IsLongLog text b → a ≡ b
-one_list text a b v w = (log_text_injective (version_of text) (version_of text) a b v.legal w.legal (sym v.lines ∙ w.lines)).1
+-- ---- no definition answers memory
+pub size_fault_named : (text : List ℕ) → NotMemory (size_fault text)
+unfolding size_fault
+size_fault_named text e = grind arith
 
--- ---- a text with a fault is the text of no long log
-none_some : {A : Type 0} (o : Option A) (x : A) → o ≡ Some x → o ≡ None → ⊥
-none_some o x a b = cc
-
-pub refused : (text : List ℕ) (f : LogFault) → IsLongLogFault text f → f ≢ Memory → (ss : List ClientSession) → IsLongLog text ss → ⊥
-refused text _ memory ne ss w = ne refl
-refused text _ (size f e) ne ss w = none_some _ f e w.size
-refused text _ (grammar f s e) ne ss w = none_some _ f e (ap grammar_fault w.lines ∙ grammar_fault_none (version_of text) ss w.legal w.held)
-refused text _ (list f ts s l k t e) ne ss w =
-    let v = version_of text in
-    none_some _ f e (ap (list_fault (first_line v)) (log_text_injective v v ts ss l w.legal (sym t ∙ w.lines)).1 ∙ w.sessions)
-
--- ---- a text that is that of no long log has a fault
-abbrev HasFault : List ℕ → Type 0
-HasFault text = (f : LogFault) × IsLongLogFault text f × (f ≢ Memory)
-
-other : (o : Option LogFault) (f : LogFault) → NotMemory o → o ≡ Some f → f ≢ Memory
-other o f named e m = named (e ∙ ap (λ g. Some g) m)
-
-pub fault_where_none : (text : List ℕ) → ((ss : List ClientSession) → IsLongLog text ss → ⊥) → HasFault text
-fault_where_none text h = by_size (size_fault text) refl
-  where
-    by_list : size_fault text ≡ None → grammar_fault text ≡ None → HasFault text
-    by_list s g =
-        let some = sessions_where_no_fault text g in
-        go some (list_fault (first_line (version_of text)) some.sessions) refl
-      where
-        go : (some : IsTextOfSome text) (o : Option LogFault) → list_fault (first_line (version_of text)) some.sessions ≡ o → HasFault text
-        go some None e = absurd (h some.sessions (record { legal = some.legal; held = some.held; lines = some.by_text; size = s; sessions = e }))
-        go some (Some f) e = (f, list f some.sessions s some.legal some.held some.by_text e, other _ f (list_fault_named (first_line (version_of text)) some.sessions) e)
-
-    by_grammar : size_fault text ≡ None → (o : Option LogFault) → grammar_fault text ≡ o → HasFault text
-    by_grammar s None e = by_list s e
-    by_grammar s (Some f) e = (f, grammar f s e, other _ f (grammar_fault_named text) e)
-
-    by_size : (o : Option LogFault) → size_fault text ≡ o → HasFault text
-    by_size None e = by_grammar e (grammar_fault text) refl
-    by_size (Some f) e = (f, size f e, other _ f (size_fault_named text) e)
+pub list_fault_named : (n : ℕ) (ss : List ClientSession) → NotMemory (list_fault n ss)
+unfolding list_fault
+list_fault_named n ss e = grind arith
 
 -- ---- its sessions have numbers of their own
 pub numbers_where_no_fault : (n : ℕ) (ss : List ClientSession) → list_fault n ss ≡ None → HasOwnNumbers ss

@@ -1,4 +1,4 @@
-use Rattle.long_log_definitions.proofs.Texts.{one_list}
+use Rattle.log_definitions.proofs.Refused.{one_list}
 use Rattle.long_log_definitions.proofs.laws.one_list_where_long.Goals as goal
 
 pub returns : goal.returns
