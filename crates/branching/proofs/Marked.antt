@@ -18,7 +18,7 @@ use Rattle.known_graph.specs.Tests.{has_edge}
 use Rattle.known_graph.proofs.Tested.{edge_in, has_in, has_contained}
 use Rattle.known_graph.proofs.Listed.{In, In-from_Contains, Contains-from_In, In-append_cases}
 use Rattle.reach_rows.specs.ReachRows.{AreRowsOf}
-use Rattle.reach_rows.proofs.Behind.{word_within}
+use Rattle.known_graph.proofs.Edges.{node_word}
 use Rattle.reach_rows.proofs.Walking.{grown_reach}
 use Rattle.prune_ledger.specs.Ledger.{side_of}
 use Rattle.prune_ledger.specs.Pruned.{IsReduced}
@@ -167,7 +167,7 @@ marked_more rows g new choices sides n lists old marks u v a b are incoming coun
   len = keeps.len ∙ m.len;
   marked = λ c side free r.
       (let lt = open_within sides c free in
-      let within : c / 64 < length marks = subst (λ k. c / 64 < k) (sym (keeps.len ∙ m.len)) (word_within (length choices) c (omega (arith, lt, count))) in
+      let within : c / 64 < length marks = subst (λ k. c / 64 < k) (sym (keeps.len ∙ m.len)) (node_word (length choices) c (omega (arith, lt, count))) in
       let added = subst (λ (x : Edge). (y : Edge) → (Contains new.edges y ↔ (Contains g.edges y ⊎ (y ≡ x)))) (λ i. (sym p i, sym q i)) more in
       marked_edge rows g new choices n lists old marks u v c (r.0, r.1.0) side are incoming added keeps all within (m.marked c side free) r.1.1.0 r.1.1.1);
 }

@@ -8,7 +8,8 @@ use Rattle.serializability.specs.Log.{Log, precedes}
 use Rattle.serializability.specs.Polygraph.{Edge, arcs, is_arc, reads_from}
 use Rattle.serializability.proofs.Serial.{arc_cases, arc_from_zero, arc_from_read, arc_from_moments}
 use Rattle.reach_laws.specs.Reach.{Graph}
-use Rattle.known_graph.proofs.Bools.{and_both, or_left, or_right, same_tests}
+use Rattle.known_graph.proofs.Bools.{and_both, or_left, or_right}
+use Rattle.known_graph.proofs.Tested.{same_bool}
 use Rattle.known_graph.specs.Pairs.{all_pairs}
 use Rattle.known_graph.specs.Graphs.{IsKnownGraph, arc_graph}
 use Rattle.known_graph.proofs.Listed.{In, In-from_Contains, Contains-from_In, In-filter, In-of_filter, In-of_pairs, filter_same}
@@ -172,7 +173,7 @@ arcs_all log n g end h =
     let listed = h.known.listed in
     let whole : (e : Edge) → In e all → h.known.test e ≡ is_arc log e = λ e i.
     (let ends = In-of_pairs e g.nodes i in
-    same_tests (h.known.test e) (is_arc log e)
+    same_bool (h.known.test e) (is_arc log e)
     (λ t. (let c : Contains g.edges e = subst (λ l. Contains l e) (sym listed) (Contains-from_In (filter h.known.test all) e (In-filter h.known.test e all i t)) in
     arc_of log e (subst (λ m. IsFirst log e ⊎ ((0 < e.1) × (e.1 < m) × IsLater log e)) end ((h.edges e).0 c))))
     (λ t. (let c = (h.edges e).1 (subst (λ m. IsFirst log e ⊎ ((0 < e.1) × (e.1 < m) × IsLater log e)) (sym end) (parts_of log e (omega (arith, ends.0, h.nodes)) (omega (arith, ends.1, h.nodes)) t)) in

@@ -1,20 +1,21 @@
--- The edges of a graph that holds a bit for each pair of nodes.
-use Rattle.std.proofs.Common.{◌≡◌, ◌≢◌, ◌⊎◌, ◌↔◌, ℕ, ◌+◌, ◌-◌, ◌*◌, ◌/◌, ◌%◌, ◌<◌, ◌≤◌, Bool, true, false, eqb, ◌||◌, ◌&&◌, List, length, get_or, take, drop, refl, sym, ap, ◌∙◌, subst, inl, inr, arith, eq-eqb, ne_eqb, eqb-true}
+-- The edges of a graph with a bit for each pair of nodes.
+use Rattle.std.proofs.Common.{◌≡◌, ◌≢◌, ◌⊎◌, ◌↔◌, ℕ, ◌+◌, ◌-◌, ◌*◌, ◌/◌, ◌%◌, ◌<◌, ◌≤◌, Bool, true, eqb, ◌||◌, ◌&&◌, List, length, get_or, take, drop, replicate, refl, sym, ap, ◌∙◌, subst, inl, inr, arith, eq-eqb, ne_eqb, eqb-true}
 use Rattle.std.specs.List.{Contains, filter}
-use Rattle.std.specs.Prelude.{nat_lt, nat_le}
 use Rattle.std.specs.Int.{bit_at}
-use Rattle.std.proofs.Math.Nat.{mul_comm, mul_assoc}
-use Rattle.std.proofs.lemmas.Bool.{cases_lt, false≢true, or_cases, lt-ltb, le-ltb, le-leb}
-use Rattle.std.proofs.lemmas.List.{get_or-take, get_or-drop, length-take-le, length-drop}
-use Rattle.std.proofs.lemmas.Nat.{div-mul-add, mod-mul-add, div-add-mod', div_below, mod_below, same_from_place, mul-add-lt, le-div, mul-le}
+use Rattle.std.proofs.Math.Nat.{mul_comm}
+use Rattle.std.proofs.lemmas.Bool.{cases_lt, false≢true, or_cases, and_parts, and_from}
+use Rattle.std.proofs.lemmas.List.{get_or-take, get_or-drop, length-take-le, length-drop, length-replicate}
+use Rattle.std.proofs.lemmas.Nat.{div_below, same_from_place, mul-add-lt, le-div, mul-le}
 use Rattle.serializability.specs.Polygraph.{Edge}
 use Rattle.reach_laws.specs.Reach.{Graph}
-use Rattle.known_graph.proofs.Bools.{same_tests, and_both, and_not_second, or_left, or_neither, or_right}
+use Rattle.known_graph.proofs.Bools.{and_not_second, or_left, or_neither, or_right}
 use Rattle.known_graph.specs.Bits.{bit_of, row_len}
 use Rattle.known_graph.specs.Pairs.{all_pairs}
 use Rattle.known_graph.specs.Held.{bit_place, is_marked, marked_graph, IsMarked}
-use Rattle.known_graph.specs.Graphs.{IsKnownGraph}
-use Rattle.known_graph.proofs.Words.{bit_of-past, SetsBit, gt-leb}
+use Rattle.known_graph.specs.Graphs.{IsBitGraph, IsKnownGraph}
+use Rattle.known_graph.proofs.Tested.{same_bool}
+use Rattle.known_graph.proofs.Words.{bit_of-past, bit_of-zeros, SetsBit}
+use Rattle.known_graph.proofs.JoinedRows.{row_place_word, row_bit_is}
 use Rattle.known_graph.proofs.Listed.{In-from_Contains, Contains-from_In, In-filter, In-of_filter, In-pairs, In-of_pairs, In, filter_same}
 
 -- ---- places of bits
@@ -25,20 +26,14 @@ nodes_within_row n = omega arith
 pub node_word : (n u : ℕ) → u ≤ n → u / 64 < row_len n
 node_word n u h = div_below u 64 (row_len n) (omega arith) (omega (arith, nodes_within_row n))
 
-pub place_is : (n a l b u v : ℕ) → a ≡ u → l ≡ row_len n → b ≡ v → a * (l * 64) + b ≡ bit_place n u v
-unfolding bit_place
-place_is n a l b u v p q r = ap (λ x. x * (l * 64) + b) p ∙ ap (λ x. u * (x * 64) + b) q ∙ ap (λ x. u * (row_len n * 64) + x) r
-
 -- a place is a word of a row and a bit of that word
-place_parts : (n u v : ℕ) → bit_place n u v ≡ (u * row_len n + v / 64) * 64 + v % 64
-unfolding bit_place
-place_parts n u v = omega (arith, sym (mul_assoc u (row_len n) 64), div-add-mod' v 64)
-
 pub place_word : (n u v : ℕ) → bit_place n u v / 64 ≡ u * row_len n + v / 64
-place_word n u v = ap (λ p. p / 64) (place_parts n u v) ∙ div-mul-add (u * row_len n + v / 64) 64 (v % 64) (mod_below v 64 (omega arith))
+unfolding bit_place
+place_word n u v = row_place_word (row_len n) u v
 
-pub place_bit : (n u v : ℕ) → bit_place n u v % 64 ≡ v % 64
-place_bit n u v = ap (λ p. p % 64) (place_parts n u v) ∙ mod-mul-add (u * row_len n + v / 64) 64 (v % 64) (mod_below v 64 (omega arith))
+pub mark_is : (n : ℕ) (words : List ℕ) (u v : ℕ) → is_marked n words (u, v) ≡ eqb (bit_at (get_or words (u * row_len n + v / 64) 0) (v % 64)) 1
+unfolding is_marked bit_place
+mark_is n words u v = row_bit_is words (row_len n) u v
 
 pub place_within : (n u v : ℕ) → u ≤ n → v ≤ n → bit_place n u v / 64 < (n + 1) * row_len n
 place_within n u v hu hv =
@@ -78,15 +73,31 @@ pub marked_nodes : (n : ℕ) (words : List ℕ) → (marked_graph n words).nodes
 unfolding marked_graph
 marked_nodes n words = refl
 
-pub known_graph : (n : ℕ) (words : List ℕ) → IsMarked n words → IsKnownGraph (marked_graph n words)
+pub bit_graph : (n : ℕ) (words : List ℕ) → IsMarked n words → IsBitGraph (marked_graph n words)
 unfolding marked_graph
-known_graph n words m = record {
+bit_graph n words m = record {
   few = m.few;
   test = is_marked n words;
   listed = refl;
-  initial = λ v lo hi. Contains-of_edge n words 0 v (record { from = omega arith; to = hi; marked = m.initial v lo hi });
   joined = λ e c. let h = edge_of_Contains n words e.0 e.1 c in (h.from, h.to);
 }
+
+pub node_in : (n : ℕ) (words : List ℕ) (g : Graph) (u : ℕ) → marked_graph n words ≡ g → u ≤ g.nodes → u ≤ n
+node_in n words g u e h = omega (arith, marked_nodes n words, ap (λ x. x.nodes) e, h)
+
+-- ---- no bits
+pub none_marked : (n m : ℕ) (words : List ℕ) → n ≤ 1000 → m ≡ row_len n → words ≡ replicate ((n + 1) * m) 0 → IsMarked n words
+unfolding is_marked
+none_marked n m words few same e = record {
+  few = few;
+  places = ap length e ∙ length-replicate {A = ℕ} ((n + 1) * m) 0 ∙ ap (λ x. (n + 1) * x) same;
+  clear = λ u v hu above small. ap (λ l. bit_of l (bit_place n u v)) e ∙ bit_of-zeros ((n + 1) * m) (bit_place n u v);
+}
+
+pub no_edges : (n m : ℕ) (words : List ℕ) → words ≡ replicate m 0 → (e : Edge) → Contains (marked_graph n words).edges e → ⊥
+unfolding is_marked
+no_edges n m words z e c =
+    false≢true (sym (ap (λ l. bit_of l (bit_place n e.0 e.1)) z ∙ bit_of-zeros m (bit_place n e.0 e.1)) ∙ (edge_of_Contains n words e.0 e.1 c).marked)
 
 -- ---- the words of a row
 abbrev pub row_of : ℕ → List ℕ → ℕ → List ℕ
@@ -98,23 +109,27 @@ length-row_of n words u m hu =
     length-take-le (row_len n) (drop (u * row_len n) words) (omega (arith, length-drop (u * row_len n) words, m.places, fits))
 
 -- the same, as code cuts it
-pub row_shown : (n : ℕ) (words : List ℕ) (u a l : ℕ) (held : List ℕ) → a ≡ u → l ≡ row_len n → held ≡ words → take (a * l + l - a * l) (drop (a * l) held) ≡ row_of n words u
-row_shown n words u a l held p q r =
-    let count : a * l + l - a * l ≡ l = omega arith in
-    ap (λ k. take k (drop (a * l) held)) count ∙ ap (λ x. take l (drop (x * l) held)) p ∙ ap (λ x. take x (drop (u * x) held)) q ∙ ap (λ x. take (row_len n) (drop (u * row_len n) x)) r
+pub row_shown : (n : ℕ) (words : List ℕ) (u l : ℕ) (held : List ℕ) → l ≡ row_len n → held ≡ words → take (u * l + l - u * l) (drop (u * l) held) ≡ row_of n words u
+row_shown n words u l held q r =
+    let count : u * l + l - u * l ≡ l = omega arith in
+    ap (λ k. take k (drop (u * l) held)) count ∙ ap (λ x. take x (drop (u * x) held)) q ∙ ap (λ x. take (row_len n) (drop (u * row_len n) x)) r
 
-pub row_within : (n : ℕ) (words : List ℕ) (u a l : ℕ) (held : List ℕ) → IsMarked n words → u ≤ n → a ≡ u → l ≡ row_len n → held ≡ words → a * l + l ≤ length held
-row_within n words u a l held m hu p q r =
-    let e : a * l + l ≡ u * row_len n + row_len n = ap (λ x. x * l + l) p ∙ ap (λ x. u * x + x) q in
+pub row_within : (n : ℕ) (words : List ℕ) (u l : ℕ) (held : List ℕ) → IsMarked n words → u ≤ n → l ≡ row_len n → held ≡ words → u * l + l ≤ length held
+row_within n words u l held m hu q r =
+    let e : u * l + l ≡ u * row_len n + row_len n = ap (λ x. u * x + x) q in
     omega (arith, e, row_end n u (omega arith), m.places, ap length r)
 
+-- its place is a small number
+pub row_small : (n u l : ℕ) → n ≤ 1000 → u ≤ n → l ≡ row_len n → u * l + l ≤ 16016
+unfolding row_len
+row_small n u l few hu e = omega (arith, mul-le u l 1000 16 (omega arith) (omega (arith, e)), e)
+
 row_bit : (n : ℕ) (words : List ℕ) (u v : ℕ) → v < row_len n * 64 → bit_of (row_of n words u) v ≡ is_marked n words (u, v)
-unfolding bit_of is_marked
+unfolding bit_of
 row_bit n words u v h =
     let w : v / 64 < row_len n = div_below v 64 (row_len n) (omega arith) h in
     ap (λ x. eqb (bit_at x (v % 64)) 1) (get_or-take (row_len n) (drop (u * row_len n) words) (v / 64) 0 w ∙ get_or-drop (u * row_len n) words (v / 64) 0)
-    ∙ ap (λ i. eqb (bit_at (get_or words i 0) (v % 64)) 1) (sym (place_word n u v))
-    ∙ ap (λ b. eqb (bit_at (get_or words (bit_place n u v / 64) 0) b) 1) (sym (place_bit n u v))
+    ∙ sym (mark_is n words u v)
 
 row_bit_edge : (n : ℕ) (words : List ℕ) (u v : ℕ) → IsMarked n words → u ≤ n → bit_of (row_of n words u) v ≡ true → IsEdge n words u v
 row_bit_edge n words u v m hu t = elim (cases_lt v (row_len n * 64)) [
@@ -148,7 +163,6 @@ unfolding is_marked
 set_keeps n old new u v m hu hv s = record {
   few = m.few;
   places = s.len ∙ m.places;
-  initial = λ w lo hi. s.bits (bit_place n 0 w) ∙ or_right (eqb (bit_place n 0 w) (bit_place n u v)) (bit_of old (bit_place n 0 w)) (m.initial w lo hi);
   clear = λ a b ha above small.
       (let apart : bit_place n a b ≢ bit_place n u v = λ e. (let same = (place_apart n a b u v small (omega (arith, nodes_within_row n)) e).1 in omega (arith, same)) in
       s.bits (bit_place n a b) ∙ or_neither (eqb (bit_place n a b) (bit_place n u v)) (bit_of old (bit_place n a b)) (ne_eqb (bit_place n a b) (bit_place n u v) apart) (m.clear a b ha above small));
@@ -193,62 +207,80 @@ set_edges n old new u v hu hv s e = (
   ],
 )
 
--- ---- only edges from node 0
-pub record HasFirstRow (n : ℕ) (words : List ℕ) : Type 0 where
-  pub few : n ≤ 1000
-  pub places : length words ≡ (n + 1) * row_len n
-  pub bits : (k : ℕ) → bit_of words k ≡ (nat_lt 0 k && nat_le k n)
+-- ---- a row that is joined to another
+pub record JoinsRow (n : ℕ) (old new : List ℕ) (to from : ℕ) : Type 0 where
+  pub bits : (u v : ℕ) → v < row_len n * 64 → is_marked n new (u, v) ≡ (is_marked n old (u, v) || (eqb u to && is_marked n old (from, v)))
+  pub len : length new ≡ length old
 
-first_place : (n v : ℕ) → bit_place n 0 v ≡ v
-unfolding bit_place
-first_place n v = omega arith
+pub joins_row : (n len to from : ℕ) (old held new : List ℕ) → len ≡ row_len n → held ≡ old → ((u v : ℕ) → v < len * 64 → bit_of new (u * (len * 64) + v) ≡ (bit_of held (u * (len * 64) + v) || (eqb u to && bit_of held (from * (len * 64) + v))))
+    → length new ≡ length held → JoinsRow n old new to from
+unfolding is_marked bit_place
+joins_row n len to from old held new same e bits count = grind arith
 
-later_place : (n u v : ℕ) → 0 < u → n < bit_place n u v
-unfolding bit_place
-later_place n u v lo = omega (arith, nodes_within_row n, mul-le 1 (row_len n * 64) u (row_len n * 64) (omega arith) (omega arith))
-
-first_bit : (n : ℕ) (words : List ℕ) → HasFirstRow n words → (v : ℕ) → 0 < v → v ≤ n → is_marked n words (0, v) ≡ true
-unfolding is_marked
-first_bit n words h v lo hi =
-    ap (bit_of words) (first_place n v) ∙ h.bits v ∙ and_both (nat_lt 0 v) (nat_le v n) (lt-ltb 0 v lo) (le-leb v n hi)
-
-not_first : (n : ℕ) (words : List ℕ) → HasFirstRow n words → (u v : ℕ) → n < bit_place n u v → is_marked n words (u, v) ≡ false
-unfolding is_marked
-not_first n words h u v above = h.bits (bit_place n u v) ∙ and_not_second (nat_lt 0 (bit_place n u v)) (nat_le (bit_place n u v) n) (gt-leb (bit_place n u v) n above)
-
-pub first_row_marked : (n : ℕ) (words : List ℕ) → HasFirstRow n words → IsMarked n words
-first_row_marked n words h = record {
-  few = h.few;
-  places = h.places;
-  initial = first_bit n words h;
-  clear = λ u v hu above small. elim (cases_lt 0 u) [
-    | inl lo ↦ not_first n words h u v (later_place n u v lo)
-    | inr zero' ↦ (let e : u ≡ 0 = omega arith in not_first n words h u v (omega (arith, above, ap (λ x. bit_place n x v) e, first_place n v)))
-  ];
+pub join_keeps : (n : ℕ) (old new : List ℕ) (to from : ℕ) → IsMarked n old → from ≤ n → JoinsRow n old new to from → IsMarked n new
+join_keeps n old new to from m hf j = record {
+  few = m.few;
+  places = j.len ∙ m.places;
+  clear = λ u v hu above small.
+      j.bits u v small
+      ∙ or_neither (is_marked n old (u, v)) (eqb u to && is_marked n old (from, v)) (m.clear u v hu above small) (and_not_second (eqb u to) (is_marked n old (from, v)) (m.clear from v hf above small));
 }
 
--- a first-row edge is from node 0
-first_unmarked : (n : ℕ) (words : List ℕ) → HasFirstRow n words → is_marked n words (0, 0) ≡ false
-unfolding is_marked
-first_unmarked n words h = ap (bit_of words) (first_place n 0) ∙ h.bits 0 ∙ ap (λ b. b && nat_le 0 n) (le-ltb 0 0 (omega arith))
+pub join_edges : (n : ℕ) (old new : List ℕ) (to from : ℕ) → to ≤ n → from ≤ n → JoinsRow n old new to from → (u v : ℕ) → (Contains (marked_graph n new).edges (u, v) ↔ (Contains (marked_graph n old).edges (u, v) ⊎ ((u ≡ to) × Contains (marked_graph n old).edges (from, v))))
+join_edges n old new to from ht hf j u v =
+    let small : v ≤ n → v < row_len n * 64 = λ h. omega (arith, h, nodes_within_row n) in (
+      λ c. (let e = edge_of_Contains n new u v c in
+          elim (or_cases (is_marked n old (u, v)) (eqb u to && is_marked n old (from, v)) (sym (j.bits u v (small e.to)) ∙ e.marked)) [
+            | inl a ↦ inl (Contains-of_edge n old u v (record { from = e.from; to = e.to; marked = a }))
+            | inr b ↦ (let p = and_parts (eqb u to) (is_marked n old (from, v)) b in
+                inr (eqb-true u to p.0, Contains-of_edge n old from v (record { from = hf; to = e.to; marked = p.1 })))
+          ]),
+      λ d. elim d [
+        | inl c ↦ (let e = edge_of_Contains n old u v c in
+            Contains-of_edge n new u v (record { from = e.from; to = e.to; marked = j.bits u v (small e.to) ∙ or_left (is_marked n old (u, v)) (eqb u to && is_marked n old (from, v)) e.marked }))
+        | inr p ↦ (let e = edge_of_Contains n old from v p.1 in
+            Contains-of_edge n new u v (record {
+              from = omega (arith, p.0);
+              to = e.to;
+              marked = j.bits u v (small e.to) ∙ or_right (is_marked n old (u, v)) (eqb u to && is_marked n old (from, v)) (and_from (eqb u to) (is_marked n old (from, v)) (eq-eqb u to p.0) e.marked);
+            }))
+      ],
+    )
 
-first_parts : (n : ℕ) (words : List ℕ) → HasFirstRow n words → (u v : ℕ) → IsEdge n words u v → (u ≡ 0) × (0 < v) × (v ≤ n)
-first_parts n words h u v e = elim (cases_lt 0 u) [
-  | inl lo ↦ absurd (false≢true (sym (not_first n words h u v (later_place n u v lo)) ∙ e.marked))
-  | inr zero' ↦
-      let z : u ≡ 0 = omega arith in
-      elim (cases_lt 0 v) [
-        | inl lo ↦ (z, lo, e.to)
-        | inr none ↦ (let w : v ≡ 0 = omega arith in absurd (false≢true (sym (first_unmarked n words h) ∙ ap (λ a. is_marked n words (a, 0)) (sym z) ∙ ap (λ b. is_marked n words (u, b)) (sym w) ∙ e.marked)))
-      ]
-]
+-- ---- a graph that is known
+pub known_graph : (g : Graph) → IsBitGraph g → ((v : ℕ) → 0 < v → v ≤ g.nodes → Contains g.edges (0, v)) → IsKnownGraph g
+known_graph g b initial = record { few = b.few; test = b.test; listed = b.listed; initial = initial; joined = b.joined }
 
-pub first_row_edges : (n : ℕ) (words : List ℕ) → HasFirstRow n words → (e : Edge) → (Contains (marked_graph n words).edges e ↔ ((e.0 ≡ 0) × (0 < e.1) × (e.1 ≤ n)))
-first_row_edges n words h e = (
-  λ c. first_parts n words h e.0 e.1 (edge_of_Contains n words e.0 e.1 c),
-  λ p. subst (Contains (marked_graph n words).edges) (sym (pair_same e 0 e.1 p.0 refl))
-      (Contains-of_edge n words 0 e.1 (record { from = omega arith; to = p.2; marked = first_bit n words h e.1 p.1 p.2 })),
-)
+-- the edges from node 0 to the nodes below v
+pub record IsBegun (n v : ℕ) (g : Graph) : Type 0 where
+  pub nodes : g.nodes ≡ n
+  pub graph : IsBitGraph g
+  pub edges : (e : Edge) → (Contains g.edges e ↔ ((e.0 ≡ 0) × (0 < e.1) × (e.1 < v)))
+
+pub begun_none : (n : ℕ) (g : Graph) → g.nodes ≡ n → IsBitGraph g → ((e : Edge) → Contains g.edges e → ⊥) → IsBegun n 1 g
+begun_none n g nodes graph none = record { nodes = nodes; graph = graph; edges = λ e. (λ c. absurd (none e c), λ p. absurd (omega (arith, p.2, p.1))) }
+
+pub begun_more : (n v : ℕ) (g h : Graph) → 0 < v → IsBegun n v g → h.nodes ≡ g.nodes → IsBitGraph h → ((e : Edge) → (Contains h.edges e ↔ (Contains g.edges e ⊎ (e ≡ (0, v))))) → IsBegun n (v + 1) h
+begun_more n v g h lo b nodes graph more = record {
+  nodes = nodes ∙ b.nodes;
+  graph = graph;
+  edges = λ e. (
+    λ c. elim ((more e).0 c) [
+      | inl k ↦ (let p = (b.edges e).0 k in (p.0, p.1, omega (arith, p.2)))
+      | inr s ↦ (let right = ap (λ (x : Edge). x.1) s in (ap (λ (x : Edge). x.0) s, omega (arith, right, lo), omega (arith, right)))
+    ],
+    λ p. elim (cases_lt e.1 v) [
+      | inl lt ↦ (more e).1 (inl ((b.edges e).1 (p.0, p.1, lt)))
+      | inr ge ↦ (more e).1 (inr (pair_same e 0 v p.0 (omega (arith, ge, p.2))))
+    ],
+  );
+}
+
+pub begun_known : (n v : ℕ) (g : Graph) → v ≡ n + 1 → IsBegun n v g → IsKnownGraph g
+begun_known n v g end b = known_graph g b.graph (λ w lo hi. (b.edges (0, w)).1 (refl, lo, omega (arith, end, hi, b.nodes)))
+
+pub begun_edges : (n v : ℕ) (g : Graph) → v ≡ n + 1 → IsBegun n v g → (e : Edge) → (Contains g.edges e ↔ ((e.0 ≡ 0) × (0 < e.1) × (e.1 ≤ n)))
+begun_edges n v g end b e = (λ c. let p = (b.edges e).0 c in (p.0, p.1, omega (arith, p.2, end)), λ p. (b.edges e).1 (p.0, p.1, omega (arith, p.2, end)))
 
 -- ---- graphs with the same edges
 pub same_lists : (n : ℕ) (p q : Edge → Bool) → ((e : Edge) → (Contains (filter p (all_pairs n)) e ↔ Contains (filter q (all_pairs n)) e)) → filter p (all_pairs n) ≡ filter q (all_pairs n)
@@ -256,7 +288,7 @@ same_lists n p q h =
     let all = all_pairs n in
     let kept : (r : Edge → Bool) (e : Edge) → In e all → r e ≡ true → Contains (filter r all) e = λ r e i t. Contains-from_In (filter r all) e (In-filter r e all i t) in
     let passed : (r : Edge → Bool) (e : Edge) → Contains (filter r all) e → r e ≡ true = λ r e c. (In-of_filter r e all (In-from_Contains (filter r all) e c)).1 in
-    filter_same p q all (λ e i. same_tests (p e) (q e) (λ t. passed q e ((h e).0 (kept p e i t))) (λ t. passed p e ((h e).1 (kept q e i t))))
+    filter_same p q all (λ e i. same_bool (p e) (q e) (λ t. passed q e ((h e).0 (kept p e i t))) (λ t. passed p e ((h e).1 (kept q e i t))))
 
 pub same_graph : (g h : Graph) → IsKnownGraph g → IsKnownGraph h → g.nodes ≡ h.nodes → ((e : Edge) → (Contains g.edges e ↔ Contains h.edges e)) → g ≡ h
 same_graph g h k l same edges =

@@ -18,19 +18,6 @@ group_alone g v nodes ends row known only same edges = record {
   ends = λ w t. (known.joined (v, w) ((edges w).0 (sym (same w) ∙ t))).1;
 }
 
--- the nodes of two groups
-pub group_joined : (g : Graph) (a b : Group) (nodes ends : List ℕ) → IsGroup g a → IsGroup g b → ((k : ℕ) → bit_of nodes k ≡ (bit_of a.nodes k || bit_of b.nodes k)) → ((k : ℕ) → bit_of ends k ≡ (bit_of a.ends k || bit_of b.ends k)) → IsGroup g (record { nodes = nodes; ends = ends })
-group_joined g a b nodes ends p q in_nodes in_ends = record {
-  edges = λ v w t c. in_ends w ∙ elim (or_cases (bit_of a.nodes v) (bit_of b.nodes v) (sym (in_nodes v) ∙ t)) [
-    | inl h ↦ or_left (bit_of a.ends w) (bit_of b.ends w) (p.edges v w h c)
-    | inr h ↦ or_right (bit_of a.ends w) (bit_of b.ends w) (q.edges v w h c)
-  ];
-  ends = λ w t. elim (or_cases (bit_of a.ends w) (bit_of b.ends w) (sym (in_ends w) ∙ t)) [
-    | inl h ↦ p.ends w h
-    | inr h ↦ q.ends w h
-  ];
-}
-
 -- ---- closing
 walk_closed : (g : Graph) (s : Search) → IsSearch g s → (ws : List ℕ) (u v : ℕ) → bit_of s.closed u ≡ true → Walk g.edges u ws v → bit_of s.closed v ≡ true
 walk_closed g s h [] u v t w = h.closed u v t w
@@ -53,21 +40,6 @@ search_closed g s group closed h p within bits = record {
     | inl old ↦ old
     | inr new ↦ round_closed g s group h p within v new r.0 r.1
   ]) r;
-}
-
--- the edges of a group lead to closed nodes and to itself
-pub search_round : (g : Graph) (s : Search) (group : Group) (closed round : List ℕ) → IsSearch g s → IsGroup g group → ((k : ℕ) → bit_of closed k ≡ (bit_of s.closed k || bit_of group.nodes k)) → ((k : ℕ) → bit_of group.ends k ≡ true → bit_of closed k ≡ true) → ((k : ℕ) → bit_of round k ≡ (bit_of s.round k || bit_of group.nodes k)) → IsSearch g (record { path = s.path; seen = s.seen; closed = closed; round = round })
-search_round g s group closed round h p bits within marks = record {
-  graph = h.graph;
-  groups = h.groups;
-  closed = λ v w t c. elim (or_cases (bit_of s.closed v) (bit_of group.nodes v) (sym (bits v) ∙ t)) [
-    | inl old ↦ bits w ∙ or_left (bit_of s.closed w) (bit_of group.nodes w) (h.closed v w old c)
-    | inr new ↦ within w (p.edges v w new c)
-  ];
-  round = λ v t r. marks v ∙ elim (or_cases (bit_of s.closed v) (bit_of group.nodes v) (sym (bits v) ∙ t)) [
-    | inl old ↦ or_left (bit_of s.round v) (bit_of group.nodes v) (h.round v old r)
-    | inr new ↦ or_right (bit_of s.round v) (bit_of group.nodes v) new
-  ];
 }
 
 pub may_be : (g : Graph) (s : Search) (v : ℕ) → IsSearch g s → Reaches g.edges v v → (bit_of s.round v || not (bit_of s.closed v)) ≡ true

@@ -2,6 +2,7 @@ pub mod Bools
 pub mod Listed
 pub mod Words
 pub mod Joined
+pub mod JoinedRows
 pub mod Opened
 pub mod Grouped
 pub mod Edges

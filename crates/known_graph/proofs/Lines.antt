@@ -51,21 +51,11 @@ pub record Behind (edges : List Edge) (u v : ℕ) (back : List ℕ) : Type 0 whe
   pub shape : reverse back ≡ inner ++ v ∷ []
   pub walk : Walk edges u inner v
 
-pub behind_end : (edges : List Edge) (u v : ℕ) → Contains edges (u, v) → Behind edges u v (v ∷ [])
-behind_end edges u v c = record { inner = []; shape = refl; walk = c }
-
 pub behind_more : (edges : List Edge) (t u v : ℕ) (back : List ℕ) → Contains edges (t, u) → Behind edges u v back → Behind edges t v (back ++ u ∷ [])
 behind_more edges t u v back c b = record {
   inner = u ∷ b.inner;
   shape = reverse-append back (u ∷ []) ∙ ap (λ l. u ∷ l) b.shape;
   walk = (c, b.walk);
-}
-
-pub behind_whole : (edges : List Edge) (u v : ℕ) (back : List ℕ) → Behind edges u v back → IsWalk edges u v (reverse (back ++ u ∷ []))
-behind_whole edges u v back b = record {
-  inner = b.inner;
-  shape = reverse-append back (u ∷ []) ∙ ap (λ l. u ∷ l) b.shape;
-  steps = b.walk;
 }
 
 -- ---- a loop over the steps of a line

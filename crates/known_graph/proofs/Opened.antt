@@ -1,14 +1,13 @@
 -- Bits that are set in some words and not in others.
-use Rattle.std.proofs.Common.{◌≡◌, ◌≢◌, ℕ, zero, suc, ◌+◌, ◌-◌, ◌*◌, ◌/◌, ◌%◌, ◌^◌, ◌<◌, ◌≤◌, min, Bool, true, false, eqb, List, length, get_or, replicate, refl, sym, ap, ◌∙◌, inl, inr, arith, eq-eqb, eqb-true}
+use Rattle.std.proofs.Common.{◌≡◌, ◌≢◌, ℕ, zero, suc, ◌+◌, ◌-◌, ◌*◌, ◌^◌, ◌<◌, ◌≤◌, min, Bool, true, false, eqb, List, length, get_or, refl, sym, ap, ◌∙◌, inl, inr, arith, eq-eqb, eqb-true}
 use Rattle.std.specs.Prelude.{bit_and}
 use Rattle.std.specs.Int.{bit_at, w64, trailing_zeros}
 use Rattle.std.proofs.lemmas.Bool.{cases_eq, cases_lt, false≢true}
-use Rattle.std.proofs.lemmas.List.{get_or-replicate, get_or_past, length-replicate}
-use Rattle.std.proofs.lemmas.Nat.{and_le_l, div-mul-add, mod-mul-add}
+use Rattle.std.proofs.lemmas.Nat.{and_le_l}
 use Rattle.std.proofs.lemmas.Nat.Bits.{bit_at_and, bit_at_not, bit_at-lt, bit_at-zero, bit_at-trailing_zeros}
 use Rattle.known_graph.specs.Bits.{bit_of}
 use Rattle.known_graph.specs.Groups.{left_one, left_of}
-use Rattle.known_graph.proofs.Words.{bit_of-past}
+use Rattle.known_graph.proofs.Words.{bit_of-past, bit_there}
 
 -- the bits of a word that are set in x and not in y
 abbrev pub open_bits : ℕ → ℕ → ℕ
@@ -16,15 +15,6 @@ open_bits x y = bit_and x (18446744073709551615 - y)
 
 open_bit : (x y b : ℕ) → y < 2 ^ 64 → b < 64 → bit_at (open_bits x y) b ≡ min (bit_at x b) (1 - bit_at y b)
 open_bit x y b hy hb = bit_at_and x (18446744073709551615 - y) b ∙ ap (λ z. min (bit_at x b) z) (bit_at_not w64 y b hy hb)
-
-place_in : (i b : ℕ) → b < 64 → ((i * 64 + b) / 64 ≡ i) × ((i * 64 + b) % 64 ≡ b)
-place_in i b h = (div-mul-add i 64 b h, mod-mul-add i 64 b h)
-
-bit_there : (words : List ℕ) (i b : ℕ) → b < 64 → bit_of words (i * 64 + b) ≡ eqb (bit_at (get_or words i 0) b) 1
-unfolding bit_of
-bit_there words i b h =
-    ap (λ k. eqb (bit_at (get_or words k 0) ((i * 64 + b) % 64)) 1) (place_in i b h).0
-    ∙ ap (λ c. eqb (bit_at (get_or words i 0) c) 1) (place_in i b h).1
 
 pub record IsOpen (row done : List ℕ) (k : ℕ) : Type 0 where
   pub set : bit_of row k ≡ true
@@ -99,19 +89,3 @@ left_falls p q h k out into (suc n) lt = elim (cases_eq k n) [
   | inl e ↦ omega (arith, left_le p q h n, ap left_one (ap p (sym e) ∙ out), ap left_one (ap q (sym e) ∙ into))
   | inr ne ↦ omega (arith, left_falls p q h k out into n (omega (arith, ne)), taken_le (p n) (q n) (h n))
 ]
-
--- ---- no bit is set
-abbrev pub no_words : ℕ → List ℕ
-no_words n = replicate n 0
-
-zero_words : (n i : ℕ) → get_or (no_words n) i 0 ≡ 0
-zero_words n i = elim (cases_lt i n) [
-  | inl lt ↦ (let none : ℕ = 0 in get_or-replicate n i none none lt)
-  | inr ge ↦ get_or_past (no_words n) i 0 (omega (arith, length-replicate n (let none : ℕ = 0 in none)))
-]
-
-pub no_bit : (n k : ℕ) → bit_of (no_words n) k ≡ false
-unfolding bit_of
-no_bit n k =
-    let e : bit_at (get_or (no_words n) (k / 64) 0) (k % 64) ≡ 0 = ap (λ w. bit_at w (k % 64)) (zero_words n (k / 64)) ∙ bit_at-zero (k % 64) in
-    ap (λ b. eqb b 1) e

@@ -1,14 +1,14 @@
--- A graph that holds a bit for each pair of nodes.
-use Rattle.std.specs.Prelude.{◌≡◌, ℕ, ◌+◌, ◌*◌, ◌<◌, ◌≤◌, Bool, true, false, List, length}
+-- A table that holds a bit for each pair of nodes.
+use Rattle.std.specs.Prelude.{◌≡◌, ℕ, ◌+◌, ◌*◌, ◌<◌, ◌≤◌, Bool, false, List, length}
 use Rattle.std.specs.List.{filter}
 use Rattle.serializability.specs.Polygraph.{Edge}
 use Rattle.reach_laws.specs.Reach.{Graph}
 use Rattle.known_graph.specs.Bits.{bit_of, row_len}
 use Rattle.known_graph.specs.Pairs.{all_pairs}
-use Rattle.known_graph.specs.declared.graph.Known.TheInside.{Inside}
+use Rattle.known_graph.specs.declared.bit_table.BitTable.TheInside.{Inside}
 use Rattle.serializability.specs.declared.node.TheConstants.{MAX_NODES}
 
--- the number of the bit of the edge from u to v, where a row of words has the edges from one node
+-- the number of the bit of a pair, where a row of words has the pairs with one first node
 unfoldable pub bit_place : ℕ → ℕ → ℕ → ℕ
 bit_place n u v = u * (row_len n * 64) + v
 
@@ -19,14 +19,13 @@ unfoldable pub marked_graph : ℕ → List ℕ → Graph
 marked_graph n words = record { nodes = n; edges = filter (is_marked n words) (all_pairs n) }
 
 abbrev pub graph_of : Inside → Graph
-graph_of k = marked_graph k.nodes k.words.items
+graph_of t = marked_graph t.nodes t.words.items
 
--- the words have the bits of nodes 0 to n, and of edges from node 0 to each other node
+-- the words have a row for each of nodes 0 to n, and no bit is set of a node above
 pub record IsMarked (n : ℕ) (words : List ℕ) : Type 0 where
   pub few : n ≤ MAX_NODES
   pub places : length words ≡ (n + 1) * row_len n
-  pub initial : (v : ℕ) → 0 < v → v ≤ n → is_marked n words (0, v) ≡ true
   pub clear : (u v : ℕ) → u ≤ n → n < v → v < row_len n * 64 → is_marked n words (u, v) ≡ false
 
 abbrev pub IsHeld : Inside → Type 0
-IsHeld k = IsMarked k.nodes k.words.items
+IsHeld t = IsMarked t.nodes t.words.items

@@ -1,7 +1,7 @@
 //! Sets of numbers as bits, in words of 64.
 
-ghost use Rattle.std.specs.Prelude.{◌≡◌, ◌↔◌, ℕ, ◌+◌, ◌/◌, ◌^◌, ◌<◌, ◌≤◌, ◌==◌, ◌&&◌, ◌||◌, true};
-ghost use Rattle.std.specs.Prelude.{false, not, nat_lt, nat_le, length, IsTrue, IfSome, IfNone};
+ghost use Rattle.std.specs.Prelude.{◌≡◌, ℕ, ◌+◌, ◌*◌, ◌/◌, ◌^◌, ◌<◌, ◌≤◌, ◌==◌, ◌&&◌, ◌||◌, true};
+ghost use Rattle.std.specs.Prelude.{false, not, length, IsTrue, IfSome, IfNone};
 ghost use Rattle.known_graph.specs.Bits.{bit_of, row_len};
 
 use serializability::MAX_NODES;
@@ -39,19 +39,6 @@ pub fn set_bit(words: &mut [u64], number: usize)
     words[number / 64] |= 1 << (number % 64);
 }
 
-/// Sets the bits of the numbers 1 to n.
-pub(crate) fn set_bits_to(words: &mut [u64], last: usize)
-    requires within { last / 64 < length words.old }
-    requires short { length words.old < 2 ^ 32 }
-    ensures bits { (k : ℕ) →
-        bit_of words.new k ≡ ((nat_lt 0 k && nat_le k last) || bit_of words.old k) }
-    ensures len { length words.new ≡ length words.old }
-{
-    for number in 1..last + 1 {
-        set_bit(words, number);
-    }
-}
-
 /// Sets the bits that are set in other words, of which there are at most as many.
 pub fn join_words(words: &mut [u64], more: &[u64])
     requires len { length more.now ≤ length words.old }
@@ -60,6 +47,20 @@ pub fn join_words(words: &mut [u64], more: &[u64])
 {
     for i in 0..more.len() {
         words[i] |= more[i];
+    }
+}
+
+/// Sets the bits of one row in another, where rows of `len` words lie one behind the other.
+pub(crate) fn join_row(words: &mut [u64], len: usize, to: usize, from: usize)
+    requires to { to * len + len ≤ length words.old }
+    requires from { from * len + len ≤ length words.old }
+    ensures bits { (u v : ℕ) → v < len * 64 → bit_of words.new (u * (len * 64) + v)
+        ≡ (bit_of words.old (u * (len * 64) + v)
+        || ((u == to) && bit_of words.old (from * (len * 64) + v))) }
+    ensures len { length words.new ≡ length words.old }
+{
+    for i in 0..len {
+        words[to * len + i] |= words[from * len + i];
     }
 }
 

@@ -1,16 +1,14 @@
 //! Graphs of known edges.
 
-ghost use Rattle.std.specs.Prelude.{◌≡◌, ℕ, ◌⊎◌, ◌+◌, ◌*◌, ◌/◌, ◌<◌, ◌≤◌, ◌↔◌, IsTrue, IfOk};
-ghost use Rattle.std.specs.Prelude.{length};
+ghost use Rattle.std.specs.Prelude.{◌≡◌, ℕ, ◌⊎◌, ◌<◌, ◌≤◌, ◌↔◌, IsTrue, IfOk, length};
 ghost use Rattle.std.specs.List.{Contains};
 ghost use Rattle.serializability.specs.Polygraph.{Edge};
 ghost use Rattle.known_graph.specs.Bits.{bit_of, row_len};
 ghost use Rattle.known_graph.specs.Graphs.{IsKnownGraph};
-ghost use Rattle.known_graph.specs.Held.{bit_place};
 ghost use Rattle.known_graph.specs.Tests.{has_edge};
 ghost use Rattle.serializability.specs.declared.node.TheConstants.{MAX_NODES};
 
-use crate::bits::{has_bit, row_len, set_bit, set_bits_to};
+use crate::bit_table::BitTable;
 use serializability::NodeIx;
 use std::alloc::{AllocError, Global};
 use std::marker::Model;
@@ -19,8 +17,7 @@ use std::marker::Model;
 /// 0 to each other node.
 #[derive(Drop)]
 pub struct Known {
-    nodes: usize,
-    words: Vec<u64>,
+    table: BitTable,
 }
 
 impl Model for Known {
@@ -28,21 +25,11 @@ impl Model for Known {
 
     ghost Value = { Graph };
 
-    ghost use Rattle.known_graph.specs.Held.{graph_of, IsHeld};
+    ghost use Rattle.known_graph.specs.Graphs.{IsKnownGraph};
 
-    ghost view = { graph_of };
+    ghost view = { λ k. k.table };
 
-    ghost invariant = { IsHeld };
-}
-
-/// The number of the bit of an edge.
-fn bit_place(nodes: usize, u: NodeIx, v: NodeIx) -> usize
-    requires few { nodes ≤ MAX_NODES }
-    requires nodes { (u ≤ nodes) × (v ≤ nodes) }
-    ensures place { result ≡ bit_place nodes u v }
-    ensures within { result / 64 < (nodes + 1) * row_len nodes }
-{
-    u.get() * (row_len(nodes) * 64) + v.get()
+    ghost invariant = { λ k. IsKnownGraph k.table };
 }
 
 impl Known {
@@ -55,9 +42,11 @@ impl Known {
             (Contains known.edges e ↔ ((e.0 ≡ 0) × (0 < e.1) × (e.1 ≤ nodes)))) }
         ensures graph { IfOk result IsKnownGraph }
     {
-        let mut words = vec![in alloc; 0; (nodes + 1) * row_len(nodes)]?;
-        set_bits_to(words.as_mut_slice(), nodes);
-        Ok(Known { nodes, words })
+        let mut table = BitTable::new(alloc, nodes)?;
+        for v in 1..nodes + 1 {
+            table.set(0, v);
+        }
+        Ok(Known { table })
     }
 
     /// The number of nodes, n, without node 0.
@@ -66,7 +55,7 @@ impl Known {
         ensures few { result ≤ MAX_NODES }
         ensures graph { IsKnownGraph self.now }
     {
-        self.nodes
+        self.table.nodes()
     }
 
     /// Whether an edge leads from u to v; none does at a node above n.
@@ -74,7 +63,7 @@ impl Known {
         ensures edge { IsTrue result ↔ Contains self.now.edges (u, v) }
         ensures test { result ≡ has_edge self.now.edges (u, v) }
     {
-        u.get() <= self.nodes && has_bit(self.row_words(u), v.get())
+        self.table.has(u.get(), v.get())
     }
 
     /// The nodes to which edges lead from u, as bits: bit v of them is set where an edge leads to
@@ -84,9 +73,7 @@ impl Known {
         ensures edges { (v : ℕ) → (IsTrue (bit_of result.now v) ↔ Contains self.now.edges (u, v)) }
         ensures len { length result.now ≡ row_len self.now.nodes }
     {
-        let len = row_len(self.nodes);
-        let start = u.get() * len;
-        &self.words[start..start + len]
+        self.table.row(u.get())
     }
 
     /// Adds the edge from u to v, where it is not there.
@@ -97,8 +84,7 @@ impl Known {
         ensures nodes { self.new.nodes ≡ self.old.nodes }
         ensures graph { IsKnownGraph self.new }
     {
-        let place = bit_place(self.nodes, u, v);
-        set_bit(self.words.as_mut_slice(), place);
+        self.table.set(u.get(), v.get());
     }
 
     /// A graph of the same nodes and edges.
@@ -106,8 +92,7 @@ impl Known {
         ensures same { IfOk result (λ known. known ≡ self.now) }
     {
         Ok(Known {
-            nodes: self.nodes,
-            words: Vec::from_slice(alloc, &self.words)?,
+            table: self.table.copy(alloc)?,
         })
     }
 
@@ -116,6 +101,6 @@ impl Known {
         requires nodes { self.old.nodes ≡ other.now.nodes }
         ensures same { self.new ≡ other.now }
     {
-        self.words.as_mut_slice().copy_from_slice(&other.words);
+        self.table.copy_from(&other.table);
     }
 }

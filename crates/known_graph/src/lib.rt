@@ -5,6 +5,7 @@
 #![tactic(auto)]
 
 mod arcs;
+mod bit_table;
 pub mod bits;
 mod edge_list;
 mod graph;
@@ -14,4 +15,5 @@ mod moments;
 mod reached;
 mod walks;
 
+pub use bit_table::BitTable;
 pub use graph::Known;

@@ -1,30 +1,19 @@
 -- Rows of several nodes, one behind the other.
-use Rattle.std.proofs.Common.{◌≡◌, ◌↔◌, ℕ, ◌+◌, ◌-◌, ◌*◌, ◌/◌, ◌%◌, ◌<◌, ◌≤◌, Bool, true, eqb, List, [], ◌∷◌, ◌++◌, length, get_or, take, refl, sym, ap, ◌∙◌, inl, inr, arith, length-append}
-use Rattle.std.specs.List.{Contains}
-use Rattle.std.specs.Int.{bit_at}
-use Rattle.std.proofs.lemmas.Bool.{cases_lt, false≢true}
+use Rattle.std.proofs.Common.{◌≡◌, ◌↔◌, ℕ, ◌+◌, ◌-◌, ◌*◌, ◌<◌, ◌≤◌, Bool, true, List, [], ◌∷◌, ◌++◌, length, take, refl, sym, ap, ◌∙◌, inl, inr, arith, length-append}
+use Rattle.std.proofs.lemmas.Bool.{cases_lt, cases_Bool, false≢true}
 use Rattle.std.proofs.lemmas.List.{get_or_append_left, get_or-append-add, get_or-take, length-take-le}
 use Rattle.std.proofs.lemmas.Nat.{div_below, mul-add-lt}
 use Rattle.reach_laws.specs.Reach.{Graph, Walk, Reaches}
 use Rattle.known_graph.specs.Bits.{bit_of, row_len}
 use Rattle.known_graph.specs.Graphs.{IsKnownGraph}
-use Rattle.known_graph.specs.Held.{is_marked, marked_graph, bit_place}
+use Rattle.known_graph.specs.Held.{is_marked, marked_graph, bit_place, IsMarked}
 use Rattle.known_graph.proofs.Words.{bit_of-past}
-use Rattle.known_graph.proofs.Edges.{nodes_within_row, edge_of_Contains, Contains-of_edge}
+use Rattle.known_graph.proofs.Edges.{nodes_within_row, node_word, mark_is, edge_of_Contains, Contains-of_edge}
 use Rattle.reach_rows.specs.ReachRows.{AreRowsOf}
 use Rattle.reach_rows.specs.Sources.{IsReachRow, AreReachRows}
-use Rattle.reach_rows.proofs.Joined.{row_bit_is}
 
--- the bit of a pair, by its word
-pub mark_is : (n : ℕ) (words : List ℕ) (u v : ℕ) → is_marked n words (u, v) ≡ eqb (bit_at (get_or words (u * row_len n + v / 64) 0) (v % 64)) 1
-unfolding is_marked bit_place
-mark_is n words u v = row_bit_is words (row_len n) u v
-
-pub word_within : (n v : ℕ) → v ≤ n → v / 64 < row_len n
-word_within n v h = div_below v 64 (row_len n) (omega arith) (omega (arith, nodes_within_row n))
-
-mark_front : (n : ℕ) (xs ys : List ℕ) (u v rows : ℕ) → length xs ≡ rows * row_len n → u < rows → v ≤ n → is_marked n (xs ++ ys) (u, v) ≡ is_marked n xs (u, v)
-mark_front n xs ys u v rows len hu hv = grind (arith, mul-add-lt, word_within, mark_is, get_or_append_left)
+mark_front : (n : ℕ) (xs ys : List ℕ) (u v rows : ℕ) → length xs ≡ rows * row_len n → u < rows → v < row_len n * 64 → is_marked n (xs ++ ys) (u, v) ≡ is_marked n xs (u, v)
+mark_front n xs ys u v rows len hu hv = grind (arith, mul-add-lt, div_below, mark_is, get_or_append_left)
 
 mark_back : (n : ℕ) (xs ys : List ℕ) (u v rows : ℕ) → length xs ≡ rows * row_len n → is_marked n (xs ++ ys) (rows + u, v) ≡ is_marked n ys (u, v)
 mark_back n xs ys u v rows len = grind (arith, mark_is, get_or-append-add)
@@ -47,7 +36,7 @@ walk_nodes graph known (x ∷ ws) u v w = ((known.joined (u, x) w.0).0, (walk_no
 -- a row of a node, cut to the words of nodes
 pub rows_cut : (graph : Graph) (u : ℕ) (row : List ℕ) → IsKnownGraph graph → row_len graph.nodes ≤ length row → ((v : ℕ) → ((bit_of row v ≡ true) ↔ Reaches graph.edges u v)) → IsReachRow graph u (take (row_len graph.nodes) row)
 unfolding bit_of
-rows_cut graph u row known long reach = grind (arith, length-take-le, cases_lt, get_or-take, iff_along, false≢true, bit_of-past, word_within, walk_nodes)
+rows_cut graph u row known long reach = grind (arith, length-take-le, cases_lt, get_or-take, iff_along, false≢true, bit_of-past, node_word, walk_nodes)
 
 pub rows_joined : (graph : Graph) (a b c : ℕ) (xs ys : List ℕ) → a ≤ b → b ≤ c → AreReachRows graph a b xs → AreReachRows graph b c ys → AreReachRows graph a c (xs ++ ys)
 rows_joined graph a b c xs ys ab bc p q =
@@ -66,15 +55,6 @@ rows_joined graph a b c xs ys ab bc p q =
       ];
     }
 
--- the bit of a pair of nodes, as code finds it, is its edge
-pub set_edge : (n : ℕ) (words held : List ℕ) (place u v : ℕ) (b : Bool) → u ≤ n → v ≤ n → held ≡ words → place ≡ bit_place n u v → b ≡ bit_of held place → ((b ≡ true) ↔ Contains (marked_graph n words).edges (u, v))
-unfolding is_marked
-set_edge n words held place u v b hu hv same at is =
-    let e : b ≡ is_marked n words (u, v) = is ∙ ap (λ ws. bit_of ws place) same ∙ ap (bit_of words) at in (
-      λ t. Contains-of_edge n words u v (record { from = hu; to = hv; marked = sym e ∙ t }),
-      λ c. e ∙ (edge_of_Contains n words u v c).marked,
-    )
-
 pub rows_all : (graph : Graph) (words : List ℕ) → IsKnownGraph graph → AreReachRows graph 0 (graph.nodes + 1) words → AreRowsOf (marked_graph graph.nodes words) graph
 unfolding marked_graph
 rows_all graph words known h =
@@ -84,19 +64,32 @@ rows_all graph words known h =
       reach = λ u v. (
         λ c. (let e = edge_of_Contains n words u v c in
             let same : u - 0 ≡ u = omega arith in
-            (h.reach u v (omega arith) (omega (arith, e.from)) e.to).0 (ap (λ k. is_marked n words (k, v)) same ∙ e.marked)),
+            (h.reach u v (omega arith) (omega (arith, e.from)) (omega (arith, e.to, nodes_within_row n))).0 (ap (λ k. is_marked n words (k, v)) same ∙ e.marked)),
         λ r. (let ends = walk_nodes graph known r.0 u v r.1 in
             let same : u - 0 ≡ u = omega arith in
             Contains-of_edge n words u v (record {
               from = ends.0;
               to = ends.1;
-              marked = ap (λ k. is_marked n words (k, v)) (sym same) ∙ (h.reach u v (omega arith) (omega (arith, ends.0)) ends.1).1 r;
+              marked = ap (λ k. is_marked n words (k, v)) (sym same) ∙ (h.reach u v (omega arith) (omega (arith, ends.0)) (omega (arith, ends.1, nodes_within_row n))).1 r;
             })),
       );
       test = is_marked n words;
       listed = refl;
     }
 
--- words that fit, by their number
-pub all_places : (graph : Graph) (words : List ℕ) → AreReachRows graph 0 (graph.nodes + 1) words → length words ≡ (graph.nodes + 1) * row_len graph.nodes
-all_places graph words h = let e : graph.nodes + 1 - 0 ≡ graph.nodes + 1 = omega arith in h.len ∙ ap (λ k. k * row_len graph.nodes) e
+-- the words fit, and no bit is set of a node above
+pub rows_marked : (graph : Graph) (words : List ℕ) → IsKnownGraph graph → AreReachRows graph 0 (graph.nodes + 1) words → IsMarked graph.nodes words
+rows_marked graph words known h =
+    let n = graph.nodes in
+    let all : n + 1 - 0 ≡ n + 1 = omega arith in
+    record {
+      few = known.few;
+      places = h.len ∙ ap (λ k. k * row_len n) all;
+      clear = λ u v hu above small. elim (cases_Bool (is_marked n words (u, v))) [
+        | inl t ↦
+            let same : u - 0 ≡ u = omega arith in
+            let r = (h.reach u v (omega arith) (omega (arith, hu)) small).0 (ap (λ k. is_marked n words (k, v)) same ∙ t) in
+            absurd (omega (arith, above, (walk_nodes graph known r.0 u v r.1).1))
+        | inr f ↦ f
+      ];
+    }

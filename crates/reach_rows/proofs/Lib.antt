@@ -1,4 +1,3 @@
-pub mod Joined
 pub mod Spreading
 pub mod Behind
 pub mod Growing

@@ -1,17 +1,12 @@
 -- Rows of one graph.
-use Rattle.std.proofs.Common.{◌≡◌, Bool, true, false, refl, sym, ap, ◌∙◌, subst, arith}
+use Rattle.std.proofs.Common.{◌≡◌, Bool, true, sym, ap, ◌∙◌, subst, arith}
 use Rattle.std.specs.List.{Contains, filter}
 use Rattle.serializability.specs.Polygraph.{Edge}
 use Rattle.reach_laws.specs.Reach.{Graph, Reaches}
 use Rattle.known_graph.specs.Pairs.{all_pairs}
 use Rattle.known_graph.proofs.Listed.{In, In-from_Contains, Contains-from_In, In-filter, In-of_filter, filter_same}
+use Rattle.known_graph.proofs.Tested.{same_bool}
 use Rattle.reach_rows.specs.ReachRows.{AreRowsOf}
-
--- tests that hold of each other's pairs agree
-agree : (p q : Bool) → (p ≡ true → q ≡ true) → (q ≡ true → p ≡ true) → p ≡ q
-agree true q f g = sym (f refl)
-agree false true f g = g refl
-agree false false f g = refl
 
 kept_pair : (rows graph : Graph) (e : Edge) → AreRowsOf rows graph → In e (all_pairs rows.nodes) → (h : Edge → Bool) → rows.edges ≡ filter h (all_pairs rows.nodes) → h e ≡ true → Reaches graph.edges e.0 e.1
 kept_pair rows graph e r there h is t =
@@ -30,7 +25,7 @@ rows_are_one one other graph r s =
     let listed : other.edges ≡ filter s.test (all_pairs one.nodes) = s.listed ∙ ap (λ k. filter s.test (all_pairs k)) (sym n) in
     same_graph one other n (
     r.listed
-    ∙ filter_same r.test s.test (all_pairs one.nodes) (λ e there. agree (r.test e) (s.test e)
+    ∙ filter_same r.test s.test (all_pairs one.nodes) (λ e there. same_bool (r.test e) (s.test e)
     (λ t. pair_kept other graph e s s.test s.listed (kept_pair one graph e r there r.test r.listed t))
     (λ t. pair_kept one graph e r r.test r.listed (kept_pair other graph e s (subst (λ k. In e (all_pairs k)) n there) s.test s.listed t)))
     ∙ sym listed

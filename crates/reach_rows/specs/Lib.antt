@@ -1,4 +1,3 @@
 pub mod ReachRows
 pub mod Sources
-pub mod Held
 pub mod Parts

@@ -21,16 +21,11 @@ pub record IsReachRow (graph : Graph) (u : ℕ) (row : List ℕ) : Type 0 where
 -- the rows of the nodes from `first` on and below `last`, one behind the other
 pub record AreReachRows (graph : Graph) (first last : ℕ) (words : List ℕ) : Type 0 where
   pub len : length words ≡ (last - first) * row_len graph.nodes
-  pub reach : (u v : ℕ) → first ≤ u → u < last → v ≤ graph.nodes
+  pub reach : (u v : ℕ) → first ≤ u → u < last → v < row_len graph.nodes * 64
       → ((is_marked graph.nodes words (u - first, v) ≡ true) ↔ Reaches graph.edges u v)
 
 -- u, and each node that reaches u, now also reaches v and what v reached
-abbrev pub IsGrownMark : ℕ → List ℕ → ℕ → ℕ → Edge → Type 0
-IsGrownMark n old u v e =
-    (is_marked n old e ≡ true)
-    ⊎ (((e.0 ≡ u) ⊎ (is_marked n old (e.0, u) ≡ true))
-    × ((e.1 ≡ v) ⊎ (is_marked n old (v, e.1) ≡ true)))
-
-pub record Grows (n : ℕ) (old new : List ℕ) (u v : ℕ) : Type 0 where
-  pub marks : (e : Edge) → e.0 ≤ n → e.1 ≤ n →
-      ((is_marked n new e ≡ true) ↔ IsGrownMark n old u v e)
+abbrev pub IsGrown : List Edge → ℕ → ℕ → Edge → Type 0
+IsGrown old u v e =
+    Contains old e
+    ⊎ (((e.0 ≡ u) ⊎ Contains old (e.0, u)) × ((e.1 ≡ v) ⊎ Contains old (v, e.1)))

@@ -1,21 +1,19 @@
 //! Rows of a graph.
 
-ghost use Rattle.std.specs.Prelude.{◌≡◌, ℕ, ◌+◌, ◌*◌, ◌/◌, ◌<◌, ◌≤◌, ◌↔◌, IsTrue, IfOk, length};
+ghost use Rattle.std.specs.Prelude.{◌≡◌, ℕ, ◌≤◌, ◌↔◌, IsTrue, IfOk};
 ghost use Rattle.std.specs.List.{Contains};
 ghost use Rattle.reach_laws.specs.Reach.{Graph, Reaches, IsCyclic};
-ghost use Rattle.known_graph.specs.Bits.{bit_of, row_len};
-ghost use Rattle.known_graph.specs.Held.{bit_place};
+ghost use Rattle.known_graph.specs.Graphs.{IsBitGraph};
 ghost use Rattle.reach_rows.specs.ReachRows.{AreRowsOf, AddsEdge};
-ghost use Rattle.reach_rows.specs.Sources.{Grows};
+ghost use Rattle.reach_rows.specs.Sources.{IsGrown};
 ghost use Rattle.serializability.specs.declared.node.TheConstants.{MAX_NODES};
 
 use crate::parts::rows_by_workers;
 use crate::source::add_source;
-use crate::words::join_row;
 use desk::gate::Gate;
 use desk::seat_no::Workers;
-use known_graph::Known;
-use known_graph::bits::{has_bit, row_len, set_bit};
+use known_graph::bits::row_len;
+use known_graph::{BitTable, Known};
 use serializability::NodeIx;
 use serializability::numbers::node;
 use std::alloc::{AllocError, Global};
@@ -28,8 +26,7 @@ use std::time::Clock;
 /// edge leads from each node to each that it reaches.
 #[derive(Drop)]
 pub struct Rows {
-    nodes: usize,
-    words: Vec<u64>,
+    table: BitTable,
 }
 
 impl Model for Rows {
@@ -37,21 +34,7 @@ impl Model for Rows {
 
     ghost Value = { Graph };
 
-    ghost use Rattle.reach_rows.specs.Held.{graph_of, AreHeld};
-
-    ghost view = { graph_of };
-
-    ghost invariant = { AreHeld };
-}
-
-/// The number of the bit that says whether u reaches v.
-fn bit_place(nodes: usize, u: usize, v: usize) -> usize
-    requires few { nodes ≤ MAX_NODES }
-    requires nodes { (u ≤ nodes) × (v ≤ nodes) }
-    ensures place { result ≡ bit_place nodes u v }
-    ensures within { result / 64 < (nodes + 1) * row_len nodes }
-{
-    u * (row_len(nodes) * 64) + v
+    ghost view = { λ r. r.table };
 }
 
 impl Rows {
@@ -64,7 +47,9 @@ impl Rows {
         for source in 0..nodes + 1 {
             add_source(known, node(source), &mut words)?;
         }
-        Ok(Rows { nodes, words })
+        Ok(Rows {
+            table: BitTable::of(nodes, words),
+        })
     }
 
     /// The rows of a graph, computed by so many workers in threads of their own.
@@ -81,9 +66,9 @@ impl Rows {
     ) -> Result<Rows, AllocError>
         ensures rows { IfOk result (λ rows. AreRowsOf rows known.now) }
     {
+        let words = rows_by_workers(rt, alloc, known, workers, gate)?;
         Ok(Rows {
-            nodes: known.nodes(),
-            words: rows_by_workers(rt, alloc, known, workers, gate)?,
+            table: BitTable::of(known.nodes(), words),
         })
     }
 
@@ -92,7 +77,7 @@ impl Rows {
         ensures count { result ≡ self.now.nodes }
         ensures few { result ≤ MAX_NODES }
     {
-        self.nodes
+        self.table.nodes()
     }
 
     /// Whether u reaches v; no node above n does, and none is reached.
@@ -101,16 +86,7 @@ impl Rows {
         ensures reach { (graph : Graph) → AreRowsOf self.now graph →
             (IsTrue result ↔ Reaches graph.edges u v) }
     {
-        let (from, to) = (u.get(), v.get());
-        from <= self.nodes && to <= self.nodes && self.is_set(from, to)
-    }
-
-    /// Whether the bit of a pair of nodes is set.
-    fn is_set(&self, u: usize, v: usize) -> bool
-        requires nodes { (u ≤ self.now.nodes) × (v ≤ self.now.nodes) }
-        ensures edge { IsTrue result ↔ Contains self.now.edges (u, v) }
-    {
-        has_bit(&self.words, bit_place(self.nodes, u, v))
+        self.table.has(u.get(), v.get())
     }
 
     /// Whether some node reaches itself.
@@ -119,8 +95,8 @@ impl Rows {
         ensures cycle { (graph : Graph) → AreRowsOf self.now graph →
             (IsTrue result ↔ IsCyclic graph.edges) }
     {
-        for number in 0..self.nodes + 1 {
-            if self.is_set(number, number) {
+        for number in 0..self.table.nodes() + 1 {
+            if self.table.has(number, number) {
                 return true;
             }
         }
@@ -138,7 +114,7 @@ impl Rows {
         ensures nodes { self.new.nodes ≡ self.old.nodes }
     {
         if !self.reaches(u, v) {
-            add_reach(self.words.as_mut_slice(), self.nodes, u.get(), v.get());
+            add_reach(&mut self.table, u.get(), v.get());
         }
     }
 
@@ -147,8 +123,7 @@ impl Rows {
         ensures same { IfOk result (λ rows. rows ≡ self.now) }
     {
         Ok(Rows {
-            nodes: self.nodes,
-            words: Vec::from_slice(alloc, &self.words)?,
+            table: self.table.copy(alloc)?,
         })
     }
 
@@ -157,7 +132,7 @@ impl Rows {
         requires nodes { self.old.nodes ≡ other.now.nodes }
         ensures same { self.new ≡ other.now }
     {
-        self.words.as_mut_slice().copy_from_slice(&other.words);
+        self.table.copy_from(&other.table);
     }
 }
 
@@ -166,18 +141,17 @@ impl Rows {
 /// Row v itself may change on the way, where v reaches u or is u. It then gets the bit of v and its
 /// own bits alone; and the bit of v is added to each row with row v, so that the old row v would
 /// give the same.
-fn add_reach(words: &mut [u64], nodes: usize, u: usize, v: usize)
-    requires few { nodes ≤ MAX_NODES }
-    requires nodes { (u ≤ nodes) × (v ≤ nodes) }
-    requires len { length words.old ≡ (nodes + 1) * row_len nodes }
-    ensures grown { Grows nodes words.old words.new u v }
-    ensures len { length words.new ≡ length words.old }
+fn add_reach(table: &mut BitTable, u: usize, v: usize)
+    requires nodes { (u ≤ table.old.nodes) × (v ≤ table.old.nodes) }
+    ensures grown { (x w : ℕ) →
+        (Contains table.new.edges (x, w) ↔ IsGrown table.old.edges u v (x, w)) }
+    ensures nodes { table.new.nodes ≡ table.old.nodes }
+    ensures graph { IsBitGraph table.new }
 {
-    let len = row_len(nodes);
-    for x in 0..nodes + 1 {
-        if x == u || has_bit(words, bit_place(nodes, x, u)) {
-            join_row(words, len, x, v);
-            set_bit(words, bit_place(nodes, x, v));
+    for x in 0..table.nodes() + 1 {
+        if x == u || table.has(x, u) {
+            table.join_row(x, v);
+            table.set(x, v);
         }
     }
 }

@@ -12,6 +12,5 @@ mod bit_rows;
 pub mod laws;
 mod parts;
 mod source;
-mod words;
 
 pub use bit_rows::Rows;

@@ -6,7 +6,7 @@ use Rattle.known_graph.specs.Bits.{bit_of}
 use Rattle.known_graph.proofs.Opened.{left_falls}
 use Rattle.known_graph.proofs.Grouped.{row_len_small}
 use Rattle.known_graph.proofs.Words.{bit_of-zeros}
-use Rattle.reach_rows.proofs.Behind.{word_within}
+use Rattle.known_graph.proofs.Edges.{node_word}
 use Rattle.reach_rows.proofs.Spreading.{IsSpreadStep, spreading_none, spreading_more}
 use Rattle.reach_rows.proofs.source.spread.Goals as goal
 
@@ -23,7 +23,7 @@ pub set_bit-requires : goal.set_bit-requires
 set_bit-requires c =
     let n = c.args.known.now.nodes in
     let here = c.loop-number.invariant.nodes c.in-Some.number c.in-Some.ensures.found.0 in
-    record { within = omega (arith, word_within n c.in-Some.number here, row_len_small n c.nodes-invariant.ensures.graph.few) }
+    record { within = omega (arith, node_word n c.in-Some.number here, row_len_small n c.nodes-invariant.ensures.graph.few) }
 
 pub loop-number-smaller : goal.loop-number-smaller
 loop-number-smaller c =

@@ -1,9 +1,7 @@
-use Rattle.std.proofs.Common.{◌≡◌, ◌+◌, ◌*◌, length, sym, subst, arith}
-use Rattle.known_graph.specs.Bits.{row_len}
-use Rattle.known_graph.specs.Held.{marked_graph}
-use Rattle.reach_rows.specs.ReachRows.{AreRowsOf}
+use Rattle.std.proofs.Common.{◌≡◌, ◌+◌, sym, subst, arith}
+use Rattle.known_graph.specs.Held.{IsMarked}
 use Rattle.reach_rows.specs.Sources.{AreReachRows}
-use Rattle.reach_rows.proofs.Behind.{rows_none, rows_all, all_places}
+use Rattle.reach_rows.proofs.Behind.{rows_none, rows_all, rows_marked}
 use Rattle.reach_rows.proofs.bit_rows.Rows.plain.Goals as goal
 
 pub loop-source-init : goal.loop-source-init
@@ -15,21 +13,16 @@ loop-source-preserved c =
     let from : AreReachRows c.args.known.now 0 c.node.result c.loop-source.words.items = subst (λ u. AreReachRows c.args.known.now 0 u c.loop-source.words.items) (sym c.node.ensures.value) c.loop-source.invariant in
     subst (λ u. AreReachRows c.args.known.now 0 (u + 1) words) c.node.ensures.value (c.in_ok-add_source.ensures.rows 0 (omega arith) from)
 
-pub invariant_of-result : goal.invariant_of-result
-invariant_of-result c =
-    let count = c.nodes-nodes.ensures.count in
-    let last : c.loop-source.source ≡ c.args.known.now.nodes + 1 = omega (arith, count) in
-    let rows : AreReachRows c.args.known.now 0 (c.args.known.now.nodes + 1) c.loop-source.words.items = subst (λ k. AreReachRows c.args.known.now 0 k c.loop-source.words.items) last c.loop-source.invariant in
-    record {
-      few = c.nodes-nodes.ensures.few;
-      places = subst (λ n. length c.loop-source.words.items ≡ (n + 1) * row_len n) (sym count) (all_places c.args.known.now c.loop-source.words.items rows);
-    }
+pub of-requires : goal.of-requires
+of-requires c =
+    let graph = c.args.known.now in
+    let last : c.loop-source.source ≡ graph.nodes + 1 = omega (arith, c.nodes-nodes.ensures.count) in
+    let rows : AreReachRows graph 0 (graph.nodes + 1) c.loop-source.words.items = subst (λ k. AreReachRows graph 0 k c.loop-source.words.items) last c.loop-source.invariant in
+    record { marked = subst (λ n. IsMarked n c.loop-source.words.items) (sym c.nodes-nodes.ensures.count) (rows_marked graph c.loop-source.words.items c.nodes-nodes.ensures.graph rows) }
 
 pub returns : goal.returns
 returns c =
-    let count = c.nodes-nodes.ensures.count in
-    let last : c.loop-source.source ≡ c.args.known.now.nodes + 1 = omega (arith, count) in
-    let rows : AreReachRows c.args.known.now 0 (c.args.known.now.nodes + 1) c.loop-source.words.items = subst (λ k. AreReachRows c.args.known.now 0 k c.loop-source.words.items) last c.loop-source.invariant in
-    record {
-      rows = subst (λ n. AreRowsOf (marked_graph n c.loop-source.words.items) c.args.known.now) (sym count) (rows_all c.args.known.now c.loop-source.words.items c.nodes-nodes.ensures.graph rows);
-    }
+    let graph = c.args.known.now in
+    let last : c.loop-source.source ≡ graph.nodes + 1 = omega (arith, c.nodes-nodes.ensures.count) in
+    let rows : AreReachRows graph 0 (graph.nodes + 1) c.loop-source.words.items = subst (λ k. AreReachRows graph 0 k c.loop-source.words.items) last c.loop-source.invariant in
+    record { rows = rw (c.of.ensures.graph, c.nodes-nodes.ensures.count) (rows_all graph c.loop-source.words.items c.nodes-nodes.ensures.graph rows) }

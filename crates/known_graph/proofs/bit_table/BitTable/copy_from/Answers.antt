@@ -3,7 +3,7 @@ use Rattle.std.proofs.lemmas.List.{take_at}
 use Rattle.known_graph.specs.Bits.{row_len}
 use Rattle.known_graph.specs.Held.{marked_graph, IsMarked}
 use Rattle.known_graph.proofs.Edges.{marked_nodes}
-use Rattle.known_graph.proofs.graph.Known.copy_from.Goals as goal
+use Rattle.known_graph.proofs.bit_table.BitTable.copy_from.Goals as goal
 
 pub copy_from_slice-requires : goal.copy_from_slice-requires
 copy_from_slice-requires c =

@@ -1,6 +1,6 @@
 use Rattle.std.proofs.Common.{◌≡◌, ◌+◌, ◌*◌, ◌<◌, length, subst, arith}
-use Rattle.reach_rows.proofs.Joined.{IsRowJoined, row_joined_none, row_joined_more, row_joined_bits}
-use Rattle.reach_rows.proofs.words.join_row.Goals as goal
+use Rattle.known_graph.proofs.JoinedRows.{IsRowJoined, row_joined_none, row_joined_more, row_joined_bits}
+use Rattle.known_graph.proofs.bits.join_row.Goals as goal
 
 pub loop-i-init : goal.loop-i-init
 loop-i-init c = row_joined_none c.args.len c.args.to c.args.from c.args.words.now
