@@ -9,7 +9,7 @@ use Rattle.polygraph.specs.declared.fault.PolyFault.TheVariants as poly_fault
 use Rattle.prune_ledger.specs.declared.ledger.Ledger.{Ledger}
 use Rattle.prune_ledger.specs.Pruned.{Remainder}
 use Rattle.cube_laws.specs.declared.tree.TreeNode.{TreeNode}
-use Rattle.reduction.specs.Outcome.{IsDeadHistory, IsReduceFault}
+use Rattle.reduction.specs.Outcome.{IsDeadHistory, IsOpenHistory, IsReduceFault}
 use Rattle.branch_search.specs.declared.answer.Answer.TheVariants.{Unknown}
 use Rattle.splitting.specs.Locks.{no_room}
 use Rattle.deciding.specs.Decides.{IsSearched, IsCycleOf, IsRefutedBy}
@@ -34,16 +34,20 @@ use Rattle.judging.specs.declared.judged.Verdict.TheVariants.{NotSerializable, U
 
 -- ---- a log that is judged by itself
 
+-- neither an anomaly nor a cycle stands against a log, and pruning leaves choices open
+abbrev pub IsLeftOpen : List ClientSession → Type 0
+IsLeftOpen ss = (left : Remainder) × IsOpenHistory ss left
+
 -- what stands against a log: the anomaly that is reported; a cycle of what is known; a ledger of
--- pruning, which ends in a cycle; a tree that refutes every cube; or that its reduced formula cannot
--- be satisfied
+-- pruning, which ends in a cycle; a tree that refutes every cube; or, where none of the first three
+-- does, that its reduced formula cannot be satisfied
 abbrev pub Finds : List ClientSession → Finding → Type 0
 Finds ss (Anomaly a) = anomaly_of (log_of ss) ≡ Some a
 Finds ss Cycle = (line : List ℕ) × IsCycleOf ss line
 Finds ss Dead = (ledger : Ledger) × IsDeadHistory ss ledger
 Finds ss Refuted = (budget : ℕ) × (left : Remainder) × (tree : List TreeNode)
     × IsRefutedBy budget ss left tree
-Finds ss Formula = IsRefutedFor false ss
+Finds ss Formula = IsRefutedFor false ss × IsLeftOpen ss
 
 -- no order of the level explains the log's committed and any unknown transactions, and why: in the
 -- log that is judged for it, whose locks have room

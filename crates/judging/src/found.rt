@@ -5,6 +5,7 @@ ghost use Rattle.session_log.specs.Text.{ClientSession, view};
 ghost use Rattle.session_log.specs.declared.fault.LogFault.TheVariants.{OverLimit};
 ghost use Rattle.piece_laws.specs.Logs.{IsLog};
 ghost use Rattle.deciding.specs.Decides.{Decides};
+ghost use Rattle.judging.specs.Judges.{IsLeftOpen};
 ghost use Rattle.judging.specs.Finds.{IsFound, IsLimitOrMemory, is_spent, of_serial};
 ghost use Rattle.judging.specs.declared.means.JudgeMeans.{JudgeMeans};
 
@@ -116,6 +117,7 @@ fn learnt<R: Threads + Wait + Clock + Sync>(
     history: &History,
     means: &JudgeMeans,
 ) -> Result<Option<Found>, AllocError>
+    requires open { IsLeftOpen history.now }
     ensures found { IfOk result (λ found. IfSome found (IsFound (of_serial means.now) history.now)) }
 {
     let conflicts = means.deciding.budget.get() as u32;
@@ -137,6 +139,7 @@ fn seen_further<R: Threads + Wait + Clock + Sync>(
     history: &History,
     means: &JudgeMeans,
 ) -> Result<Seen, AllocError>
+    requires open { IsLeftOpen history.now }
     ensures { IfOk result (λ seen. IsFound (of_serial means.now) history.now seen.found) }
 {
     if means.is_over(rt) {
