@@ -66,7 +66,9 @@ def without_moments(sessions):
 
 
 def states_moments(sessions):
-    return any(moment is not None for _, it in reference.named(sessions) for moment in (it.begun, it.ended))
+    """Whether a committed transaction states when it began, and one when it ended."""
+    committed = [it for _, it in reference.named(sessions) if it.outcome == 'commit']
+    return any(it.begun is not None for it in committed) and any(it.ended is not None for it in committed)
 
 
 def counted(sessions):

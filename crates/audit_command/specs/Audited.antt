@@ -1,11 +1,12 @@
 -- What `audit` makes of a log of any length.
-use Rattle.std.specs.Prelude.{◌≡◌, ◌⊎◌, ℕ, ◌+◌, ◌-◌, ◌<◌, ◌≤◌, ◌||◌, ◌&&◌, Bool, true, false, not, if◌then◌else◌}
+use Rattle.std.specs.Prelude.{◌≡◌, ◌≢◌, ◌⊎◌, ℕ, ◌+◌, ◌-◌, ◌<◌, ◌≤◌, ◌||◌, ◌&&◌, Bool, true, false, not, if◌then◌else◌}
 use Rattle.std.specs.Prelude.{List, [], ◌∷◌, length, map, count_by, Option, Some, None, is_some, Vec}
 use Rattle.std.specs.List.{list_any, AllByRecursion}
 use Rattle.std.specs.declared.alloc.Global.{Global}
 use Rattle.session_log.specs.Text.{ClientSession, Transaction, view, least_version, log_text}
 use Rattle.session_log.specs.Version.{first_line, version_of}
 use Rattle.session_log.specs.declared.fault.LogFault.{LogFault}
+use Rattle.session_log.specs.declared.fault.LogFault.TheVariants.{Memory}
 use Rattle.log_definitions.specs.Unknown.{txns_in, is_committed, resolved}
 use Rattle.log_definitions.specs.Serial.{IsSerialOrder}
 use Rattle.long_log_definitions.specs.LongLog.{IsLongLog, IsLongLogFault}
@@ -42,6 +43,8 @@ use Rattle.audit_command.specs.declared.told.Answer.{Answer}
 use Rattle.audit_command.specs.declared.told.Answer.TheVariants as answer
 use Rattle.audit_command.specs.declared.told.Totals.{Totals}
 use Rattle.audit_command.specs.declared.told.Told.{Told}
+use Rattle.audit_command.specs.declared.without.Side.{Side}
+use Rattle.audit_command.specs.declared.without.Side.TheVariants as side
 use Rattle.audit_command.specs.declared.without.Weaker.{Weaker}
 use Rattle.audit_command.specs.declared.telling.Answered.{Answered}
 use Rattle.audit_command.specs.declared.files.PartFile.{PartFile}
@@ -89,15 +92,20 @@ pub record AreParts (o : AuditOptions) (n : ℕ) (ss : List ClientSession)
 abbrev pub IsOpen : JudgeMeans → List ClientSession → Type 0
 IsOpen m ss = (why : Why) × (tried : Tried) × IsVerdict m ss (verdict.Undecided why tried)
 
--- whether a transaction states a moment
-abbrev pub states_moment : Transaction → Bool
-states_moment t = is_some t.begun || is_some t.ended
+-- whether a committed transaction states when it began, or when it ended
+abbrev pub states_moment : Side → Transaction → Bool
+states_moment side.Begun t = is_committed t && is_some t.begun
+states_moment side.Ended t = is_committed t && is_some t.ended
 
-abbrev pub some_state : List Transaction → Bool
-some_state ts = list_any states_moment ts
+abbrev pub some_state : Side → List Transaction → Bool
+some_state side ts = list_any (states_moment side) ts
 
+abbrev pub one_states : Side → List ClientSession → Bool
+one_states side ss = list_any (λ s. some_state side s.txns) ss
+
+-- some state the one, and some the other: without both, the order of real time says nothing
 abbrev pub states_moments : List ClientSession → Bool
-states_moments ss = list_any (λ s. some_state s.txns) ss
+states_moments ss = one_states side.Begun ss && one_states side.Ended ss
 
 -- That the sessions have an order of the level, at least so many are committed, and moments are
 -- stated where the level is one of these; that they have one, and state no moments; that they have
@@ -278,4 +286,5 @@ IsRefusal Json o f text = (words : List ℕ) × IsSaidOf f words
 -- memory was refused; or the log is no long log, with this fault, and that is said
 abbrev pub IsRefused : AuditOptions → List ℕ → Refusal → Type 0
 IsRefused o log refusal.Memory = Unit {0}
-IsRefused o log (refusal.Log f text) = IsLongLogFault log f × IsRefusal o.form o f text.items
+IsRefused o log (refusal.Log f text) = IsLongLogFault log f × (f ≢ Memory)
+    × IsRefusal o.form o f text.items

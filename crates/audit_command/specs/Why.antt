@@ -1,5 +1,5 @@
 -- Why a part has no serial order, in the names and the lines of the whole log.
-use Rattle.std.specs.Prelude.{◌≡◌, ◌⊎◌, ◌<◌, ℕ, Bool, true, false, List, [], length, map, codes}
+use Rattle.std.specs.Prelude.{◌≡◌, ◌⊎◌, ◌<◌, ℕ, Bool, true, false, List, [], ◌∷◌, length, map, codes}
 use Rattle.std.specs.Prelude.{Option, None, Some, Vec}
 use Rattle.std.specs.declared.alloc.Global.{Global}
 use Rattle.session_log.specs.Text.{ClientSession, view}
@@ -30,9 +30,24 @@ table_of n known None = own_places n known
 table_of n known (Some flags) = part_table (is_kept known (picked (flags_view flags.items) known))
     (flags_view flags.items) n known
 
--- a decision about these sessions within the budget, and the text that explains it by this table
-abbrev pub Explains : ℕ → List ClientSession → Table → List ℕ → Type 0
-Explains budget ss table text = (d : Decision) × Decides budget ss d × IsExplained Text table ss d text
+-- what is said where a search shows that no order is left, and nothing else does
+abbrev pub search_line : List ℕ
+search_line = codes "no order of them is left: a search shows it\n"
+
+-- a text; that line, where there is none
+abbrev pub or_search_line : List ℕ → List ℕ
+or_search_line [] = search_line
+or_search_line (b ∷ bs) = b ∷ bs
+
+-- a decision about these sessions within the budget, and the text that explains it by this table; of
+-- a spent budget there is nothing to explain
+pub record Explains (budget : ℕ) (ss : List ClientSession) (table : Table) (text : List ℕ)
+    : Type 0 where
+  pub decision : Decision
+  pub decides : Decides budget ss decision
+  pub said : List ℕ
+  pub explained : IsExplained Text table ss decision said
+  pub text_is : text ≡ or_search_line said
 
 -- a part of these sessions is too large to be told: they have more lines than any log, or the part
 -- has; or `check` takes no log of the part, since it breaks a limit or has too many choices
@@ -50,8 +65,7 @@ IsSerialWhy budget n known p text =
 
 -- the same by what was found; what a search shows that learns is not told
 abbrev pub IsWhyOf : Finding → ℕ → ℕ → List ClientSession → RefutedPart → List ℕ → Type 0
-IsWhyOf finding.Formula budget n known p text =
-    text ≡ codes "no order of them is left: a search shows it\n"
+IsWhyOf finding.Formula budget n known p text = text ≡ search_line
 IsWhyOf _ budget n known p text = IsSerialWhy budget n known p text
 
 -- why it has no order of a level; at that of snapshots the words are free

@@ -1,8 +1,9 @@
 //! The command `audit`.
 
-ghost use Rattle.std.specs.Prelude.{◌≡◌, map, IfOk, IfErr};
+ghost use Rattle.std.specs.Prelude.{◌≡◌, ◌≢◌, map, IfOk, IfErr};
 ghost use Rattle.session_log.specs.Text.{view};
 ghost use Rattle.session_log.specs.Version.{version_of};
+ghost use Rattle.session_log.specs.declared.fault.LogFault.TheVariants.{Memory};
 ghost use Rattle.long_log_definitions.specs.LongLog.{IsLongLog, IsLongLogFault};
 ghost use Rattle.audit_command.specs.Levels.{settled};
 ghost use Rattle.audit_command.specs.Words.{status_of};
@@ -119,6 +120,7 @@ fn audit_sessions<R: Threads + Wait + Clock + Eprint + Sync, P: Progress>(
 /// Why a log is refused, and what is said of that.
 fn refused(alloc: Global, log: &[u8], fault: LogFault, options: &AuditOptions<'_>) -> Refusal
     requires fault { IsLongLogFault log.now fault }
+    requires other { fault ≢ Memory }
     ensures refused { IsRefused options.now log.now result }
 {
     match refusal(alloc, options, log, fault) {

@@ -32,6 +32,9 @@ use tell_decision::explain_placed;
 /// More lines than any log has.
 pub const MANY_LINES: usize = 1_000_000_000;
 
+/// What is said where a search shows that no order is left, and nothing else does.
+pub const SEARCH_SHOWS: &[u8] = b"no order of them is left: a search shows it\n";
+
 /// What stands before the name that the field has for a fault.
 const KNOWN_AS: &str = "known as: ";
 
@@ -101,7 +104,11 @@ fn text_of_decision(
         Explains means.now.budget history.now (rows_of places.now) text.items) }
 {
     let log = PlacedHistory::of(alloc, history, places)?;
-    explain_placed(alloc, &log, Format::Text, decision)
+    let text = explain_placed(alloc, &log, Format::Text, decision)?;
+    if text.is_empty() {
+        return Vec::from_slice(alloc, SEARCH_SHOWS);
+    }
+    Ok(text)
 }
 
 /// Why a history has no order, by where its transactions stand; `None` where it has too many

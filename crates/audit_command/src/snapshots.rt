@@ -7,7 +7,9 @@ ghost use Rattle.session_log.specs.Version.{first_line};
 ghost use Rattle.judging.specs.Made.{IsMadeOf};
 ghost use Rattle.audit_command.specs.Why.{IsWhyOf, IsWhy};
 
-use crate::explaining::{Explained, MANY_LINES, explain_serial, line_count, places_of};
+use crate::explaining::{
+    Explained, MANY_LINES, SEARCH_SHOWS, explain_serial, line_count, places_of,
+};
 use deciding::Means;
 use judging::{Finding, JudgeMeans, Level, RefutedPart};
 use session_history::{Anomaly, ReadAnomaly};
@@ -17,9 +19,6 @@ use std::sync::Wait;
 use std::thread::Threads;
 use std::time::Clock;
 use tell_snapshots::{Told, tell_snapshots};
-
-/// What is told of a part that a search over its formula refutes, which tells nothing for people.
-const NONE_LEFT: &[u8] = b"no order of them is left: a search shows it\n";
 
 /// What stands before the lines that say why a part has no serial order, where these say nothing of
 /// snapshots.
@@ -175,7 +174,7 @@ fn explain_order<R: Threads + Wait + Clock + Sync>(
 {
     match refuted.finding {
         Finding::Formula => Ok(Explained {
-            text: Vec::from_slice(alloc, NONE_LEFT)?,
+            text: Vec::from_slice(alloc, SEARCH_SHOWS)?,
             known_as: None,
         }),
         Finding::Anomaly(anomaly) => {

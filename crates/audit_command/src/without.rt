@@ -10,7 +10,7 @@ ghost use Rattle.judging.specs.Judges.{IsVerdict};
 ghost use Rattle.judging.specs.Made.{IsMade};
 ghost use Rattle.level_laws.specs.Without.{without_moments};
 ghost use Rattle.judging.specs.declared.means.JudgeMeans.{JudgeMeans};
-ghost use Rattle.audit_command.specs.Audited.{states_moment, some_state, states_moments};
+ghost use Rattle.audit_command.specs.Audited.{states_moment, some_state, one_states, states_moments};
 ghost use Rattle.audit_command.specs.Audited.{IsWord, IsWordWhere, IsWeaker};
 ghost use Rattle.audit_command.specs.Audited.{asks_levels, is_serial, asks_strict, asks_plain, is_kept};
 ghost use Rattle.audit_command.specs.Audited.{at_snapshot, asked_at_snapshot, verdict_word};
@@ -51,34 +51,50 @@ struct Plain {
     shown: Option<ToldPart>,
 }
 
-/// Whether a transaction states a moment.
-fn states_moment(txn: &Txn) -> bool
-    ensures states { result ≡ states_moment (view_txn txn.now) }
-{
-    txn.begun.is_some() || txn.ended.is_some()
+/// Which moment of a transaction.
+#[derive(Clone, Copy)]
+pub enum Side {
+    Begun,
+    Ended,
 }
 
-fn some_state(txns: &[Txn]) -> bool
-    ensures states { result ≡ some_state (map view_txn txns.now) }
+/// Whether a committed transaction states this moment.
+fn states_moment(side: Side, txn: &Txn) -> bool
+    ensures states { result ≡ states_moment side (view_txn txn.now) }
+{
+    match side {
+        Side::Begun => txn.is_committed() && txn.begun.is_some(),
+        Side::Ended => txn.is_committed() && txn.ended.is_some(),
+    }
+}
+
+fn some_state(side: Side, txns: &[Txn]) -> bool
+    ensures states { result ≡ some_state side (map view_txn txns.now) }
 {
     for txn in txns {
-        if states_moment(txn) {
+        if states_moment(side, txn) {
             return true;
         }
     }
     false
 }
 
-/// Whether a transaction of these sessions states a moment.
+fn one_states(side: Side, sessions: &[Session]) -> bool
+    ensures states { result ≡ one_states side (map view sessions.now) }
+{
+    for session in sessions {
+        if some_state(side, &session.txns) {
+            return true;
+        }
+    }
+    false
+}
+
+/// Whether a committed transaction states when it began, and one when it ended.
 pub fn state_moments(sessions: &[Session]) -> bool
     ensures states { result ≡ states_moments (map view sessions.now) }
 {
-    for session in sessions {
-        if some_state(&session.txns) {
-            return true;
-        }
-    }
-    false
+    one_states(Side::Begun, sessions) && one_states(Side::Ended, sessions)
 }
 
 /// The verdict, in a word.

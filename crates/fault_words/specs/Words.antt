@@ -1,18 +1,18 @@
--- What is said of each fault. What is wrong with the form of a line, and where the earlier line of
--- two stands, is free.
+-- What is said of each fault. What is wrong with the form of a line is free; so is how an identity
+-- that is written twice is named, where the earlier line of two stands, and which of two is said
+-- outside a transaction.
 use Rattle.std.specs.Prelude.{◌≡◌, ◌⊎◌, ℕ, List, ◌++◌, codes, decimal}
 use Rattle.session_log.specs.declared.fault.Limit.{Limit}
 use Rattle.session_log.specs.declared.fault.Limit.TheVariants as limit
 use Rattle.session_log.specs.declared.fault.LogFault.{LogFault}
 use Rattle.session_log.specs.declared.fault.LogFault.TheVariants as fault
-use Rattle.session_log.specs.declared.limits.TheConstants.{MAX_LOG_BYTES, MAX_SESSIONS}
+use Rattle.session_log.specs.declared.limits.TheConstants.{MAX_SESSIONS}
 use Rattle.session_log.specs.declared.limits.TheConstants.{MAX_OPERATIONS, MAX_KEYS}
 use Rattle.serializability.specs.declared.node.TheConstants.{MAX_NODES}
 use Rattle.long_log_definitions.specs.declared.limits.TheConstants.{MAX_LONG_LOG_BYTES}
 
--- these words, of something, and perhaps more
-pub record Says (words text : List ℕ) : Type 0 where
-  pub what : List ℕ
+-- something, these words of it, and perhaps more
+pub record Says (what words text : List ℕ) : Type 0 where
   pub more : List ℕ
   pub is : text ≡ what ++ words ++ more
 
@@ -20,8 +20,7 @@ abbrev pub more_than : ℕ → List ℕ → List ℕ
 more_than most things = codes "the log has more than " ++ decimal most ++ things
 
 abbrev pub IsLimitSaid : Limit → List ℕ → Type 0
-IsLimitSaid limit.LogBytes text = (text ≡ more_than MAX_LOG_BYTES (codes " bytes"))
-    ⊎ (text ≡ more_than MAX_LONG_LOG_BYTES (codes " bytes"))
+IsLimitSaid limit.LogBytes text = text ≡ more_than MAX_LONG_LOG_BYTES (codes " bytes")
 IsLimitSaid limit.Sessions text = text ≡ more_than MAX_SESSIONS (codes " sessions")
 IsLimitSaid limit.Operations text = text ≡ more_than MAX_OPERATIONS (codes " reads and writes")
 IsLimitSaid limit.Committed text =
@@ -34,13 +33,13 @@ IsOutsideSaid text = (text ≡ codes "no transaction is open here: a `begin` is 
 
 abbrev pub IsSaidOf : LogFault → List ℕ → Type 0
 IsSaidOf (fault.BadLine line) text = Unit {0}
-IsSaidOf (fault.SessionTwice line) text = Says (codes " began before") text
+IsSaidOf (fault.SessionTwice line) text = Says (codes "this session") (codes " began before") text
 IsSaidOf (fault.OutsideTransaction line) text = IsOutsideSaid text
 IsSaidOf (fault.OpenTransaction line) text =
     text ≡ codes "the transaction that begins here has no `commit`, `abort` or `unknown`"
 IsSaidOf (fault.WriteZero line) text =
     text ≡ codes "identity 0 is that of the initial value, and no write can have it"
-IsSaidOf (fault.WriteTwice line) text = Says (codes " was written before") text
+IsSaidOf (fault.WriteTwice line) text = (what : List ℕ) × Says what (codes " was written before") text
 IsSaidOf (fault.OverLimit which) text = IsLimitSaid which text
 IsSaidOf fault.Memory text = text ≡ codes "out of memory"
 IsSaidOf (fault.UnknownNotLast line) text = text

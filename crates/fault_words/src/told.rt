@@ -1,6 +1,6 @@
 //! A fault in words.
 
-ghost use Rattle.std.specs.Prelude.{◌≡◌, ◌++◌, IfOk, codes};
+ghost use Rattle.std.specs.Prelude.{◌≡◌, ◌++◌, ℕ, List, IfOk, codes};
 ghost use Rattle.std.specs.String.{string_bytes};
 ghost use Rattle.fault_words.specs.Codes.{limit_code, code_of, line_of, place_of, joined};
 ghost use Rattle.fault_words.specs.Codes.{IsRefusalLine};
@@ -12,9 +12,7 @@ use crate::numbers::NumberFault;
 use crate::quoted::quoted;
 use long_log_definitions::MAX_LONG_LOG_BYTES;
 use serializability::MAX_NODES;
-use session_log::{
-    Limit, LogFault, MAX_KEYS, MAX_LOG_BYTES, MAX_OPERATIONS, MAX_SESSIONS, Version, index_of,
-};
+use session_log::{Limit, LogFault, MAX_KEYS, MAX_OPERATIONS, MAX_SESSIONS, Version, index_of};
 use std::alloc::{AllocError, Global};
 
 fn limit_code(which: Limit) -> &'static str
@@ -164,7 +162,7 @@ fn twice_words(
     said: &str,
     earlier: Option<usize>,
 ) -> Result<String, AllocError>
-    ensures says { IfOk result (λ text. Says said.now (string_bytes text)) }
+    ensures says { IfOk result (λ text. Says what.now said.now (string_bytes text)) }
 {
     match earlier {
         Some(line) => said_of(alloc, what, said, &format!(in alloc; ", in line {line}")?),
@@ -173,7 +171,8 @@ fn twice_words(
 }
 
 fn session_twice_words(alloc: Global, log: &[u8], number: usize) -> Result<String, AllocError>
-    ensures says { IfOk result (λ text. Says (codes " began before") (string_bytes text)) }
+    ensures says { IfOk result (λ text. Says (codes "this session") (codes " began before")
+        (string_bytes text)) }
 {
     let Some(line) = line_at(log, number) else {
         return twice_words(alloc, "this session", " began before", None);
@@ -183,7 +182,8 @@ fn session_twice_words(alloc: Global, log: &[u8], number: usize) -> Result<Strin
 }
 
 fn write_twice_words(alloc: Global, log: &[u8], number: usize) -> Result<String, AllocError>
-    ensures says { IfOk result (λ text. Says (codes " was written before") (string_bytes text)) }
+    ensures says { IfOk result (λ text. (what : List ℕ) ×
+        Says what (codes " was written before") (string_bytes text)) }
 {
     let line = line_at(log, number);
     let Some(identity) = line.and_then(|line| identity_of(line.bytes)) else {
@@ -204,18 +204,11 @@ fn outside_words(alloc: Global, log: &[u8], number: usize) -> Result<String, All
     }
 }
 
-fn limit_words(alloc: Global, log: &[u8], which: Limit) -> Result<String, AllocError>
+fn limit_words(alloc: Global, which: Limit) -> Result<String, AllocError>
     ensures said { IfOk result (λ text. IsLimitSaid which (string_bytes text)) }
 {
     match which {
-        Limit::LogBytes => {
-            let most = if log.len() > MAX_LONG_LOG_BYTES {
-                MAX_LONG_LOG_BYTES
-            } else {
-                MAX_LOG_BYTES
-            };
-            format!(in alloc; "the log has more than {most} bytes")
-        }
+        Limit::LogBytes => { format!(in alloc; "the log has more than {MAX_LONG_LOG_BYTES} bytes") }
         Limit::Sessions => format!(in alloc; "the log has more than {MAX_SESSIONS} sessions"),
         Limit::Operations => {
             format!(in alloc; "the log has more than {MAX_OPERATIONS} reads and writes")
@@ -238,7 +231,7 @@ pub fn words_of(alloc: Global, log: &[u8], fault: LogFault) -> Result<String, Al
         LogFault::SessionTwice { line } => session_twice_words(alloc, log, line),
         LogFault::OutsideTransaction { line } => outside_words(alloc, log, line),
         LogFault::WriteTwice { line } => write_twice_words(alloc, log, line),
-        LogFault::OverLimit { which } => limit_words(alloc, log, which),
+        LogFault::OverLimit { which } => limit_words(alloc, which),
         LogFault::OpenTransaction { .. } => String::from_str(
             alloc,
             "the transaction that begins here has no `commit`, `abort` or `unknown`",

@@ -117,7 +117,7 @@ fn learnt<R: Threads + Wait + Clock + Sync>(
     history: &History,
     means: &JudgeMeans,
 ) -> Result<Option<Found>, AllocError>
-    requires open { IsLeftOpen history.now }
+    requires left { IsLeftOpen history.now }
     ensures found { IfOk result (λ found. IfSome found (IsFound (of_serial means.now) history.now)) }
 {
     let conflicts = means.deciding.budget.get() as u32;
@@ -139,7 +139,7 @@ fn seen_further<R: Threads + Wait + Clock + Sync>(
     history: &History,
     means: &JudgeMeans,
 ) -> Result<Seen, AllocError>
-    requires open { IsLeftOpen history.now }
+    requires left { IsLeftOpen history.now }
     ensures { IfOk result (λ seen. IsFound (of_serial means.now) history.now seen.found) }
 {
     if means.is_over(rt) {

@@ -189,7 +189,7 @@ fn limits_and_memory(rt: HostRuntime) -> Result<(), Fail> {
         (
             Limit::LogBytes,
             "L7 log-bytes",
-            "the log has more than 16777216 bytes",
+            "the log has more than 1073741824 bytes",
         ),
         (
             Limit::Sessions,

@@ -4,4 +4,4 @@ use Rattle.audit_command.specs.Audited.{some_state}
 use Rattle.audit_command.proofs.without.some_state.Given as goal
 
 abbrev pub invariant-loop-txn : goal.invariant-loop-txn
-invariant-loop-txn l = some_state (map view_txn l.txns) ≡ some_state (map view_txn (drop l.txn-index l.txns))
+invariant-loop-txn l = some_state l.side (map view_txn l.txns) ≡ some_state l.side (map view_txn (drop l.txn-index l.txns))
