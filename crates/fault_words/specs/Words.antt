@@ -16,6 +16,12 @@ pub record Says (what words text : List ℕ) : Type 0 where
   pub more : List ℕ
   pub is : text ≡ what ++ words ++ more
 
+-- the same of something that is not told
+pub record SaysOfSome (words text : List ℕ) : Type 0 where
+  pub what : List ℕ
+  pub more : List ℕ
+  pub is : text ≡ what ++ words ++ more
+
 abbrev pub more_than : ℕ → List ℕ → List ℕ
 more_than most things = codes "the log has more than " ++ decimal most ++ things
 
@@ -39,7 +45,7 @@ IsSaidOf (fault.OpenTransaction line) text =
     text ≡ codes "the transaction that begins here has no `commit`, `abort` or `unknown`"
 IsSaidOf (fault.WriteZero line) text =
     text ≡ codes "identity 0 is that of the initial value, and no write can have it"
-IsSaidOf (fault.WriteTwice line) text = (what : List ℕ) × Says what (codes " was written before") text
+IsSaidOf (fault.WriteTwice line) text = SaysOfSome (codes " was written before") text
 IsSaidOf (fault.OverLimit which) text = IsLimitSaid which text
 IsSaidOf fault.Memory text = text ≡ codes "out of memory"
 IsSaidOf (fault.UnknownNotLast line) text = text

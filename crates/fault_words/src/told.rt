@@ -1,10 +1,10 @@
 //! A fault in words.
 
-ghost use Rattle.std.specs.Prelude.{◌≡◌, ◌++◌, ℕ, List, IfOk, codes};
+ghost use Rattle.std.specs.Prelude.{◌≡◌, ◌++◌, IfOk, codes};
 ghost use Rattle.std.specs.String.{string_bytes};
 ghost use Rattle.fault_words.specs.Codes.{limit_code, code_of, line_of, place_of, joined};
 ghost use Rattle.fault_words.specs.Codes.{IsRefusalLine};
-ghost use Rattle.fault_words.specs.Words.{Says, IsLimitSaid, IsOutsideSaid, IsSaidOf};
+ghost use Rattle.fault_words.specs.Words.{Says, SaysOfSome, IsLimitSaid, IsOutsideSaid, IsSaidOf};
 
 use crate::form::{Number, Wrong, first_word, wrong_form};
 use crate::lines::{LogLine, earlier_line, line_at};
@@ -163,6 +163,7 @@ fn twice_words(
     earlier: Option<usize>,
 ) -> Result<String, AllocError>
     ensures says { IfOk result (λ text. Says what.now said.now (string_bytes text)) }
+    ensures some { IfOk result (λ text. SaysOfSome said.now (string_bytes text)) }
 {
     match earlier {
         Some(line) => said_of(alloc, what, said, &format!(in alloc; ", in line {line}")?),
@@ -182,8 +183,8 @@ fn session_twice_words(alloc: Global, log: &[u8], number: usize) -> Result<Strin
 }
 
 fn write_twice_words(alloc: Global, log: &[u8], number: usize) -> Result<String, AllocError>
-    ensures says { IfOk result (λ text. (what : List ℕ) ×
-        Says what (codes " was written before") (string_bytes text)) }
+    ensures says { IfOk result (λ text. SaysOfSome (codes " was written before")
+        (string_bytes text)) }
 {
     let line = line_at(log, number);
     let Some(identity) = line.and_then(|line| identity_of(line.bytes)) else {
