@@ -2,11 +2,10 @@
 use Rattle.std.proofs.Common.{◌≡◌, ◌⊎◌, ◌↔◌, inl, inr, sym, ap, ◌∙◌, ℕ, ◌+◌, ◌<◌, ◌≤◌, Bool, true, false, ◌&&◌, arith}
 use Rattle.std.specs.Prelude.{nat_le}
 use Rattle.std.specs.List.{Contains}
-use Rattle.std.proofs.lemmas.Bool.{cases_eq, false≢true, and_parts, and_from, le-leb, leb-true}
+use Rattle.std.proofs.lemmas.Bool.{cases_eq, false≢true, and_from, le-leb}
 use Rattle.serializability.specs.Polygraph.{Edge}
 use Rattle.reach_laws.specs.Reach.{Graph}
 use Rattle.known_graph.proofs.Edges.{pair_same}
-use Rattle.order_cnf.specs.Cycles.{IsPairTable}
 
 -- each bit that is set is one at which f holds, and the bits of the pairs that are done are
 pub record IsFilled (n : ℕ) (f : ℕ → ℕ → Bool) (Done : ℕ → ℕ → Type 0) (table : Graph) : Type 0 where
@@ -77,13 +76,3 @@ kept_first n f table u v here k = filled_kept n f (IsPast u v) (IsPast u (v + 1)
 
 pub kept_second : (n : ℕ) (f : ℕ → ℕ → Bool) (table : Graph) (u v : ℕ) → f v u ≡ false → IsFilled n f (IsPastTurned u v) table → IsFilled n f (IsPastTurned u (v + 1)) table
 kept_second n f table u v here k = filled_kept n f (IsPastTurned u v) (IsPastTurned u (v + 1)) table v u here k (past_more_turned u v)
-
--- ---- all pairs are done
-pub filled_all : (n : ℕ) (f : ℕ → ℕ → Bool) (Done : ℕ → ℕ → Type 0) (table : Graph) → IsFilled n f Done table → ((x y : ℕ) → x ≤ n → y ≤ n → Done x y) → IsPairTable n f table
-filled_all n f Done table k all = record {
-  nodes = k.nodes;
-  bits = λ x y hx. (
-    λ c. k.sound x y c,
-    λ t. (let p = and_parts (nat_le y n) (f x y) t in let hy = leb-true y n p.0 in k.whole x y hx hy (all x y hx hy) p.1),
-  );
-}
