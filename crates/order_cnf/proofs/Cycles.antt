@@ -1,66 +1,54 @@
 -- Cycles of which no edge is known, and the clauses that they stand for.
-use Rattle.std.proofs.Common.{◌≡◌, refl, sym, ap, ◌∙◌, subst, ℕ, zero, suc, ◌+◌, ◌-◌, ◌*◌, ◌/◌, ◌^◌, ◌<◌, ◌≤◌, Bool, true, false, not, cond, ◌&&◌, ◌||◌, List, [], ◌∷◌, ◌++◌, length, get_or, arith, count_ones}
+use Rattle.std.proofs.Common.{◌≡◌, ◌↔◌, refl, sym, ap, ◌∙◌, ℕ, zero, suc, ◌+◌, ◌-◌, ◌*◌, ◌/◌, ◌^◌, ◌<◌, ◌≤◌, Bool, true, false, not, cond, ◌&&◌, ◌||◌, List, [], ◌∷◌, ◌++◌, length, get_or, arith, count_ones}
 use Rattle.std.specs.Prelude.{nat_le, bit_and}
-use Rattle.std.specs.List.{range_with_len}
+use Rattle.std.specs.List.{Contains, range_with_len}
 use Rattle.std.proofs.lemmas.Bool.{le-leb, lt-leb, and_right, false≢true}
-use Rattle.std.proofs.lemmas.List.{length-append, get_or_read}
+use Rattle.std.proofs.lemmas.List.{length-append}
 use Rattle.std.proofs.lemmas.Nat.{div-add-mod', ones-le}
 use Rattle.serializability.specs.declared.literal.Literal.{Literal}
+use Rattle.reach_laws.specs.Reach.{Graph}
 use Rattle.known_graph.specs.Bits.{bit_of, row_len}
-use Rattle.known_graph.specs.Held.{bit_place}
-use Rattle.known_graph.proofs.Edges.{nodes_within_row, row_end}
+use Rattle.known_graph.proofs.Edges.{nodes_within_row}
+use Rattle.known_graph.proofs.Tested.{same_bool}
+use Rattle.known_graph.proofs.Words.{bit_there}
 use Rattle.order_cnf.specs.Tables.{Relation, known_in}
 use Rattle.order_cnf.specs.Cycles.{is_open_cycle, is_open_from, IsWord, IsPairTable}
 use Rattle.order_cnf.specs.Streams.{clauses_at, of_one, up_to}
-use Rattle.order_cnf.proofs.WordBits.{bit_there, and_word, word_as, no_word}
+use Rattle.order_cnf.proofs.WordBits.{and_word, word_as, no_word}
 use Rattle.order_cnf.proofs.Counted.{one, count_in, count_none, count_same, count_split, count_most, word_counted}
 
 -- ---- a word of a row
-same_place : (n u place b : ℕ) → bit_place n u (place * 64 + b) ≡ (u * row_len n + place) * 64 + b
-unfolding bit_place
-same_place n u place b = omega arith
+pub record IsPairRow (n : ℕ) (p : ℕ → Bool) (row : List ℕ) : Type 0 where
+  pub len : length row ≡ row_len n
+  pub bits : (v : ℕ) → bit_of row v ≡ (nat_le v n && p v)
 
-row_word : (n u place : ℕ) (f : ℕ → ℕ → Bool) (words : List ℕ) → IsPairTable n f words → u ≤ n → place < row_len n → IsWord (λ k. nat_le k n && f u k) place (get_or words (u * row_len n + place) 0)
-row_word n u place f words table hu within = record {
-  bits = λ b h.
-      sym (bit_there words (u * row_len n + place) b h) ∙ ap (bit_of words) (sym (same_place n u place b))
-      ∙ table.bits u (place * 64 + b) hu (omega (arith, h, within));
+pub pair_row : (n u : ℕ) (f : ℕ → ℕ → Bool) (table : Graph) (row : List ℕ) → IsPairTable n f table → u ≤ n → ((v : ℕ) → ((bit_of row v ≡ true) ↔ Contains table.edges (u, v))) → length row ≡ row_len table.nodes → IsPairRow n (f u) row
+pair_row n u f table row held hu edges len = record {
+  len = len ∙ ap row_len held.nodes;
+  bits = λ v. (let there = held.bits u v hu in same_bool (bit_of row v) (nat_le v n && f u v) (λ t. there.0 ((edges v).0 t)) (λ t. (edges v).1 (there.1 t)));
 }
 
-word_within : (n u place : ℕ) → u ≤ n → place < row_len n → u * row_len n + place < (n + 1) * row_len n
-word_within n u place hu within = omega (arith, row_end n u (omega (arith, hu)), within)
-
 -- the bit of a pair that is read
-pub pair_read : (n u v place : ℕ) (f : ℕ → ℕ → Bool) (words read : List ℕ) (bit : Bool) → IsPairTable n f words → u ≤ n → v ≤ n → read ≡ words → place ≡ bit_place n u v → bit ≡ bit_of read place → f u v ≡ bit
-pair_read n u v place f words read bit table hu hv same at e =
-    sym (e ∙ ap (λ l. bit_of l place) same ∙ ap (bit_of words) at ∙ table.bits u v hu (omega (arith, hv, nodes_within_row n)) ∙ ap (λ t. t && f u v) (le-leb v n hv))
+pub pair_read : (n v : ℕ) (p : ℕ → Bool) (row : List ℕ) (bit : Bool) → IsPairRow n p row → v ≤ n → bit ≡ bit_of row v → p v ≡ bit
+pair_read n v p row bit held hv e = sym (e ∙ held.bits v ∙ ap (λ t. t && p v) (le-leb v n hv))
+
+row_word : (n place : ℕ) (p : ℕ → Bool) (row : List ℕ) → IsPairRow n p row → IsWord (λ k. nat_le k n && p k) place (get_or row place 0)
+row_word n place p row held = record { bits = λ b h. sym (bit_there row place b h) ∙ held.bits (place * 64 + b) }
 
 open_both : (t a b c : Bool) → a ≡ false → ((t && not b) && (t && not c)) ≡ (t && (not a && (not b && not c)))
 open_both t true b c h = absurd (false≢true (sym h))
 open_both true false b c h = refl
 open_both false false b c h = refl
 
-open_word : (r : Relation) (u v place : ℕ) (first second : List ℕ) → IsPairTable r.nodes (λ x y. not (known_in r x y)) first → IsPairTable r.nodes (λ y x. not (known_in r x y)) second → u ≤ r.nodes → v ≤ r.nodes
-    → place < row_len r.nodes → known_in r u v ≡ false → IsWord (is_open_cycle r u v) place (bit_and (get_or first (v * row_len r.nodes + place) 0) (get_or second (u * row_len r.nodes + place) 0))
-unfolding is_open_cycle
-open_word r u v place first second tf ts hu hv within free =
-    word_as (λ k. (nat_le k r.nodes && not (known_in r v k)) && (nat_le k r.nodes && not (known_in r k u))) (is_open_cycle r u v) place
-    (bit_and (get_or first (v * row_len r.nodes + place) 0) (get_or second (u * row_len r.nodes + place) 0))
-    (λ k. open_both (nat_le k r.nodes) (known_in r u v) (known_in r v k) (known_in r k u) free)
-    (and_word (λ k. nat_le k r.nodes && not (known_in r v k)) (λ k. nat_le k r.nodes && not (known_in r k u)) place
-    (get_or first (v * row_len r.nodes + place) 0) (get_or second (u * row_len r.nodes + place) 0)
-    (row_word r.nodes v place (λ x y. not (known_in r x y)) first tf hv within) (row_word r.nodes u place (λ y x. not (known_in r x y)) second ts hu within))
-
 -- the words are read
-pub read_word : (r : Relation) (u v place len a b : ℕ) (first second : List ℕ) → IsPairTable r.nodes (λ x y. not (known_in r x y)) first → IsPairTable r.nodes (λ y x. not (known_in r x y)) second → u ≤ r.nodes → v ≤ r.nodes
-    → place < row_len r.nodes → known_in r u v ≡ false → len ≡ row_len r.nodes → a ≡ get_or first (v * len + place) a → b ≡ get_or second (u * len + place) b → IsWord (is_open_cycle r u v) place (bit_and a b)
-read_word r u v place len a b first second tf ts hu hv within free same ea eb =
-    let fa : v * len + place < length first = subst (λ l. v * l + place < length first) (sym same) (omega (arith, tf.len, word_within r.nodes v place hv within)) in
-    let fb : u * len + place < length second = subst (λ l. u * l + place < length second) (sym same) (omega (arith, ts.len, word_within r.nodes u place hu within)) in
-    let ra : a ≡ get_or first (v * row_len r.nodes + place) 0 = get_or_read first (v * len + place) a fa ea 0 ∙ ap (λ l. get_or first (v * l + place) 0) same in
-    let rb : b ≡ get_or second (u * row_len r.nodes + place) 0 = get_or_read second (u * len + place) b fb eb 0 ∙ ap (λ l. get_or second (u * l + place) 0) same in
-    subst (λ w. IsWord (is_open_cycle r u v) place w) (sym (ap (λ x. bit_and x b) ra ∙ ap (λ y. bit_and (get_or first (v * row_len r.nodes + place) 0) y) rb))
-    (open_word r u v place first second tf ts hu hv within free)
+pub read_word : (r : Relation) (u v place : ℕ) (first second : List ℕ) → IsPairRow r.nodes (λ k. not (known_in r v k)) first → IsPairRow r.nodes (λ k. not (known_in r k u)) second
+    → known_in r u v ≡ false → IsWord (is_open_cycle r u v) place (bit_and (get_or first place 0) (get_or second place 0))
+unfolding is_open_cycle
+read_word r u v place first second tf ts free =
+    word_as (λ k. (nat_le k r.nodes && not (known_in r v k)) && (nat_le k r.nodes && not (known_in r k u))) (is_open_cycle r u v) place (bit_and (get_or first place 0) (get_or second place 0))
+    (λ k. open_both (nat_le k r.nodes) (known_in r u v) (known_in r v k) (known_in r k u) free)
+    (and_word (λ k. nat_le k r.nodes && not (known_in r v k)) (λ k. nat_le k r.nodes && not (known_in r k u)) place (get_or first place 0) (get_or second place 0)
+    (row_word r.nodes place (λ k. not (known_in r v k)) first tf) (row_word r.nodes place (λ k. not (known_in r k u)) second ts))
 
 closed_both : (t a b : Bool) → a ≡ true → (t && (not a && b)) ≡ false
 closed_both true true b h = refl

@@ -1,5 +1,5 @@
 -- The place of a pair of nodes 0 to n among all of them.
-use Rattle.std.proofs.Common.{◌≡◌, ℕ, suc, ◌+◌, ◌-◌, ◌<◌, ◌≤◌, eqb, ◌&&◌, List, [], ◌∷◌, length, refl, inl, inr, arith, eq-eqb}
+use Rattle.std.proofs.Common.{◌≡◌, ℕ, suc, ◌+◌, ◌<◌, ◌≤◌, eqb, ◌&&◌, List, [], ◌∷◌, length, refl, inl, inr, arith, eq-eqb}
 use Rattle.std.proofs.lemmas.Bool.{cases_Bool, cond-true, cond-false, and_from}
 use Rattle.serializability.specs.Pairs.{pair_place}
 use Rattle.serializability.specs.Plain.{nothing_known, plain_pairs}

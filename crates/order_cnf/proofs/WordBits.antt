@@ -1,18 +1,11 @@
 -- Words of bits.
-use Rattle.std.proofs.Common.{◌≡◌, ◌≢◌, refl, sym, ap, ◌∙◌, ℕ, zero, suc, ◌+◌, ◌-◌, ◌*◌, ◌/◌, ◌%◌, ◌^◌, ◌<◌, ◌≤◌, min, max, Bool, true, false, eqb, ◌&&◌, ◌||◌, List, get_or, inl, inr, arith}
+use Rattle.std.proofs.Common.{◌≡◌, ◌≢◌, refl, sym, ap, ◌∙◌, ℕ, zero, suc, ◌+◌, ◌-◌, ◌*◌, ◌/◌, ◌%◌, ◌^◌, ◌<◌, ◌≤◌, min, max, Bool, true, false, eqb, ◌&&◌, ◌||◌, inl, inr, arith}
 use Rattle.std.specs.Prelude.{bit_and, bit_or, nat_le}
 use Rattle.std.specs.Int.{bit_at, w64, trailing_zeros}
 use Rattle.std.proofs.lemmas.Bool.{cases_lt, le-leb, lt-leb}
-use Rattle.std.proofs.lemmas.Nat.{div-mul-add, mod-mul-add, div-add-mod', mod_below}
+use Rattle.std.proofs.lemmas.Nat.{div-add-mod', mod_below}
 use Rattle.std.proofs.lemmas.Nat.Bits.{bit_at_and, bit_at_or, bit_at-lt, bit_at-trailing_zeros, bit_at-zero, bit_at_ones, bit_at_mask_inside, bit_at_mask_below, ones_shl}
-use Rattle.known_graph.specs.Bits.{bit_of}
 use Rattle.order_cnf.specs.Cycles.{IsWord}
-
-pub bit_there : (words : List ℕ) (i b : ℕ) → b < 64 → bit_of words (i * 64 + b) ≡ eqb (bit_at (get_or words i 0) b) 1
-unfolding bit_of
-bit_there words i b h =
-    ap (λ k. eqb (bit_at (get_or words k 0) ((i * 64 + b) % 64)) 1) (div-mul-add i 64 b h)
-    ∙ ap (λ c. eqb (bit_at (get_or words i 0) c) 1) (mod-mul-add i 64 b h)
 
 both : (x y : ℕ) → x < 2 → y < 2 → eqb (min x y) 1 ≡ (eqb x 1 && eqb y 1)
 both zero y hx hy = let e : min 0 y ≡ 0 = omega arith in ap (λ n. eqb n 1) e

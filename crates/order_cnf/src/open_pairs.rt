@@ -1,15 +1,15 @@
 //! Pairs of nodes of which it is not known that the first stands before the second, as bits.
 
-ghost use Rattle.std.specs.Prelude.{◌≡◌, ◌+◌, ◌*◌, ◌/◌, ◌<◌, ◌≤◌, not, replicate, IfOk};
-ghost use Rattle.known_graph.specs.Bits.{row_len};
-ghost use Rattle.known_graph.specs.Held.{bit_place};
+ghost use Rattle.std.specs.Prelude.{◌≡◌, ◌≤◌, not, IfOk};
+ghost use Rattle.std.specs.List.{Contains};
+ghost use Rattle.serializability.specs.Polygraph.{Edge};
 ghost use Rattle.order_cnf.specs.Cycles.{IsPairTable, AreOpenPairs};
 ghost use Rattle.order_cnf.specs.Data.{is_listed};
 ghost use Rattle.order_cnf.specs.Tables.{rows_known};
 ghost use Rattle.serializability.specs.declared.node.TheConstants.{MAX_NODES};
 
 use crate::relation::is_known;
-use known_graph::bits::{row_len, set_bit};
+use known_graph::BitTable;
 use reach_rows::Rows;
 use std::alloc::{AllocError, Global};
 
@@ -17,26 +17,17 @@ use std::alloc::{AllocError, Global};
 /// of them in the row of u, and once more in the row of v.
 #[derive(Drop)]
 pub(crate) struct OpenPairs {
-    pub by_first: Vec<u64>,
-    pub by_second: Vec<u64>,
-}
-
-/// The number of the bit of v in the row of u.
-pub(crate) fn bit_place(nodes: usize, u: usize, v: usize) -> usize
-    requires few { nodes ≤ MAX_NODES }
-    requires nodes { (u ≤ nodes) × (v ≤ nodes) }
-    ensures place { result ≡ bit_place nodes u v }
-    ensures within { result / 64 < (nodes + 1) * row_len nodes }
-{
-    u * (row_len(nodes) * 64) + v
+    pub by_first: BitTable,
+    pub by_second: BitTable,
 }
 
 /// Sets the bits of the pairs of nodes 0 to n of which these rows do not say that the first stands
 /// before the second.
-fn set_open(nodes: usize, rows: &Option<Rows>, by_first: &mut [u64], by_second: &mut [u64])
+fn set_open(nodes: usize, rows: &Option<Rows>, by_first: &mut BitTable, by_second: &mut BitTable)
     requires few { nodes ≤ MAX_NODES }
-    requires first { by_first.old ≡ replicate ((nodes + 1) * row_len nodes) 0 }
-    requires second { by_second.old ≡ replicate ((nodes + 1) * row_len nodes) 0 }
+    requires nodes { (by_first.old.nodes ≡ nodes) × (by_second.old.nodes ≡ nodes) }
+    requires none { (e : Edge) → (¬ Contains by_first.old.edges e)
+        × (¬ Contains by_second.old.edges e) }
     ensures first { IsPairTable nodes (λ u v. not (is_listed (rows_known rows.now) u v))
         by_first.new }
     ensures second { IsPairTable nodes (λ v u. not (is_listed (rows_known rows.now) u v))
@@ -45,8 +36,8 @@ fn set_open(nodes: usize, rows: &Option<Rows>, by_first: &mut [u64], by_second: 
     for u in 0..nodes + 1 {
         for v in 0..nodes + 1 {
             if !is_known(rows, u, v) {
-                set_bit(by_first, bit_place(nodes, u, v));
-                set_bit(by_second, bit_place(nodes, v, u));
+                by_first.set(u, v);
+                by_second.set(v, u);
             }
         }
     }
@@ -64,15 +55,9 @@ impl OpenPairs {
         ensures pairs { IfOk result (AreOpenPairs
             (record { nodes = nodes; known = rows_known rows.now })) }
     {
-        let words = (nodes + 1) * row_len(nodes);
-        let mut by_first = vec![in alloc; 0; words]?;
-        let mut by_second = vec![in alloc; 0; words]?;
-        set_open(
-            nodes,
-            rows,
-            by_first.as_mut_slice(),
-            by_second.as_mut_slice(),
-        );
+        let mut by_first = BitTable::new(alloc, nodes)?;
+        let mut by_second = BitTable::new(alloc, nodes)?;
+        set_open(nodes, rows, &mut by_first, &mut by_second);
         Ok(OpenPairs {
             by_first,
             by_second,

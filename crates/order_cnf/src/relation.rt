@@ -13,9 +13,9 @@ ghost use Rattle.order_cnf.specs.Tables.{rows_known, term_of};
 ghost use Rattle.serializability.specs.declared.node.TheConstants.{MAX_NODES};
 
 use crate::clause::literal_is_true;
-use crate::open_pairs::{OpenPairs, bit_place};
+use crate::open_pairs::OpenPairs;
 use crate::term::Term;
-use known_graph::bits::{has_bit, row_len};
+use known_graph::bits::has_bit;
 use reach_laws::Edge;
 use reach_rows::Rows;
 use serializability::Literal;
@@ -209,11 +209,15 @@ impl Relation {
             × (place < row_len self.now.nodes) }
         ensures word { IsWord (is_open_cycle self.now u v) place result }
     {
-        if !has_bit(&self.pairs.by_first, bit_place(self.nodes, u, v)) {
+        let OpenPairs {
+            by_first,
+            by_second,
+        } = &self.pairs;
+        if !has_bit(by_first.row(u), v) {
             return 0;
         }
-        let len = row_len(self.nodes);
-        self.pairs.by_first[v * len + place] & self.pairs.by_second[u * len + place]
+        let (first, second) = (by_first.row(v), by_second.row(u));
+        first[place] & second[place]
     }
 
     /// Whether u stands before v, as it is known or as these values of the variables have it.

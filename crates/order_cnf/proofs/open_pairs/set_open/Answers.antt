@@ -13,8 +13,8 @@ pub loop-u-init : goal.loop-u-init
 loop-u-init c =
     let known = is_listed (rows_known c.args.rows.now) in
     record {
-      first = filled_none c.args.nodes (λ u v. not (known u v)) (IsPast 0 0) c.args.by_first.now c.requires.first none_past;
-      second = filled_none c.args.nodes (λ v u. not (known u v)) (IsPastTurned 0 0) c.args.by_second.now c.requires.second (λ x y h. none_past y x h);
+      first = filled_none c.args.nodes (λ u v. not (known u v)) (IsPast 0 0) c.args.by_first.now c.requires.nodes.0 (λ e. (c.requires.none e).0) none_past;
+      second = filled_none c.args.nodes (λ v u. not (known u v)) (IsPastTurned 0 0) c.args.by_second.now c.requires.nodes.1 (λ e. (c.requires.none e).1) (λ x y h. none_past y x h);
     }
 
 pub loop-v-preserved : goal.loop-v-preserved
@@ -30,11 +30,9 @@ loop-v-preserved c =
           let free = ap not (sym w.if-not-is_known.ensures.value) in
           record {
             first = subst (IsFilled n forth (IsPast u (v + 1))) (sym w.by_first-is)
-                (set_first n forth c.loop-v.by_first w.set_bit.new.words u v w.bit_place.result (omega (arith, c.loop-u-test.true)) (omega (arith, c.loop-v-test.true)) free c.loop-v.invariant.first
-                w.bit_place.ensures.place w.set_bit.ensures.bits w.set_bit.ensures.len);
+                (set_first n forth c.loop-v.by_first w.set.new.self u v (omega (arith, c.loop-v-test.true)) free c.loop-v.invariant.first w.set.ensures.edges w.set.ensures.nodes);
             second = subst (IsFilled n back (IsPastTurned u (v + 1))) (sym w.by_second-is)
-                (set_second n back c.loop-v.by_second w.set_bit-then-not-is_known.new.words u v w.bit_place-then-not-is_known.result (omega (arith, c.loop-u-test.true)) (omega (arith, c.loop-v-test.true)) free c.loop-v.invariant.second
-                w.bit_place-then-not-is_known.ensures.place w.set_bit-then-not-is_known.ensures.bits w.set_bit-then-not-is_known.ensures.len);
+                (set_second n back c.loop-v.by_second w.set-then-not-is_known.new.self u v (omega (arith, c.loop-u-test.true)) free c.loop-v.invariant.second w.set-then-not-is_known.ensures.edges w.set-then-not-is_known.ensures.nodes);
           }
       | else-not-is_known w ↦
           let known_now = ap not (sym w.if-not-is_known.ensures.value) in

@@ -3,7 +3,6 @@ use Rattle.std.specs.Prelude.{IfOk}
 use Rattle.std.specs.List.{AllByRecursion}
 use Rattle.std.proofs.lemmas.Result.{IfOk-weaker, IfErr-weaker}
 use Rattle.serializability.specs.Decoded.{IsFormula}
-use Rattle.order_laws.specs.Reduced.{reduced}
 use Rattle.order_laws.proofs.Clauses.{is_formula}
 use Rattle.order_cnf.specs.Data.{cnf_of, is_listed}
 use Rattle.order_cnf.specs.Left.{formula_of_rest}

@@ -1,9 +1,9 @@
-use Rattle.std.proofs.Common.{not, sym, subst}
+use Rattle.std.proofs.Common.{ℕ, Bool, get_or, not, sym, subst}
 use Rattle.std.specs.Prelude.{bit_and}
 use Rattle.std.proofs.lemmas.Bool.{not-true, not-false}
 use Rattle.order_cnf.specs.Cycles.{is_open_cycle, IsWord}
 use Rattle.order_cnf.specs.Tables.{Relation, known_in, rows_known}
-use Rattle.order_cnf.proofs.Cycles.{pair_read, read_word, closed_word}
+use Rattle.order_cnf.proofs.Cycles.{pair_row, pair_read, read_word, closed_word}
 use Rattle.order_cnf.proofs.relation.Relation.open_cycles.Goals as goal
 
 pub returns-then-not-has_bit : goal.returns-then-not-has_bit
@@ -13,7 +13,8 @@ returns-then-not-has_bit c =
     let s = c.self.inside in
     let r : Relation = record { nodes = s.nodes; known = rows_known s.rows } in
     let within = rw (sym c.self.view_is) at c.requires.within in
-    let read = pair_read s.nodes u v c.bit_place.result (λ x y. not (known_in r x y)) s.pairs.by_first.items c.deref.result.now _ c.self.invariant.2.first within.0 within.1 c.deref.ensures.value c.bit_place.ensures.place c.if-not-has_bit.ensures.value in
+    let row = pair_row r.nodes u (λ x y. not (known_in r x y)) s.pairs.by_first c.row.result.now c.self.invariant.2.first within.0 c.row.ensures.edges c.row.ensures.len in
+    let read = pair_read r.nodes v (λ y. not (known_in r u y)) c.row.result.now _ row within.1 c.if-not-has_bit.ensures.value in
     record { word = subst (λ q. IsWord (is_open_cycle q u v) c.args.place 0) c.self.view_is (closed_word r u v c.args.place (not-false (known_in r u v) read)) }
 
 pub returns : goal.returns
@@ -23,9 +24,12 @@ returns c =
     let s = c.self.inside in
     let r : Relation = record { nodes = s.nodes; known = rows_known s.rows } in
     let within = rw (sym c.self.view_is) at c.requires.within in
-    let read = pair_read s.nodes u v c.bit_place.result (λ x y. not (known_in r x y)) s.pairs.by_first.items c.deref.result.now _ c.self.invariant.2.first within.0 within.1 c.deref.ensures.value c.bit_place.ensures.place c.if-not-has_bit.ensures.value in
+    let forth : ℕ → ℕ → Bool = λ x y. not (known_in r x y) in
+    let row = pair_row r.nodes u forth s.pairs.by_first c.row.result.now c.self.invariant.2.first within.0 c.row.ensures.edges c.row.ensures.len in
+    let first = pair_row r.nodes v forth s.pairs.by_first c.row-first.result.now c.self.invariant.2.first within.1 c.row-first.ensures.edges c.row-first.ensures.len in
+    let second = pair_row r.nodes u (λ y x. not (known_in r x y)) s.pairs.by_second c.row-second.result.now c.self.invariant.2.second within.0 c.row-second.ensures.edges c.row-second.ensures.len in
+    let read = pair_read r.nodes v (λ y. not (known_in r u y)) c.row.result.now _ row within.1 c.if-not-has_bit.ensures.value in
     record {
-      word = subst (λ q. IsWord (is_open_cycle q u v) c.args.place (bit_and c.index.result.now c.index-2.result.now)) c.self.view_is
-          (read_word r u v c.args.place c.row_len-len.result c.index.result.now c.index-2.result.now s.pairs.by_first.items s.pairs.by_second.items c.self.invariant.2.first c.self.invariant.2.second within.0 within.1 within.2
-          (not-true (known_in r u v) read) c.row_len-len.ensures.value c.index.ensures c.index-2.ensures);
+      word = subst (λ q. IsWord (is_open_cycle q u v) c.args.place (bit_and (get_or c.row-first.result.now c.args.place 0) (get_or c.row-second.result.now c.args.place 0))) c.self.view_is
+          (read_word r u v c.args.place c.row-first.result.now c.row-second.result.now first second (not-true (known_in r u v) read));
     }
