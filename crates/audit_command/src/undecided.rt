@@ -4,7 +4,7 @@ use crate::places::told_txns;
 use crate::told::ToldTxn;
 use judging::{Tried, Why};
 use proposals::{Flags, MAX_ENTRIES, MAX_LANES, NotTried, Proposal, Stuck};
-use session_log::{Session, Version};
+use session_log::{Limit, Session, Version};
 use splitting::NoRoom;
 use std::alloc::{AllocError, Global};
 
@@ -30,12 +30,30 @@ fn large_text(alloc: Global, proposal: &Proposal, tried: Tried) -> Result<String
         }
         Proposal::NotTried(reason) => not_tried_text(alloc, *reason),
         Proposal::Order(_) => String::from_str(alloc, "the order that was found is none"),
-        Proposal::Part(_) => match tried {
-            Tried::PartOpen(Why::Spent { closed }) => {
-                format!(in alloc; "{closed} closed in a part")
-            }
-            _ => String::from_str(alloc, "a part that was found is not decided"),
-        },
+        Proposal::Part(_) => part_text(alloc, tried),
+    }
+}
+
+/// What a part has too many of.
+fn things_of(which: Limit) -> &'static str {
+    match which {
+        Limit::LogBytes => "bytes",
+        Limit::Sessions => "sessions",
+        Limit::Operations => "reads and writes",
+        Limit::Committed => "transactions",
+        Limit::Keys => "keys",
+    }
+}
+
+/// Why a part that was found is not decided.
+fn part_text(alloc: Global, tried: Tried) -> Result<String, AllocError> {
+    match tried {
+        Tried::PartOpen(Why::Spent { closed }) => format!(in alloc; "{closed} closed in a part"),
+        Tried::PartOpen(Why::TooLarge { which }) => {
+            let things = things_of(which);
+            format!(in alloc; "a part that was found has too many {things}")
+        }
+        _ => String::from_str(alloc, "a part that was found is not decided"),
     }
 }
 

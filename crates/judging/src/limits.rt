@@ -11,7 +11,7 @@ ghost use Rattle.session_log.specs.declared.limits.TheConstants.{MAX_LOG_BYTES};
 
 use serializability::MAX_NODES;
 use session_history::Tally;
-use session_log::{Limit, MAX_LOG_BYTES, MAX_OPERATIONS, MAX_SESSIONS, Session, print_log};
+use session_log::{Limit, MAX_LOG_BYTES, MAX_OPERATIONS, Session, print_log};
 use std::alloc::{AllocError, Global};
 
 /// So many lines are no more than `MAX_LOG_BYTES` bytes, since a line has 88 bytes at most: `w `, a
@@ -58,15 +58,12 @@ fn has_many_bytes(alloc: Global, sessions: &[Session], lines: usize) -> Result<b
     Ok(print_log(alloc, sessions)?.len() > MAX_LOG_BYTES)
 }
 
-/// Of what the log of these sessions has too much, by each limit but that on keys. What passes is
-/// small enough to be copied.
+/// Of what the log of these sessions has too much to be judged by itself, but for keys. Sessions may
+/// be as many as there are. What passes is small enough to be copied.
 pub fn size_limit(alloc: Global, sessions: &[Session]) -> Result<Option<Limit>, AllocError>
     ensures { IfOk result (λ limit. MatchOption limit
         (length (log_lines (map view sessions.now)) < 2 ^ 63) (IsOver (map view sessions.now))) }
 {
-    if sessions.len() > MAX_SESSIONS {
-        return Ok(Some(Limit::Sessions));
-    }
     let tally = Tally::of(sessions);
     if tally.operations > MAX_OPERATIONS {
         return Ok(Some(Limit::Operations));
