@@ -18,7 +18,7 @@ within c =
     let turn : Turn log c.args.node ops c.loop-place.place =
     record { own = c.events_of-event-items.ensures.events; within = c.loop-place-test.true; low = c.requires.low; high = c.requires.high } in
     let below = key_within log c.args.node ops c.loop-place.place (event.Read 0 0) (sound c.args.history.now c.requires.well_formed) turn in
-    omega (arith, below, c.key.ensures.key, c.loop-place.auto.marks, c.requires.keys)
+    omega (arith, below, c.key.ensures, c.loop-place.auto.marks, c.requires.keys)
 
 pub bounds-marks-key : goal.bounds-marks-key
 bounds-marks-key c = within c
@@ -37,7 +37,7 @@ returns-in-Some-clause-anomaly c =
       sound = sound c.args.history.now c.requires.well_formed;
       keys = c.loop-place.auto.marks ∙ c.requires.keys;
       marked = c.loop-place.invariant.marked;
-      key_is = c.key.ensures.key;
+      key_is = c.key.ensures;
       used_is = c.used_by-used.ensures.used;
     } in
     let here = scanned _ _ _ _ _ _ _ _ _ _ looked c.in-Some.ensures.anomaly in
@@ -54,7 +54,7 @@ loop-place-preserved c =
       sound = sound c.args.history.now c.requires.well_formed;
       keys = c.loop-place.auto.marks ∙ c.requires.keys;
       marked = c.loop-place.invariant.marked;
-      key_is = c.key.ensures.key;
+      key_is = c.key.ensures;
       used_is = c.used_by-used.ensures.used;
     } in
     let here = scanned _ _ _ _ _ _ _ _ _ _ looked c.in_default.ensures.anomaly in
