@@ -63,10 +63,10 @@ WANTED += ['tree ' + kind for kind in ('session', 'read', 'anti-dependency', 've
 WANTED += ['a step by a read', 'a step by a read of an update', 'a step by a walk alone', 'forced over an update', 'decided over an update']
 WANTED += ['forced reads of an update', 'forced wrote of an update', 'decided reads of an update']
 WANTED += ['A9 known as: ' + name for name in
-           ('a missed write in a circle (G-single)', 'a missed write and sessions in a circle (G-single-process)',
-            'writes and moments in a circle (G0-realtime)', 'a read from the future (G1c-process)', 'read skew (G-single)',
+           ('cycle with one missed write (G-single)', 'cycle with one missed write and sessions (G-single-process)',
+            'cycle of writes and real time (G0-realtime)', 'a read from the future (G1c-process)', 'read skew (G-single)',
             'read skew by way of sessions (G-single-process)', 'a session misses its own write (G-single-process)',
-            'write skew (G2-item)', 'write skew by way of sessions (G2-item-process)', 'missed writes in a circle (G2-item)',
+            'write skew (G2-item)', 'write skew by way of sessions (G2-item-process)', 'cycle of missed writes (G2-item)',
             'long fork by way of sessions (G-nonadjacent-item-process)')]
 WANTED += ['%s with%s crossed reads' % (what, out) for what in ('tree', 'A9') for out in ('', 'out')]
 WANTED += ['tree with steps', 'a cycle with 2 decided orders', 'a cycle with a step and a decided order', 'an order of 2 decided above', 'graph']
@@ -124,9 +124,9 @@ class Log:
 
     # ---- a read
 
-    def said_of_read(self, it, read):
+    def said_of_read(self, it, read, reads='reads'):
         """What the line of a read says: what it names, and who wrote that."""
-        return '%s reads %s %d (line %d), %s' % (it.name, read.key, read.wid, read.line, self.said_of_writer(it, read))
+        return '%s %s %s %d (line %d), %s' % (it.name, reads, read.key, read.wid, read.line, self.said_of_writer(it, read))
 
     def said_of_writer(self, it, read):
         """Who wrote what a read names."""
@@ -152,16 +152,16 @@ class Log:
         """The line of what the transaction did with the key before the read, where there is one."""
         before = [op for op in it.ops if op.key == read.key and op.line < read.line]
         for write in [op for op in before if op.kind == 'w'][-1:]:
-            return ['%s wrote %s %d before (line %d)' % (it.name, write.key, write.wid, write.line)]
-        others = [op for op in before if op.wid != read.wid][:1]
-        return ['%s read %s %d before (line %d), %s' % (it.name, op.key, op.wid, op.line, self.said_of_writer(it, op)) for op in others]
+            return ['%s writes %s %d (line %d)' % (it.name, write.key, write.wid, write.line)]
+        return [self.said_of_read(it, op) for op in before if op.wid != read.wid][:1]
 
     def said_of_anomaly(self, first):
         """The lines behind the line of A1 to A7."""
         found = READ.fullmatch(first)
         if found:
             it, read = self.named[found[1]], self.named[found[1]].ops[int(found[2]) - 1]
-            return [self.said_of_read(it, read)] + self.said_before(it, read)
+            before = self.said_before(it, read)
+            return before + [self.said_of_read(it, read, 'then reads' if before else 'reads')]
         key, *both = UPDATE.fullmatch(first).groups()
         lines = []
         for it in map(self.named.get, both):
@@ -198,22 +198,21 @@ class Log:
         if not missed and 'read' in kinds:
             return by_order('circular information flow (G1c)', *('a read from the future (G1c%s)' % end for end in ('-process', '-realtime')))
         if not missed and 'order of writes' in kinds:
-            return 'writes' + by_order(' in a circle (G0)', ' and sessions in a circle (G0-process)', ' and moments in a circle (G0-realtime)')
+            return by_order('write cycle (G0)', 'cycle of writes and sessions (G0-process)', 'cycle of writes and real time (G0-realtime)')
         if not missed:
-            return 'sessions and moments that contradict each other'
+            return 'session order against real time'
         if missed == 1 and 'order of writes' in kinds:
-            return 'a missed write' + by_order(' in a circle (G-single)', ' and sessions in a circle (G-single-process)',
-                                               ' and moments in a circle (G-single-realtime)')
+            return 'cycle with one missed write' + by_order(' (G-single)', ' and sessions (G-single-process)', ' and real time (G-single-realtime)')
         if missed == 1 and len(kinds) == 2 and 'read' not in kinds:
             return by_order(None, 'a session misses its own write (G-single-process)', 'stale read (G-single-realtime)')
         if missed == 1:
-            return 'read skew' + by_order(' (G-single)', ' by way of sessions (G-single-process)', ' by way of moments (G-single-realtime)')
+            return 'read skew' + by_order(' (G-single)', ' by way of sessions (G-single-process)', ' by way of real time (G-single-realtime)')
         if len(kinds) == 2:
-            return 'write skew' + by_order(' (G2-item)', ' by way of sessions (G2-item-process)', ' by way of moments (G2-item-realtime)')
+            return 'write skew' + by_order(' (G2-item)', ' by way of sessions (G2-item-process)', ' by way of real time (G2-item-realtime)')
         if are_apart:
             return 'long fork' + by_order(' (G-nonadjacent-item)', ' by way of sessions (G-nonadjacent-item-process)',
-                                          ' by way of moments (G-nonadjacent-item-realtime)')
-        return 'missed writes' + by_order(' in a circle (G2-item)', ' and sessions in a circle (G2-item-process)', ' and moments in a circle (G2-item-realtime)')
+                                          ' by way of real time (G-nonadjacent-item-realtime)')
+        return 'cycle of missed writes' + by_order(' (G2-item)', ' and sessions (G2-item-process)', ' and real time (G2-item-realtime)')
 
     # ---- an edge
 
@@ -696,7 +695,7 @@ def spoilt(r, text, checked, explained):
                 yield 'a way by an aborted one', instead(n, *('%s before %s: session %s' % (*two, it.session) for two in way))
     if lines[-1].startswith('known as: '):
         yield 'a cycle without its name', lines[:-1]
-        yield 'another name of a cycle', lines[:-1] + [re.sub(r'\(G.*\)|each other', '(G2)', lines[-1])]
+        yield 'another name of a cycle', lines[:-1] + [re.sub(r'\(G.*\)|real time$', '(G2)', lines[-1])]
     if lines[0] == CROSSED:
         yield from spoilt_crossed(r, lines)
     if not cycles:
@@ -852,8 +851,8 @@ def by_hand(words, *said):
 BY_HAND = [
     by_hand('session 1, begin, r x 18446744073709551615, w y 18446744073709551615, commit', 'A1 unknown read at 1.1 op 1',
             '1.1 reads x 18446744073709551615 (line 3), which no transaction wrote to x; 1.1 wrote y 18446744073709551615 (line 4)'),
-    by_hand('session 1, begin, r x 0, r x 0, r x 5, commit', 'A1 unknown read at 1.1 op 3', '1.1 reads x 5 (line 5), which no transaction wrote',
-            '1.1 read x 0 before (line 3), the initial value'),
+    by_hand('session 1, begin, r x 0, r x 0, r x 5, commit', 'A1 unknown read at 1.1 op 3', '1.1 reads x 0 (line 3), the initial value',
+            '1.1 then reads x 5 (line 5), which no transaction wrote'),
     # an identity that was written to another key
     by_hand('session 1, begin, r x 2, commit, session 2, begin, w y 1, w z 2, abort', 'A1 unknown read at 1.1 op 1',
             '1.1 reads x 2 (line 3), which no transaction wrote to x; 2.1 wrote z 2 (line 8)'),
@@ -862,29 +861,29 @@ BY_HAND = [
     by_hand('session 7, begin, w x 1, abort, session 2, begin, r x 1, commit', 'A2 aborted read at 2.1 op 1',
             '2.1 reads x 1 (line 7), which 7.1 wrote (line 3) and aborted (line 4)'),
     by_hand('log 3, session 1, begin 4, w x 1, w x 2, w x 3, abort, session 2, begin, r x 0, r x 1, commit', 'A2 aborted read at 2.1 op 2',
-            '2.1 reads x 1 (line 11), which 1.1 wrote (line 4) and overwrote with 2 (line 5) and aborted (line 7)',
-            '2.1 read x 0 before (line 10), the initial value'),
+            '2.1 reads x 0 (line 10), the initial value',
+            '2.1 then reads x 1 (line 11), which 1.1 wrote (line 4) and overwrote with 2 (line 5) and aborted (line 7)'),
     by_hand('session 1, begin, w x 1, w y 2, w x 3, commit, session 2, begin, r x 1, commit', 'A3 intermediate read at 2.1 op 1',
             '2.1 reads x 1 (line 9), which 1.1 wrote (line 3) and overwrote with 3 (line 5)'),
     by_hand('log 2, session 1, begin, w x 1, w x 3, unknown, session 2, begin, r x 3, r x 1, commit', 'A3 intermediate read at 2.1 op 2',
-            '2.1 reads x 1 (line 10), which 1.1 wrote (line 4) and overwrote with 3 (line 5), whose outcome is unknown (line 6)',
-            '2.1 read x 3 before (line 9), which 1.1 wrote (line 5), whose outcome is unknown (line 6)'),
+            '2.1 reads x 3 (line 9), which 1.1 wrote (line 5), whose outcome is unknown (line 6)',
+            '2.1 then reads x 1 (line 10), which 1.1 wrote (line 4) and overwrote with 3 (line 5), whose outcome is unknown (line 6)'),
     by_hand('session 1, begin, w x 1, w x 2, r x 1, commit', 'A4 own write missed at 1.1 op 3',
-            '1.1 reads x 1 (line 5), which 1.1 wrote (line 3) and overwrote with 2 (line 4)', '1.1 wrote x 2 before (line 4)'),
-    by_hand('session 1, begin, r x 0, w x 1, r x 0, commit', 'A4 own write missed at 1.1 op 3', '1.1 reads x 0 (line 5), the initial value',
-            '1.1 wrote x 1 before (line 4)'),
+            '1.1 writes x 2 (line 4)', '1.1 then reads x 1 (line 5), which 1.1 wrote (line 3) and overwrote with 2 (line 4)'),
+    by_hand('session 1, begin, r x 0, w x 1, r x 0, commit', 'A4 own write missed at 1.1 op 3', '1.1 writes x 1 (line 4)',
+            '1.1 then reads x 0 (line 5), the initial value'),
     by_hand('session 1, begin, w x 1, r x 2, w x 2, w x 3, commit', 'A4 own write missed at 1.1 op 2',
-            '1.1 reads x 2 (line 4), which 1.1 writes itself only later (line 5) and overwrote with 3 (line 6)', '1.1 wrote x 1 before (line 3)'),
+            '1.1 writes x 1 (line 3)', '1.1 then reads x 2 (line 4), which 1.1 writes itself only later (line 5) and overwrote with 3 (line 6)'),
     by_hand('session 1, begin, w x 1, abort, begin, w x 2, r x 9, commit', 'A4 own write missed at 1.2 op 2',
-            '1.2 reads x 9 (line 7), which no transaction wrote', '1.2 wrote x 2 before (line 6)'),
+            '1.2 writes x 2 (line 6)', '1.2 then reads x 9 (line 7), which no transaction wrote'),
     by_hand('session 1, begin, r x 1, w x 1, commit', 'A5 future read at 1.1 op 1', '1.1 reads x 1 (line 3), which 1.1 writes itself only later (line 4)'),
     by_hand('log 2, session 1, begin, r x 0, r x 1, w x 1, w x 2, unknown, session 2, begin, r x 2, commit', 'A5 future read at 1.1 op 2',
-            '1.1 reads x 1 (line 5), which 1.1 writes itself only later (line 6) and overwrote with 2 (line 7), whose outcome is unknown (line 8)',
-            '1.1 read x 0 before (line 4), the initial value'),
+            '1.1 reads x 0 (line 4), the initial value',
+            '1.1 then reads x 1 (line 5), which 1.1 writes itself only later (line 6) and overwrote with 2 (line 7), whose outcome is unknown (line 8)'),
     by_hand('session 1, begin, w x 1, commit, session 2, begin, r x 1, r y 0, r x 0, commit', 'A6 split read at 2.1 op 3',
-            '2.1 reads x 0 (line 9), the initial value', '2.1 read x 1 before (line 7), which 1.1 wrote (line 3)'),
+            '2.1 reads x 1 (line 7), which 1.1 wrote (line 3)', '2.1 then reads x 0 (line 9), the initial value'),
     by_hand('session 1, begin, w x 1, commit, session 2, begin, r x 0, r x 0, r x 1, commit', 'A6 split read at 2.1 op 3',
-            '2.1 reads x 1 (line 9), which 1.1 wrote (line 3)', '2.1 read x 0 before (line 7), the initial value'),
+            '2.1 reads x 0 (line 7), the initial value', '2.1 then reads x 1 (line 9), which 1.1 wrote (line 3)'),
     by_hand('session 1, begin, r x 0, w x 1, w x 2, commit, begin, commit, begin, r x 0, r x 0, w x 3, w x 4, commit',
             'A7 lost update of x from 0.0 by 1.1 and 1.3', '1.1 reads x 0 (line 3), the initial value', '1.1 overwrites it with 2 (line 5)',
             '1.3 reads x 0 (line 10), the initial value', '1.3 overwrites it with 4 (line 13)'),
@@ -952,7 +951,7 @@ BY_HAND = [
             '    1.1 before 1.2: session 1', '    1.2 before 3.1: 1.2 reads z 0 (line 7), the initial value, and 3.1 wrote z 3 (line 17)',
             'cycle from 2.1:', '2.1 before 1.1: 1.1 reads y 5 (line 4), which 2.1 wrote (line 12)',
             '1.1 before 2.1: 1.1 wrote x 1 (line 3), which by [1] comes before 2, which 2.1 wrote (line 11)',
-            'known as: missed writes and sessions in a circle (G2-item-process)'),
+            'known as: cycle of missed writes and sessions (G2-item-process)'),
 ]
 
 

@@ -19,7 +19,7 @@ CASES, SEED, SHOWN, LANES = 400, 1, 20, min(4, os.cpu_count())
 AROUND = 4
 TOP = os.path.dirname(HERE)
 KEYS = ('x', 'y', '1.1', '2.1:', 'reads', 'which', 'before', 'wrote', 'line', 'a/very-long-key.of_more:than.fourteen-bytes')
-OPERATION = re.compile(r'(?<!over)(reads|read|wrote) ([A-Za-z0-9_.:/-]+) ([0-9]+)(?: before)? \(line ([0-9]+)\)')
+OPERATION = re.compile(r'(?<!over)(reads|writes|wrote) ([A-Za-z0-9_.:/-]+) ([0-9]+) \(line ([0-9]+)\)')
 MOMENT = re.compile(r'([0-9.]+) (ended|began) at ([0-9]+) \(line ([0-9]+)\)')
 # What has to be met.
 WANTED = ['A1', 'A2', 'A3', 'A4', 'A5', 'A6', 'A7', 'A8', 'A9', 'tree', 'serializable', 'operations', 'moments']
@@ -139,7 +139,7 @@ def said_in_whole(text, why):
     lines, met = text.decode().split('\n'), collections.Counter()
     for told in why:
         for did, key, wid, line in OPERATION.findall(told):
-            right = '%s %s %s' % ('w' if did == 'wrote' else 'r', key, wid)
+            right = '%s %s %s' % ('r' if did == 'reads' else 'w', key, wid)
             must(lines[int(line) - 1] == right, 'line %s is %r, told is %r' % (line, lines[int(line) - 1], told))
             met['operations'] += 1
         for _, did, moment, line in MOMENT.findall(told):

@@ -229,7 +229,7 @@ def told(program, text, level):
             must(why[1] == 'why they have no serial order either:' and not any('(G2-' in line for line in why), 'told: %r' % why)
             return {'by a search'}
         if code and re.fullmatch('A[1-6]', code):
-            for wid, line in re.findall(r'reads? %s (\d+)(?: before)? \(line (\d+)\)' % KEY[1:-1], '\n'.join(why)):
+            for wid, line in re.findall(r'reads %s (\d+) \(line (\d+)\)' % KEY[1:-1], '\n'.join(why)):
                 must(log.lines[int(line) - 1].split(' ')[::2] == ['r', wid], 'line %s is another one: %r' % (line, why))
             return {line[len('known as: '):] for line in why if line.startswith('known as: ')} | {code}
         telling = Telling(log, names, why, level)

@@ -4,7 +4,7 @@ import json, re
 NAME, KEY = r'[1-9][0-9]*\.[1-9][0-9]*', r'[A-Za-z0-9_.:/-]+'
 # What a told line is made of; all else stays as it is. A key may look like a name, so what has a key comes before the names.
 PARTS = re.compile(r'''
-    (?P<verb>\b(?:reads|read|wrote|overwrites\ it\ with|and)\ (?:%(key)s\ )??)(?P<id>[0-9]+)(?:\ before)?\ \(line\ (?P<at>[0-9]+)\)
+    (?P<verb>\b(?:reads|writes|wrote|overwrites\ it\ with|and)\ (?:%(key)s\ )??)(?P<id>[0-9]+)\ \(line\ (?P<at>[0-9]+)\)
         (?P<initial>,\ the\ initial\ value)?(?:,\ which\ (?P<writer>%(name)s|no\ transaction)\ wrote(?:\ \(line\ [0-9]+\)|\b(?!\ to)))?
     | (?P<own>(?:and\ overwrote\ with\ [0-9]+|writes\ itself\ only\ later)\ \(line\ (?P<own_at>[0-9]+)\))
     | (?P<head>(?:^\[[0-9]+\]|\bsuppose)\ )%(key)s:\ (?P<head_id>[0-9]+),\ which\ (?P<head_writer>%(name)s)\ wrote\ \(line\ (?P<head_at>[0-9]+)\)
@@ -64,7 +64,7 @@ class Retold:
         """What was done to what a write or an append wrote."""
         return 'appended' if record['op'] == 'append' else 'wrote'
 
-    def words(self, record, verb):
+    def words(self, record):
         """What a transaction did in words, and how those go on that tell who wrote what it saw."""
         key, value = record['key'], record['value']
         if 'behind' in record:
@@ -72,17 +72,17 @@ class Retold:
             return 'appended %s to list %s behind %s (as operation %d read it)' % (value, key, behind, record['shown']), 'which %s appended'
         if isinstance(value, list):
             shown = ['..', *value[-MOST:]] if value[MOST:] else value
-            return '%s [%s] of list %s' % (verb, ' '.join(shown), key), 'whose last element %s appended'
+            return 'reads [%s] of list %s' % (' '.join(shown), key), 'whose last element %s appended'
         if record['op'] == 'r':
-            return '%s %s of %s' % (verb, value, key), 'which %s wrote'
+            return 'reads %s of %s' % (value, key), 'which %s wrote'
         return '%s %s to %s%s' % (self.done(record), value, 'list ' * (record['op'] == 'append'), key), ''
 
     def part(self, found):
         """A part of a line in the words of the history."""
         if found['at']:
             verb = found['verb'].split(' ')[0]
-            words, writer = self.words(self.operation(found['at'], found['id']), 'read' if verb == 'read' else 'reads')
-            words = 'and ' * (verb == 'and') + words + ' before' * (' before ' in found[0])
+            words, writer = self.words(self.operation(found['at'], found['id']))
+            words = 'and ' * (verb == 'and') + words
             name = found['writer'] if found['writer'] in (None, 'no transaction') else self.name(found['writer'])
             return words + (', ' + writer % name if name else '')
         if found['own']:

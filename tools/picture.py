@@ -250,20 +250,20 @@ def scene_of_read(history, explanation):
     """A1 to A6: the read, the write that it names, and what the log tells of both."""
     scene = Scene(history, 'The read, and what it saw')
     named = [int(number) for said in explanation.lines for number in told.LINE.findall(said)]
-    line, name = named[0], history.owner[named[0]].name
-    _, key, wid = history.at[line]
+    at = len(explanation.lines)
+    line = int(told.LINE.search(explanation.lines[-1])[1])
+    name, (_, key, wid) = history.owner[line].name, history.at[line]
     scene.tell(name, line)
     for number in named:
         scene.tell(history.owner[number].name, number)
     words = {'A1': 'read, and never written', 'A2': 'read, though aborted', 'A3': 'read, though overwritten', 'A4': 'read, and not its own write',
              'A5': 'read before it is written', 'A6': 'second read'}[explanation.code]
     writer, written = writer_of(scene, key, wid)
-    at = explanation.behind
-    scene.add(Arrow(writer, name, 'read', words, explanation.lines[at - 1], written, line, number=at))
+    scene.add(Arrow(writer, name, 'read', words, explanation.lines[-1], written, line, number=at))
     if explanation.code == 'A6':
         earlier, _, _, seen = next(it for it in history.named[name].operations('r') if it[2] == key and it[0] < line and it[3] != wid)
         writer, written = writer_of(scene, key, seen)
-        scene.add(Arrow(writer, name, 'read', 'first read', explanation.lines[at], written, earlier, look='thin', number=at + 1))
+        scene.add(Arrow(writer, name, 'read', 'first read', explanation.lines[-2], written, earlier, look='thin', number=at - 1))
     return scene
 
 

@@ -28,7 +28,7 @@ KEPT = r'%s (?:reads|wrote) %s ([0-9]+) \(line %s\)(?:%s|%s)?, which %%s before 
 # By how many decisions the walk of a step is indented.
 WALK = 2
 # Where a line of an anomaly names a transaction.
-TELLS = re.compile('(?:^|, which |; )%s (?=reads |read |wrote |writes |overwrites )' % NODE)
+TELLS = re.compile('(?:^|, which |; )%s (?=reads |then reads |wrote |writes |overwrites )' % NODE)
 # The kinds of what is said of an edge, by its form; the first that fits.
 KINDS = [('session', re.compile('session %s' % NUMBER)), ('forced', re.compile(KEPT % r'by \[([0-9]+)\] comes')),
          ('decided', re.compile(KEPT % 'is supposed to come')),

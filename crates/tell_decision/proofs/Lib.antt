@@ -3,7 +3,6 @@ pub mod Labels
 pub mod Lines
 pub mod Premises
 pub mod Tellable
-pub mod LeftOver
 pub mod Backs
 pub mod RunLines
 pub mod RunsTold

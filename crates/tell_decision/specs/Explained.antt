@@ -19,7 +19,7 @@ use Rattle.serializability.specs.Polygraph.{Choice}
 use Rattle.cube_laws.specs.declared.tree.TreeNode.{TreeNode}
 use Rattle.tell_trees.specs.Trees.{IsTreeTold}
 use Rattle.tell_texts.specs.Texts.{items_text}
-use Rattle.tell_texts.specs.Graphs.{graph_text, quoted}
+use Rattle.tell_texts.specs.Graphs.{graph_text}
 use Rattle.tell_decision.specs.Names.{name_of, name_behind}
 use Rattle.call_options.specs.declared.format.Format.{Format}
 use Rattle.call_options.specs.declared.format.Format.TheVariants.{Text, Dot}
@@ -61,8 +61,9 @@ label_byte b = if b == 10 then 92 ∷ 110 ∷ [] else b ∷ []
 
 -- lines in the one box of a graph
 abbrev pub box_text : List ℕ → List ℕ
-box_text lines = codes "strict digraph explanation {\nnode [shape=box];\n" ++ quoted
-    (codes "anomaly") ++ codes " [label=" ++ quoted (flat_map label_byte lines) ++ codes "];\n}\n"
+box_text lines =
+    codes "strict digraph explanation {\nnode [shape=box];\n\"anomaly\" [label=\""
+    ++ flat_map label_byte lines ++ codes "\"];\n}\n"
 
 abbrev pub lines_text : Format → List ℕ → List ℕ
 lines_text Text lines = lines

@@ -147,8 +147,9 @@ fn boxed(alloc: Global, lines: &[u8]) -> Result<Vec<u8>, AllocError>
     ensures text { IfOk result (λ text. text.items ≡ box_text lines.now) }
 {
     let mut out = Vec::new(alloc);
-    out.extend_from_slice(b"strict digraph explanation {\nnode [shape=box];\n")?;
-    out.extend_from_slice(b"\"anomaly\" [label=\"")?;
+    out.extend_from_slice(
+        b"strict digraph explanation {\nnode [shape=box];\n\"anomaly\" [label=\"",
+    )?;
     put_label(&mut out, lines)?;
     out.extend_from_slice(b"\"];\n}\n")?;
     Ok(out)

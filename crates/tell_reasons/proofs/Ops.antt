@@ -1,5 +1,5 @@
 -- Operations of nodes, and the events that a history keeps of them.
-use Rattle.std.proofs.Common.{◌≡◌, ℕ, suc, ◌+◌, ◌<◌, Bool, true, false, List, [], ◌∷◌, length, Option, Some, refl, sym, ap, ◌∙◌, subst, arith}
+use Rattle.std.proofs.Common.{◌≡◌, ℕ, suc, ◌+◌, ◌<◌, Bool, true, false, List, [], ◌∷◌, ◌++◌, length, Option, Some, refl, sym, ap, ◌∙◌, subst, arith}
 use Rattle.std.specs.Prelude.{slice_get, decimal, IfSome}
 use Rattle.std.specs.Option.{option_map_or}
 use Rattle.std.specs.Str.{bytes_eq}
@@ -20,7 +20,7 @@ use Rattle.reason_laws.specs.Reasons.{IsOpAt}
 use Rattle.reason_laws.proofs.Numbers.{ops_is, listed_at}
 use Rattle.reasons.proofs.Ops.{op_of, key_of_event}
 use Rattle.tell_reasons.specs.Events.{event_wid}
-use Rattle.tell_reasons.specs.Reasons.{op_at, key_text, wid_text, op_wid}
+use Rattle.tell_reasons.specs.Reasons.{op_at, key_text, key_and_wid, listed_text, letter_text, wid_text, op_wid}
 use Rattle.tell_reasons.specs.Versions.{key_number}
 
 pub event_count : (ss : List ClientSession) (v : ℕ) → length ((log_of ss).ops v) ≡ length (ops_of ss v)
@@ -70,6 +70,15 @@ pub wid_told : (ss : List ClientSession) (v i : ℕ) (e : Event) → slice_get (
 wid_told ss v i e h =
     let o = op_of ss v i e h in
     ap wid_text o.stands ∙ text_of_wid (keys_in ss) o.op ∙ ap (λ d. decimal (event_wid d)) o.event
+
+letter_in : (keys : List (List ℕ)) (o : Op) → listed_text (Some o) ≡ letter_text (event_of keys o) ++ key_and_wid (Some o)
+letter_in keys (Read key wid) = refl
+letter_in keys (Write key wid) = refl
+
+pub listed_told : (ss : List ClientSession) (v i : ℕ) (e : Event) → slice_get ((log_of ss).ops v) i ≡ Some e → listed_text (op_at ss v i) ≡ letter_text e ++ key_and_wid (op_at ss v i)
+listed_told ss v i e h =
+    let o = op_of ss v i e h in
+    ap listed_text o.stands ∙ letter_in (keys_in ss) o.op ∙ ap (λ d. letter_text d ++ key_and_wid (Some o.op)) o.event ∙ ap (λ op. letter_text e ++ key_and_wid op) (sym o.stands)
 
 -- a place among a node's events is one among its operations
 pub within_ops : (ss : List ClientSession) (v : ℕ) (es : List Event) (o : Option ℕ) → es ≡ (log_of ss).ops v → IfSome o (λ i. i < length es) → IfSome o (λ i. i < length (ops_of ss v))

@@ -1,5 +1,5 @@
 -- Texts that were appended, and what they tell.
-use Rattle.std.proofs.Common.{◌≡◌, ◌≢◌, ℕ, ◌<◌, List, [], ◌∷◌, ◌++◌, length, take, Option, Some, refl, sym, ap, ◌∙◌, subst, append_assoc}
+use Rattle.std.proofs.Common.{◌≡◌, ◌≢◌, ℕ, List, [], ◌∷◌, ◌++◌, take, Option, Some, refl, sym, ap, ◌∙◌, subst, append_assoc}
 use Rattle.std.specs.Prelude.{codes, slice_get, Result, OnOk}
 use Rattle.std.proofs.lemmas.Result.{on_ok_weaker}
 use Rattle.std.proofs.lemmas.Option.{slice_get_within}
@@ -12,8 +12,9 @@ use Rattle.log_lines.specs.declared.placed.PlacedHistory.{PlacedHistory}
 use Rattle.tell_reasons.specs.declared.writes.Keys.{Keys}
 use Rattle.tell_reasons.specs.declared.writes.Keys.TheVariants.{This, Any}
 use Rattle.tell_reasons.specs.declared.writes.WriteAt.{WriteAt}
-use Rattle.tell_reasons.specs.Reasons.{op_at, key_text, reads_text, op_wid}
-use Rattle.tell_reasons.specs.Anomalies.{Appends, IsRead, IsWriteAt, IsWriterTold, IsReadTold, IsDoneTold, IsBeforeTold, IsBadReadTold, did_text, wrote_text, elsewhere_text}
+use Rattle.tell_reasons.specs.Reasons.{op_at, key_text, does_text, op_wid}
+use Rattle.tell_reasons.specs.Versions.{written_before, other_before}
+use Rattle.tell_reasons.specs.Anomalies.{Appends, IsRead, IsWriteAt, IsWriterTold, IsReadTold, IsDoneTold, IsBadReadTold, words_of_read, wrote_text, elsewhere_text}
 use Rattle.tell_reasons.specs.Anomalies.IsWriterTold.{initial, nobody, elsewhere, wrote}
 use Rattle.tell_reasons.specs.Writes.{IsNoneWrite, Finds, IsThere}
 use Rattle.tell_reasons.proofs.Texts.{two}
@@ -52,10 +53,11 @@ wrote_told r ss table read key wid w old new f h = on_ok_weaker r (λ e. record 
 }) h
 
 -- ---- a read
--- what is said of it, who wrote what it names, and the end of its line
-pub read_told : (log : PlacedHistory) (v i line : ℕ) (said old one mid new key : List ℕ) (wid : ℕ) → IsRead (op_at log.history.now v i) → line ≡ op_line_in log v i → key ≡ key_text (op_at log.history.now v i) → wid ≡ op_wid (op_at log.history.now v i)
-    → one ≡ old ++ said → Appends one mid (IsWriterTold log.history.now (table_in log) line key wid) → new ≡ mid ++ 10 ∷ [] → Appends old new (IsReadTold log v i said)
-read_told log v i line said old one mid new key wid r l k w p a q =
+-- in these words, who wrote what it names, and the end of its line
+pub read_told : (log : PlacedHistory) (v : ℕ) (reads : List ℕ) (i line : ℕ) (old one mid new key : List ℕ) (wid : ℕ) → IsRead (op_at log.history.now v i) → line ≡ op_line_in log v i → key ≡ key_text (op_at log.history.now v i) → wid ≡ op_wid (op_at log.history.now v i)
+    → one ≡ old ++ does_text log v reads i → Appends one mid (IsWriterTold log.history.now (table_in log) line key wid) → new ≡ mid ++ 10 ∷ [] → Appends old new (IsReadTold log v reads i)
+read_told log v reads i line old one mid new key wid r l k w p a q =
+    let said = does_text log v reads i in
     let keys : key ≡ r.key = k ∙ ap key_text r.is in
     let wids : wid ≡ r.wid = w ∙ ap op_wid r.is in
     let told : IsWriterTold log.history.now (table_in log) (op_line_in log v i) r.key r.wid a.text =
@@ -63,16 +65,27 @@ read_told log v i line said old one mid new key wid r l k w p a q =
     record {
       text = said ++ (a.text ++ 10 ∷ []);
       added = two old said (a.text ++ 10 ∷ []) one new p (two one a.text (10 ∷ []) mid new a.added q);
-      told = record { key = r.key; wid = r.wid; writer = a.text; reads = r.is; told = told; whole = sym (append_assoc said a.text (10 ∷ [])) };
+      told = record { key = r.key; wid = r.wid; writer = a.text; is = r.is; told = told; whole = sym (append_assoc said a.text (10 ∷ [])) };
     }
 
 -- a write, of which no more is told
-pub done_told : {T E : Type 0} (r : Result T E) (log : PlacedHistory) (v i : ℕ) (other : Option ℕ) (old new : List ℕ) → OnOk r (new ≡ old ++ (did_text log v (codes " wrote ") i ++ 10 ∷ [])) → OnOk r (Appends old new (IsDoneTold log v (Some i) other))
-done_told r log v i other old new h = on_ok_weaker r (λ e. record { text = did_text log v (codes " wrote ") i ++ 10 ∷ []; added = e; told = refl }) h
+pub done_told : {T E : Type 0} (r : Result T E) (log : PlacedHistory) (v i : ℕ) (read : Option ℕ) (old new : List ℕ) → OnOk r (new ≡ old ++ (does_text log v (codes " writes ") i ++ 10 ∷ [])) → OnOk r (Appends old new (IsDoneTold log v (Some i) read))
+done_told r log v i read old new h = on_ok_weaker r (λ e. record { text = does_text log v (codes " writes ") i ++ 10 ∷ []; added = e; told = refl }) h
 
-pub bad_read : (log : PlacedHistory) (v i : ℕ) (old mid new : List ℕ) → Appends old mid (IsReadTold log v i (reads_text log v i)) → Appends mid new (IsBeforeTold log v i) → Appends old new (IsBadReadTold log v i)
-bad_read log v i old mid new a b = record {
-  text = a.text ++ b.text;
-  added = two old a.text b.text mid new a.added b.added;
-  told = record { line = a.text; before = b.text; read = a.told; done = b.told; whole = refl };
-}
+pub bad_read : (log : PlacedHistory) (v i : ℕ) (write read : Option ℕ) (reads : List ℕ) (old mid new : List ℕ) → write ≡ written_before log.history.now v i → read ≡ other_before log.history.now v i → reads ≡ words_of_read write read
+    → Appends old mid (IsDoneTold log v write read) → Appends mid new (IsReadTold log v reads i) → Appends old new (IsBadReadTold log v i)
+bad_read log v i write read reads old mid new p q r a b =
+    let before = written_before log.history.now v i in
+    let other = other_before log.history.now v i in
+    let words : reads ≡ words_of_read before other = r ∙ ap (λ o. words_of_read o read) p ∙ ap (λ o. words_of_read before o) q in
+    record {
+      text = a.text ++ b.text;
+      added = two old a.text b.text mid new a.added b.added;
+      told = record {
+        before = a.text;
+        line = b.text;
+        done = subst (λ o. IsDoneTold log v before o a.text) q (subst (λ o. IsDoneTold log v o read a.text) p a.told);
+        read = subst (λ w. IsReadTold log v w i b.text) words b.told;
+        whole = refl;
+      };
+    }

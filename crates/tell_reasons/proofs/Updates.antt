@@ -18,7 +18,7 @@ use Rattle.log_definitions.specs.WellFormed.{keys_in}
 use Rattle.log_definitions.specs.Serial.{ops_of}
 use Rattle.log_definitions.specs.Numbers.{event_of, log_of}
 use Rattle.log_lines.specs.declared.placed.PlacedHistory.{PlacedHistory}
-use Rattle.tell_reasons.specs.Reasons.{op_at, named, wid_text, op_in_line, reads_text}
+use Rattle.tell_reasons.specs.Reasons.{op_at, named, wid_text, op_in_line}
 use Rattle.tell_reasons.specs.Events.{is_write_in, is_read_in, is_other_in, last_position}
 use Rattle.tell_reasons.specs.Versions.{left_at, read_at}
 use Rattle.tell_reasons.specs.Anomalies.{Appends, IsRead, IsReadTold, IsUpdateTold, AreUpdatesTold}
@@ -130,7 +130,7 @@ pub no_write : (ss : List ClientSession) (x u v : ℕ) → IsUpdate (log_of ss) 
 no_write ss x u v h e = let es = (log_of ss).ops v in last_there (is_write_in x) es (write_there x h.writes.0 es h.writes.1) e
 
 -- ---- an update
-pub update_told : (log : PlacedHistory) (x v read write : ℕ) (old mid new : List ℕ) → read_at log.history.now x v ≡ Some read → left_at log.history.now x v ≡ Some write → Appends old mid (IsReadTold log v read (reads_text log v read))
+pub update_told : (log : PlacedHistory) (x v read write : ℕ) (old mid new : List ℕ) → read_at log.history.now x v ≡ Some read → left_at log.history.now x v ≡ Some write → Appends old mid (IsReadTold log v (codes " reads ") read)
     → new ≡ mid ++ (named log v ++ codes " overwrites it with " ++ wid_text (op_at log.history.now v write) ++ op_in_line log v write ++ 10 ∷ []) → Appends old new (IsUpdateTold log x v)
 update_told log x v read write old mid new first last a e =
     let tail = named log v ++ codes " overwrites it with " ++ wid_text (op_at log.history.now v write) ++ op_in_line log v write ++ 10 ∷ [] in

@@ -1,7 +1,7 @@
 -- How an anomaly is told: the reads that show it, who wrote what they name, and what their
 -- transactions did with the key besides. Operations count from 0.
-use Rattle.std.specs.Prelude.{◌≡◌, ◌≢◌, ℕ, ◌+◌, ◌-◌, ◌&&◌, ◌==◌, not, Bool, false, List, [], ◌∷◌}
-use Rattle.std.specs.Prelude.{◌++◌, length, take, drop, reverse, position, codes, slice_get, Option}
+use Rattle.std.specs.Prelude.{◌≡◌, ◌≢◌, ℕ, ◌+◌, ◌-◌, ◌&&◌, Bool, false, List, [], ◌∷◌}
+use Rattle.std.specs.Prelude.{◌++◌, take, drop, position, codes, slice_get, Option}
 use Rattle.std.specs.Prelude.{None, Some, nat_lt, if◌then◌else◌}
 use Rattle.std.specs.List.{Contains, flat_map}
 use Rattle.std.specs.Option.{option_map}
@@ -20,7 +20,7 @@ use Rattle.log_lines.specs.Places.{StandsAt}
 use Rattle.log_lines.specs.Placed.{table_in, op_line_in}
 use Rattle.log_lines.specs.declared.placed.PlacedHistory.{PlacedHistory}
 use Rattle.tell_reasons.specs.Reasons.{named, in_line, op_at, op_in_line, key_and_wid}
-use Rattle.tell_reasons.specs.Reasons.{wid_text, reads_text}
+use Rattle.tell_reasons.specs.Reasons.{wid_text, does_text}
 use Rattle.tell_reasons.specs.Versions.{left_at, read_at, written_before, other_before}
 
 -- ---- operations of a key
@@ -110,40 +110,37 @@ pub data IsWriterTold (ss : List ClientSession) (table : Table) (read : ℕ) (ke
       → IsWriterTold ss table read key wid (wrote_text read key session t row i)
 
 -- ---- a read
--- operation i of node v is a read; its line says this of it, and then who wrote what it read
-pub record IsReadTold (log : PlacedHistory) (v i : ℕ) (said text : List ℕ) : Type 0 where
+-- operation i of node v is a read; its line has these words, and then who wrote what it read
+pub record IsReadTold (log : PlacedHistory) (v : ℕ) (reads : List ℕ) (i : ℕ) (text : List ℕ)
+    : Type 0 where
   pub key : List ℕ
   pub wid : ℕ
   pub writer : List ℕ
-  pub reads : op_at log.history.now v i ≡ Some (Read key wid)
+  pub is : op_at log.history.now v i ≡ Some (Read key wid)
   pub told : IsWriterTold log.history.now (table_in log) (op_line_in log v i) key wid writer
-  pub whole : text ≡ said ++ writer ++ 10 ∷ []
+  pub whole : text ≡ does_text log v reads i ++ writer ++ 10 ∷ []
 
--- what node v did before, by operation i
-abbrev pub did_text : PlacedHistory → ℕ → List ℕ → ℕ → List ℕ
-did_text log v did i = named log v ++ did ++ key_and_wid (op_at log.history.now v i)
-    ++ codes " before" ++ op_in_line log v i
-
--- what the transaction did with the key before: this write, else this read and who wrote what it
--- read, else nothing
+-- what a transaction did with a key before its read: this write, else this read, else nothing
 abbrev pub IsDoneTold : PlacedHistory → ℕ → Option ℕ → Option ℕ → List ℕ → Type 0
-IsDoneTold log v (Some i) other text = text ≡ did_text log v (codes " wrote ") i ++ 10 ∷ []
-IsDoneTold log v None (Some i) text = IsReadTold log v i (did_text log v (codes " read ") i) text
+IsDoneTold log v (Some i) read text = text ≡ does_text log v (codes " writes ") i ++ codes "\n"
+IsDoneTold log v None (Some i) text = IsReadTold log v (codes " reads ") i text
 IsDoneTold log v None None text = text ≡ []
 
--- before operation i, which reads a key: its latest write of the key, else its first read of another
--- identity
-abbrev pub IsBeforeTold : PlacedHistory → ℕ → ℕ → List ℕ → Type 0
-IsBeforeTold log v i text =
-    IsDoneTold log v (written_before log.history.now v i) (other_before log.history.now v i) text
+-- the words of a read, behind this write or this read
+abbrev pub words_of_read : Option ℕ → Option ℕ → List ℕ
+words_of_read None None = codes " reads "
+words_of_read _ _ = codes " then reads "
 
--- a read that is an anomaly: operation i of node v
+-- a read that is an anomaly, operation i of node v, behind what was done before: the latest write
+-- of the key, else its first read that names another identity
 pub record IsBadReadTold (log : PlacedHistory) (v i : ℕ) (text : List ℕ) : Type 0 where
-  pub line : List ℕ
   pub before : List ℕ
-  pub read : IsReadTold log v i (reads_text log v i) line
-  pub done : IsBeforeTold log v i before
-  pub whole : text ≡ line ++ before
+  pub line : List ℕ
+  pub done : IsDoneTold log v (written_before log.history.now v i)
+      (other_before log.history.now v i) before
+  pub read : IsReadTold log v (words_of_read (written_before log.history.now v i)
+      (other_before log.history.now v i)) i line
+  pub whole : text ≡ before ++ line
 
 -- ---- a lost update
 -- node v reads key number x first at operation `read`, and writes it last at operation `write`
@@ -153,7 +150,7 @@ pub record IsUpdateTold (log : PlacedHistory) (x v : ℕ) (text : List ℕ) : Ty
   pub line : List ℕ
   pub first : read_at log.history.now x v ≡ Some read
   pub last : left_at log.history.now x v ≡ Some write
-  pub told : IsReadTold log v read (reads_text log v read) line
+  pub told : IsReadTold log v (codes " reads ") read line
   pub whole : text ≡ line ++ (named log v ++ codes " overwrites it with " ++ wid_text
       (op_at log.history.now v write) ++ op_in_line log v write ++ 10 ∷ [])
 

@@ -6,3 +6,4 @@ pub mod Reasons
 pub mod Writes
 pub mod Versions
 pub mod Words
+pub mod Names

@@ -6,6 +6,8 @@ use Rattle.std.specs.Prelude.{Some}
 use Rattle.session_log.specs.Text.{ClientSession}
 use Rattle.session_log.specs.declared.session.Op.{Op}
 use Rattle.session_log.specs.declared.session.Op.TheVariants.{Read, Write}
+use Rattle.serializability.specs.declared.event.Event.{Event}
+use Rattle.serializability.specs.declared.event.Event.TheVariants as event
 use Rattle.log_definitions.specs.WellFormed.{keys_in}
 use Rattle.log_definitions.specs.Serial.{ops_of}
 use Rattle.log_definitions.specs.Numbers.{log_of}
@@ -40,6 +42,17 @@ abbrev pub key_and_wid : Option Op → List ℕ
 key_and_wid None = []
 key_and_wid (Some (Read key wid)) = key ++ 32 ∷ decimal wid
 key_and_wid (Some (Write key wid)) = key ++ 32 ∷ decimal wid
+
+-- an operation as its line has it: `r x 7`
+abbrev pub listed_text : Option Op → List ℕ
+listed_text None = []
+listed_text (Some (Read key wid)) = codes "r " ++ key_and_wid (Some (Read key wid))
+listed_text (Some (Write key wid)) = codes "w " ++ key_and_wid (Some (Write key wid))
+
+-- the letter with which the line of an operation begins
+abbrev pub letter_text : Event → List ℕ
+letter_text (event.Read key wid) = codes "r "
+letter_text (event.Write key wid) = codes "w "
 
 abbrev pub key_text : Option Op → List ℕ
 key_text None = []

@@ -1,115 +1,84 @@
 //! What is wrong with a read, or with two transactions that update one key, in the log's own lines.
 
-ghost use Rattle.std.specs.Prelude.{◌≡◌, ℕ, ◌<◌, ◌++◌, ◌∷◌, [], Some};
-ghost use Rattle.std.specs.Prelude.{length, codes, OnOk};
+ghost use Rattle.std.specs.Prelude.{◌≡◌, ℕ, ◌<◌, Some, length, IfSome, OnOk};
 ghost use Rattle.serializability.specs.Anomalies.{anomaly_of};
 ghost use Rattle.anomaly_laws.specs.Meaning.{IsUpdate};
 ghost use Rattle.log_definitions.specs.Serial.{ops_of};
 ghost use Rattle.log_definitions.specs.Numbers.{log_of};
 ghost use Rattle.tell_reasons.specs.Reasons.{op_at};
-ghost use Rattle.tell_reasons.specs.Words.{words_text, CanSayAll};
 ghost use Rattle.tell_reasons.specs.Versions.{left_at, read_at};
 ghost use Rattle.tell_reasons.specs.Anomalies as spec;
-ghost use Rattle.tell_reasons.specs.Anomalies.{Appends, IsRead, did_text};
-ghost use Rattle.tell_reasons.specs.Anomalies.{IsReadTold, IsBadReadTold, IsUpdateTold};
-ghost use Rattle.tell_reasons.specs.Anomalies.{IsAnomalyTold, IsBeforeTold};
+ghost use Rattle.tell_reasons.specs.Anomalies.{Appends, IsRead, IsReadTold, IsDoneTold};
+ghost use Rattle.tell_reasons.specs.Anomalies.{IsBadReadTold, IsUpdateTold, IsAnomalyTold};
 
-use crate::phrases::{key_at, line_of, put_text, wid_at};
+use crate::phrases::{key_at, line_of, put_does, put_text, wid_at};
 use crate::places::{last_write, other_read};
-use crate::versions;
-use crate::words::{Word, put_words, say};
 use crate::writers::put_writer;
+use crate::{say, versions};
 use log_lines::PlacedHistory;
 use serializability::{Anomaly, NodeIx};
 use session_history::History;
 use std::alloc::AllocError;
 
-/// Appends the line of a read: what is said of it, and who wrote what it names.
+/// Appends the line of a read, in these words, and who wrote what it names.
 #[tactic(auto, using(crate::proofs::Told::read_told))]
 fn put_read(
     out: &mut Vec<u8>,
     log: &PlacedHistory<'_>,
-    said: &[Word<'_>],
     node: NodeIx,
+    reads: &[u8],
     op: usize,
 ) -> Result<(), AllocError>
-    requires said { CanSayAll log.now said.now }
     requires op { op < length (ops_of log.now.history.now node) }
     requires read { IsRead (op_at log.now.history.now node op) }
     ensures told { OnOk result (Appends out.old.items out.new.items
-        (IsReadTold log.now node op (words_text log.now said.now))) }
+        (IsReadTold log.now node reads.now op)) }
 {
     let line = line_of(log, node, op);
     let key = key_at(log.history, node, op);
     let wid = wid_at(log.history, node, op);
-    put_words(out, log, said)?;
+    put_does(out, log, node, reads, op)?;
     put_writer(out, log, line, key, wid)?;
     put_text(out, b"\n")?;
     Ok(())
 }
 
-/// Appends the line of an earlier write.
-#[tactic(auto, using(crate::proofs::Begun::op_within))]
-fn put_earlier_write(
-    out: &mut Vec<u8>,
-    log: &PlacedHistory<'_>,
-    node: NodeIx,
-    op: usize,
-) -> Result<(), AllocError>
-    requires op { op < length (ops_of log.now.history.now node) }
-    ensures text { OnOk result (out.new.items ≡ out.old.items
-        ++ (did_text log.now node (codes " wrote ") op ++ 10 ∷ [])) }
-{
-    say!(out, log; Node(node), Text(b" wrote "), Operation(node, op), Text(b" before"),
-        AtLine(node, op), Text(b"\n"))
-}
-
-/// Appends the line of an earlier read, and who wrote what it names.
-#[tactic(auto, using(crate::proofs::Begun::op_within))]
-fn put_earlier_read(
-    out: &mut Vec<u8>,
-    log: &PlacedHistory<'_>,
-    node: NodeIx,
-    op: usize,
-) -> Result<(), AllocError>
-    requires op { op < length (ops_of log.now.history.now node) }
-    requires read { IsRead (op_at log.now.history.now node op) }
-    ensures told { OnOk result (Appends out.old.items out.new.items
-        (IsReadTold log.now node op (did_text log.now node (codes " read ") op))) }
-{
-    let said = [
-        Word::Node(node),
-        Word::Text(b" read "),
-        Word::Operation(node, op),
-        Word::Text(b" before"),
-        Word::AtLine(node, op),
-    ];
-    put_read(out, log, &said, node, op)
-}
-
-/// Appends what a transaction did with the key before its read: its latest write, else its first
-/// read of another identity.
+/// Appends what a transaction did with a key before its read: this write, else this read.
 #[tactic(auto, using(crate::proofs::Told::done_told))]
-fn put_before_read(
+fn put_done(
     out: &mut Vec<u8>,
     log: &PlacedHistory<'_>,
     node: NodeIx,
-    op: usize,
+    write: Option<usize>,
+    read: Option<usize>,
 ) -> Result<(), AllocError>
-    requires op { op < length (ops_of log.now.history.now node) }
+    requires write { IfSome write (λ i. i < length (ops_of log.now.history.now node)) }
+    requires read { IfSome read (λ i. i < length (ops_of log.now.history.now node)) }
+    requires reads { IfSome read (λ i. IsRead (op_at log.now.history.now node i)) }
     ensures told { OnOk result (Appends out.old.items out.new.items
-        (IsBeforeTold log.now node op)) }
+        (IsDoneTold log.now node write read)) }
 {
-    match last_write(log.history, node, op) {
-        Some(write) => put_earlier_write(out, log, node, write),
-        None => match other_read(log.history, node, op) {
-            Some(read) => put_earlier_read(out, log, node, read),
+    match write {
+        Some(write) => say!(out, log; Does(node, b" writes ", write), Text(b"\n")),
+        None => match read {
+            Some(read) => put_read(out, log, node, b" reads ", read),
             None => Ok(()),
         },
     }
 }
 
-/// Appends the lines of a read that is an anomaly.
+/// The words of a read, behind this write or this read of its transaction.
+fn words_of_read(write: Option<usize>, read: Option<usize>) -> &'static [u8]
+    ensures { result.now ≡ spec.words_of_read write read }
+{
+    match (write, read) {
+        (None, None) => b" reads ",
+        _ => b" then reads ",
+    }
+}
+
+/// Appends the lines of a read that is an anomaly: first what its transaction did with the key
+/// before, by its latest write, else by its first read of another identity.
 #[tactic(auto, using(crate::proofs::Told::bad_read))]
 fn put_bad_read(
     out: &mut Vec<u8>,
@@ -122,8 +91,10 @@ fn put_bad_read(
     ensures told { OnOk result (Appends out.old.items out.new.items
         (IsBadReadTold log.now node op)) }
 {
-    put_read(out, log, &[Word::Does(node, b" reads ", op)], node, op)?;
-    put_before_read(out, log, node, op)?;
+    let write = last_write(log.history, node, op);
+    let read = other_read(log.history, node, op);
+    put_done(out, log, node, write, read)?;
+    put_read(out, log, node, words_of_read(write, read), op)?;
     Ok(())
 }
 
@@ -165,7 +136,7 @@ fn put_update(
 {
     let read = update_read(log.history, node, key);
     let write = update_write(log.history, node, key);
-    put_read(out, log, &[Word::Does(node, b" reads ", read)], node, read)?;
+    put_read(out, log, node, b" reads ", read)?;
     say!(out, log; Node(node), Text(b" overwrites it with "), Identity(node, write),
         AtLine(node, write), Text(b"\n"))?;
     Ok(())

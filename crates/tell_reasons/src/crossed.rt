@@ -5,7 +5,7 @@ ghost use Rattle.reason_laws.specs.Crossed.{AreCrossed};
 ghost use Rattle.tell_reasons.specs.Crossed.{CanTellPair, pair_text, crossing_text};
 
 use crate::phrases::put_text;
-use crate::words::{Word, put_words, say};
+use crate::say;
 use log_lines::PlacedHistory;
 use reason_laws::{Crossing, PairRead};
 use std::alloc::AllocError;

@@ -10,9 +10,9 @@ ghost use Rattle.tell_reasons.specs.Edges.{origin_text, reason_text, why_text, c
 ghost use Rattle.tell_reasons.specs.Edges.{comes_by};
 
 use crate::phrases::{begin_of, end_of, put_text, wid_at};
+use crate::say;
 use crate::versions::{put_behind, put_held, put_version};
 use crate::why::{ChainOrder, Why};
-use crate::words::{Word, put_words, say};
 use log_lines::PlacedHistory;
 use reasons::Reason;
 use serializability::NodeIx;

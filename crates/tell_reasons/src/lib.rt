@@ -1,4 +1,4 @@
-//! The lines that say why there is no order, in a log's own words.
+//! The lines that say why there is no order, in a log's own words, and what cycles are called.
 //!
 //! Called by the other crates that tell. It knows no ledger, no tree and no piece.
 #![tactic(auto)]
@@ -6,6 +6,7 @@
 mod anomalies;
 mod crossed;
 mod edge;
+pub mod names;
 mod phrases;
 mod places;
 mod versions;
@@ -17,6 +18,6 @@ mod writes;
 pub use anomalies::put_anomaly;
 pub use crossed::put_crossing;
 pub use edge::put_edge;
-pub use phrases::{put_key_and_wid, put_named, put_number, put_op_in_line};
 pub use versions::{left_at, put_since, put_versions};
 pub use why::{ChainOrder, Why};
+pub use words::{Word, put_words};

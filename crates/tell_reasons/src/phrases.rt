@@ -213,6 +213,32 @@ pub fn put_key_and_wid(
     put_number(out, wid_at(history, node, op))
 }
 
+/// The letter with which the line of an operation begins, and a space.
+fn letter_of(event: Event) -> &'static [u8]
+    ensures { result.now ≡ spec.letter_text event }
+{
+    match event {
+        Event::Read { .. } => b"r ",
+        Event::Write { .. } => b"w ",
+    }
+}
+
+/// Appends an operation as its line has it, as `r x 7`.
+#[tactic(auto, using(crate::proofs::Ops::listed_told, std::proofs::Common::append_assoc))]
+pub fn put_listed(
+    out: &mut Vec<u8>,
+    history: &History,
+    node: NodeIx,
+    op: usize,
+) -> Result<(), AllocError>
+    requires op { op < length (ops_of history.now node) }
+    ensures text { OnOk result (out.new.items
+        ≡ out.old.items ++ spec.listed_text (op_at history.now node op)) }
+{
+    put_text(out, letter_of(event_at(history, node, op)))?;
+    put_key_and_wid(out, history, node, op)
+}
+
 /// Appends what a node does, as `2.1 reads x 7 (line 12)`.
 #[tactic(auto, using(crate::proofs::Begun::op_within))]
 pub fn put_does(

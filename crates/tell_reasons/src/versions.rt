@@ -11,8 +11,8 @@ ghost use Rattle.tell_reasons.specs.Versions.{since_text, had_at, held_text};
 
 use crate::phrases::{key_number, wid_at};
 use crate::places::{first_read_among, last_among};
+use crate::say;
 use crate::why::ChainOrder;
-use crate::words::{Word, put_words, say};
 use log_lines::PlacedHistory;
 use serializability::NodeIx;
 use session_history::History;

@@ -4,8 +4,8 @@ ghost use Rattle.std.specs.Prelude.{◌≡◌, ◌++◌, OnOk};
 ghost use Rattle.tell_reasons.specs.Words.{word_text, words_text, CanSay, CanSayAll};
 
 use crate::phrases::{
-    put_base, put_does, put_in_line, put_key_and_wid, put_named, put_number, put_op_in_line,
-    put_place, put_text, wid_at,
+    put_base, put_does, put_in_line, put_key_and_wid, put_listed, put_named, put_number,
+    put_op_in_line, put_place, put_text, wid_at,
 };
 use log_lines::PlacedHistory;
 use serializability::NodeIx;
@@ -26,6 +26,8 @@ pub enum Word<'a> {
     Key(usize),
     /// The key and the identity of a node's operation, with a space between.
     Operation(NodeIx, usize),
+    /// A node's operation as its line has it, as `r x 7`.
+    Listed(NodeIx, usize),
     /// The identity that a node's operation names.
     Identity(NodeIx, usize),
     /// The line of a node's operation, as ` (line 12)`.
@@ -37,13 +39,12 @@ pub enum Word<'a> {
 }
 
 /// Appends words: `say!(out, log; Node(a), Text(b" before "), Node(b))`.
+#[macro_export]
 macro_rules! say {
     ($out:expr, $log:expr; $($kind:ident $parts:tt),+) => {
-        put_words($out, $log, &[$(Word::$kind $parts),+])
+        $crate::put_words($out, $log, &[$($crate::Word::$kind $parts),+])
     };
 }
-
-pub(crate) use say;
 
 /// Appends a word.
 fn put_word(out: &mut Vec<u8>, log: &PlacedHistory<'_>, word: &Word<'_>) -> Result<(), AllocError>
@@ -58,6 +59,7 @@ fn put_word(out: &mut Vec<u8>, log: &PlacedHistory<'_>, word: &Word<'_>) -> Resu
         Word::Node(node) => put_named(out, b"", log, *node),
         Word::Key(key) => put_text(out, log.history.key_text(*key).as_bytes()),
         Word::Operation(node, op) => put_key_and_wid(out, log.history, *node, *op),
+        Word::Listed(node, op) => put_listed(out, log.history, *node, *op),
         Word::Identity(node, op) => put_number(out, wid_at(log.history, *node, *op)),
         Word::AtLine(node, op) => put_op_in_line(out, log, *node, *op),
         Word::Does(node, does, op) => put_does(out, log, *node, does, *op),

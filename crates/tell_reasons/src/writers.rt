@@ -14,7 +14,7 @@ ghost use Rattle.tell_reasons.specs.Anomalies.{overwrote_text, wrote_text, verb_
 
 use crate::phrases::{put_in_line, put_number, put_text};
 use crate::places::next_write;
-use crate::words::{Word, put_words, say};
+use crate::say;
 use crate::writes::{Keys, WriteAt, op_among, write_at};
 use log_lines::{PlacedHistory, TxnPlace};
 use session_log::{Op, Outcome};

@@ -39,55 +39,6 @@ fn read_text(alloc: Global, part: &Part<'_>, read: Access<'_>) -> Result<String,
     format!(in alloc; "{node} reads {key} {wid} (line {line})")
 }
 
-/// That what is read was written.
-fn written_text(
-    alloc: Global,
-    part: &Part<'_>,
-    read: Access<'_>,
-    write: Access<'_>,
-) -> Result<String, AllocError> {
-    let reads = read_text(alloc, part, read)?;
-    let (node, line) = (name(alloc, part, write.node)?, write.line);
-    if read.node == write.node {
-        format!(in alloc; "{reads}, which {node} writes itself only later (line {line})")
-    } else {
-        format!(in alloc; "{reads}, which {node} wrote (line {line})")
-    }
-}
-
-/// That what is read is overwritten.
-fn missed_text(
-    alloc: Global,
-    part: &Part<'_>,
-    read: Access<'_>,
-    write: Access<'_>,
-    is_known: bool,
-) -> Result<String, AllocError> {
-    let reads = read_text(alloc, part, read)?;
-    let (node, line) = (name(alloc, part, write.node)?, write.line);
-    let (key, wid) = (key_text(write.key), write.wid);
-    if is_known {
-        format!(in alloc; "{reads}, and {node} overwrites it with {wid} (line {line})")
-    } else {
-        format!(in alloc; "{reads}, the initial value, and {node} wrote {key} {wid} (line {line})")
-    }
-}
-
-/// That what is read comes by a step before what is written.
-fn behind_text(
-    alloc: Global,
-    part: &Part<'_>,
-    read: Access<'_>,
-    write: Access<'_>,
-    step: usize,
-) -> Result<String, AllocError> {
-    let reads = read_text(alloc, part, read)?;
-    let (node, line, wid) = (name(alloc, part, write.node)?, write.line, write.wid);
-    format!(in alloc;
-        "{reads}, which by [{step}] comes before {wid}, which {node} wrote (line {line})"
-    )
-}
-
 /// Two moments.
 fn moments_text(
     alloc: Global,
@@ -120,6 +71,37 @@ fn is_read_by_both(part: &Part<'_>, read: Access<'_>, write: Access<'_>) -> bool
         .any(|other| other.node == write.node && other.is_same(&read))
 }
 
+/// What is said of a read from a snapshot and of a write, where a step has this number.
+fn read_reason(
+    alloc: Global,
+    part: &Part<'_>,
+    why: Why<'_>,
+    read: Access<'_>,
+    write: Access<'_>,
+    step: usize,
+) -> Result<String, AllocError> {
+    let reads = read_text(alloc, part, read)?;
+    let (node, line) = (name(alloc, part, write.node)?, write.line);
+    let (key, wid) = (key_text(write.key), write.wid);
+    match why {
+        Why::Behind { .. } => format!(in alloc;
+            "{reads}, which by [{step}] comes before {wid}, which {node} wrote (line {line})"
+        ),
+        Why::Missed { .. } if is_read_by_both(part, read, write) => {
+            format!(in alloc; "{reads}, and {node} overwrites it with {wid} (line {line})")
+        }
+        Why::Missed { .. } => {
+            format!(in alloc;
+                "{reads}, the initial value, and {node} wrote {key} {wid} (line {line})"
+            )
+        }
+        _ if read.node == write.node => {
+            format!(in alloc; "{reads}, which {node} writes itself only later (line {line})")
+        }
+        _ => format!(in alloc; "{reads}, which {node} wrote (line {line})"),
+    }
+}
+
 /// Why one point stands before another; steps have these numbers.
 fn reason(
     alloc: Global,
@@ -136,12 +118,8 @@ fn reason(
             format!(in alloc; "session {session}")
         }
         Why::Moments => moments_text(alloc, part, from.node, to.node),
-        Why::Read { read, write } => written_text(alloc, part, read, write),
-        Why::Missed { read, write } => {
-            let is_known = is_read_by_both(part, read, write);
-            missed_text(alloc, part, read, write, is_known)
-        }
-        Why::Behind { read, write, .. } => behind_text(alloc, part, read, write, step),
+        Why::Read { read, write } | Why::Missed { read, write } | Why::Behind { read, write, .. } =>
+            { read_reason(alloc, part, why, read, write, step) }
         Why::Written { .. } => format!(in alloc; "by [{step}]"),
     }
 }
@@ -168,14 +146,25 @@ fn both_text(alloc: Global, writes: (Access<'_>, Access<'_>)) -> Result<String, 
     format!(in alloc; "both write {key} (lines {one} and {other})")
 }
 
+/// The names of two nodes that write a key.
+fn both_names(
+    alloc: Global,
+    part: &Part<'_>,
+    writes: (Access<'_>, Access<'_>),
+) -> Result<(String, String), AllocError> {
+    Ok((
+        name(alloc, part, writes.0.node)?,
+        name(alloc, part, writes.1.node)?,
+    ))
+}
+
 /// The line of two that write a key, neither of which can commit first.
 pub fn neither_line(
     alloc: Global,
     part: &Part<'_>,
     writes: (Access<'_>, Access<'_>),
 ) -> Result<String, AllocError> {
-    let one = name(alloc, part, writes.0.node)?;
-    let other = name(alloc, part, writes.1.node)?;
+    let (one, other) = both_names(alloc, part, writes)?;
     let both = both_text(alloc, writes)?;
     format!(in alloc;
         "{one} and {other} {both}, so one of them commits before the other takes its snapshot"
@@ -195,8 +184,7 @@ pub fn shown_line(
     writes: (Access<'_>, Access<'_>),
     number: usize,
 ) -> Result<String, AllocError> {
-    let one = name(alloc, part, writes.0.node)?;
-    let other = name(alloc, part, writes.1.node)?;
+    let (one, other) = both_names(alloc, part, writes)?;
     format!(in alloc; "[{number}] {one}'s commit before {other}'s snapshot:")
 }
 

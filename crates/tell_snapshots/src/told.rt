@@ -5,13 +5,14 @@ use crate::graph::{Graph, Why};
 use crate::lines::{
     edge_line, forced_line, neither_line, not_first_line, overwritten_line, shown_line,
 };
-use crate::names::{NO_EDGES, Shape};
+use crate::names::{either, name_of, shape_of};
 use crate::nodes::{Access, Part};
 use crate::steps::{Against, Ending, Refuted, Step, StepWhy, refute};
 use crate::ways::Way;
 use log_lines::LogPlaces;
 use session_log::Session;
 use std::alloc::{AllocError, Global};
+use tell_reasons::names::{MISSED, NO_EDGES, Shape, WRITTEN, followed, with_orders};
 
 /// Of a part with more committed transactions, or with more operations in them, nothing is told.
 const MANY_NODES: usize = 48;
@@ -93,16 +94,16 @@ impl<'a, 'b> Telling<'a, 'b> {
             Some(step) => self.number(step),
             None => 0,
         };
-        let line = edge_line(self.alloc, self.part, edge, why, step, indent)?;
-        self.lines.push(line)?;
+        self.lines
+            .push(edge_line(self.alloc, self.part, edge, why, step, indent)?)?;
         Ok(())
     }
 
     /// Tells why one of two cannot commit first.
     fn put_against(&mut self, against: &Against<'a>) -> Result<(), AllocError> {
         if let Some((read, write)) = against.overwritten {
-            let line = overwritten_line(self.alloc, self.part, read, write)?;
-            self.lines.push(line)?;
+            self.lines
+                .push(overwritten_line(self.alloc, self.part, read, write)?)?;
         }
         self.put_way(&against.way, INDENT)
     }
@@ -118,8 +119,8 @@ impl<'a, 'b> Telling<'a, 'b> {
             let indent = format!(in self.alloc; "[{number}] ")?;
             return self.put_way(way, &indent);
         }
-        let line = shown_line(self.alloc, self.part, writes, number)?;
-        self.lines.push(line)?;
+        self.lines
+            .push(shown_line(self.alloc, self.part, writes, number)?)?;
         self.put_way(way, INDENT)
     }
 
@@ -128,8 +129,8 @@ impl<'a, 'b> Telling<'a, 'b> {
         match &step.why {
             StepWhy::Shown(way) => self.put_shown(told, step.writes, way),
             StepWhy::Forced(against) => {
-                let line = forced_line(self.alloc, self.part, step.writes, told)?;
-                self.lines.push(line)?;
+                self.lines
+                    .push(forced_line(self.alloc, self.part, step.writes, told)?)?;
                 self.put_against(against)
             }
         }
@@ -153,13 +154,13 @@ impl<'a, 'b> Telling<'a, 'b> {
         not_first: &Against<'a>,
         not_second: &Against<'a>,
     ) -> Result<(), AllocError> {
-        let line = neither_line(self.alloc, self.part, writes)?;
-        self.lines.push(line)?;
-        let line = not_first_line(self.alloc, self.part, writes.0.node)?;
-        self.lines.push(line)?;
+        self.lines
+            .push(neither_line(self.alloc, self.part, writes)?)?;
+        self.lines
+            .push(not_first_line(self.alloc, self.part, writes.0.node)?)?;
         self.put_against(not_first)?;
-        let line = not_first_line(self.alloc, self.part, writes.1.node)?;
-        self.lines.push(line)?;
+        self.lines
+            .push(not_first_line(self.alloc, self.part, writes.1.node)?)?;
         self.put_against(not_second)
     }
 
@@ -168,7 +169,7 @@ impl<'a, 'b> Telling<'a, 'b> {
         let mut shape = NO_EDGES;
         for (step, is_needed) in self.steps.iter().zip(&self.is_needed) {
             if *is_needed {
-                shape = shape.with_way(self.graph, &step.way().points);
+                shape = followed(shape, shape_of(self.graph, &step.way().points));
             }
         }
         shape
@@ -176,11 +177,11 @@ impl<'a, 'b> Telling<'a, 'b> {
 
     /// The circle that would close if one of two committed first.
     fn supposed(&self, against: &Against<'a>) -> Shape {
-        let shape = NO_EDGES.with_way(self.graph, &against.way.points);
-        match against.overwritten {
-            Some((read, write)) => shape.with(Why::Missed { read, write }),
-            None => shape.with(Why::Written { step: 0 }),
-        }
+        let edge = match against.overwritten {
+            Some(_) => MISSED,
+            None => WRITTEN,
+        };
+        followed(shape_of(self.graph, &against.way.points), edge)
     }
 
     /// The name of what is told, where it has one.
@@ -188,8 +189,8 @@ impl<'a, 'b> Telling<'a, 'b> {
         let orders = self.step_shape();
         match ending {
             Ending::Circle(way) => {
-                let shape = NO_EDGES.with_way(self.graph, &way.points);
-                Some(shape.with_orders(orders).name())
+                let circle = shape_of(self.graph, &way.points);
+                Some(name_of(with_orders(circle, orders)))
             }
             Ending::Neither {
                 not_first,
@@ -199,8 +200,8 @@ impl<'a, 'b> Telling<'a, 'b> {
                 if self.is_lost_update(not_first, not_second) {
                     return Some("lost update");
                 }
-                let either = self.supposed(not_first).or(self.supposed(not_second))?;
-                Some(either.with_orders(orders).name())
+                let circle = either(self.supposed(not_first), self.supposed(not_second))?;
+                Some(name_of(with_orders(circle, orders)))
             }
         }
     }

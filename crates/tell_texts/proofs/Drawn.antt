@@ -1,21 +1,13 @@
 -- Boxes of nodes, with the labels of their operations, and arrows.
-use Rattle.std.proofs.Common.{◌≡◌, ℕ, zero, suc, ◌+◌, ◌-◌, ◌<◌, Bool, false, List, [], ◌∷◌, ◌++◌, length, get_or, take, Some, refl, sym, ap, ◌∙◌, subst, arith}
-use Rattle.std.specs.Prelude.{if◌then◌else◌, slice_get}
+use Rattle.std.proofs.Common.{◌≡◌, ℕ, ◌+◌, ◌-◌, ◌<◌, Bool, false, List, [], ◌++◌, length, get_or, take, refl, sym, ap, ◌∙◌, arith}
+use Rattle.std.specs.Prelude.{if◌then◌else◌}
 use Rattle.std.specs.List.{filter, flat_map, range_with_len}
-use Rattle.std.proofs.lemmas.List.{get_or_read, length-map}
+use Rattle.std.proofs.lemmas.List.{get_or_read}
 use Rattle.std.proofs.lemmas.Option.{unwrap_or-slice_get}
-use Rattle.session_log.specs.Text.{ClientSession}
-use Rattle.session_log.specs.declared.session.Op.{Op}
-use Rattle.session_log.specs.declared.session.Op.TheVariants.{Read, Write}
-use Rattle.serializability.specs.declared.event.Event.{Event}
-use Rattle.log_definitions.specs.WellFormed.{keys_in}
 use Rattle.log_definitions.specs.Serial.{ops_of}
-use Rattle.log_definitions.specs.Numbers.{event_of, events_of, log_of}
 use Rattle.log_lines.specs.declared.placed.PlacedHistory.{PlacedHistory}
-use Rattle.reason_laws.proofs.Numbers.{ops_is}
-use Rattle.tell_reasons.specs.Reasons.{op_at, key_and_wid}
 use Rattle.tell_steps.specs.declared.item.Item.{Item}
-use Rattle.tell_texts.specs.Graphs.{AreMarks, is_marked, names, takes_part, op_words, event_word, op_label, op_labels, box, boxes, arrow, arrows}
+use Rattle.tell_texts.specs.Graphs.{AreMarks, is_marked, names, takes_part, op_label, op_labels, box, boxes, arrow, arrows}
 use Rattle.tell_texts.proofs.Pieces.{passed_more, filter_range_same, mapped_more}
 
 -- ---- labels
@@ -47,24 +39,6 @@ boxes_more log items v lo =
     let e : v ≡ (v - 1) + 1 = omega arith in
     ap (λ n. flat_map (box log items) (filter (takes_part items) (range_with_len 1 n))) e
     ∙ passed_more (box log items) (takes_part items) 1 (v - 1) v (omega arith)
-
--- ---- the word of an operation
-pub event_count : (ss : List ClientSession) (v : ℕ) → length ((log_of ss).ops v) ≡ length (ops_of ss v)
-event_count ss v = ap (λ es. length es) (ops_is ss v) ∙ length-map (ops_of ss v) (event_of (keys_in ss))
-
-words_of_one : (keys : List (List ℕ)) (op : Op) → op_words (Some op) ≡ event_word (event_of keys op) ++ key_and_wid (Some op)
-words_of_one keys (Read key wid) = refl
-words_of_one keys (Write key wid) = refl
-
-words_in : (keys : List (List ℕ)) (ops : List Op) (i : ℕ) (d : Event) → i < length (events_of keys ops) → op_words (slice_get ops i) ≡ event_word (get_or (events_of keys ops) i d) ++ key_and_wid (slice_get ops i)
-words_in keys [] i d lt = absurd (omega arith)
-words_in keys (op ∷ ops) zero d lt = words_of_one keys op
-words_in keys (op ∷ ops) (suc i) d lt = words_in keys ops i d (omega arith)
-
-pub words_told : (ss : List ClientSession) (v i : ℕ) (d : Event) → i < length (ops_of ss v) → op_words (op_at ss v i) ≡ event_word (get_or ((log_of ss).ops v) i d) ++ key_and_wid (op_at ss v i)
-words_told ss v i d lt =
-    let count = length-map (ops_of ss v) (event_of (keys_in ss)) in
-    subst (λ es. op_words (op_at ss v i) ≡ event_word (get_or es i d) ++ key_and_wid (op_at ss v i)) (sym (ops_is ss v)) (words_in (keys_in ss) (ops_of ss v) i d (omega (arith, count, lt)))
 
 -- ---- arrows
 pub arrows_more : (log : PlacedHistory) (items : List Item) (i : ℕ) (d : Item) → i < length items → arrows log (take (i + 1) items) ≡ arrows log (take i items) ++ arrow log (get_or items i d)

@@ -1,12 +1,11 @@
 -- Texts of what stands in a list or a range, one piece more.
 use Rattle.std.proofs.Common.{◌≡◌, ℕ, zero, suc, ◌+◌, ◌*◌, ◌<◌, ◌≤◌, Bool, true, false, cond, List, [], ◌∷◌, ◌++◌, length, get_or, take, refl, sym, ap, ◌∙◌, arith, append_assoc}
-use Rattle.std.specs.Prelude.{if◌then◌else◌, replicate, codes, Result, Ok, Err, OnOk}
+use Rattle.std.specs.Prelude.{if◌then◌else◌, replicate}
 use Rattle.std.specs.List.{filter, flat_map, range_with_len}
 use Rattle.std.proofs.lemmas.List.{append-nil, map-id, take_more, replicate-append-replicate}
 use Rattle.std.proofs.lemmas.List.FromFn.{filter_of_map_range_with_len_more}
 use Rattle.std.proofs.lemmas.List.Concat.{flat_map-append}
 use Rattle.tell_texts.specs.Texts.{indent}
-use Rattle.tell_texts.specs.Graphs.{quoted}
 
 -- ---- ranges
 -- of one element, where it passes
@@ -47,31 +46,6 @@ indent_more k =
 -- a text to which a piece is appended
 pub appended : {X : Type 0} (old now new piece next : List X) (all : List X) → now ≡ old ++ all → new ≡ now ++ piece → next ≡ all ++ piece → new ≡ old ++ next
 appended old now new piece next all h p e = grind (arith, append_assoc)
-
--- ---- texts of pieces that are written one behind the other
-pub add_piece : (old all now piece new : List ℕ) → now ≡ old ++ all → new ≡ now ++ piece → new ≡ old ++ (all ++ piece)
-add_piece old all now piece new h p = grind (arith, append_assoc)
-
--- a word and a name
-pub add_named : (old all now word name new : List ℕ) → now ≡ old ++ all → new ≡ now ++ (word ++ name) → new ≡ old ++ (all ++ word ++ name)
-add_named old all now word name new h p = add_piece old all now (word ++ name) new h p ∙ ap (λ l. old ++ l) (sym (append_assoc all word name))
-
--- the pieces of a box, and those of an arrow, where q is a quote
-box_joined : (q n a l e : List ℕ) → (q ++ n ++ (q ++ a ++ q) ++ n ++ l ++ (q ++ e)) ≡ ((q ++ n ++ q) ++ a ++ (q ++ (n ++ l) ++ q) ++ e)
-box_joined q n a l e = simp append_assoc
-
-arrow_joined : (q n a m b k c o e : List ℕ) → (q ++ n ++ (q ++ a ++ q) ++ m ++ (q ++ b ++ q) ++ k ++ (q ++ c ++ q) ++ o ++ (q ++ e)) ≡ ((q ++ n ++ q) ++ a ++ (q ++ m ++ q) ++ b ++ (q ++ k ++ q) ++ c ++ (q ++ o ++ q) ++ e)
-arrow_joined q n a m b k c o e = simp append_assoc
-
-pub box_parts : (name labels : List ℕ) → ((34 ∷ []) ++ name ++ (34 ∷ codes " [label=" ++ 34 ∷ []) ++ name ++ labels ++ (34 ∷ codes "];\n")) ≡ (quoted name ++ codes " [label=" ++ quoted (name ++ labels) ++ codes "];\n")
-box_parts name labels = box_joined (34 ∷ []) name (codes " [label=") labels (codes "];\n")
-
-pub arrow_parts : (first second kind colour : List ℕ) → ((34 ∷ []) ++ first ++ (34 ∷ codes " -> " ++ 34 ∷ []) ++ second ++ (34 ∷ codes " [label=" ++ 34 ∷ []) ++ kind ++ (34 ∷ codes " color=" ++ 34 ∷ []) ++ colour ++ (34 ∷ codes "];\n")) ≡ (quoted first ++ codes " -> " ++ quoted second ++ codes " [label=" ++ quoted kind ++ codes " color=" ++ quoted colour ++ codes "];\n")
-arrow_parts first second kind colour = arrow_joined (34 ∷ []) first (codes " -> ") second (codes " [label=") kind (codes " color=") colour (codes "];\n")
-
-pub on_ok : {T E : Type 0} (r : Result T E) (P Q : Type 0) → (P → Q) → OnOk r P → OnOk r Q
-on_ok (Ok x) P Q f p = f p
-on_ok (Err e) P Q f p = tt
 
 -- nothing is written yet
 pub begun : (old none : List ℕ) → none ≡ [] → old ≡ old ++ none

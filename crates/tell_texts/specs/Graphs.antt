@@ -2,21 +2,17 @@
 -- part, with those of its operations that reasons name, in their lines, and an arrow for each edge,
 -- labelled and coloured by its kind.
 use Rattle.std.specs.Prelude.{◌≡◌, ℕ, ◌+◌, ◌<◌, ◌==◌, ◌&&◌, ◌||◌, Bool, false, List, [], ◌∷◌, ◌++◌}
-use Rattle.std.specs.Prelude.{length, codes, decimal, slice_get, unwrap_or, Option, None, Some, Vec}
+use Rattle.std.specs.Prelude.{length, codes, decimal, slice_get, unwrap_or, Vec}
 use Rattle.std.specs.List.{filter, flat_map, list_any, range_with_len, AllByRecursion}
 use Rattle.std.specs.Option.{option_map}
 use Rattle.std.specs.declared.alloc.Global.{Global}
 use Rattle.session_log.specs.Text.{ClientSession}
-use Rattle.session_log.specs.declared.session.Op.{Op}
-use Rattle.session_log.specs.declared.session.Op.TheVariants.{Read, Write}
-use Rattle.serializability.specs.declared.event.Event.{Event}
-use Rattle.serializability.specs.declared.event.Event.TheVariants as event
 use Rattle.log_definitions.specs.Serial.{ops_of}
 use Rattle.log_definitions.specs.Numbers.{log_of}
 use Rattle.log_lines.specs.declared.placed.PlacedHistory.{PlacedHistory}
 use Rattle.reasons.specs.declared.reason.Reason.{Reason}
 use Rattle.reasons.specs.declared.reason.Reason.TheVariants as reason
-use Rattle.tell_reasons.specs.Reasons.{named, key_and_wid, op_in_line, op_at}
+use Rattle.tell_reasons.specs.Reasons.{named, listed_text, op_in_line, op_at}
 use Rattle.tell_reasons.specs.Versions.{versions_text}
 use Rattle.tell_reasons.specs.declared.why.Why.{Why}
 use Rattle.tell_reasons.specs.declared.why.Why.TheVariants as why
@@ -94,33 +90,23 @@ abbrev pub HasNodes : ℕ → Item → Type 0
 HasNodes count (Edge a b w) = (a < count) × (b < count)
 HasNodes count _ = Unit {0}
 
-abbrev pub quoted : List ℕ → List ℕ
-quoted text = 34 ∷ text ++ 34 ∷ []
-
 -- ---- boxes
--- an operation as its line has it
-abbrev pub op_words : Option Op → List ℕ
-op_words None = []
-op_words (Some (Read key wid)) = codes "r " ++ key_and_wid (Some (Read key wid))
-op_words (Some (Write key wid)) = codes "w " ++ key_and_wid (Some (Write key wid))
-
-abbrev pub event_word : Event → List ℕ
-event_word (event.Read key wid) = codes "r "
-event_word (event.Write key wid) = codes "w "
-
 -- behind the line break of a label: a backslash and n
 abbrev pub op_label : PlacedHistory → ℕ → ℕ → List ℕ
-op_label log v i = 92 ∷ 110 ∷ op_words (op_at log.history.now v i) ++ op_in_line log v i
+op_label log v i = codes "\\n" ++ listed_text (op_at log.history.now v i) ++ op_in_line log v i
 
 -- the first so many operations of the node, without those that fail the test
 unfoldable pub op_labels : PlacedHistory → ℕ → (ℕ → Bool) → ℕ → List ℕ
 op_labels log v test count = flat_map (op_label log v) (filter test (range_with_len 0 count))
 
+-- with these labels: `"2.1" [label="2.1\nr x 7 (line 12)"];`
+abbrev pub box_with : PlacedHistory → ℕ → List ℕ → List ℕ
+box_with log v labels = codes "\"" ++ named log v ++ codes "\" [label=\"" ++ named log v ++ labels
+    ++ codes "\"];\n"
+
 abbrev pub box : PlacedHistory → List Item → ℕ → List ℕ
 box log items v =
-    quoted (named log v) ++ codes " [label="
-    ++ quoted (named log v ++ op_labels log v (names items v) (length (ops_of log.history.now v)))
-    ++ codes "];\n"
+    box_with log v (op_labels log v (names items v) (length (ops_of log.history.now v)))
 
 -- the boxes of the first so many nodes, without those that take no part
 unfoldable pub boxes : PlacedHistory → List Item → ℕ → List ℕ
@@ -128,34 +114,23 @@ boxes log items count =
     flat_map (box log items) (filter (takes_part items) (range_with_len 1 count))
 
 -- ---- arrows
-abbrev pub reason_kind : Reason → List ℕ
-reason_kind reason.Session = codes "session"
-reason_kind (reason.Read written read) = codes "read"
-reason_kind (reason.Overwritten read overwrites) = codes "anti-dependency"
-reason_kind (reason.Initial read begins) = codes "version order"
-reason_kind reason.Moments = codes "moments"
+-- the kind of a reason, and the colour of an arrow for which there is such a one
+abbrev pub reason_look : Reason → List ℕ
+reason_look reason.Session = codes "session\" color=\"black"
+reason_look (reason.Read written read) = codes "read\" color=\"blue"
+reason_look (reason.Overwritten read overwrites) = codes "anti-dependency\" color=\"red"
+reason_look (reason.Initial read begins) = codes "version order\" color=\"darkgreen"
+reason_look reason.Moments = codes "moments\" color=\"purple"
 
-abbrev pub reason_colour : Reason → List ℕ
-reason_colour reason.Session = codes "black"
-reason_colour (reason.Read written read) = codes "blue"
-reason_colour (reason.Overwritten read overwrites) = codes "red"
-reason_colour (reason.Initial read begins) = codes "darkgreen"
-reason_colour reason.Moments = codes "purple"
+abbrev pub why_look : PlacedHistory → Why → List ℕ
+why_look log (why.Known r) = reason_look r
+why_look log (why.Forced k o) = codes "forced [" ++ decimal (k + 1) ++ codes "]\" color=\"orange"
+why_look log (why.Chosen o) = versions_text log o ++ codes "\" color=\"gray"
 
-abbrev pub why_kind : PlacedHistory → Why → List ℕ
-why_kind log (why.Known r) = reason_kind r
-why_kind log (why.Forced k o) = codes "forced [" ++ decimal (k + 1) ++ codes "]"
-why_kind log (why.Chosen o) = versions_text log o
-
-abbrev pub why_colour : Why → List ℕ
-why_colour (why.Known r) = reason_colour r
-why_colour (why.Forced k o) = codes "orange"
-why_colour (why.Chosen o) = codes "gray"
-
+-- `"1.1" -> "2.1" [label="read" color="blue"];`
 abbrev pub arrow_text : PlacedHistory → ℕ → ℕ → Why → List ℕ
-arrow_text log a b w =
-    quoted (named log a) ++ codes " -> " ++ quoted (named log b) ++ codes " [label="
-    ++ quoted (why_kind log w) ++ codes " color=" ++ quoted (why_colour w) ++ codes "];\n"
+arrow_text log a b w = codes "\"" ++ named log a ++ codes "\" -> \"" ++ named log b
+    ++ codes "\" [label=\"" ++ why_look log w ++ codes "\"];\n"
 
 abbrev pub arrow : PlacedHistory → Item → List ℕ
 arrow log (Edge a b w) = arrow_text log a b w

@@ -18,29 +18,27 @@ use Rattle.log_lines.specs.declared.placed.PlacedHistory.{PlacedHistory}
 abbrev pub indent : ℕ → List ℕ
 indent depth = replicate (2 * depth) 32
 
--- `[1] x: 25, which 2.1 wrote (line 9), comes before 20, which 1.1 wrote (line 4):`
-abbrev pub versions_line : PlacedHistory → ℕ → ChainOrder → List ℕ
-versions_line log number o = codes "[" ++ decimal number ++ codes "] "
-    ++ versions_text log o ++ codes ":\n"
+-- the end of a line: `x: 25, which 2.1 wrote (line 9), comes before 20, which 1.1 wrote (line 4):`
+abbrev pub versions_line : PlacedHistory → ChainOrder → List ℕ
+versions_line log o = versions_text log o ++ codes ":\n"
 
 -- by which read a walk from v ends at u, where that is not the writer of the second version itself
 abbrev pub reader_text : PlacedHistory → ChainOrder → ℕ → ℕ → List ℕ
 reader_text log o u v = if u == o.second then [] else since_text log o u v
 
 abbrev pub step_lines : PlacedHistory → ℕ → ChainOrder → ℕ → ℕ → List ℕ
-step_lines log number o u v = versions_line log number o ++ reader_text log o u v
+step_lines log number o u v = codes "[" ++ decimal number ++ codes "] " ++ versions_line log o
+    ++ reader_text log o u v
 
--- `suppose x: 25, which 2.1 wrote (line 9), comes before 20, which 1.1 wrote (line 4):`
 abbrev pub order_line : PlacedHistory → ChainOrder → List ℕ
-order_line log o = codes "suppose " ++ versions_text log o ++ codes ":\n"
-
-abbrev pub many_leaves : ℕ → List ℕ
-many_leaves count = codes ", " ++ decimal count ++ codes " in all; the first 1000 of them:\n"
+order_line log o = codes "suppose " ++ versions_line log o
 
 -- that a tree has several leaves; how many, where that is more than are told
 abbrev pub leaves_line : ℕ → List ℕ
-leaves_line count = codes "whichever of these versions came first, a cycle closes"
-    ++ (if nat_lt 1000 count then many_leaves count else codes ":\n")
+leaves_line count = if nat_lt 1000 count
+    then codes "whichever of these versions came first, a cycle closes, " ++ decimal count
+    ++ codes " in all; the first 1000 of them:\n"
+    else codes "whichever of these versions came first, a cycle closes:\n"
 
 abbrev pub item_line : PlacedHistory → Item → List ℕ
 item_line log (Step number o u v) = step_lines log number o u v

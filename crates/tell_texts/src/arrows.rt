@@ -1,6 +1,6 @@
 //! The arrows of a graph: edges, labelled and coloured by their kinds.
 
-ghost use Rattle.std.specs.Prelude.{◌≡◌, ◌+◌, ◌<◌, ◌^◌, ◌++◌, codes, decimal, OnOk};
+ghost use Rattle.std.specs.Prelude.{◌≡◌, ◌++◌, OnOk};
 ghost use Rattle.reason_laws.specs.Reasons.{IsNode};
 ghost use Rattle.tell_reasons.specs.Reasons.{CanTell};
 ghost use Rattle.tell_texts.specs.Graphs as spec;
@@ -10,60 +10,25 @@ use log_lines::PlacedHistory;
 use reasons::Reason;
 use serializability::NodeIx;
 use std::alloc::AllocError;
-use tell_reasons::{Why, put_named, put_number, put_versions};
+use tell_reasons::{Why, put_versions, say};
 use tell_steps::Item;
 
-/// The kind of a reason.
-fn reason_kind(reason: Reason) -> &'static str
-    ensures kind { result.now ≡ spec.reason_kind reason }
+/// The kind of a reason, and behind it the colour of an arrow for which there is such a one.
+fn reason_look(reason: Reason) -> &'static [u8]
+    ensures { result.now ≡ spec.reason_look reason }
 {
     match reason {
-        Reason::Session => "session",
-        Reason::Read { .. } => "read",
-        Reason::Overwritten { .. } => "anti-dependency",
-        Reason::Initial { .. } => "version order",
-        Reason::Moments => "moments",
+        Reason::Session => b"session\" color=\"black",
+        Reason::Read { .. } => b"read\" color=\"blue",
+        Reason::Overwritten { .. } => b"anti-dependency\" color=\"red",
+        Reason::Initial { .. } => b"version order\" color=\"darkgreen",
+        Reason::Moments => b"moments\" color=\"purple",
     }
 }
 
-/// The colour of an arrow for which there is such a reason.
-fn reason_colour(reason: Reason) -> &'static str
-    ensures colour { result.now ≡ spec.reason_colour reason }
-{
-    match reason {
-        Reason::Session => "black",
-        Reason::Read { .. } => "blue",
-        Reason::Overwritten { .. } => "red",
-        Reason::Initial { .. } => "darkgreen",
-        Reason::Moments => "purple",
-    }
-}
-
-/// The colour of an arrow.
-fn why_colour(why: &Why) -> &'static str
-    ensures colour { result.now ≡ spec.why_colour why.now }
-{
-    match why {
-        Why::Known(reason) => reason_colour(*reason),
-        Why::Forced { step: _, order: _ } => "orange",
-        Why::Chosen(_) => "gray",
-    }
-}
-
-/// Appends the number of a forced step, which count from 1 in a text.
-fn put_forced(out: &mut Vec<u8>, step: usize) -> Result<(), AllocError>
-    requires fits { step + 1 < 2 ^ 64 }
-    ensures text { OnOk result (out.new.items
-        ≡ out.old.items ++ (codes "forced [" ++ decimal (step + 1) ++ codes "]")) }
-{
-    out.extend_from_slice(b"forced [")?;
-    put_number(out, step as u64 + 1)?;
-    out.extend_from_slice(b"]")?;
-    Ok(())
-}
-
-/// Appends the kind of an edge.
-fn put_kind(
+/// Appends the kind of an edge, and behind it the colour of its arrow. Forced steps count from 1 in
+/// a text.
+fn put_look(
     out: &mut Vec<u8>,
     log: &PlacedHistory<'_>,
     first: NodeIx,
@@ -71,15 +36,16 @@ fn put_kind(
     why: Why,
 ) -> Result<(), AllocError>
     requires why { CanTell log.now.history.now first second why }
-    ensures text { OnOk result (out.new.items ≡ out.old.items ++ spec.why_kind log.now why) }
+    ensures text { OnOk result (out.new.items ≡ out.old.items ++ spec.why_look log.now why) }
 {
     match why {
-        Why::Known(reason) => {
-            out.extend_from_slice(reason_kind(reason).as_bytes())?;
-            Ok(())
+        Why::Known(reason) => say!(out, log; Text(reason_look(reason))),
+        Why::Forced { step, order: _ } => say!(out, log;
+            Text(b"forced ["), Number(step as u64 + 1), Text(b"]\" color=\"orange")),
+        Why::Chosen(order) => {
+            put_versions(out, log, order)?;
+            say!(out, log; Text(b"\" color=\"gray"))
         }
-        Why::Forced { step, order: _ } => put_forced(out, step),
-        Why::Chosen(order) => put_versions(out, log, order),
     }
 }
 
@@ -98,14 +64,10 @@ fn put_arrow(
     ensures text { OnOk result (out.new.items
         ≡ out.old.items ++ spec.arrow_text log.now first second why) }
 {
-    put_named(out, b"\"", log, first)?;
-    put_named(out, b"\" -> \"", log, second)?;
-    out.extend_from_slice(b"\" [label=\"")?;
-    put_kind(out, log, first, second, why)?;
-    out.extend_from_slice(b"\" color=\"")?;
-    out.extend_from_slice(why_colour(&why).as_bytes())?;
-    out.extend_from_slice(b"\"];\n")?;
-    Ok(())
+    say!(out, log; Text(b"\""), Node(first), Text(b"\" -> \""), Node(second),
+        Text(b"\" [label=\""))?;
+    put_look(out, log, first, second, why)?;
+    say!(out, log; Text(b"\"];\n"))
 }
 
 /// Appends the arrow of an item, where it is an edge.

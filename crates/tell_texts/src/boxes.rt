@@ -1,48 +1,19 @@
 //! The boxes of a graph: transactions, with those of their operations that the explanation names.
 
-ghost use Rattle.std.specs.Prelude.{◌≡◌, ◌<◌, ◌++◌, List, length, OnOk, if◌then◌else◌, []};
-ghost use Rattle.tell_steps.specs.declared.item.Item.{Item};
+ghost use Rattle.std.specs.Prelude.{◌≡◌, ◌<◌, ◌++◌, length, OnOk, if◌then◌else◌, []};
 ghost use Rattle.reason_laws.specs.Reasons.{IsNode};
 ghost use Rattle.log_definitions.specs.Numbers.{log_of};
 ghost use Rattle.log_definitions.specs.Serial.{ops_of};
-ghost use Rattle.tell_reasons.specs.Reasons.{op_at};
 ghost use Rattle.tell_texts.specs.Graphs as spec;
-ghost use Rattle.tell_texts.specs.Graphs.{AreMarks, names};
 ghost use Rattle.tell_texts.specs.Texts.{AreTellable};
 
 use crate::marks::marks_of;
 use log_lines::PlacedHistory;
+use serializability::NodeIx;
 use serializability::numbers::node as node_of;
-use serializability::{Event, NodeIx};
-use session_history::History;
 use std::alloc::{AllocError, Global};
-use tell_reasons::{put_key_and_wid, put_named, put_op_in_line};
+use tell_reasons::say;
 use tell_steps::Item;
-
-/// The word with which the line of an operation begins.
-fn word_of(event: Event) -> &'static str
-    ensures word { result.now ≡ spec.event_word event }
-{
-    match event {
-        Event::Read { .. } => "r ",
-        Event::Write { .. } => "w ",
-    }
-}
-
-/// Appends an operation as its line has it.
-fn put_words(
-    out: &mut Vec<u8>,
-    history: &History,
-    node: NodeIx,
-    op: usize,
-) -> Result<(), AllocError>
-    requires op { op < length (ops_of history.now node) }
-    ensures text { OnOk result (out.new.items
-        ≡ out.old.items ++ spec.op_words (op_at history.now node op)) }
-{
-    out.extend_from_slice(word_of(history.events_of(node)[op]).as_bytes())?;
-    put_key_and_wid(out, history, node, op)
-}
 
 /// Appends a line break of a label, an operation, and its line.
 fn put_op_label(
@@ -54,9 +25,7 @@ fn put_op_label(
     requires op { op < length (ops_of log.now.history.now node) }
     ensures text { OnOk result (out.new.items ≡ out.old.items ++ spec.op_label log.now node op) }
 {
-    out.extend_from_slice(b"\\n")?;
-    put_words(out, log.history, node, op)?;
-    put_op_in_line(out, log, node, op)
+    say!(out, log; Text(b"\\n"), Listed(node, op), AtLine(node, op))
 }
 
 /// Appends the label of an operation, where it is marked.
@@ -105,15 +74,12 @@ fn put_box(
 ) -> Result<(), AllocError>
     requires node { IsNode log.now.history.now node }
     requires marks { length marks.now ≡ length (ops_of log.now.history.now node) }
-    ensures text { OnOk result ((items : List Item)
-        → AreMarks (length (ops_of log.now.history.now node)) (names items node) marks.now →
-        out.new.items ≡ out.old.items ++ spec.box log.now items node) }
+    ensures text { OnOk result (out.new.items ≡ out.old.items ++ spec.box_with log.now node
+        (spec.op_labels log.now node (spec.is_marked marks.now) (length marks.now))) }
 {
-    put_named(out, b"\"", log, node)?;
-    put_named(out, b"\" [label=\"", log, node)?;
+    say!(out, log; Text(b"\""), Node(node), Text(b"\" [label=\""), Node(node))?;
     put_op_labels(out, log, node, marks)?;
-    out.extend_from_slice(b"\"];\n")?;
-    Ok(())
+    say!(out, log; Text(b"\"];\n"))
 }
 
 /// Appends the box of a node, where it takes part.
@@ -126,10 +92,9 @@ fn put_where_part(
 ) -> Result<(), AllocError>
     requires node { IsNode log.now.history.now node }
     requires marks { length marks.now ≡ length (ops_of log.now.history.now node) }
-    ensures text { OnOk result ((items : List Item)
-        → AreMarks (length (ops_of log.now.history.now node)) (names items node) marks.now →
-        out.new.items ≡ out.old.items ++ (if takes_part
-        then spec.box log.now items node else [])) }
+    ensures text { OnOk result (out.new.items ≡ out.old.items ++ (if takes_part
+        then spec.box_with log.now node (spec.op_labels log.now node (spec.is_marked marks.now)
+        (length marks.now)) else [])) }
 {
     if takes_part {
         put_box(out, log, node, marks)?;

@@ -1,7 +1,6 @@
 //! Explanations as text.
 
-ghost use Rattle.std.specs.Prelude.{◌≡◌, ◌<◌, ◌≤◌, ◌^◌, ◌*◌, ◌++◌, nat_lt, if◌then◌else◌};
-ghost use Rattle.std.specs.Prelude.{codes, false, OnOk};
+ghost use Rattle.std.specs.Prelude.{◌≡◌, ◌<◌, ◌≤◌, ◌^◌, ◌*◌, ◌++◌, false, OnOk};
 ghost use Rattle.log_definitions.specs.Numbers.{log_of};
 ghost use Rattle.tell_texts.specs.Texts as spec;
 ghost use Rattle.tell_texts.specs.Texts.{IsOrderOf, IsTellable, AreTellable};
@@ -9,7 +8,7 @@ ghost use Rattle.tell_texts.specs.Texts.{IsOrderOf, IsTellable, AreTellable};
 use log_lines::PlacedHistory;
 use serializability::NodeIx;
 use std::alloc::AllocError;
-use tell_reasons::{ChainOrder, put_edge, put_named, put_number, put_since, put_versions};
+use tell_reasons::{ChainOrder, put_edge, put_since, put_versions, say};
 use tell_steps::Item;
 
 /// Appends two blanks for each choice that is decided.
@@ -23,24 +22,17 @@ fn put_indent(out: &mut Vec<u8>, depth: usize) -> Result<(), AllocError>
     Ok(())
 }
 
-/// Appends the line that says which of two versions of a key comes first by a forced step.
-#[tactic(auto, using(std::proofs::Common::append_assoc))]
-fn put_forced(
+/// Appends which of two versions of a key comes first, and ends the line.
+fn put_order(
     out: &mut Vec<u8>,
     log: &PlacedHistory<'_>,
-    number: usize,
     order: ChainOrder,
 ) -> Result<(), AllocError>
     requires order { IsOrderOf log.now.history.now order }
-    ensures text { OnOk result (out.new.items
-        ≡ out.old.items ++ spec.versions_line log.now number order) }
+    ensures text { OnOk result (out.new.items ≡ out.old.items ++ spec.versions_line log.now order) }
 {
-    out.extend_from_slice(b"[")?;
-    put_number(out, number as u64)?;
-    out.extend_from_slice(b"] ")?;
     put_versions(out, log, order)?;
-    out.extend_from_slice(b":\n")?;
-    Ok(())
+    say!(out, log; Text(b":\n"))
 }
 
 /// Appends by which read a step's walk ends at this node, where that is not the writer of the
@@ -65,7 +57,6 @@ fn put_reader(
 }
 
 /// Appends the lines of a forced step, behind which its walk stands.
-#[tactic(auto, using(std::proofs::Common::append_assoc))]
 fn put_step(
     out: &mut Vec<u8>,
     log: &PlacedHistory<'_>,
@@ -80,13 +71,13 @@ fn put_step(
     ensures text { OnOk result (out.new.items
         ≡ out.old.items ++ spec.step_lines log.now number order source target) }
 {
-    put_forced(out, log, number, order)?;
+    say!(out, log; Text(b"["), Number(number as u64), Text(b"] "))?;
+    put_order(out, log, order)?;
     put_reader(out, log, &order, source, target)
 }
 
-/// Appends the line that says which of two versions of a key is supposed to come first.
-#[tactic(auto, using(std::proofs::Common::append_assoc))]
-fn put_order(
+/// Appends the line of what is supposed.
+fn put_supposed(
     out: &mut Vec<u8>,
     log: &PlacedHistory<'_>,
     order: ChainOrder,
@@ -94,52 +85,20 @@ fn put_order(
     requires order { IsOrderOf log.now.history.now order }
     ensures text { OnOk result (out.new.items ≡ out.old.items ++ spec.order_line log.now order) }
 {
-    out.extend_from_slice(b"suppose ")?;
-    put_versions(out, log, order)?;
-    out.extend_from_slice(b":\n")?;
-    Ok(())
-}
-
-/// Appends that a cycle begins at a node.
-fn put_start(out: &mut Vec<u8>, log: &PlacedHistory<'_>, start: NodeIx) -> Result<(), AllocError>
-    requires start { start ≤ (log_of log.now.history.now).nodes }
-    ensures text { OnOk result (out.new.items
-        ≡ out.old.items ++ spec.item_line log.now (Item.Cycle start 0)) }
-{
-    put_named(out, b"cycle from ", log, start)?;
-    out.extend_from_slice(b":\n")?;
-    Ok(())
-}
-
-/// Appends how many leaves there are, of which the first 1,000 are told.
-fn put_many(out: &mut Vec<u8>, count: usize) -> Result<(), AllocError>
-    ensures text { OnOk result (out.new.items ≡ out.old.items ++ spec.many_leaves count) }
-{
-    out.extend_from_slice(b", ")?;
-    put_number(out, count as u64)?;
-    out.extend_from_slice(b" in all; the first 1000 of them:\n")?;
-    Ok(())
-}
-
-/// Ends the line of so many leaves.
-fn put_count(out: &mut Vec<u8>, count: usize) -> Result<(), AllocError>
-    ensures text { OnOk result (out.new.items ≡ out.old.items
-        ++ (if nat_lt 1000 count then spec.many_leaves count else codes ":\n")) }
-{
-    if 1000 < count {
-        put_many(out, count)
-    } else {
-        out.extend_from_slice(b":\n")
-    }
+    say!(out, log; Text(b"suppose "))?;
+    put_order(out, log, order)
 }
 
 /// Appends that there are several leaves; how many, where that is more than are told.
-fn put_leaves(out: &mut Vec<u8>, count: usize) -> Result<(), AllocError>
+fn put_leaves(out: &mut Vec<u8>, log: &PlacedHistory<'_>, count: usize) -> Result<(), AllocError>
     ensures text { OnOk result (out.new.items ≡ out.old.items ++ spec.leaves_line count) }
 {
-    out.extend_from_slice(b"whichever of these versions came first, a cycle closes")?;
-    put_count(out, count)?;
-    Ok(())
+    if 1000 < count {
+        say!(out, log; Text(b"whichever of these versions came first, a cycle closes, "),
+            Number(count as u64), Text(b" in all; the first 1000 of them:\n"))
+    } else {
+        say!(out, log; Text(b"whichever of these versions came first, a cycle closes:\n"))
+    }
 }
 
 /// Appends the lines of an item.
@@ -155,9 +114,11 @@ fn put_item(out: &mut Vec<u8>, log: &PlacedHistory<'_>, item: Item) -> Result<()
             target,
         } => put_step(out, log, number, order, source, target),
         Item::Edge { first, second, why } => put_edge(out, log, first, second, why),
-        Item::Cycle { start, edges: _ } => put_start(out, log, start),
-        Item::Decided { depth: _, order } => put_order(out, log, order),
-        Item::Leaves { count } => put_leaves(out, count),
+        Item::Cycle { start, edges: _ } => {
+            say!(out, log; Text(b"cycle from "), Node(start), Text(b":\n"))
+        }
+        Item::Decided { depth: _, order } => put_supposed(out, log, order),
+        Item::Leaves { count } => put_leaves(out, log, count),
     }
 }
 

@@ -3,10 +3,10 @@ use Rattle.std.specs.Prelude.{if◌then◌else◌}
 use Rattle.log_definitions.specs.Numbers.{log_of}
 use Rattle.log_definitions.specs.Serial.{ops_of}
 use Rattle.reason_laws.proofs.Numbers.{node_from}
-use Rattle.tell_texts.specs.Graphs.{AreMarks, box, boxes, names, takes_part}
+use Rattle.tell_texts.specs.Graphs.{AreMarks, box, box_with, boxes, names, takes_part}
 use Rattle.tell_texts.proofs.Pieces.{appended, begun}
 use Rattle.tell_texts.proofs.Marking.{mark_at, marks_at}
-use Rattle.tell_texts.proofs.Drawn.{boxes_none, boxes_more}
+use Rattle.tell_texts.proofs.Drawn.{boxes_none, boxes_more, labels_marked}
 use Rattle.tell_texts.proofs.boxes.put_boxes.Goals as goal
 
 pub loop-number-init : goal.loop-number-init
@@ -41,7 +41,10 @@ loop-number-preserved c =
     (marks_at ss ((log_of ss).nodes + 1) (names items) table number c.index-operations.result.now marks within c.index-operations.ensures c.deref.ensures.value c.in_ok-marks.ensures.operations) in
     let part : c.index-takes_part.result.now ≡ takes_part items v =
     mark_at ((log_of ss).nodes + 1) (takes_part items) nodes number c.index-takes_part.result.now within c.index-takes_part.ensures c.in_ok-marks.ensures.nodes ∙ ap (takes_part items) (sym is) in
-    let put = c.in_ok-put_where_part.ensures.text items known ∙ ap (λ t. old ++ (if t then box log items v else [])) part in
+    let put =
+    c.in_ok-put_where_part.ensures.text
+    ∙ ap (λ labels. old ++ (if c.index-takes_part.result.now then box_with log v labels else [])) (labels_marked log items v marks known)
+    ∙ ap (λ t. old ++ (if t then box log items v else [])) part in
     let here : number + 1 - 1 ≡ v = omega (arith, is) in
     let before : v - 1 ≡ number - 1 = omega (arith, is) in
     let next = ap (λ n. boxes log items n) here ∙ boxes_more log items v low ∙ ap (λ n. boxes log items n ++ piece) before in

@@ -2,7 +2,7 @@ use Rattle.std.proofs.Common.{◌≡◌, ◌+◌, Bool, List, Vec, Global, false
 use Rattle.log_definitions.specs.Serial.{ops_of}
 use Rattle.tell_texts.specs.Graphs.{AreRows}
 use Rattle.tell_texts.proofs.Marking.{blank_marks, rows_more}
-use Rattle.tell_texts.proofs.Drawn.{event_count}
+use Rattle.tell_reasons.proofs.Ops.{event_count}
 use Rattle.tell_texts.proofs.marks.blank_operations.Goals as goal
 
 pub loop-number-preserved : goal.loop-number-preserved
