@@ -130,7 +130,7 @@ class Answer:
     def below(self, middle):
         """Takes the part that breaks the weakest level, the lines of weaker levels, and that of what holds without moments, from the end of these."""
         last = list(WEAKER)[-1]
-        broken = 'the whole log: %s not kept, as this part shows' % last
+        broken = 'the whole log: %s not kept, as the next part shows' % last
         if broken in middle[:-1]:
             place = middle.index(broken) + 1
             self.shown = Part(*middle[place:place + 2], middle[place + 2:])
@@ -140,7 +140,7 @@ class Answer:
             if found:
                 middle.pop()
                 self.weaker[level] = found[1]
-                shows = ', as %s' % ('shown above' if self.shown is None else 'this part shows') if (level, found[1]) == (last, 'not kept') else None
+                shows = ', as %s' % ('shown above' if self.shown is None else 'the next part shows') if (level, found[1]) == (last, 'not kept') else None
                 must(found[2] == shows, 'what shows it: %r' % found[0])
         must(not self.weaker or 'snapshot isolation' in self.weaker, 'levels: %r' % self.weaker)
         if middle and middle[-1].startswith('the whole log without real time: '):

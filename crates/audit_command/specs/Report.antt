@@ -149,7 +149,7 @@ level_row level (Some word) = kept_line level word ++ 10 ∷ []
 -- which part shows that a level was not kept: one that stands above, or this one
 unfoldable pub shown_text : Word → Option ToldPart → List ℕ
 shown_text word.NotSerializable None = codes ", as shown above\n"
-shown_text word.NotSerializable (Some p) = codes ", as this part shows\n" ++ part_text p
+shown_text word.NotSerializable (Some p) = codes ", as the next part shows\n" ++ part_text p
 shown_text _ _ = 10 ∷ []
 
 -- of snapshot isolation a line, and the part that shows that it was not kept

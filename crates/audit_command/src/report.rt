@@ -306,7 +306,7 @@ fn put_shown(out: &mut Vec<u8>, word: Word, shown: &Option<ToldPart>) -> Result<
         Word::NotSerializable => match shown {
             None => put(out, b", as shown above\n"),
             Some(part) => {
-                put(out, b", as this part shows\n")?;
+                put(out, b", as the next part shows\n")?;
                 put_part(out, part)
             }
         },
