@@ -171,7 +171,7 @@ fn see_open(rt: &impl Abort, verdict: &Verdict, want: Why, became: Tried) {
 }
 
 const LARGE: Why = Why::TooLarge {
-    which: Limit::Sessions,
+    which: Limit::Committed,
 };
 
 /// Whatever is proposed, a small log is decided; and what is told is the lost update with whom it
@@ -192,13 +192,17 @@ fn small_logs(rt: HostRuntime) {
 #[test]
 fn large_logs_with_an_order(rt: HostRuntime) {
     let alloc = rt.alloc();
-    let good = chain(&rt, alloc, 100, false);
-    see_serial(&rt, &said(&rt, alloc, &good, &order(&rt, alloc, 100)), 100);
-    let verdict = said(&rt, alloc, &good, &order(&rt, alloc, 99));
+    let good = chain(&rt, alloc, 1_100, false);
+    see_serial(
+        &rt,
+        &said(&rt, alloc, &good, &order(&rt, alloc, 1_100)),
+        1_100,
+    );
+    let verdict = said(&rt, alloc, &good, &order(&rt, alloc, 1_099));
     see_open(&rt, &verdict, LARGE, Tried::NotSerial);
-    let verdict = said(&rt, alloc, &good, &part(&rt, alloc, 100, 90));
+    let verdict = said(&rt, alloc, &good, &part(&rt, alloc, 1_100, 1_090));
     see_open(&rt, &verdict, LARGE, Tried::PartSerial);
-    let verdict = said(&rt, alloc, &good, &stuck(&rt, alloc, 100, 10));
+    let verdict = said(&rt, alloc, &good, &stuck(&rt, alloc, 1_100, 10));
     see_open(&rt, &verdict, LARGE, Tried::PartOpen(LARGE));
 }
 
@@ -207,14 +211,26 @@ fn large_logs_with_an_order(rt: HostRuntime) {
 #[test]
 fn large_logs_with_none(rt: HostRuntime) {
     let alloc = rt.alloc();
-    let bad = chain(&rt, alloc, 100, true);
-    see_part(&rt, &said(&rt, alloc, &bad, &part(&rt, alloc, 100, 90)), 3);
-    see_part(&rt, &said(&rt, alloc, &bad, &stuck(&rt, alloc, 100, 50)), 3);
-    let mut text = chain_text(alloc, 99, false).expect(&rt, "memory");
-    text.push_str("session 100\nbegin\nr x 777\ncommit\n")
+    let bad = chain(&rt, alloc, 1_100, true);
+    see_part(
+        &rt,
+        &said(&rt, alloc, &bad, &part(&rt, alloc, 1_100, 1_090)),
+        3,
+    );
+    see_part(
+        &rt,
+        &said(&rt, alloc, &bad, &stuck(&rt, alloc, 1_100, 1_050)),
+        3,
+    );
+    let mut text = chain_text(alloc, 1_099, false).expect(&rt, "memory");
+    text.push_str("session 1100\nbegin\nr x 777\ncommit\n")
         .expect(&rt, "memory");
     let log = known_log(&rt, alloc, &text);
-    see_part(&rt, &said(&rt, alloc, &log, &part(&rt, alloc, 100, 90)), 1);
+    see_part(
+        &rt,
+        &said(&rt, alloc, &log, &part(&rt, alloc, 1_100, 1_090)),
+        1,
+    );
 }
 
 /// A write whose client was not told, and a reader of it that had ended before.
