@@ -33,7 +33,7 @@ use Rattle.audit_command.specs.Levels.{asks_moments}
 use Rattle.audit_command.specs.Words.{status_of}
 use Rattle.audit_command.specs.Places.{told_by}
 use Rattle.audit_command.specs.Report.{report_text}
-use Rattle.audit_command.specs.Why.{IsWhyWhere}
+use Rattle.audit_command.specs.Why.{IsWhyWhere, IsWhy, IsNamed}
 use Rattle.audit_command.specs.Objects.{report_object, refusal_object, parts_of}
 use Rattle.audit_command.specs.declared.options.AuditOptions.{AuditOptions}
 use Rattle.audit_command.specs.declared.told.ToldPart.{ToldPart}
@@ -76,6 +76,8 @@ pub record IsPartTold (o : AuditOptions) (n : ℕ) (ss : List ClientSession) (p 
   pub part : IsToldPart o.means.level ss p.refuted
   pub txns : p.txns.items ≡ told_by p.refuted.flags n (resolved ss)
   pub why : IsWhyWhere o.explain o.means n (resolved ss) p.refuted p.why.items
+  pub named : (text : List ℕ) × IsWhy o.means n (resolved ss) p.refuted text
+      × IsNamed o.means.level p.refuted.finding p.known_as text
 
 abbrev pub AreToldParts : AuditOptions → ℕ → List ClientSession → List ToldPart → Type 0
 AreToldParts o n ss parts = AllByRecursion (IsPartTold o n ss) parts

@@ -1,11 +1,19 @@
 -- Why a part has no serial order, in the names and the lines of the whole log.
-use Rattle.std.specs.Prelude.{◌≡◌, ◌⊎◌, ◌<◌, ℕ, Bool, true, false, List, [], ◌∷◌, length, map, codes}
-use Rattle.std.specs.Prelude.{Option, None, Some, Vec}
+use Rattle.std.specs.Prelude.{◌≡◌, ◌⊎◌, ◌<◌, ℕ, Bool, true, false, List, [], ◌∷◌, ◌++◌, length, map}
+use Rattle.std.specs.Prelude.{codes, Option, None, Some, IfSome, Vec, String}
+use Rattle.std.specs.List.{Contains}
+use Rattle.std.specs.Option.{option_map}
+use Rattle.std.specs.String.{string_bytes}
 use Rattle.std.specs.declared.alloc.Global.{Global}
 use Rattle.session_log.specs.Text.{ClientSession, view}
+use Rattle.session_log.specs.Lines.{lines}
 use Rattle.session_log.specs.Version.{first_line}
 use Rattle.session_log.specs.declared.fault.LogFault.{LogFault}
 use Rattle.session_log.specs.declared.version.Version.TheVariants.{One}
+use Rattle.serializability.specs.declared.anomaly.Anomaly.{Anomaly}
+use Rattle.serializability.specs.declared.anomaly.Anomaly.TheVariants as anomaly
+use Rattle.serializability.specs.declared.anomaly.ReadAnomaly.{ReadAnomaly}
+use Rattle.serializability.specs.declared.anomaly.ReadAnomaly.TheVariants as read
 use Rattle.log_definitions.specs.WellFormed.{log_lines, list_fault}
 use Rattle.log_parts.specs.Picked.{flags_view, picked, is_kept}
 use Rattle.log_lines.specs.Rows.{Table, own_places}
@@ -76,6 +84,36 @@ IsWhyAt level.Snapshot budget n known p text = Unit {0}
 -- the same of the level that is judged
 abbrev pub IsWhy : JudgeMeans → ℕ → List ClientSession → RefutedPart → List ℕ → Type 0
 IsWhy m n known p text = IsWhyAt m.level m.deciding.budget n known p text
+
+-- ---- what the field calls it
+abbrev pub read_name : ReadAnomaly → Option (List ℕ)
+read_name read.Unknown = None
+read_name read.Aborted = Some (codes "aborted read (G1a)")
+read_name read.Intermediate = Some (codes "intermediate read (G1b)")
+read_name read.OwnWriteMissed = Some (codes "own write missed (internal)")
+read_name read.Future = Some (codes "future read (internal)")
+read_name read.Split = Some (codes "non-repeatable read (internal)")
+
+abbrev pub anomaly_name : Anomaly → Option (List ℕ)
+anomaly_name (anomaly.Read kind v op) = read_name kind
+anomaly_name (anomaly.LostUpdate x u a b) = Some (codes "lost update (G-single)")
+
+-- a line of the text has this name
+pub record IsKnownAs (name text : List ℕ) : Type 0 where
+  pub ended : Bool
+  pub line : Contains (lines text) (codes "known as: " ++ name, ended)
+
+-- by what was found: an anomaly has its name, the formula none, and the name of any other finding
+-- stands in the text that says why
+abbrev pub IsNamedBy : Finding → Option (String Global) → List ℕ → Type 0
+IsNamedBy (finding.Anomaly a) name text = option_map string_bytes name ≡ anomaly_name a
+IsNamedBy finding.Formula name text = name ≡ None
+IsNamedBy _ name text = IfSome name (λ called. IsKnownAs (string_bytes called) text)
+
+-- at a level of snapshots the name is free
+abbrev pub IsNamed : Level → Finding → Option (String Global) → List ℕ → Type 0
+IsNamed level.Serializable f name text = IsNamedBy f name text
+IsNamed level.Snapshot f name text = Unit {0}
 
 -- where it is asked for
 abbrev pub IsWhyWhere : Bool → JudgeMeans → ℕ → List ClientSession → RefutedPart → List ℕ → Type 0

@@ -1,6 +1,6 @@
 //! Why a part has no order, in lines, in the names and the lines of the whole log.
 
-ghost use Rattle.std.specs.Prelude.{◌≡◌, ◌+◌, ◌<◌, ◌^◌, length, map, IfOk, MatchOption};
+ghost use Rattle.std.specs.Prelude.{◌≡◌, ◌+◌, ◌<◌, ◌^◌, length, map, IfOk, IfSome, MatchOption};
 ghost use Rattle.std.specs.List.{flat_map, AllByRecursion};
 ghost use Rattle.session_log.specs.Text.{IsLegal, view, view_txn, txn_lines};
 ghost use Rattle.log_definitions.specs.WellFormed.{log_lines};
@@ -10,7 +10,8 @@ ghost use Rattle.polygraph.specs.declared.fault.PolyFault.TheVariants.{TooManyCh
 ghost use Rattle.reduction.specs.Outcome.{IsReduceFault};
 ghost use Rattle.deciding.specs.Decides.{Decides};
 ghost use Rattle.judging.specs.Made.{IsMadeOf};
-ghost use Rattle.audit_command.specs.Why.{table_of, Explains, IsTooLarge, IsSerialWhy};
+ghost use Rattle.audit_command.specs.Why.{table_of, Explains, IsTooLarge, IsSerialWhy, IsKnownAs};
+ghost use Rattle.std.specs.String.{string_bytes};
 
 use crate::places::{behind, sum};
 use call_options::Format;
@@ -22,7 +23,7 @@ use log_parts::copy_log;
 use part_places::part_places;
 use polygraph::PolyFault;
 use session_history::History;
-use session_log::{LogFault, Session, Txn, Version};
+use session_log::{LogFault, Session, Txn, Version, next_line};
 use std::alloc::{AllocError, Global};
 use std::sync::Wait;
 use std::thread::Threads;
@@ -36,7 +37,7 @@ pub const MANY_LINES: usize = 1_000_000_000;
 pub const SEARCH_SHOWS: &[u8] = b"no order of them is left: a search shows it\n";
 
 /// What stands before the name that the field has for a fault.
-const KNOWN_AS: &str = "known as: ";
+const KNOWN_AS: &[u8] = b"known as: ";
 
 /// Why a part has no order.
 #[derive(Drop)]
@@ -160,15 +161,30 @@ fn text_of_part<R: Threads + Wait + Clock + Sync>(
     }
 }
 
-/// The name that the field has for a fault, where a line of a text tells it.
-fn name_in(alloc: Global, text: &[u8]) -> Result<Option<String>, AllocError> {
-    let mut found = None;
-    for line in std::str::from_utf8(text).unwrap_or("").lines() {
-        if let Some(name) = line.strip_prefix(KNOWN_AS) {
-            found = Some(String::from_str(alloc, name)?);
-        }
+/// These bytes, where they are a text.
+fn owned_text(alloc: Global, bytes: &[u8]) -> Result<Option<String>, AllocError>
+    ensures text { IfOk result (λ told. IfSome told (λ text. string_bytes text ≡ bytes.now)) }
+{
+    match std::str::from_utf8(bytes) {
+        Ok(text) => Ok(Some(String::from_str(alloc, text)?)),
+        Err(_) => Ok(None),
     }
-    Ok(found)
+}
+
+/// The name that the field has for a fault, where a line of a text tells it.
+fn name_in(alloc: Global, text: &[u8]) -> Result<Option<String>, AllocError>
+    ensures named { IfOk result (λ told. IfSome told (λ name.
+        IsKnownAs (string_bytes name) text.now)) }
+{
+    let mut rest = text;
+    while !rest.is_empty() {
+        let (line, _, after) = next_line(rest);
+        if let Some(name) = line.strip_prefix(KNOWN_AS) {
+            return owned_text(alloc, name);
+        }
+        rest = after;
+    }
+    Ok(None)
 }
 
 /// Why a part of these sessions, which are those of a log of this version with their outcomes
@@ -186,6 +202,8 @@ pub fn explain_serial<R: Threads + Wait + Clock + Sync>(
     ensures why { IfOk result (λ told.
         IsSerialWhy means.now.budget (first_line version) (map view sessions.now) refuted.now
         told.text.items) }
+    ensures named { IfOk result (λ told. IfSome told.known_as (λ name.
+        IsKnownAs (string_bytes name) told.text.items)) }
 {
     match text_of_part(rt, alloc, version, sessions, refuted, means)? {
         Some(text) => {

@@ -1,11 +1,13 @@
 //! Why a part has no order of the level at which it was judged.
 
-ghost use Rattle.std.specs.Prelude.{map, IfOk};
+ghost use Rattle.std.specs.Prelude.{◌≡◌, map, IfOk};
+ghost use Rattle.std.specs.Option.{option_map};
+ghost use Rattle.std.specs.String.{string_bytes};
 ghost use Rattle.std.specs.List.{AllByRecursion};
 ghost use Rattle.session_log.specs.Text.{IsLegal, view};
 ghost use Rattle.session_log.specs.Version.{first_line};
 ghost use Rattle.judging.specs.Made.{IsMadeOf};
-ghost use Rattle.audit_command.specs.Why.{IsWhyOf, IsWhy};
+ghost use Rattle.audit_command.specs.Why.{IsWhyOf, IsWhy, IsNamedBy, IsNamed, anomaly_name};
 
 use crate::explaining::{
     Explained, MANY_LINES, SEARCH_SHOWS, explain_serial, line_count, places_of,
@@ -54,7 +56,10 @@ fn below_snapshot(alloc: Global, explained: Explained) -> Result<Explained, Allo
     })
 }
 
-fn owned(alloc: Global, name: Option<&'static str>) -> Result<Option<String>, AllocError> {
+fn owned(alloc: Global, name: Option<&'static str>) -> Result<Option<String>, AllocError>
+    ensures text { IfOk result (λ text. option_map string_bytes text
+        ≡ option_map (λ told. told.now) name) }
+{
     match name {
         Some(name) => Ok(Some(String::from_str(alloc, name)?)),
         None => Ok(None),
@@ -110,7 +115,9 @@ fn explain_points(
 }
 
 /// What the field calls an anomaly, where it has a name.
-fn name_of(anomaly: Anomaly) -> Option<&'static str> {
+fn name_of(anomaly: Anomaly) -> Option<&'static str>
+    ensures name { option_map (λ told. told.now) result ≡ anomaly_name anomaly }
+{
     match anomaly {
         Anomaly::Read { kind, .. } => match kind {
             ReadAnomaly::Unknown => None,
@@ -171,6 +178,8 @@ fn explain_order<R: Threads + Wait + Clock + Sync>(
     requires made { IsMadeOf (map view sessions.now) refuted.now }
     ensures why { IfOk result (λ told. IsWhyOf refuted.now.finding means.now.budget
         (first_line version) (map view sessions.now) refuted.now told.text.items) }
+    ensures named { IfOk result (λ told. IsNamedBy refuted.now.finding told.known_as
+        told.text.items) }
 {
     match refuted.finding {
         Finding::Formula => Ok(Explained {
@@ -204,6 +213,8 @@ pub fn explain_part<R: Threads + Wait + Clock + Sync>(
     requires made { IsMadeOf (map view sessions.now) refuted.now }
     ensures why { IfOk result (λ told. IsWhy means.now (first_line version)
         (map view sessions.now) refuted.now told.text.items) }
+    ensures named { IfOk result (λ told. IsNamed means.now.level refuted.now.finding
+        told.known_as told.text.items) }
 {
     let deciding = &means.deciding;
     match means.level {
