@@ -1,5 +1,5 @@
 -- What a search was begun of.
-use Rattle.std.proofs.Common.{◌≡◌, true, List, cc}
+use Rattle.std.proofs.Common.{◌≡◌, true, List}
 use Rattle.session_log.specs.Text.{ClientSession}
 use Rattle.judging.specs.Judges.{IsLeftOpen}
 use Rattle.judging.specs.Finds.{IsFound, is_spent, of_serial}
