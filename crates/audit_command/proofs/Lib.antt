@@ -6,3 +6,4 @@ mod Doubles
 mod Points
 mod Resolved
 mod Weaker
+mod Searched

@@ -146,10 +146,14 @@ unfoldable pub level_row : Isolation → Option Word → List ℕ
 level_row level None = []
 level_row level (Some word) = kept_line level word ++ 10 ∷ []
 
+-- that a part shows it, and the part
+unfoldable pub next_text : ToldPart → List ℕ
+next_text p = codes ", as the next part shows\n" ++ part_text p
+
 -- which part shows that a level was not kept: one that stands above, or this one
 unfoldable pub shown_text : Word → Option ToldPart → List ℕ
 shown_text word.NotSerializable None = codes ", as shown above\n"
-shown_text word.NotSerializable (Some p) = codes ", as the next part shows\n" ++ part_text p
+shown_text word.NotSerializable (Some p) = next_text p
 shown_text _ _ = 10 ∷ []
 
 -- of snapshot isolation a line, and the part that shows that it was not kept

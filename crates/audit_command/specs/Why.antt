@@ -60,8 +60,8 @@ pub record Explains (budget : ℕ) (ss : List ClientSession) (table : Table) (te
 -- a part of these sessions is too large to be told: they have more lines than any log, or the part
 -- has; or `check` takes no log of the part, since it breaks a limit or has too many choices
 pub data IsTooLarge (known part : List ClientSession) : Type 0 where
-  lines : MANY_LINES < length (log_lines known) → IsTooLarge known part
-  part_lines : MANY_LINES < length (log_lines part) → IsTooLarge known part
+  long_log : MANY_LINES < length (log_lines known) → IsTooLarge known part
+  long_part : MANY_LINES < length (log_lines part) → IsTooLarge known part
   limit : (f : LogFault) → list_fault (first_line One) part ≡ Some f → IsTooLarge known part
   choices : IsReduceFault part TooManyChoices → IsTooLarge known part
 

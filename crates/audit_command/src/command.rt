@@ -152,7 +152,9 @@ pub fn audit<R: Threads + Wait + Clock + Eprint + Sync, P: Progress>(
                 Err(AllocError) => Err(Refusal::Memory),
             }
         }
-        Err(LogFault::Memory) => Err(Refusal::Memory),
-        Err(fault) => Err(refused(alloc, log, fault, options)),
+        Err(fault) => match fault {
+            LogFault::Memory => Err(Refusal::Memory),
+            _ => Err(refused(alloc, log, fault, options)),
+        },
     }
 }

@@ -156,8 +156,10 @@ fn text_of_part<R: Threads + Wait + Clock + Sync>(
     let places = places_of(alloc, version, sessions, refuted)?;
     match History::build(alloc, Version::One, copy_log(alloc, &refuted.part)?) {
         Ok(history) => text_of_history(rt, alloc, &history, &places, means),
-        Err(LogFault::Memory) => Err(AllocError),
-        Err(_) => Ok(None),
+        Err(fault) => match fault {
+            LogFault::Memory => Err(AllocError),
+            _ => Ok(None),
+        },
     }
 }
 

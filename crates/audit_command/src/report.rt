@@ -7,7 +7,7 @@ ghost use Rattle.audit_command.specs.Report.{middle_text, without_text, part_siz
 ghost use Rattle.audit_command.specs.Report.{parts_text, first_size, report_text, too_few, heading_of};
 ghost use Rattle.audit_command.specs.Report.{listed, codes_where, behind_first, level_text, reason_line};
 ghost use Rattle.audit_command.specs.Report.{level_row, weaker_text, short_title, found_text};
-ghost use Rattle.audit_command.specs.Report.{kept_line, snapshot_rows, shown_text};
+ghost use Rattle.audit_command.specs.Report.{kept_line, snapshot_rows, shown_text, next_text};
 
 use crate::codes::{code_number, finding_title, kept_text, verdict_text, word_of, word_text};
 use crate::lines::{put, put_count, put_line, put_lines, put_name, put_number};
@@ -295,6 +295,15 @@ fn put_level_row(out: &mut Vec<u8>, level: Isolation, word: Option<Word>) -> Res
     }
 }
 
+/// Ends a line by saying that a part shows it, and appends the part.
+#[tactic(auto, unfolding(crate::specs::Report::next_text))]
+fn put_next(out: &mut Vec<u8>, part: &ToldPart) -> Result<(), AllocError>
+    ensures put { OnOk result (out.new.items ≡ out.old.items ++ next_text part.now) }
+{
+    put(out, b", as the next part shows\n")?;
+    put_part(out, part)
+}
+
 /// Ends the line of a level, and appends the part that shows that it was not kept, unless one above
 /// does.
 #[tactic(auto, unfolding(crate::specs::Report::shown_text))]
@@ -305,10 +314,7 @@ fn put_shown(out: &mut Vec<u8>, word: Word, shown: &Option<ToldPart>) -> Result<
         Word::Serializable | Word::Unknown => put(out, b"\n"),
         Word::NotSerializable => match shown {
             None => put(out, b", as shown above\n"),
-            Some(part) => {
-                put(out, b", as the next part shows\n")?;
-                put_part(out, part)
-            }
+            Some(part) => put_next(out, part),
         },
     }
 }

@@ -1,13 +1,14 @@
 //! Why a part has no order of the level at which it was judged.
 
-ghost use Rattle.std.specs.Prelude.{◌≡◌, map, IfOk};
+ghost use Rattle.std.specs.Prelude.{◌≡◌, map, IfOk, Some};
 ghost use Rattle.std.specs.Option.{option_map};
 ghost use Rattle.std.specs.String.{string_bytes};
 ghost use Rattle.std.specs.List.{AllByRecursion};
 ghost use Rattle.session_log.specs.Text.{IsLegal, view};
 ghost use Rattle.session_log.specs.Version.{first_line};
 ghost use Rattle.judging.specs.Made.{IsMadeOf};
-ghost use Rattle.audit_command.specs.Why.{IsWhyOf, IsWhy, IsNamedBy, IsNamed, anomaly_name};
+ghost use Rattle.audit_command.specs.Why.{IsWhyOf, IsWhy, IsNamedBy, IsNamed};
+ghost use Rattle.audit_command.specs.Why.{read_name, anomaly_name};
 
 use crate::explaining::{
     Explained, MANY_LINES, SEARCH_SHOWS, explain_serial, line_count, places_of,
@@ -27,6 +28,10 @@ use tell_snapshots::{Told, tell_snapshots};
 const NO_POINTS_LEFT: &str = "no order of their snapshots and commits is left: a search shows it";
 
 const NO_SERIAL_ORDER: &str = "why they have no serial order either:";
+
+const ABORTED_READ: &str = "aborted read (G1a)";
+
+const INTERMEDIATE_READ: &str = "intermediate read (G1b)";
 
 /// What stands in the names of faults that snapshot isolation allows.
 const ALLOWED: &str = "(G2-";
@@ -56,10 +61,7 @@ fn below_snapshot(alloc: Global, explained: Explained) -> Result<Explained, Allo
     })
 }
 
-fn owned(alloc: Global, name: Option<&'static str>) -> Result<Option<String>, AllocError>
-    ensures text { IfOk result (λ text. option_map string_bytes text
-        ≡ option_map (λ told. told.now) name) }
-{
+fn owned(alloc: Global, name: Option<&'static str>) -> Result<Option<String>, AllocError> {
     match name {
         Some(name) => Ok(Some(String::from_str(alloc, name)?)),
         None => Ok(None),
@@ -114,31 +116,45 @@ fn explain_points(
     }
 }
 
+fn named(alloc: Global, name: &str) -> Result<Option<String>, AllocError>
+    ensures text { IfOk result (λ text. option_map string_bytes text ≡ Some name.now) }
+{
+    Ok(Some(String::from_str(alloc, name)?))
+}
+
+/// What the field calls a read that is an anomaly, where it has a name.
+fn read_name(alloc: Global, kind: ReadAnomaly) -> Result<Option<String>, AllocError>
+    ensures name { IfOk result (λ text. option_map string_bytes text ≡ read_name kind) }
+{
+    match kind {
+        ReadAnomaly::Unknown => Ok(None),
+        ReadAnomaly::Aborted => named(alloc, ABORTED_READ),
+        ReadAnomaly::Intermediate => named(alloc, INTERMEDIATE_READ),
+        ReadAnomaly::OwnWriteMissed => named(alloc, "own write missed (internal)"),
+        ReadAnomaly::Future => named(alloc, "future read (internal)"),
+        ReadAnomaly::Split => named(alloc, "non-repeatable read (internal)"),
+    }
+}
+
 /// What the field calls an anomaly, where it has a name.
-fn name_of(anomaly: Anomaly) -> Option<&'static str>
-    ensures name { option_map (λ told. told.now) result ≡ anomaly_name anomaly }
+fn anomaly_name(alloc: Global, anomaly: Anomaly) -> Result<Option<String>, AllocError>
+    ensures name { IfOk result (λ text. option_map string_bytes text ≡ anomaly_name anomaly) }
 {
     match anomaly {
-        Anomaly::Read { kind, .. } => match kind {
-            ReadAnomaly::Unknown => None,
-            ReadAnomaly::Aborted => Some("aborted read (G1a)"),
-            ReadAnomaly::Intermediate => Some("intermediate read (G1b)"),
-            ReadAnomaly::OwnWriteMissed => Some("own write missed (internal)"),
-            ReadAnomaly::Future => Some("future read (internal)"),
-            ReadAnomaly::Split => Some("non-repeatable read (internal)"),
-        },
-        Anomaly::LostUpdate { .. } => Some("lost update (G-single)"),
+        Anomaly::Read { kind, .. } => read_name(alloc, kind),
+        Anomaly::LostUpdate { .. } => named(alloc, "lost update (G-single)"),
     }
 }
 
 /// The name of a read that no order has, neither a serial one nor one of snapshots.
 fn name_at_snapshots(anomaly: Anomaly) -> Option<&'static str> {
     match anomaly {
-        Anomaly::Read {
-            kind: ReadAnomaly::Aborted | ReadAnomaly::Intermediate,
-            ..
-        } => name_of(anomaly),
-        _ => None,
+        Anomaly::Read { kind, .. } => match kind {
+            ReadAnomaly::Aborted => Some(ABORTED_READ),
+            ReadAnomaly::Intermediate => Some(INTERMEDIATE_READ),
+            _ => None,
+        },
+        Anomaly::LostUpdate { .. } => None,
     }
 }
 
@@ -190,7 +206,7 @@ fn explain_order<R: Threads + Wait + Clock + Sync>(
             let explained = explain_serial(rt, alloc, version, sessions, refuted, means)?;
             Ok(Explained {
                 text: explained.text,
-                known_as: owned(alloc, name_of(anomaly))?,
+                known_as: anomaly_name(alloc, anomaly)?,
             })
         }
         Finding::Cycle | Finding::Dead | Finding::Refuted => {
