@@ -223,7 +223,7 @@ fn large_logs_with_none(rt: HostRuntime) {
         3,
     );
     let mut text = chain_text(alloc, 1_099, false).expect(&rt, "memory");
-    text.push_str("session 1100\nbegin\nr x 777\ncommit\n")
+    text.push_str("session 1100\nbegin\nr x 7777\ncommit\n")
         .expect(&rt, "memory");
     let log = known_log(&rt, alloc, &text);
     see_part(
