@@ -230,7 +230,7 @@ def check_files(sessions, text, law, path):
     with open(path, 'rb') as log, open(path + '.map') as numbers:
         said, numbers = log.read(), [int(line) for line in numbers]
     plain = [(number, [it for _, it in its]) for number, its in law]
-    must(reference.read_log(said) == plain, 'the file of the part is %r, wanted %r' % (said, plain))
+    must(read_long(said) == plain, 'the file of the part is %r, wanted %r' % (said, plain))
     must(reference.version_of(said) == reference.least_version(plain), 'the version of the part: %r' % said[:6])
     lines, whole = said.decode().split('\n')[:-1], text.decode().split('\n')
     must(len(lines) == len(numbers) and all(a < b for a, b in zip(numbers, numbers[1:])), 'the map has lines %r' % numbers)
@@ -268,8 +268,11 @@ def renamed(checked, names):
 
 
 def check_code(program, said, part):
-    """That `check` says of the part's file what is told of it; gives what it says."""
+    """That `check` says of the part's file what is told of it, unless the part has more sessions than it takes; gives what it says."""
     checked = call(program, 'check', '--strategy', 'forced', '--workers', '1', text=said)
+    if len(read_long(said)) > reference.LIMITS['sessions']:
+        must(checked == (2, '', 'refused: L7 sessions\n'), '`check` says of a part of many sessions %r' % (checked,))
+        return checked[1]
     title = 'every cube is refuted' if part.title == 'the formula is refuted' else part.title
     must(checked[0] == 1 and checked[1].startswith('not serializable: ' + title), '`check` says of the part %r, told is %r' % (checked, part.title))
     return checked[1]
