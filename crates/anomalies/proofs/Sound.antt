@@ -4,7 +4,7 @@ use Rattle.std.proofs.Common.{◌≡◌, ℕ, zero, suc, ◌<◌, not, List, [],
 use Rattle.std.specs.Prelude.{map, slice_get}
 use Rattle.std.specs.List.{filter, AllByRecursion, Contains}
 use Rattle.std.proofs.lemmas.List.{append_cancel_left}
-use Rattle.session_log.specs.Text.{ClientSession, Transaction}
+use Rattle.session_log.specs.Text.{ClientSession, Transaction, key_of as op_key}
 use Rattle.session_log.specs.declared.session.Op.{Op}
 use Rattle.serializability.specs.declared.event.Event.{Event}
 use Rattle.serializability.specs.declared.event.Event.TheVariants.{Write}
@@ -12,7 +12,7 @@ use Rattle.serializability.specs.Log.{Log}
 use Rattle.serializability.specs.Reads.{IsNumbered}
 use Rattle.serializability.proofs.Places.{Apart-from_IsDistinct}
 use Rattle.log_definitions.specs.Unknown.{txns_in, ops_in, is_committed, resolved}
-use Rattle.log_definitions.specs.WellFormed.{keys_in, key_of as op_key, written}
+use Rattle.log_definitions.specs.WellFormed.{keys_in, written}
 use Rattle.log_definitions.specs.Serial.{ops_of}
 use Rattle.log_definitions.specs.Numbers.{events_of, log_of, IsWellFormedList}
 use Rattle.log_definitions.proofs.Keys.{Listed, all_listed, number_below}

@@ -10,11 +10,11 @@ use Rattle.key_tables.specs.Table.{mark_of, entry_cmp, held_in}
 use Rattle.std.proofs.lemmas.List.{map-append}
 use Rattle.std.proofs.lemmas.List.Folds.{list_any-append}
 use Rattle.std.proofs.lemmas.Grind.{flat_map-append}
-use Rattle.session_log.specs.Text.{ClientSession, Transaction, view}
+use Rattle.session_log.specs.Text.{ClientSession, Transaction, view, key_of}
 use Rattle.session_log.specs.declared.session.Op.{Op}
 use Rattle.session_log.specs.declared.session.Session.{Session}
 use Rattle.log_definitions.specs.Unknown.{ops_in, txns_in}
-use Rattle.log_definitions.specs.WellFormed.{first_seen, key_of}
+use Rattle.log_definitions.specs.WellFormed.{first_seen}
 use Rattle.session_history.proofs.Seen.{seen_append, first_seen_known}
 use Rattle.session_history.proofs.Stepping.{step_itself, step_in}
 use Rattle.held_pieces.proofs.Steps.{bytes_flip}

@@ -4,10 +4,10 @@ use Rattle.std.specs.List.{list_any}
 use Rattle.std.specs.Str.{bytes_eq}
 use Rattle.std.specs.BTreeMap.{BTreeMap, btree_map_len}
 use Rattle.key_tables.specs.Table.{held_in}
-use Rattle.session_log.specs.Text.{ClientSession}
+use Rattle.session_log.specs.Text.{ClientSession, key_of}
 use Rattle.session_log.specs.declared.session.Op.{Op}
 use Rattle.log_definitions.specs.Unknown.{txns_in, ops_in, is_committed, is_unknown}
-use Rattle.log_definitions.specs.WellFormed.{is_aborted, keys_in, key_of, first_seen}
+use Rattle.log_definitions.specs.WellFormed.{is_aborted, keys_in, first_seen}
 use Rattle.audit_command.specs.declared.counts.LogCounts.{LogCounts}
 use denote.Ref.{Bor}
 

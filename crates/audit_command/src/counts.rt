@@ -1,12 +1,11 @@
 //! How much a log of any length holds.
 
-ghost use Rattle.std.specs.Prelude.{◌≡◌, ◌+◌, ◌-◌, ◌^◌, ◌<◌, ◌++◌, ◌∷◌, [], List, length, map, min};
-ghost use Rattle.std.specs.Prelude.{count_by, IfOk, OnOk, IsTrue};
+ghost use Rattle.std.specs.Prelude.{◌≡◌, ◌+◌, ◌-◌, ◌^◌, ◌<◌, ◌++◌, ◌∷◌, [], List, length, map};
+ghost use Rattle.std.specs.Prelude.{IfOk, OnOk, IsTrue};
 ghost use Rattle.std.specs.List.{flat_map};
 ghost use Rattle.session_log.specs.Text.{view, view_txn};
 ghost use Rattle.session_log.specs.declared.session.Op.{Op};
-ghost use Rattle.log_definitions.specs.Unknown.{txns_in, ops_in, is_committed, is_unknown};
-ghost use Rattle.log_definitions.specs.WellFormed.{is_aborted, keys_in, key_of};
+ghost use Rattle.log_definitions.specs.WellFormed.{keys_in};
 ghost use Rattle.audit_command.specs.Counts.{AreCounts, HasKeys};
 
 use key_tables::hold;
@@ -39,21 +38,12 @@ fn is_exact(tally: Tally) -> bool
         && tally.operations < usize::MAX
 }
 
-/// The key of an operation.
-fn key_of(op: &Op) -> &Key
-    ensures { result.now ≡ key_of op.now }
-{
-    match op {
-        Op::Read { key, wid: _ } | Op::Write { key, wid: _ } => key,
-    }
-}
-
 /// Adds the key of an operation.
 fn add_key<'a>(keys: &mut BTreeMap<(u64, &'a Key), u64>, op: &'a Op) -> Result<(), AllocError>
     ensures { (before : List Op) → HasKeys before keys.old
         → OnOk result (HasKeys (before ++ op.now ∷ []) keys.new) }
 {
-    hold(keys, key_of(op), 0)?;
+    hold(keys, op.key(), 0)?;
     Ok(())
 }
 

@@ -1,8 +1,8 @@
 //! Why a part has no order, in lines, in the names and the lines of the whole log.
 
 ghost use Rattle.std.specs.Prelude.{◌≡◌, ◌+◌, ◌<◌, ◌^◌, length, map, IfOk, IfSome, MatchOption};
-ghost use Rattle.std.specs.List.{flat_map, AllByRecursion};
-ghost use Rattle.session_log.specs.Text.{IsLegal, view, view_txn, txn_lines};
+ghost use Rattle.std.specs.List.{AllByRecursion};
+ghost use Rattle.session_log.specs.Text.{IsLegal, view};
 ghost use Rattle.log_definitions.specs.WellFormed.{log_lines};
 ghost use Rattle.log_lines.specs.Rows.{Fits, rows_of};
 ghost use Rattle.session_log.specs.Version.{first_line};
@@ -13,7 +13,6 @@ ghost use Rattle.judging.specs.Made.{IsMadeOf};
 ghost use Rattle.audit_command.specs.Why.{table_of, Explains, IsTooLarge, IsSerialWhy, IsKnownAs};
 ghost use Rattle.std.specs.String.{string_bytes};
 
-use crate::places::{behind, sum};
 use call_options::Format;
 use deciding::{Decision, Means, decide};
 use desk::gate::OpenGate;
@@ -23,7 +22,7 @@ use log_parts::copy_log;
 use part_places::part_places;
 use polygraph::PolyFault;
 use session_history::History;
-use session_log::{LogFault, Session, Txn, Version, next_line};
+use session_log::{LogFault, Session, Version, line_count, next_line};
 use std::alloc::{AllocError, Global};
 use std::sync::Wait;
 use std::thread::Threads;
@@ -46,29 +45,6 @@ pub struct Explained {
     pub text: Vec<u8>,
     /// What the field calls such a fault, where it has a name.
     pub known_as: Option<String>,
-}
-
-/// How many lines these transactions have.
-fn lines_of_txns(txns: &[Txn]) -> Result<usize, AllocError>
-    ensures lines { IfOk result (λ n. n ≡ length (flat_map txn_lines (map view_txn txns.now))) }
-{
-    let mut count: usize = 0;
-    for txn in txns {
-        count = behind(txn, count)?;
-    }
-    Ok(count)
-}
-
-/// How many lines these sessions have.
-pub fn line_count(sessions: &[Session]) -> Result<usize, AllocError>
-    ensures lines { IfOk result (λ n. n ≡ length (log_lines (map view sessions.now))) }
-{
-    let mut count: usize = 0;
-    for session in sessions {
-        let lines = lines_of_txns(&session.txns)?;
-        count = sum(sum(count, 1)?, lines)?;
-    }
-    Ok(count)
 }
 
 /// Where the transactions of a part stand in the log of these sessions, which is of this version.
@@ -150,7 +126,7 @@ fn text_of_part<R: Threads + Wait + Clock + Sync>(
         (λ text. Explains means.now.budget (map view refuted.now.part.items)
         (table_of (first_line version) (map view sessions.now) refuted.now.flags) text.items)) }
 {
-    if line_count(sessions)? > MANY_LINES || line_count(&refuted.part)? > MANY_LINES {
+    if line_count(sessions) > MANY_LINES || line_count(&refuted.part) > MANY_LINES {
         return Ok(None);
     }
     let places = places_of(alloc, version, sessions, refuted)?;

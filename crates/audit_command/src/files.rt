@@ -1,7 +1,6 @@
 //! What is written into files beside the report.
 
-ghost use Rattle.std.specs.Prelude.{◌≡◌, ◌++◌, ℕ, List, map, IfOk, OnOk};
-ghost use Rattle.std.specs.List.{flat_map};
+ghost use Rattle.std.specs.Prelude.{◌≡◌, ◌++◌, List, map, IfOk, OnOk};
 ghost use Rattle.session_log.specs.Text.{ClientSession, view, log_text, least_version};
 ghost use Rattle.log_definitions.specs.Unknown.{resolved};
 ghost use Rattle.piece_laws.specs.Logs.{IsLog};
@@ -70,15 +69,6 @@ fn put_session_map(
     Ok(())
 }
 
-/// The line behind a session that begins at this one.
-fn behind(session: &Session, line: usize) -> usize {
-    let mut line = line.saturating_add(1);
-    for txn in &session.txns {
-        line = line.saturating_add(txn.ops.len()).saturating_add(2);
-    }
-    line
-}
-
 /// Whether a transaction of these sessions states a moment, so that their text has a header.
 fn has_header(sessions: &[Session]) -> bool {
     let states = |txn: &Txn| txn.begun.is_some() || txn.ended.is_some();
@@ -108,7 +98,7 @@ fn map_of(
             put_session_map(&mut out, part, session, of_part, line)?;
             next = next.saturating_add(1);
         }
-        line = behind(session, line);
+        line = line.saturating_add(session.line_count());
     }
     Ok(out)
 }

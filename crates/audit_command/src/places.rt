@@ -13,17 +13,10 @@ use session_log::{Session, Txn, Version};
 use std::alloc::{AllocError, Global};
 
 /// A sum, which is told as want of memory where it is too large for any.
-pub fn sum(one: usize, other: usize) -> Result<usize, AllocError>
+fn sum(one: usize, other: usize) -> Result<usize, AllocError>
     ensures sum { IfOk result (λ sum. sum ≡ one + other) }
 {
     one.checked_add(other).ok_or(AllocError)
-}
-
-/// The line behind a transaction that begins at this one.
-pub fn behind(txn: &Txn, line: usize) -> Result<usize, AllocError>
-    ensures line { IfOk result (λ behind. behind ≡ line + length (txn_lines (view_txn txn.now))) }
-{
-    sum(sum(line, txn.ops.len())?, 2)
 }
 
 fn told_txn(number: u16, place: usize, line: usize, txn: &Txn) -> Result<ToldTxn, AllocError>
@@ -74,7 +67,7 @@ fn add_session(
         if is_chosen(flags, index, i) {
             told.push(told_txn(session.number, i + 1, line, txn)?)?;
         }
-        line = behind(txn, line)?;
+        line = sum(line, txn.line_count())?;
     }
     Ok(line)
 }

@@ -10,13 +10,11 @@ ghost use Rattle.judging.specs.Made.{IsMadeOf};
 ghost use Rattle.audit_command.specs.Why.{IsWhyOf, IsWhy, IsNamedBy, IsNamed};
 ghost use Rattle.audit_command.specs.Why.{read_name, anomaly_name};
 
-use crate::explaining::{
-    Explained, MANY_LINES, SEARCH_SHOWS, explain_serial, line_count, places_of,
-};
+use crate::explaining::{Explained, MANY_LINES, SEARCH_SHOWS, explain_serial, places_of};
 use deciding::Means;
 use judging::{Finding, JudgeMeans, Level, RefutedPart};
 use session_history::{Anomaly, ReadAnomaly};
-use session_log::{Session, Version};
+use session_log::{Session, Version, line_count};
 use std::alloc::{AllocError, Global};
 use std::sync::Wait;
 use std::thread::Threads;
@@ -103,7 +101,7 @@ fn explain_points(
 ) -> Result<Option<Explained>, AllocError>
     requires made { IsMadeOf (map view sessions.now) refuted.now }
 {
-    if line_count(sessions)? > MANY_LINES {
+    if line_count(sessions) > MANY_LINES {
         return Ok(None);
     }
     let places = places_of(alloc, version, sessions, refuted)?;

@@ -4,12 +4,11 @@ use Rattle.std.specs.List.{flat_map, list_any, AllByRecursion}
 use Rattle.std.specs.Str.{bytes_eq}
 use Rattle.std.proofs.lemmas.Bool.{cases_Bool}
 use Rattle.std.proofs.lemmas.Slice.Eq.{bytes_eq-Decides}
-use Rattle.session_log.specs.Text.{ClientSession, Transaction}
+use Rattle.session_log.specs.Text.{ClientSession, Transaction, key_of}
 use Rattle.session_log.specs.declared.session.Op.{Op}
 use Rattle.session_log.specs.declared.session.Op.TheVariants.{Read, Write}
 use Rattle.serializability.proofs.Places.{each_of_flat_map, each_from_flat_map, each_from_append}
 use Rattle.log_definitions.specs.Unknown.{txns_in, ops_in}
-use Rattle.log_definitions.specs.WellFormed.{key_of}
 use Rattle.log_definitions.proofs.Members.{each_member, any_member}
 use Rattle.piece_laws.specs.Held.{Held, exchanged, open_ops, read_held, writes_key, closing}
 use Rattle.piece_laws.specs.Logs.{has_txns, present, open_txn, opened, committed_reads, last_reads, closed}

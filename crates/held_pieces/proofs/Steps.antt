@@ -14,11 +14,10 @@ use Rattle.std.proofs.lemmas.List.Concat.{flat_map-append}
 use Rattle.std.proofs.lemmas.List.Folds.{list_any-append}
 use Rattle.std.proofs.lemmas.Map.Text.{is_eq-slice_cmp}
 use Rattle.std.proofs.lemmas.Slice.Eq.{bytes_eq-Decides}
-use Rattle.session_log.specs.Text.{ClientSession, Transaction}
+use Rattle.session_log.specs.Text.{ClientSession, Transaction, key_of}
 use Rattle.session_log.specs.declared.session.Op.{Op}
 use Rattle.session_log.specs.declared.session.Op.TheVariants.{Read, Write}
 use Rattle.log_definitions.specs.Unknown.{txns_in, ops_in}
-use Rattle.log_definitions.specs.WellFormed.{key_of}
 use Rattle.piece_laws.specs.Held.{Held}
 use Rattle.std.specs.declared.alloc.Global.{Global}
 use Rattle.cutting.specs.declared.part.Part.{Part}

@@ -2,11 +2,10 @@
 use Rattle.std.specs.Prelude.{ℕ, Bool, true, false, ◌==◌, ◌&&◌, List, map}
 use Rattle.std.specs.List.{filter, flat_map, list_any}
 use Rattle.std.specs.Str.{bytes_eq}
-use Rattle.session_log.specs.Text.{ClientSession, Transaction}
+use Rattle.session_log.specs.Text.{ClientSession, Transaction, key_of}
 use Rattle.session_log.specs.declared.session.Op.{Op}
 use Rattle.session_log.specs.declared.session.Op.TheVariants.{Read, Write}
 use Rattle.log_definitions.specs.Unknown.{is_committed, txns_in}
-use Rattle.log_definitions.specs.WellFormed.{key_of}
 use Rattle.held_pieces.specs.declared.ops.Whose.{Whose}
 use Rattle.held_pieces.specs.declared.ops.Whose.TheVariants.{All, Nodes}
 use denote.Ref.{Bor}

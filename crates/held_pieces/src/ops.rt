@@ -2,12 +2,11 @@
 
 ghost use Rattle.std.specs.Prelude.{◌≡◌, ◌++◌, map, IfOk, OnOk};
 ghost use Rattle.session_log.specs.Text.{view_txn};
-ghost use Rattle.log_definitions.specs.WellFormed.{key_of};
 ghost use Rattle.cutting.specs.Parts.{parts_view};
 ghost use Rattle.held_pieces.specs.Ops.{seen, is_meant, meant_in, meant_ops};
 
 use cutting::Part;
-use session_log::{Key, Op, Outcome, Txn};
+use session_log::{Op, Txn};
 use std::alloc::{AllocError, Global};
 
 /// Whose operations are meant.
@@ -23,10 +22,7 @@ fn is_meant(whose: Whose, txn: &Txn) -> bool
 {
     match whose {
         Whose::All => true,
-        Whose::Nodes => match txn.outcome {
-            Outcome::Commit => true,
-            Outcome::Abort | Outcome::Unknown => false,
-        },
+        Whose::Nodes => txn.is_committed(),
     }
 }
 
@@ -73,14 +69,4 @@ pub fn ops_of_txns<'a>(alloc: Global, txns: &'a [Txn]) -> Result<Vec<&'a Op>, Al
     let mut ops = Vec::new(alloc);
     add_txns(&mut ops, txns, Whose::All)?;
     Ok(ops)
-}
-
-/// The key of an operation.
-pub fn key_of<'a>(op: &'a Op) -> &'a Key
-    ensures { result.now ≡ key_of op.now }
-{
-    match op {
-        Op::Read { key, .. } => key,
-        Op::Write { key, .. } => key,
-    }
 }

@@ -5,7 +5,6 @@ ghost use Rattle.std.specs.Ordering.{nat_cmp};
 ghost use Rattle.std.specs.Cmp.Lexicographic.{slice_cmp};
 ghost use Rattle.std.specs.BTreeMap.{get};
 
-use crate::ops::key_of;
 use session_log::{Key, Op};
 use std::alloc::{AllocError, Global};
 use std::collections::BTreeMap;
@@ -96,7 +95,7 @@ pub fn held_keys<'a>(
 {
     let mut table = BTreeMap::new(alloc);
     for op in ops {
-        let key = key_of(*op);
+        let key = op.key();
         if let Some(wid) = held(reign_of(lasts, reigns, key), count) {
             table.insert(key.to_owned_key(alloc)?, wid)?;
         }

@@ -1,45 +1,21 @@
 //! Whether a log is within the limits that are no part of its sessions' rules.
 
-ghost use Rattle.std.specs.Prelude.{◌≡◌, ◌+◌, ◌-◌, ◌^◌, ◌<◌, ◌≤◌, ℕ, length, map, min, IfOk};
+ghost use Rattle.std.specs.Prelude.{◌≡◌, ◌-◌, ◌^◌, ◌<◌, ◌≤◌, length, map, IfOk};
 ghost use Rattle.std.specs.Prelude.{MatchOption, IsTrue, not};
-ghost use Rattle.session_log.specs.Text.{view, session_lines};
+ghost use Rattle.session_log.specs.Text.{view, capped};
 ghost use Rattle.log_definitions.specs.WellFormed.{log_lines};
-ghost use Rattle.session_history.specs.Counted.{capped};
 ghost use Rattle.judging.specs.Limits.{IsOver};
 ghost use Rattle.session_log.specs.declared.fault.Limit.TheVariants.{LogBytes};
 ghost use Rattle.session_log.specs.declared.limits.TheConstants.{MAX_LOG_BYTES};
 
 use serializability::MAX_NODES;
 use session_history::Tally;
-use session_log::{Limit, MAX_LOG_BYTES, MAX_OPERATIONS, Session, print_log};
+use session_log::{Limit, MAX_LOG_BYTES, MAX_OPERATIONS, Session, line_count, print_log};
 use std::alloc::{AllocError, Global};
 
 /// So many lines are no more than `MAX_LOG_BYTES` bytes, since a line has 88 bytes at most: `w `, a
 /// key of 64 bytes, a space, an identity of 20 digits, and the line feed.
 const FEW_LINES: usize = 150_000;
-
-/// So many lines, and those of a session more, up to `usize::MAX`.
-fn with_lines(lines: usize, session: &Session) -> usize
-    ensures { (before : ℕ) → lines ≡ capped before
-        → result ≡ capped (before + length (session_lines (view session.now))) }
-{
-    let mut count = lines.saturating_add(1);
-    for txn in &session.txns {
-        count = count.saturating_add(txn.ops.len()).saturating_add(2);
-    }
-    count
-}
-
-/// How many lines these sessions have, up to `usize::MAX`.
-pub fn line_count(sessions: &[Session]) -> usize
-    ensures { result ≡ capped (length (log_lines (map view sessions.now))) }
-{
-    let mut lines = 0;
-    for session in sessions {
-        lines = with_lines(lines, session);
-    }
-    lines
-}
 
 /// Whether the log of sessions that have so many lines has too many bytes. It is printed only where
 /// it may have.

@@ -13,7 +13,8 @@ use Rattle.serializability.specs.declared.event.Event.TheVariants.{Read, Write}
 use Rattle.serializability.specs.Reads.{IsNumbered}
 use Rattle.serializability.proofs.Places.{Apart-from_IsDistinct, each_of_flat_map, each_from_flat_map, each_from_filter}
 use Rattle.log_definitions.specs.Unknown.{txns_in, ops_in, is_committed, resolved}
-use Rattle.log_definitions.specs.WellFormed.{keys_in, key_of, written}
+use Rattle.log_definitions.specs.WellFormed.{keys_in, written}
+use Rattle.session_log.specs.Text.{key_of}
 use Rattle.log_definitions.specs.Serial.{committed_in, ops_of}
 use Rattle.log_definitions.specs.Numbers.{events_of, aborted_in, log_of, IsWellFormedList}
 use Rattle.log_definitions.proofs.Members.{each_weaker}

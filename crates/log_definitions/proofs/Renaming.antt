@@ -5,12 +5,12 @@ use Rattle.std.specs.List.{flat_map, AllByRecursion}
 use Rattle.std.specs.Str.{bytes_eq}
 use Rattle.std.proofs.lemmas.List.{map-append}
 use Rattle.session_log.specs.Moments.{is_earlier}
-use Rattle.session_log.specs.Text.{ClientSession}
+use Rattle.session_log.specs.Text.{ClientSession, key_of}
 use Rattle.session_log.specs.declared.session.Op.{Op}
 use Rattle.session_log.specs.declared.session.Op.TheVariants.{Read, Write}
 use Rattle.serializability.specs.Replay.{Store, write, empty, Meets, IsSerial}
 use Rattle.serializability.proofs.Places.{each_from_flat_map}
-use Rattle.log_definitions.specs.WellFormed.{keys_in, key_of}
+use Rattle.log_definitions.specs.WellFormed.{keys_in}
 use Rattle.log_definitions.specs.Serial.{Map, set, initial, Replays, ops_of, begun_of, ended_of, IsSerialOrder}
 use Rattle.log_definitions.specs.Numbers.{number_in, event_of, events_of, log_of}
 use Rattle.log_definitions.proofs.Members.{each_member}

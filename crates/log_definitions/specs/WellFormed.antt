@@ -6,7 +6,7 @@ use Rattle.std.specs.List.{flat_map, list_any, AllByRecursion, IsDistinct}
 use Rattle.std.specs.Option.{option_or}
 use Rattle.std.specs.Str.{bytes_eq}
 use Rattle.session_log.specs.Text.{ClientSession, Transaction, IsLegal, IsHeldBy, session_lines}
-use Rattle.session_log.specs.Text.{log_text}
+use Rattle.session_log.specs.Text.{log_text, key_of}
 use Rattle.session_log.specs.Version.{first_line, version_of}
 use Rattle.session_log.specs.Blocks.{size_fault}
 use Rattle.session_log.specs.Faults.{grammar_fault}
@@ -49,10 +49,6 @@ session_twice n ls = repeated [] (sessions_from n ls)
 
 abbrev pub write_twice : ℕ → List Line → Option ℕ
 write_twice n ls = repeated [] (writes_from n ls)
-
-abbrev pub key_of : Op → List ℕ
-key_of (Read key wid) = key
-key_of (Write key wid) = key
 
 -- these keys, and behind them each other one at its first appearance
 abbrev pub first_seen : List (List ℕ) → List (List ℕ) → List (List ℕ)

@@ -4,11 +4,9 @@
 //! Called by the crates that tell. It knows no anomaly, no edge and no text but its lines' numbers.
 #![tactic(auto)]
 
-mod counts;
 pub mod laws;
 mod placed;
 mod places;
 
-pub use counts::{session_line_count, txn_line_count};
 pub use placed::PlacedHistory;
 pub use places::{LogPlaces, TxnPlace};

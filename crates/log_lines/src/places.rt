@@ -7,7 +7,6 @@ ghost use Rattle.session_log.specs.Version.{first_line};
 ghost use Rattle.log_definitions.specs.WellFormed.{log_lines};
 ghost use Rattle.log_lines.specs.Rows.{view_place, rows_of, own_row, own_rows, own_places};
 
-use crate::counts::{session_line_count, txn_line_count};
 use session_log::{Session, Txn, Version};
 use std::alloc::{AllocError, Global};
 
@@ -68,7 +67,7 @@ fn own_session(alloc: Global, session: &Session, first: usize) -> Result<Vec<Txn
     let mut line = first + 1;
     for (earlier, txn) in session.txns.iter().enumerate() {
         rows.push(own_place(alloc, txn, earlier + 1, line)?)?;
-        line += txn_line_count(txn);
+        line += txn.line_count();
     }
     Ok(rows)
 }
@@ -88,7 +87,7 @@ impl LogPlaces {
         let mut line = version.first_line();
         for session in sessions {
             rows.push(own_session(alloc, session, line)?)?;
-            line += session_line_count(session);
+            line += session.line_count();
         }
         Ok(LogPlaces { sessions: rows })
     }

@@ -11,7 +11,7 @@ ghost use Rattle.log_lines.specs.Rows.{view_place, rows_of, Fits};
 ghost use Rattle.part_places.specs.PartRows as spec;
 
 use crate::txn::txn_place;
-use log_lines::{LogPlaces, TxnPlace, session_line_count, txn_line_count};
+use log_lines::{LogPlaces, TxnPlace};
 use session_log::{Session, Txn, Version};
 use std::alloc::{AllocError, Global};
 
@@ -79,7 +79,7 @@ fn session_places(
             at + 1,
             line,
         )?;
-        line += txn_line_count(txn);
+        line += txn.line_count();
     }
     Ok(rows)
 }
@@ -141,7 +141,7 @@ pub fn part_places(
         if at < flags.len() {
             add_session(alloc, &mut table, session, &flags[at], part, line)?;
         }
-        line += session_line_count(session);
+        line += session.line_count();
     }
     Ok(LogPlaces { sessions: table })
 }

@@ -2,13 +2,13 @@
 use Rattle.std.proofs.Common.{◌≡◌, ℕ, suc, ◌+◌, ◌<◌, ◌≤◌, List, take, drop, length, None, Some, refl, sym, ap, ◌∙◌, subst, arith}
 use Rattle.std.specs.List.{AllByRecursion}
 use Rattle.session_log.specs.Moments.{is_earlier}
-use Rattle.session_log.specs.Text.{ClientSession}
+use Rattle.session_log.specs.Text.{ClientSession, key_of}
 use Rattle.session_log.specs.declared.session.Op.{Op}
 use Rattle.session_log.specs.declared.session.Op.TheVariants.{Read, Write}
 use Rattle.serializability.specs.declared.event.Event.{Event}
 use Rattle.serializability.specs.Reads.{last_write, ReadsAfter, WritesAfter}
 use Rattle.anomaly_laws.proofs.Writes.{writes_at, some_last_write}
-use Rattle.log_definitions.specs.WellFormed.{keys_in, key_of}
+use Rattle.log_definitions.specs.WellFormed.{keys_in}
 use Rattle.log_definitions.specs.Serial.{committed_in, session_of, ops_of, begun_of, ended_of}
 use Rattle.log_definitions.specs.Numbers.{number_in, events_of, log_of}
 use Rattle.log_definitions.proofs.Keys.{Listed, all_listed, number_below}

@@ -11,7 +11,7 @@ use Rattle.session_log.specs.declared.session.Op.TheVariants.{Read, Write}
 use Rattle.serializability.specs.declared.event.Event.{Event}
 use Rattle.serializability.specs.declared.event.Event.TheVariants as event
 use Rattle.serializability.specs.Reads.{later, last_write}
-use Rattle.log_definitions.specs.WellFormed.{key_of}
+use Rattle.session_log.specs.Text.{key_of}
 use Rattle.log_definitions.specs.Numbers.{number_in, event_of, events_of}
 use Rattle.log_definitions.proofs.Keys.{Listed, numbers_differ}
 use Rattle.reason_laws.specs.Reasons.{IsNoWriteOf}

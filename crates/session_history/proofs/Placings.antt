@@ -6,12 +6,12 @@ use Rattle.std.specs.Str.{bytes_eq}
 use Rattle.std.proofs.lemmas.Bool.{eq-eqb, ne_eqb}
 use Rattle.std.proofs.lemmas.List.{map-append}
 use Rattle.std.proofs.lemmas.List.Sums.{sum_by-cons}
-use Rattle.session_log.specs.Text.{ClientSession, Transaction}
+use Rattle.session_log.specs.Text.{ClientSession, Transaction, key_of}
 use Rattle.session_log.specs.declared.session.Op.{Op}
 use Rattle.session_log.specs.declared.session.Op.TheVariants as op
 use Rattle.serializability.specs.declared.event.Event.{Event}
 use Rattle.log_definitions.specs.Unknown.{is_committed, txns_in, settled, taken, resolved}
-use Rattle.log_definitions.specs.WellFormed.{first_seen, key_of, keys_in}
+use Rattle.log_definitions.specs.WellFormed.{first_seen, keys_in}
 use Rattle.log_definitions.specs.Serial.{Committed, committed_of, committed_in}
 use Rattle.log_definitions.specs.Numbers.{events_of}
 use Rattle.log_definitions.proofs.Settled.{ops_settled}

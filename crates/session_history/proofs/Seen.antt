@@ -11,7 +11,8 @@ use Rattle.std.proofs.lemmas.List.Folds.{list_any-append}
 use Rattle.std.proofs.lemmas.List.{map-append}
 use Rattle.serializability.specs.declared.event.Event.{Event}
 use Rattle.std.proofs.lemmas.Slice.Eq.{bytes_eq-Decides}
-use Rattle.log_definitions.specs.WellFormed.{first_seen, key_of}
+use Rattle.log_definitions.specs.WellFormed.{first_seen}
+use Rattle.session_log.specs.Text.{key_of}
 use Rattle.log_definitions.specs.Numbers.{number_in, event_of, events_of}
 use Rattle.session_log.specs.declared.session.Op.{Op}
 use Rattle.session_history.specs.Numbering.{number_among, KeepsPlaces}

@@ -15,7 +15,8 @@ use Rattle.session_log.specs.declared.session.Outcome.{Outcome}
 use Rattle.session_log.specs.declared.session.Outcome.TheVariants.{Commit, Abort, Unknown}
 use Rattle.serializability.specs.declared.event.Event.{Event}
 use Rattle.log_definitions.specs.Unknown.{is_committed, txns_in, settle, settled}
-use Rattle.log_definitions.specs.WellFormed.{first_seen, key_of, writes_from, log_lines}
+use Rattle.log_definitions.specs.WellFormed.{first_seen, writes_from, log_lines}
+use Rattle.session_log.specs.Text.{key_of}
 use Rattle.log_definitions.specs.Numbers.{events_of}
 use Rattle.session_history.specs.declared.nodes.Node.{Node}
 use Rattle.session_history.specs.declared.nodes.Transactions.{Transactions}

@@ -1,15 +1,12 @@
 -- How much sessions hold.
-use Rattle.std.specs.Prelude.{◌≡◌, ◌+◌, ◌-◌, ◌^◌, min, ℕ, List, length, count_by}
+use Rattle.std.specs.Prelude.{◌≡◌, ◌+◌, List, length, count_by}
 use Rattle.std.specs.List.{flat_map}
-use Rattle.session_log.specs.Text.{ClientSession, Transaction}
+use Rattle.session_log.specs.Text.{ClientSession, Transaction, capped}
 use Rattle.log_definitions.specs.Unknown.{is_committed, is_unknown, txns_in, ops_in}
 use Rattle.log_definitions.specs.WellFormed.{keys_in, is_aborted}
 use Rattle.log_definitions.specs.Serial.{committed_in}
 use Rattle.session_history.specs.declared.count.Counts.{Counts}
 use Rattle.session_history.specs.declared.count.Tally.{Tally}
-
-abbrev pub capped : ℕ → ℕ
-capped n = min n (2 ^ 64 - 1)
 
 -- how many of these transactions ended in each way, and how many operations they have
 pub record IsTally (ts : List Transaction) (t : Tally) : Type 0 where

@@ -4,11 +4,11 @@ use Rattle.std.specs.Prelude.{None}
 use Rattle.std.specs.List.{flat_map}
 use Rattle.std.specs.BTreeSet.{contains}
 use Rattle.std.specs.Ordering.{nat_cmp}
-use Rattle.session_log.specs.Text.{ClientSession, Transaction}
+use Rattle.session_log.specs.Text.{ClientSession, Transaction, key_of}
 use Rattle.session_log.specs.declared.line.Line.{Line}
 use Rattle.serializability.specs.declared.event.Event.{Event}
 use Rattle.log_definitions.specs.Unknown.{is_committed, taken, resolved}
-use Rattle.log_definitions.specs.WellFormed.{first_seen, key_of, writes_from}
+use Rattle.log_definitions.specs.WellFormed.{first_seen, writes_from}
 use Rattle.log_definitions.specs.Numbers.{events_of}
 use Rattle.session_history.specs.declared.nodes.Node.{Node}
 use Rattle.session_history.specs.declared.nodes.Transactions.{Transactions}

@@ -2,7 +2,8 @@
 
 ghost use Rattle.std.specs.Prelude.{◌≡◌, ℕ, ◌<◌, List, [], ◌∷◌, map, length, slice_get, Some};
 ghost use Rattle.std.specs.Prelude.{IsTrue, OnOk, IfOk};
-ghost use Rattle.log_definitions.specs.WellFormed.{first_seen, key_of};
+ghost use Rattle.log_definitions.specs.WellFormed.{first_seen};
+ghost use Rattle.session_log.specs.Text.{key_of};
 ghost use Rattle.log_definitions.specs.Numbers.{number_in, event_of, events_of};
 
 use serializability::Event;

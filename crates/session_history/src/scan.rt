@@ -1,24 +1,12 @@
 //! Session numbers that stand twice.
 
 ghost use Rattle.std.specs.Prelude.{◌≡◌, ◌<◌, ◌≤◌, ◌^◌, length, map, IfOk};
-ghost use Rattle.session_log.specs.Text.{view, session_lines};
+ghost use Rattle.session_log.specs.Text.{view};
 ghost use Rattle.log_definitions.specs.WellFormed.{log_lines, session_twice};
 
 use session_log::Session;
 use std::alloc::{AllocError, Global};
 use std::collections::BTreeSet;
-
-/// How many lines a session has.
-fn line_count(session: &Session) -> usize
-    requires { length (session_lines (view session.now)) < 2 ^ 64 }
-    ensures { result ≡ length (session_lines (view session.now)) }
-{
-    let mut count = 1;
-    for txn in &session.txns {
-        count += txn.ops.len() + 2;
-    }
-    count
-}
 
 /// The line of the first session whose number stood before, where the first session stands in line
 /// `first`.
@@ -38,7 +26,7 @@ pub fn session_twice(
         if !seen.insert(session.number)? {
             return Ok(Some(line));
         }
-        line += line_count(session);
+        line += session.line_count();
     }
     Ok(None)
 }

@@ -1,6 +1,6 @@
 -- The one text of each list of sessions. Its lines are this project's own; that each write has an
 -- identity, which the reads of it name, is after Cobra (Tan et al., OSDI 2020).
-use Rattle.std.specs.Prelude.{◌≡◌, ℕ, ◌<◌, ◌^◌, Bool, true, false, ◌||◌, if◌then◌else◌, List, []}
+use Rattle.std.specs.Prelude.{◌≡◌, ℕ, ◌<◌, ◌^◌, ◌-◌, min, Bool, true, false, ◌||◌, if◌then◌else◌, List, []}
 use Rattle.std.specs.Prelude.{◌∷◌, ◌++◌, map, codes, decimal, is_some, Option, Some, None}
 use Rattle.std.specs.List.{flat_map, list_any, AllByRecursion}
 use Rattle.session_log.specs.Key.{IsKey}
@@ -57,6 +57,10 @@ txn_lines t = line.Begin t.begun ∷ map op_line t.ops ++ end_line t.outcome t.e
 abbrev pub session_lines : ClientSession → List Line
 session_lines s = line.Session s.number ∷ flat_map txn_lines s.txns
 
+-- a number as a count says it that ends at `usize::MAX`
+abbrev pub capped : ℕ → ℕ
+capped n = min n (2 ^ 64 - 1)
+
 -- the text of a line, without its LF: words with one space between them
 unfoldable pub line_text : Line → List ℕ
 line_text (line.Session number) = codes "session " ++ decimal number
@@ -97,6 +101,10 @@ IsLegalLine v line.Unknown = has_unknown_line v ≡ true
 IsLegalLine v (line.Begin moment) = IsLegalMoment v moment
 IsLegalLine v (line.Commit moment) = IsLegalMoment v moment
 IsLegalLine v _ = Unit {0}
+
+abbrev pub key_of : Op → List ℕ
+key_of (Read key wid) = key
+key_of (Write key wid) = key
 
 abbrev pub is_write : Op → Bool
 is_write (Read key wid) = false

@@ -25,6 +25,6 @@ pub use limits::{MAX_KEYS, MAX_LOG_BYTES, MAX_OPERATIONS, MAX_SESSIONS};
 pub use line::Line;
 pub use parse::parse_lines;
 pub use print::print_log;
-pub use session::{Op, Outcome, Session, Txn, is_earlier};
+pub use session::{Op, Outcome, Session, Txn, is_earlier, line_count};
 pub use version::Version;
 pub use words::{all_digits, index_of, is_numeral, next_line, number_of, value_of};

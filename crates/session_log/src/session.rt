@@ -1,8 +1,10 @@
 //! What a client's log holds.
 
-ghost use Rattle.std.specs.Prelude.{◌≡◌};
+ghost use Rattle.std.specs.Prelude.{◌≡◌, length, map};
+ghost use Rattle.std.specs.List.{flat_map};
 ghost use Rattle.session_log.specs.Moments.{is_earlier};
-ghost use Rattle.session_log.specs.Text.{is_write, is_commit, is_unknown};
+ghost use Rattle.session_log.specs.Text.{view, view_txn, txn_lines, session_lines, capped};
+ghost use Rattle.session_log.specs.Text.{key_of, is_write, is_commit, is_unknown};
 
 use crate::key::Key;
 
@@ -16,6 +18,14 @@ pub enum Op {
 }
 
 impl Op {
+    pub fn key(&self) -> &Key
+        ensures { result.now ≡ key_of self.now }
+    {
+        match self {
+            Op::Read { key, .. } | Op::Write { key, .. } => key,
+        }
+    }
+
     pub fn is_write(&self) -> bool
         ensures { result ≡ is_write self.now }
     {
@@ -83,6 +93,13 @@ impl Txn {
             Outcome::Abort | Outcome::Unknown => false,
         }
     }
+
+    /// How many lines it has, with the two that begin and end it.
+    pub fn line_count(&self) -> usize
+        ensures { result ≡ length (txn_lines (view_txn self.now)) }
+    {
+        self.ops.len() + 2
+    }
 }
 
 /// A client's session: its number, 1 to 65535 in a legal one, and its transactions in order.
@@ -90,4 +107,28 @@ impl Txn {
 pub struct Session {
     pub number: u16,
     pub txns: Vec<Txn>,
+}
+
+impl Session {
+    /// How many lines it has, with its first, up to `usize::MAX`.
+    pub fn line_count(&self) -> usize
+        ensures { result ≡ capped (length (session_lines (view self.now))) }
+    {
+        let mut count: usize = 1;
+        for txn in &self.txns {
+            count = count.saturating_add(txn.line_count());
+        }
+        count
+    }
+}
+
+/// How many lines these sessions have, up to `usize::MAX`.
+pub fn line_count(sessions: &[Session]) -> usize
+    ensures { result ≡ capped (length (flat_map session_lines (map view sessions.now))) }
+{
+    let mut count: usize = 0;
+    for session in sessions {
+        count = count.saturating_add(session.line_count());
+    }
+    count
 }

@@ -6,13 +6,13 @@ use Rattle.std.proofs.lemmas.Bool.{cases_Bool}
 use Rattle.std.proofs.lemmas.List.{length-append}
 use Rattle.std.proofs.Math.ListN.{length-replicate}
 use Rattle.session_log.specs.Key.{IsKey, is_key_byte, is_key}
-use Rattle.session_log.specs.Text.{ClientSession, IsLegal, IsLegalOp, IsLegalTxn}
+use Rattle.session_log.specs.Text.{ClientSession, IsLegal, IsLegalOp, IsLegalTxn, key_of}
 use Rattle.session_log.specs.declared.session.Op.{Op}
 use Rattle.session_log.specs.declared.session.Op.TheVariants.{Read, Write}
 use Rattle.serializability.specs.Replay.{place_of}
 use Rattle.serializability.proofs.Places.{Has, Has-from_Contains}
 use Rattle.log_definitions.specs.Unknown.{ops_in, txns_in, resolved}
-use Rattle.log_definitions.specs.WellFormed.{written, key_of}
+use Rattle.log_definitions.specs.WellFormed.{written}
 use Rattle.log_definitions.proofs.Members.{member}
 use Rattle.log_definitions.proofs.Settled.{learnt_resolved, ops_resolved}
 use Rattle.piece_laws.specs.Logs.{IsLog, HasOrder}

@@ -2,7 +2,8 @@
 use Rattle.std.proofs.Common.{◌≡◌, ℕ, ◌+◌, ◌≤◌, max, List, [], ◌∷◌, ◌++◌, length, map, refl, ap, ◌∙◌, inl, inr, arith}
 use Rattle.std.specs.List.{Contains}
 use Rattle.session_log.specs.declared.session.Op.{Op}
-use Rattle.log_definitions.specs.WellFormed.{written, key_of}
+use Rattle.log_definitions.specs.WellFormed.{written}
+use Rattle.session_log.specs.Text.{key_of}
 use Rattle.log_definitions.proofs.Scanning.{written-append}
 use Rattle.std.proofs.lemmas.List.{length-append}
 use Rattle.piece_laws.proofs.Lists.{first_or_behind}

@@ -4,7 +4,8 @@ use Rattle.std.proofs.lemmas.List.{length-append, drop_more}
 use Rattle.session_log.specs.declared.session.Op.{Op}
 use Rattle.session_log.specs.declared.session.Op.TheVariants.{Read, Write}
 use Rattle.serializability.proofs.Places.{each_of_append}
-use Rattle.log_definitions.specs.WellFormed.{written, key_of}
+use Rattle.log_definitions.specs.WellFormed.{written}
+use Rattle.session_log.specs.Text.{key_of}
 use Rattle.log_definitions.proofs.Scanning.{written-append}
 use Rattle.level_laws.specs.Split.{Locks}
 use Rattle.splitting.specs.Room.{Fit, GiveBehind, AreNamed}

@@ -3,11 +3,11 @@ use Rattle.std.proofs.Common.{◌≡◌, ℕ, ◌+◌, ◌≤◌, List, [], ◌�
 use Rattle.std.specs.Prelude.{nat_eq}
 use Rattle.std.specs.List.{IsDistinct}
 use Rattle.std.proofs.lemmas.List.{length-append}
-use Rattle.session_log.specs.Text.{ClientSession}
+use Rattle.session_log.specs.Text.{ClientSession, key_of}
 use Rattle.serializability.specs.Replay.{place_of}
 use Rattle.serializability.proofs.Places.{Has, Apart, Apart-from_IsDistinct, Apart-not_both, place_of-back, place_of-here}
 use Rattle.log_definitions.specs.Unknown.{ops_in}
-use Rattle.log_definitions.specs.WellFormed.{written, key_of}
+use Rattle.log_definitions.specs.WellFormed.{written}
 use Rattle.log_definitions.proofs.Members.{each_member}
 use Rattle.level_laws.specs.Split.{Locks}
 use Rattle.splitting.specs.Locks.{longest, largest, marks, locks_of, refusal, no_room, HasRoom}

@@ -3,11 +3,11 @@ use Rattle.std.specs.Prelude.{◌≡◌, ℕ, ◌+◌, ◌^◌, ◌==◌, max, i
 use Rattle.std.specs.Prelude.{◌++◌, length, map, replicate, Option, Some, None}
 use Rattle.std.specs.List.{prefix_len}
 use Rattle.serializability.specs.Replay.{place_of}
-use Rattle.session_log.specs.Text.{ClientSession}
+use Rattle.session_log.specs.Text.{ClientSession, key_of}
 use Rattle.session_log.specs.declared.session.Op.{Op}
 use Rattle.session_log.specs.declared.session.Op.TheVariants.{Read, Write}
 use Rattle.log_definitions.specs.Unknown.{ops_in}
-use Rattle.log_definitions.specs.WellFormed.{written, key_of}
+use Rattle.log_definitions.specs.WellFormed.{written}
 use Rattle.level_laws.specs.Split.{Locks}
 use Rattle.splitting.specs.declared.room.NoRoom.{NoRoom}
 use Rattle.splitting.specs.declared.room.NoRoom.TheVariants.{Keys, Identities}

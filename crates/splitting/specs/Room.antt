@@ -2,7 +2,8 @@
 use Rattle.std.specs.Prelude.{◌≡◌, ℕ, ◌+◌, ◌≤◌, ◌<◌, ◌^◌, List, [], ◌∷◌, length, max}
 use Rattle.std.specs.List.{AllByRecursion}
 use Rattle.session_log.specs.declared.session.Op.{Op}
-use Rattle.log_definitions.specs.WellFormed.{written, key_of}
+use Rattle.log_definitions.specs.WellFormed.{written}
+use Rattle.session_log.specs.Text.{key_of}
 use Rattle.level_laws.specs.Split.{Locks}
 use Rattle.splitting.specs.Locks.{lock_key, most_marks, longest, largest}
 use Rattle.splitting.specs.declared.survey.Survey.{Survey}

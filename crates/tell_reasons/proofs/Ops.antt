@@ -7,19 +7,18 @@ use Rattle.std.proofs.lemmas.Bool.{false≢true}
 use Rattle.std.proofs.lemmas.List.{length-map}
 use Rattle.std.proofs.lemmas.Option.{slice_get_within}
 use Rattle.std.proofs.lemmas.Slice.Eq.{bytes_eq-Decides}
-use Rattle.session_log.specs.Text.{ClientSession}
+use Rattle.session_log.specs.Text.{ClientSession, key_of}
 use Rattle.session_log.specs.declared.session.Op.{Op}
 use Rattle.session_log.specs.declared.session.Op.TheVariants.{Read, Write}
 use Rattle.serializability.specs.declared.event.Event.{Event}
-use Rattle.log_definitions.specs.WellFormed.{keys_in, key_of}
+use Rattle.log_definitions.specs.WellFormed.{keys_in}
 use Rattle.log_definitions.specs.Serial.{ops_of}
 use Rattle.log_definitions.specs.Numbers.{number_in, event_of, log_of}
 use Rattle.log_definitions.proofs.Keys.{Listed}
-use Rattle.serializability.specs.Events.{event_key}
+use Rattle.serializability.specs.Events.{event_key, event_wid}
 use Rattle.reason_laws.specs.Reasons.{IsOpAt}
 use Rattle.reason_laws.proofs.Numbers.{ops_is, listed_at}
 use Rattle.reasons.proofs.Ops.{op_of, key_of_event}
-use Rattle.tell_reasons.specs.Events.{event_wid}
 use Rattle.tell_reasons.specs.Reasons.{op_at, key_text, key_and_wid, listed_text, letter_text, wid_text, op_wid}
 use Rattle.tell_reasons.specs.Versions.{key_number}
 

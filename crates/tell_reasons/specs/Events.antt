@@ -5,11 +5,6 @@ use Rattle.std.specs.Option.{option_map}
 use Rattle.serializability.specs.declared.event.Event.{Event}
 use Rattle.serializability.specs.declared.event.Event.TheVariants.{Read, Write}
 
--- the identity that an operation names
-abbrev pub event_wid : Event → ℕ
-event_wid (Read key wid) = wid
-event_wid (Write key wid) = wid
-
 -- a write of key number x
 abbrev pub is_write_in : ℕ → Event → Bool
 is_write_in x (Read key wid) = false

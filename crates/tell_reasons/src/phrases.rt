@@ -8,8 +8,6 @@ ghost use Rattle.log_definitions.specs.Numbers.{log_of};
 ghost use Rattle.log_lines.specs.Rows.{view_place};
 ghost use Rattle.log_lines.specs.Placed.{row_in, place_in, begin_in, op_line_in, end_line_in};
 ghost use Rattle.order_text.specs.Text.{name_text};
-ghost use Rattle.serializability.specs.Events.{event_key};
-ghost use Rattle.tell_reasons.specs.Events.{event_wid};
 ghost use Rattle.tell_reasons.specs.Reasons as spec;
 ghost use Rattle.tell_reasons.specs.Versions as versions;
 ghost use Rattle.tell_reasons.specs.Reasons.{named, in_line, op_at, op_in_line, op_wid};
@@ -132,24 +130,6 @@ pub fn put_op_in_line(
     put_in_line(out, line_of(log, node, op))
 }
 
-/// The number of the key of an event.
-fn key_of(event: Event) -> usize
-    ensures { result ≡ event_key event }
-{
-    match event {
-        Event::Read { key, .. } | Event::Write { key, .. } => key,
-    }
-}
-
-/// The identity that an event names.
-fn wid_of(event: Event) -> u64
-    ensures { result ≡ event_wid event }
-{
-    match event {
-        Event::Read { wid, .. } | Event::Write { wid, .. } => wid,
-    }
-}
-
 /// The line that ends a node.
 pub fn end_of(log: &PlacedHistory<'_>, node: NodeIx) -> usize
     requires node { IsNode log.now.history.now node }
@@ -173,7 +153,7 @@ pub fn key_number(history: &History, node: NodeIx, op: usize) -> usize
     ensures key { result ≡ versions.key_number history.now node op }
     ensures known { result < (log_of history.now).keys }
 {
-    key_of(event_at(history, node, op))
+    event_at(history, node, op).key()
 }
 
 /// The bytes of the key of an operation.
@@ -183,7 +163,7 @@ pub fn key_at(history: &History, node: NodeIx, op: usize) -> &[u8]
     ensures bytes { result.now ≡ spec.key_text (op_at history.now node op) }
 {
     history
-        .key_text(key_of(event_at(history, node, op)))
+        .key_text(event_at(history, node, op).key())
         .as_bytes()
 }
 
@@ -194,7 +174,7 @@ pub fn wid_at(history: &History, node: NodeIx, op: usize) -> u64
     ensures text { decimal result ≡ spec.wid_text (op_at history.now node op) }
     ensures wid { result ≡ op_wid (op_at history.now node op) }
 {
-    wid_of(event_at(history, node, op))
+    event_at(history, node, op).wid()
 }
 
 /// Appends the key and the identity of an operation, with a space between.

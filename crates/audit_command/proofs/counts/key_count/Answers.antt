@@ -1,8 +1,8 @@
 use Rattle.std.proofs.Common.{List, [], map, take, refl, sym, ap, ◌∙◌, subst, length}
-use Rattle.session_log.specs.Text.{view}
+use Rattle.session_log.specs.Text.{view, key_of}
 use Rattle.session_log.specs.declared.session.Op.{Op}
 use Rattle.log_definitions.specs.Unknown.{ops_in}
-use Rattle.log_definitions.specs.WellFormed.{keys_in, first_seen, key_of}
+use Rattle.log_definitions.specs.WellFormed.{keys_in, first_seen}
 use Rattle.session_history.proofs.Stepping.{stepped}
 use Rattle.audit_command.specs.Counts.{HasKeys}
 use Rattle.audit_command.proofs.Counting.{none, step_session}

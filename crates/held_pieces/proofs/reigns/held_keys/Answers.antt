@@ -16,10 +16,10 @@ loop-op-preserved c =
       | in-Some+in_ok-to_owned_key+in_ok-insert w ↦ λ key. (
           let own = w.in_ok-to_owned_key.ensures.same in
           ap (λ t. get (slice_cmp nat_cmp) t key) w.table-is
-          ∙ held_taken h c.args.ops.now c.loop-op.op-index c.op-item.result w.in_ok-to_owned_key.field-0 w.in-Some.wid c.loop-op.table w.insert.new.self at (own ∙ c.key_of-key.ensures) (sym w.in-Some.is ∙ holds ∙ ap h (sym own)) w.in_ok-insert.ensures.updates c.loop-op.invariant key
+          ∙ held_taken h c.args.ops.now c.loop-op.op-index c.op-item.result w.in_ok-to_owned_key.field-0 w.in-Some.wid c.loop-op.table w.insert.new.self at (own ∙ c.key-key.ensures) (sym w.in-Some.is ∙ holds ∙ ap h (sym own)) w.in_ok-insert.ensures.updates c.loop-op.invariant key
           )
       | in_default w ↦ λ key. (
           ap (λ t. get (slice_cmp nat_cmp) t key) w.table-is
-          ∙ none_taken h c.args.ops.now c.loop-op.op-index c.op-item.result c.key_of-key.result.now c.loop-op.table at c.key_of-key.ensures (sym w.in_default.is ∙ holds) c.loop-op.invariant key
+          ∙ none_taken h c.args.ops.now c.loop-op.op-index c.op-item.result c.key-key.result.now c.loop-op.table at c.key-key.ensures (sym w.in_default.is ∙ holds) c.loop-op.invariant key
           )
     ]

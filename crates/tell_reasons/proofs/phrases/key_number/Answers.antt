@@ -9,6 +9,6 @@ returns c =
     let ss = c.args.history.now in
     let at = c.event_at.ensures.event in
     record {
-      key = c.key_of.ensures ∙ number_told ss c.args.node c.args.op c.event_at.result at;
-      known = subst (λ x. x < (log_of ss).keys) (sym c.key_of.ensures) (key_below ss c.args.node c.args.op c.event_at.result at);
+      key = c.key.ensures ∙ number_told ss c.args.node c.args.op c.event_at.result at;
+      known = subst (λ x. x < (log_of ss).keys) (sym c.key.ensures) (key_below ss c.args.node c.args.op c.event_at.result at);
     }

@@ -1,5 +1,6 @@
 use Rattle.std.proofs.Common.{◌≡◌, ℕ, List, map, take}
-use Rattle.log_definitions.specs.WellFormed.{first_seen, key_of}
+use Rattle.log_definitions.specs.WellFormed.{first_seen}
+use Rattle.session_log.specs.Text.{key_of}
 use Rattle.log_definitions.specs.Numbers.{events_of}
 use Rattle.session_history.specs.Numbering.{FindsEach}
 use Rattle.session_history.proofs.numbers.Numbers.events.Given as goal

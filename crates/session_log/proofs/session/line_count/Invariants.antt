@@ -1,0 +1,10 @@
+use Rattle.std.proofs.Common.{◌≡◌, ◌+◌, ◌<◌, ◌^◌, map, drop, length}
+use Rattle.std.specs.List.{flat_map}
+use Rattle.session_log.specs.Text.{view, session_lines, capped}
+use Rattle.session_log.proofs.session.line_count.Given as goal
+
+abbrev pub invariant-loop-session : goal.invariant-loop-session
+invariant-loop-session l = record {
+  low : l.count < 2 ^ 64;
+  lines : capped (l.count + length (flat_map session_lines (map view (drop l.session-index l.sessions)))) ≡ capped (length (flat_map session_lines (map view l.sessions)));
+}
