@@ -6,7 +6,7 @@ use Rattle.std.specs.String.{string_bytes}
 use Rattle.std.specs.Prelude.{String}
 use Rattle.std.specs.declared.alloc.Global.{Global}
 use Rattle.session_log.specs.declared.fault.LogFault.{LogFault}
-use Rattle.fault_words.specs.Codes.{code_of, line_of}
+use Rattle.session_log.specs.Codes.{code_of, line_of}
 use Rattle.isolation.specs.Levels.{level_title}
 use Rattle.audit_command.specs.Words.{code_number, word_text, word_of, verdict_text, kept_text}
 use Rattle.isolation.specs.declared.level.Isolation.{Isolation}

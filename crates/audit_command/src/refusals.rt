@@ -11,7 +11,7 @@ use crate::lines::{put, put_number};
 use crate::object::{put_quoted, put_version};
 use crate::options::AuditOptions;
 use call_options::ReportForm;
-use fault_words::{code_of, line_of, words_of};
+use fault_words::words_of;
 use session_log::LogFault;
 use std::alloc::{AllocError, Global};
 
@@ -29,7 +29,7 @@ fn put_code(out: &mut Vec<u8>, fault: LogFault) -> Result<(), AllocError>
     ensures put { OnOk result (out.new.items ≡ out.old.items ++ code_of_fault fault) }
 {
     put(out, b",\"code\":\"")?;
-    put(out, code_of(fault).as_bytes())?;
+    put(out, fault.code().as_bytes())?;
     put(out, b"\"")
 }
 
@@ -38,7 +38,7 @@ fn put_line(out: &mut Vec<u8>, fault: LogFault) -> Result<(), AllocError>
     ensures put { OnOk result (out.new.items ≡ out.old.items ++ line_of_fault fault) }
 {
     put(out, b",\"line\":")?;
-    put_number_or_null(out, line_of(fault))
+    put_number_or_null(out, fault.line())
 }
 
 #[tactic(auto, unfolding(crate::specs::Objects::words_value))]

@@ -1,7 +1,7 @@
 -- The line that is printed of a refusal, without its line feed, and its exit status.
-use Rattle.std.specs.Prelude.{ℕ, List, ◌++◌, codes, decimal}
-use Rattle.session_log.specs.declared.fault.Limit.{Limit}
-use Rattle.session_log.specs.declared.fault.Limit.TheVariants as limit
+use Rattle.std.specs.Prelude.{ℕ, Bool, true, false, if◌then◌else◌, List, [], ◌++◌, codes, decimal}
+use Rattle.std.specs.Prelude.{Option, Some, None}
+use Rattle.session_log.specs.Codes.{code_of, line_of}
 use Rattle.session_log.specs.declared.fault.LogFault.{LogFault}
 use Rattle.session_log.specs.declared.fault.LogFault.TheVariants as log
 use Rattle.polygraph.specs.declared.fault.PolyFault.{PolyFault}
@@ -31,24 +31,18 @@ input_line = codes "device failed: input"
 abbrev pub output_line : List ℕ
 output_line = codes "device failed: output"
 
-abbrev pub limit_name : Limit → List ℕ
-limit_name limit.LogBytes = codes "log-bytes"
-limit_name limit.Sessions = codes "sessions"
-limit_name limit.Operations = codes "operations"
-limit_name limit.Committed = codes "committed"
-limit_name limit.Keys = codes "keys"
+-- the line, where there is one
+abbrev pub line_told : Option ℕ → List ℕ
+line_told None = []
+line_told (Some line) = codes " line " ++ decimal line
+
+abbrev pub is_memory : LogFault → Bool
+is_memory log.Memory = true
+is_memory _ = false
 
 abbrev pub log_refusal : LogFault → List ℕ
-log_refusal (log.BadLine line) = codes "refused: L1 line " ++ decimal line
-log_refusal (log.SessionTwice line) = codes "refused: L2 line " ++ decimal line
-log_refusal (log.OutsideTransaction line) = codes "refused: L3 line " ++ decimal line
-log_refusal (log.OpenTransaction line) = codes "refused: L4 line " ++ decimal line
-log_refusal (log.WriteZero line) = codes "refused: L5 line " ++ decimal line
-log_refusal (log.WriteTwice line) = codes "refused: L6 line " ++ decimal line
-log_refusal (log.UnknownNotLast line) = codes "refused: L9 line " ++ decimal line
-log_refusal (log.EndsBeforeBegin line) = codes "refused: L10 line " ++ decimal line
-log_refusal (log.OverLimit which) = codes "refused: L7 " ++ limit_name which
-log_refusal log.Memory = memory_line
+log_refusal f = if is_memory f then memory_line
+    else codes "refused: " ++ code_of f ++ line_told (line_of f)
 
 abbrev pub formula_refusal : CnfFault → List ℕ
 formula_refusal cnf.TooManyChoices = codes "refused: G1"

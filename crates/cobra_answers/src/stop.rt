@@ -3,7 +3,7 @@
 
 ghost use Rattle.std.specs.Prelude.{◌≡◌};
 ghost use Rattle.std.specs.Fmt.{WritesOnOk};
-ghost use Rattle.cobra_answers.specs.Refusals.{limit_name, log_refusal, formula_refusal};
+ghost use Rattle.cobra_answers.specs.Refusals.{is_memory, log_refusal, formula_refusal};
 ghost use Rattle.cobra_answers.specs.Refusals.{answer_refusal, order_refusal, refusal};
 ghost use Rattle.cobra_answers.specs.Refusals.{refusal_status, stop_status};
 
@@ -12,7 +12,7 @@ use crate::source::ReadFault;
 use dimacs::AnswerFault;
 use order_cnf::CnfFault;
 use order_text::OrderFault;
-use session_log::{Limit, LogFault};
+use session_log::LogFault;
 use std::alloc::AllocError;
 use std::fmt;
 
@@ -100,35 +100,26 @@ fn refusal_status(fault: Fault) -> u8
     }
 }
 
-fn limit_name(limit: Limit) -> &'static str
-    ensures name { result.now ≡ limit_name limit }
+/// Whether memory was refused.
+fn is_memory(fault: LogFault) -> bool
+    ensures memory { result ≡ is_memory fault }
 {
-    match limit {
-        Limit::LogBytes => "log-bytes",
-        Limit::Sessions => "sessions",
-        Limit::Operations => "operations",
-        Limit::Committed => "committed",
-        Limit::Keys => "keys",
+    match fault {
+        LogFault::Memory => true,
+        _ => false,
     }
 }
 
 fn write_log_refusal<W: fmt::Write>(f: &mut fmt::Formatter<W>, fault: LogFault) -> fmt::Result
     ensures text { WritesOnOk W.write_str_gives f.old result (log_refusal fault) f.new }
 {
-    match fault {
-        LogFault::BadLine { line } => write!(f, "refused: L1 line {line}"),
-        LogFault::SessionTwice { line } => write!(f, "refused: L2 line {line}"),
-        LogFault::OutsideTransaction { line } => write!(f, "refused: L3 line {line}"),
-        LogFault::OpenTransaction { line } => write!(f, "refused: L4 line {line}"),
-        LogFault::WriteZero { line } => write!(f, "refused: L5 line {line}"),
-        LogFault::WriteTwice { line } => write!(f, "refused: L6 line {line}"),
-        LogFault::UnknownNotLast { line } => write!(f, "refused: L9 line {line}"),
-        LogFault::EndsBeforeBegin { line } => write!(f, "refused: L10 line {line}"),
-        LogFault::OverLimit { which } => {
-            let name = limit_name(which);
-            write!(f, "refused: L7 {name}")
-        }
-        LogFault::Memory => write!(f, "out of memory"),
+    if is_memory(fault) {
+        return write!(f, "out of memory");
+    }
+    let code = fault.code();
+    match fault.line() {
+        Some(line) => write!(f, "refused: {code} line {line}"),
+        None => write!(f, "refused: {code}"),
     }
 }
 

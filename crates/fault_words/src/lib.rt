@@ -1,5 +1,5 @@
-//! Why a log is refused, in words for people: as `FILE:LINE: WORDS (CODE)`, and each part by
-//! itself.
+//! Why a log is refused, in words for people: as `FILE:LINE: WORDS (CODE)`, and the words by
+//! themselves.
 //!
 //! Called by `audit_command` and `cobra_poly`. It knows no history, and not which command ran.
 //!
@@ -14,4 +14,4 @@ mod numbers;
 mod quoted;
 mod told;
 
-pub use told::{code_of, line_of, refusal, words_of};
+pub use told::{refusal, words_of};

@@ -2,8 +2,7 @@
 
 ghost use Rattle.std.specs.Prelude.{◌≡◌, ◌++◌, IfOk, codes};
 ghost use Rattle.std.specs.String.{string_bytes};
-ghost use Rattle.fault_words.specs.Codes.{limit_code, code_of, line_of, place_of, joined};
-ghost use Rattle.fault_words.specs.Codes.{IsRefusalLine};
+ghost use Rattle.fault_words.specs.Codes.{place_of, joined, IsRefusalLine};
 ghost use Rattle.fault_words.specs.Words.{Says, SaysOfSome, IsLimitSaid, IsOutsideSaid, IsSaidOf};
 
 use crate::form::{Number, Wrong, first_word, wrong_form};
@@ -14,53 +13,6 @@ use long_log_definitions::MAX_LONG_LOG_BYTES;
 use serializability::MAX_NODES;
 use session_log::{Limit, LogFault, MAX_KEYS, MAX_OPERATIONS, MAX_SESSIONS, Version, index_of};
 use std::alloc::{AllocError, Global};
-
-fn limit_code(which: Limit) -> &'static str
-    ensures code { result.now ≡ limit_code which }
-{
-    match which {
-        Limit::LogBytes => "L7 log-bytes",
-        Limit::Sessions => "L7 sessions",
-        Limit::Operations => "L7 operations",
-        Limit::Committed => "L7 committed",
-        Limit::Keys => "L7 keys",
-    }
-}
-
-/// The code of a fault, as the table of faults has it, and of a limit its name.
-pub fn code_of(fault: LogFault) -> &'static str
-    ensures code { result.now ≡ code_of fault }
-{
-    match fault {
-        LogFault::BadLine { .. } => "L1",
-        LogFault::SessionTwice { .. } => "L2",
-        LogFault::OutsideTransaction { .. } => "L3",
-        LogFault::OpenTransaction { .. } => "L4",
-        LogFault::WriteZero { .. } => "L5",
-        LogFault::WriteTwice { .. } => "L6",
-        LogFault::OverLimit { which } => limit_code(which),
-        LogFault::Memory => "L8",
-        LogFault::UnknownNotLast { .. } => "L9",
-        LogFault::EndsBeforeBegin { .. } => "L10",
-    }
-}
-
-/// The line of a fault, where it has one.
-pub fn line_of(fault: LogFault) -> Option<usize>
-    ensures line { result ≡ line_of fault }
-{
-    match fault {
-        LogFault::BadLine { line }
-        | LogFault::SessionTwice { line }
-        | LogFault::OutsideTransaction { line }
-        | LogFault::OpenTransaction { line }
-        | LogFault::WriteZero { line }
-        | LogFault::WriteTwice { line }
-        | LogFault::UnknownNotLast { line }
-        | LogFault::EndsBeforeBegin { line } => Some(line),
-        LogFault::OverLimit { .. } | LogFault::Memory => None,
-    }
-}
 
 fn number_words(number: Number) -> &'static str {
     match number {
@@ -279,7 +231,7 @@ pub fn refusal(alloc: Global, name: &str, log: &[u8], fault: LogFault) -> Result
     ensures refusal { IfOk result (λ text. IsRefusalLine name.now fault (string_bytes text)) }
 {
     let words = words_of(alloc, log, fault)?;
-    let code = code_of(fault);
-    let place = place_of(alloc, name, line_of(fault))?;
+    let code = fault.code();
+    let place = place_of(alloc, name, fault.line())?;
     joined(alloc, &place, &words, code)
 }

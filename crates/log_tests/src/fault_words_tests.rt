@@ -1,5 +1,5 @@
 use desk::seat_no::Workers;
-use fault_words::{code_of, line_of, refusal, words_of};
+use fault_words::{refusal, words_of};
 use long_reading::read_long_log;
 use session_log::{Limit, LogFault};
 use std::alloc::Global;
@@ -209,8 +209,8 @@ fn limits_and_memory(rt: HostRuntime) -> Result<(), Fail> {
         (Limit::Keys, "L7 keys", "the log has more than 10000 keys"),
     ] {
         let fault = LogFault::OverLimit { which };
-        assert_eq!(rt; code_of(fault), code);
-        assert_eq!(rt; line_of(fault), None);
+        assert_eq!(rt; fault.code(), code);
+        assert_eq!(rt; fault.line(), None);
         assert_eq!(rt; words_of(alloc, b"", fault)?.as_str(), want);
     }
     let told = refusal(alloc, "-", b"", LogFault::Memory)?;

@@ -1,6 +1,7 @@
 //! Why a log is refused.
 
 ghost use Rattle.std.specs.Prelude.{◌≡◌};
+ghost use Rattle.session_log.specs.Codes.{limit_code, code_of, line_of};
 ghost use Rattle.session_log.specs.declared.fault.LogFault.TheVariants.{Memory};
 
 use std::alloc::{AllocError, AllocFailed};
@@ -44,6 +45,57 @@ pub enum LogFault {
     OverLimit { which: Limit },
     /// Memory was refused. It may come in place of any other fault.
     Memory,
+}
+
+impl Limit {
+    fn code(self) -> &'static str
+        ensures code { result.now ≡ limit_code self }
+    {
+        match self {
+            Limit::LogBytes => "L7 log-bytes",
+            Limit::Sessions => "L7 sessions",
+            Limit::Operations => "L7 operations",
+            Limit::Committed => "L7 committed",
+            Limit::Keys => "L7 keys",
+        }
+    }
+}
+
+impl LogFault {
+    /// Its code, as the table of faults has it, and of a limit its name.
+    pub fn code(self) -> &'static str
+        ensures code { result.now ≡ code_of self }
+    {
+        match self {
+            LogFault::BadLine { .. } => "L1",
+            LogFault::SessionTwice { .. } => "L2",
+            LogFault::OutsideTransaction { .. } => "L3",
+            LogFault::OpenTransaction { .. } => "L4",
+            LogFault::WriteZero { .. } => "L5",
+            LogFault::WriteTwice { .. } => "L6",
+            LogFault::OverLimit { which } => which.code(),
+            LogFault::Memory => "L8",
+            LogFault::UnknownNotLast { .. } => "L9",
+            LogFault::EndsBeforeBegin { .. } => "L10",
+        }
+    }
+
+    /// Its line, where it has one.
+    pub fn line(self) -> Option<usize>
+        ensures line { result ≡ line_of self }
+    {
+        match self {
+            LogFault::BadLine { line }
+            | LogFault::SessionTwice { line }
+            | LogFault::OutsideTransaction { line }
+            | LogFault::OpenTransaction { line }
+            | LogFault::WriteZero { line }
+            | LogFault::WriteTwice { line }
+            | LogFault::UnknownNotLast { line }
+            | LogFault::EndsBeforeBegin { line } => Some(line),
+            LogFault::OverLimit { .. } | LogFault::Memory => None,
+        }
+    }
 }
 
 impl From<AllocError> for LogFault {

@@ -36,8 +36,9 @@ loop-session-preserved c =
     let number = c.loop-session.invariant.line in
     let fresh = sym (c.loop-session.invariant.seen x.number) ∙ not-true (contains nat_cmp c.loop-session.seen x.number) (sym c.in_ok-insert.ensures.added ∙ c.if-not-branch.false) in
     let more = lines_more sessions i x h at in
+    let all = lines_within sessions (i + 1) in
     record {
       none = none_more c.args.first sessions i n x h at number c.loop-session.invariant.none fresh;
       seen = seen_more c.args.first sessions i n x (contains nat_cmp c.loop-session.seen) (contains nat_cmp c.insert.new.self) h at number c.loop-session.invariant.seen c.in_ok-insert.ensures.updates.0;
-      line = omega (arith, more, number, c.line_count.ensures);
+      line = omega (arith, more, all, c.requires.room, number, c.line_count.ensures);
     }
