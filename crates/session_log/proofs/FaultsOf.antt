@@ -2,6 +2,7 @@
 use Rattle.std.proofs.Common.{◌≡◌, Option, Some, arith, sym, subst}
 use Rattle.session_log.specs.Faults.{IsFault}
 use Rattle.session_log.specs.declared.fault.LogFault.{LogFault}
+use Rattle.session_log.specs.declared.fault.LogFault.TheVariants as faults
 
 pub this_fault : (f : LogFault) (o : Option LogFault) → o ≡ Some f → IsFault f o
 this_fault v0 o h = grind arith
