@@ -16,8 +16,8 @@ use Rattle.session_history.specs.Tables.{writers_in}
 use Rattle.anomalies.specs.declared.updates.Clash.{Clash}
 use Rattle.anomalies.specs.declared.updates.Updater.{Updater}
 use Rattle.anomalies.specs.Updates.{lost_updates_of, lost_by, readers_from, first_of, first_two, updater_of, AreOfKeysBelow, AreFirst, clash_from, clash_with, lesser, IsLeastClash}
-use Rattle.anomalies.proofs.Scan.{first-append}
 use Rattle.serializability.proofs.Sources.{source_within}
+use Rattle.anomaly_laws.proofs.First.{first-append}
 
 -- ---- the readers from u, one node further
 further : (log : Log) (x u v : ℕ) (nodes : List ℕ) (b : Bool) → option_map_or (λ s. eqb s u) (source log v x) false ≡ b → readers_from log x u (nodes ++ v ∷ []) ≡ readers_from log x u nodes ++ cond b (v ∷ []) []

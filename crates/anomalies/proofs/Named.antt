@@ -1,9 +1,8 @@
 -- The anomaly of an external read by the write that it names.
 use Rattle.std.proofs.Common.{◌≡◌, ◌≢◌, ℕ, Bool, true, false, eqb, cond, not, ◌&&◌, List, ◌∷◌, ◌++◌, Option, None, Some, sym, ap, ◌∙◌, inl, inr, arith, append_assoc, eq-eqb, ne_eqb}
-use Rattle.std.specs.List.{Contains, list_any}
+use Rattle.std.specs.List.{list_any}
 use Rattle.std.specs.Option.{option_map_or}
 use Rattle.std.proofs.lemmas.Bool.{false≢true, cond-true, cond-false, false_from_ne_true, and_left, and_right, and_from, not_from_true, not_from_false}
-use Rattle.std.proofs.lemmas.List.Folds.{list_any-from_Any}
 use Rattle.serializability.specs.declared.event.Event.{Event}
 use Rattle.serializability.specs.declared.event.Event.TheVariants.{Read, Write}
 use Rattle.serializability.specs.declared.anomaly.ReadAnomaly.{ReadAnomaly}
@@ -11,14 +10,15 @@ use Rattle.serializability.specs.declared.anomaly.ReadAnomaly.TheVariants.{Unkno
 use Rattle.serializability.specs.Log.{Log}
 use Rattle.serializability.specs.Reads.{last_write, WritesAfter, IsNumbered}
 use Rattle.serializability.specs.Polygraph.{committed}
-use Rattle.serializability.specs.Anomalies.{is_write_of, writes_as, is_unknown, is_aborted, is_intermediate, external_anomaly}
+use Rattle.serializability.specs.Anomalies.{writes_as, is_unknown, is_aborted, is_intermediate, external_anomaly}
 use Rattle.serializability.proofs.Sources.{Has-from_range, range-from_Has, any_found, any_from, wrote_is}
 use Rattle.session_history.specs.Writes.{IsUnwritten, IsNodesWrite, IsWrite}
 use Rattle.anomaly_laws.specs.Aborted.{WritesAborted}
 use Rattle.anomaly_laws.specs.Meaning.{IsIntermediateWrite}
 use Rattle.anomaly_laws.proofs.Lists.{contains_at}
-use Rattle.anomaly_laws.proofs.Writes.{is_write-self, writes_split, writes_at, writes_behind}
-use Rattle.anomaly_laws.proofs.Tests.{aborted_writes, intermediate_write}
+use Rattle.anomaly_laws.proofs.Writes.{writes_split, writes_at, writes_behind}
+use Rattle.anomaly_laws.proofs.Tests.{aborted_writes, intermediate_write, aborted_from as aborted}
+use Rattle.session_history.proofs.Identified.{writes_where_contained}
 use Rattle.anomalies.specs.Usage.{StandsAt, split_anomaly}
 use Rattle.anomalies.proofs.Sound.{IsSound, same_at, same_key}
 
@@ -42,9 +42,6 @@ pick_none c d o e f = cond-false c (Some Future) (cond d (Some Intermediate) o) 
 abbrev nodes_write : Log → ℕ → ℕ → Bool
 nodes_write log x w = list_any (λ u. writes_as x w (log.ops u)) (committed log)
 
-contains_write : (x w : ℕ) (ops : List Event) → Contains ops (Write x w) → writes_as x w ops ≡ true
-contains_write x w ops c = list_any-from_Any (is_write_of x w) ops (c.0, Write x w, c.1, c.2, is_write-self x w)
-
 unwritten_by_nodes : (log : Log) (x w : ℕ) → ((u : ℕ) (before : List Event) → WritesAfter log u before x w → ⊥) → nodes_write log x w ≡ false
 unwritten_by_nodes log x w h = false_from_ne_true (nodes_write log x w) (λ t.
     (let f = any_found (λ u. writes_as x w (log.ops u)) (committed log) t in
@@ -59,9 +56,6 @@ written_by_node log u x w before a =
 
 not_aborted : (log : Log) (x w : ℕ) → (WritesAborted log x w → ⊥) → is_aborted log x w ≡ false
 not_aborted log x w h = false_from_ne_true (is_aborted log x w) (λ t. h (aborted_writes log x w t))
-
-aborted : (log : Log) (x w : ℕ) → WritesAborted log x w → is_aborted log x w ≡ true
-aborted log x w a = list_any-from_Any (writes_as x w) log.aborted (a.1.0, a.0, a.1.1, a.1.2, contains_write x w a.0 a.2)
 
 not_future : (x w : ℕ) (ops : List Event) → ((before behind : List Event) → ops ≡ before ++ Write x w ∷ behind → ⊥) → writes_as x w ops ≡ false
 not_future x w ops h = false_from_ne_true (writes_as x w ops) (λ t. (let s = writes_split x w ops t in h s.before s.behind s.stands))
@@ -114,7 +108,7 @@ unwritten_read log v x w before behind ne h =
 -- ---- where some transaction writes w
 node_writes : (log : Log) (u x w : ℕ) (last : Bool) → IsNodesWrite log u x w last → (before : List Event) × WritesAfter log u before x w
 node_writes log u x w last h =
-    let s = writes_split x w (log.ops u) (contains_write x w (log.ops u) h.stands) in
+    let s = writes_split x w (log.ops u) (writes_where_contained x w (log.ops u) h.stands) in
     (s.before, (h.node.0, h.node.1, (s.behind, s.stands)))
 
 one_key : (log : Log) → IsNumbered log → (u k x y w : ℕ) (a b : List Event) → WritesAfter log u a x w → WritesAfter log k b y w → x ≡ y
@@ -150,7 +144,7 @@ pub future_read : (log : Log) → IsSound log → (v x w u : ℕ) (last : Bool) 
 future_read log sound v x w u last before behind s external write ne same =
     let h = nodes_own log x w u last write ne in
     let a = node_writes log u x w last h in
-    let own : writes_as x w (log.ops v) ≡ true = ap (λ k. writes_as x w (log.ops k)) (sym same) ∙ contains_write x w (log.ops u) h.stands in
+    let own : writes_as x w (log.ops v) ≡ true = ap (λ k. writes_as x w (log.ops k)) (sym same) ∙ writes_where_contained x w (log.ops u) h.stands in
     past_aborted log sound u x w a.0 _ a.1
     ∙ cond-true (writes_as x w behind) (Some Future) _ (writes_behind x w w (log.ops v) before behind s.stands external own)
 

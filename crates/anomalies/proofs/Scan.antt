@@ -1,5 +1,5 @@
 -- The first of the results over a range of nodes or keys, and over the operations of a node.
-use Rattle.std.proofs.Common.{◌≡◌, ℕ, ◌+◌, ◌-◌, ◌<◌, ◌≤◌, List, [], ◌∷◌, ◌++◌, length, get_or, take, drop, Option, None, Some, refl, sym, ap, ◌∙◌, arith}
+use Rattle.std.proofs.Common.{◌≡◌, ℕ, ◌+◌, ◌-◌, ◌<◌, ◌≤◌, List, length, get_or, take, drop, Option, None, Some, sym, ap, ◌∙◌, arith}
 use Rattle.std.specs.Prelude.{map}
 use Rattle.std.specs.List.{flat_map, range_with_len}
 use Rattle.std.specs.Option.{option_or}
@@ -7,14 +7,7 @@ use Rattle.std.proofs.lemmas.List.{at_drop_more, at_drop_all, take_more}
 use Rattle.serializability.specs.declared.event.Event.{Event}
 use Rattle.serializability.specs.declared.anomaly.Anomaly.{Anomaly}
 use Rattle.serializability.specs.Anomalies.{Place, places_from, first_some}
-
-or_assoc : {X : Type 0} (a b c : Option X) → option_or a (option_or b c) ≡ option_or (option_or a b) c
-or_assoc None b c = refl
-or_assoc (Some x) b c = refl
-
-pub first-append : {X : Type 0} (f : X → Option Anomaly) (xs ys : List X) → first_some (map f (xs ++ ys)) ≡ option_or (first_some (map f xs)) (first_some (map f ys))
-first-append f [] ys = refl
-first-append f (x ∷ xs) ys = ap (option_or (f x)) (first-append f xs ys) ∙ or_assoc (f x) (first_some (map f xs)) (first_some (map f ys))
+use Rattle.anomaly_laws.proofs.First.{first-append}
 
 -- ---- what G gives for the numbers from v up to the end
 abbrev pub first_from : {X : Type 0} → (X → Option Anomaly) → (ℕ → List X) → ℕ → ℕ → Option Anomaly

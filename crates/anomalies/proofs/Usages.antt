@@ -3,7 +3,7 @@ use Rattle.std.proofs.Common.{◌≡◌, ℕ, Bool, true, false, eqb, cond, not,
 use Rattle.std.specs.Bool.{then_some}
 use Rattle.std.specs.List.{list_any}
 use Rattle.std.specs.Option.{option_or}
-use Rattle.std.proofs.lemmas.Bool.{cond-true, cond-false, and_left, not-false, eqb-true}
+use Rattle.std.proofs.lemmas.Bool.{cond-false, and_left, not-false, eqb-true}
 use Rattle.std.proofs.lemmas.List.Folds.{list_any-append}
 use Rattle.serializability.specs.declared.event.Event.{Event}
 use Rattle.serializability.specs.declared.event.Event.TheVariants.{Read, Write}
@@ -16,6 +16,8 @@ use Rattle.serializability.proofs.Replays.{last_write-append}
 use Rattle.anomalies.specs.declared.reads.Usage.{Usage}
 use Rattle.anomalies.specs.declared.reads.Usage.TheVariants as usage
 use Rattle.serializability.specs.Events.{event_key}
+use Rattle.anomaly_laws.proofs.Clean.{not_first}
+use Rattle.session_history.proofs.KeyRows.{last_write_written, last_write_read}
 use Rattle.anomalies.specs.Usage.{split_anomaly, own_write, names_other, IsUsage, used_after}
 
 -- ---- the anomaly of a read
@@ -41,18 +43,8 @@ further_read log v x w first before behind r h e = grind (arith, split_is, some_
 some_is_none : {X : Type 0} (x : X) {P : Type 0} → Some x ≡ None → P
 some_is_none x e = cc
 
-test_false : (b : Bool) (kind : ReadAnomaly) (o : Option ReadAnomaly) → cond b (Some kind) o ≡ None → (b ≡ false) × (o ≡ None)
-test_false true kind o e = cc
-test_false false kind o e = (refl, e)
-
 not_split : (log : Log) (v x w : ℕ) (before behind : List Event) → external_anomaly log v before x w behind ≡ None → list_any (is_other_read x w) before ≡ false
-not_split log v x w before behind e = grind (arith, test_false)
-
-after_write : (x w : ℕ) (before : List Event) → last_write x (before ++ Write x w ∷ []) ≡ Some w
-after_write x w before = grind (arith, last_write-append, cond-true, eq-eqb)
-
-after_read : (x k w : ℕ) (before : List Event) → last_write x (before ++ Read k w ∷ []) ≡ last_write x before
-after_read x k w before = last_write-append x before (Read k w ∷ [])
+not_split log v x w before behind e = grind (arith, not_first)
 
 or_itself : (a b : Bool) → a ≡ b → (a || (b || false)) ≡ b
 or_itself a true e = rw e refl
@@ -66,11 +58,11 @@ here_other : (x w y : ℕ) → is_other_read x y (Read x w) ≡ not (eqb w y)
 here_other x w y = ap (λ t. t && not (eqb w y)) (eq-eqb x x refl)
 
 usage_read : (x w : ℕ) (before : List Event) → last_write x before ≡ None → ((y : ℕ) → (list_any (is_other_read x y) before || (not (eqb w y) || false)) ≡ not (eqb w y)) → IsUsage x (before ++ Read x w ∷ []) (Some (usage.Read w))
-usage_read x w before none same = grind (arith, after_read, list_any-append, here_other)
+usage_read x w before none same = grind (arith, last_write_read, list_any-append, here_other)
 
 pub usage_more : (log : Log) (v : ℕ) (before behind : List Event) (e : Event) (used : Option Usage) → IsUsage (event_key e) before used → event_anomaly log v before e behind ≡ None → IsUsage (event_key e) (before ++ e ∷ []) (Some (used_after used e))
 usage_more log v before behind (Write x w) used h none = record {
-  own = after_write x w before;
+  own = last_write_written x w before;
   reads = λ bad y. some_is_none w bad;
 }
 usage_more log v before behind (Read x w) None h none =
@@ -81,13 +73,13 @@ usage_more log v before behind (Read x w) (Some (usage.Read first)) h none =
     let named : first ≡ w = eqb-true first w (not-false (eqb first w) same) in
     usage_read x w before h.own (λ y. or_itself (list_any (is_other_read x y) before) (not (eqb w y)) (h.reads refl y ∙ ap (λ k. not (eqb k y)) named))
 usage_more log v before behind (Read x w) (Some (usage.Wrote own)) h none = record {
-  own = after_read x x w before ∙ h.own;
+  own = last_write_read x x w before ∙ h.own;
   reads = λ bad y. some_is_none own bad;
 }
 
 -- ---- one operation on another key further
 other_write : (x : ℕ) (before : List Event) (e : Event) → eqb (event_key e) x ≡ false → last_write x (before ++ e ∷ []) ≡ last_write x before
-other_write x before v2 ne = grind (arith, after_read, last_write-append, cond-false)
+other_write x before v2 ne = grind (arith, last_write_read, last_write-append, cond-false)
 
 other_event : (x y : ℕ) (e : Event) → eqb (event_key e) x ≡ false → is_other_read x y e ≡ false
 other_event x y (Read k w) ne = and_left (eqb k x) (not (eqb w y)) ne

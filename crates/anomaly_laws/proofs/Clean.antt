@@ -1,5 +1,5 @@
 -- A log has no anomaly exactly where it is clean.
-use Rattle.std.proofs.Common.{◌≡◌, ◌≢◌, ℕ, ◌<◌, ◌≤◌, Bool, true, false, eqb, not, ◌&&◌, cond, List, ◌∷◌, ◌++◌, Option, None, Some, refl, sym, ap, ◌∙◌, subst, inl, inr, arith, unwrap_or, eqb-true, eq-eqb, ne_eqb, append_assoc}
+use Rattle.std.proofs.Common.{◌≡◌, ◌≢◌, ℕ, ◌<◌, ◌≤◌, Bool, true, false, eqb, not, ◌&&◌, cond, List, ◌∷◌, ◌++◌, Option, None, Some, refl, sym, ap, ◌∙◌, subst, inl, inr, arith, eqb-true, eq-eqb, ne_eqb, append_assoc}
 use Rattle.std.specs.Prelude.{is_some}
 use Rattle.std.specs.List.{find, list_any}
 use Rattle.std.specs.Option.{option_map, option_map_or}
@@ -13,7 +13,7 @@ use Rattle.serializability.specs.Reads.{last_write, external_read, IsFinal, Read
 use Rattle.serializability.specs.Polygraph.{committed, wrote, writer_of, source}
 use Rattle.serializability.specs.Anomalies.{writes_as, is_unknown, is_aborted, is_intermediate, is_other_read, external_anomaly, internal_anomaly, read_anomaly, updates, anomaly_of}
 use Rattle.serializability.proofs.Places.{Has}
-use Rattle.serializability.proofs.Sources.{range-from_Has, find_some, any_found, any_from, external_read_split, external_read_some, wrote_is, wrote_from, SourceOf, source_is}
+use Rattle.serializability.proofs.Sources.{range-from_Has, any_found, any_from, external_read_split, external_read_some, wrote_is, wrote_from, SourceOf, source_is, writer_within, one_final}
 use Rattle.serializability.proofs.Serial.{is_some_from, some_cases, none_not_some}
 use Rattle.anomaly_laws.proofs.Lists.{two_places}
 use Rattle.anomaly_laws.proofs.Writes.{writes_split, writes_behind, none_earlier, other_split, other_at, final_writes, final_apart}
@@ -28,7 +28,7 @@ pub record Passes (log : Log) (v : ℕ) (before : List Event) (x w : ℕ) (behin
   pub final : is_intermediate log v x w ≡ false
   pub one : list_any (is_other_read x w) before ≡ false
 
-not_first : (b : Bool) (a : ReadAnomaly) (rest : Option ReadAnomaly) → cond b (Some a) rest ≡ None → (b ≡ false) × (rest ≡ None)
+pub not_first : (b : Bool) (a : ReadAnomaly) (rest : Option ReadAnomaly) → cond b (Some a) rest ≡ None → (b ≡ false) × (rest ≡ None)
 not_first true a rest e = cc
 not_first false a rest e = (refl, e)
 
@@ -130,12 +130,6 @@ external_is log none v x w before reads external =
     let e : external_read x (log.ops v) ≡ Some some.0 = ap (external_read x) reads.2.1 ∙ some.1 in
     let s = external_read_split x some.0 (log.ops v) e in
     e ∙ ap Some (external_same log none v x some.0 w s.before before (reads.0, reads.1, (s.behind, s.stands)) s.external reads external)
-
-writer_within : (log : Log) (x w : ℕ) (o : Option ℕ) → find (wrote log x w) (committed log) ≡ o → unwrap_or o 0 ≤ log.nodes
-writer_within log x w None e = omega arith
-writer_within log x w (Some u) e =
-    let r = range-from_Has u 1 log.nodes (find_some (wrote log x w) (committed log) u e).1 in
-    omega (arith, r.0, r.1)
 
 -- a node that reads x as w and writes it updates it from the writer of w
 updates_from : (log : Log) → NoReadAnomaly log → (v x w p : ℕ) (before : List Event) → ReadsAfter log v before x w → last_write x before ≡ None → last_write x (log.ops v) ≡ Some p → updates log x (writer_of log x w) v ≡ true
@@ -252,12 +246,6 @@ update_is log clean x u r lo hi t =
       | inl e ↦ absurd (none_not_some (last_write x (log.ops r)) e p.1)
       | inr s ↦ record { from = source_is log clean r x u lo hi (wrote_is (source log r x) u p.0); written = s.0; writes = s.1 }
     ]
-
-one_final : (log : Log) (u x w y : ℕ) → IsFinal log u x w → IsFinal log u x y → w ≡ y
-one_final log u x w y (inl a) (inl b) = a.1 ∙ sym b.1
-one_final log u x w y (inl a) (inr b) = absurd (omega (arith, a.0, b.0))
-one_final log u x w y (inr a) (inl b) = absurd (omega (arith, b.0, a.0))
-one_final log u x w y (inr a) (inr b) = cc
 
 clean_updates : (log : Log) → IsClean log → NoLostUpdate log
 clean_updates log clean = record {

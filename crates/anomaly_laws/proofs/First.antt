@@ -5,6 +5,7 @@ use Rattle.std.specs.List.{AllByRecursion, flat_map, range_with_len}
 use Rattle.std.specs.Option.{option_or}
 use Rattle.std.proofs.lemmas.Bool.{cases_eq}
 use Rattle.std.proofs.lemmas.List.{append-nil}
+use Rattle.list_lemmas.proofs.Options.{option_or_assoc}
 use Rattle.serializability.specs.declared.event.Event.{Event}
 use Rattle.serializability.specs.declared.anomaly.Anomaly.{Anomaly}
 use Rattle.serializability.specs.Anomalies.{Place, places_from, first_some}
@@ -14,13 +15,9 @@ pub or_some : {X : Type 0} (o p : Option X) (x : X) → option_or o p ≡ Some x
 or_some None p x e = inr (refl, e)
 or_some (Some y) p x e = inl e
 
-or_assoc : {X : Type 0} (a b c : Option X) → option_or a (option_or b c) ≡ option_or (option_or a b) c
-or_assoc None b c = refl
-or_assoc (Some x) b c = refl
-
-first-append : {X : Type 0} (f : X → Option Anomaly) (xs ys : List X) → first_some (map f (xs ++ ys)) ≡ option_or (first_some (map f xs)) (first_some (map f ys))
+pub first-append : {X : Type 0} (f : X → Option Anomaly) (xs ys : List X) → first_some (map f (xs ++ ys)) ≡ option_or (first_some (map f xs)) (first_some (map f ys))
 first-append f [] ys = refl
-first-append f (x ∷ xs) ys = ap (option_or (f x)) (first-append f xs ys) ∙ or_assoc (f x) (first_some (map f xs)) (first_some (map f ys))
+first-append f (x ∷ xs) ys = ap (option_or (f x)) (first-append f xs ys) ∙ option_or_assoc (f x) (first_some (map f xs)) (first_some (map f ys))
 
 -- what holds of each anomaly of a list holds of the first
 pub of_first : (P : Anomaly → Type 0) (xs : List Anomaly) (a : Anomaly) → AllByRecursion P xs → first_some (map (λ b. Some b) xs) ≡ Some a → P a

@@ -15,7 +15,7 @@ use Rattle.serializability.specs.Polygraph.{all_nodes, all_keys, committed}
 use Rattle.serializability.specs.Pairs.{pairs_of}
 use Rattle.serializability.specs.Anomalies.{read_anomaly, Place, places_from, places, anomaly_at, first_some, updates, lost_update, lost_updates, anomaly_of}
 use Rattle.serializability.proofs.Places.{each_of_range, each_from_range, each_of_flat_map, each_from_flat_map, each_of_map, each_from_map}
-use Rattle.anomaly_laws.proofs.Lists.{each_pair_of, each_pair_from}
+use Rattle.serializability.proofs.EachPair.{each_pair_from, each_pair_of}
 
 -- no read is an anomaly
 pub record NoReadAnomaly (log : Log) : Type 0 where

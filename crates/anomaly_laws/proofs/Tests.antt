@@ -9,11 +9,11 @@ use Rattle.serializability.specs.Log.{Log}
 use Rattle.serializability.specs.Reads.{last_write}
 use Rattle.serializability.specs.Polygraph.{committed}
 use Rattle.serializability.specs.Anomalies.{is_write_of, writes_as, is_unknown, is_aborted, is_intermediate}
-use Rattle.serializability.proofs.Sources.{Has-from_range, range-from_Has, any_found, any_from, wrote_from}
+use Rattle.serializability.proofs.Sources.{Has-from_range, range-from_Has, any_found, any_from, wrote_from, is_write-self}
 use Rattle.anomaly_laws.specs.Aborted.{WritesAborted}
 use Rattle.anomaly_laws.specs.Meaning.{IsWrittenNowhere, IsIntermediateWrite}
 use Rattle.anomaly_laws.proofs.Lists.{any_split, contains_at}
-use Rattle.anomaly_laws.proofs.Writes.{is_write-self, writes_split, writes_at, some_last_write}
+use Rattle.anomaly_laws.proofs.Writes.{writes_split, writes_at, some_last_write}
 
 pub aborted_writes : (log : Log) (x w : ℕ) → is_aborted log x w ≡ true → WritesAborted log x w
 aborted_writes log x w t =
@@ -21,7 +21,7 @@ aborted_writes log x w t =
     let s = writes_split x w f.item f.passes in
     (f.item, contains_at log.aborted f.front f.item f.back f.stands, contains_at f.item s.before (Write x w) s.behind s.stands)
 
-aborted_from : (log : Log) (x w : ℕ) → WritesAborted log x w → is_aborted log x w ≡ true
+pub aborted_from : (log : Log) (x w : ℕ) → WritesAborted log x w → is_aborted log x w ≡ true
 aborted_from log x w a =
     let writes = list_any-from_Any (is_write_of x w) a.0 (a.2.0, Write x w, a.2.1, a.2.2, is_write-self x w) in
     list_any-from_Any (writes_as x w) log.aborted (a.1.0, a.0, a.1.1, a.1.2, writes)

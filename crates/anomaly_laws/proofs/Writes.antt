@@ -10,6 +10,7 @@ use Rattle.serializability.specs.Reads.{later, last_write, IsFinal, WritesAfter,
 use Rattle.serializability.specs.Anomalies.{is_write_of, writes_as, is_other_read}
 use Rattle.serializability.proofs.Replays.{last_write-append}
 use Rattle.serializability.proofs.Serial.{some_cases}
+use Rattle.serializability.proofs.Sources.{later_none_parts, is_write, is_write-self}
 use Rattle.anomaly_laws.proofs.Lists.{any_split, any_at}
 
 -- ---- the later of two
@@ -17,11 +18,6 @@ written_here : (b : Bool) (v w : ℕ) (o : Option ℕ) → later (cond b (Some v
 written_here true v w None e = inr (refl, cc)
 written_here false v w None e = cc
 written_here b v w (Some y) e = inl e
-
-unwritten_here : (b : Bool) (v : ℕ) (o : Option ℕ) → later (cond b (Some v) None) o ≡ None → (b ≡ false) × (o ≡ None)
-unwritten_here true v None e = cc
-unwritten_here false v None e = (refl, refl)
-unwritten_here b v (Some y) e = cc
 
 later_none : (a b : Option ℕ) → later a b ≡ None → a ≡ None
 later_none a None e = e
@@ -33,19 +29,10 @@ pub record WriteIn (x w : ℕ) (ops : List Event) : Type 0 where
   pub behind : List Event
   pub stands : ops ≡ before ++ Write x w ∷ behind
 
-is_write : (x w : ℕ) (e : Event) → is_write_of x w e ≡ true → e ≡ Write x w
-is_write x w (Read k v) h = absurd (false≢true h)
-is_write x w (Write k v) h =
-    let p = and_parts (eqb k x) (eqb v w) h in
-    ap (λ n. Write n v) (eqb-true k x p.0) ∙ ap (λ n. Write x n) (eqb-true v w p.1)
-
 pub writes_split : (x w : ℕ) (ops : List Event) → writes_as x w ops ≡ true → WriteIn x w ops
 writes_split x w ops h =
     let f = any_split (is_write_of x w) ops h in
     record { before = f.front; behind = f.back; stands = f.stands ∙ ap (λ e. f.front ++ e ∷ f.back) (is_write x w f.item f.passes) }
-
-pub is_write-self : (x w : ℕ) → is_write_of x w (Write x w) ≡ true
-is_write-self x w = and_from (eqb x x) (eqb w w) (eq-eqb x x refl) (eq-eqb w w refl)
 
 pub writes_at : (x w : ℕ) (ops before behind : List Event) → ops ≡ before ++ Write x w ∷ behind → writes_as x w ops ≡ true
 writes_at x w ops before behind e =
@@ -63,7 +50,7 @@ no_write : (x w : ℕ) (ops : List Event) → last_write x ops ≡ None → writ
 no_write x w [] e = refl
 no_write x w (Read k v ∷ ops) e = no_write x w ops e
 no_write x w (Write k v ∷ ops) e =
-    let p = unwritten_here (eqb k x) v (last_write x ops) e in
+    let p = later_none_parts (eqb k x) v (last_write x ops) e in
     or_from ((is_write_of x w) (Write k v)) (writes_as x w ops) (and_left (eqb k x) (eqb v w) p.0) (no_write x w ops p.1)
 
 pub some_last_write : (x w : ℕ) (ops : List Event) → writes_as x w ops ≡ true → (y : ℕ) × (last_write x ops ≡ Some y)

@@ -10,16 +10,18 @@ use Rattle.key_tables.specs.Table.{mark_of, entry_cmp, held_in}
 use Rattle.std.proofs.lemmas.List.{map-append}
 use Rattle.std.proofs.lemmas.List.Folds.{list_any-append}
 use Rattle.std.proofs.lemmas.Grind.{flat_map-append}
-use Rattle.session_log.specs.Text.{ClientSession, Transaction, view, key_of}
+use Rattle.session_log.specs.Text.{ClientSession, view, key_of}
 use Rattle.session_log.specs.declared.session.Op.{Op}
 use Rattle.session_log.specs.declared.session.Session.{Session}
 use Rattle.log_definitions.specs.Unknown.{ops_in, txns_in}
 use Rattle.log_definitions.specs.WellFormed.{first_seen}
 use Rattle.session_history.proofs.Seen.{seen_append, first_seen_known}
-use Rattle.session_history.proofs.Stepping.{step_itself, step_in}
-use Rattle.held_pieces.proofs.Steps.{bytes_flip}
+use Rattle.session_history.proofs.Stepping.{step_in}
 use Rattle.audit_command.specs.Counts.{HasKeys}
 use denote.Ref.{Bor}
+use Rattle.list_lemmas.proofs.Comparisons.{bytes_flip}
+use Rattle.list_lemmas.proofs.Lists.{front_more}
+use Rattle.log_definitions.proofs.Settled.{txn_ops}
 
 abbrev keys_of : List Op → List (List ℕ)
 keys_of ops = first_seen [] (map key_of ops)
@@ -76,11 +78,8 @@ pub step_op : (ops passed : List Op) (i : ℕ) (op : Op) → passed ≡ ops → 
 step_op ops passed i op same lt at =
     let P : List Op → Type 0 = λ ys. (i < length ys) × (op ≡ get_or ys i op) in
     let here : P ops = subst P same (lt, at) in
-    step_itself ops i op here.0 here.1
+    front_more ops i op here.0 here.1
 
-abbrev ops_of : Transaction → List Op
-ops_of t = t.ops
-
-pub step_session : (ss : List Session) (i : ℕ) (s : Session) → i < length ss → s ≡ get_or ss i s → ops_in (map view (take (i + 1) ss)) ≡ ops_in (map view (take i ss)) ++ flat_map ops_of (view s).txns
+pub step_session : (ss : List Session) (i : ℕ) (s : Session) → i < length ss → s ≡ get_or ss i s → ops_in (map view (take (i + 1) ss)) ≡ ops_in (map view (take i ss)) ++ flat_map txn_ops (view s).txns
 step_session ss i s lt at =
-    ap (flat_map ops_of) (step_in (λ (c : ClientSession). c.txns) view ss ss i s refl lt at) ∙ flat_map-append ops_of (txns_in (map view (take i ss))) (view s).txns
+    ap (flat_map txn_ops) (step_in (λ (c : ClientSession). c.txns) view ss ss i s refl lt at) ∙ flat_map-append txn_ops (txns_in (map view (take i ss))) (view s).txns

@@ -1,8 +1,9 @@
 -- Parts of different transactions.
-use Rattle.std.proofs.Common.{◌≡◌, ◌<◌, length, arith, Bool, true, false, ◌||◌, List, [], ◌∷◌, ◌++◌, refl, subst}
+use Rattle.std.proofs.Common.{◌≡◌, ◌<◌, length, arith, true, false, List, [], ◌∷◌, ◌++◌, refl, subst}
 use Rattle.std.proofs.lemmas.Cmp.{nat_eq_equiv}
 use Rattle.std.specs.Cmp.Lexicographic.{pointwise}
-use Rattle.audit_command.proofs.Parts.{all_more}
+use Rattle.std.proofs.lemmas.Bool.{or_parts}
+use Rattle.session_log.proofs.Adding.{all_more}
 use Rattle.audit_command.specs.declared.told.ToldTxn.{ToldTxn}
 use Rattle.audit_command.specs.declared.told.ToldPart.{ToldPart}
 use Rattle.audit_command.specs.Distinct.{AreDistinct, IsOther, same_txn, has_txns, is_told}
@@ -10,10 +11,6 @@ use Rattle.audit_command.specs.Distinct.{AreDistinct, IsOther, same_txn, has_txn
 same_itself : (xs : List ToldTxn) → pointwise same_txn xs xs ≡ true
 same_itself [] = refl
 same_itself (x ∷ xs) = rw (nat_eq_equiv.refl x.session, nat_eq_equiv.refl x.place, nat_eq_equiv.refl x.first, nat_eq_equiv.refl x.last) (same_itself xs)
-
-neither : (a b : Bool) → (a || b) ≡ false → (a ≡ false) × (b ≡ false)
-neither false b e = (refl, e)
-neither true b e = cc
 
 other : (p q : ToldPart) → has_txns p.txns.items q ≡ false → IsOther q.txns.items p
 other p q e same =
@@ -23,7 +20,7 @@ other p q e same =
 pub one_more : (ps : List ToldPart) (p : ToldPart) → AreDistinct ps → is_told p.txns.items ps ≡ false → AreDistinct (ps ++ p ∷ [])
 one_more [] p h e = (tt, tt)
 one_more (q ∷ ps) p h e =
-    let apart = neither (has_txns p.txns.items q) (is_told p.txns.items ps) e in
+    let apart = or_parts (has_txns p.txns.items q) (is_told p.txns.items ps) e in
     (all_more (IsOther q.txns.items) ps p h.0 (other p q apart.0), one_more ps p h.1 apart.1)
 
 pub some_told : (txns : List ToldTxn) (ps : List ToldPart) → is_told txns ps ≡ true → 0 < length ps

@@ -6,11 +6,11 @@ use Rattle.std.specs.Option.{option_map_or}
 use Rattle.std.proofs.Math.Path.{fun_ext}
 use Rattle.session_log.specs.Text.{ClientSession}
 use Rattle.log_definitions.specs.Unknown.{resolved}
-use Rattle.log_definitions.specs.Serial.{Committed, committed_in, node_in, node_of, committed_of}
+use Rattle.log_definitions.specs.Serial.{Committed, committed_in, node_in, node_of}
+use Rattle.piece_laws.proofs.Several.{nodes_stay}
 use Rattle.session_history.specs.Tables.{name_in}
 use Rattle.order_checks.specs.Numbered.{names_of}
 use Rattle.order_text.specs.Text.{name_line, order_text}
-use Rattle.judging.proofs.Resolved.{twice}
 use Rattle.audit_command.specs.Orders.{name_at, names_text}
 
 at_index : (nodes : List Committed) (i : ℕ) → unwrap_or (slice_get (names_of nodes) i) (0, 0) ≡ option_map_or (λ (node : Committed). (node.session, node.place)) (slice_get nodes i) (0, 0)
@@ -22,10 +22,6 @@ at_number : (nodes : List Committed) (v : ℕ) → name_at (names_of nodes) v �
 at_number nodes zero = refl
 at_number nodes (suc i) = at_index nodes i
 
-nodes_resolved : (ss : List ClientSession) → committed_in (resolved ss) ≡ committed_in ss
-unfolding committed_in
-nodes_resolved ss = ap (flat_map committed_of) (twice ss)
-
 named : (ss : List ClientSession) (v : ℕ) → name_at (names_of (committed_in ss)) v ≡ name_in ss v
 unfolding node_of
 named ss v = at_number (committed_in ss) v
@@ -33,6 +29,6 @@ named ss v = at_number (committed_in ss) v
 pub text_of_order : (ss known : List ClientSession) (names : List (ℕ × ℕ)) (order : List ℕ) → known ≡ resolved ss → names ≡ names_of (committed_in known) → names_text names order ≡ order_text ss order
 unfolding order_text
 text_of_order ss known names order e f =
-    let names_are : names ≡ names_of (committed_in ss) = f ∙ ap (λ l. names_of (committed_in l)) e ∙ ap names_of (nodes_resolved ss) in
+    let names_are : names ≡ names_of (committed_in ss) = f ∙ ap (λ l. names_of (committed_in l)) e ∙ ap names_of (nodes_stay ss) in
     ap (λ l. names_text l order) names_are
     ∙ ap (λ (name : ℕ → ℕ × ℕ). flat_map (λ v. name_line (name v)) order) (fun_ext (λ v. named ss v))

@@ -9,10 +9,6 @@ pub all_front : {X : Type 0} (P : X → Type 0) (xs : List X) (x : X) → AllByR
 all_front P [] x h = (tt, h.0)
 all_front P (y ∷ ys) x h = let r = all_front P ys x h.1 in ((h.0, r.0), r.1)
 
-pub all_more : {X : Type 0} (P : X → Type 0) (xs : List X) (x : X) → AllByRecursion P xs → P x → AllByRecursion P (xs ++ x ∷ [])
-all_more P [] x h p = (p, tt)
-all_more P (y ∷ ys) x h p = (h.0, all_more P ys x h.1 p)
-
 -- ---- in another order
 pub all_permuted : {X : Type 0} (P : X → Type 0) (xs ys : List X) → IsPermutation xs ys → AllByRecursion P xs → AllByRecursion P ys
 all_permuted P xs ys same h = recursion_from_All P ys (All-permutation P xs ys same (All-from_recursion P xs h))

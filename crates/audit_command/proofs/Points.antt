@@ -8,6 +8,7 @@ use Rattle.session_log.specs.Text.{ClientSession}
 use Rattle.log_definitions.specs.Unknown.{resolved}
 use Rattle.log_definitions.specs.Serial.{Committed, node_in, node_of, IsSerialOrder}
 use Rattle.piece_laws.specs.Logs.{IsLog}
+use Rattle.piece_laws.proofs.Several.{nodes_stay}
 use Rattle.session_history.specs.Tables.{name_in}
 use Rattle.level_laws.specs.Snapshot.{Point, snapshot, commit, IsSnapshotOrder}
 use Rattle.level_laws.specs.Points.{points_from, points_at, points_along}
@@ -20,7 +21,6 @@ use Rattle.point_orders.specs.Text.{word_line, point_line, points_text}
 use Rattle.judging.specs.declared.level.Level.{Level}
 use Rattle.judging.specs.declared.level.Level.TheVariants as level
 use Rattle.judging.specs.Levels.{IsOrderAt}
-use Rattle.judging.proofs.Resolved.{nodes_stay}
 use Rattle.judging.proofs.Levels.{room_resolved, judged_resolved}
 use Rattle.audit_command.specs.Audited.{IsOrderText}
 

@@ -2,6 +2,7 @@
 use Rattle.std.proofs.Common.{◌≡◌, ◌⊎◌, ℕ, zero, suc, ◌+◌, ◌<◌, true, false, List, [], ◌∷◌, ◌++◌, length, Option, Some, None, refl, sym, ap, ◌∙◌, subst, inl, inr, arith, length-set, length-append}
 use Rattle.std.specs.Prelude.{slice_get, slice_set, slice_index_or}
 use Rattle.std.proofs.lemmas.List.{get_or_append_left}
+use Rattle.std.proofs.lemmas.Option.{same_Some}
 use Rattle.serializability.specs.Polygraph.{Polygraph}
 use Rattle.pruning_laws.specs.declared.side.Side.{Side}
 use Rattle.pruning_laws.specs.declared.side.Side.TheVariants.{One, Two}
@@ -14,7 +15,7 @@ use Rattle.cube_laws.specs.declared.tree.CubeDecision.{CubeDecision}
 use Rattle.cube_laws.specs.declared.tree.Growth.{Growth}
 use Rattle.cube_laws.specs.declared.tree.Growth.TheVariants.{Leaf, Inner}
 use Rattle.branch_search.specs.Growing.{bud}
-use Rattle.cube_laws.proofs.Lists.{some_is, within, set_here, set_apart, append_left, append_cases, append_at}
+use Rattle.cube_laws.proofs.Lists.{within, set_here, set_apart, append_left, append_cases, append_at}
 
 -- a mark of a node that is neither split nor refuted
 pub record IsLive (m : CubeState) : Type 0 where
@@ -69,7 +70,7 @@ pub record IsGrown (p : Polygraph) (cs : List Cube) (ms : List CubeState) (ps : 
 module _ (p : Polygraph) (cs : List Cube) (ms : List CubeState) (ps : List ℕ) (ds : List (Option CubeDecision)) (gs : List Growth) (id : ℕ) (old : CubeState) (here : slice_get ms id ≡ Some old) (live : IsLive old) (g : IsGrown p cs ms ps ds gs) where
   -- a split node is not the one that is live
   apart : (i c : ℕ) → slice_get ms i ≡ Some (Divided c) → i ≡ id → ⊥
-  apart i c e is = live.not_divided c (some_is old (Divided c) (sym here ∙ ap (λ k. slice_get ms k) (sym is) ∙ e))
+  apart i c e is = live.not_divided c (same_Some old (Divided c) (sym here ∙ ap (λ k. slice_get ms k) (sym is) ∙ e))
 
   under : (new : CubeState) (i q : ℕ) → IsUnder ms i q → IsUnder (slice_set ms id new) i q
   under new i q u = record { before = u.before; choice = u.choice; split = set_apart ms id q new (Divided u.choice) (apart q u.choice u.split) u.split }
@@ -148,13 +149,13 @@ module _ (p : Polygraph) (cs : List Cube) (ms : List CubeState) (ps : List ℕ) 
     under_split i q u = record { before = u.before; choice = u.choice; split = append_left (slice_set ms id (Divided c)) (Open ∷ Open ∷ []) q (Divided u.choice) (set_apart ms id q (Divided c) (Divided u.choice) (apart q u.choice u.split) u.split) }
 
     is_id : (k q : ℕ) → slice_get (id ∷ id ∷ []) k ≡ Some q → q ≡ id
-    is_id zero q e = sym (some_is id q e)
-    is_id (suc zero) q e = sym (some_is id q e)
+    is_id zero q e = sym (same_Some id q e)
+    is_id (suc zero) q e = sym (same_Some id q e)
     is_id (suc (suc k)) q e = absurd (cc)
 
     is_open : (k : ℕ) (m : CubeState) → slice_get (Open ∷ Open ∷ []) k ≡ Some m → (Open ≡ m → ⊥) → ⊥
-    is_open zero m e never = never (some_is Open m e)
-    is_open (suc zero) m e never = never (some_is Open m e)
+    is_open zero m e never = never (same_Some Open m e)
+    is_open (suc zero) m e never = never (same_Some Open m e)
     is_open (suc (suc k)) m e never = cc
 
     new_below : (i q : ℕ) → 0 < i → slice_get new_ps i ≡ Some q → IsUnder new_ms i q

@@ -3,6 +3,7 @@ use Rattle.std.proofs.Common.{◌≡◌, ◌⊎◌, ℕ, ◌+◌, ◌<◌, Bool,
 use Rattle.std.specs.Prelude.{slice_get, slice_set, slice_index_or, if◌then◌else◌}
 use Rattle.std.proofs.lemmas.Bool.{and_parts, not-true, ltb-true}
 use Rattle.std.proofs.lemmas.List.{get_or-set_same, get_or-set_other}
+use Rattle.std.proofs.lemmas.Option.{same_Some}
 use Rattle.serializability.specs.Polygraph.{Polygraph}
 use Rattle.pruning_laws.specs.declared.side.Side.{Side}
 use Rattle.pruning_laws.specs.declared.side.Side.TheVariants.{One, Two}
@@ -24,7 +25,7 @@ use Rattle.cube_laws.specs.declared.tree.Growth.TheVariants.{Leaf, Inner}
 use Rattle.cube_laws.specs.declared.tree.TreeNode.{TreeNode}
 use Rattle.branch_search.specs.Growing.{held_after, bud, sprout, with_growth, grown}
 use Rattle.cube_laws.specs.Trees.{cubes_after, cube_of, IsChild, IsSplit, IsBelow, IsRoot, IsRefutationTree}
-use Rattle.cube_laws.proofs.Lists.{some_is, within, there, map_some, some_map, map_length, map_append, or_map, any_false}
+use Rattle.cube_laws.proofs.Lists.{within, there, map_some, some_map, map_length, map_append, or_map, any_false}
 use Rattle.cube_laws.proofs.Growths.{leaf_is, choice_is, first_is, second_is, leaf_or_inner}
 use Rattle.branch_search.proofs.Boughs.{IsLive, live_open, live_held, live_ended, IsChildAt, HasChildren, IsGrown, grown_marked, grown_refuted, grown_split}
 use Rattle.branch_search.proofs.Seated.{marks_of, cubes_in, marks_with, cubes_with, held_is, last_is_open, claimed_is_open, Tied, Others, tied_same, tied_given, tied_left, tied_more}
@@ -262,13 +263,13 @@ module _ (p : Polygraph) (s : State) (nodes : List TreeNode) (h : ℕ → Option
   child_of : (i c : ℕ) (side : Side) (j : ℕ) → IsChildAt (parents_of nodes) (decisions_of nodes) i c side j → IsChild nodes i c side j
   child_of i c side j k =
       let n = some_map (λ (y : TreeNode). y.parent) nodes j i k.parent in
-      record { node = n.0; here = n.1; later = k.later; parent = n.2; decision = some_is n.0.decision (Some (record { choice = c; side = side })) (sym (map_some (λ (y : TreeNode). y.decision) nodes j n.0 n.1) ∙ k.decision) }
+      record { node = n.0; here = n.1; later = k.later; parent = n.2; decision = same_Some n.0.decision (Some (record { choice = c; side = side })) (sym (map_some (λ (y : TreeNode). y.decision) nodes j n.0 n.1) ∙ k.decision) }
 
   cube_same : (i : ℕ) → slice_index_or (cubes_in s.nodes) i [] ≡ cube_of nodes i
   cube_same i = ap (λ l. slice_index_or l i []) t.cubes
 
   growth_is : (i : ℕ) (x : TreeNode) (g : Growth) → slice_get nodes i ≡ Some x → slice_get (growths_of nodes) i ≡ Some g → x.growth ≡ g
-  growth_is i x g e f = some_is x.growth g (sym (map_some (λ (y : TreeNode). y.growth) nodes i x e) ∙ f)
+  growth_is i x g e f = same_Some x.growth g (sym (map_some (λ (y : TreeNode). y.growth) nodes i x e) ∙ f)
 
   leaf_at : (i : ℕ) (x : TreeNode) (line : List ℕ) → slice_get nodes i ≡ Some x → x.growth ≡ Leaf line → is_cycle (edges_under p (cube_of nodes i)) line ≡ true
   leaf_at i x line e f =
@@ -313,7 +314,7 @@ module _ (p : Polygraph) (s : State) (nodes : List TreeNode) (h : ℕ → Option
   root_at : IsRoot nodes
   root_at =
       let n = some_map (λ (y : TreeNode). y.parent) nodes 0 0 t.boughs.root_parent in
-      record { node = n.0; here = n.1; parent = n.2; decision = some_is n.0.decision None (sym (map_some (λ (y : TreeNode). y.decision) nodes 0 n.0 n.1) ∙ t.boughs.root_decision) }
+      record { node = n.0; here = n.1; parent = n.2; decision = same_Some n.0.decision None (sym (map_some (λ (y : TreeNode). y.decision) nodes 0 n.0 n.1) ∙ t.boughs.root_decision) }
 
   pub refutation : IsRefutationTree p nodes
   refutation = record { root = root_at; below = below_at; leaves = leaf_at; inner = inner_at }

@@ -2,15 +2,19 @@
 use Rattle.std.proofs.Common.{◌≡◌, ◌⊎◌, ℕ, zero, suc, ◌+◌, ◌<◌, Bool, true, false, List, [], ◌∷◌, ◌++◌, map, Option, Some, None, refl, sym, ap, ◌∙◌, inl, inr, arith}
 use Rattle.std.specs.Prelude.{slice_get, slice_set, if◌then◌else◌}
 use Rattle.std.specs.Option.{option_map_or}
-use Rattle.std.proofs.lemmas.Bool.{cases_eq, eqb-true, eq-eqb, false≢true}
+use Rattle.std.proofs.lemmas.Bool.{cases_eq, eq-eqb, false≢true}
 use Rattle.std.proofs.lemmas.List.{map-set}
+use Rattle.std.proofs.lemmas.Option.{same_Some}
 use Rattle.desk.proofs.Tied.{get_set}
 use Rattle.cube_laws.specs.Cubes.{Cube}
 use Rattle.cube_laws.specs.State.{Node, State}
-use Rattle.cube_laws.specs.Steps.{is_open, is_held_by, held_from, last_open_from, or_else, with_mark, is_open_at}
+use Rattle.cube_laws.specs.Steps.{is_open, is_held_by, held_from, last_open_from, with_mark, is_open_at}
 use Rattle.cube_laws.specs.declared.messages.CubeState.{CubeState}
 use Rattle.cube_laws.specs.declared.messages.CubeState.TheVariants.{Open, Held}
-use Rattle.cube_laws.proofs.Lists.{some_is, within, set_here, set_apart, set_self, append_left, append_cases, map_some}
+use Rattle.cube_laws.proofs.Lists.{within, set_here, set_apart, set_self, append_left, append_cases, map_some}
+use Rattle.cube_laws.proofs.Nodes.{else_cases}
+use Rattle.cube_machine.proofs.Seats.{held_mark}
+use Rattle.cube_machine.proofs.Trees.{same_seat}
 
 abbrev pub marks_of : List Node → List CubeState
 marks_of nodes = map (λ n. n.mark) nodes
@@ -33,12 +37,8 @@ cubes_with nodes id m n e =
 
 -- ---- the node that a seat holds
 pub by_test : {A : Type 0} (b : Bool) (x y : A) (o : Option A) → (if b then Some x else o) ≡ Some y → ((b ≡ true) × (x ≡ y)) ⊎ (o ≡ Some y)
-by_test true x y o e = inl (refl, some_is x y e)
+by_test true x y o e = inl (refl, same_Some x y e)
 by_test false x y o e = inr e
-
-held_mark : (seat : ℕ) (m : CubeState) → is_held_by seat m ≡ true → m ≡ Held seat
-held_mark seat (Held other) e = ap (λ k. Held k) (eqb-true other seat e)
-held_mark seat _ e = absurd (cc)
 
 found_held : (seat k : ℕ) (nodes : List Node) (i : ℕ) → held_from seat k nodes ≡ Some i → (j : ℕ) × (i ≡ k + j) × (slice_get (marks_of nodes) j ≡ Some (Held seat))
 found_held seat k [] i e = absurd (cc)
@@ -58,7 +58,7 @@ untested false x o e = e
 none_held : (seat k : ℕ) (nodes : List Node) (j : ℕ) → held_from seat k nodes ≡ None → slice_get (marks_of nodes) j ≡ Some (Held seat) → ⊥
 none_held seat k [] j e h = cc
 none_held seat k (x ∷ xs) zero e h =
-    tested (is_held_by seat x.mark) k (held_from seat (k + 1) xs) (ap (is_held_by seat) (some_is x.mark (Held seat) h) ∙ eq-eqb seat seat refl) e
+    tested (is_held_by seat x.mark) k (held_from seat (k + 1) xs) (ap (is_held_by seat) (same_Some x.mark (Held seat) h) ∙ eq-eqb seat seat refl) e
 none_held seat k (x ∷ xs) (suc j) e h = none_held seat (k + 1) xs j (untested (is_held_by seat x.mark) k (held_from seat (k + 1) xs) e) h
 
 -- a table of the nodes that seats hold agrees with the marks
@@ -84,16 +84,12 @@ pub open_mark : (m : CubeState) → is_open m ≡ true → m ≡ Open
 open_mark Open e = refl
 open_mark _ e = absurd (cc)
 
-either : (o q : Option ℕ) (i : ℕ) → or_else o q ≡ Some i → (o ≡ Some i) ⊎ (q ≡ Some i)
-either None q i e = inr e
-either (Some k) q i e = inl e
-
 never_some : (i : ℕ) → ◌≡◌ {A = Option ℕ} None (Some i) → ⊥
 never_some i e = cc
 
 found_open : (k : ℕ) (nodes : List Node) (i : ℕ) → last_open_from k nodes ≡ Some i → (j : ℕ) × (i ≡ k + j) × (slice_get (marks_of nodes) j ≡ Some Open)
 found_open k [] i e = absurd (cc)
-found_open k (x ∷ xs) i e = elim (either (last_open_from (k + 1) xs) (if is_open x.mark then Some k else None) i e) [
+found_open k (x ∷ xs) i e = elim (else_cases (last_open_from (k + 1) xs) (if is_open x.mark then Some k else None) i e) [
   | inl a ↦ (let r = found_open (k + 1) xs i a in let f = r.1 in (suc r.0, omega (arith, f), r.2))
   | inr b ↦ elim (by_test (is_open x.mark) k i None b) [
     | inl c ↦ (0, (let d = c.1 in omega (arith, d)), ap Some (open_mark x.mark c.0))
@@ -121,9 +117,6 @@ tied_same ms h now seat t others same k i lt = record { to = λ e. (t k i lt).to
     each : (k : ℕ) → now k ≡ h k
     each k = elim (cases_eq k seat) [ inl a ↦ ap now a ∙ same ∙ ap h (sym a) | inr b ↦ others k b ]
 
-held_apart : (a b : ℕ) → Held a ≡ Held b → a ≡ b
-held_apart a b e = cc
-
 pub tied_given : (ms : List CubeState) (h now : ℕ → Option ℕ) (seat id : ℕ) → seat < 17 → Tied ms h → Others h now seat → slice_get ms id ≡ Some Open → h seat ≡ None → now seat ≡ Some id → Tied (slice_set ms id (Held seat)) now
 tied_given ms h now seat id low t others at none here k i lt = elim (cases_eq k seat) [
   | inl a ↦ record {
@@ -136,7 +129,7 @@ tied_given ms h now seat id low t others at none here k i lt = elim (cases_eq k 
   | inr b ↦ record {
     to = λ e. theirs b e;
     from = λ e. elim (get_set ms id i (Held seat) (Held k) e) [
-      | inl p ↦ absurd (b (held_apart k seat p.1))
+      | inl p ↦ absurd (b (same_seat k seat p.1))
       | inr q ↦ others k b ∙ (t k i lt).from q.1
     ];
   }
@@ -144,11 +137,11 @@ tied_given ms h now seat id low t others at none here k i lt = elim (cases_eq k 
   where
     mine : k ≡ seat → now k ≡ Some i → slice_get (slice_set ms id (Held seat)) i ≡ Some (Held k)
     mine a e =
-        let same : id ≡ i = some_is id i (sym here ∙ ap now (sym a) ∙ e) in
+        let same : id ≡ i = same_Some id i (sym here ∙ ap now (sym a) ∙ e) in
         ap (λ j. slice_get (slice_set ms id (Held seat)) j) (sym same) ∙ set_here ms id (Held seat) (within ms id Open at) ∙ ap (λ j. Some (Held j)) (sym a)
 
     not_open : i ≡ id → slice_get ms i ≡ Some (Held k) → ⊥
-    not_open same e = let f : Open ≡ Held k = some_is Open (Held k) (sym at ∙ ap (λ j. slice_get ms j) (sym same) ∙ e) in cc
+    not_open same e = let f : Open ≡ Held k = same_Some Open (Held k) (sym at ∙ ap (λ j. slice_get ms j) (sym same) ∙ e) in cc
 
     theirs : (k ≡ seat → ⊥) → now k ≡ Some i → slice_get (slice_set ms id (Held seat)) i ≡ Some (Held k)
     theirs b e = let old = (t k i lt).to (sym (others k b) ∙ e) in set_apart ms id i (Held seat) (Held k) (λ same. not_open same old) old
@@ -159,7 +152,7 @@ tied_left ms h now seat id m low t others held free here k i lt = elim (cases_eq
     to = λ e. absurd (never_some i (sym here ∙ ap now (sym a) ∙ e));
     from = λ e. elim (get_set ms id i m (Held k) e) [
       | inl p ↦ absurd (free k (sym p.1))
-      | inr q ↦ absurd (q.0 (some_is i id (sym ((t seat i low).from (q.1 ∙ ap (λ j. Some (Held j)) a)) ∙ held)))
+      | inr q ↦ absurd (q.0 (same_Some i id (sym ((t seat i low).from (q.1 ∙ ap (λ j. Some (Held j)) a)) ∙ held)))
     ];
   }
   | inr b ↦ record {
@@ -174,12 +167,12 @@ tied_left ms h now seat id m low t others held free here k i lt = elim (cases_eq
     theirs : (k ≡ seat → ⊥) → now k ≡ Some i → slice_get (slice_set ms id m) i ≡ Some (Held k)
     theirs b e =
         let old = (t k i lt).to (sym (others k b) ∙ e) in
-        set_apart ms id i m (Held k) (λ same. b (held_apart k seat (some_is (Held k) (Held seat) (sym old ∙ ap (λ j. slice_get ms j) same ∙ (t seat id low).to held)))) old
+        set_apart ms id i m (Held k) (λ same. b (same_seat k seat (same_Some (Held k) (Held seat) (sym old ∙ ap (λ j. slice_get ms j) same ∙ (t seat id low).to held)))) old
 
 pub tied_more : (ms : List CubeState) (h : ℕ → Option ℕ) → Tied ms h → Tied (ms ++ Open ∷ Open ∷ []) h
 tied_more ms h t k i lt = record { to = λ e. append_left ms (Open ∷ Open ∷ []) i (Held k) ((t k i lt).to e); from = λ e. elim (append_cases ms (Open ∷ Open ∷ []) i (Held k) e) [ inl a ↦ (t k i lt).from a | inr b ↦ absurd (opens b.0 b.2) ] }
   where
     opens : (j : ℕ) → slice_get (Open ∷ Open ∷ []) j ≡ Some (Held k) → ⊥
-    opens zero e = let f : Open ≡ Held k = some_is Open (Held k) e in cc
-    opens (suc zero) e = let f : Open ≡ Held k = some_is Open (Held k) e in cc
+    opens zero e = let f : Open ≡ Held k = same_Some Open (Held k) e in cc
+    opens (suc zero) e = let f : Open ≡ Held k = same_Some Open (Held k) e in cc
     opens (suc (suc j)) e = cc

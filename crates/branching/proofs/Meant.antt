@@ -2,10 +2,10 @@
 use Rattle.std.proofs.Common.{◌≡◌, ℕ, zero, suc, ◌+◌, ◌<◌, ◌≤◌, Bool, true, false, cond, List, [], ◌∷◌, Option, Some, None, refl, sym, ap, ◌∙◌, subst, inl, inr, arith}
 use Rattle.std.specs.Prelude.{nat_lt}
 use Rattle.std.proofs.lemmas.Bool.{cases_Bool, false≢true, ltb-true, ltb-false, le-ltb}
+use Rattle.std.proofs.lemmas.Option.{same_Some}
 use Rattle.serializability.specs.Polygraph.{Choice}
 use Rattle.serializability.proofs.Places.{Has}
 use Rattle.pruning_laws.specs.declared.side.Side.{Side}
-use Rattle.prune_ledger.proofs.Marks.{some-inj}
 use Rattle.branching.specs.View.{View, is_open_in}
 use Rattle.branching.specs.Picks.{open_from, open_choices, edge_count, has_more, has_fewer, or_better, first_best, most_edges, least_edges}
 use Rattle.branching.specs.Picked.{better_is_some, most_is_open, least_is_open}
@@ -83,13 +83,13 @@ none_left better (x ∷ xs) e = absurd (better_is_some better x (first_best bett
 
 best_of : (better : ℕ → ℕ → Bool) → IsOrder better → (k c : ℕ) (rest : List ℕ) (o : Option ℕ) → first_best better rest ≡ o → ((d : ℕ) → Has d rest → k + 1 ≤ d) → ((b : ℕ) → o ≡ Some b → IsBest better rest b) → or_better better k o ≡ Some c → IsBest better (k ∷ rest) c
 best_of better order k c rest None e above best t =
-    subst (IsBest better (k ∷ rest)) (some-inj k c t) (best_here better order k rest (λ d h. absurd (subst (Has d) (none_left better rest e) h)))
+    subst (IsBest better (k ∷ rest)) (same_Some k c t) (best_here better order k rest (λ d h. absurd (subst (Has d) (none_left better rest e) h)))
 best_of better order k c rest (Some b) e above best t = elim (cases_Bool (better b k)) [
   | inl more ↦
-      (let is : b ≡ c = some-inj b c (sym (ap (λ x. cond x (Some b) (Some k)) more) ∙ t) in
+      (let is : b ≡ c = same_Some b c (sym (ap (λ x. cond x (Some b) (Some k)) more) ∙ t) in
       subst (IsBest better (k ∷ rest)) is (best_later better order k b rest more (best b refl)))
   | inr less ↦
-      (let is : k ≡ c = some-inj k c (sym (ap (λ x. cond x (Some b) (Some k)) less) ∙ t) in
+      (let is : k ≡ c = same_Some k c (sym (ap (λ x. cond x (Some b) (Some k)) less) ∙ t) in
       subst (IsBest better (k ∷ rest)) is (best_here better order k rest (λ d h. (above d h, order.through d b k ((best b refl).best d h) less))))
 ]
 

@@ -7,7 +7,7 @@ use Rattle.std.proofs.lemmas.List.{get_or-map, length-map, map_push}
 use Rattle.std.proofs.lemmas.List.FromFn.{length-range_with_len}
 use Rattle.std.proofs.lemmas.List.Sorted.{IsPermutation-map, length_permutation, Contains-permutation}
 use Rattle.serializability.specs.Replay.{place_of}
-use Rattle.serializability.proofs.Places.{Has, Has-from_Contains, Contains-from_Has, place_of-further}
+use Rattle.serializability.proofs.Places.{Has, Has-from_Contains, Contains-from_Has, place_of-further, place_within}
 use Rattle.serializability.proofs.Sources.{Has-from_range}
 use Rattle.reach_laws.specs.Reach.{Graph}
 use Rattle.branching.specs.declared.order.Ranked.{Ranked}
@@ -31,15 +31,6 @@ listed_more all new x number lo e node h =
     ∙ ap (range_with_len 1) more
 
 -- ---- the place of a node
-pub place_within : (xs : List ℕ) (v : ℕ) → Has v xs → place_of xs v < length xs
-place_within [] v h = absurd h
-place_within (x ∷ xs) v h = elim (cases_eq x v) [
-  | inl e ↦ (let here : place_of (x ∷ xs) v ≡ 0 = cond-true {A = ℕ} (eqb x v) 0 _ (eq-eqb x v e) in omega (arith, here))
-  | inr ne ↦ elim h [
-    | inl e ↦ absurd (ne e)
-    | inr k ↦ (let there = place_of-further x v xs ne in omega (arith, there, place_within xs v k))
-  ]
-]
 
 pub place_get : (xs : List ℕ) (v : ℕ) → Has v xs → get_or xs (place_of xs v) 0 ≡ v
 place_get [] v h = absurd h

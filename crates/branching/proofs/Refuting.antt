@@ -4,6 +4,8 @@ use Rattle.std.specs.Prelude.{slice_get, MatchOption, is_some}
 use Rattle.std.specs.Option.{option_or}
 use Rattle.std.specs.List.{Contains, filter, list_any}
 use Rattle.std.proofs.lemmas.Bool.{cases_Bool, cases_lt, false≢true, and_parts, and_from, or_cases, or_left, or_right, cond-true, cond-false}
+use Rattle.std.proofs.lemmas.Option.{same_Some}
+use Rattle.list_lemmas.proofs.Bools.{same_bool}
 use Rattle.serializability.specs.Polygraph.{Edge, Choice}
 use Rattle.serializability.proofs.Places.{Has}
 use Rattle.reach_laws.specs.Reach.{Walk, Reaches}
@@ -12,10 +14,9 @@ use Rattle.pruning_laws.specs.declared.side.Side.{Side}
 use Rattle.pruning_laws.specs.declared.side.Side.TheVariants.{One, Two}
 use Rattle.pruning_laws.specs.Forced.{edges_of, IsRefuted}
 use Rattle.known_graph.proofs.Listed.{In, In-from_Contains}
-use Rattle.known_graph.proofs.Tested.{same_bool, edge_in, has_contained}
+use Rattle.known_graph.proofs.Tested.{edge_in, has_contained}
 use Rattle.prune_ledger.specs.Ledger.{side_of}
 use Rattle.prune_ledger.specs.Rounds.{Refutes}
-use Rattle.prune_ledger.proofs.Marks.{some-inj}
 use Rattle.prune_ledger.proofs.Sides.{side_is}
 use Rattle.branching.specs.View.{View, is_open_in, edges_in}
 use Rattle.branching.specs.Picks.{open_from, open_choices, most_edges}
@@ -159,7 +160,7 @@ first_is p [] k c e = absurd (cc)
 first_is p (Some s ∷ xs) k c e = first_is p xs (k + 1) c e
 first_is p (None ∷ xs) k c e = elim (cases_Bool (p k)) [
   | inl t ↦
-      (let same : k ≡ c = some-inj k c (sym (first_passes p k (k ∷ open_from (k + 1) xs) (open_from (k + 1) xs) refl t) ∙ e) in
+      (let same : k ≡ c = same_Some k c (sym (first_passes p k (k ∷ open_from (k + 1) xs) (open_from (k + 1) xs) refl t) ∙ e) in
       record {
         passes = subst (λ n. p n ≡ true) same t;
         least = λ d h lt. elim h [ inl i ↦ absurd (omega (arith, i, same, lt)) | inr r ↦ (let a = open_above xs (k + 1) d r in absurd (omega (arith, a, same, lt))) ];

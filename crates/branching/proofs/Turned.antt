@@ -4,10 +4,12 @@ use Rattle.std.specs.Prelude.{nat_lt, slice_get, slice_index, ◌==◌}
 use Rattle.std.specs.List.{Contains, list_any, list_all, range_with_len}
 use Rattle.std.proofs.lemmas.Bool.{cases_lt, cases_Bool, false≢true, and_parts, and_from, or_cases, or_left, or_right, lt-ltb, cond-true, false_from_ne_true}
 use Rattle.std.proofs.lemmas.List.{nil_from_length}
+use Rattle.list_lemmas.proofs.Bools.{same_bool}
+use Rattle.list_lemmas.proofs.Each.{all_range}
 use Rattle.serializability.specs.Polygraph.{Edge, Polygraph}
 use Rattle.serializability.specs.Replay.{place_of}
 use Rattle.serializability.proofs.Places.{Has, Has-from_Contains, place_of-further}
-use Rattle.serializability.proofs.Sources.{Has-from_range, range-from_Has}
+use Rattle.serializability.proofs.Sources.{Has-from_range}
 use Rattle.serializability.proofs.Ranks.{count-lt}
 use Rattle.reach_laws.specs.Reach.{Graph, Reaches, IsCycle, IsCyclic}
 use Rattle.reach_laws.proofs.Walks.{reach_joined, Contains-here, Contains-further}
@@ -15,7 +17,7 @@ use Rattle.pruning_laws.specs.declared.side.Side.{Side}
 use Rattle.pruning_laws.specs.Forced.{edges_with}
 use Rattle.pruning_laws.specs.Ledger.{same_side, sides_in}
 use Rattle.known_graph.specs.Tests.{has_edge, leads, is_line}
-use Rattle.known_graph.proofs.Tested.{same_bool, edge_in, has_contained, line_of}
+use Rattle.known_graph.proofs.Tested.{edge_in, has_contained, line_of}
 use Rattle.reach_rows.specs.ReachRows.{AreRowsOf}
 use Rattle.pruning_laws.proofs.Ledgers.{same_itself}
 use Rattle.cube_laws.specs.Cubes.{Cube, is_decided, edges_under}
@@ -24,6 +26,7 @@ use Rattle.cube_laws.specs.Steps.{node_held, cube_at, reply_of, is_cycle, is_cho
 use Rattle.cube_laws.specs.Runs.{is_closing}
 use Rattle.cube_laws.specs.declared.messages.CubeEvent.TheVariants.{Split, Refute, Solve}
 use Rattle.cube_laws.specs.declared.messages.CubeReply.TheVariants.{Finished, BadChoice, Children, BadCycle, Closed, BadOrder, Solved}
+use Rattle.cube_laws.proofs.Fits.{decided_side}
 use Rattle.branching.specs.View.{View, is_open_in, depth_of, chosen, edges_in, graph_in}
 use Rattle.branching.specs.Picks.{open_choices}
 use Rattle.branching.specs.Picked.{none_listed}
@@ -39,12 +42,6 @@ pub edges_are : (s : State) (seat : ℕ) (v : View) (t : IsTurnOf s seat v) → 
 edges_are s seat v t = λ i. edges_with (t.polygraph i) (λ c side. t.cube c side i)
 
 -- ---- a choice that the cube decides
-decided_side : (cube : Cube) (c : ℕ) → is_decided cube c ≡ true → (side : Side) × (sides_in cube c side ≡ true)
-decided_side [] c d = absurd (false≢true d)
-decided_side (e ∷ cube) c d = elim (or_cases (e.0 == c) (is_decided cube c) d) [
-  | inl here ↦ (e.1, or_left ((e.0 == c) && same_side e.1 e.1) (sides_in cube c e.1) (and_from (e.0 == c) (same_side e.1 e.1) here (same_itself e.1)))
-  | inr further ↦ (let r = decided_side cube c further in (r.0, or_right ((e.0 == c) && same_side e.1 r.0) (sides_in cube c r.0) r.1))
-]
 
 side_decided : (cube : Cube) (c : ℕ) (side : Side) → sides_in cube c side ≡ true → is_decided cube c ≡ true
 side_decided [] c side d = absurd (false≢true d)
@@ -99,9 +96,6 @@ refute_answered v g line a c = λ s seat t.
 all_in : {X : Type 0} (q : X → Bool) (xs : List X) → ((x : X) → Contains xs x → q x ≡ true) → list_all q xs ≡ true
 all_in q [] h = refl
 all_in q (x ∷ xs) h = and_from (q x) (list_all q xs) (h x (Contains-here x xs)) (all_in q xs (λ y c. h y (Contains-further x y xs c)))
-
-all_range : (q : ℕ → Bool) (k n : ℕ) → ((i : ℕ) → k ≤ i → i < k + n → q i ≡ true) → list_all q (range_with_len k n) ≡ true
-all_range q k n h = all_in q (range_with_len k n) (λ x c. let r = range-from_Has x k n (Has-from_Contains (range_with_len k n) x c) in h x r.0 r.1)
 
 any_is : (order : List ℕ) (v : ℕ) → Has v order → list_any (λ w. w == v) order ≡ true
 any_is [] v h = absurd h

@@ -6,9 +6,8 @@ use Rattle.std.specs.Prelude.{slice_get, if◌then◌else◌}
 use Rattle.std.specs.Option.{option_or}
 use Rattle.std.specs.List.{filter}
 use Rattle.std.proofs.lemmas.Nat.{mod_below}
-use Rattle.std.proofs.lemmas.Option.{slice_get-get_or}
+use Rattle.std.proofs.lemmas.Option.{slice_get-get_or, same_Some}
 use Rattle.pruning_laws.specs.declared.side.Side.{Side}
-use Rattle.prune_ledger.proofs.Marks.{some-inj}
 use Rattle.branching.specs.View.{View, is_open_in}
 use Rattle.branching.specs.Picks.{open_from, open_choices, first_open, has_more, has_fewer}
 use Rattle.branching.specs.Picks.{or_better, first_best, most_edges, least_edges}
@@ -31,7 +30,7 @@ pub record IsFound (sides : List (Option Side)) (k c : ℕ) : Type 0 where
 pub found_listed : (sides : List (Option Side)) (k r c : ℕ)
     → slice_get (open_from k sides) r ≡ Some c → IsFound sides k c
 found_listed [] k r c e = absurd (cc)
-found_listed (None ∷ xs) k zero c e = let same = some-inj k c e in
+found_listed (None ∷ xs) k zero c e = let same = same_Some k c e in
     record { place = 0; whole = omega (arith, same); free = refl }
 found_listed (None ∷ xs) k (suc r) c e = let f = found_listed xs (k + 1) r c e in let w = f.whole in
     record { place = suc f.place; whole = omega (arith, w); free = f.free }

@@ -1,12 +1,13 @@
 -- An order fits the chains of a clean history exactly when it fits its bipaths.
-use Rattle.std.proofs.Common.{◌≡◌, ◌≢◌, ◌⊎◌, ℕ, zero, suc, ◌+◌, ◌<◌, ◌≤◌, Bool, true, false, eqb, not, List, [], ◌∷◌, ◌++◌, Option, None, Some, refl, sym, ap, ◌∙◌, subst, inl, inr, arith, ne_eqb}
+use Rattle.std.proofs.Common.{◌≡◌, ◌≢◌, ◌⊎◌, ℕ, zero, suc, ◌+◌, ◌<◌, ◌≤◌, true, eqb, not, List, [], ◌∷◌, ◌++◌, Option, None, Some, refl, sym, ap, ◌∙◌, subst, inl, inr, arith, ne_eqb}
 use Rattle.std.specs.Prelude.{is_some, map}
-use Rattle.std.specs.List.{filter, flat_map, range_with_len, AllByRecursion}
-use Rattle.std.proofs.lemmas.Bool.{cases_eq, cases_order, cases_Bool, false≢true, and_parts, not-true, not_from_false, eqb-false}
+use Rattle.std.specs.List.{filter, flat_map, AllByRecursion}
+use Rattle.std.proofs.lemmas.Bool.{cases_eq, cases_order, and_parts, not-true, not_from_false, eqb-false}
 use Rattle.serializability.specs.Log.{Log}
 use Rattle.serializability.specs.Replay.{Before}
 use Rattle.serializability.specs.Reads.{last_write, IsClean}
 use Rattle.std.specs.Option.{option_map_or}
+use Rattle.list_lemmas.proofs.Options.{none_of}
 use Rattle.serializability.specs.Polygraph.{Edge, Keeps, KeepsOne, Fits, arcs, bipath_polygraph, all_nodes, committed, all_keys, source}
 use Rattle.serializability.proofs.Places.{each_of_range, each_from_range, each_of_append, each_from_append, each_of_flat_map, each_from_flat_map, each_of_map, each_from_map, each_of_filter, each_from_filter}
 use Rattle.serializability.proofs.Sources.{source_is, wrote_is, wrote_from}
@@ -14,6 +15,7 @@ use Rattle.serializability.proofs.Serial.{KeepsBipaths, arcs_kept, bipaths_kept,
 use Rattle.serializability.specs.Pairs.{pairs_of}
 use Rattle.chain_laws.specs.Chains.{writes, reads_key, readers, next, tail_from, tail, is_head, heads, inner_at, inner_edges, edges_to, chain_first, initial_first, chain_choice, chain_choices, chain_polygraph}
 use Rattle.serializability.proofs.Once.{at, places_apart}
+use Rattle.serializability.proofs.EachPair.{each_pair_from, each_pair_of}
 use Rattle.chain_laws.proofs.Walks.{next_is, Setting, reader_behind, next_behind, tail_next, tail_none, tail_behind, Steps, one_step, followed, Head, head_of}
 
 -- ---- what it is to keep chains, in words of places
@@ -31,14 +33,10 @@ pub record HeadParts (log : Log) (x h : ℕ) : Type 0 where
   pub writer : writes log x h ≡ true
   pub none : source log h x ≡ None
 
-none_from : (o : Option ℕ) → is_some o ≡ false → o ≡ None
-none_from None e = refl
-none_from (Some v) e = absurd (false≢true (sym e))
-
 pub head_parts : (log : Log) (x h : ℕ) → is_head log x h ≡ true → HeadParts log x h
 head_parts log x h t =
     let p = and_parts (writes log x h) _ t in
-    record { writer = p.0; none = none_from (source log h x) (not-true (is_some (source log h x)) p.1) }
+    record { writer = p.0; none = none_of (source log h x) (not-true (is_some (source log h x)) p.1) }
 
 pub none_some : (o : Option ℕ) (v : ℕ) → o ≡ None → o ≡ Some v → ⊥
 none_some o v a b = let e : None ≡ Some v = sym a ∙ b in cc
@@ -215,35 +213,6 @@ kept_first log order s x a b key k =
       reader = each_of_readers log x t (λ r. at order r < at order b) (edges_each order t b (readers log x t) k);
     }
 
--- pairs of a filtered range
-pub pairs_each : (P : (ℕ × ℕ) → Type 0) (p : ℕ → Bool) (a n : ℕ) → ((u v : ℕ) → a ≤ u → u < v → v < a + n → p u ≡ true → p v ≡ true → P (u, v)) → AllByRecursion P (pairs_of (filter p (range_with_len a n)))
-pairs_each P p a zero h = tt
-pairs_each P p a (suc n) h =
-    let rest = pairs_each P p (a + 1) n (λ u v lo lt hi pu pv. h u v (omega arith) lt (omega arith) pu pv) in
-    elim (cases_Bool (p a)) [
-      | inl t ↦ rw t (each_from_append P (map (λ b. (a, b)) (filter p (range_with_len (a + 1) n))) (pairs_of (filter p (range_with_len (a + 1) n)))
-          (each_from_map P (λ b. (a, b)) (filter p (range_with_len (a + 1) n))
-          (each_from_filter (λ b. P (a, b)) p (range_with_len (a + 1) n)
-          (each_from_range (λ b. p b ≡ true → P (a, b)) (a + 1) n (λ v lo hi pv. h a v (omega arith) (omega arith) (omega arith) t pv))))
-          rest)
-      | inr f ↦ rw f rest
-    ]
-
-each_pair : (P : (ℕ × ℕ) → Type 0) (p : ℕ → Bool) (a n : ℕ) → AllByRecursion P (pairs_of (filter p (range_with_len a n))) → (u v : ℕ) → a ≤ u → u < v → v < a + n → p u ≡ true → p v ≡ true → P (u, v)
-each_pair P p a zero h u v lo lt hi pu pv = absurd (omega arith)
-each_pair P p a (suc n) h u v lo lt hi pu pv = elim (cases_Bool (p a)) [
-  | inl t ↦
-      let parts = each_of_append P (map (λ b. (a, b)) (filter p (range_with_len (a + 1) n))) (pairs_of (filter p (range_with_len (a + 1) n))) (rw t at h) in
-      elim (cases_eq a u) [
-        | inl e ↦ subst (λ q. P (q, v)) e (each_of_range (λ b. p b ≡ true → P (a, b)) (a + 1) n
-            (each_of_filter (λ b. P (a, b)) p (range_with_len (a + 1) n) (each_of_map P (λ b. (a, b)) (filter p (range_with_len (a + 1) n)) parts.0)) v (omega (arith, e)) (omega arith) pv)
-        | inr ne ↦ each_pair P p (a + 1) n parts.1 u v (omega (arith, ne)) lt (omega arith) pu pv
-      ]
-  | inr f ↦
-      let ne : a ≢ u = λ e. false≢true (sym f ∙ subst (λ q. p q ≡ true) (sym e) pu) in
-      each_pair P p (a + 1) n (rw f at h) u v (omega (arith, ne)) lt (omega arith) pu pv
-]
-
 inner_of : (log : Log) (order : List ℕ) (x w v r : ℕ) (o : Option ℕ) → o ≡ Some v → Keeps order (inner_at log x w o) → 0 < r → r ≤ log.nodes → source log r x ≡ Some w → r ≢ v → at order r < at order v
 inner_of log order x w v r None e k lo hi from ne = cc
 inner_of log order x w v r (Some u) e k lo hi from ne =
@@ -289,7 +258,7 @@ choices_from log order c =
     each_from_flat_map K (λ x. map (chain_choice log x) (pairs_of (heads log x))) (all_keys log)
     (each_from_range (λ x. AllByRecursion (KeepsOne order) (map (chain_choice log x) (pairs_of (heads log x)))) 0 log.keys (λ x lo hi.
     each_from_map K (chain_choice log x) (pairs_of (heads log x))
-    (pairs_each (λ p. KeepsOne order (chain_choice log x p)) (is_head log x) 1 log.nodes (λ a b la lt hb ta tb.
+    (each_pair_from (λ p. KeepsOne order (chain_choice log x p)) (is_head log x) 1 log.nodes (λ a b la lt hb ta tb.
     elim (c.pair x a b (omega arith) (record { low = omega arith; high = omega arith; test = ta }) (record { low = omega arith; high = omega arith; test = tb }) (λ e. omega (arith, e, lt))) [
       | inl f ↦ inl (first_kept log order x a b f)
       | inr f ↦ inr (first_kept log order x b a f)
@@ -305,7 +274,7 @@ chains_of log order s i f c =
     let choice = each_of_range (λ x. AllByRecursion (KeepsOne order) (map (chain_choice log x) (pairs_of (heads log x)))) 0 log.keys
     (each_of_flat_map (KeepsOne order) (λ x. map (chain_choice log x) (pairs_of (heads log x))) (all_keys log) c) in
     let one : (x a b : ℕ) → x < log.keys → Head log x a → Head log x b → a < b → After log order x a b ⊎ After log order x b a = λ x a b key ha hb lt.
-    (elim (each_pair (λ p. KeepsOne order (chain_choice log x p)) (is_head log x) 1 log.nodes
+    (elim (each_pair_of (λ p. KeepsOne order (chain_choice log x p)) (is_head log x) 1 log.nodes
     (each_of_map (KeepsOne order) (chain_choice log x) (pairs_of (heads log x)) (choice x (omega arith) (omega arith)))
     a b (omega (arith, ha.low)) lt (omega (arith, hb.high)) ha.test hb.test) [
       | inl k ↦ inl (kept_first log order s x a b key k)

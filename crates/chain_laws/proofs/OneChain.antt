@@ -9,8 +9,8 @@ use Rattle.serializability.specs.Polygraph.{source}
 use Rattle.serializability.proofs.Places.{Has, Has-from_Contains, Contains-from_Has}
 use Rattle.serializability.proofs.Sources.{source_is}
 use Rattle.serializability.proofs.Serial.{some_cases, source_within}
-use Rattle.chain_laws.specs.Chains.{writes, next, IsWriter, IsLinked, last, IsChain, NoneCloses}
-use Rattle.chain_laws.proofs.Walks.{IsNext, next_from, one_some}
+use Rattle.chain_laws.specs.Chains.{writes, IsWriter, IsLinked, last, IsChain, NoneCloses}
+use Rattle.chain_laws.proofs.Walks.{IsNext, one_next, some_one}
 use Rattle.chain_laws.proofs.Closed.{Leads, leads_once, leads_from, last_push, linked_push, closed_from}
 use Rattle.chain_laws.proofs.Maximal.{alone, cons_apart, below_all, made, writer_within}
 
@@ -23,9 +23,6 @@ IsFirst log x w = (w ≡ 0) ⊎ (source log w x ≡ None)
 
 linked_next : (log : Log) (x w v : ℕ) (rest : List ℕ) → IsLinked log x w (v ∷ rest) → IsNext log x w v
 linked_next log x w v rest l = record { low = l.0; high = l.1; writer = l.2; from = l.3 }
-
-same_next : (log : Log) → IsClean log → (x w u v : ℕ) → IsNext log x w u → IsNext log x w v → u ≡ v
-same_next log clean x w u v a b = one_some (next log x w) u v (next_from log clean x w u a) (next_from log clean x w v b)
 
 -- ---- the beginning of a writer's chain
 record Begun (log : Log) (x v : ℕ) : Type 0 where
@@ -102,7 +99,7 @@ among : (log : Log) → IsClean log → (x w : ℕ) (front rest : List ℕ) → 
 among log clean x w [] rest a b end = inl refl
 among log clean x w (u ∷ front) [] a b end = absurd (end u a.0 a.1 a.2 a.3)
 among log clean x w (u ∷ front) (v ∷ rest) a b end =
-    let same = same_next log clean x w v u (linked_next log x w v rest b) (linked_next log x w u front a) in
+    let same = one_next log clean x w v u (linked_next log x w v rest b) (linked_next log x w u front a) in
     inr (subst (λ q. Has q (v ∷ rest)) (ap (λ q. last q front) same)
     (among log clean x v front rest (subst (λ q. IsLinked log x q front) (sym same) a.4) b.4 end))
 
@@ -139,7 +136,7 @@ one_first log x zero zero v w u a b fw fu = sym a ∙ b
 one_first log x zero (suc m) v w u a b fw fu = absurd (not_further log x v b.0 (subst (IsFirst log x) (sym a) fw) b.1.0 b.1.1)
 one_first log x (suc k) zero v w u a b fw fu = absurd (not_further log x v a.0 (subst (IsFirst log x) (sym b) fu) a.1.0 a.1.1)
 one_first log x (suc k) (suc m) v w u a b fw fu =
-    let same : a.0 ≡ b.0 = one_some (source log v x) a.0 b.0 a.1.1 b.1.1 in
+    let same : a.0 ≡ b.0 = some_one (source log v x) a.0 b.0 a.1.1 b.1.1 in
     one_first log x k m a.0 w u a.1.2 (subst (λ q. IsFrom log x m q u) (sym same) b.1.2) fw fu
 
 one_rest : (log : Log) → IsClean log → (x w : ℕ) (rest more : List ℕ) → IsLinked log x w rest → IsLinked log x w more → IsLast log x (last w rest) → IsLast log x (last w more) → rest ≡ more
@@ -147,7 +144,7 @@ one_rest log clean x w [] [] a b e f = refl
 one_rest log clean x w [] (v ∷ more) a b e f = absurd (e v b.0 b.1 b.2 b.3)
 one_rest log clean x w (v ∷ rest) [] a b e f = absurd (f v a.0 a.1 a.2 a.3)
 one_rest log clean x w (v ∷ rest) (u ∷ more) a b e f =
-    let same = same_next log clean x w u v (linked_next log x w u more b) (linked_next log x w v rest a) in
+    let same = one_next log clean x w u v (linked_next log x w u more b) (linked_next log x w v rest a) in
     ap (λ l. v ∷ l) (one_rest log clean x v rest more a.4 (subst (λ q. IsLinked log x q more) same b.4) e (subst (λ q. IsLast log x (last q more)) same f))
     ∙ ap (λ q. q ∷ more) (sym same)
 

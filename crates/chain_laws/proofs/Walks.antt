@@ -3,12 +3,13 @@ use Rattle.std.proofs.Common.{◌≡◌, ◌⊎◌, ℕ, zero, suc, ◌+◌, ◌
 use Rattle.std.specs.Prelude.{is_some}
 use Rattle.std.specs.Option.{option_map_or}
 use Rattle.std.proofs.lemmas.Bool.{cases_eq, cases_lt, false≢true, and_parts, and_from, not_from_false}
+use Rattle.list_lemmas.proofs.Options.{some_of}
 use Rattle.serializability.specs.Log.{Log}
 use Rattle.serializability.specs.Replay.{ListsOnce}
-use Rattle.serializability.specs.Reads.{last_write, IsFinal, ReadsAfter, IsClean}
+use Rattle.serializability.specs.Reads.{last_write, ReadsAfter, IsClean}
 use Rattle.serializability.specs.Polygraph.{committed, source}
-use Rattle.serializability.proofs.Sources.{source_is, reads_from_source, find_some, find_none, wrote_is, wrote_from, Has-from_range, range-from_Has}
-use Rattle.serializability.proofs.Serial.{KeepsArcs, arc_from_read, source_within, some_cases, none_not_some}
+use Rattle.serializability.proofs.Sources.{source_is, reads_from_source, find_some, find_none, wrote_is, wrote_from, Has-from_range, range-from_Has, one_final}
+use Rattle.serializability.proofs.Serial.{KeepsArcs, arc_from_read, source_within, some_cases}
 use Rattle.chain_laws.specs.Chains.{writes, reads_key, next, tail_from, tail, is_head}
 use Rattle.serializability.proofs.Once.{at, place_within}
 
@@ -31,29 +32,17 @@ no_next log x w v e lo hi t from =
     let f = find_none (λ u. writes log x u && reads_key log x w u) (committed log) v e (Has-from_range v 1 log.nodes (omega arith) (omega arith)) in
     false≢true (sym f ∙ and_from (writes log x v) (reads_key log x w v) t (wrote_from (source log v x) w from))
 
-some_one : (o : Option ℕ) (v w : ℕ) → o ≡ Some v → o ≡ Some w → v ≡ w
+pub some_one : (o : Option ℕ) (v w : ℕ) → o ≡ Some v → o ≡ Some w → v ≡ w
 some_one o v w a b = let e : Some v ≡ Some w = sym a ∙ b in cc
 
-pub one_some : (o : Option ℕ) (v w : ℕ) → o ≡ Some v → o ≡ Some w → v ≡ w
-one_some = some_one
-
-final_one : (log : Log) (u x v w : ℕ) → IsFinal log u x v → IsFinal log u x w → v ≡ w
-final_one log u x v w (inl a) (inl b) = a.1 ∙ sym b.1
-final_one log u x v w (inl a) (inr b) = absurd (omega (arith, a.0, b.0))
-final_one log u x v w (inr a) (inl b) = absurd (omega (arith, b.0, a.0))
-final_one log u x v w (inr a) (inr b) = some_one (last_write x (log.ops u)) v w a.2 b.2
-
-writes_some : (o : Option ℕ) → is_some o ≡ true → (w : ℕ) × (o ≡ Some w)
-writes_some o t = elim (some_cases o) [ inl e ↦ absurd (none_not_some o e t) | inr e ↦ e ]
-
 -- no lost update
-one_next : (log : Log) → IsClean log → (x w u v : ℕ) → IsNext log x w u → IsNext log x w v → u ≡ v
+pub one_next : (log : Log) → IsClean log → (x w u v : ℕ) → IsNext log x w u → IsNext log x w v → u ≡ v
 one_next log clean x w u v a b =
     let s = source_is log clean u x w a.low a.high a.from in
     let t = source_is log clean v x w b.low b.high b.from in
-    let same : t.w ≡ s.w = final_one log w x t.w s.w t.final s.final in
-    let p = writes_some (last_write x (log.ops u)) a.writer in
-    let q = writes_some (last_write x (log.ops v)) b.writer in
+    let same : t.w ≡ s.w = one_final log w x t.w s.w t.final s.final in
+    let p = some_of (last_write x (log.ops u)) a.writer in
+    let q = some_of (last_write x (log.ops v)) b.writer in
     clean.unlost u v x s.w p.0 q.0 s.before t.before s.reads s.external
     (subst (λ y. ReadsAfter log v t.before x y) same t.reads) t.external p.1 q.1
 

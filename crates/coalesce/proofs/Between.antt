@@ -85,7 +85,3 @@ first_key_joined log x n initial views nodes i e =
 pub no_readers : (t b : ℕ) (rs : List ℕ) → length rs ≡ 0 → edges_to t b rs ≡ (t, b) ∷ []
 no_readers t b [] e = refl
 no_readers t b (r ∷ rs) e = absurd (omega (arith, e))
-
-pub some_readers : (t b : ℕ) (rs : List ℕ) → (length rs ≡ 0 → ⊥) → edges_to t b rs ≡ map (λ q. (q, b)) rs
-some_readers t b [] e = absurd (e refl)
-some_readers t b (r ∷ rs) e = refl

@@ -8,9 +8,10 @@ use Rattle.serializability.specs.Pairs.{pairs_of}
 use Rattle.serializability.specs.Polygraph.{source, all_keys, all_nodes}
 use Rattle.serializability.proofs.Places.{each_from_range, each_from_filter, each_from_map, each_from_flat_map}
 use Rattle.serializability.proofs.Serial.{some_cases}
+use Rattle.serializability.proofs.EachPair.{each_pair_from}
 use Rattle.chain_laws.specs.Chains.{next, tail_from, tail, readers, heads, is_head, edges_to, chain_first, chain_choice, chain_choices, inner_at, inner_edges}
 use Rattle.chain_laws.proofs.Walks.{next_is, step_some, step_none}
-use Rattle.chain_laws.proofs.Coalesced.{head_parts, none_some, each_from_readers, pairs_each}
+use Rattle.chain_laws.proofs.Coalesced.{head_parts, none_some, each_from_readers}
 use Rattle.polygraph.specs.Polygraphs.{Joins, JoinsBoth}
 
 -- ---- tails
@@ -66,7 +67,7 @@ choice_joined log x u v hu hv lt pu pv = record {
 pub key_joined : (log : Log) (x : ℕ) → AllByRecursion (JoinsBoth log.nodes) (map (chain_choice log x) (pairs_of (heads log x)))
 key_joined log x =
     each_from_map (JoinsBoth log.nodes) (chain_choice log x) (pairs_of (heads log x))
-    (pairs_each (λ p. JoinsBoth log.nodes (chain_choice log x p)) (is_head log x) 1 log.nodes
+    (each_pair_from (λ p. JoinsBoth log.nodes (chain_choice log x p)) (is_head log x) 1 log.nodes
     (λ u v lo lt hi pu pv. choice_joined log x u v (omega arith) (omega arith) lt pu pv))
 
 pub choices_joined : (log : Log) → AllByRecursion (JoinsBoth log.nodes) (chain_choices log)

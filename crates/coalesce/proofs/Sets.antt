@@ -11,14 +11,8 @@ use Rattle.pruning_laws.proofs.Same.{same_both}
 use Rattle.coalesce.specs.Added.{IsWith}
 use Rattle.coalesce.proofs.Between.{no_readers}
 
-pub none_in : {X : Type 0} (x : X) → Contains [] x → ⊥
-none_in x c = omega (arith, c.1)
-
 pub one_in : {X : Type 0} (x y : X) → Contains (x ∷ []) y → y ≡ x
 one_in x y c = let z : c.0 ≡ 0 = omega (arith, c.1) in sym (subst (λ i. get_or (x ∷ []) i y ≡ y) z c.2)
-
-pub with_none : (edges : List Edge) → IsWith edges [] edges
-with_none edges = record { each = λ e. (λ c. inl c, λ h. elim h [ inl c ↦ c | inr c ↦ absurd (none_in e c) ]) }
 
 pub with_one : (old new : List Edge) (u v : ℕ) → ((e : Edge) → (Contains new e ↔ (Contains old e ⊎ (e ≡ (u, v))))) → IsWith old ((u, v) ∷ []) new
 with_one old new u v h = record {

@@ -1,8 +1,8 @@
 -- What is made of the elements of a list, one by one.
-use Rattle.std.proofs.Common.{◌≡◌, ℕ, zero, suc, ◌+◌, ◌<◌, ◌≤◌, List, [], ◌∷◌, ◌++◌, length, get_or, take, drop, sym, ap, ◌∙◌, subst, ◌-◌, arith, append_assoc, length-append}
+use Rattle.std.proofs.Common.{◌≡◌, ℕ, zero, suc, ◌+◌, ◌<◌, ◌≤◌, List, [], ◌∷◌, ◌++◌, length, get_or, take, sym, ap, ◌∙◌, subst, ◌-◌, arith, length-append}
 use Rattle.std.specs.Prelude.{map}
 use Rattle.std.specs.List.{flat_map}
-use Rattle.std.proofs.lemmas.List.{append-nil, map-append, take_more, drop_more}
+use Rattle.std.proofs.lemmas.List.{append-nil, map-append, take_more}
 use Rattle.std.proofs.lemmas.Grind.{flat_map-append}
 use Rattle.serializability.proofs.SoFar.{so_far, so_far_more}
 
@@ -28,17 +28,3 @@ flat_more g f xs i x lt is =
     ∙ flat_map-append f (map g (take i xs)) (g (get_or xs i x) ∷ [])
     ∙ ap (λ l. flat_map f (map g (take i xs)) ++ l) (append-nil (f (g (get_or xs i x))))
     ∙ ap (λ y. flat_map f (map g (take i xs)) ++ f (g y)) (sym is)
-
-pub one_more : {X Y : Type 0} (g : X → Y) (xs : List X) (i : ℕ) (x : X) → i < length xs → x ≡ get_or xs i x → map g (take (i + 1) xs) ≡ map g (take i xs) ++ g x ∷ []
-one_more g xs i x lt is =
-    ap (map g) (take_more xs i x lt)
-    ∙ map-append g (take i xs) (get_or xs i x ∷ [])
-    ∙ ap (λ y. map g (take i xs) ++ g y ∷ []) (sym is)
-
-pub rest_from : {X Y : Type 0} (g : X → Y) (xs : List X) (i : ℕ) (x : X) → i < length xs → x ≡ get_or xs i x → map g (drop i xs) ≡ g x ∷ map g (drop (i + 1) xs)
-rest_from g xs i x lt is = ap (map g) (drop_more xs i x lt) ∙ ap (λ y. g y ∷ map g (drop (i + 1) xs)) (sym is)
-
--- what was written, and one piece more
-pub piece_added : {X : Type 0} (old made now next piece total : List X) → now ≡ old ++ made → next ≡ now ++ piece → total ≡ made ++ piece → next ≡ old ++ total
-piece_added old made now next piece total h e t =
-    e ∙ ap (λ l. l ++ piece) h ∙ append_assoc old made piece ∙ ap (λ l. old ++ l) (sym t)

@@ -1,13 +1,10 @@
 -- The order of an assignment, and what a command says of sessions.
-use Rattle.std.proofs.Common.{◌≡◌, ℕ, ◌<◌, ◌≤◌, Bool, List, length, None, Some, refl, sym, subst}
-use Rattle.std.specs.List.{All}
+use Rattle.std.proofs.Common.{◌≡◌, ℕ, Bool, List, length, None, Some, refl, sym, subst}
 use Rattle.std.proofs.lemmas.List.FromFn.{length-map-range_with_len}
 use Rattle.session_log.specs.Text.{ClientSession}
 use Rattle.session_log.specs.declared.version.Version.{Version}
 use Rattle.serializability.specs.Formula.{Cnf, Satisfies}
 use Rattle.serializability.specs.Decoded.{before, IsDecoded}
-use Rattle.log_definitions.specs.Serial.{IsSerialOrder}
-use Rattle.log_definitions.specs.Numbers.{log_of}
 use Rattle.polygraph.specs.declared.fault.PolyFault.{PolyFault}
 use Rattle.polygraph.specs.declared.fault.PolyFault.TheVariants.{TooManyChoices, Memory}
 use Rattle.reduction.specs.Outcome.{IsReduceFault}
@@ -25,16 +22,10 @@ use Rattle.cobra_answers.specs.declared.status.Status.{Status}
 use Rattle.cobra_answers.specs.declared.status.Status.TheVariants.{Done}
 use Rattle.cobra_formulas.specs.declared.basis.Basis.{Basis}
 use Rattle.cobra_formulas.specs.Formulas.{IsFormulaFrom, IsFormulaOf, IsFaithful}
+use Rattle.cobra_formulas.proofs.Made.{serial_of}
 use Rattle.cobra_cli.specs.Commands.{IsEncoding, IsAnswerTo, named_by, IsOrderText, IsDecoding}
 use Rattle.cobra_cli.specs.Checked.{status_of, verdict_text, IsVerdict, IsUndecided}
 use Rattle.cobra_cli.specs.Explained.{IsDecisionText, IsExplanation}
-
-pub serial_of : (ss : List ClientSession) (f : Cnf) → IsFaithful ss f → (values : List Bool) (order : List ℕ) → Satisfies values f → IsDecoded f.nodes (before f values) order → IsSerialOrder ss order
-serial_of ss f h values order s d = h.orders values s order d
-
-pub nodes_of_serial : (ss : List ClientSession) (order : List ℕ) → IsSerialOrder ss order → All (λ v. (0 < v) × (v ≤ (log_of ss).nodes)) order
-unfolding log_of
-nodes_of_serial ss order s = s.once.only
 
 pub assignment_long : (vars : ℕ) (items : List Item) → length (answer.assignment vars items) ≡ vars
 assignment_long vars items = length-map-range_with_len _ 1 vars
@@ -42,9 +33,6 @@ assignment_long vars items = length-map-range_with_len _ 1 vars
 -- ---- encode and decode
 pub encoding_of : (plain : Bool) (ss : List ClientSession) (b : Basis) (f : Cnf) → IsFormulaFrom plain ss b f → IsFaithful ss f → IsEncoding plain ss Done (text_of f)
 encoding_of plain ss b f h faithful = record { formula = f; belongs = record { basis = b; made = h }; headline = faithful.headline; ends = refl; told = refl }
-
-pub belongs_so : (plain : Bool) (ss : List ClientSession) (b : Basis) (f : Cnf) → IsFormulaFrom plain ss b f → IsFormulaOf plain ss f
-belongs_so plain ss b f h = record { basis = b; made = h }
 
 pub answer_to : (plain : Bool) (given : List ℕ) (ss : List ClientSession) (f : Cnf) (vars : ℕ) (claimed : dimacs.Status) → vars ≡ f.variables → IsFormulaOf plain ss f → answer.answer_fault vars given ≡ None → answer.status_of given ≡ Some claimed → IsAnswerTo plain given ss claimed f
 answer_to plain given ss f vars claimed e b accepted claims =

@@ -10,6 +10,7 @@ use Rattle.serializability.specs.Decoded.{before, IsDecoded}
 use Rattle.serializability.specs.Pairs.{Known}
 use Rattle.serializability.specs.Plain.{plain, contradiction}
 use Rattle.serializability.specs.Anomalies.{anomaly_of, anomaly_number}
+use Rattle.serializability.proofs.PlainLaws.{contradicted}
 use Rattle.reach_laws.specs.Reach.{Graph}
 use Rattle.chain_laws.specs.Chains.{chain_polygraph, chain_choices}
 use Rattle.pruning_laws.specs.Forced.{Sides, edges_with, open_from, pruned}
@@ -22,7 +23,6 @@ use Rattle.polygraph.specs.Polygraphs.{IsPolygraph}
 use Rattle.reach_rows.specs.ReachRows.{AreRowsOf}
 use Rattle.prune_ledger.specs.declared.ledger.Ledger.{Ledger}
 use Rattle.prune_ledger.specs.Pruned.{Remainder, IsReduced, kept_by}
-use Rattle.headline.proofs.Answered.{contradicted}
 use Rattle.reduction.specs.Chained.{HasItsOrders, HasNoSerialOrder}
 use Rattle.reduction.specs.Outcome.{IsCyclicHistory, IsDeadHistory, IsCountedHistory}
 use Rattle.order_laws.specs.Reduced.{reduced, IsReach}

@@ -2,6 +2,7 @@
 use Rattle.std.proofs.Common.{◌≡◌, ◌⊎◌, ℕ, suc, ◌<◌, Bool, true, false, cond, ◌||◌, not, List, [], ◌∷◌, ◌++◌, length, Option, None, Some, refl, sym, ap, ◌∙◌, subst, inl, inr}
 use Rattle.std.specs.Prelude.{slice_get, slice_set, slice_index}
 use Rattle.std.proofs.lemmas.Bool.{false≢true, cases_eq, and_parts, not-true}
+use Rattle.list_lemmas.proofs.Elements.{get_put}
 use Rattle.serializability.specs.Polygraph.{Choice, Polygraph, KeepsOne, Fits}
 use Rattle.reach_laws.proofs.Walks.{no_cycle_kept}
 use Rattle.known_graph.proofs.Tested.{walk_of}
@@ -18,7 +19,7 @@ use Rattle.cube_laws.specs.declared.messages.CubeEvent.TheVariants.{Claim, TakeA
 use Rattle.cube_laws.specs.declared.messages.CubeReply.{CubeReply}
 use Rattle.cube_laws.specs.declared.messages.CubeReply.TheVariants.{Finished, NoCube, BadOrder, Solved}
 use Rattle.cube_laws.specs.Runs.{SolvesRightly, EachSolvesRightly}
-use Rattle.cube_laws.proofs.Nodes.{one_value, get_same, get_other, get_front, get_first, get_second, get_below, each_at, any_at}
+use Rattle.cube_laws.proofs.Nodes.{one_value, get_other, get_front, get_first, get_second, get_below, each_at, any_at}
 use Rattle.cube_laws.proofs.Ways.{marked, ways}
 use Rattle.cube_laws.proofs.Grown.{Grown, grown_next, splits_of}
 use Rattle.cube_laws.proofs.Fits.{KeepsCube, cube_kept, cube_opening, cube_split, solution_fits}
@@ -50,7 +51,7 @@ alive_set p order nodes a id x mark e why = elim (cases_eq a.id id) [
       let here : a.node ≡ x = one_value (slice_get nodes id) a.node x (subst (λ k. slice_get nodes k ≡ Some a.node) same a.at) e in
       let kept : KeepsCube p order x.cube = subst (λ (y : Node). KeepsCube p order y.cube) here a.keeps in
       elim why [
-        | inl going ↦ record { id = id; node = marked x mark; at = get_same nodes id x (marked x mark) e; going = going; keeps = kept }
+        | inl going ↦ record { id = id; node = marked x mark; at = get_put nodes id x (marked x mark) e; going = going; keeps = kept }
         | inr none ↦ absurd (none kept)
       ])
   | inr apart ↦ record { id = a.id; node = a.node; at = get_other nodes id a.id a.node (marked x mark) apart a.at; going = a.going; keeps = a.keeps }

@@ -3,7 +3,8 @@ use Rattle.std.proofs.Common.{◌≡◌, ℕ, ◌+◌, Bool, true, false, cond, 
 use Rattle.std.specs.Prelude.{slice_get, slice_set, nat_eq}
 use Rattle.std.specs.List.{IsDistinct}
 use Rattle.std.proofs.lemmas.Bool.{false≢true, cases_eq}
-use Rattle.serializability.proofs.Places.{Has, Apart, Has-append_cases}
+use Rattle.list_lemmas.proofs.Elements.{get_put}
+use Rattle.serializability.proofs.Places.{Has, Apart, Has-append_cases, Apart-append}
 use Rattle.serializability.proofs.Listed.{IsDistinct-from_Apart}
 use Rattle.pruning_laws.specs.declared.side.Side.TheVariants.{One, Two}
 use Rattle.desk.specs.declared.history.Entry.{Entry}
@@ -16,7 +17,7 @@ use Rattle.cube_laws.specs.declared.messages.CubeEvent.{CubeEvent}
 use Rattle.cube_laws.specs.declared.messages.CubeReply.{CubeReply}
 use Rattle.cube_laws.specs.declared.messages.CubeReply.TheVariants.{Cube as Given, Children, Closed, Solved, Released}
 use Rattle.cube_laws.specs.Runs.{is_closing, as_list, closings}
-use Rattle.cube_laws.proofs.Nodes.{Marked, one_value, get_same, get_other, get_front}
+use Rattle.cube_laws.proofs.Nodes.{Marked, one_value, get_other, get_front}
 use Rattle.cube_laws.proofs.Ways.{marked, noted, counted, divided, ways, held_node}
 
 -- ---- marks
@@ -54,7 +55,7 @@ shut_front : (nodes more : List Node) (k : ℕ) → Marked is_shut nodes k → M
 shut_front nodes more k m = record { node = m.node; at = get_front nodes more k m.node m.at; passes = m.passes }
 
 shut_here : (nodes : List Node) (id : ℕ) (x : Node) (mark : CubeState) → slice_get nodes id ≡ Some x → is_shut mark ≡ true → Marked is_shut (slice_set nodes id (marked x mark)) id
-shut_here nodes id x mark e t = record { node = marked x mark; at = get_same nodes id x (marked x mark) e; passes = t }
+shut_here nodes id x mark e t = record { node = marked x mark; at = get_put nodes id x (marked x mark) e; passes = t }
 
 shut_next : (k : ℕ) (s : State) (seat : ℕ) (event : CubeEvent) → Marked is_shut s.nodes k → Marked is_shut (next_of s seat event).nodes k
 shut_next k s seat event m = ways (λ t r. Marked is_shut t.nodes k) s seat event (record {
@@ -127,19 +128,12 @@ not_closed_again s (x ∷ xs) k m h = elim (Has-append_cases k (closed_now s x.s
   | inr later ↦ not_closed_again (next_of s x.seat x.event) xs k (shut_next k s x.seat x.event m) later
 ]
 
-apart_joined : (xs ys : List ℕ) → Apart xs → Apart ys → ((k : ℕ) → Has k xs → Has k ys → ⊥) → Apart (xs ++ ys)
-apart_joined [] ys a b none = b
-apart_joined (x ∷ xs) ys a b none = (
-  λ h. (elim (Has-append_cases x xs ys h) [ inl k ↦ a.0 k | inr k ↦ none x (inl refl) k ]),
-  apart_joined xs ys a.1 b (λ k u v. none k (inr u) v),
-)
-
 pub apart_closings : (s : State) (history : List (Entry CubeEvent CubeReply)) → IsLegal next_of reply_of s history → Apart (closings s history)
 apart_closings s [] legal = tt
 apart_closings s (x ∷ xs) legal =
     let next = next_of s x.seat x.event in
     let step = subst (Counts s x.seat next) (sym legal.0) (counts_next s x.seat x.event) in
-    apart_joined (closed_now s x.seat x.reply) (closings next xs) (apart_now (is_closing x.reply) (node_held s x.seat)) (apart_closings next xs legal.1)
+    Apart-append (closed_now s x.seat x.reply) (closings next xs) (apart_now (is_closing x.reply) (node_held s x.seat)) (apart_closings next xs legal.1)
     (λ k now later. not_closed_again next xs k (step.shut k now) later)
 
 pub closed_once : (s : State) (history : List (Entry CubeEvent CubeReply)) → IsLegal next_of reply_of s history → IsDistinct nat_eq (closings s history)

@@ -2,8 +2,10 @@
 use Rattle.std.proofs.Common.{◌≡◌, ℕ, zero, suc, ◌+◌, ◌-◌, ◌^◌, ◌<◌, ◌≤◌, Bool, true, false, cond, ◌||◌, List, [], ◌∷◌, ◌++◌, length, Option, None, Some, refl, sym, ap, ◌∙◌, inl, inr, arith}
 use Rattle.std.specs.Prelude.{slice_get, slice_set}
 use Rattle.std.specs.List.{list_any}
+use Rattle.std.proofs.Math.Bool.{or-false, or-true, or_assoc}
 use Rattle.std.proofs.lemmas.Bool.{false≢true, or_cases}
 use Rattle.std.proofs.lemmas.List.Folds.{list_any-append}
+use Rattle.std.proofs.lemmas.Option.{same_Some}
 use Rattle.serializability.specs.Polygraph.{Polygraph}
 use Rattle.pruning_laws.specs.declared.side.Side.TheVariants.{One, Two}
 use Rattle.desk.specs.declared.history.Entry.{Entry}
@@ -18,7 +20,7 @@ use Rattle.cube_laws.specs.declared.messages.CubeReply.{CubeReply}
 use Rattle.cube_laws.specs.declared.messages.CubeReply.TheVariants.{Finished, HasCube, NotOpen, NoneNow, Cube as Given, NoCube, BadChoice, Children, BadCycle, Closed, BadOrder, Solved, Released}
 use Rattle.cube_laws.specs.Cubes.{edges_under}
 use Rattle.cube_laws.specs.Runs.{is_closing, is_solving, solves}
-use Rattle.cube_laws.proofs.Nodes.{none-some, some-inj}
+use Rattle.cube_laws.proofs.Nodes.{none-some}
 use Rattle.cube_laws.proofs.Ways.{marked, ways}
 use Rattle.cube_laws.proofs.Closings.{is_shut, open_not_shut, held_not_shut}
 use Rattle.cube_laws.proofs.Grown.{held_unsolved, grown_opening, grown_after, few_nodes, whole_power}
@@ -35,7 +37,7 @@ shut_count (x ∷ xs) = one_if (is_shut x.mark) + shut_count xs
 count_set : (xs : List Node) (id : ℕ) (x y : Node) → slice_get xs id ≡ Some x → shut_count (slice_set xs id y) + one_if (is_shut x.mark) ≡ shut_count xs + one_if (is_shut y.mark)
 unfolding shut_count
 count_set [] id x y e = absurd (none-some x e)
-count_set (z ∷ zs) zero x y e = let w = ap (λ (n : Node). one_if (is_shut n.mark)) (some-inj z x e) in omega (arith, w)
+count_set (z ∷ zs) zero x y e = let w = ap (λ (n : Node). one_if (is_shut n.mark)) (same_Some z x e) in omega (arith, w)
 count_set (z ∷ zs) (suc id) x y e = let r = count_set zs id x y e in omega (arith, r)
 
 count_two : (xs : List Node) (a b : Node) → is_shut a.mark ≡ false → is_shut b.mark ≡ false → shut_count (xs ++ a ∷ b ∷ []) ≡ shut_count xs
@@ -113,23 +115,16 @@ budget_lasts p budget history large live =
     omega (arith, large, few, w, e, count, fewer)
 
 -- ---- solved nodes
-or_false : (b : Bool) → (b || false) ≡ b
-or_false true = refl
-or_false false = refl
-
-or_true : (b : Bool) → (b || true) ≡ true
-or_true true = refl
-or_true false = refl
 
 any_marked : (test : Node → Bool) (xs : List Node) (id : ℕ) (x y : Node) → slice_get xs id ≡ Some x → test y ≡ test x → list_any test (slice_set xs id y) ≡ list_any test xs
 any_marked test [] id x y e f = absurd (none-some x e)
-any_marked test (z ∷ zs) zero x y e f = ap (λ b. b || list_any test zs) (f ∙ ap test (sym (some-inj z x e)))
+any_marked test (z ∷ zs) zero x y e f = ap (λ b. b || list_any test zs) (f ∙ ap test (sym (same_Some z x e)))
 any_marked test (z ∷ zs) (suc id) x y e f = ap (λ b. test z || b) (any_marked test zs id x y e f)
 
 any_put : (test : Node → Bool) (xs : List Node) (id : ℕ) (x y : Node) → slice_get xs id ≡ Some x → test y ≡ true → list_any test (slice_set xs id y) ≡ true
 any_put test [] id x y e f = absurd (none-some x e)
 any_put test (z ∷ zs) zero x y e f = ap (λ b. b || list_any test zs) f
-any_put test (z ∷ zs) (suc id) x y e f = ap (λ b. test z || b) (any_put test zs id x y e f) ∙ or_true (test z)
+any_put test (z ∷ zs) (suc id) x y e f = ap (λ b. test z || b) (any_put test zs id x y e f) ∙ or-true (test z)
 
 quiet : (r : CubeReply) → is_closing r ≡ false → is_solving r ≡ false
 quiet Finished f = refl
@@ -146,7 +141,7 @@ quiet BadOrder f = refl
 quiet Solved f = absurd (false≢true (sym f))
 quiet Released f = refl
 
-open_unsolved : (m : CubeState) → is_open m ≡ true → is_solved m ≡ false
+pub open_unsolved : (m : CubeState) → is_open m ≡ true → is_solved m ≡ false
 open_unsolved Open t = refl
 open_unsolved (Held seat) t = refl
 open_unsolved (Divided c) t = refl
@@ -157,18 +152,18 @@ abbrev Solves : State → State → CubeReply → Type 0
 Solves s t r = has_solved t.nodes ≡ (has_solved s.nodes || is_solving r)
 
 solved_marked : (s : State) (id : ℕ) (x : Node) (mark : CubeState) → slice_get s.nodes id ≡ Some x → is_solved x.mark ≡ false → is_solved mark ≡ false → has_solved (slice_set s.nodes id (marked x mark)) ≡ (has_solved s.nodes || false)
-solved_marked s id x mark e f g = any_marked (λ (y : Node). is_solved y.mark) s.nodes id x (marked x mark) e (g ∙ sym f) ∙ sym (or_false (has_solved s.nodes))
+solved_marked s id x mark e f g = any_marked (λ (y : Node). is_solved y.mark) s.nodes id x (marked x mark) e (g ∙ sym f) ∙ sym (or-false (has_solved s.nodes))
 
 solved_next : (s : State) (seat : ℕ) (event : CubeEvent) → Solves s (next_of s seat event) (reply_of s seat event)
 solved_next s seat event = ways (λ t r. Solves s t r) s seat event (record {
-  stays = λ r f. sym (ap (λ b. has_solved s.nodes || b) (quiet r f) ∙ or_false (has_solved s.nodes));
+  stays = λ r f. sym (ap (λ b. has_solved s.nodes || b) (quiet r f) ∙ or-false (has_solved s.nodes));
   holds = λ id x e o _. solved_marked s id x (Held seat) e (open_unsolved x.mark o) refl;
   opens = λ id x e h. solved_marked s id x Open e (held_unsolved seat x.mark h) refl;
   splits = λ id c x e h _ going can. list_any-append (λ (y : Node). is_solved y.mark) (slice_set s.nodes id (marked x (Divided c))) (child id x.cube c One ∷ child id x.cube c Two ∷ [])
-      ∙ or_false (has_solved (slice_set s.nodes id (marked x (Divided c))))
+      ∙ or-false (has_solved (slice_set s.nodes id (marked x (Divided c))))
       ∙ solved_marked s id x (Divided c) e (held_unsolved seat x.mark h) refl;
   refutes = λ id line x e h _ going _. solved_marked s id x Refuted e (held_unsolved seat x.mark h) refl;
-  solves = λ id order x e h _ going _. any_put (λ (y : Node). is_solved y.mark) s.nodes id x (marked x Ended) e refl ∙ sym (or_true (has_solved s.nodes));
+  solves = λ id order x e h _ going _. any_put (λ (y : Node). is_solved y.mark) s.nodes id x (marked x Ended) e refl ∙ sym (or-true (has_solved s.nodes));
 })
 
 -- a reply that says so answers what asked for it
@@ -205,12 +200,8 @@ solved_by s seat (Refute line) = unless (is_finished s) Finished (refute_reply s
 solved_by s seat (Solve order) = refl
 solved_by s seat Release = refl
 
-or_assoc : (a b c : Bool) → ((a || b) || c) ≡ (a || (b || c))
-or_assoc true b c = refl
-or_assoc false b c = refl
-
 solved_from : (s : State) (history : List (Entry CubeEvent CubeReply)) → IsLegal next_of reply_of s history → has_solved (replay next_of s history).nodes ≡ (has_solved s.nodes || list_any (λ x. solves x.event x.reply) history)
-solved_from s [] legal = sym (or_false (has_solved s.nodes))
+solved_from s [] legal = sym (or-false (has_solved s.nodes))
 solved_from s (x ∷ xs) legal =
     let next = next_of s x.seat x.event in
     let rest = list_any (λ (y : Entry CubeEvent CubeReply). solves y.event y.reply) xs in

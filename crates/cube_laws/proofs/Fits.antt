@@ -1,5 +1,5 @@
 -- Orders that keep the edges of a cube, and those that solve one.
-use Rattle.std.proofs.Common.{◌≡◌, ◌⊎◌, ℕ, zero, suc, ◌+◌, ◌<◌, ◌≤◌, Bool, true, false, cond, eqb, ◌&&◌, List, [], ◌∷◌, ◌++◌, length, Some, refl, sym, ap, ◌∙◌, subst, inl, inr, arith, append_assoc}
+use Rattle.std.proofs.Common.{◌≡◌, ◌⊎◌, ℕ, zero, suc, ◌+◌, ◌<◌, ◌≤◌, Bool, true, cond, eqb, ◌&&◌, List, [], ◌∷◌, ◌++◌, length, Some, refl, sym, ap, ◌∙◌, subst, inl, inr, arith, append_assoc}
 use Rattle.std.specs.Prelude.{slice_get, nat_lt}
 use Rattle.std.specs.List.{AllByRecursion, list_any, list_all, range_with_len}
 use Rattle.std.proofs.lemmas.Bool.{cases_eq, cases_lt, false≢true, and_parts, and_from, or_cases, or_left, or_right, ltb-true, eqb-true}
@@ -7,19 +7,21 @@ use Rattle.std.proofs.lemmas.Cmp.{nat_eq_equiv}
 use Rattle.std.proofs.lemmas.List.{length-append}
 use Rattle.std.proofs.lemmas.List.FromFn.{length-range_with_len}
 use Rattle.std.proofs.lemmas.Map.Made.{length-le_from_is_member}
+use Rattle.std.proofs.lemmas.Option.{same_Some}
 use Rattle.serializability.specs.Replay.{place_of, Before, ListsOnce}
 use Rattle.serializability.specs.Polygraph.{Edge, Choice, Polygraph, Keeps, KeepsOne, Fits}
 use Rattle.serializability.proofs.Places.{Has, Apart, Has-split, Has-append_front, Has-append_back, Has-append_cases, each_of_append, each_from_append}
 use Rattle.serializability.proofs.Sources.{any_found, range-from_Has}
-use Rattle.serializability.proofs.Listed.{IsDistinct-from_Apart, Has-from_any, any-from_Has, once_from}
+use Rattle.serializability.proofs.Listed.{IsDistinct-from_Apart, Has-from_any, any-from_Has, once_from, Apart_range}
 use Rattle.pruning_laws.specs.declared.side.Side.{Side}
 use Rattle.pruning_laws.specs.declared.side.Side.TheVariants.{One, Two}
 use Rattle.pruning_laws.specs.Forced.{edges_of, Sides, kept_from}
 use Rattle.pruning_laws.specs.Ledger.{same_side, Entry as Decision, sides_in}
 use Rattle.pruning_laws.proofs.Ledgers.{same_is, same_itself}
+use Rattle.pruning_laws.proofs.Pruned.{part_kept, part_of}
 use Rattle.cube_laws.specs.Cubes.{Cube, is_decided, edges_under}
 use Rattle.cube_laws.specs.Steps.{decides_all, lists_once, keeps_edges, is_solution}
-use Rattle.cube_laws.proofs.Nodes.{none-some, some-inj, one_value, each_indexed}
+use Rattle.cube_laws.proofs.Nodes.{none-some, one_value, each_indexed}
 
 -- ---- the sides of a cube
 -- the order keeps the side of this decision
@@ -37,10 +39,6 @@ side_kept p order (e ∷ cube) k c side t = elim (or_cases (eqb e.0 c && same_si
       subst (KeepsSide p order) (λ i. (eqb-true e.0 c b.0 i, same_is e.1 side b.1 i)) k.0)
   | inr b ↦ side_kept p order cube k.1 c side b
 ]
-
-part_kept : (order : List ℕ) (b : Bool) (edges : List Edge) → (b ≡ true → Keeps order edges) → Keeps order (cond b edges [])
-part_kept order true edges h = h refl
-part_kept order false edges h = tt
 
 -- an order that keeps each side in a set keeps the edges of the set
 sides_kept : (sides : Sides) (order : List ℕ) (c : ℕ) (hs : List Choice) → ((k : ℕ) (h : Choice) (side : Side) → slice_get hs k ≡ Some h → sides (c + k) side ≡ true → Keeps order (edges_of h side)) → Keeps order (kept_from sides c hs)
@@ -71,9 +69,6 @@ cube_split p order cube c side h at kept k = record {
 }
 
 -- ---- an order that keeps the edges of a set keeps each side in it
-part_of : (order : List ℕ) (b : Bool) (edges : List Edge) → b ≡ true → Keeps order (cond b edges []) → Keeps order edges
-part_of order true edges t k = k
-part_of order false edges t k = absurd (false≢true t)
 
 first_kept : (sides : Sides) (order : List ℕ) (c : ℕ) (h : Choice) (side : Side) → Keeps order (cond (sides c One) h.one []) → Keeps order (cond (sides c Two) h.two []) → sides c side ≡ true → Keeps order (edges_of h side)
 first_kept sides order c h One a b t = part_of order (sides c One) h.one t a
@@ -86,7 +81,7 @@ kept_each sides order c (g ∷ hs) kept zero h side at t =
     let a = each_of_append K (cond (sides c One) g.one [] ++ cond (sides c Two) g.two []) (kept_from sides (c + 1) hs) kept in
     let b = each_of_append K (cond (sides c One) g.one []) (cond (sides c Two) g.two []) a.0 in
     let z : c + 0 ≡ c = omega arith in
-    subst (λ (q : Choice). Keeps order (edges_of q side)) (some-inj g h at) (first_kept sides order c g side b.0 b.1 (subst (λ n. sides n side ≡ true) z t))
+    subst (λ (q : Choice). Keeps order (edges_of q side)) (same_Some g h at) (first_kept sides order c g side b.0 b.1 (subst (λ n. sides n side ≡ true) z t))
 kept_each sides order c (g ∷ hs) kept (suc k) h side at t =
     let K : Edge → Type 0 = λ e. Before order e.0 e.1 in
     let a = each_of_append K (cond (sides c One) g.one [] ++ cond (sides c Two) g.two []) (kept_from sides (c + 1) hs) kept in
@@ -110,7 +105,7 @@ all_in_range test a (suc n) t v lo hi =
     ]
 
 -- of a decided choice the cube has a side
-decided_side : (cube : Cube) (c : ℕ) → is_decided cube c ≡ true → (side : Side) × (sides_in cube c side ≡ true)
+pub decided_side : (cube : Cube) (c : ℕ) → is_decided cube c ≡ true → (side : Side) × (sides_in cube c side ≡ true)
 decided_side [] c t = absurd (false≢true t)
 decided_side (e ∷ cube) c t = elim (or_cases (eqb e.0 c) (is_decided cube c) t) [
   | inl a ↦ (e.1, or_left (eqb e.0 c && same_side e.1 e.1) (sides_in cube c e.1) (and_from (eqb e.0 c) (same_side e.1 e.1) a (same_itself e.1)))
@@ -137,13 +132,9 @@ choices_kept p cube order all kept = each_indexed (KeepsOne order) p.choices (λ
 record Covers (n : ℕ) (xs : List ℕ) : Type 0 where
   pub each : (v : ℕ) → 0 < v → v ≤ n → Has v xs
 
-apart_range : (a n : ℕ) → Apart (range_with_len a n)
-apart_range a zero = tt
-apart_range a (suc n) = (λ h. (let r = range-from_Has a (a + 1) n h in omega (arith, r.0)), apart_range (a + 1) n)
-
 covers_most : (n : ℕ) (xs : List ℕ) → Covers n xs → n ≤ length xs
 covers_most n xs c =
-    let most = length-le_from_is_member nat_eq_equiv (range_with_len 1 n) xs (IsDistinct-from_Apart (range_with_len 1 n) (apart_range 1 n)) (λ q t.
+    let most = length-le_from_is_member nat_eq_equiv (range_with_len 1 n) xs (IsDistinct-from_Apart (range_with_len 1 n) (Apart_range 1 n)) (λ q t.
     (let r = range-from_Has q 1 n (Has-from_any q (range_with_len 1 n) t) in
     any-from_Has q xs (c.each q (omega (arith, r.0)) (omega (arith, r.1))))) in
     omega (arith, most, length-range_with_len 1 n)

@@ -4,6 +4,7 @@ use Rattle.std.specs.Prelude.{slice_get, slice_set}
 use Rattle.std.specs.List.{AllByRecursion}
 use Rattle.std.proofs.lemmas.Bool.{false≢true, and_parts, or_parts, or_cases, or_left, or_right, not-true, ltb-true, eqb-false, eq-eqb}
 use Rattle.std.proofs.lemmas.Map.Steps.{length-le_from_distinct_below}
+use Rattle.std.proofs.lemmas.Option.{same_Some}
 use Rattle.serializability.specs.Polygraph.{Polygraph}
 use Rattle.serializability.proofs.Places.{Has, Apart, each_from_append}
 use Rattle.serializability.proofs.Listed.{IsDistinct-from_Apart, Has-from_any}
@@ -19,7 +20,7 @@ use Rattle.cube_laws.specs.declared.messages.CubeState.{CubeState}
 use Rattle.cube_laws.specs.declared.messages.CubeState.TheVariants.{Open, Held, Split as Divided, Refuted, Solved as Ended}
 use Rattle.cube_laws.specs.declared.messages.CubeEvent.{CubeEvent}
 use Rattle.cube_laws.specs.declared.messages.CubeReply.{CubeReply}
-use Rattle.cube_laws.proofs.Nodes.{none-some, some-inj, length_set, length_two, each_at, each_set, any_at, any_kept}
+use Rattle.cube_laws.proofs.Nodes.{none-some, length_set, length_two, each_at, each_set, any_at, any_kept}
 use Rattle.cube_laws.proofs.Ways.{marked, noted, counted, divided, ways}
 
 -- ---- marks
@@ -151,7 +152,7 @@ pub weights_set : (m : ℕ) (xs : List Node) (id : ℕ) (x y : Node) → slice_g
 unfolding weights
 weights_set m [] id x y e = absurd (none-some x e)
 weights_set m (z ∷ zs) zero x y e =
-    let w = ap (weight m) (some-inj z x e) in omega (arith, w)
+    let w = ap (weight m) (same_Some z x e) in omega (arith, w)
 weights_set m (z ∷ zs) (suc id) x y e =
     let r = weights_set m zs id x y e in omega (arith, r)
 

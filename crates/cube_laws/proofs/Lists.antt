@@ -4,9 +4,7 @@ use Rattle.std.specs.Prelude.{slice_get, slice_set, slice_index_or}
 use Rattle.std.specs.Option.{option_map_or}
 use Rattle.std.specs.List.{list_any}
 use Rattle.std.proofs.lemmas.Bool.{or_parts}
-
-pub some_is : {A : Type 0} (x y : A) → Some x ≡ Some y → x ≡ y
-some_is x y e = cc
+use Rattle.std.proofs.lemmas.Option.{same_Some}
 
 module _ {A : Type 0} where
   pub within : (xs : List A) (k : ℕ) (x : A) → slice_get xs k ≡ Some x → k < length xs
@@ -33,7 +31,7 @@ module _ {A : Type 0} where
 
   pub set_self : (xs : List A) (k : ℕ) (y : A) → slice_get xs k ≡ Some y → slice_set xs k y ≡ xs
   set_self [] k y e = absurd (cc)
-  set_self (z ∷ zs) zero y e = ap (λ w. w ∷ zs) (some_is y z (sym e))
+  set_self (z ∷ zs) zero y e = ap (λ w. w ∷ zs) (same_Some y z (sym e))
   set_self (z ∷ zs) (suc k) y e = ap (λ l. z ∷ l) (set_self zs k y e)
 
   pub append_left : (xs ys : List A) (k : ℕ) (x : A) → slice_get xs k ≡ Some x → slice_get (xs ++ ys) k ≡ Some x
@@ -53,18 +51,18 @@ module _ {A : Type 0} where
 
   pub any_false : (f : A → Bool) (xs : List A) (k : ℕ) (x : A) → list_any f xs ≡ false → slice_get xs k ≡ Some x → f x ≡ false
   any_false f [] k x n e = absurd (cc)
-  any_false f (y ∷ ys) zero x n e = ap f (some_is x y (sym e)) ∙ (or_parts (f y) (list_any f ys) n).0
+  any_false f (y ∷ ys) zero x n e = ap f (same_Some x y (sym e)) ∙ (or_parts (f y) (list_any f ys) n).0
   any_false f (y ∷ ys) (suc k) x n e = any_false f ys k x (or_parts (f y) (list_any f ys) n).1 e
 
 module _ {A B : Type 0} (f : A → B) where
   pub map_some : (xs : List A) (k : ℕ) (x : A) → slice_get xs k ≡ Some x → slice_get (map f xs) k ≡ Some (f x)
   map_some [] k x e = absurd (cc)
-  map_some (y ∷ ys) zero x e = ap (λ z. Some (f z)) (some_is y x e)
+  map_some (y ∷ ys) zero x e = ap (λ z. Some (f z)) (same_Some y x e)
   map_some (y ∷ ys) (suc k) x e = map_some ys k x e
 
   pub some_map : (xs : List A) (k : ℕ) (y : B) → slice_get (map f xs) k ≡ Some y → (x : A) × (slice_get xs k ≡ Some x) × (f x ≡ y)
   some_map [] k y e = absurd (cc)
-  some_map (x ∷ xs) zero y e = (x, refl, some_is (f x) y e)
+  some_map (x ∷ xs) zero y e = (x, refl, same_Some (f x) y e)
   some_map (x ∷ xs) (suc k) y e = some_map xs k y e
 
   pub map_length : (xs : List A) → length (map f xs) ≡ length xs

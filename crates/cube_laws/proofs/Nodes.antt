@@ -4,25 +4,20 @@ use Rattle.std.specs.Prelude.{slice_get, slice_set}
 use Rattle.std.specs.Option.{option_map_or}
 use Rattle.std.specs.List.{AllByRecursion, list_any}
 use Rattle.std.proofs.lemmas.Bool.{cases_Bool, false≢true, or_cases, or_left, or_right, cond-true, cond-false}
+use Rattle.std.proofs.lemmas.Option.{same_Some}
 use Rattle.cube_laws.specs.State.{Node}
 use Rattle.cube_laws.specs.Steps.{is_open, is_held_by, held_from, last_open_from, or_else}
 use Rattle.cube_laws.specs.declared.messages.CubeState.{CubeState}
 
 -- ---- options
-pub some-inj : {A : Type 0} (x y : A) → Some x ≡ Some y → x ≡ y
-some-inj x y e = cc
 
 pub none-some : {A : Type 0} (x : A) → ◌≡◌ {A = Option A} None (Some x) → ⊥
 none-some x e = cc
 
 pub one_value : {A : Type 0} (o : Option A) (x y : A) → o ≡ Some x → o ≡ Some y → x ≡ y
-one_value o x y a b = some-inj x y (sym a ∙ b)
+one_value o x y a b = same_Some x y (sym a ∙ b)
 
 -- ---- an element by its number
-pub get_same : {A : Type 0} (xs : List A) (k : ℕ) (x y : A) → slice_get xs k ≡ Some x → slice_get (slice_set xs k y) k ≡ Some y
-get_same [] k x y e = absurd (none-some x e)
-get_same (z ∷ zs) zero x y e = refl
-get_same (z ∷ zs) (suc k) x y e = get_same zs k x y e
 
 pub get_other : {A : Type 0} (xs : List A) (k j : ℕ) (x y : A) → (j ≡ k → ⊥) → slice_get xs j ≡ Some x → slice_get (slice_set xs k y) j ≡ Some x
 get_other [] k j x y ne e = e
@@ -62,7 +57,7 @@ length_two (z ∷ zs) a b = let e = length_two zs a b in omega (arith, e)
 -- ---- what holds of each
 pub each_at : {A : Type 0} (P : A → Type 0) (xs : List A) (k : ℕ) (x : A) → AllByRecursion P xs → slice_get xs k ≡ Some x → P x
 each_at P [] k x h e = absurd (none-some x e)
-each_at P (z ∷ zs) zero x h e = subst P (some-inj z x e) h.0
+each_at P (z ∷ zs) zero x h e = subst P (same_Some z x e) h.0
 each_at P (z ∷ zs) (suc k) x h e = each_at P zs k x h.1 e
 
 pub each_set : {A : Type 0} (P : A → Type 0) (xs : List A) (k : ℕ) (y : A) → AllByRecursion P xs → P y → AllByRecursion P (slice_set xs k y)
@@ -77,14 +72,14 @@ each_indexed P (z ∷ zs) h = (h 0 z refl, each_indexed P zs (λ k x e. h (suc k
 -- ---- tests
 pub any_at : {A : Type 0} (t : A → Bool) (xs : List A) (k : ℕ) (x : A) → slice_get xs k ≡ Some x → t x ≡ true → list_any t xs ≡ true
 any_at t [] k x e h = absurd (none-some x e)
-any_at t (z ∷ zs) zero x e h = or_left (t z) (list_any t zs) (ap t (some-inj z x e) ∙ h)
+any_at t (z ∷ zs) zero x e h = or_left (t z) (list_any t zs) (ap t (same_Some z x e) ∙ h)
 any_at t (z ∷ zs) (suc k) x e h = or_right (t z) (list_any t zs) (any_at t zs k x e h)
 
 -- what passes still does, where another is written
 pub any_kept : {A : Type 0} (t : A → Bool) (xs : List A) (k : ℕ) (x y : A) → slice_get xs k ≡ Some x → t x ≡ false → list_any t xs ≡ true → list_any t (slice_set xs k y) ≡ true
 any_kept t [] k x y e f h = h
 any_kept t (z ∷ zs) zero x y e f h = elim (or_cases (t z) (list_any t zs) h) [
-  | inl a ↦ absurd (false≢true (sym f ∙ ap t (sym (some-inj z x e)) ∙ a))
+  | inl a ↦ absurd (false≢true (sym f ∙ ap t (sym (same_Some z x e)) ∙ a))
   | inr b ↦ or_right (t y) (list_any t zs) b
 ]
 any_kept t (z ∷ zs) (suc k) x y e f h = elim (or_cases (t z) (list_any t zs) h) [
@@ -105,18 +100,18 @@ further test x nodes id m = record { node = m.node; at = m.at; passes = m.passes
 pub found_held : (seat k id : ℕ) (nodes : List Node) → held_from seat k nodes ≡ Some id → (j : ℕ) × ((k + j ≡ id) × Marked (is_held_by seat) nodes j)
 found_held seat k id [] e = absurd (none-some id e)
 found_held seat k id (x ∷ xs) e = elim (cases_Bool (is_held_by seat x.mark)) [
-  | inl t ↦ (let same = some-inj k id (sym (cond-true (is_held_by seat x.mark) (Some k) (held_from seat (k + 1) xs) t) ∙ e) in
+  | inl t ↦ (let same = same_Some k id (sym (cond-true (is_held_by seat x.mark) (Some k) (held_from seat (k + 1) xs) t) ∙ e) in
       (0, (omega (arith, same), record { node = x; at = refl; passes = t })))
   | inr f ↦ (let r = found_held seat (k + 1) id xs (sym (cond-false (is_held_by seat x.mark) (Some k) (held_from seat (k + 1) xs) f) ∙ e) in
       (suc r.0, (let n = r.1.0 in omega (arith, n), further (is_held_by seat) x xs r.0 r.1.1)))
 ]
 
-else_cases : (a b : Option ℕ) (id : ℕ) → or_else a b ≡ Some id → (a ≡ Some id) ⊎ (b ≡ Some id)
+pub else_cases : (a b : Option ℕ) (id : ℕ) → or_else a b ≡ Some id → (a ≡ Some id) ⊎ (b ≡ Some id)
 else_cases None b id e = inr e
 else_cases (Some k) b id e = inl e
 
 cond_none : (b : Bool) (k id : ℕ) → ◌≡◌ {A = Option ℕ} (cond b (Some k) None) (Some id) → (b ≡ true) × (k ≡ id)
-cond_none true k id e = (refl, some-inj k id e)
+cond_none true k id e = (refl, same_Some k id e)
 cond_none false k id e = absurd (none-some id e)
 
 pub found_open : (k id : ℕ) (nodes : List Node) → last_open_from k nodes ≡ Some id → (j : ℕ) × ((k + j ≡ id) × Marked is_open nodes j)

@@ -2,10 +2,10 @@
 use Rattle.std.proofs.Common.{◌≡◌, ℕ, zero, suc, ◌+◌, ◌<◌, ◌≤◌, List, [], ◌∷◌, ◌++◌, length, Some, None, refl, sym, ap, ◌∙◌, arith, length-append}
 use Rattle.std.specs.Prelude.{slice_get, slice_index_or}
 use Rattle.std.proofs.lemmas.List.{get_or_append_left, get_or_at, get_or_past}
+use Rattle.std.proofs.lemmas.Option.{same_Some}
 use Rattle.cube_laws.specs.Cubes.{Cube}
 use Rattle.cube_laws.specs.declared.tree.TreeNode.{TreeNode}
 use Rattle.cube_laws.specs.Trees.{cube_below, cubes_after, cube_of}
-use Rattle.cube_laws.proofs.Lists.{some_is}
 
 -- ---- elements past the end
 
@@ -40,7 +40,7 @@ next_cube before x xs =
 under_from : (before : List Cube) (xs : List TreeNode) (j i : ℕ) (x : TreeNode) → i ≡ length before + j → slice_get xs j ≡ Some x → x.parent < i → slice_index_or (cubes_after before xs) i [] ≡ cube_below (slice_index_or (cubes_after before xs) x.parent []) x.decision
 under_from before [] j i x at e lt = absurd (cc)
 under_from before (y ∷ ys) zero i x at e lt =
-    let same : y ≡ x = some_is y x e in
+    let same : y ≡ x = same_Some y x e in
     let here : i ≡ length before = omega (arith, at) in
     let low : x.parent < length before = omega (arith, at, lt) in
     ap (λ k. slice_index_or (cubes_after before (y ∷ ys)) k []) here
@@ -54,7 +54,7 @@ under_from before (y ∷ ys) (suc j) i x at e lt =
 top_from : (before : List Cube) (xs : List TreeNode) (j i : ℕ) (x : TreeNode) → i ≡ length before + j → slice_get xs j ≡ Some x → i ≤ x.parent → slice_index_or (cubes_after before xs) i [] ≡ cube_below [] x.decision
 top_from before [] j i x at e le = absurd (cc)
 top_from before (y ∷ ys) zero i x at e le =
-    let same : y ≡ x = some_is y x e in
+    let same : y ≡ x = same_Some y x e in
     let here : i ≡ length before = omega (arith, at) in
     let high : length before ≤ x.parent = omega (arith, at, le) in
     ap (λ k. slice_index_or (cubes_after before (y ∷ ys)) k []) here

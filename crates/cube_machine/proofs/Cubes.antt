@@ -4,14 +4,14 @@ use Rattle.std.specs.Prelude.{slice_get, slice_set}
 use Rattle.std.specs.Option.{option_map, option_map_or}
 use Rattle.std.specs.List.{list_any}
 use Rattle.std.proofs.lemmas.List.{get_or_append_left, get_or_push, length_push}
-use Rattle.std.proofs.lemmas.Option.{slice_get_within, slice_get-get_or, slice_get_past}
+use Rattle.std.proofs.lemmas.Option.{slice_get_within, slice_get-get_or, slice_get_past, same_Some}
 use Rattle.pruning_laws.specs.declared.side.Side.{Side}
 use Rattle.cube_laws.specs.Cubes.{Cube}
 use Rattle.cube_laws.specs.State.{Node}
 use Rattle.cube_laws.specs.Steps.{with_mark, child}
 use Rattle.cube_laws.specs.declared.messages.CubeState.{CubeState}
 use Rattle.cube_laws.specs.declared.messages.CubeState.TheVariants.{Open}
-use Rattle.cube_laws.proofs.Nodes.{some-inj, none-some}
+use Rattle.cube_laws.proofs.Nodes.{none-some}
 use Rattle.cube_machine.specs.Ways.{cube_of, cubes_after, parent_of, nodes_with, nodes_of, cube_in, IsWay}
 use Rattle.cube_machine.specs.declared.origin.Origin.{Origin}
 use Rattle.cube_machine.specs.declared.node.TreeNode.{TreeNode}
@@ -23,9 +23,6 @@ length_after before [] = omega arith
 length_after before (x ∷ xs) =
     let r = length_after (before ++ cube_of before x.origin ∷ []) xs in
     let p = length_push before (cube_of before x.origin) in omega (arith, r, p)
-
-pub cubes_in : List TreeNode → List Cube
-cubes_in xs = cubes_after [] xs
 
 pub as_many : (xs : List TreeNode) → length (cubes_after [] xs) ≡ length xs
 as_many xs = let r = length_after [] xs in omega (arith, r)
@@ -49,7 +46,7 @@ with_at : (cs : List Cube) (xs : List TreeNode) (k : ℕ) (x : TreeNode) → len
 unfolding nodes_with
 with_at cs [] k x e at = absurd (none-some x at)
 with_at [] (z ∷ zs) k x e at = absurd (omega (arith, e))
-with_at (c ∷ cs) (z ∷ zs) zero x e at = ap (λ (y : TreeNode). Some (seen (c ∷ cs) zero y)) (some-inj z x at)
+with_at (c ∷ cs) (z ∷ zs) zero x e at = ap (λ (y : TreeNode). Some (seen (c ∷ cs) zero y)) (same_Some z x at)
 with_at (c ∷ cs) (z ∷ zs) (suc k) x e at = with_at cs zs k x (omega (arith, e)) at
 
 pub node_at : (xs : List TreeNode) (k : ℕ) (x : TreeNode) → slice_get xs k ≡ Some x → slice_get (nodes_of xs) k ≡ Some (seen (cubes_after [] xs) k x)
@@ -103,7 +100,7 @@ cube_led before (z ∷ zs) zero x at lt =
     let now = cubes_after (before ++ here ∷ []) zs in
     let p = length_push before here in
     let z0 : length before + 0 ≡ length before = omega arith in
-    let same : z ≡ x = some-inj z x at in
+    let same : z ≡ x = same_Some z x at in
     ap (λ i. get_or now i []) z0
     ∙ cube_before (before ++ here ∷ []) zs (length before) (omega (arith, p))
     ∙ get_or_push before here [] (length before) refl
@@ -153,7 +150,7 @@ remark x m = record { origin = x.origin; mark = m }
 cubes_written : (before : List Cube) (xs : List TreeNode) (k : ℕ) (x : TreeNode) (m : CubeState) → slice_get xs k ≡ Some x → cubes_after before (slice_set xs k (remark x m)) ≡ cubes_after before xs
 unfolding cubes_after
 cubes_written before [] k x m at = refl
-cubes_written before (z ∷ zs) zero x m at = ap (λ (y : TreeNode). cubes_after (before ++ cube_of before y.origin ∷ []) zs) (sym (some-inj z x at))
+cubes_written before (z ∷ zs) zero x m at = ap (λ (y : TreeNode). cubes_after (before ++ cube_of before y.origin ∷ []) zs) (sym (same_Some z x at))
 cubes_written before (z ∷ zs) (suc k) x m at = cubes_written (before ++ cube_of before z.origin ∷ []) zs k x m at
 
 with_written : (cs : List Cube) (xs : List TreeNode) (k : ℕ) (y : TreeNode) → length cs ≡ length xs → nodes_with cs (slice_set xs k y) ≡ slice_set (nodes_with cs xs) k (seen cs k y)

@@ -3,6 +3,7 @@ use Rattle.std.proofs.Common.{◌≡◌, ℕ, Bool, true, false, not, eqb, ◌&&
 use Rattle.std.specs.Prelude.{slice_get}
 use Rattle.std.specs.Option.{option_map_or}
 use Rattle.std.proofs.lemmas.Bool.{eqb-true, or_parts, and_parts}
+use Rattle.list_lemmas.proofs.Bools.{either_way}
 use Rattle.pruning_laws.specs.declared.side.Side.{Side}
 use Rattle.pruning_laws.specs.declared.side.Side.TheVariants.{One, Two}
 use Rattle.pruning_laws.specs.Ledger.{same_side, sides_in}
@@ -10,7 +11,6 @@ use Rattle.cube_laws.specs.Cubes.{Cube, is_decided}
 use Rattle.cube_machine.specs.Flags.{either, flag_of, flag_at, is_flagged, is_odd}
 use Rattle.cube_machine.specs.Noted.{IsOnce}
 use Rattle.cube_machine.specs.declared.decided.SideFlags.{SideFlags}
-use Rattle.cube_machine.proofs.Lists.{either_way}
 
 -- ---- one of both
 once_more : (h f p : Bool) → either h f ≡ either f (either (either h p) p)
@@ -54,7 +54,7 @@ odd_once (x ∷ cube) c s o =
     one_of (eqb x.0 c && same_side x.1 s) (is_odd cube c s) (sides_in cube c s) (odd_once cube c s o.1)
     (λ t. (let p = and_parts (eqb x.0 c) (same_side x.1 s) t in undecided cube c s (ap (is_decided cube) (sym (eqb-true x.0 c p.0)) ∙ o.0)))
 
-some_side : (b : Bool) (s : Side) → ((b && same_side s One) || (b && same_side s Two)) ≡ b
+pub some_side : (b : Bool) (s : Side) → ((b && same_side s One) || (b && same_side s Two)) ≡ b
 some_side true One = refl
 some_side true Two = refl
 some_side false s = refl

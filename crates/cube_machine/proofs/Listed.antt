@@ -8,11 +8,12 @@ use Rattle.pruning_laws.specs.declared.side.Side.TheVariants.{One, Two}
 use Rattle.pruning_laws.specs.Forced.{Sides, kept_from}
 use Rattle.pruning_laws.specs.Ledger.{sides_in}
 use Rattle.known_graph.specs.Tests.{has_edge, leads}
+use Rattle.known_graph.proofs.Rows.{edge_append}
 use Rattle.cube_laws.specs.Cubes.{Cube, edges_under}
 use Rattle.cube_laws.specs.Steps.{is_cycle}
 use Rattle.side_edges.specs.Listed.{HasSides}
 use Rattle.side_edges.specs.declared.SideEdge.{SideEdge}
-use Rattle.side_edges.proofs.Listed.{edge_append, kept_edge}
+use Rattle.side_edges.proofs.Listed.{kept_edge}
 use Rattle.cube_machine.specs.Flags.{flag_at}
 use Rattle.cube_machine.specs.Cycles.{is_among, leads_by, is_cycle_by}
 use Rattle.cube_machine.specs.declared.decided.SideFlags.{SideFlags}

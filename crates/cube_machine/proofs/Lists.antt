@@ -4,11 +4,13 @@ use Rattle.std.specs.Prelude.{slice_get, slice_set}
 use Rattle.std.specs.List.{list_any}
 use Rattle.std.proofs.lemmas.Bool.{false≢true, or_cases}
 use Rattle.std.proofs.Math.Bool.{or_comm, or-false, or_assoc}
-use Rattle.cube_laws.proofs.Nodes.{some-inj, none-some}
+use Rattle.std.proofs.lemmas.Option.{same_Some}
+use Rattle.list_lemmas.proofs.Bools.{either_way}
+use Rattle.cube_laws.proofs.Nodes.{none-some}
 
 -- ---- elements
 pub get_pushed : {A : Type 0} (xs : List A) (j : ℕ) (y x : A) → slice_get (xs ++ y ∷ []) j ≡ Some x → ((j ≡ length xs) × (x ≡ y)) ⊎ (slice_get xs j ≡ Some x)
-get_pushed [] zero y x e = inl (refl, sym (some-inj y x e))
+get_pushed [] zero y x e = inl (refl, sym (same_Some y x e))
 get_pushed [] (suc j) y x e = absurd (none-some x e)
 get_pushed (z ∷ zs) zero y x e = inr e
 get_pushed (z ∷ zs) (suc j) y x e = elim (get_pushed zs j y x e) [ inl p ↦ inl (ap suc p.0, p.1) | inr q ↦ inr q ]
@@ -25,7 +27,7 @@ any_found t (z ∷ zs) h = elim (or_cases (t z) (list_any t zs) h) [
 pub any_written : {A : Type 0} (t : A → Bool) (xs : List A) (k : ℕ) (x y : A) → slice_get xs k ≡ Some x → t x ≡ false → list_any t (slice_set xs k y) ≡ (list_any t xs || t y)
 any_written t [] k x y e f = absurd (none-some x e)
 any_written t (z ∷ zs) zero x y e f =
-    let g : t z ≡ false = ap t (some-inj z x e) ∙ f in
+    let g : t z ≡ false = ap t (same_Some z x e) ∙ f in
     or_comm (t y) (list_any t zs) ∙ ap (λ b. (b || list_any t zs) || t y) (sym g)
 any_written t (z ∷ zs) (suc k) x y e f = ap (λ b. t z || b) (any_written t zs k x y e f) ∙ sym (or_assoc (t z) (list_any t zs) (t y))
 
@@ -35,13 +37,6 @@ any_unchanged t xs k x y e f g = any_written t xs k x y e f ∙ ap (λ b. list_a
 pub any_pushed : {A : Type 0} (t : A → Bool) (xs : List A) (y : A) → t y ≡ false → list_any t (xs ++ y ∷ []) ≡ list_any t xs
 any_pushed t [] y f = ap (λ b. b || false) f
 any_pushed t (z ∷ zs) y f = ap (λ b. t z || b) (any_pushed t zs y f)
-
-pub either_way : (a b c d : Bool) → ((a || b) || (c || d)) ≡ ((a || c) || (b || d))
-either_way true b c d = refl
-either_way false true true d = refl
-either_way false true false d = refl
-either_way false false true d = refl
-either_way false false false d = refl
 
 pub any_either : {A : Type 0} (s t : A → Bool) (xs : List A) → list_any (λ x. s x || t x) xs ≡ (list_any s xs || list_any t xs)
 any_either s t [] = refl

@@ -3,13 +3,13 @@ use Rattle.std.proofs.Common.{◌≡◌, ℕ, zero, suc, false, List, [], ◌∷
 use Rattle.std.specs.Prelude.{slice_get, slice_set}
 use Rattle.std.specs.Option.{option_map_or}
 use Rattle.std.proofs.lemmas.List.{length-append}
+use Rattle.std.proofs.lemmas.Option.{same_Some}
 use Rattle.cube_laws.specs.State.{Node, root}
 use Rattle.pruning_laws.specs.declared.side.Side.{Side}
 use Rattle.pruning_laws.specs.declared.side.Side.TheVariants.{One, Two}
 use Rattle.cube_laws.specs.Steps.{with_mark, child}
 use Rattle.cube_laws.specs.Cubes.{Cube, is_decided}
 use Rattle.cube_laws.specs.declared.messages.CubeState.{CubeState}
-use Rattle.cube_laws.proofs.Nodes.{some-inj}
 use Rattle.desk.proofs.Tied.{get_set}
 use Rattle.cube_machine.specs.Ways.{cube_in}
 use Rattle.cube_machine.specs.Flags.{flag_at, is_odd}
@@ -22,7 +22,7 @@ use Rattle.cube_machine.proofs.Splits.{length_marked, cube_front}
 -- ---- a mark is written
 cube_written : (nodes : List Node) (id k : ℕ) (x y : Node) → slice_get nodes id ≡ Some x → y.cube ≡ x.cube → cube_in (slice_set nodes id y) k ≡ cube_in nodes k
 cube_written [] id k x y at e = refl
-cube_written (z ∷ zs) zero zero x y at e = e ∙ ap (λ (n : Node). n.cube) (sym (some-inj z x at))
+cube_written (z ∷ zs) zero zero x y at e = e ∙ ap (λ (n : Node). n.cube) (sym (same_Some z x at))
 cube_written (z ∷ zs) zero (suc k) x y at e = refl
 cube_written (z ∷ zs) (suc id) zero x y at e = refl
 cube_written (z ∷ zs) (suc id) (suc k) x y at e = cube_written zs id k x y at e

@@ -1,17 +1,19 @@
 -- Orders that keep edges.
-use Rattle.std.proofs.Common.{◌≡◌, ◌↔◌, ℕ, zero, suc, ◌+◌, ◌<◌, ◌≤◌, Bool, true, false, eqb, ◌&&◌, List, [], ◌∷◌, length, Some, refl, sym, ap, ◌∙◌, inl, inr, arith}
+use Rattle.std.proofs.Common.{◌≡◌, ◌↔◌, ℕ, suc, ◌+◌, ◌<◌, Bool, true, false, eqb, ◌&&◌, List, [], ◌∷◌, length, Some, refl, sym, ap, ◌∙◌, inl, inr, arith}
 use Rattle.std.specs.Prelude.{nat_lt, slice_get}
 use Rattle.std.specs.Option.{option_map_or}
 use Rattle.std.specs.List.{Contains, list_any, list_all, range_with_len}
 use Rattle.std.proofs.lemmas.Bool.{cases_Bool, and_parts, and_from, eq-eqb, lt-ltb, ltb-true}
 use Rattle.std.proofs.lemmas.Option.{slice_get-get_or}
+use Rattle.list_lemmas.proofs.Bools.{same_bool}
+use Rattle.list_lemmas.proofs.Each.{all_range}
 use Rattle.serializability.specs.Replay.{place_of, ListsOnce}
 use Rattle.serializability.specs.Polygraph.{Edge}
 use Rattle.reach_laws.specs.Reach.{Graph}
 use Rattle.reach_laws.proofs.Walks.{Contains-here, Contains-further}
 use Rattle.known_graph.specs.Graphs.{IsKnownGraph}
 use Rattle.known_graph.proofs.Listed.{In, In-from_Contains}
-use Rattle.known_graph.proofs.Tested.{same_bool, edge_in, has_contained}
+use Rattle.known_graph.proofs.Tested.{edge_in, has_contained}
 use Rattle.polygraph.specs.Places.{ArePlaces, AreKept}
 use Rattle.serializability.proofs.Listed.{once_length}
 use Rattle.cube_laws.specs.Steps.{lists_once, keeps_edges}
@@ -28,10 +30,6 @@ pub all_in : {A : Type 0} (t : A → Bool) (xs : List A) (x : A) → list_all t 
 all_in t [] x h c = absurd c
 all_in t (y ∷ ys) x h (inl same) = let p = and_parts (t y) (list_all t ys) h in ap t (sym same) ∙ p.0
 all_in t (y ∷ ys) x h (inr c) = let p = and_parts (t y) (list_all t ys) h in all_in t ys x p.1 c
-
-all_range : (t : ℕ → Bool) (a n : ℕ) → ((v : ℕ) → a ≤ v → v < a + n → t v ≡ true) → list_all t (range_with_len a n) ≡ true
-all_range t a zero h = refl
-all_range t a (suc n) h = and_from (t a) (list_all t (range_with_len (a + 1) n)) (h a (omega arith) (omega arith)) (all_range t (a + 1) n (λ v lo hi. h v (omega arith) (omega (arith, hi))))
 
 -- a row of answers
 pub all_noted : {A : Type 0} (d : A → Bool) (t : ℕ → Bool) (a : ℕ) (ds : List A) → ((c : ℕ) → c < length ds → option_map_or d (slice_get ds c) false ≡ t (a + c)) → list_all d ds ≡ list_all t (range_with_len a (length ds))

@@ -3,9 +3,10 @@ use Rattle.std.proofs.Common.{◌≡◌, ℕ, zero, suc, ◌+◌, ◌-◌, ◌<�
 use Rattle.std.specs.Prelude.{slice_get, slice_set}
 use Rattle.std.specs.List.{list_any, insert, remove}
 use Rattle.std.proofs.lemmas.Bool.{cases_Bool, cond-true, cond-false, eqb-true}
+use Rattle.std.proofs.lemmas.Option.{same_Some}
 use Rattle.cube_laws.specs.Cubes.{Cube}
 use Rattle.cube_laws.specs.Steps.{is_open, or_else, last_open_from}
-use Rattle.cube_laws.proofs.Nodes.{some-inj, none-some}
+use Rattle.cube_laws.proofs.Nodes.{none-some}
 use Rattle.cube_machine.specs.Ways.{nodes_with, nodes_of, cubes_after}
 use Rattle.cube_machine.specs.Kept.{open_from, IsAscending}
 use Rattle.cube_machine.specs.declared.node.TreeNode.{TreeNode}
@@ -30,7 +31,7 @@ pub open_removed : (k : ℕ) (xs : List TreeNode) (i : ℕ) (x y : TreeNode) →
 unfolding open_from opens
 open_removed k [] i x y at t f = absurd (none-some x at)
 open_removed k (z ∷ zs) zero x y at t f =
-    let g : is_open z.mark ≡ true = ap (λ (n : TreeNode). is_open n.mark) (some-inj z x at) ∙ t in
+    let g : is_open z.mark ≡ true = ap (λ (n : TreeNode). is_open n.mark) (same_Some z x at) ∙ t in
     cond-false (is_open y.mark) (k ∷ open_from (k + 1) zs) (open_from (k + 1) zs) f
     ∙ ap (λ l. remove l 0) (sym (cond-true (is_open z.mark) (k ∷ open_from (k + 1) zs) (open_from (k + 1) zs) g))
 open_removed k (z ∷ zs) (suc i) x y at t f =
@@ -40,7 +41,7 @@ pub open_inserted : (k : ℕ) (xs : List TreeNode) (i : ℕ) (x y : TreeNode) �
 unfolding open_from opens
 open_inserted k [] i x y at f t = absurd (none-some x at)
 open_inserted k (z ∷ zs) zero x y at f t =
-    let g : is_open z.mark ≡ false = ap (λ (n : TreeNode). is_open n.mark) (some-inj z x at) ∙ f in
+    let g : is_open z.mark ≡ false = ap (λ (n : TreeNode). is_open n.mark) (same_Some z x at) ∙ f in
     let e : k ≡ k + 0 = omega arith in
     cond-true (is_open y.mark) (k ∷ open_from (k + 1) zs) (open_from (k + 1) zs) t
     ∙ ap (λ n. n ∷ open_from (k + 1) zs) e
@@ -57,7 +58,7 @@ pub open_unchanged : (k : ℕ) (xs : List TreeNode) (i : ℕ) (x y : TreeNode) �
 unfolding open_from
 open_unchanged k [] i x y at f g = refl
 open_unchanged k (z ∷ zs) zero x y at f g =
-    let h : is_open z.mark ≡ false = ap (λ (n : TreeNode). is_open n.mark) (some-inj z x at) ∙ f in
+    let h : is_open z.mark ≡ false = ap (λ (n : TreeNode). is_open n.mark) (same_Some z x at) ∙ f in
     ap (λ b. cond b (k ∷ open_from (k + 1) zs) (open_from (k + 1) zs)) (g ∙ sym h)
 open_unchanged k (z ∷ zs) (suc i) x y at f g =
     same_under (is_open z.mark) k (open_from (k + 1) zs) (open_from (k + 1) (slice_set zs i y)) (open_unchanged (k + 1) zs i x y at f g)
@@ -90,7 +91,7 @@ pub open_fewer : (k : ℕ) (xs : List TreeNode) (i : ℕ) (x : TreeNode) → sli
 unfolding open_from
 open_fewer k [] i x at f = absurd (none-some x at)
 open_fewer k (z ∷ zs) zero x at f =
-    let h : is_open z.mark ≡ false = ap (λ (n : TreeNode). is_open n.mark) (some-inj z x at) ∙ f in
+    let h : is_open z.mark ≡ false = ap (λ (n : TreeNode). is_open n.mark) (same_Some z x at) ∙ f in
     let e = ap length (cond-false (is_open z.mark) (k ∷ open_from (k + 1) zs) (open_from (k + 1) zs) h) in
     let r = open_few (k + 1) zs in omega (arith, e, r)
 open_fewer k (z ∷ zs) (suc i) x at f = fewer_under (is_open z.mark) k (open_from (k + 1) zs) (length zs) (open_fewer (k + 1) zs i x at f)
@@ -162,7 +163,7 @@ pub open_within : (k : ℕ) (xs : List TreeNode) (i : ℕ) (x : TreeNode) → sl
 unfolding open_from opens
 open_within k [] i x at t = absurd (none-some x at)
 open_within k (z ∷ zs) zero x at t =
-    let g : is_open z.mark ≡ true = ap (λ (n : TreeNode). is_open n.mark) (some-inj z x at) ∙ t in
+    let g : is_open z.mark ≡ true = ap (λ (n : TreeNode). is_open n.mark) (same_Some z x at) ∙ t in
     let e = ap length (cond-true (is_open z.mark) (k ∷ open_from (k + 1) zs) (open_from (k + 1) zs) g) in omega (arith, e)
 open_within k (z ∷ zs) (suc i) x at t = opens_under (is_open z.mark) k (open_from (k + 1) zs) (opens i zs) (open_within (k + 1) zs i x at t)
 

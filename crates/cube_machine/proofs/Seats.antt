@@ -3,14 +3,15 @@ use Rattle.std.proofs.Common.{◌≡◌, ℕ, zero, suc, ◌+◌, ◌≤◌, Boo
 use Rattle.std.specs.Prelude.{slice_get, is_some}
 use Rattle.std.specs.List.{list_any}
 use Rattle.std.proofs.lemmas.Bool.{cases_Bool, false≢true, cond-true, cond-false, eqb-true, eq-eqb}
-use Rattle.std.proofs.lemmas.Option.{slice_get-get_or}
-use Rattle.known_graph.proofs.Tested.{same_bool}
+use Rattle.std.proofs.lemmas.Option.{slice_get-get_or, same_Some}
+use Rattle.list_lemmas.proofs.Bools.{same_bool}
+use Rattle.list_lemmas.proofs.Options.{some_of}
 use Rattle.cube_laws.specs.Cubes.{Cube}
 use Rattle.cube_laws.specs.State.{Node}
 use Rattle.cube_laws.specs.Steps.{is_open, is_held, is_held_by, held_from, has_live}
 use Rattle.cube_laws.specs.declared.messages.CubeState.{CubeState}
 use Rattle.cube_laws.specs.declared.messages.CubeState.TheVariants.{Held}
-use Rattle.cube_laws.proofs.Nodes.{some-inj, none-some, any_at}
+use Rattle.cube_laws.proofs.Nodes.{none-some, any_at}
 use Rattle.cube_machine.specs.Ways.{nodes_with, nodes_of, cubes_after}
 use Rattle.cube_machine.specs.Kept.{HasMark, IsTree}
 use Rattle.cube_machine.specs.declared.node.TreeNode.{TreeNode}
@@ -51,7 +52,7 @@ unfolding nodes_with
 one_held seat k id cs [] e m h = absurd (none-some m.node m.at)
 one_held seat k id [] (x ∷ xs) e m h = absurd (omega (arith, e))
 one_held seat k zero (c ∷ cs) (x ∷ xs) e m h =
-    let t = ap (λ (n : TreeNode). is_held_by seat n.mark) (some-inj x m.node m.at) ∙ mark_held seat m.node.mark m.marked in
+    let t = ap (λ (n : TreeNode). is_held_by seat n.mark) (same_Some x m.node m.at) ∙ mark_held seat m.node.mark m.marked in
     let z : k ≡ k + 0 = omega arith in
     cond-true (is_held_by seat x.mark) (Some k) (held_from seat (k + 1) (nodes_with cs xs)) t ∙ ap (λ n. Some n) z
 one_held seat k (suc id) (c ∷ cs) (x ∷ xs) e m h = elim (cases_Bool (is_held_by seat x.mark)) [
@@ -65,10 +66,10 @@ one_held seat k (suc id) (c ∷ cs) (x ∷ xs) e m h = elim (cases_Bool (is_held
 slot_is : (xs : List TreeNode) (numbers : List ℕ) (held : List (Option ℕ)) (solved : Bool) (seat : ℕ) (o : Option ℕ) → IsTree xs numbers held solved → slice_get held seat ≡ Some o → o ≡ held_from seat 0 (nodes_of xs)
 unfolding nodes_of
 slot_is xs numbers held solved seat None t at =
-    sym (none_held seat 0 (cubes_after [] xs) xs (as_many xs) (λ j m. none-some j (some-inj None (Some j) (sym at ∙ t.slotted seat j m))))
+    sym (none_held seat 0 (cubes_after [] xs) xs (as_many xs) (λ j m. none-some j (same_Some None (Some j) (sym at ∙ t.slotted seat j m))))
 slot_is xs numbers held solved seat (Some id) t at =
     let z : 0 + id ≡ id = omega arith in
-    sym (one_held seat 0 id (cubes_after [] xs) xs (as_many xs) (t.holds seat id at) (λ j m. some-inj j id (some-inj (Some j) (Some id) (sym (t.slotted seat j m) ∙ at))) ∙ ap (λ n. Some n) z)
+    sym (one_held seat 0 id (cubes_after [] xs) xs (as_many xs) (t.holds seat id at) (λ j m. same_Some j id (same_Some (Some j) (Some id) (sym (t.slotted seat j m) ∙ at))) ∙ ap (λ n. Some n) z)
 
 pub slot_read : (xs : List TreeNode) (numbers : List ℕ) (held : List (Option ℕ)) (solved : Bool) (seat : ℕ) → IsTree xs numbers held solved → seat ≤ 16 → get_or held seat None ≡ held_from seat 0 (nodes_of xs)
 slot_read xs numbers held solved seat t le =
@@ -81,15 +82,12 @@ slot_at xs numbers held solved seat o t le e =
     slice_get-get_or held seat None (omega (arith, s, le)) ∙ ap (λ p. Some p) (slot_read xs numbers held solved seat t le ∙ e)
 
 -- ---- whether a node is held
-is_some_is : (o : Option ℕ) → is_some o ≡ true → (k : ℕ) × (o ≡ Some k)
-is_some_is None t = absurd (false≢true t)
-is_some_is (Some k) t = (k, refl)
 
 any_held : (xs : List TreeNode) (numbers : List ℕ) (held : List (Option ℕ)) (solved : Bool) → IsTree xs numbers held solved → list_any is_some held ≡ list_any (λ (x : TreeNode). is_held x.mark) xs
 any_held xs numbers held solved t =
     same_bool (list_any is_some held) (list_any (λ (x : TreeNode). is_held x.mark) xs)
     (λ a. (let r = any_found is_some held a in
-    let k = is_some_is r.1.0 r.1.1.1 in
+    let k = some_of r.1.0 r.1.1.1 in
     let m = t.holds r.0 k.0 (r.1.1.0 ∙ ap (λ o. Some o) k.1) in
     any_at (λ (x : TreeNode). is_held x.mark) xs k.0 m.node m.at (ap is_held m.marked)))
     (λ a. (let r = any_found (λ (x : TreeNode). is_held x.mark) xs a in

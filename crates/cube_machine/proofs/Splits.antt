@@ -4,11 +4,12 @@ use Rattle.std.specs.Prelude.{slice_get, slice_set}
 use Rattle.std.specs.Option.{option_map_or}
 use Rattle.std.proofs.lemmas.List.{length-set}
 use Rattle.std.proofs.lemmas.Option.{slice_get_within, slice_get-get_or}
+use Rattle.list_lemmas.proofs.Elements.{get_put}
 use Rattle.pruning_laws.specs.declared.side.Side.TheVariants.{One, Two}
 use Rattle.cube_laws.specs.State.{Node}
 use Rattle.cube_laws.specs.Steps.{is_open, is_held_by, held_from, last_open_from, with_mark, child}
 use Rattle.cube_laws.specs.declared.messages.CubeState.{CubeState}
-use Rattle.cube_laws.proofs.Nodes.{none-some, get_same, get_front, found_held, found_open, found_first}
+use Rattle.cube_laws.proofs.Nodes.{none-some, get_front, found_held, found_open, found_first}
 use Rattle.cube_machine.specs.Ways.{cube_in}
 
 pub held_within : (nodes : List Node) (seat id : ℕ) → held_from seat 0 nodes ≡ Some id → id < length nodes
@@ -30,7 +31,7 @@ length_marked nodes id m = length_under nodes id m (slice_get nodes id)
 
 cube_under : (nodes : List Node) (id : ℕ) (m : CubeState) (o : Option Node) → slice_get nodes id ≡ o → cube_in (option_map_or (λ (x : Node). slice_set nodes id (record x { mark = m })) o nodes) id ≡ option_map_or (λ (x : Node). x.cube) o []
 cube_under nodes id m None e = ap (λ (o : Option Node). option_map_or (λ (x : Node). x.cube) o []) e
-cube_under nodes id m (Some x) e = ap (λ (o : Option Node). option_map_or (λ (y : Node). y.cube) o []) (get_same nodes id x (record x { mark = m }) e)
+cube_under nodes id m (Some x) e = ap (λ (o : Option Node). option_map_or (λ (y : Node). y.cube) o []) (get_put nodes id x (record x { mark = m }) e)
 
 pub cube_marked : (nodes : List Node) (id : ℕ) (m : CubeState) → cube_in (with_mark nodes id m) id ≡ cube_in nodes id
 cube_marked nodes id m = cube_under nodes id m (slice_get nodes id) refl

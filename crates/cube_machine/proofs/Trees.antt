@@ -5,14 +5,16 @@ use Rattle.std.specs.Option.{option_map_or}
 use Rattle.std.specs.List.{insert, remove}
 use Rattle.std.proofs.lemmas.Bool.{cases_lt, false≢true}
 use Rattle.std.proofs.lemmas.List.{length-set}
-use Rattle.std.proofs.lemmas.Option.{slice_get_within}
+use Rattle.std.proofs.lemmas.Option.{slice_get_within, same_Some}
+use Rattle.list_lemmas.proofs.Elements.{get_put}
 use Rattle.pruning_laws.specs.declared.side.Side.{Side}
 use Rattle.cube_laws.specs.State.{Node}
 use Rattle.cube_laws.specs.Steps.{is_open, is_solved, held_from}
 use Rattle.cube_laws.specs.declared.messages.CubeState.{CubeState}
-use Rattle.cube_laws.specs.declared.messages.CubeState.TheVariants.{Open, Held, Solved as Ended}
-use Rattle.cube_laws.proofs.Nodes.{some-inj, none-some, get_same, get_other, get_front}
+use Rattle.cube_laws.specs.declared.messages.CubeState.TheVariants.{Open, Held}
+use Rattle.cube_laws.proofs.Nodes.{none-some, get_other, get_front}
 use Rattle.desk.proofs.Tied.{get_set}
+use Rattle.cube_laws.proofs.Counted.{open_unsolved}
 use Rattle.cube_machine.specs.Ways.{nodes_of}
 use Rattle.cube_machine.specs.Kept.{HasMark, IsAscending, IsTree, open_from, is_closed}
 use Rattle.cube_machine.specs.declared.origin.Origin.{Origin}
@@ -32,11 +34,7 @@ held_shut m seat e = ap is_open e
 held_going : (m : CubeState) (seat : ℕ) → m ≡ Held seat → is_solved m ≡ false
 held_going m seat e = ap is_solved e
 
-open_going : (m : CubeState) → is_open m ≡ true → is_solved m ≡ false
-open_going Ended t = absurd (false≢true t)
-open_going _ t = refl
-
-same_seat : (a b : ℕ) → Held a ≡ Held b → a ≡ b
+pub same_seat : (a b : ℕ) → Held a ≡ Held b → a ≡ b
 same_seat a b e = cc
 
 closed_free : (m : CubeState) (seat : ℕ) → is_closed m ≡ true → m ≡ Held seat → ⊥
@@ -68,23 +66,23 @@ tree_hold xs numbers held solved t seat id p x at o free w =
       holds = λ s k e. (elim (get_set held seat s (Some id) (Some k) e) [
         | inl q ↦ record {
           node = y;
-          at = subst (λ n. slice_get (slice_set xs id y) n ≡ Some y) (sym (some-inj k id q.1)) (get_same xs id x y at);
+          at = subst (λ n. slice_get (slice_set xs id y) n ≡ Some y) (sym (same_Some k id q.1)) (get_put xs id x y at);
           marked = ap (λ n. Held n) (sym q.0);
         }
         | inr q ↦ (let m = t.holds s k q.1 in record {
           node = m.node;
-          at = get_other xs id k m.node y (λ same. open_free x.mark s o (ap (λ (n : TreeNode). n.mark) (some-inj x m.node (sym at ∙ ap (slice_get xs) (sym same) ∙ m.at)) ∙ m.marked)) m.at;
+          at = get_other xs id k m.node y (λ same. open_free x.mark s o (ap (λ (n : TreeNode). n.mark) (same_Some x m.node (sym at ∙ ap (slice_get xs) (sym same) ∙ m.at)) ∙ m.marked)) m.at;
           marked = m.marked;
         })
       ]);
       slotted = λ s k m. (elim (get_set xs id k y m.node m.at) [
         | inl q ↦ (let same : s ≡ seat = sym (same_seat seat s (sym (ap (λ (n : TreeNode). n.mark) q.1) ∙ m.marked)) in
             subst (λ n. slice_get (slice_set held seat (Some id)) n ≡ Some (Some k)) (sym same)
-            (subst (λ n. slice_get (slice_set held seat (Some id)) seat ≡ Some (Some n)) (sym q.0) (get_same held seat None (Some id) free)))
+            (subst (λ n. slice_get (slice_set held seat (Some id)) seat ≡ Some (Some n)) (sym q.0) (get_put held seat None (Some id) free)))
         | inr q ↦ (let there = t.slotted s k (record { node = m.node; at = q.1; marked = m.marked }) in
-            get_other held seat s (Some k) (Some id) (λ same. none-some k (some-inj None (Some k) (sym free ∙ ap (slice_get held) (sym same) ∙ there))) there)
+            get_other held seat s (Some k) (Some id) (λ same. none-some k (same_Some None (Some k) (sym free ∙ ap (slice_get held) (sym same) ∙ there))) there)
       ]);
-      found = t.found ∙ sym (any_unchanged (λ (n : TreeNode). is_solved n.mark) xs id x y at (open_going x.mark o) refl);
+      found = t.found ∙ sym (any_unchanged (λ (n : TreeNode). is_solved n.mark) xs id x y at (open_unsolved x.mark o) refl);
     }
 
 -- the slots, where the node that a seat held gets a mark that is no seat's
@@ -97,20 +95,20 @@ freed : (xs : List TreeNode) (numbers : List ℕ) (held : List (Option ℕ)) (so
 freed xs numbers held solved t seat id x m at mine none =
     let y = remark x m in
     let here = t.holds seat id mine in
-    let own : x.mark ≡ Held seat = ap (λ (n : TreeNode). n.mark) (some-inj x here.node (sym at ∙ here.at)) ∙ here.marked in
+    let own : x.mark ≡ Held seat = ap (λ (n : TreeNode). n.mark) (same_Some x here.node (sym at ∙ here.at)) ∙ here.marked in
     record {
       holds = λ s k e. (elim (get_set held seat s None (Some k) e) [
         | inl q ↦ absurd (none-some k (sym q.1))
         | inr q ↦ (let g = t.holds s k q.1 in record {
           node = g.node;
-          at = get_other xs id k g.node y (λ same. q.0 (same_seat s seat (sym (ap (λ (n : TreeNode). n.mark) (some-inj x g.node (sym at ∙ ap (slice_get xs) (sym same) ∙ g.at)) ∙ g.marked) ∙ own))) g.at;
+          at = get_other xs id k g.node y (λ same. q.0 (same_seat s seat (sym (ap (λ (n : TreeNode). n.mark) (same_Some x g.node (sym at ∙ ap (slice_get xs) (sym same) ∙ g.at)) ∙ g.marked) ∙ own))) g.at;
           marked = g.marked;
         })
       ]);
       slotted = λ s k g. (elim (get_set xs id k y g.node g.at) [
         | inl q ↦ absurd (none s (sym (ap (λ (n : TreeNode). n.mark) q.1) ∙ g.marked))
         | inr q ↦ (let there = t.slotted s k (record { node = g.node; at = q.1; marked = g.marked }) in
-            get_other held seat s (Some k) None (λ same. q.0 (some-inj k id (some-inj (Some k) (Some id) (sym there ∙ ap (slice_get held) same ∙ mine)))) there)
+            get_other held seat s (Some k) None (λ same. q.0 (same_Some k id (same_Some (Some k) (Some id) (sym there ∙ ap (slice_get held) same ∙ mine)))) there)
       ]);
     }
 
@@ -119,7 +117,7 @@ pub tree_reopen : (xs : List TreeNode) (numbers : List ℕ) (held : List (Option
 tree_reopen xs numbers held solved t seat id p x at mine w =
     let y = remark x Open in
     let here = t.holds seat id mine in
-    let own : x.mark ≡ Held seat = ap (λ (n : TreeNode). n.mark) (some-inj x here.node (sym at ∙ here.at)) ∙ here.marked in
+    let own : x.mark ≡ Held seat = ap (λ (n : TreeNode). n.mark) (same_Some x here.node (sym at ∙ here.at)) ∙ here.marked in
     let lt = slice_get_within xs id x at in
     let z : id ≡ 0 + id = omega arith in
     let place : p ≡ opens id xs = place_is 0 xs id p (omega (arith, lt)) (subst (λ l. IsPlace (0 + id) l p) t.listed (subst (λ n. IsPlace n numbers p) z w)) in
@@ -138,7 +136,7 @@ pub tree_close : (xs : List TreeNode) (numbers : List ℕ) (held : List (Option 
 tree_close xs numbers held solved t seat id x m at mine shut now e =
     let y = remark x m in
     let here = t.holds seat id mine in
-    let own : x.mark ≡ Held seat = ap (λ (n : TreeNode). n.mark) (some-inj x here.node (sym at ∙ here.at)) ∙ here.marked in
+    let own : x.mark ≡ Held seat = ap (λ (n : TreeNode). n.mark) (same_Some x here.node (sym at ∙ here.at)) ∙ here.marked in
     let f = freed xs numbers held solved t seat id x m at mine (λ s g. closed_free m s shut g) in
     record {
       ordered = ordered_written xs t.ordered id x m at;
@@ -157,7 +155,7 @@ tree_grow xs numbers held solved t parent choice side lt =
     let z : 0 + length xs ≡ length xs = omega arith in
     record {
       ordered = λ k x o e f. (elim (get_pushed xs k y x e) [
-        | inl q ↦ (let p : parent ≡ o.parent = ap (λ (n : Origin). n.parent) (some-inj (record { parent = parent; choice = choice; side = side }) o (sym (ap (λ (n : TreeNode). n.origin) q.1) ∙ f)) in
+        | inl q ↦ (let p : parent ≡ o.parent = ap (λ (n : Origin). n.parent) (same_Some (record { parent = parent; choice = choice; side = side }) o (sym (ap (λ (n : TreeNode). n.origin) q.1) ∙ f)) in
             let n = q.0 in omega (arith, p, n, lt))
         | inr q ↦ t.ordered k x o q f
       ]);
@@ -177,7 +175,7 @@ first = record { origin = None; mark = Open }
 
 empty_slot : (n k v : ℕ) → slice_get (replicate n None) k ≡ Some (Some v) → ⊥
 empty_slot zero k v e = none-some (Some v) e
-empty_slot (suc n) zero v e = none-some v (some-inj None (Some v) e)
+empty_slot (suc n) zero v e = none-some v (same_Some None (Some v) e)
 empty_slot (suc n) (suc k) v e = empty_slot n k v e
 
 pub tree_root : (held : List (Option ℕ)) → held ≡ replicate 17 None → IsTree (first ∷ []) (0 ∷ []) held false
@@ -192,7 +190,7 @@ tree_root held h = record {
 }
   where
     only : (k : ℕ) (x : TreeNode) → slice_get (first ∷ []) k ≡ Some x → x ≡ first
-    only zero x e = sym (some-inj first x e)
+    only zero x e = sym (same_Some first x e)
     only (suc k) x e = absurd (none-some x e)
 
 -- ---- what the callers know

@@ -6,13 +6,14 @@ use Rattle.session_log.specs.Text.{ClientSession}
 use Rattle.serializability.proofs.Places.{each_from_map}
 use Rattle.log_definitions.specs.Serial.{Committed}
 use Rattle.log_definitions.proofs.Members.{member, each_weaker, each_member}
+use Rattle.log_definitions.proofs.Settled.{IsLearnt}
 use Rattle.piece_laws.specs.Cut.{Cut, first_part, rest_of, IsOver, IsSince, by_begin, by_earlier, IsCut}
 use Rattle.piece_laws.specs.Logs.{IsLearntLog, present}
 use Rattle.piece_laws.specs.Pieces.{AreCutPoints}
 use Rattle.piece_laws.proofs.Lists.{of_kept, kept}
 use Rattle.piece_laws.proofs.Sessions.{early, late, unshift, first_nodes, rest_nodes, nodes_from}
 use Rattle.piece_laws.proofs.Shifted.{since_unshifted, nodes_are}
-use Rattle.piece_laws.proofs.Left.{IsLearnt, AreLearnt, first_learnt, rest_learnt, split}
+use Rattle.piece_laws.proofs.Left.{AreLearnt, first_learnt, rest_learnt, split}
 use Rattle.cutting.specs.Parts.{CutOff}
 use Rattle.cutting.specs.Splits.{counts_of, TakesFirst, IsSplit, nodes_of, AllSince, behind, IsNoLater, AreApart, points_of}
 

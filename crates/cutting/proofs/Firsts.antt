@@ -1,5 +1,5 @@
 -- First transactions that are taken of sessions, session by session.
-use Rattle.std.proofs.Common.{◌≡◌, ℕ, zero, suc, ◌+◌, ◌-◌, ◌<◌, ◌≤◌, true, false, eqb, List, [], ◌∷◌, ◌++◌, length, map, refl, sym, ap, ◌∙◌, subst, Some, inl, inr, arith, eq-eqb}
+use Rattle.std.proofs.Common.{◌≡◌, ℕ, zero, suc, ◌+◌, ◌-◌, ◌<◌, ◌≤◌, true, false, eqb, List, [], ◌∷◌, ◌++◌, length, refl, sym, ap, ◌∙◌, subst, Some, inl, inr, arith, eq-eqb}
 use Rattle.std.specs.Prelude.{take, drop, slice_get, slice_set, nat_eq}
 use Rattle.std.specs.List.{AllByRecursion, IsDistinct}
 use Rattle.std.proofs.lemmas.Bool.{cases_Bool}
@@ -7,6 +7,7 @@ use Rattle.session_log.specs.Text.{ClientSession, Transaction}
 use Rattle.serializability.proofs.Places.{Has, Apart, Apart-from_IsDistinct}
 use Rattle.piece_laws.specs.Cut.{Cut, first_part, rest_of}
 use Rattle.piece_laws.specs.Logs.{has_txns, present}
+use Rattle.piece_laws.proofs.Left.{numbers_of}
 use Rattle.cutting.specs.Parts.{CutOff}
 use Rattle.cutting.specs.Splits.{first_txns, rest_txns, counts_of, TakesFirst, IsSplit}
 
@@ -119,8 +120,6 @@ taken_at next i c s ss first rest le lt e pos fits h =
     subst (λ n. Taken n ss (first ++ first_txns c s ∷ []) (slice_set rest i (rest_txns c s))) same (taken_here i c s ss first rest e pos fits on)
 
 -- ---- the counts, by the numbers of sessions
-abbrev numbers_of : List ClientSession → List ℕ
-numbers_of ss = map (λ (s : ClientSession). s.number) ss
 
 first_same : (a b : Cut) (ss : List ClientSession) → AllByRecursion (λ s. a s.number ≡ b s.number) ss → first_part a ss ≡ first_part b ss
 first_same a b [] h = grind arith
@@ -229,10 +228,6 @@ pub record SplitSoFar (ss : List ClientSession) (done : List CutOff) (rest : Lis
 
 pub split_none : (ss : List ClientSession) → SplitSoFar ss [] ss
 split_none ss = record { numbers = refl; split = λ _ later last h. h }
-
-rest_numbers : (cut : Cut) (ss : List ClientSession) → numbers_of (rest_of cut ss) ≡ numbers_of ss
-rest_numbers cut [] = refl
-rest_numbers cut (s ∷ ss) = ap (λ l. s.number ∷ l) (rest_numbers cut ss)
 
 append_assoc_one : {X : Type 0} (xs : List X) (x : X) (ys : List X) → (xs ++ x ∷ []) ++ ys ≡ xs ++ x ∷ ys
 append_assoc_one [] x ys = refl

@@ -3,16 +3,18 @@ use Rattle.std.proofs.Common.{◌≡◌, ℕ, zero, suc, ◌+◌, ◌<◌, ◌�
 use Rattle.std.specs.Prelude.{take, drop, slice_get, slice_set}
 use Rattle.std.specs.List.{AllByRecursion}
 use Rattle.std.proofs.lemmas.List.Elements.{filter-append}
+use Rattle.std.proofs.lemmas.List.{append-nil, map_push}
+use Rattle.list_lemmas.proofs.Elements.{item, get_map}
 use Rattle.session_log.specs.Text.{ClientSession, Transaction, view_txn}
 use Rattle.session_log.specs.declared.session.Txn.{Txn}
-use Rattle.serializability.proofs.Places.{each_from_append}
+use Rattle.serializability.proofs.Places.{each_from_append, length_mapped}
 use Rattle.log_definitions.specs.Unknown.{is_committed}
 use Rattle.piece_laws.specs.Logs.{has_txns, present}
 use Rattle.cutting.specs.declared.part.Part.{Part}
 use Rattle.cutting.specs.Parts.{CutOff, part_view, parts_view}
 use Rattle.cutting.specs.Splits.{first_txns, rest_txns, IsApart, AreApart}
 use Rattle.cutting.specs.Ends.{is_since, begins_since}
-use Rattle.cutting.proofs.Views.{item, get_map, get_drop, map_set, map_more, front_more, length_mapped, last_or_before}
+use Rattle.cutting.proofs.Views.{get_drop, map_set, front_more, last_or_before}
 use Rattle.cutting.proofs.Firsts.{Taken, taken_at}
 
 -- ---- the first node
@@ -55,17 +57,13 @@ pub present_kept : (parts some new : List Part) (i : ℕ) (p : Part) → slice_g
 present_kept parts some new i p e lt is h =
     let t = has_some p lt in
     let one : present (part_view p ∷ []) ≡ part_view p ∷ [] = rw t refl in
-    ap parts_view is ∙ map_more part_view some p ∙ ap (λ l. l ++ part_view p ∷ []) h ∙ ap (λ l. present (parts_view (take i parts)) ++ l) (sym one) ∙ sym (present_step parts i p e)
-
-pub append_none : {X : Type 0} (xs : List X) → xs ++ [] ≡ xs
-append_none [] = refl
-append_none (x ∷ xs) = ap (λ l. x ∷ l) (append_none xs)
+    ap parts_view is ∙ map_push part_view some p ∙ ap (λ l. l ++ part_view p ∷ []) h ∙ ap (λ l. present (parts_view (take i parts)) ++ l) (sym one) ∙ sym (present_step parts i p e)
 
 pub present_dropped : (parts some : List Part) (i : ℕ) (p : Part) → slice_get parts i ≡ Some p → length p.txns.now ≡ 0 → parts_view some ≡ present (parts_view (take i parts)) → parts_view some ≡ present (parts_view (take (i + 1) parts))
 present_dropped parts some i p e z h =
     let t = has_none p z in
     let none : present (part_view p ∷ []) ≡ [] = rw t refl in
-    h ∙ sym (present_step parts i p e ∙ ap (λ l. present (parts_view (take i parts)) ++ l) none ∙ append_none (present (parts_view (take i parts))))
+    h ∙ sym (present_step parts i p e ∙ ap (λ l. present (parts_view (take i parts)) ++ l) none ∙ append-nil (present (parts_view (take i parts))))
 
 -- ---- first transactions
 pub count_taken : (ss : List ClientSession) (rest first more : List Part) (i next c : ℕ) (here left taken : Part) → next ≤ i → i < length rest → here ≡ get_or rest i here → 0 < c → c ≤ length here.txns.now
@@ -75,7 +73,7 @@ count_taken ss rest first more i next c here left taken le lt at pos fits is_fir
     let within : i < length (parts_view rest) = (let e = length_mapped part_view rest in omega (arith, lt, e)) in
     let long : c ≤ length (part_view here).txns = (let e = length_mapped view_txn here.txns.now in omega (arith, fits, e)) in
     let one = taken_at next i c (part_view here) ss (parts_view first) (parts_view rest) le within (get_map part_view rest i here (item rest i here lt at)) pos long h in
-    let firsts : parts_view more ≡ parts_view first ++ first_txns c (part_view here) ∷ [] = ap parts_view is ∙ map_more part_view first taken ∙ ap (λ s. parts_view first ++ s ∷ []) is_first in
+    let firsts : parts_view more ≡ parts_view first ++ first_txns c (part_view here) ∷ [] = ap parts_view is ∙ map_push part_view first taken ∙ ap (λ s. parts_view first ++ s ∷ []) is_first in
     let lefts : parts_view (slice_set rest i left) ≡ slice_set (parts_view rest) i (rest_txns c (part_view here)) = map_set part_view rest i left ∙ ap (slice_set (parts_view rest) i) is_rest in
     subst (λ f. Taken (i + 1) ss f (parts_view (slice_set rest i left))) (sym firsts) (subst (Taken (i + 1) ss (parts_view first ++ first_txns c (part_view here) ∷ [])) (sym lefts) one)
 

@@ -1,11 +1,12 @@
 -- Nodes that are known to be over, part by part.
-use Rattle.std.proofs.Common.{◌≡◌, ◌⊎◌, ℕ, zero, suc, ◌+◌, ◌-◌, ◌<◌, ◌≤◌, true, false, eqb, List, [], ◌∷◌, ◌++◌, length, Option, Some, refl, sym, ap, ◌∙◌, subst, inl, inr, arith, eqb-true, eq-eqb}
+use Rattle.std.proofs.Common.{◌≡◌, ◌⊎◌, ℕ, zero, suc, ◌+◌, ◌-◌, ◌<◌, ◌≤◌, true, false, eqb, List, [], ◌∷◌, ◌++◌, length, Option, Some, refl, sym, ap, ◌∙◌, subst, inl, inr, arith, eqb-true}
 use Rattle.std.specs.Prelude.{slice_get, slice_index, nat_lt}
 use Rattle.std.specs.List.{AllByRecursion, Contains}
-use Rattle.std.proofs.lemmas.Bool.{cases_Bool, false≢true, and_parts}
-use Rattle.std.proofs.lemmas.List.{get_or-set_same, get_or-set_other}
+use Rattle.std.proofs.lemmas.Bool.{cases_Bool, false≢true, and_parts, cases_eq}
+use Rattle.std.proofs.lemmas.List.{get_or-set_same, get_or-set_other, length_push}
 use Rattle.std.specs.Str.{bytes_eq}
 use Rattle.std.proofs.lemmas.Slice.Eq.{bytes_eq-Decides}
+use Rattle.list_lemmas.proofs.Elements.{contains_at}
 use Rattle.session_log.specs.declared.session.Op.{Op}
 use Rattle.session_log.specs.declared.session.Op.TheVariants.{Read, Write}
 use Rattle.session_log.specs.Text.{ClientSession, Transaction}
@@ -17,7 +18,6 @@ use Rattle.piece_laws.proofs.Lists.{of_flat, in_flat}
 use Rattle.piece_laws.proofs.Sessions.{node_at, nodes_from}
 use Rattle.cutting.specs.Splits.{nodes_of, AllOver, AllSince}
 use Rattle.cutting.specs.Ends.{is_before, IsEnded, IsKnownOver, raised, is_since, begins_since}
-use Rattle.cutting.proofs.Views.{got}
 
 -- ---- a node of a session is one of its transactions, at its place
 pub record IsNodeAt (number n : ℕ) (ts : List Transaction) (node : Committed) : Type 0 where
@@ -62,7 +62,7 @@ node_there number n (suc k) (u ∷ ts) t e c =
     ]
 
 pub node_of_part : (ss : List ClientSession) (i k : ℕ) (s : ClientSession) (t : Transaction) → slice_get ss i ≡ Some s → slice_get s.txns k ≡ Some t → is_committed t ≡ true → Contains (nodes_of ss) (node_at s.number (1 + k) t)
-node_of_part ss i k s t e f c = in_flat committed_of ss s (node_at s.number (1 + k) t) (got ss i s e) (node_there s.number 1 k s.txns t f c)
+node_of_part ss i k s t e f c = in_flat committed_of ss s (node_at s.number (1 + k) t) (contains_at ss i s e) (node_there s.number 1 k s.txns t f c)
 
 -- ---- all nodes up to one that is over are over
 pub some_same : {X : Type 0} (o : Option X) (x y : X) → o ≡ Some x → o ≡ Some y → x ≡ y
@@ -94,12 +94,10 @@ up_to ss t i k s txn e f c over node d le =
         not_less a b h = grind arith
 
 -- ---- a part is raised
-same_index : (i j : ℕ) → (i ≡ j) ⊎ (i ≡ j → ⊥)
-same_index i j = elim (cases_Bool (eqb i j)) [ inl e ↦ inl (eqb-true i j e) | inr f ↦ inr (λ e. false≢true (sym f ∙ eq-eqb i j e)) ]
 
 pub raised_known : (ss : List ClientSession) (t i k : ℕ) (s : ClientSession) (txn : Transaction) (over : List ℕ) → slice_get ss i ≡ Some s → slice_get s.txns k ≡ Some txn → is_committed txn ≡ true → IsOver (nodes_of ss) t (node_at s.number (1 + k) txn)
     → IsKnownOver ss t over → IsKnownOver ss t (raised over i (k + 1))
-raised_known ss t i k s txn over e f c is h = grind (arith, cases_Bool, and_parts, same_index, some_same, get_or-set_same, up_to, get_or-set_other)
+raised_known ss t i k s txn over e f c is h = grind (arith, cases_Bool, and_parts, cases_eq, some_same, get_or-set_same, up_to, get_or-set_other)
 
 -- ---- by an end
 pub record AreEnded (ss : List ClientSession) (t : ℕ) (over : List ℕ) : Type 0 where
@@ -119,12 +117,8 @@ index_last [] x (suc i) e = absurd (omega (arith, e))
 index_last (y ∷ ys) x zero e = absurd (omega (arith, e))
 index_last (y ∷ ys) x (suc i) e = index_last ys x i (omega (arith, e))
 
-pub length_more : (xs : List ℕ) (x : ℕ) → length (xs ++ x ∷ []) ≡ length xs + 1
-length_more [] x = refl
-length_more (y ∷ ys) x = let e = length_more ys x in omega (arith, e)
-
 pub ended_more : (ss : List ClientSession) (t n : ℕ) (s : ClientSession) (over : List ℕ) → slice_get ss (length over) ≡ Some s → IsEnded t s.txns n → AreEnded ss t over → AreEnded ss t (over ++ n ∷ [])
-ended_more ss t n s over e one h = grind (arith, length_more, same_index, some_same, index_last, index_front)
+ended_more ss t n s over e one h = grind (arith, length_push, cases_eq, some_same, index_last, index_front)
 
 past : (xs : List ℕ) (i : ℕ) → length xs ≤ i → slice_index xs i ≡ 0
 past [] i le = refl
@@ -176,7 +170,7 @@ raised_by_source ss t i k n s txn over reader (Read key wid) (Read k2 w) e f c a
 raised_by_source ss t i k n s txn over reader (Read key wid) (Write k2 w) e f c at h d reads is known =
     let p = and_parts (bytes_eq key k2) (eqb wid w) h in
     let same : Write k2 w ≡ Write key wid = ap (λ x. Write x w) (sym ((bytes_eq-Decides key k2).0 p.0)) ∙ ap (Write key) (sym (eqb-true wid w p.1)) in
-    raised_by_reader ss t i k s txn over reader key wid e f c d reads (subst (Contains txn.ops) same (got txn.ops n (Write k2 w) at)) is known
+    raised_by_reader ss t i k s txn over reader key wid e f c d reads (subst (Contains txn.ops) same (contains_at txn.ops n (Write k2 w) at)) is known
 
 -- a node at a place that is over
 pub over_at : (ss : List ClientSession) (t i k : ℕ) (s : ClientSession) (txn : Transaction) (over : List ℕ) → slice_get ss i ≡ Some s → slice_get s.txns k ≡ Some txn → is_committed txn ≡ true → k < slice_index over i → IsKnownOver ss t over

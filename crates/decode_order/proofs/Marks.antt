@@ -6,8 +6,7 @@ use Rattle.std.proofs.lemmas.List.{get_or-set_same, get_or-set_other, length-set
 use Rattle.serializability.specs.Replay.{ListsOnce}
 use Rattle.serializability.proofs.Places.{Has, Apart, Has-append_front, Has-append_back, Has-append_cases, Apart-not_both}
 use Rattle.serializability.proofs.Fronts.{front_more, around, Apart-push}
-use Rattle.serializability.proofs.Serial.{node_of}
-use Rattle.serializability.proofs.Listed.{Has_get, once_apart}
+use Rattle.serializability.proofs.Listed.{once_apart}
 
 -- exactly the nodes of the line are marked
 pub record Marked (n : ℕ) (line : List ℕ) (marks : List Bool) : Type 0 where
@@ -53,10 +52,6 @@ once_more n order i v marks lt e lo hi new o =
     }
 
 -- ---- lists that do not have each node once
-pub not_once_outside : (n : ℕ) (order : List ℕ) (i v : ℕ) → i < length order → get_or order i v ≡ v → (0 < v → v ≤ n → ⊥) → ListsOnce n order → ⊥
-not_once_outside n order i v lt e outside once =
-    let within = node_of n order once v (subst (λ u. Has u order) e (Has_get order i v lt)) in
-    outside within.0 within.1
 
 pub not_once_twice : (n : ℕ) (order : List ℕ) (i v : ℕ) → i < length order → get_or order i v ≡ v → Has v (take i order) → ListsOnce n order → ⊥
 not_once_twice n order i v lt e h once =

@@ -2,7 +2,7 @@
 use Rattle.std.proofs.Common.{◌≡◌, ◌<◌, ◌≤◌, ⊎_elim, ℕ, zero, suc, ◌+◌, ◌-◌, ◌==◌, Bool, true, false, ◌||◌, List, [], ◌∷◌, ◌++◌, Option, Some, None, Result, Ok, Err, length, refl, sym, ap, ◌∙◌, arith}
 use Rattle.std.specs.Prelude.{slice_get, slice_index_or, IfErr}
 use Rattle.std.specs.Result.{IsOk}
-use Rattle.std.proofs.lemmas.Bool.{eq-eqb}
+use Rattle.std.proofs.lemmas.Bool.{eq-eqb, or_right}
 use Rattle.std.proofs.lemmas.Option.{slice_get_within, get_or_from_slice_get}
 use Rattle.desk.specs.Seats.{has_seat, AreFresh, AreNumbered, HasSeatsTo, IsLeastMissing, IsSeat}
 use Rattle.desk.specs.Views.{SeatView}
@@ -30,10 +30,6 @@ module _ {X Y : Type 0} (f : X → ℕ) (g : Y → ℕ) where
       by k y at (Some x) e =
           ap g (sym (get_or_from_slice_get ys k y y at)) ∙ same k y x (slice_get_within xs k x e) ∙ ap f (get_or_from_slice_get xs k x x e) ∙ h k x e
 
-either : (a b : Bool) → b ≡ true → (a || b) ≡ true
-either true b e = refl
-either false b e = e
-
 module _ {E R : Type 0} where
   pub fresh_number : (seats : List (SeatView E R)) (k : ℕ) (x : SeatView E R) → AreFresh seats → slice_get seats k ≡ Some x → x.number ≡ k + 1
   fresh_number seats k x h e = (h k x e).0
@@ -46,7 +42,7 @@ module _ {E R : Type 0} where
   any_at (y ∷ ys) zero n x e t =
       let same : (y.number == n) ≡ true = eq-eqb y.number n (ap (λ (p : SeatView E R). p.number) (some_is y x e) ∙ t) in
       ap (λ b. b || has_seat n ys) same
-  any_at (y ∷ ys) (suc k) n x e t = either (y.number == n) (has_seat n ys) (any_at ys k n x e t)
+  any_at (y ∷ ys) (suc k) n x e t = or_right (y.number == n) (has_seat n ys) (any_at ys k n x e t)
 
   seat_at : (seats : List (SeatView E R)) (n : ℕ) → AreNumbered (λ x. x.number) seats → (o : Option (SeatView E R)) → slice_get seats (n - 1) ≡ o → 0 < n → n ≤ length seats → has_seat n seats ≡ true
   seat_at seats n h None e low high = absurd (get_none seats (n - 1) e (omega arith))

@@ -4,7 +4,7 @@ use Rattle.std.specs.Prelude.{slice_get, slice_set, All}
 use Rattle.std.specs.Bool.{OnFalse}
 use Rattle.std.proofs.lemmas.List.{length-set, set-get_or}
 use Rattle.std.proofs.lemmas.List.Elements.{All-push}
-use Rattle.std.proofs.lemmas.Option.{slice_get_read, slice_get_within}
+use Rattle.std.proofs.lemmas.Option.{slice_get_read, slice_get_within, same_Some}
 use Rattle.desk.specs.declared.history.Entry.{Entry}
 use Rattle.desk.specs.declared.row.SeatRow.{SeatRow}
 use Rattle.desk.specs.History.{entry, part_of}
@@ -12,13 +12,10 @@ use Rattle.desk.specs.Rows.{AreTied, place_of, staying}
 use Rattle.desk.specs.Seats.{IsSeat}
 use Rattle.desk.proofs.Legal.{part_of-mine, part_of-other}
 
-some-inj : {A : Type 0} (x y : A) → Some x ≡ Some y → x ≡ y
-some-inj x y e = cc
-
 -- what stands in a list after a write
 pub get_set : {A : Type 0} (xs : List A) (k j : ℕ) (y x : A) → slice_get (slice_set xs k y) j ≡ Some x → ((j ≡ k) × (x ≡ y)) ⊎ ((j ≢ k) × (slice_get xs j ≡ Some x))
 get_set [] k j y x e = absurd (cc)
-get_set (z ∷ zs) zero zero y x e = inl (refl, sym (some-inj y x e))
+get_set (z ∷ zs) zero zero y x e = inl (refl, sym (same_Some y x e))
 get_set (z ∷ zs) zero (suc j) y x e = inr ((λ p. absurd (omega arith)), e)
 get_set (z ∷ zs) (suc k) zero y x e = inr ((λ p. absurd (omega arith)), e)
 get_set (z ∷ zs) (suc k) (suc j) y x e =
@@ -52,7 +49,7 @@ module _ {E R : Type 0} where
   -- how many seats stay, after a write
   pub staying_set : (rows : List (SeatRow E R)) (k : ℕ) (x y : SeatRow E R) → slice_get rows k ≡ Some x → staying (slice_set rows k y) + place_of x.left ≡ staying rows + place_of y.left
   staying_set [] k x y e = absurd (cc)
-  staying_set (z ∷ zs) zero x y e = let p : place_of z.left ≡ place_of x.left = ap (λ (w : SeatRow E R). place_of w.left) (some-inj z x e) in omega arith
+  staying_set (z ∷ zs) zero x y e = let p : place_of z.left ≡ place_of x.left = ap (λ (w : SeatRow E R). place_of w.left) (same_Some z x e) in omega arith
   staying_set (z ∷ zs) (suc k) x y e = let p = staying_set zs k x y e in omega arith
 
   -- there is room for the call of a seat that stays

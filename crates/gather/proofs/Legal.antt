@@ -1,7 +1,7 @@
 -- What legal histories of the machine keep.
-use Rattle.std.proofs.Common.{◌≡◌, ◌≢◌, ⊎_elim, ℕ, zero, suc, Bool, true, false, ◌&&◌, List, [], ◌∷◌, Option, Some, refl, sym, ap, ◌∙◌, subst, arith}
+use Rattle.std.proofs.Common.{◌≡◌, ◌≢◌, ⊎_elim, ℕ, zero, suc, Bool, true, ◌&&◌, List, [], ◌∷◌, Option, Some, refl, sym, ap, ◌∙◌, subst, arith}
 use Rattle.std.specs.Prelude.{slice_get, slice_set, if◌then◌else◌}
-use Rattle.std.proofs.lemmas.Bool.{eqb-true}
+use Rattle.std.proofs.lemmas.Bool.{eqb-true, and_parts}
 use Rattle.std.proofs.lemmas.Slice.Eq.{bytes_eq-Decides}
 use Rattle.session_log.specs.Blocks.{blocks_of}
 use Rattle.session_log.specs.declared.block.Block.{Block as Place}
@@ -30,15 +30,11 @@ by_tests v0 held fits e = grind arith
 kept_fits : (seat : ℕ) (fits : Bool) (m : Option BlockState) → put_reply seat fits m ≡ Kept → fits ≡ true
 kept_fits seat fits v2 e = grind (arith, by_tests)
 
-both : (a b : Bool) → (a && b) ≡ true → (a ≡ true) × (b ≡ true)
-both true b e = (refl, e)
-both false b e = absurd (cc)
-
 version_is : (v w : Version) → same_version v w ≡ true → v ≡ w
 version_is v0 v1 e = grind arith
 
 piece_of : (log : List ℕ) (k : ℕ) (p : Piece) (o : Option Place) → slice_get (blocks_of log) k ≡ o → is_piece_of log p o ≡ true → IsPiece log k p
-piece_of log k p v3 here e = grind (arith, both, version_is, bytes_eq-Decides, eqb-true)
+piece_of log k p v3 here e = grind (arith, and_parts, version_is, bytes_eq-Decides, eqb-true)
 
 pub piece_where : (log : List ℕ) (k : ℕ) (p : Piece) → is_piece log k p ≡ true → IsPiece log k p
 piece_where log k p e = piece_of log k p (slice_get (blocks_of log) k) refl e

@@ -1,7 +1,6 @@
 -- What the pieces of a log say of the log.
 use Rattle.std.proofs.Common.{◌≡◌, ℕ, suc, ◌≤◌, length, List, [], ◌∷◌, ◌++◌, Option, Some, None, Ok, Err, map, take, drop, refl, sym, ap, ◌∙◌, subst, arith}
 use Rattle.std.specs.Prelude.{slice_get}
-use Rattle.std.specs.Option.{option_or}
 use Rattle.std.specs.List.{AllByRecursion}
 use Rattle.std.proofs.lemmas.List.{map-append, take_all}
 use Rattle.session_log.specs.Text.{ClientSession, view, IsLegal, IsHeldBy, session_text, log_text}
@@ -15,10 +14,7 @@ use Rattle.session_log.specs.declared.fault.LogFault.{LogFault}
 use Rattle.gather.specs.Pieces.{Piece, IsOutcome, IsRead, IsPiece}
 use Rattle.gather.proofs.Places.{contains_at, take_at, drop_at, all_push, length_push}
 use Rattle.session_log.proofs.Together.{block_version, fault_by_blocks, joined}
-
--- this very fault
-is_fault : (f : LogFault) (whole : Option LogFault) → whole ≡ Some f → IsFault f whole
-is_fault v0 whole e = grind arith
+use Rattle.session_log.proofs.FaultsOf.{this_fault}
 
 -- the first fault of the block, by its piece
 fault_in : (log : List ℕ) (k : ℕ) (p : Piece) (h : IsPiece log k p) → block_fault log h.block ≡ first_fault p.version p.line Start (lines p.text)
@@ -83,18 +79,7 @@ one_read log seen x items now p s h piece r o is =
 pub one_refused : (log : List ℕ) (k : ℕ) (ss : List ClientSession) (p : Piece) (f : LogFault) → IsReadTo log k ss → IsPiece log k p → IsRead p → p.outcome ≡ Err f → IsFault f (grammar_fault log)
 one_refused log k ss p f h piece r o =
     let x = fault_of log k p f piece r o in
-    is_fault f (grammar_fault log) (here (block_fault log) (blocks_of log) k x.0 (grammar_fault log) f x.1 x.2 h.fault)
+    this_fault f (grammar_fault log) (here (block_fault log) (blocks_of log) k x.0 (grammar_fault log) f x.1 x.2 h.fault)
 
 pub all_read : (log : List ℕ) (k : ℕ) (ss : List ClientSession) → IsReadTo log k ss → length (blocks_of log) ≤ k → log ≡ log_text (version_of log) ss
 all_read log k ss h e = joined log ss (ap (map (block_text log)) (sym (take_all k (blocks_of log) e)) ∙ h.texts)
-
--- the same fault of another sentence
-fault_as : (f : LogFault) (o whole : Option LogFault) → (o ≡ Some f → whole ≡ Some f) → IsFault f o → IsFault f whole
-fault_as v0 o whole to h = grind arith
-
--- the size is judged first, then the grammar
-pub by_size : (f : LogFault) (size grammar : Option LogFault) → IsFault f size → IsFault f (option_or size grammar)
-by_size f size grammar h = fault_as f size (option_or size grammar) (λ e. ap (λ o. option_or o grammar) e) h
-
-pub by_grammar : (f : LogFault) (size grammar : Option LogFault) → size ≡ None → IsFault f grammar → IsFault f (option_or size grammar)
-by_grammar f size grammar none h = fault_as f grammar (option_or size grammar) (λ e. ap (λ o. option_or o grammar) none ∙ e) h

@@ -1,14 +1,13 @@
 -- The formula of a log, with or without an anomaly.
-use Rattle.std.proofs.Common.{◌≡◌, ℕ, Bool, true, false, ◌||◌, not, List, Option, None, Some, refl}
-use Rattle.std.proofs.lemmas.Bool.{false≢true}
+use Rattle.std.proofs.Common.{◌≡◌, ℕ, Bool, List, Option, None, Some, refl}
 use Rattle.session_log.specs.Text.{ClientSession}
 use Rattle.serializability.specs.declared.anomaly.Anomaly.{Anomaly}
 use Rattle.serializability.specs.Reads.{IsClean}
-use Rattle.serializability.specs.Formula.{Satisfies, value_of}
+use Rattle.serializability.specs.Formula.{Satisfies}
 use Rattle.serializability.specs.Decoded.{before, IsDecoded}
-use Rattle.serializability.specs.Plain.{plain, contradiction}
+use Rattle.serializability.specs.Plain.{plain}
 use Rattle.serializability.specs.Anomalies.{anomaly_of}
-use Rattle.serializability.proofs.PlainLaws.{plain_where_serial, plain_serial, plain_decodes}
+use Rattle.serializability.proofs.PlainLaws.{plain_where_serial, plain_serial, plain_decodes, contradicted}
 use Rattle.log_definitions.specs.Serial.{IsSerialOrder, IsSomeOrder}
 use Rattle.log_definitions.specs.Numbers.{IsWellFormedList, log_of, formula_where, plain_answer}
 use Rattle.log_definitions.proofs.Numbered.{numbered}
@@ -25,13 +24,6 @@ none_serial ss h a e order s = no_order (log_of ss) (numbered ss h) a e order (s
 
 pub none_of_some : (ss : List ClientSession) → IsWellFormedList ss → (a : Anomaly) → anomaly_of (log_of ss) ≡ Some a → (order : List ℕ) → IsSomeOrder ss order → ⊥
 none_of_some ss h a e order s = let found = serial_where_some ss h (order, s) in none_serial ss h a e found.0 found.1
-
-never_both : (b : Bool) → (b || false) ≡ true → (not b || false) ≡ true → ⊥
-never_both true p q = false≢true q
-never_both false p q = false≢true p
-
-pub contradicted : (values : List Bool) → Satisfies values contradiction → ⊥
-contradicted values s = never_both (value_of values 1) s.each_clause.0 s.each_clause.1.0
 
 -- ---- by the anomaly that is reported
 some_for : (ss : List ClientSession) → IsWellFormedList ss → (order : List ℕ) → IsSerialOrder ss order → (o : Option Anomaly) → anomaly_of (log_of ss) ≡ o → (values : List Bool) × Satisfies values (formula_where o (log_of ss))

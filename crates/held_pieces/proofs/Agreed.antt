@@ -1,9 +1,10 @@
 -- A piece's log depends on what its own keys hold, alone.
 use Rattle.std.proofs.Common.{◌≡◌, ℕ, true, if◌then◌else◌, List, [], ◌∷◌, ◌++◌, map, Option, Some, None, refl, ap, ◌∙◌, inl, inr}
-use Rattle.std.specs.List.{flat_map, list_any, AllByRecursion}
+use Rattle.std.specs.List.{list_any, AllByRecursion}
 use Rattle.std.specs.Str.{bytes_eq}
 use Rattle.std.proofs.lemmas.Bool.{cases_Bool}
 use Rattle.std.proofs.lemmas.Slice.Eq.{bytes_eq-Decides}
+use Rattle.std.proofs.lemmas.List.{append-nil}
 use Rattle.session_log.specs.Text.{ClientSession, Transaction, key_of}
 use Rattle.session_log.specs.declared.session.Op.{Op}
 use Rattle.session_log.specs.declared.session.Op.TheVariants.{Read, Write}
@@ -12,6 +13,7 @@ use Rattle.log_definitions.specs.Unknown.{txns_in, ops_in}
 use Rattle.log_definitions.proofs.Members.{each_member, any_member}
 use Rattle.piece_laws.specs.Held.{Held, exchanged, open_ops, read_held, writes_key, closing}
 use Rattle.piece_laws.specs.Logs.{has_txns, present, open_txn, opened, committed_reads, last_reads, closed}
+use Rattle.piece_laws.proofs.Identities.{ops_by}
 use Rattle.held_pieces.specs.Ops.{has_key}
 
 -- ---- each operation
@@ -56,9 +58,6 @@ closing_same h k (Write key wid ∷ ops) f =
     let b = list_any (writes_key key) ops in
     ap (λ o. if b then closing h ops else (read_held key o ++ closing h ops)) f.0
     ∙ ap (λ l. if b then l else (read_held key (k key) ++ l)) (closing_same h k ops f.1)
-
-abbrev ops_by : List Transaction → List Op
-ops_by ts = flat_map (λ (t : Transaction). t.ops) ts
 
 pub closed_same : (h k : Held) (ss : List ClientSession) → EachOp (IsSame h k) ss → closed h ss ≡ closed k ss
 closed_same h k [] f = refl
@@ -105,15 +104,11 @@ closing_none (Write key wid ∷ ops) = elim (cases_Bool (list_any (writes_key ke
   | inr t ↦ rw t (closing_none ops)
 ]
 
-append_none : {X : Type 0} (xs : List X) → xs ++ [] ≡ xs
-append_none [] = refl
-append_none (x ∷ xs) = ap (λ l. x ∷ l) (append_none xs)
-
 pub closed_none : (ss : List ClientSession) → closed (λ key. None) ss ≡ ss
 closed_none [] = refl
 closed_none (s ∷ ss) =
     ap (λ ops. record { number = s.number; txns = s.txns ++ committed_reads ops } ∷ closed (λ key. None) ss) (closing_none (ops_by s.txns))
-    ∙ ap (λ ts. record { number = s.number; txns = ts } ∷ closed (λ key. None) ss) (append_none s.txns)
+    ∙ ap (λ ts. record { number = s.number; txns = ts } ∷ closed (λ key. None) ss) (append-nil s.txns)
     ∙ ap (λ l. s ∷ l) (closed_none ss)
 
 -- ---- sessions without transactions have none in the log

@@ -1,5 +1,5 @@
 -- The reads at the end of a session, from its last operation on; and the log of a piece, session by session.
-use Rattle.std.proofs.Common.{◌≡◌, ℕ, suc, ◌+◌, ◌-◌, ◌<◌, Bool, true, false, cond, ◌||◌, List, [], ◌∷◌, ◌++◌, map, length, reverse, Option, Some, None, refl, sym, ap, ◌∙◌, arith, nat_cmp}
+use Rattle.std.proofs.Common.{◌≡◌, ℕ, suc, ◌+◌, ◌-◌, ◌<◌, true, false, cond, ◌||◌, List, [], ◌∷◌, ◌++◌, map, length, reverse, Option, Some, None, refl, sym, ap, ◌∙◌, arith, nat_cmp}
 use Rattle.std.specs.Prelude.{drop, slice_get}
 use Rattle.std.specs.List.{list_any}
 use Rattle.std.specs.Str.{bytes_eq}
@@ -18,6 +18,7 @@ use Rattle.held_pieces.specs.Ops.{seen, reads_of}
 use Rattle.held_pieces.specs.Kept.{session_of}
 use Rattle.held_pieces.proofs.Steps.{ref_cmp, is_key}
 use denote.Ref.{Bor}
+use Rattle.list_lemmas.proofs.Bools.{cond_or}
 
 -- ---- one operation more, from the end
 pub seen_before : (ops : List (Bor Op)) (back j : ℕ) (o : Bor Op) → back < length ops → j ≡ length ops - 1 - back → slice_get ops j ≡ Some o → seen (drop (length ops - (back + 1)) ops) ≡ o.now ∷ seen (drop (length ops - back) ops)
@@ -26,16 +27,11 @@ seen_before ops back j o lt e at =
     let next : suc j ≡ length ops - back = omega (arith, lt, e) in
     ap (λ n. seen (drop n ops)) here ∙ ap seen (get_drop ops j o at) ∙ ap (λ n. o.now ∷ seen (drop n ops)) next
 
--- the reads of a list that is reversed
-map_append : {X Y : Type 0} (f : X → Y) (xs ys : List X) → map f (xs ++ ys) ≡ map f xs ++ map f ys
-map_append f [] ys = refl
-map_append f (x ∷ xs) ys = ap (λ l. f x ∷ l) (map_append f xs ys)
-
 pub reads_reversed : (reads : List (ℕ × Bor (List ℕ))) → reads_of (reverse reads) ≡ reverse (reads_of reads)
 reads_reversed [] = refl
 reads_reversed (r ∷ reads) =
     ap reads_of (reverse-append (r ∷ []) reads)
-    ∙ map_append (λ (r : ℕ × Bor (List ℕ)). Read r.1.now r.0) (reverse reads) (r ∷ [])
+    ∙ map-append (λ (r : ℕ × Bor (List ℕ)). Read r.1.now r.0) (reverse reads) (r ∷ [])
     ∙ ap (λ l. l ++ Read r.1.now r.0 ∷ []) (reads_reversed reads)
     ∙ sym (reverse-append (Read r.1.now r.0 ∷ []) (reads_of reads))
 
@@ -55,10 +51,6 @@ ref key = record { ref_ptr = (0, 0); now = key }
 
 abbrev pub Done : BTreeSet (Bor (List ℕ)) → List Op → Type 0
 Done done ops = (q : List ℕ) → contains_by (λ k. slice_cmp nat_cmp q k.now) done ≡ list_any (writes_key q) ops
-
-cond_or : (a b : Bool) → cond a true b ≡ (a || b)
-cond_or true b = refl
-cond_or false b = refl
 
 pub done_more : (old new : BTreeSet (Bor (List ℕ))) (key : List ℕ) (wid : ℕ) (rest : List Op) → UpdatesBy ref_cmp (λ q. slice_cmp nat_cmp key q.now) old new true → Done old rest → Done new (Write key wid ∷ rest)
 unfolding ref

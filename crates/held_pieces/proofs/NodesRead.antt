@@ -1,13 +1,16 @@
 -- What the nodes of pieces read is what those of the sessions read.
-use Rattle.std.proofs.Common.{◌≡◌, ℕ, zero, suc, Bool, true, false, ◌||◌, eqb, List, [], ◌∷◌, ◌++◌, refl, sym, ap, ◌∙◌, inl, inr, arith, eqb-true, eq-eqb}
+use Rattle.std.proofs.Common.{◌≡◌, ℕ, suc, Bool, true, ◌||◌, eqb, List, [], ◌∷◌, ◌++◌, refl, sym, ap, ◌∙◌, inl, inr, arith, eqb-true, eq-eqb}
 use Rattle.std.specs.Prelude.{take, drop}
 use Rattle.std.specs.List.{filter, flat_map, Contains}
 use Rattle.std.specs.Str.{bytes_eq}
+use Rattle.std.proofs.Math.Bool.{or-false}
 use Rattle.std.proofs.lemmas.Bool.{false≢true, or_cases, and_parts, and_from}
 use Rattle.std.proofs.lemmas.List.Elements.{filter-append}
 use Rattle.std.proofs.lemmas.List.Concat.{flat_map-append}
 use Rattle.std.proofs.lemmas.List.Folds.{list_any-append}
 use Rattle.std.proofs.lemmas.Slice.Eq.{bytes_eq-Decides}
+use Rattle.std.proofs.lemmas.List.{take-append-drop}
+use Rattle.list_lemmas.proofs.Bools.{either_way}
 use Rattle.session_log.specs.Text.{ClientSession, Transaction}
 use Rattle.session_log.specs.declared.session.Op.{Op}
 use Rattle.session_log.specs.declared.session.Op.TheVariants.{Read, Write}
@@ -41,14 +44,6 @@ nodes_read key wid ts = reads key wid (flat_map (λ (t : Transaction). t.ops) (f
 both : (key : List ℕ) (wid : ℕ) (a b : List Transaction) → nodes_read key wid (a ++ b) ≡ (nodes_read key wid a || nodes_read key wid b)
 both key wid a b = grind (arith, filter-append, flat_map-append, list_any-append)
 
-take_and_drop : {X : Type 0} (n : ℕ) (xs : List X) → take n xs ++ drop n xs ≡ xs
-take_and_drop zero xs = refl
-take_and_drop (suc n) [] = refl
-take_and_drop (suc n) (x ∷ xs) = ap (λ l. x ∷ l) (take_and_drop n xs)
-
-middle : (a b c d : Bool) → ((a || b) || (c || d)) ≡ ((a || c) || (b || d))
-middle v0 b c d = grind arith
-
 pub reads_split : (key : List ℕ) (wid : ℕ) (c : Cut) (ss : List ClientSession) → reads key wid (committed_ops ss) ≡ (reads key wid (committed_ops (first_part c ss)) || reads key wid (committed_ops (rest_of c ss)))
 reads_split key wid c [] = refl
 reads_split key wid c (s ∷ ss) =
@@ -57,10 +52,10 @@ reads_split key wid c (s ∷ ss) =
     let first = txns_in (first_part c ss) in
     let rest = txns_in (rest_of c ss) in
     both key wid s.txns (txns_in ss)
-    ∙ ap (λ l. q l || q (txns_in ss)) (sym (take_and_drop n s.txns))
+    ∙ ap (λ l. q l || q (txns_in ss)) (sym (take-append-drop n s.txns))
     ∙ ap (λ x. x || q (txns_in ss)) (both key wid (take n s.txns) (drop n s.txns))
     ∙ ap (λ x. (q (take n s.txns) || q (drop n s.txns)) || x) (reads_split key wid c ss)
-    ∙ middle (q (take n s.txns)) (q (drop n s.txns)) (q first) (q rest)
+    ∙ either_way (q (take n s.txns)) (q (drop n s.txns)) (q first) (q rest)
     ∙ ap (λ x. x || (q (drop n s.txns) || q rest)) (sym (both key wid (take n s.txns) first))
     ∙ ap (λ x. q (take n s.txns ++ first) || x) (sym (both key wid (drop n s.txns) rest))
 
@@ -79,13 +74,10 @@ present_reads : (key : List ℕ) (wid : ℕ) (ss : List ClientSession) → reads
 present_reads key wid ss = ap (nodes_read key wid) (present_txns ss)
 
 -- ---- of pieces
-or_none : (b : Bool) → (b || false) ≡ b
-or_none true = refl
-or_none false = refl
 
 pub reads_later : (key : List ℕ) (wid : ℕ) (ps : List CutOff) (last ss : List ClientSession) → IsSplit ps last ss → reads_in key wid (pieces_in ps last) ≡ reads key wid (committed_ops ss)
 reads_later key wid [] last ss h =
-    or_none (reads key wid (committed_ops last)) ∙ ap (λ l. reads key wid (committed_ops l)) h ∙ present_reads key wid ss
+    or-false (reads key wid (committed_ops last)) ∙ ap (λ l. reads key wid (committed_ops l)) h ∙ present_reads key wid ss
 reads_later key wid (p ∷ ps) last ss h =
     let c = counts_of p.sessions in
     ap (λ x. reads key wid (committed_ops p.sessions) || x) (reads_later key wid ps last (rest_of c ss) h.1)

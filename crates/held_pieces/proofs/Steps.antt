@@ -1,5 +1,5 @@
 -- Steps of the loops.
-use Rattle.std.proofs.Common.{◌≡◌, ◌≢◌, ◌⊎◌, ℕ, zero, suc, ◌+◌, ◌<◌, ◌≤◌, Bool, true, false, cond, ◌&&◌, ◌||◌, eqb, List, [], ◌∷◌, ◌++◌, length, Option, Some, None, unwrap_or, Vec, refl, sym, ap, ◌∙◌, subst, inl, inr, arith, nat_cmp, eqb-true}
+use Rattle.std.proofs.Common.{◌≡◌, ◌≢◌, ◌⊎◌, ℕ, zero, suc, ◌+◌, ◌<◌, ◌≤◌, Bool, true, false, cond, ◌&&◌, ◌||◌, List, [], ◌∷◌, ◌++◌, length, Option, Some, None, unwrap_or, Vec, refl, sym, ap, ◌∙◌, subst, inl, inr, arith, nat_cmp}
 use Rattle.std.specs.Prelude.{nat_lt, take, slice_get}
 use Rattle.std.specs.List.{filter, flat_map, list_any}
 use Rattle.std.specs.Map.{lookup}
@@ -7,9 +7,8 @@ use Rattle.std.specs.Str.{bytes_eq}
 use Rattle.std.specs.Cmp.Lexicographic.{slice_cmp}
 use Rattle.std.specs.Ordering.{is_eq, ordering_then}
 use Rattle.std.specs.declared.cmp.Ordering.{Ordering}
-use Rattle.std.specs.declared.cmp.Ordering.TheVariants.{Less, Equal, Greater}
 use Rattle.std.specs.BTreeMap.{BTreeMap, Updates, UpdatesBy, get, get_by}
-use Rattle.std.proofs.lemmas.Bool.{cases_Bool, and_from, and_left, eq-eqb, lt-ltb, le-ltb}
+use Rattle.std.proofs.lemmas.Bool.{cases_Bool, and_from, and_left, lt-ltb, le-ltb}
 use Rattle.std.proofs.lemmas.List.Concat.{flat_map-append}
 use Rattle.std.proofs.lemmas.List.Folds.{list_any-append}
 use Rattle.std.proofs.lemmas.Map.Text.{is_eq-slice_cmp}
@@ -31,24 +30,14 @@ use Rattle.held_pieces.specs.Kept.{IsKept, AreKept}
 use Rattle.held_pieces.specs.declared.reigns.Reign.{Reign}
 use Rattle.held_pieces.proofs.Reigning.{next_reign, reign_append}
 use denote.Ref.{Bor}
+use Rattle.std.proofs.Math.Bool.{or-false}
+use Rattle.std.proofs.lemmas.List.{append-nil, append_assoc}
+use Rattle.list_lemmas.proofs.Comparisons.{bytes_flip, eq_then, eqb_flip}
 
 -- ---- tests of keys
-same_tests : (a b : Bool) → (a ≡ true → b ≡ true) → (b ≡ true → a ≡ true) → a ≡ b
-same_tests v0 v1 f g = grind arith
-
-pub bytes_flip : (a b : List ℕ) → bytes_eq a b ≡ bytes_eq b a
-bytes_flip a b = same_tests (bytes_eq a b) (bytes_eq b a) (λ t. (bytes_eq-Decides b a).1 (sym ((bytes_eq-Decides a b).0 t))) (λ t. (bytes_eq-Decides a b).1 (sym ((bytes_eq-Decides b a).0 t)))
-
-eqb_flip : (a b : ℕ) → eqb a b ≡ eqb b a
-eqb_flip a b = same_tests (eqb a b) (eqb b a) (λ t. eq-eqb b a (sym (eqb-true a b t))) (λ t. eq-eqb a b (sym (eqb-true b a t)))
 
 pub is_key : (k key : List ℕ) → is_eq (slice_cmp nat_cmp k key) ≡ bytes_eq key k
 is_key k key = is_eq-slice_cmp k key ∙ bytes_flip k key
-
-eq_then : (a b : Ordering) → is_eq (ordering_then a b) ≡ (is_eq a && is_eq b)
-eq_then Less b = refl
-eq_then Equal b = refl
-eq_then Greater b = refl
 
 abbrev ref : List ℕ → Bor (List ℕ)
 ref key = record { ref_ptr = (0, 0); now = key }
@@ -69,12 +58,8 @@ is_pair k key w wid = grind (arith, eq_then, and_flip, is_key, eqb_flip)
 pub seen_more : (ops : List (Bor Op)) (i : ℕ) (o : Bor Op) → slice_get ops i ≡ Some o → seen (take (i + 1) ops) ≡ seen (take i ops) ++ o.now ∷ []
 seen_more ops i o e = front_more (λ (o : Bor Op). o.now) ops i o e
 
-or_none : (b : Bool) → (b || false) ≡ b
-or_none true = refl
-or_none false = refl
-
 any_more : (p : Op → Bool) (a : List Op) (o : Op) → list_any p (a ++ o ∷ []) ≡ (list_any p a || p o)
-any_more p a o = list_any-append p a (o ∷ []) ∙ ap (λ b. list_any p a || b) (or_none (p o))
+any_more p a o = list_any-append p a (o ∷ []) ∙ ap (λ b. list_any p a || b) (or-false (p o))
 
 last_or : {X : Type 0} (a b : Bool) (x y : X) → cond (a || b) x y ≡ cond b x (cond a x y)
 last_or v0 v1 x y = grind arith
@@ -192,19 +177,12 @@ pub held_here : (h : Held) (ops all : List Op) (t : BTreeMap (List ℕ) ℕ) →
 held_here h ops all t e f key is = sym (said t key) ∙ f key ∙ ap (λ l. held_among h l key) e ∙ among_there h all key is
 
 -- ---- one piece more
-append_none : {X : Type 0} (xs : List X) → xs ++ [] ≡ xs
-append_none [] = refl
-append_none (x ∷ xs) = ap (λ l. x ∷ l) (append_none xs)
-
-append_assoc : {X : Type 0} (xs ys zs : List X) → (xs ++ ys) ++ zs ≡ xs ++ (ys ++ zs)
-append_assoc [] ys zs = refl
-append_assoc (x ∷ xs) ys zs = ap (λ l. x ∷ l) (append_assoc xs ys zs)
 
 pub kept_more : (f : Lasts) (n m : ℕ) (earlier so_far : List Op) (pieces : List (List ClientSession)) (ss : List ClientSession) (ps : List HeldPiece) (p : HeldPiece) → m ≡ n + length pieces → so_far ≡ earlier ++ flat_map ops_in pieces
     → IsKept (held_behind f m so_far) (held_behind f (m + 1) (so_far ++ ops_in ss)) ss p → AreKept f n earlier pieces ps → AreKept f n earlier (pieces ++ ss ∷ []) (ps ++ p ∷ [])
 kept_more f n m earlier so_far [] ss [] p e is k h =
     let same : m ≡ n = omega (arith, e) in
-    let ops : so_far ≡ earlier = is ∙ append_none earlier in
+    let ops : so_far ≡ earlier = is ∙ append-nil earlier in
     (subst (λ l. IsKept (held_behind f n l) (held_behind f (n + 1) (l ++ ops_in ss)) ss p) ops (subst (λ x. IsKept (held_behind f x so_far) (held_behind f (x + 1) (so_far ++ ops_in ss)) ss p) same k), tt)
 kept_more f n m earlier so_far [] ss (q ∷ ps) p e is k h = absurd h
 kept_more f n m earlier so_far (s ∷ pieces) ss [] p e is k h = absurd h
@@ -255,7 +233,7 @@ pub kept_same : (a b h k : Held) (ss : List ClientSession) (p : HeldPiece) → (
 kept_same a b h k ss p e g is = grind arith
 
 pub ops_more : (pieces : List (List ClientSession)) (ss : List ClientSession) → flat_map ops_in (pieces ++ ss ∷ []) ≡ flat_map ops_in pieces ++ ops_in ss
-ops_more pieces ss = flat_map-append ops_in pieces (ss ∷ []) ∙ ap (λ l. flat_map ops_in pieces ++ l) (append_none (ops_in ss))
+ops_more pieces ss = flat_map-append ops_in pieces (ss ∷ []) ∙ ap (λ l. flat_map ops_in pieces ++ l) (append-nil (ops_in ss))
 
 pub sessions_count : (pieces : List (Vec Part Global)) (i : ℕ) → i < length pieces → i ≡ 0 + length (sessions_in (take i pieces))
 sessions_count pieces i lt = (let e = sessions_length pieces i lt in omega (arith, e))

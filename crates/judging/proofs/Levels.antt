@@ -10,6 +10,7 @@ use Rattle.log_definitions.specs.Serial.{IsSerialOrder}
 use Rattle.log_definitions.proofs.Settled.{ops_resolved}
 use Rattle.log_definitions.proofs.OnlyTaken.{some_where_serial}
 use Rattle.piece_laws.specs.Logs.{IsSoundLog, IsLog}
+use Rattle.piece_laws.proofs.Several.{nodes_stay}
 use Rattle.part_laws.specs.Parts.{IsPart}
 use Rattle.level_laws.specs.Split.{Locks, split_writers}
 use Rattle.level_laws.proofs.Resolved.{of_same_nodes}
@@ -32,7 +33,7 @@ use Rattle.judging.specs.Limits.{IsOver}
 use Rattle.judging.specs.Levels.{judged_at, HasNoOrderAt, IsOrderAt, IsJudgedAt}
 use Rattle.judging.specs.Judges.{Finds, IsRefutedLog, IsUndecidedBy}
 use Rattle.judging.specs.Finds.{IsFound, of_serial}
-use Rattle.judging.proofs.Resolved.{twice, known, nodes_stay, serial_of_resolved, resolved_is_log}
+use Rattle.judging.proofs.Resolved.{twice, known, serial_of_resolved, resolved_is_log}
 use Rattle.judging.proofs.Parts.{none_of_part}
 
 -- ---- names of locks are those of the operations alone
@@ -77,10 +78,6 @@ none_at_part Snapshot ss part legal sound h none = λ some.
 split_known : (ss : List ClientSession) → IsLog ss → split_writers (locks_of ss) ss ≡ judged_at Snapshot ss
 split_known ss log = ap (split_writers (locks_of ss)) (sym (known ss log))
 
-pub judged_is : (level : Level) (ss judged : List ClientSession) → IsLog ss → IsJudgedAt level ss judged → judged ≡ judged_at level ss
-judged_is Serializable ss judged log h = h
-judged_is Snapshot ss judged log h = h.1 ∙ split_known ss log
-
 pub judged_is_log : (level : Level) (ss judged : List ClientSession) → IsLog ss → IsJudgedAt level ss judged → IsLog judged
 judged_is_log Serializable ss judged log h = subst IsLog (sym h) log
 judged_is_log Snapshot ss judged log h = subst IsLog (sym h.1) (snapshot_by_split_log ss log h.0).0
@@ -124,6 +121,3 @@ found_by_split m ss judged (found.Undecided why) at log h is = undecided why is
     undecided TooManyChoices is = subst (λ l. IsReduceFault l poly_fault.TooManyChoices) same is
     undecided (NoRoom why) is = absurd (not_snapshot is.0)
     undecided NotBegun is = is
-
-pub found_itself : (m : JudgeMeans) (ss : List ClientSession) (f : Found) → m.level ≡ Serializable → IsFound (of_serial m) ss f → IsFound m ss f
-found_itself m ss f at is = subst (λ (level : Level). IsFound (record m { level = level }) ss f) (sym at) is

@@ -15,6 +15,7 @@ use Rattle.log_definitions.specs.WellFormed.{written}
 use Rattle.piece_laws.specs.Logs.{IsLog}
 use Rattle.log_definitions.specs.Unknown.{ops_in, txns_in}
 use Rattle.log_definitions.specs.WellFormed.{log_lines, session_twice, write_twice, session_fault, write_fault, limit_fault, list_fault, keys_in, is_aborted}
+use Rattle.log_definitions.proofs.Scanning.{neither}
 use Rattle.long_log_definitions.specs.LongLog as long
 use Rattle.long_log_definitions.specs.LongLog.{HasOwnNumbers}
 use Rattle.long_log_definitions.proofs.Texts.{no_fault_where_numbers}
@@ -26,10 +27,6 @@ pub record IsPassed (ss : List ClientSession) (f : LogFault) : Type 0 where
   pub which : Limit
   pub fault : f ≡ OverLimit which
   pub over : IsOver ss which
-
-neither : (a b : Option LogFault) → option_or a b ≡ None → (a ≡ None) × (b ≡ None)
-neither None b e = (refl, e)
-neither (Some f) b e = cc
 
 passed : (ss : List ClientSession) (most n : ℕ) (which : Limit) (rest : Option LogFault) (f : LogFault) → (most < n → IsOver ss which) → (rest ≡ Some f → IsPassed ss f) → cond (nat_lt most n) (Some (OverLimit which)) rest ≡ Some f → IsPassed ss f
 passed ss most n which rest f over others e = go (nat_lt most n) refl e

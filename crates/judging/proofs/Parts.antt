@@ -1,24 +1,21 @@
 -- Parts of a log whose outcomes are known.
-use Rattle.std.proofs.Common.{◌≡◌, ◌≢◌, Bool, List, refl, sym, ◌∙◌}
+use Rattle.std.proofs.Common.{Bool, List, sym, ◌∙◌}
 use Rattle.std.specs.List.{AllByRecursion}
-use Rattle.session_log.specs.Text.{ClientSession, Transaction, IsLegal}
-use Rattle.session_log.specs.declared.session.Outcome.TheVariants.{Unknown}
+use Rattle.session_log.specs.Text.{ClientSession, IsLegal}
 use Rattle.log_definitions.specs.Unknown.{resolved}
 use Rattle.log_definitions.proofs.OnlyTaken.{some_where_serial}
+use Rattle.log_definitions.proofs.Settled.{IsLearnt}
 use Rattle.piece_laws.specs.Logs.{IsSoundLog, IsLog}
 use Rattle.part_laws.specs.Parts.{IsTxnPart, IsSessionPart, IsPart}
 use Rattle.part_laws.proofs.Thinned.{thinned_same, each_thinned}
 use Rattle.part_laws.proofs.Sessions.{txns_of_part}
 use Rattle.part_laws.proofs.Orders.{no_order_of_part}
 use Rattle.part_laws.proofs.Logs.{part_is_log}
-use Rattle.part_laws.proofs.Chosen.{thinned_is_part}
+use Rattle.part_laws.proofs.Chosen.{thinned_is_part, session_itself}
 use Rattle.log_parts.specs.Picked.{picked, is_kept, chosen}
 use Rattle.log_parts.proofs.Steps.{passes, some_picked}
 use Rattle.deciding.specs.Decides.{HasNoOrder}
 use Rattle.judging.proofs.Resolved.{serial_resolved, some_order, resolved_is_log}
-
-abbrev IsLearnt : Transaction → Type 0
-IsLearnt t = t.outcome ≢ Unknown
 
 pub part_log : (ss part : List ClientSession) → IsLog ss → IsPart ss part → IsLog part
 part_log ss part log h =
@@ -35,15 +32,9 @@ chosen_part ss flags log =
     let some = picked flags ss in
     thinned_is_part ss some (is_kept ss some) log.sound (some_picked flags ss) (passes ss some)
 
-same_txn : (t : Transaction) → IsTxnPart t t
-same_txn t = record { ops = thinned_same (λ o p. o ≡ p) (λ o. refl) t.ops; outcome = refl; begun = refl; ended = refl }
-
-same_session : (s : ClientSession) → IsSessionPart s s
-same_session s = record { number = refl; txns = thinned_same IsTxnPart same_txn s.txns }
-
 -- all of it is a part
 pub part_itself : (ss : List ClientSession) → IsPart ss ss
-part_itself ss = record { sessions = thinned_same IsSessionPart same_session ss; reads = λ key wid read wrote. wrote }
+part_itself ss = record { sessions = thinned_same IsSessionPart session_itself ss; reads = λ key wid read wrote. wrote }
 
 -- a part of the resolved log that has no order leaves the log none
 pub none_of_part : (ss part : List ClientSession) → AllByRecursion IsLegal ss → IsSoundLog ss → IsPart (resolved ss) part → HasNoOrder part → HasNoOrder ss

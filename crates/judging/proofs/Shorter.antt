@@ -1,5 +1,5 @@
 -- Sessions whose unknown outcomes are resolved hold no more than the sessions that they come from.
-use Rattle.std.proofs.Common.{◌≡◌, ℕ, ◌+◌, ◌≤◌, Bool, true, false, not, cond, ◌||◌, List, [], ◌∷◌, ◌++◌, length, length-append, map, count_by, Option, Some, None, refl, sym, ap, ◌∙◌, subst, arith}
+use Rattle.std.proofs.Common.{◌≡◌, ℕ, ◌+◌, ◌≤◌, Bool, true, false, cond, ◌||◌, List, [], ◌∷◌, ◌++◌, length, length-append, map, count_by, Option, Some, None, refl, sym, ap, ◌∙◌, subst, arith}
 use Rattle.std.specs.Prelude.{is_some}
 use Rattle.std.specs.List.{flat_map, list_any, AllByRecursion}
 use Rattle.std.proofs.lemmas.List.Concat.{flat_map-append}
@@ -17,9 +17,11 @@ use Rattle.session_log.specs.declared.fault.Limit.TheVariants as limit
 use Rattle.std.proofs.lemmas.List.{length-map}
 use Rattle.std.proofs.lemmas.List.Sums.{sum_by-cons, sum_by-append}
 use Rattle.log_definitions.specs.Unknown.{is_unknown, txns_in, settled_as, settle, settled, taken, resolved}
-use Rattle.log_definitions.specs.WellFormed.{is_aborted, log_lines}
+use Rattle.log_definitions.specs.WellFormed.{log_lines}
 use Rattle.log_definitions.proofs.Settled.{numbers_resolved, ops_resolved}
 use Rattle.log_definitions.proofs.Taken.{resolved_is}
+use Rattle.log_definitions.proofs.FewNodes.{may_be_node}
+use Rattle.order_cnf.proofs.Counted.{one as one_if}
 use Rattle.judging.specs.Limits.{IsOver}
 use Rattle.judging.proofs.Resolved.{keys_of_resolved}
 
@@ -119,35 +121,30 @@ shorter_text chosen ss legal =
     omega (arith, lines, header, one, other)
 
 -- ---- the transactions that may be nodes
-abbrev may_be : Transaction → Bool
-may_be t = not (is_aborted t)
 
-abbrev one_if : Bool → ℕ
-one_if b = cond b 1 0
-
-fewer_one : (b : Bool) (o : Outcome) (ops : List Op) (begun ended : Option ℕ) → one_if (may_be (record { ops = ops; outcome = settled_as b o; begun = begun; ended = ended })) ≤ one_if (may_be (record { ops = ops; outcome = o; begun = begun; ended = ended }))
+fewer_one : (b : Bool) (o : Outcome) (ops : List Op) (begun ended : Option ℕ) → one_if (may_be_node (record { ops = ops; outcome = settled_as b o; begun = begun; ended = ended })) ≤ one_if (may_be_node (record { ops = ops; outcome = o; begun = begun; ended = ended }))
 fewer_one b Commit ops begun ended = omega arith
 fewer_one b Abort ops begun ended = omega arith
 fewer_one true Unknown ops begun ended = omega arith
 fewer_one false Unknown ops begun ended = omega arith
 
-fewer_txns : (b : Bool) (ts : List Transaction) → count_by may_be (map (settle b) ts) ≤ count_by may_be ts
+fewer_txns : (b : Bool) (ts : List Transaction) → count_by may_be_node (map (settle b) ts) ≤ count_by may_be_node ts
 fewer_txns b [] = omega arith
 fewer_txns b (t ∷ ts) =
     let first = fewer_one b t.outcome t.ops t.begun t.ended in
     let behind = fewer_txns b ts in
-    let one = sum_by-cons (λ u. one_if (may_be u)) (settle b t) (map (settle b) ts) in
-    let other = sum_by-cons (λ u. one_if (may_be u)) t ts in
+    let one = sum_by-cons (λ u. one_if (may_be_node u)) (settle b t) (map (settle b) ts) in
+    let other = sum_by-cons (λ u. one_if (may_be_node u)) t ts in
     omega (arith, first, behind, one, other)
 
-fewer : (chosen : ℕ → Bool) (ss : List ClientSession) → count_by may_be (txns_in (settled chosen ss)) ≤ count_by may_be (txns_in ss)
+fewer : (chosen : ℕ → Bool) (ss : List ClientSession) → count_by may_be_node (txns_in (settled chosen ss)) ≤ count_by may_be_node (txns_in ss)
 unfolding settled
 fewer chosen [] = omega arith
 fewer chosen (s ∷ ss) =
     let first = fewer_txns (chosen s.number) s.txns in
     let behind = fewer chosen ss in
-    let one = sum_by-append (λ u. one_if (may_be u)) (map (settle (chosen s.number)) s.txns) (txns_in (settled chosen ss)) in
-    let other = sum_by-append (λ u. one_if (may_be u)) s.txns (txns_in ss) in
+    let one = sum_by-append (λ u. one_if (may_be_node u)) (map (settle (chosen s.number)) s.txns) (txns_in (settled chosen ss)) in
+    let other = sum_by-append (λ u. one_if (may_be_node u)) s.txns (txns_in ss) in
     omega (arith, first, behind, one, other)
 
 -- ---- what is passed

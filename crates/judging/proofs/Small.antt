@@ -12,17 +12,17 @@ use Rattle.session_log.specs.Blocks.{size_fault}
 use Rattle.session_log.specs.declared.fault.Limit.{Limit}
 use Rattle.session_log.specs.declared.fault.Limit.TheVariants as limit
 use Rattle.session_log.specs.declared.fault.LogFault.TheVariants.{OverLimit}
-use Rattle.session_log.specs.declared.line.Line.{Line}
 use Rattle.session_log.specs.declared.line.Line.TheVariants as line
 use Rattle.session_log.specs.declared.version.Version.{Version}
 use Rattle.session_log.specs.declared.version.Version.TheVariants.{One, Two, Three}
 use Rattle.session_log.proofs.Least.{least_is_least}
-use Rattle.session_log.proofs.Whole.{log_by_lines, lines_log}
+use Rattle.session_log.proofs.Whole.{log_by_lines, lines_log, stands}
 use Rattle.session_log.proofs.Cutting.{counted_behind}
 use Rattle.log_definitions.specs.WellFormed.{IsWellFormed, log_lines}
 use Rattle.log_definitions.proofs.Scanning.{rules_where_no_fault}
 use Rattle.polygraph.specs.declared.fault.PolyFault.TheVariants as poly_fault
 use Rattle.reduction.specs.Outcome.{IsReduceFault}
+use Rattle.order_cnf.proofs.Counted.{one as one_if}
 use Rattle.branch_search.specs.declared.answer.Answer.TheVariants.{Unknown}
 use Rattle.deciding.specs.Decides.{IsSearched}
 use Rattle.judging.specs.declared.level.Level.TheVariants.{Serializable}
@@ -54,11 +54,6 @@ least_bytes v ss held =
     omega (arith, header, one, other)
 
 -- ---- sessions
-abbrev stands : Line → List ℕ × Bool
-stands f = (line_text f, true)
-
-abbrev one_if : Bool → ℕ
-one_if b = cond b 1 0
 
 abbrev begun_in : List (List ℕ × Bool) → ℕ
 begun_in ls = count_by is_session_line ls

@@ -2,14 +2,13 @@
 use Rattle.std.proofs.Common.{◌≡◌, ◌⊎◌, ◌↔◌, ℕ, ◌+◌, ◌<◌, ◌≤◌, Bool, true, eqb, ◌||◌, List, length, get_or, take, refl, sym, ap, ◌∙◌, subst, inl, inr, arith, eq-eqb, ne_eqb, eqb-true}
 use Rattle.std.specs.Prelude.{not}
 use Rattle.std.specs.List.{Contains, filter, list_any}
-use Rattle.std.proofs.lemmas.Bool.{cases_lt, or_cases}
+use Rattle.std.proofs.lemmas.Bool.{cases_lt, or_cases, or_left, or_right, and_from}
 use Rattle.std.proofs.lemmas.List.Folds.{list_any_more}
+use Rattle.list_lemmas.proofs.Bools.{same_bool}
 use Rattle.serializability.specs.Log.{Log, precedes}
 use Rattle.serializability.specs.Polygraph.{Edge, arcs, is_arc, reads_from}
 use Rattle.serializability.proofs.Serial.{arc_cases, arc_from_zero, arc_from_read, arc_from_moments}
 use Rattle.reach_laws.specs.Reach.{Graph}
-use Rattle.known_graph.proofs.Bools.{and_both, or_left, or_right}
-use Rattle.known_graph.proofs.Tested.{same_bool}
 use Rattle.known_graph.specs.Pairs.{all_pairs}
 use Rattle.known_graph.specs.Graphs.{IsKnownGraph, arc_graph}
 use Rattle.known_graph.proofs.Listed.{In, In-from_Contains, Contains-from_In, In-filter, In-of_filter, In-of_pairs, filter_same}
@@ -137,8 +136,8 @@ arcs_more log v n old mid next new lo here below a b c known session reads momen
 -- ---- all arcs
 arc_from_session : (log : Log) (u v : ℕ) → u + 1 ≡ v → log.session u ≡ log.session v → is_arc log (u, v) ≡ true
 arc_from_session log u v next same =
-    and_both (not (eqb v 0)) _ (ap not (ne_eqb v 0 (λ z. absurd (omega (arith, z, next)))))
-    (or_right (eqb u 0) _ (or_left _ (reads_from log v u || precedes log u v) (and_both (eqb (u + 1) v) _ (eq-eqb (u + 1) v next) (eq-eqb (log.session u) (log.session v) same))))
+    and_from (not (eqb v 0)) _ (ap not (ne_eqb v 0 (λ z. absurd (omega (arith, z, next)))))
+    (or_right (eqb u 0) _ (or_left _ (reads_from log v u || precedes log u v) (and_from (eqb (u + 1) v) _ (eq-eqb (u + 1) v next) (eq-eqb (log.session u) (log.session v) same))))
 
 arc_of : (log : Log) (e : Edge) → IsFirst log e ⊎ ((0 < e.1) × (e.1 < log.nodes + 1) × IsLater log e) → is_arc log e ≡ true
 arc_of log e (inl f) = ap (λ u. is_arc log (u, e.1)) f.0 ∙ arc_from_zero log e.1 f.1

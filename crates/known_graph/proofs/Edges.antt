@@ -3,17 +3,16 @@ use Rattle.std.proofs.Common.{◌≡◌, ◌≢◌, ◌⊎◌, ◌↔◌, ℕ, �
 use Rattle.std.specs.List.{Contains, filter}
 use Rattle.std.specs.Int.{bit_at}
 use Rattle.std.proofs.Math.Nat.{mul_comm}
-use Rattle.std.proofs.lemmas.Bool.{cases_lt, false≢true, or_cases, and_parts, and_from}
+use Rattle.std.proofs.lemmas.Bool.{cases_lt, false≢true, or_cases, and_parts, and_from, or_left, or_right, or_from, and_right}
 use Rattle.std.proofs.lemmas.List.{get_or-take, get_or-drop, length-take-le, length-drop, length-replicate}
 use Rattle.std.proofs.lemmas.Nat.{div_below, same_from_place, mul-add-lt, le-div, mul-le}
+use Rattle.list_lemmas.proofs.Bools.{same_bool}
 use Rattle.serializability.specs.Polygraph.{Edge}
 use Rattle.reach_laws.specs.Reach.{Graph}
-use Rattle.known_graph.proofs.Bools.{and_not_second, or_left, or_neither, or_right}
 use Rattle.known_graph.specs.Bits.{bit_of, row_len}
 use Rattle.known_graph.specs.Pairs.{all_pairs}
 use Rattle.known_graph.specs.Held.{bit_place, is_marked, marked_graph, IsMarked}
 use Rattle.known_graph.specs.Graphs.{IsBitGraph, IsKnownGraph}
-use Rattle.known_graph.proofs.Tested.{same_bool}
 use Rattle.known_graph.proofs.Words.{bit_of-past, bit_of-zeros, SetsBit}
 use Rattle.known_graph.proofs.JoinedRows.{row_place_word, row_bit_is}
 use Rattle.known_graph.proofs.Listed.{In-from_Contains, Contains-from_In, In-filter, In-of_filter, In-pairs, In-of_pairs, In, filter_same}
@@ -165,7 +164,7 @@ set_keeps n old new u v m hu hv s = record {
   places = s.len ∙ m.places;
   clear = λ a b ha above small.
       (let apart : bit_place n a b ≢ bit_place n u v = λ e. (let same = (place_apart n a b u v small (omega (arith, nodes_within_row n)) e).1 in omega (arith, same)) in
-      s.bits (bit_place n a b) ∙ or_neither (eqb (bit_place n a b) (bit_place n u v)) (bit_of old (bit_place n a b)) (ne_eqb (bit_place n a b) (bit_place n u v) apart) (m.clear a b ha above small));
+      s.bits (bit_place n a b) ∙ or_from (eqb (bit_place n a b) (bit_place n u v)) (bit_of old (bit_place n a b)) (ne_eqb (bit_place n a b) (bit_place n u v) apart) (m.clear a b ha above small));
 }
 
 edge_after : (n : ℕ) (old new : List ℕ) (u v : ℕ) → u ≤ n → v ≤ n → SetsBit old new (bit_place n u v) → (a b : ℕ) → IsEdge n new a b → IsEdge n old a b ⊎ ((a ≡ u) × (b ≡ v))
@@ -223,7 +222,7 @@ join_keeps n old new to from m hf j = record {
   places = j.len ∙ m.places;
   clear = λ u v hu above small.
       j.bits u v small
-      ∙ or_neither (is_marked n old (u, v)) (eqb u to && is_marked n old (from, v)) (m.clear u v hu above small) (and_not_second (eqb u to) (is_marked n old (from, v)) (m.clear from v hf above small));
+      ∙ or_from (is_marked n old (u, v)) (eqb u to && is_marked n old (from, v)) (m.clear u v hu above small) (and_right (eqb u to) (is_marked n old (from, v)) (m.clear from v hf above small));
 }
 
 pub join_edges : (n : ℕ) (old new : List ℕ) (to from : ℕ) → to ≤ n → from ≤ n → JoinsRow n old new to from → (u v : ℕ) → (Contains (marked_graph n new).edges (u, v) ↔ (Contains (marked_graph n old).edges (u, v) ⊎ ((u ≡ to) × Contains (marked_graph n old).edges (from, v))))

@@ -2,7 +2,8 @@
 use Rattle.std.proofs.Common.{◌≡◌, ◌≢◌, ◌⊎◌, ◌↔◌, ℕ, suc, ◌+◌, ◌<◌, ◌≤◌, Bool, true, false, not, eqb, ◌&&◌, ◌||◌, List, [], ◌∷◌, ◌++◌, length, get_or, take, Option, Some, None, refl, sym, ap, ◌∙◌, subst, inl, inr, arith, nat_lt, eq-eqb, ne_eqb, eqb-true}
 use Rattle.std.specs.List.{Contains, list_any}
 use Rattle.std.specs.List.Sorted.{IsPermutation, IsPartitionPoint, IsNonDecreasingBy}
-use Rattle.std.proofs.lemmas.Bool.{cases_lt, cases_eq, or_cases, and_parts, eqb-false, not-true}
+use Rattle.std.proofs.Math.Bool.{or-false}
+use Rattle.std.proofs.lemmas.Bool.{cases_lt, cases_eq, or_cases, and_parts, eqb-false, not-true, or_left, or_right, and_from}
 use Rattle.std.proofs.lemmas.List.{get_or-take, length-take-le}
 use Rattle.std.proofs.lemmas.List.Elements.{Contains-append_left, Contains-push, Contains-push_cases}
 use Rattle.std.proofs.lemmas.List.Folds.{list_any_more, list_any_at}
@@ -15,7 +16,6 @@ use Rattle.log_definitions.specs.Serial.{begun_of, ended_of}
 use Rattle.log_definitions.specs.Numbers.{log_of}
 use Rattle.known_graph.specs.declared.moments.Ended.{Ended}
 use Rattle.known_graph.specs.Moments.{AreEnded}
-use Rattle.known_graph.proofs.Bools.{and_both, or_first, or_left, or_right}
 use Rattle.known_graph.proofs.Edges.{pair_same}
 
 -- ---- those below a node
@@ -103,7 +103,7 @@ no_end_added v ended i entry old now lt is own before e =
     let test : Ended → Bool = λ t. not (eqb t.node v) && eqb t.node e.0 in
     let same : is_end v (take (i + 1) ended) e.0 ≡ is_end v (take i ended) e.0 =
     list_any_more test ended i entry lt ∙ ap (λ t. is_end v (take i ended) e.0 || test t) (sym is)
-    ∙ ap (λ b. is_end v (take i ended) e.0 || (not b && eqb entry.node e.0)) (eq-eqb entry.node v own) ∙ or_first (is_end v (take i ended) e.0) in (
+    ∙ ap (λ b. is_end v (take i ended) e.0 || (not b && eqb entry.node e.0)) (eq-eqb entry.node v own) ∙ or-false (is_end v (take i ended) e.0) in (
       λ c. elim ((before e).0 c) [ inl k ↦ inl k | inr k ↦ inr (k.0, same ∙ k.1) ],
       λ d. elim d [ inl k ↦ (before e).1 (inl k) | inr k ↦ (before e).1 (inr (k.0, sym same ∙ k.1)) ],
     )
@@ -154,7 +154,7 @@ ends_are ss ended v begun count u h began few split t =
     let facts = (h.each x).0 (k, omega (arith, lt, few), there) in
     let early : nat_lt x.moment begun ≡ true = ap (λ (y : Ended). nat_lt y.moment begun) (sym there) ∙ split.0 k x (omega arith) lt in
     let ordered : is_earlier (ended_of ss u) (begun_of ss v) ≡ true = ap (λ o. is_earlier o (begun_of ss v)) (ap (ended_of ss) (sym node) ∙ facts.2) ∙ (ap (is_earlier (Some x.moment)) began ∙ early) in
-    (omega (arith, facts.0, node), omega (arith, facts.1, node), and_both (not (eqb u v)) (is_earlier (ended_of ss u) (begun_of ss v)) (ap (λ w. not (eqb w v)) (sym node) ∙ parts.0) ordered)
+    (omega (arith, facts.0, node), omega (arith, facts.1, node), and_from (not (eqb u v)) (is_earlier (ended_of ss u) (begun_of ss v)) (ap (λ w. not (eqb w v)) (sym node) ∙ parts.0) ordered)
 
 stated : (o b : Option ℕ) → is_earlier o b ≡ true → (m : ℕ) × (o ≡ Some m)
 stated None b h = absurd (cc h)
@@ -176,7 +176,7 @@ are_ends ss ended v begun count u h began few split lo hi t =
     let len = length-take-le count ended few in
     let there : get_or (take count ended) k x ≡ x = get_or-take count ended k x lt ∙ at.2 in
     list_any_at (λ (y : Ended). not (eqb y.node v) && eqb y.node u) (take count ended) k x (omega (arith, len, lt))
-    (ap (λ (y : Ended). not (eqb y.node v) && eqb y.node u) there ∙ and_both (not (eqb u v)) (eqb u u) parts.0 (eq-eqb u u refl))
+    (ap (λ (y : Ended). not (eqb y.node v) && eqb y.node u) there ∙ and_from (not (eqb u v)) (eqb u u) parts.0 (eq-eqb u u refl))
 
 abbrev pub MomentsAdded : Log → ℕ → List Edge → List Edge → Type 0
 MomentsAdded log v old new = (e : Edge) → (Contains new e ↔ (Contains old e ⊎ ((e.1 ≡ v) × (0 < e.0) × (e.0 ≤ log.nodes) × (precedes log e.0 v ≡ true))))

@@ -8,7 +8,7 @@ use Rattle.std.proofs.lemmas.List.{map-append, get_or-set_other}
 use Rattle.std.proofs.lemmas.List.Elements.{filter-append}
 use Rattle.std.proofs.lemmas.Nat.{div-mul-add, mod-mul-add, and_le_l}
 use Rattle.std.proofs.lemmas.Nat.Bits.{bit_at-zero, bit_at-lt, bit_at_and, bit_at_or, bit_at_not, bit_at-trailing_zeros, bit_at_clear_same, bit_at_clear_other}
-use Rattle.known_graph.proofs.Bools.{and_first}
+use Rattle.list_lemmas.proofs.Bools.{and_first}
 use Rattle.known_graph.specs.declared.reached.Reached.{Reached}
 use Rattle.known_graph.specs.Bits.{bit_of}
 use Rattle.known_graph.specs.Tree.{reached_from, word_numbers, fresh_numbers}
@@ -105,9 +105,6 @@ without_bit-bit word k b within hb one = elim (cases_eq b k) [
 ]
 
 -- ---- found nodes, one by one and word by word
-pub append_none : {X : Type 0} (xs : List X) → xs ++ [] ≡ xs
-append_none [] = refl
-append_none (x ∷ xs) = ap (λ l. x ∷ l) (append_none xs)
 
 pub add_first : (now next total : List Reached) (from v node : ℕ) (ws rest : List ℕ) → ws ≡ v ∷ rest → node ≡ v → next ≡ now ++ record { node = node; from = from } ∷ [] → now ++ reached_from from ws ≡ total → next ++ reached_from from rest ≡ total
 add_first now next total from v node ws rest e n p h =
@@ -183,7 +180,7 @@ fresh_word_bit row i seen b hs hb one =
     let both : (eqb (bit_at (get_or row i 0) b) 1 && not (eqb (bit_at seen b) 1)) ≡ true = sym (fresh_bit (get_or row i 0) seen b hs hb) ∙ ap (λ x. eqb x 1) one in
     bit_of-word row i (i * 64 + b) (omega arith) (omega arith) ∙ ap (λ x. eqb (bit_at (get_or row i 0) x) 1) back ∙ and_first (eqb (bit_at (get_or row i 0) b) 1) (not (eqb (bit_at seen b) 1)) both
 
-either_bit : (x y : ℕ) → x < 2 → y < 2 → eqb (max x y) 1 ≡ (eqb x 1 || eqb y 1)
+pub either_bit : (x y : ℕ) → x < 2 → y < 2 → eqb (max x y) 1 ≡ (eqb x 1 || eqb y 1)
 either_bit zero zero hx hy = refl
 either_bit zero (suc zero) hx hy = refl
 either_bit (suc zero) zero hx hy = refl

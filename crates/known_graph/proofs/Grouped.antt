@@ -1,9 +1,8 @@
 -- Groups of nodes, and how far the search for them has come.
-use Rattle.std.proofs.Common.{◌≡◌, ◌↔◌, ℕ, ◌<◌, ◌≤◌, true, false, eqb, ◌||◌, List, [], ◌∷◌, sym, ap, ◌∙◌, subst, inl, inr, arith, eqb-true, eq-eqb, refl}
+use Rattle.std.proofs.Common.{◌≡◌, ◌↔◌, ℕ, ◌<◌, ◌≤◌, true, false, eqb, ◌||◌, List, [], ◌∷◌, sym, ◌∙◌, subst, inl, inr, arith, eqb-true, eq-eqb, refl}
 use Rattle.std.specs.List.{Contains}
-use Rattle.std.specs.Prelude.{not}
-use Rattle.std.proofs.lemmas.Bool.{cases_Bool, or_cases, or_left, or_right}
-use Rattle.reach_laws.specs.Reach.{Graph, Walk, Reaches}
+use Rattle.std.proofs.lemmas.Bool.{or_cases, or_left, or_right}
+use Rattle.reach_laws.specs.Reach.{Graph, Walk}
 use Rattle.known_graph.specs.declared.groups.Group.{Group}
 use Rattle.known_graph.specs.declared.groups.Search.{Search}
 use Rattle.known_graph.specs.Bits.{bit_of, row_len}
@@ -41,12 +40,6 @@ search_closed g s group closed h p within bits = record {
     | inr new ↦ round_closed g s group h p within v new r.0 r.1
   ]) r;
 }
-
-pub may_be : (g : Graph) (s : Search) (v : ℕ) → IsSearch g s → Reaches g.edges v v → (bit_of s.round v || not (bit_of s.closed v)) ≡ true
-may_be g s v h r = elim (cases_Bool (bit_of s.closed v)) [
-  | inl t ↦ or_left (bit_of s.round v) (not (bit_of s.closed v)) (h.round v t r)
-  | inr f ↦ or_right (bit_of s.round v) (not (bit_of s.closed v)) (ap not f)
-]
 
 -- ---- a node that was entered
 pub left_after : (old new : List ℕ) (v : ℕ) → bit_of old v ≡ false → ((k : ℕ) → bit_of new k ≡ (eqb k v || bit_of old k)) → v < 1024 → left_of (bit_of new) 1024 < left_of (bit_of old) 1024

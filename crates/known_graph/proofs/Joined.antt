@@ -1,27 +1,17 @@
 -- Bits of words that are joined.
-use Rattle.std.proofs.Common.{◌≡◌, ◌≢◌, ◌⊎◌, ℕ, ◌+◌, ◌/◌, ◌%◌, ◌<◌, ◌≤◌, max, Bool, true, false, eqb, ◌||◌, List, length, get_or, set, refl, sym, ap, ◌∙◌, inl, inr, arith, get_or-set_same, get_or-set_other}
+use Rattle.std.proofs.Common.{◌≡◌, ◌≢◌, ℕ, ◌+◌, ◌/◌, ◌%◌, ◌<◌, ◌≤◌, Bool, true, false, eqb, ◌||◌, List, length, get_or, set, refl, sym, ap, ◌∙◌, inl, inr, arith, get_or-set_same, get_or-set_other}
 use Rattle.std.specs.Prelude.{bit_or}
 use Rattle.std.specs.Int.{bit_at}
 use Rattle.std.proofs.lemmas.Bool.{cases_eq, cases_lt}
 use Rattle.std.proofs.lemmas.Nat.Bits.{bit_at_or, bit_at-lt}
 use Rattle.known_graph.specs.Bits.{bit_of}
 use Rattle.known_graph.proofs.Words.{bit_of-past}
+use Rattle.known_graph.proofs.Fresh.{either_bit}
 
 -- ---- one bit
-two : (p : ℕ) → p < 2 → (p ≡ 0) ⊎ (p ≡ 1)
-two p h = elim (cases_eq p 0) [ inl e ↦ inl e | inr n ↦ inr (omega (arith, n)) ]
-
-or_at : (p q a b : ℕ) → p ≡ a → q ≡ b → eqb (max a b) 1 ≡ (eqb a 1 || eqb b 1) → eqb (max p q) 1 ≡ (eqb p 1 || eqb q 1)
-or_at p q a b e f h = ap (λ x. eqb (max x q) 1) e ∙ ap (λ y. eqb (max a y) 1) f ∙ h ∙ ap (λ y. eqb a 1 || eqb y 1) (sym f) ∙ ap (λ x. eqb x 1 || eqb q 1) (sym e)
-
-or_bit : (p q : ℕ) → p < 2 → q < 2 → eqb (max p q) 1 ≡ (eqb p 1 || eqb q 1)
-or_bit p q hp hq = elim (two p hp) [
-  | inl e ↦ elim (two q hq) [ inl f ↦ or_at p q 0 0 e f refl | inr f ↦ or_at p q 0 1 e f refl ]
-  | inr e ↦ elim (two q hq) [ inl f ↦ or_at p q 1 0 e f refl | inr f ↦ or_at p q 1 1 e f refl ]
-]
 
 pub joined_bit : (x y b : ℕ) → eqb (bit_at (bit_or x y) b) 1 ≡ (eqb (bit_at x b) 1 || eqb (bit_at y b) 1)
-joined_bit x y b = ap (λ n. eqb n 1) (bit_at_or x y b) ∙ or_bit (bit_at x b) (bit_at y b) (bit_at-lt x b) (bit_at-lt y b)
+joined_bit x y b = ap (λ n. eqb n 1) (bit_at_or x y b) ∙ either_bit (bit_at x b) (bit_at y b) (bit_at-lt x b) (bit_at-lt y b)
 
 pub or_none : (a b : Bool) → b ≡ false → a ≡ (a || b)
 or_none true b e = refl

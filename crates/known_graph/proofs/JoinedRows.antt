@@ -1,9 +1,9 @@
 -- Bits of rows that are joined.
-use Rattle.std.proofs.Common.{◌≡◌, ◌≢◌, ℕ, ◌+◌, ◌*◌, ◌/◌, ◌%◌, ◌<◌, ◌≤◌, Bool, true, false, eqb, ◌||◌, ◌&&◌, List, length, get_or, set, refl, sym, ap, ◌∙◌, inl, inr, arith, eq-eqb, get_or-set_same, get_or-set_other}
+use Rattle.std.proofs.Common.{◌≡◌, ◌≢◌, ℕ, ◌+◌, ◌*◌, ◌/◌, ◌%◌, ◌<◌, ◌≤◌, Bool, true, eqb, ◌||◌, ◌&&◌, List, length, get_or, set, refl, sym, ap, ◌∙◌, inl, inr, arith, eq-eqb, get_or-set_same, get_or-set_other}
 use Rattle.std.specs.Prelude.{bit_or}
 use Rattle.std.specs.Int.{bit_at}
 use Rattle.std.proofs.Math.Nat.{mul_assoc}
-use Rattle.std.proofs.lemmas.Bool.{cases_eq}
+use Rattle.std.proofs.lemmas.Bool.{cases_eq, and_left}
 use Rattle.std.proofs.lemmas.Nat.{div-mul-add, mod-mul-add, div-add-mod', div_below, mod_below, same_from_place}
 use Rattle.known_graph.specs.Bits.{bit_of}
 use Rattle.known_graph.proofs.Joined.{joined_bit, or_none}
@@ -60,8 +60,5 @@ row_joined_more len to from i old new h lt within =
 and_yes : (a b : Bool) → a ≡ true → b ≡ (a && b)
 and_yes a b e = sym (ap (λ x. x && b) e)
 
-and_no : (a b : Bool) → a ≡ false → (a && b) ≡ false
-and_no a b e = ap (λ x. x && b) e
-
 pub row_joined_bits : (len to from : ℕ) (old new : List ℕ) → IsRowJoined len to from len old new → (u v : ℕ) → v < len * 64 → bit_of new (u * (len * 64) + v) ≡ (bit_of old (u * (len * 64) + v) || (eqb u to && bit_of old (from * (len * 64) + v)))
-row_joined_bits len to from old new h u v small = grind (arith, div_below, cases_eq, row_bit_is, joined_bit, and_yes, eq-eqb, or_none, and_no)
+row_joined_bits len to from old new h u v small = grind (arith, div_below, cases_eq, row_bit_is, joined_bit, and_yes, eq-eqb, or_none, and_left)

@@ -10,7 +10,7 @@ use Rattle.serializability.proofs.Places.{each_of_map}
 use Rattle.serializability.proofs.Serial.{source_within}
 use Rattle.session_history.specs.Tables.{sources_of}
 
-abbrev reads_key : Log → ℕ → ℕ → Option (ℕ × ℕ)
+abbrev pub reads_key : Log → ℕ → ℕ → Option (ℕ × ℕ)
 reads_key log r x = option_map (λ w. (x, w)) (source log r x)
 
 any_first : (w x : ℕ) (o : Option ℕ) (rest : List (ℕ × ℕ)) → (option_map_or (λ u. eqb u w) o false || list_any (λ p. eqb p.1 w) rest) ≡ list_any (λ p. eqb p.1 w) (cons_option (option_map (λ u. (x, u)) o) rest)
@@ -40,7 +40,7 @@ each_read : (log : Log) (r : ℕ) (keys : List ℕ) → AllByRecursion (λ p. so
 each_read log r [] = tt
 each_read log r (x ∷ keys) = kept_read log r x (source log r x) refl (filter_map (reads_key log r) keys) (each_read log r keys)
 
-each_at : {X : Type 0} (P : X → Type 0) (xs : List X) → AllByRecursion P xs → (k : ℕ) (d : X) → k < length xs → P (get_or xs k d)
+pub each_at : {X : Type 0} (P : X → Type 0) (xs : List X) → AllByRecursion P xs → (k : ℕ) (d : X) → k < length xs → P (get_or xs k d)
 each_at P [] h k d lt = absurd (omega arith)
 each_at P (x ∷ xs) h zero d lt = h.0
 each_at P (x ∷ xs) h (suc k) d lt = each_at P xs h.1 k d (omega arith)

@@ -1,14 +1,16 @@
 -- The edges of a graph, row after row.
-use Rattle.std.proofs.Common.{◌≡◌, ◌⊎◌, ℕ, ◌+◌, ◌-◌, ◌<◌, ◌≤◌, Bool, true, false, List, [], ◌∷◌, ◌++◌, sym, ap, ◌∙◌, subst, inl, inr, cond, arith}
+use Rattle.std.proofs.Common.{◌≡◌, ◌⊎◌, ℕ, ◌+◌, ◌-◌, ◌<◌, ◌≤◌, Bool, true, false, List, [], ◌∷◌, ◌++◌, sym, ap, ◌∙◌, subst, inl, inr, cond, arith, eqb, ◌&&◌, ◌||◌}
 use Rattle.std.specs.Prelude.{map}
 use Rattle.std.specs.List.{Contains, filter, flat_map, range_with_len}
 use Rattle.std.proofs.lemmas.Bool.{cases_Bool, false≢true}
 use Rattle.std.proofs.lemmas.List.{append-nil}
 use Rattle.std.proofs.lemmas.List.Elements.{filter-append}
+use Rattle.std.proofs.lemmas.List.Folds.{list_any-append}
 use Rattle.serializability.specs.Polygraph.{Edge}
 use Rattle.reach_laws.specs.Reach.{Graph}
 use Rattle.known_graph.specs.Pairs.{all_pairs}
 use Rattle.known_graph.specs.Graphs.{IsKnownGraph}
+use Rattle.known_graph.specs.Tests.{has_edge}
 use Rattle.known_graph.proofs.Listed.{In-from_Contains, Contains-from_In, In-filter, In-of_filter, In-pairs}
 use Rattle.known_graph.proofs.Rests.{up_to, up_to_first, Split}
 
@@ -75,3 +77,6 @@ row_ended test u v end h now rest all e = sym (ap (λ l. now ++ (edges_to test u
 
 pub rows_ended : (test : Edge → Bool) (n u end : ℕ) → end ≤ u → (now all : List Edge) → now ++ edges_from test n (up_to u end) ≡ all → now ≡ all
 rows_ended test n u end h now all e = sym (append-nil now) ∙ sym (ap (λ l. now ++ edges_from test n l) (none_left u end h)) ∙ e
+
+pub edge_append : (xs ys : List Edge) (e : Edge) → has_edge (xs ++ ys) e ≡ (has_edge xs e || has_edge ys e)
+edge_append xs ys e = list_any-append (λ (x : Edge). eqb x.0 e.0 && eqb x.1 e.1) xs ys

@@ -4,12 +4,11 @@ use Rattle.std.specs.List.{Contains, filter, range_with_len, list_any, AllByRecu
 use Rattle.std.specs.Prelude.{map, not, nat_eq}
 use Rattle.std.proofs.Math.ListN.{get_or-append}
 use Rattle.std.proofs.Math.Seq.{get_or-append_right}
-use Rattle.std.proofs.lemmas.Bool.{cases_lt, cases_Bool, false≢true, or_cases}
+use Rattle.std.proofs.lemmas.Bool.{cases_lt, cases_Bool, false≢true, or_cases, or_left, or_right}
 use Rattle.std.proofs.lemmas.List.{length-map, map-append}
 use Rattle.std.proofs.lemmas.Map.Steps.{length-le_from_distinct_below}
 use Rattle.serializability.specs.Polygraph.{Edge}
 use Rattle.reach_laws.specs.Reach.{Graph, Walk, Reaches}
-use Rattle.known_graph.proofs.Bools.{or_left, or_right}
 use Rattle.known_graph.specs.declared.reached.Reached.{Reached}
 use Rattle.known_graph.specs.Bits.{bit_of}
 use Rattle.known_graph.specs.Tree.{reached_from, fresh_numbers, node_at, from_at, IsTree}

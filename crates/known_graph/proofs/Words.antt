@@ -2,11 +2,12 @@
 use Rattle.std.proofs.Common.{◌≡◌, ◌≢◌, ℕ, ◌+◌, ◌*◌, ◌/◌, ◌%◌, ◌^◌, ◌<◌, ◌≤◌, false, eqb, ◌||◌, List, length, get_or, set, replicate, sym, ap, ◌∙◌, inl, inr, arith, eq-eqb, ne_eqb, get_or-set_same, get_or-set_other}
 use Rattle.std.specs.Prelude.{bit_and, bit_or}
 use Rattle.std.specs.Int.{bit_at, w64}
-use Rattle.std.proofs.lemmas.Bool.{cases_eq, cases_lt}
+use Rattle.std.proofs.Math.Bool.{or-false}
+use Rattle.std.proofs.lemmas.Bool.{cases_eq, cases_lt, or_left}
 use Rattle.std.proofs.lemmas.List.{get_or_past, get_or-replicate, length-replicate}
 use Rattle.std.proofs.lemmas.Nat.{div-add-mod', div-mul-add, mod-mul-add, mod_below}
 use Rattle.std.proofs.lemmas.Nat.Bits.{bit_at-zero, shr_and_one, bit_at_set_same, bit_at_set_other}
-use Rattle.known_graph.proofs.Bools.{or_left, or_second, or_first}
+use Rattle.known_graph.proofs.Bools.{or_second}
 use Rattle.known_graph.specs.Bits.{bit_of}
 
 pub bit_of-past : (words : List ℕ) (k : ℕ) → length words ≤ k / 64 → bit_of words k ≡ false
@@ -75,4 +76,4 @@ bit_of-zeros n k = elim (cases_lt (k / 64) n) [
 
 pub only_bit : (zeros new : List ℕ) (n u a : ℕ) → zeros ≡ replicate n 0 → a ≡ u → ((k : ℕ) → bit_of new k ≡ (eqb k a || bit_of zeros k)) → (k : ℕ) → bit_of new k ≡ eqb k u
 only_bit zeros new n u a e same bits k =
-    bits k ∙ ap (λ b. eqb k a || b) (ap (λ l. bit_of l k) e ∙ bit_of-zeros n k) ∙ or_first (eqb k a) ∙ ap (eqb k) same
+    bits k ∙ ap (λ b. eqb k a || b) (ap (λ l. bit_of l k) e ∙ bit_of-zeros n k) ∙ or-false (eqb k a) ∙ ap (eqb k) same

@@ -1,8 +1,10 @@
 -- What the tests of a ledger say.
-use Rattle.std.proofs.Common.{◌≡◌, ◌⊎◌, ℕ, zero, suc, ◌+◌, ◌<◌, Bool, true, ◌&&◌, List, [], ◌∷◌, ◌++◌, length, get_or, take, drop, refl, sym, ap, ◌∙◌, subst, inl, inr, arith}
+use Rattle.std.proofs.Common.{◌≡◌, ◌⊎◌, ℕ, ◌+◌, ◌<◌, Bool, true, ◌&&◌, List, [], ◌∷◌, ◌++◌, length, get_or, take, drop, refl, sym, ap, ◌∙◌, subst, inl, inr}
 use Rattle.std.specs.Prelude.{◌==◌, nat_lt, slice_index}
 use Rattle.std.specs.List.{list_any}
 use Rattle.std.proofs.lemmas.Bool.{false≢true, and_parts, and_from, or_cases, or_left, or_right}
+use Rattle.std.proofs.lemmas.List.{drop_more, take_more}
+use Rattle.list_lemmas.proofs.Bools.{same_bool}
 use Rattle.serializability.specs.Polygraph.{Edge, Polygraph}
 use Rattle.reach_laws.specs.Reach.{IsCycle}
 use Rattle.known_graph.proofs.Listed.{In, In-from_Contains}
@@ -14,7 +16,7 @@ use Rattle.prune_ledger.specs.Ledger.{side_of, kept_side, kept_after, edges_afte
 use Rattle.ledger_checks.specs.Tested.{is_of, is_held, leads_by, is_line_by, is_shown_by, are_shown_by, is_cycle_by}
 use Rattle.prune_ledger.specs.Pruned.{posts_in, kept_by}
 use Rattle.prune_ledger.specs.declared.ledger.LedgerEntry.{LedgerEntry}
-use Rattle.known_graph.proofs.Tested.{same_bool, edge_in, has_in, has_contained, walk_of, line_of}
+use Rattle.known_graph.proofs.Tested.{edge_in, has_in, has_contained, walk_of, line_of}
 use Rattle.prune_ledger.proofs.Sides.{known_with, more_kept, new_kept, kept_cases, no_kept}
 use Rattle.prune_ledger.proofs.Grown.{kept_append, posts_append}
 
@@ -106,18 +108,9 @@ of_cycle p entries line c =
     ∙ subst (λ (n : ℕ). is_line (edges_after p (kept_by entries)) n line n ≡ true) (sym first) (line_of (edges_after p (kept_by entries)) line c.0 c.0 c.1)
 
 -- ---- going on by one entry
-drop_here : {X : Type 0} (xs : List X) (k : ℕ) (d : X) → k < length xs → drop k xs ≡ get_or xs k d ∷ drop (k + 1) xs
-drop_here [] k d lt = absurd (omega (arith, lt))
-drop_here (x ∷ xs) zero d lt = refl
-drop_here (x ∷ xs) (suc k) d lt = let e : suc k + 1 ≡ suc (k + 1) = omega arith in drop_here xs k d (omega (arith, lt)) ∙ ap (λ n. get_or xs k d ∷ drop n (x ∷ xs)) (sym e)
-
-take_here : {X : Type 0} (xs : List X) (k : ℕ) (d : X) → k < length xs → take (k + 1) xs ≡ take k xs ++ get_or xs k d ∷ []
-take_here [] k d lt = absurd (omega (arith, lt))
-take_here (x ∷ xs) zero d lt = refl
-take_here (x ∷ xs) (suc k) d lt = let e : suc k + 1 ≡ suc (k + 1) = omega arith in ap (λ n. take n (x ∷ xs)) e ∙ ap (λ l. x ∷ l) (take_here xs k d (omega (arith, lt)))
 
 pub shown_step : (p : Polygraph) (entries : List LedgerEntry) (k : ℕ) (x : LedgerEntry) → k < length entries → x ≡ get_or entries k x
     → are_shown_by p (take k entries) (drop k entries) ≡ (is_shown_by p (take k entries) x.post && are_shown_by p (take (k + 1) entries) (drop (k + 1) entries))
 shown_step p entries k x lt is =
-    ap (are_shown_by p (take k entries)) (drop_here entries k x lt ∙ ap (λ y. y ∷ drop (k + 1) entries) (sym is))
-    ∙ ap (λ l. is_shown_by p (take k entries) x.post && are_shown_by p l (drop (k + 1) entries)) (sym (take_here entries k x lt ∙ ap (λ y. take k entries ++ y ∷ []) (sym is)))
+    ap (are_shown_by p (take k entries)) (drop_more entries k x lt ∙ ap (λ y. y ∷ drop (k + 1) entries) (sym is))
+    ∙ ap (λ l. is_shown_by p (take k entries) x.post && are_shown_by p l (drop (k + 1) entries)) (sym (take_more entries k x lt ∙ ap (λ y. take k entries ++ y ∷ []) (sym is)))

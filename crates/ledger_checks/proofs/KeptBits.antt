@@ -3,24 +3,21 @@ use Rattle.std.proofs.Common.{◌≡◌, ℕ, ◌+◌, ◌*◌, ◌<◌, ◌≤�
 use Rattle.std.specs.List.{list_any}
 use Rattle.std.proofs.lemmas.Bool.{and_parts, and_from}
 use Rattle.std.proofs.lemmas.List.{take_more}
-use Rattle.std.proofs.lemmas.List.Folds.{list_any-append}
 use Rattle.std.proofs.lemmas.Nat.{same_from_place}
 use Rattle.std.proofs.Math.Bool.{or_comm, or-false}
+use Rattle.list_lemmas.proofs.Bools.{same_bool}
 use Rattle.serializability.specs.Polygraph.{Edge, Polygraph}
 use Rattle.reach_laws.specs.Reach.{Graph}
 use Rattle.pruning_laws.specs.Forced.{other}
 use Rattle.known_graph.specs.Bits.{bit_of}
 use Rattle.known_graph.specs.Tests.{has_edge}
-use Rattle.known_graph.proofs.Tested.{same_bool}
 use Rattle.known_graph.proofs.Words.{bit_of-zeros}
+use Rattle.known_graph.proofs.Rows.{edge_append}
 use Rattle.prune_ledger.specs.Ledger.{side_of}
 use Rattle.ledger_checks.specs.Tested.{is_of, is_held}
 use Rattle.ledger_checks.specs.KeptEdges.{edge_place, HasEdges, edges_kept}
 use Rattle.ledger_checks.specs.declared.kept.KeptEdges.{KeptEdges}
 use Rattle.prune_ledger.specs.declared.ledger.LedgerEntry.{LedgerEntry}
-
-edge_append : (xs ys : List Edge) (e : Edge) → has_edge (xs ++ ys) e ≡ (has_edge xs e || has_edge ys e)
-edge_append xs ys e = list_any-append (λ (x : Edge). eqb x.0 e.0 && eqb x.1 e.1) xs ys
 
 -- ---- bits
 pub place_is : (a b u v : ℕ) → a ≡ u → b ≡ v → a * 1024 + b ≡ edge_place u v

@@ -1,7 +1,7 @@
 -- The unknown transactions that a snapshot order takes for committed hold each one that is needed.
 use Rattle.std.proofs.Common.{◌≡◌, ℕ, zero, suc, ◌*◌, ◌<◌, ◌≤◌, Bool, true, false, not, List, [], ◌∷◌, length, map, Some, sym, ap, ◌∙◌, subst, inl, inr, arith}
 use Rattle.std.specs.Prelude.{slice_get}
-use Rattle.std.specs.List.{filter, flat_map, AllByRecursion, Contains}
+use Rattle.std.specs.List.{flat_map, AllByRecursion, Contains}
 use Rattle.std.specs.Option.{option_map_or}
 use Rattle.std.proofs.lemmas.Bool.{cases_Bool}
 use Rattle.std.proofs.lemmas.List.Elements.{Contains-append_left, Contains-append_right}
@@ -18,13 +18,14 @@ use Rattle.log_definitions.specs.WellFormed.{written}
 use Rattle.log_definitions.specs.Serial.{Committed, committed_in, node_of, ops_of, initial}
 use Rattle.log_definitions.proofs.Members.{member, themselves}
 use Rattle.log_definitions.proofs.Settled.{txn_ops, each_of_settled}
-use Rattle.log_definitions.proofs.Identities.{Lacks, once_settled, parts_apart}
+use Rattle.log_definitions.proofs.Identities.{Lacks}
 use Rattle.log_definitions.proofs.Dropped.{met_by_write}
+use Rattle.log_definitions.proofs.Chosen.{Has-written, others_lack}
 use Rattle.piece_laws.specs.Logs.{IsLearntLog}
 use Rattle.piece_laws.proofs.Lines.{ops_along}
 use Rattle.piece_laws.proofs.Lists.{in_flat, of_flat, of_mapped, node_with}
 use Rattle.piece_laws.proofs.Sessions.{nodes_of}
-use Rattle.piece_laws.proofs.Identities.{ops_of_nodes, wrote}
+use Rattle.piece_laws.proofs.Identities.{ops_of_nodes}
 use Rattle.level_laws.specs.Snapshot.{Point, snapshot, commit, number, snapshot_reads, rest, ops_at, IsSnapshotOrder}
 use Rattle.level_laws.proofs.Parts.{each_snapshot, each_rest, in_one}
 use Rattle.level_laws.proofs.Nodes.{nodes_are, is_node}
@@ -46,23 +47,13 @@ pub dropped_write : (ss : List ClientSession) (chosen : ℕ → Bool) (key : Lis
 dropped_write ss chosen key wid d =
     in_flat txn_ops (txns_in ss) d.txn (Write key wid) (in_flat (λ (s : ClientSession). s.txns) ss d.session d.txn d.is_session d.is_txn) d.writes
 
--- and no transaction that counts as committed writes it
-abbrev uncounted : (ℕ → Bool) → List ClientSession → List Transaction
-uncounted chosen ss = filter (λ t. not (is_committed t)) (txns_in (settled chosen ss))
-
-others_lack : (chosen : ℕ → Bool) (ss : List ClientSession) (key : List ℕ) (wid : ℕ) → Apart (written (ops_in ss)) → Contains (committed_ops (settled chosen ss)) (Write key wid) → AllByRecursion (Lacks wid) (uncounted chosen ss)
-others_lack chosen ss key wid apart c =
-    let r = of_flat txn_ops (filter is_committed (txns_in (settled chosen ss))) (Write key wid) c in
-    member (λ (t : Transaction). (w : ℕ) → Has w (written t.ops) → AllByRecursion (Lacks w) (uncounted chosen ss)) (filter is_committed (txns_in (settled chosen ss))) r.0
-    (parts_apart is_committed (txns_in (settled chosen ss)) (once_settled chosen ss apart)) r.1 wid (wrote r.0.ops key wid r.2)
-
 pub not_dropped : (chosen : ℕ → Bool) (ss : List ClientSession) (key other : List ℕ) (wid : ℕ) → Apart (written (ops_in ss)) → Contains (committed_ops (settled chosen ss)) (Write key wid) → Dropped ss chosen other wid → ⊥
 not_dropped chosen ss key other wid apart c d =
     let lack = each_of_settled (λ t. not (is_committed t) ≡ true → Lacks wid t) chosen ss (each_of_filter (Lacks wid) (λ t. not (is_committed t)) (txns_in (settled chosen ss)) (others_lack chosen ss key wid apart c)) in
     let of_txn = member (λ (t : Transaction). not (is_committed (settle (chosen d.session.number) t)) ≡ true → Lacks wid (settle (chosen d.session.number) t)) d.session.txns d.txn
     (member (λ (s : ClientSession). AllByRecursion (λ (t : Transaction). not (is_committed (settle (chosen s.number) t)) ≡ true → Lacks wid (settle (chosen s.number) t)) s.txns) ss d.session lack d.is_session) d.is_txn in
     let uncounted_here = ap (λ o. not (is_commit (settled_as (chosen d.session.number) o))) d.outcome ∙ ap (λ b. not (is_commit (settled_as b Unknown))) d.absent in
-    of_txn uncounted_here (wrote d.txn.ops other wid d.writes)
+    of_txn uncounted_here (Has-written d.txn.ops other wid d.writes)
 
 -- ---- the operations at points are those that count as committed
 pub record AtNode (ss : List ClientSession) (o : Op) : Type 0 where
@@ -129,7 +120,7 @@ chosen_closed chosen ss points apart h = record { each = λ n need. subst (λ m.
     counted n need e =
         let read = at_points (settled chosen ss) learnt points h.once (Read need.key need.wid) need.reads in
         elim (met_by_write (flat_map (ops_at (settled chosen ss)) points) initial need.key need.wid h.reads read) [
-          | inl none ↦ absurd (apart.0 (subst (λ w. Has w (written (ops_in ss))) (sym none) (wrote (ops_in ss) need.key need.wid (dropped_write ss chosen need.key need.wid (as_dropped n need e)))))
+          | inl none ↦ absurd (apart.0 (subst (λ w. Has w (written (ops_in ss))) (sym none) (Has-written (ops_in ss) need.key need.wid (dropped_write ss chosen need.key need.wid (as_dropped n need e)))))
           | inr c ↦ point_ops (settled chosen ss) learnt points (Write need.key need.wid) c
         ]
 

@@ -1,25 +1,24 @@
 -- The nodes of the split log: two for each node of the log.
-use Rattle.std.proofs.Common.{◌≡◌, ◌≢◌, ℕ, zero, suc, ◌+◌, ◌*◌, ◌-◌, ◌<◌, ◌≤◌, false, List, [], ◌∷◌, ◌++◌, length, Option, Some, None, refl, sym, ap, ◌∙◌, subst, inl, inr, arith}
+use Rattle.std.proofs.Common.{◌≡◌, ℕ, zero, suc, ◌+◌, ◌*◌, ◌-◌, ◌<◌, ◌≤◌, false, List, [], ◌∷◌, ◌++◌, length, Option, Some, None, refl, sym, ap, ◌∙◌, subst, inl, inr, arith}
 use Rattle.std.specs.Prelude.{slice_get, option_and_then}
 use Rattle.std.specs.List.{flat_map, AllByRecursion, Contains}
 use Rattle.std.specs.Option.{option_map, option_map_or}
 use Rattle.std.proofs.lemmas.Bool.{cases_Bool}
 use Rattle.std.proofs.lemmas.List.Concat.{flat_map-append}
+use Rattle.list_lemmas.proofs.Elements.{contains_at}
 use Rattle.session_log.specs.Moments.{is_earlier}
 use Rattle.session_log.specs.Text.{ClientSession, Transaction}
 use Rattle.session_log.specs.declared.session.Op.{Op}
-use Rattle.session_log.specs.declared.session.Outcome.TheVariants.{Unknown}
 use Rattle.serializability.proofs.Places.{Has, Apart, each_of_flat_map, each_from_flat_map, each_from_map}
 use Rattle.log_definitions.specs.Unknown.{is_committed, txns_in, ops_in, resolved}
 use Rattle.log_definitions.specs.WellFormed.{written}
 use Rattle.log_definitions.specs.Serial.{Committed, committed_of, committed_in, node_in, node_of, session_of, ops_of, begun_of, ended_of}
 use Rattle.log_definitions.proofs.Members.{each_weaker, themselves}
-use Rattle.log_definitions.proofs.Settled.{learnt_resolved, txn_ops}
+use Rattle.log_definitions.proofs.Settled.{learnt_resolved, txn_ops, IsLearnt}
 use Rattle.log_definitions.proofs.Nodes.{kept_in, node_ops, no_ops, each_op}
 use Rattle.log_definitions.proofs.Identities.{WriteOnce, WriteOnce-filter, once_resolved, apart_at, one_writer}
 use Rattle.piece_laws.specs.Logs.{IsLearntLog}
 use Rattle.piece_laws.proofs.Sessions.{nodes_from, nodes_of}
-use Rattle.piece_laws.proofs.Orders.{contains_at}
 use Rattle.piece_laws.proofs.Identities.{ordered_node}
 use Rattle.level_laws.specs.Split.{Locks, start_ops, end_ops, split_txn, split}
 
@@ -56,8 +55,6 @@ split_nodes locks (s ∷ ss) =
     ∙ sym (flat_map-append (both_nodes locks) (committed_of s) (nodes_of ss))
 
 -- ---- outcomes stay known
-abbrev IsLearnt : Transaction → Type 0
-IsLearnt t = t.outcome ≢ Unknown
 
 pub split_learnt : (locks : Locks) (ss : List ClientSession) → IsLearntLog ss → IsLearntLog (split locks ss)
 split_learnt locks ss h =

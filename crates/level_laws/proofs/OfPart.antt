@@ -6,18 +6,17 @@ use Rattle.session_log.specs.Moments.{is_earlier}
 use Rattle.session_log.specs.Text.{ClientSession}
 use Rattle.session_log.specs.declared.session.Op.TheVariants.{Read, Write}
 use Rattle.serializability.specs.Replay.{ListsOnce}
-use Rattle.serializability.proofs.Places.{Has, Apart, Apart-from_IsDistinct, Has-append_cases}
+use Rattle.serializability.proofs.Places.{Has, Apart, Apart-from_IsDistinct, Has-append_cases, Apart-append}
 use Rattle.serializability.proofs.Listed.{once_apart}
 use Rattle.log_definitions.specs.Unknown.{ops_in, settled, committed_ops}
 use Rattle.log_definitions.specs.WellFormed.{written}
 use Rattle.log_definitions.specs.Serial.{committed_in, node_of, session_of, ops_of, begun_of, ended_of, Map, initial, Replays}
 use Rattle.log_definitions.proofs.Scanning.{written-append}
 use Rattle.log_definitions.proofs.Settled.{ops_settled}
+use Rattle.log_definitions.proofs.Chosen.{Has-written}
 use Rattle.piece_laws.specs.Logs.{IsSoundLog, IsLearntLog}
 use Rattle.piece_laws.proofs.Replay.{after, Replays-append}
-use Rattle.piece_laws.proofs.Left.{apart_from}
 use Rattle.piece_laws.proofs.Sessions.{nodes_of}
-use Rattle.piece_laws.proofs.Identities.{wrote}
 use Rattle.part_laws.specs.Parts.{IsPart}
 use Rattle.part_laws.proofs.Thinned.{IsSublist, was_in}
 use Rattle.part_laws.proofs.Replay.{KeepsSources, replays_less}
@@ -68,7 +67,7 @@ points_apart : (ss : List ClientSession) → Apart (written (ops_in ss)) → (po
 points_apart ss apart [] h = tt
 points_apart ss apart (x ∷ points) h =
     subst Apart (sym (written-append (ops_at ss x) (flat_map (ops_at ss) points)))
-    (apart_from (written (ops_at ss x)) (written (flat_map (ops_at ss) points)) (point_apart ss apart x) (points_apart ss apart points h.1) other)
+    (Apart-append (written (ops_at ss x)) (written (flat_map (ops_at ss) points)) (point_apart ss apart x) (points_apart ss apart points h.1) other)
   where
     other : (w : ℕ) → Has w (written (ops_at ss x)) → Has w (written (flat_map (ops_at ss) points)) → ⊥
     other w here later =
@@ -167,7 +166,7 @@ order_left xs ys k points o = record {
         let stays = k.sources key wid (of_number ys k.to v (Read key wid) c) (of_number xs k.from (number_at k.nodes v) (Write key wid) d) in
         let n = at_node ys k.to (Write key wid) stays in
         let b = is_node ys n.node (Write key wid) n.does in
-        let same = one_node xs k.writes (number_at k.nodes n.node) (number_at k.nodes v) wid (wrote (ops_of xs (number_at k.nodes n.node)) key wid (was_in (of n.node b.0 b.1).ops (Write key wid) n.does)) (wrote (ops_of xs (number_at k.nodes v)) key wid d) in
+        let same = one_node xs k.writes (number_at k.nodes n.node) (number_at k.nodes v) wid (Has-written (ops_of xs (number_at k.nodes n.node)) key wid (was_in (of n.node b.0 b.1).ops (Write key wid) n.does)) (Has-written (ops_of xs (number_at k.nodes v)) key wid d) in
         subst (λ u. Contains (ops_of ys u) (Write key wid)) (one n.node v b.0 b.1 lo hi same) n.does
 
     thinned_node : (v : ℕ) → 0 < v → v ≤ length (committed_in ys) → IsSublist (snapshot_reads (ops_of xs (number_at k.nodes v))) (snapshot_reads (ops_of ys v)) × IsSublist (rest (ops_of xs (number_at k.nodes v))) (rest (ops_of ys v))

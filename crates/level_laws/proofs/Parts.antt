@@ -5,13 +5,14 @@ use Rattle.std.specs.List.{list_any, AllByRecursion, Contains}
 use Rattle.std.specs.Str.{bytes_eq}
 use Rattle.std.proofs.lemmas.Bool.{cases_Bool, false≢true, or_parts, or_left}
 use Rattle.std.proofs.lemmas.Slice.Eq.{bytes_eq-Decides}
+use Rattle.list_lemmas.proofs.Elements.{behind}
 use Rattle.session_log.specs.declared.session.Op.{Op}
 use Rattle.session_log.specs.declared.session.Op.TheVariants.{Read, Write}
 use Rattle.log_definitions.specs.WellFormed.{written}
 use Rattle.log_definitions.specs.Serial.{Map, set, Replays}
 use Rattle.piece_laws.proofs.Lines.{EachPair}
 use Rattle.piece_laws.proofs.Replay.{after}
-use Rattle.piece_laws.proofs.Lists.{first_or_behind, behind}
+use Rattle.piece_laws.proofs.Lists.{first_or_behind}
 use Rattle.level_laws.specs.Snapshot.{snapshot_reads_behind, snapshot_reads, rest_behind, rest}
 use Rattle.level_laws.specs.Split.{first_writes_behind, first_writes}
 
@@ -128,7 +129,7 @@ pub each_first : (P : Op → Type 0) (ops : List Op) → AllByRecursion P ops �
 each_first P ops h = first_each P [] ops h
 
 -- ---- each key that is written stands once
-abbrev OtherKey : List ℕ × ℕ → List ℕ × ℕ → Type 0
+abbrev pub OtherKey : List ℕ × ℕ → List ℕ × ℕ → Type 0
 OtherKey a b = a.0 ≢ b.0
 
 first_lack : (before : List (List ℕ)) (ops : List Op) → AllByRecursion (λ (q : List ℕ × ℕ). Lacks before q.0) (first_writes_behind before ops)
@@ -167,9 +168,6 @@ pub record FirstWrite (ops : List Op) (key : List ℕ) : Type 0 where
 record FirstBehind (before : List (List ℕ)) (ops : List Op) (key : List ℕ) : Type 0 where
   pub wid : ℕ
   pub has : Contains (first_writes_behind before ops) (key, wid)
-
-any_listed : (keys : List (List ℕ)) (key k : List ℕ) → list_any (bytes_eq k) keys ≡ true → bytes_eq key k ≡ true → list_any (bytes_eq key) keys ≡ true
-any_listed keys key k h e = subst (λ l. list_any (bytes_eq l) keys ≡ true) (sym ((bytes_eq-Decides key k).0 e)) h
 
 first_has : (before : List (List ℕ)) (ops : List Op) (key : List ℕ) (wid : ℕ) → Lacks before key → Contains ops (Write key wid) → FirstBehind before ops key
 first_has before [] key wid lacks c = absurd (omega (arith, c.1))

@@ -1,5 +1,5 @@
 -- Each serial order of the log in which writers are split is, by the points of its nodes, a snapshot order.
-use Rattle.std.proofs.Common.{◌≡◌, ◌≢◌, ◌⊎◌, ℕ, zero, suc, ◌+◌, ◌*◌, ◌-◌, ◌<◌, ◌≤◌, true, false, List, [], ◌∷◌, ◌++◌, length, get_or, map, Option, Some, None, refl, sym, ap, ◌∙◌, subst, inl, inr, arith, append-nil}
+use Rattle.std.proofs.Common.{◌≡◌, ◌≢◌, ◌⊎◌, ℕ, zero, suc, ◌+◌, ◌*◌, ◌<◌, ◌≤◌, true, false, List, [], ◌∷◌, ◌++◌, length, get_or, map, Option, Some, None, refl, sym, ap, ◌∙◌, subst, inl, inr, arith, append-nil}
 use Rattle.std.specs.Prelude.{slice_get, option_and_then, unwrap_or}
 use Rattle.std.specs.List.{flat_map, list_any, AllByRecursion, Contains}
 use Rattle.std.specs.Option.{option_map, option_map_or}
@@ -7,29 +7,29 @@ use Rattle.std.proofs.lemmas.Bool.{cases_Bool, cases_eq, cases_order, false≢tr
 use Rattle.std.proofs.lemmas.List.{map-append}
 use Rattle.std.proofs.lemmas.List.Concat.{flat_map-append}
 use Rattle.std.proofs.lemmas.Option.{slice_get_within}
+use Rattle.list_lemmas.proofs.Elements.{contains_at, mapped}
 use Rattle.session_log.specs.Moments.{is_earlier}
 use Rattle.session_log.specs.Text.{ClientSession}
-use Rattle.session_log.specs.declared.session.Op.{Op}
-use Rattle.serializability.specs.Replay.{place_of, Before, ListsOnce}
-use Rattle.serializability.proofs.Places.{Has, Apart, Has-from_Contains, Contains-from_Has, Apart-from_IsDistinct, place_of-here, place_of-further}
+use Rattle.serializability.specs.Replay.{place_of, Before}
+use Rattle.serializability.proofs.Places.{Has, Apart, Has-from_Contains, Contains-from_Has, place_of-here, place_of-further}
 use Rattle.serializability.proofs.Listed.{Has_get, IsDistinct-from_Apart, once_apart}
 use Rattle.serializability.proofs.Serial.{behind_zero, node_of as listed}
-use Rattle.log_definitions.specs.Unknown.{txns_in, settled, taken, resolved}
-use Rattle.log_definitions.specs.Serial.{Committed, committed_of, committed_in, node_in, initial, Replays, IsSerialOrder}
+use Rattle.log_definitions.specs.Unknown.{settled, taken}
+use Rattle.log_definitions.specs.Serial.{Committed, committed_in, node_in, initial, Replays, IsSerialOrder}
 use Rattle.log_definitions.proofs.Members.{member, each_member}
 use Rattle.log_definitions.proofs.Renumbered.{Orders, session_at, ops_at, begun_at, ended_at}
 use Rattle.log_definitions.proofs.Settled.{ops_settled}
 use Rattle.log_definitions.proofs.Taken.{resolved_is}
 use Rattle.piece_laws.specs.Logs.{IsSoundLog, IsLearntLog}
 use Rattle.piece_laws.proofs.Lines.{EachPair}
-use Rattle.piece_laws.proofs.Lists.{first_or_behind, of_flat, in_flat, of_mapped, mapped}
-use Rattle.piece_laws.proofs.Orders.{pair_at, contains_at}
+use Rattle.piece_laws.proofs.Lists.{first_or_behind, of_flat, in_flat, of_mapped}
+use Rattle.piece_laws.proofs.Orders.{pair_at}
 use Rattle.piece_laws.proofs.Sessions.{nodes_of}
 use Rattle.piece_laws.proofs.Identities.{ordered_node}
-use Rattle.piece_laws.proofs.Shifted.{orders_from_serial, serial_from_orders}
 use Rattle.level_laws.specs.Snapshot.{Point, snapshot, commit, number, IsSnapshotOrder}
 use Rattle.level_laws.specs.Split.{Locks, AreFresh, split, split_writers}
 use Rattle.session_log.specs.Text.{is_write}
+use Rattle.log_definitions.proofs.OnlyTaken.{orders_from_serial, serial_from_orders}
 use Rattle.level_laws.specs.Points.{points_from, points_at, points_along, PointsOfWriters}
 use Rattle.level_laws.proofs.Merge.{Across, pairs_flat}
 use Rattle.level_laws.proofs.Nodes.{start_node, end_node, both_nodes, nodes_are, split_nodes, split_learnt, start_in, end_in, twice_as_many}

@@ -64,16 +64,16 @@ each_from_order P chosen ss order all =
     each_from_flat_map P (ops_at nodes) order (each_member (λ v. AllByRecursion P (ops_at nodes v)) order (λ v _. each v))
 
 -- ---- an identity that a node wrote, no other transaction wrote
-Has-written : (ops : List Op) (key : List ℕ) (wid : ℕ) → Contains ops (Write key wid) → Has wid (written ops)
+pub Has-written : (ops : List Op) (key : List ℕ) (wid : ℕ) → Contains ops (Write key wid) → Has wid (written ops)
 Has-written [] key wid c = absurd (omega (arith, c.1))
 Has-written (o ∷ ops) key wid (zero, lt, e) = subst (λ p. Has wid (written (p ∷ ops))) (sym e) (inl refl)
 Has-written (Read k w ∷ ops) key wid (suc i, lt, e) = Has-written ops key wid (i, omega (arith, lt), e)
 Has-written (Write k w ∷ ops) key wid (suc i, lt, e) = inr (Has-written ops key wid (i, omega (arith, lt), e))
 
-abbrev uncounted : (ℕ → Bool) → List ClientSession → List Transaction
+abbrev pub uncounted : (ℕ → Bool) → List ClientSession → List Transaction
 uncounted chosen ss = filter (λ t. not (is_committed t)) (txns_in (settled chosen ss))
 
-others_lack : (chosen : ℕ → Bool) (ss : List ClientSession) (key : List ℕ) (wid : ℕ) → Apart (written (ops_in ss)) → Contains (committed_ops (settled chosen ss)) (Write key wid) → AllByRecursion (Lacks wid) (uncounted chosen ss)
+pub others_lack : (chosen : ℕ → Bool) (ss : List ClientSession) (key : List ℕ) (wid : ℕ) → Apart (written (ops_in ss)) → Contains (committed_ops (settled chosen ss)) (Write key wid) → AllByRecursion (Lacks wid) (uncounted chosen ss)
 others_lack chosen ss key wid apart c =
     let P : Op → Type 0 = λ o. o ≡ Write key wid → AllByRecursion (Lacks wid) (uncounted chosen ss) in
     let ts = txns_in (settled chosen ss) in

@@ -16,7 +16,7 @@ use Rattle.log_definitions.specs.Numbers.{log_of, IsWellFormedList}
 use Rattle.log_definitions.proofs.Nodes.{committed_count}
 use Rattle.log_definitions.proofs.Scanning.{rules_where_no_fault}
 
-abbrev may_be_node : Transaction → Bool
+abbrev pub may_be_node : Transaction → Bool
 may_be_node t = not (is_aborted t)
 
 may_be : (b : Bool) (t : Transaction) → is_committed (settle b t) ≡ true → may_be_node t ≡ true

@@ -84,11 +84,11 @@ abbrev pub WriteOnce : List Transaction → Type 0
 WriteOnce [] = Unit {0}
 WriteOnce (t ∷ ts) = Apart (written t.ops) × ((w : ℕ) → Has w (written t.ops) → AllByRecursion (Lacks w) ts) × WriteOnce ts
 
-Apart_front : (a b : List ℕ) → Apart (a ++ b) → Apart a
+pub Apart_front : (a b : List ℕ) → Apart (a ++ b) → Apart a
 Apart_front [] b h = tt
 Apart_front (x ∷ a) b h = ((λ k. h.0 (Has-append_front x a b k)), Apart_front a b h.1)
 
-Apart_back : (a b : List ℕ) → Apart (a ++ b) → Apart b
+pub Apart_back : (a b : List ℕ) → Apart (a ++ b) → Apart b
 Apart_back [] b h = h
 Apart_back (x ∷ a) b h = Apart_back a b h.1
 

@@ -53,7 +53,7 @@ number_below (k ∷ keys) key h = go (bytes_eq key k) refl (number_below keys ke
     go true e ih h = rw e (omega arith)
     go false e ih h = let later = rw e at h in let below = ih later in rw e (omega arith)
 
-same_number : (keys : List (List ℕ)) (a b : List ℕ) → Listed keys a → number_in keys a ≡ number_in keys b → a ≡ b
+pub same_number : (keys : List (List ℕ)) (a b : List ℕ) → Listed keys a → number_in keys a ≡ number_in keys b → a ≡ b
 same_number [] a b h e = absurd (false≢true h)
 same_number (k ∷ keys) a b h e = go (bytes_eq a k) refl (bytes_eq b k) refl (same_number keys a b) h e
   where

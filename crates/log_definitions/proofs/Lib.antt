@@ -16,3 +16,4 @@ pub mod Numbered
 pub mod Room
 pub mod Accepted
 pub mod Refused
+pub mod Lines

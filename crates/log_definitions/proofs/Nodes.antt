@@ -1,7 +1,7 @@
 -- The operations of the nodes are those of the transactions that count as committed.
-use Rattle.std.proofs.Common.{◌≡◌, ℕ, zero, suc, ◌+◌, Bool, List, [], ◌∷◌, ◌++◌, length, Option, Some, None, refl, sym, ap, ◌∙◌, subst, inl, inr}
+use Rattle.std.proofs.Common.{◌≡◌, ℕ, zero, suc, ◌+◌, Bool, List, [], ◌∷◌, ◌++◌, length, Option, Some, None, refl, sym, ap, ◌∙◌, subst, inl, inr, ◌<◌, ◌≤◌}
 use Rattle.std.specs.Prelude.{map, slice_get}
-use Rattle.std.specs.List.{filter, flat_map, enumerate_from, AllByRecursion}
+use Rattle.std.specs.List.{filter, flat_map, enumerate_from, AllByRecursion, All}
 use Rattle.std.specs.Option.{option_map, option_map_or}
 use Rattle.std.proofs.lemmas.Bool.{cases_Bool}
 use Rattle.std.proofs.lemmas.List.{map-append}
@@ -11,7 +11,9 @@ use Rattle.session_log.specs.Text.{ClientSession, Transaction}
 use Rattle.session_log.specs.declared.session.Op.{Op}
 use Rattle.serializability.proofs.Places.{length_mapped, each_of_flat_map}
 use Rattle.log_definitions.specs.Unknown.{txns_in, ops_in, is_committed, resolved}
-use Rattle.log_definitions.specs.Serial.{Committed, committed_of, committed_in, node_of, ops_of}
+use Rattle.log_definitions.specs.Serial.{Committed, committed_of, committed_in, node_of, ops_of, IsSerialOrder}
+use Rattle.log_definitions.specs.Numbers.{log_of}
+use Rattle.log_definitions.specs.WellFormed.{keys_in}
 use Rattle.log_definitions.proofs.Settled.{txn_ops, ops_resolved}
 
 -- the transactions that count as committed
@@ -82,3 +84,15 @@ each_op P ss h (suc i) =
     let all = subst (AllByRecursion P) (sym (ops_resolved ss)) h in
     let kept = each_kept Q is_committed (txns_in (resolved ss)) (each_of_flat_map P txn_ops (txns_in (resolved ss)) all) in
     subst (AllByRecursion P) (sym (node_ops ss i)) (each_op_at P txn_ops (slice_get (kept_in ss) i) (λ t e. each_at Q (kept_in ss) i t kept e))
+
+pub nodes_of_serial : (ss : List ClientSession) (order : List ℕ) → IsSerialOrder ss order → All (λ v. (0 < v) × (v ≤ (log_of ss).nodes)) order
+unfolding log_of
+nodes_of_serial ss order s = s.once.only
+
+pub log_keys : (ss : List ClientSession) → (log_of ss).keys ≡ length (keys_in ss)
+unfolding log_of
+log_keys ss = refl
+
+pub log_nodes : (ss : List ClientSession) → (log_of ss).nodes ≡ length (committed_in ss)
+unfolding log_of
+log_nodes ss = refl

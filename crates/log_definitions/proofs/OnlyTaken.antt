@@ -110,7 +110,7 @@ reads_kept ss those closed (Read key wid) c = λ d.
 reads_kept ss those closed (Write key wid) c = tt
 
 -- only an unknown transaction counts as committed in the one way and not in the other
-counts_once : (a b : Bool) (o : Outcome) → is_commit (settled_as a o) ≡ true → is_commit (settled_as b o) ≡ false → (o ≡ Unknown) × (b ≡ false)
+pub counts_once : (a b : Bool) (o : Outcome) → is_commit (settled_as a o) ≡ true → is_commit (settled_as b o) ≡ false → (o ≡ Unknown) × (b ≡ false)
 counts_once a b Commit e f = absurd (false≢true (sym f))
 counts_once a b Abort e f = absurd (false≢true e)
 counts_once a true Unknown e f = absurd (false≢true (sym f))
@@ -136,7 +136,7 @@ txn_fact these those ss closed s at_s t at_t e = elim (cases_Bool (is_committed 
     writes h (Read key wid) c = tt
     writes h (Write key wid) c = record { session = s; txn = t; is_session = at_s; is_txn = at_t; outcome = h.0; writes = c; absent = h.1 }
 
-abbrev MarkFact : (List ℕ → ℕ → Type 0) → Marked → Type 0
+abbrev pub MarkFact : (List ℕ → ℕ → Type 0) → Marked → Type 0
 MarkFact D (kept, node) = OpsFact D kept node.ops
 
 marks_facts : (D : List ℕ → ℕ → Type 0) (number : ℕ) (a b : Bool) (n : ℕ) (ts : List Transaction) → AllByRecursion (TxnFact D a b) ts → AllByRecursion (MarkFact D) (marks number a b n ts)
@@ -154,7 +154,7 @@ marked_facts these those ss closed =
     (each_member (TxnFact D (these s.number) (those s.number)) s.txns (txn_fact these those ss closed s at_s))))
 
 -- of a node by its number
-node_fact : (D : List ℕ → ℕ → Type 0) (ms : List Marked) → AllByRecursion (MarkFact D) ms → (v : ℕ) → OpsFact D (keeps ms v) (ops_at (all_nodes ms) v)
+pub node_fact : (D : List ℕ → ℕ → Type 0) (ms : List Marked) → AllByRecursion (MarkFact D) ms → (v : ℕ) → OpsFact D (keeps ms v) (ops_at (all_nodes ms) v)
 node_fact D ms h zero = tt
 node_fact D ms h (suc i) = at ms h i
   where
@@ -171,11 +171,11 @@ fewer_chosen these those ss order closed h orders =
     let reads = replays_kept (Dropped ss those) (ops_at (all_nodes ms)) (keeps ms) order (node_fact (Dropped ss those) ms (marked_facts these those ss closed)) all.reads in
     subst (λ nodes. Orders nodes (renumbered ms order)) (kept_marked these those ss h) (orders_kept ms order all reads)
 
-orders_from_serial : (ss : List ClientSession) (order : List ℕ) → IsSerialOrder ss order → Orders (committed_in ss) order
+pub orders_from_serial : (ss : List ClientSession) (order : List ℕ) → IsSerialOrder ss order → Orders (committed_in ss) order
 unfolding node_of
 orders_from_serial ss order h = record { once = h.once; sessions = h.sessions; moments = h.moments; reads = h.reads }
 
-serial_from_orders : (ss : List ClientSession) (order : List ℕ) → Orders (committed_in ss) order → IsSerialOrder ss order
+pub serial_from_orders : (ss : List ClientSession) (order : List ℕ) → Orders (committed_in ss) order → IsSerialOrder ss order
 unfolding node_of
 serial_from_orders ss order h = record { once = h.once; sessions = h.sessions; moments = h.moments; reads = h.reads }
 
@@ -184,7 +184,7 @@ nodes_are : (ss : List ClientSession) → committed_in ss ≡ nodes_where (taken
 unfolding committed_in
 nodes_are ss = ap (flat_map committed_of) (resolved_is ss)
 
-settled_nodes : (chosen : ℕ → Bool) (ss : List ClientSession) → committed_in (settled chosen ss) ≡ nodes_where chosen ss
+pub settled_nodes : (chosen : ℕ → Bool) (ss : List ClientSession) → committed_in (settled chosen ss) ≡ nodes_where chosen ss
 unfolding committed_in
 settled_nodes chosen ss = ap (flat_map committed_of) (settled_resolved chosen ss)
 

@@ -25,7 +25,7 @@ agrees_set : (keys : List (List ℕ)) (m : Map) (s : Store) (key : List ℕ) (wi
 agrees_set keys m s key wid listed h k q =
     ap (λ b. cond b wid (s (number_in keys k))) (numbers_differ keys key k listed) ∙ ap (λ v. cond (bytes_eq key k) wid v) (h k q)
 
-abbrev AllListed : List (List ℕ) → List Op → Type 0
+abbrev pub AllListed : List (List ℕ) → List Op → Type 0
 AllListed keys ops = AllByRecursion (λ o. Listed keys (key_of o)) ops
 
 meets_numbered : (keys : List (List ℕ)) (m : Map) (s : Store) (ops : List Op) → Agrees keys m s → AllListed keys ops → Replays m ops → Meets s (events_of keys ops)

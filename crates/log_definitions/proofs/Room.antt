@@ -13,7 +13,7 @@ use Rattle.session_log.specs.declared.version.Version.{Version}
 use Rattle.session_log.proofs.Whole.{log_by_lines}
 use Rattle.log_definitions.specs.WellFormed.{log_lines}
 
-lines_bytes : (fs : List Line) → length fs ≤ length (text_of_lines fs)
+pub lines_bytes : (fs : List Line) → length fs ≤ length (text_of_lines fs)
 lines_bytes [] = omega arith
 lines_bytes (f ∷ fs) =
     let ih = lines_bytes fs in

@@ -18,7 +18,7 @@ use Rattle.log_definitions.specs.WellFormed.{log_lines, sessions_from, writes_fr
 use Rattle.log_definitions.proofs.Settled.{txn_ops}
 
 -- ---- numbers of which none stood before
-abbrev numbers : List (ℕ × ℕ) → List ℕ
+abbrev pub numbers : List (ℕ × ℕ) → List ℕ
 numbers xs = map (λ x. x.1) xs
 
 abbrev AllUnseen : List ℕ → List ℕ → Type 0
@@ -149,7 +149,7 @@ written_numbers : (n : ℕ) (ss : List ClientSession) → numbers (writes_from n
 written_numbers n ss = wrote n (log_lines ss) ∙ wrote_log ss
 
 -- ---- phase by phase
-neither : (a b : Option LogFault) → option_or a b ≡ None → (a ≡ None) × (b ≡ None)
+pub neither : (a b : Option LogFault) → option_or a b ≡ None → (a ≡ None) × (b ≡ None)
 neither None b e = (refl, e)
 neither (Some f) b e = cc
 

@@ -51,7 +51,7 @@ unfolding resolved
 ops_resolved ss = ops_settled (taken ss) ss
 
 -- ---- outcomes that were learnt
-abbrev IsLearnt : Transaction → Type 0
+abbrev pub IsLearnt : Transaction → Type 0
 IsLearnt t = t.outcome ≢ Unknown
 
 outcome_stays : (b : Bool) (o : Outcome) → o ≢ Unknown → settled_as b o ≡ o
@@ -71,7 +71,7 @@ learnt_stay chosen (s ∷ ss) h =
     let parts = each_of_append IsLearnt s.txns (txns_in ss) h in
     ap (λ ts. record { number = s.number; txns = ts } ∷ settled chosen ss) (txns_stay (chosen s.number) s.txns parts.0) ∙ ap (λ l. s ∷ l) (learnt_stay chosen ss parts.1)
 
-outcome_learnt : (b : Bool) (o : Outcome) → settled_as b o ≢ Unknown
+pub outcome_learnt : (b : Bool) (o : Outcome) → settled_as b o ≢ Unknown
 outcome_learnt b Commit e = cc
 outcome_learnt b Abort e = cc
 outcome_learnt true Unknown e = cc

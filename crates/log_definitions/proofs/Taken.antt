@@ -7,6 +7,7 @@ use Rattle.std.proofs.lemmas.Bool.{false≢true, or_cases, or_left, or_right, an
 use Rattle.std.proofs.lemmas.List.Folds.{Any-from_list_any}
 use Rattle.std.proofs.lemmas.List.Sums.{count_by-le-length, length-filter}
 use Rattle.std.proofs.lemmas.Slice.Eq.{bytes_eq-Decides}
+use Rattle.list_lemmas.proofs.Bools.{same_bool}
 use Rattle.session_log.specs.Text.{ClientSession, Transaction, is_unknown as is_unknown_outcome}
 use Rattle.session_log.specs.declared.session.Op.{Op}
 use Rattle.session_log.specs.declared.session.Op.TheVariants.{Read, Write}
@@ -164,16 +165,11 @@ same_or_fewer p q h (x ∷ xs) = go (p x) refl (q x) refl (h x) (same_or_fewer p
     go false e false f k (inl same) = rw (e, f) (inl (((λ t. t), same.0), ap suc same.1))
     go false e false f k (inr less) = rw (e, f) (inr (omega (arith, less)))
 
-same_test : (a b : Bool) → (a ≡ true → b ≡ true) → (b ≡ true → a ≡ true) → a ≡ b
-same_test true b h k = sym (h refl)
-same_test false true h k = k refl
-same_test false false h k = refl
-
 abbrev Stays : List ClientSession → (ℕ → Bool) → Type 0
 Stays ss chosen = taking ss chosen ≡ chosen
 
 stays_where_same : (ss : List ClientSession) (chosen : ℕ → Bool) → AllByRecursion (λ s. taking ss chosen s.number ≡ true → chosen s.number ≡ true) ss → Stays ss chosen
-stays_where_same ss chosen h = fun_ext (λ n. same_test (taking ss chosen n) (chosen n) (kept n) (or_left (chosen n) (needs ss chosen n)))
+stays_where_same ss chosen h = fun_ext (λ n. same_bool (taking ss chosen n) (chosen n) (kept n) (or_left (chosen n) (needs ss chosen n)))
   where
     kept : (n : ℕ) → taking ss chosen n ≡ true → chosen n ≡ true
     kept n e = elim (taking_is ss chosen n e) [
@@ -222,4 +218,4 @@ needed_taken ss chosen n h need = (taken_closed ss).each n (needed_more ss chose
 
 pub all_taken : (ss : List ClientSession) (chosen : ℕ → Bool) → IsWithin chosen (taken ss) → IsClosed ss chosen → settled chosen ss ≡ resolved ss
 all_taken ss chosen h closed =
-    ap (λ f. settled f ss) (fun_ext (λ n. same_test (chosen n) (taken ss n) (h n) (taken_least ss chosen closed n))) ∙ sym (resolved_is ss)
+    ap (λ f. settled f ss) (fun_ext (λ n. same_bool (chosen n) (taken ss n) (h n) (taken_least ss chosen closed n))) ∙ sym (resolved_is ss)

@@ -54,10 +54,10 @@ committed_at number p = record { session = number; place = p.0; ops = p.1.ops; b
 abbrev kept_from : Bool → ℕ → ℕ → List Transaction → List Committed
 kept_from is_taken number place ts = map (committed_at number) (filter (λ p. is_committed p.1) (enumerate_from place (map (settle is_taken) ts)))
 
-abbrev counts : List TxnRow → List ℕ
+abbrev pub counts : List TxnRow → List ℕ
 counts rows = map (λ row. length row.ops) rows
 
-abbrev counts_in : List Transaction → List ℕ
+abbrev pub counts_in : List Transaction → List ℕ
 counts_in ts = map (λ t. length t.ops) ts
 
 module _ (ss : List ClientSession) (table : Table) where

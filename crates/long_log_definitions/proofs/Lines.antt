@@ -9,18 +9,11 @@ use Rattle.session_log.specs.declared.session.Op.{Op}
 use Rattle.session_log.specs.declared.session.Outcome.{Outcome}
 use Rattle.log_definitions.specs.Unknown.{txns_in, ops_in}
 use Rattle.log_definitions.specs.WellFormed.{log_lines, sessions_from, writes_from, written}
-use Rattle.log_definitions.proofs.Scanning.{written-append}
+use Rattle.log_definitions.proofs.Scanning.{written-append, numbers}
 use Rattle.log_definitions.proofs.Settled.{txn_ops}
-use Rattle.long_log_definitions.proofs.Repeats.{numbers}
+use Rattle.log_definitions.proofs.Lines.{sessions_from-append, writes_from-append}
 
 -- ---- of lines, and of lines behind them
-pub sessions_from-append : (n : ℕ) (a b : List Line) → sessions_from n (a ++ b) ≡ sessions_from n a ++ sessions_from (n + length a) b
-sessions_from-append n [] b = grind arith
-sessions_from-append n (l ∷ a) b = grind (arith, sessions_from-append (n + 1) a b)
-
-pub writes_from-append : (n : ℕ) (a b : List Line) → writes_from n (a ++ b) ≡ writes_from n a ++ writes_from (n + length a) b
-writes_from-append n [] b = grind arith
-writes_from-append n (l ∷ a) b = grind (arith, writes_from-append (n + 1) a b)
 
 -- ---- their numbers, by the sessions
 joined_sessions : (n : ℕ) (a b : List Line) (xs ys : List ℕ) → ((m : ℕ) → numbers (sessions_from m a) ≡ xs) → ((m : ℕ) → numbers (sessions_from m b) ≡ ys) → numbers (sessions_from n (a ++ b)) ≡ xs ++ ys

@@ -1,14 +1,11 @@
 -- The first number of a list that stood before.
-use Rattle.std.proofs.Common.{◌≡◌, ◌⊎◌, inl, inr, ℕ, Bool, true, false, cond, List, [], ◌∷◌, ◌++◌, map, Some, None, refl, sym, ap, ◌∙◌, nat_eq}
+use Rattle.std.proofs.Common.{◌≡◌, ◌⊎◌, inl, inr, ℕ, Bool, true, false, cond, List, [], ◌∷◌, ◌++◌, Some, None, refl, sym, ap, ◌∙◌, nat_eq}
 use Rattle.std.specs.List.{list_any}
 use Rattle.std.proofs.lemmas.Bool.{cond-false, false≢true}
 use Rattle.serializability.proofs.Places.{Has, Apart, Has-append_front, Has-append_back, Has-append_cases}
 use Rattle.serializability.proofs.Listed.{Has-from_any, any-from_Has}
 use Rattle.log_definitions.specs.WellFormed.{repeated}
-
--- the numbers without their lines
-abbrev pub numbers : List (ℕ × ℕ) → List ℕ
-numbers xs = map (λ x. x.1) xs
+use Rattle.log_definitions.proofs.Scanning.{numbers}
 
 -- none of them is among those that were seen
 abbrev pub AreNew : List ℕ → List (ℕ × ℕ) → Type 0

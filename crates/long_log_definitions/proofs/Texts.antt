@@ -1,11 +1,10 @@
 -- What holds of a text that is a long log, and of one that is none.
-use Rattle.std.proofs.Common.{◌≡◌, ◌≢◌, ℕ, ◌≤◌, ◌^◌, List, [], ◌∷◌, ◌++◌, length, Some, None, sym, ap, ◌∙◌, subst, arith, length-append, nat_eq}
+use Rattle.std.proofs.Common.{◌≡◌, ◌≢◌, ℕ, ◌≤◌, ◌^◌, List, [], length, Some, None, sym, ap, ◌∙◌, subst, arith, length-append, nat_eq}
 use Rattle.std.specs.List.{IsDistinct, AllByRecursion}
 use Rattle.std.specs.Option.{option_or}
-use Rattle.session_log.specs.Text.{ClientSession, IsLegal, line_text, text_of_lines, log_text}
+use Rattle.session_log.specs.Text.{ClientSession, IsLegal, text_of_lines, log_text}
 use Rattle.session_log.specs.Version.{header_text, first_line, version_of}
 use Rattle.session_log.specs.Blocks as short
-use Rattle.session_log.specs.declared.line.Line.{Line}
 use Rattle.session_log.specs.declared.fault.Limit.{Limit}
 use Rattle.session_log.specs.declared.fault.LogFault.{LogFault}
 use Rattle.session_log.specs.declared.fault.LogFault.TheVariants.{OverLimit}
@@ -13,13 +12,15 @@ use Rattle.session_log.specs.declared.version.Version.{Version}
 use Rattle.session_log.proofs.Whole.{log_by_lines}
 use Rattle.serializability.proofs.Places.{Apart-from_IsDistinct}
 use Rattle.serializability.proofs.Listed.{IsDistinct-from_Apart}
-use Rattle.log_definitions.specs.WellFormed.{log_lines, session_twice, write_twice, session_fault, write_fault, limit_fault, sessions_from, writes_from, written}
+use Rattle.log_definitions.specs.WellFormed.{log_lines, session_twice, write_twice, session_fault, write_fault, limit_fault, sessions_from, writes_from}
 use Rattle.log_definitions.specs.WellFormed as judged
 use Rattle.log_definitions.proofs.Refused.{NotMemory}
+use Rattle.log_definitions.proofs.Room.{lines_bytes}
+use Rattle.log_definitions.proofs.Scanning.{numbers}
 use Rattle.piece_laws.specs.Logs.{IsSoundLog}
 use Rattle.piece_laws.proofs.Sound.{sound_where_legal}
 use Rattle.long_log_definitions.specs.LongLog.{size_fault, list_fault, IsLongLog, IsLongLogFault, memory, size, grammar, list, HasOwnNumbers}
-use Rattle.long_log_definitions.proofs.Repeats.{numbers, apart_where_none, none_where_apart}
+use Rattle.long_log_definitions.proofs.Repeats.{apart_where_none, none_where_apart}
 use Rattle.long_log_definitions.proofs.Lines.{session_numbers, written_identities}
 
 -- ---- no definition answers memory
@@ -98,13 +99,6 @@ fault_of_long text _ (judged.list f ss s legal held lines e) apart =
     list f ss (size_where_small text s) legal held lines (without_limit (first_line (version_of text)) ss f apart e)
 
 -- ---- there are no more lines than bytes
-lines_bytes : (fs : List Line) → length fs ≤ length (text_of_lines fs)
-lines_bytes [] = omega arith
-lines_bytes (f ∷ fs) =
-    let ih = lines_bytes fs in
-    let a = length-append (line_text f ++ 10 ∷ []) (text_of_lines fs) in
-    let b = length-append (line_text f) (10 ∷ []) in
-    omega (arith, ih, a, b)
 
 pub bytes_within : (text : List ℕ) → size_fault text ≡ None → length text ≤ 2 ^ 30
 unfolding size_fault
@@ -116,3 +110,6 @@ lines_within v text ss s e =
     let fewer = lines_bytes (log_lines ss) in
     let same = ap length (e ∙ log_by_lines v ss) ∙ length-append (header_text v) (text_of_lines (log_lines ss)) in
     omega (arith, bytes, fewer, same)
+
+pub own_numbers : (log : List ℕ) (ss : List ClientSession) → IsLongLog log ss → HasOwnNumbers ss
+own_numbers log ss long = numbers_where_no_fault (first_line (version_of log)) ss long.sessions

@@ -9,12 +9,12 @@ use Rattle.session_log.specs.declared.fault.LogFault.TheVariants.{Memory, Sessio
 use Rattle.session_log.proofs.Together.{fault_by_blocks, joined}
 use Rattle.session_log.proofs.Steps.{same_fault}
 use Rattle.std.specs.Option.{option_or}
+use Rattle.session_log.proofs.FaultsOf.{either_fault}
 use Rattle.log_definitions.specs.WellFormed.{log_lines, session_twice, write_twice, session_fault, write_fault}
 use Rattle.long_log_definitions.specs.LongLog.{size_fault, list_fault, IsLongLog, IsLongLogFault, memory, size, grammar, list}
 use Rattle.long_reading.specs.Reading.{AreRead, fault_of_blocks}
 use Rattle.long_reading.specs.declared.repeats.Stated.{Stated}
 use Rattle.long_reading.specs.Statements.{by_line, AscendFrom}
-use Rattle.long_reading.proofs.Read.{either_fault}
 use Rattle.long_reading.proofs.Stating.{from_none}
 
 pub text_is : (log : List ℕ) (ss : List ClientSession) → AreRead log (blocks_of log) ss → log ≡ log_text (version_of log) ss

@@ -6,6 +6,7 @@ use denote.Ref.{Bor}
 use Rattle.std.proofs.lemmas.List.{append-nil, map-append, length-map, take_more, drop_more, take-append-drop}
 use Rattle.std.proofs.lemmas.List.Concat.{flat_map-append}
 use Rattle.std.proofs.lemmas.Option.{slice_get_within, get_or_from_slice_get}
+use Rattle.list_lemmas.proofs.Elements.{some_at}
 use Rattle.session_log.specs.Text.{ClientSession, view, IsLegal, IsHeldBy, session_text}
 use Rattle.session_log.specs.Version.{version_of}
 use Rattle.session_log.specs.Faults.{IsFault}
@@ -15,6 +16,7 @@ use Rattle.session_log.specs.declared.session.Session.{Session}
 use Rattle.session_log.specs.declared.fault.LogFault.{LogFault}
 use Rattle.session_log.specs.declared.fault.LogFault.TheVariants as faults
 use Rattle.session_log.proofs.Steps.{same_fault}
+use Rattle.session_log.proofs.FaultsOf.{fault_as}
 use Rattle.log_definitions.proofs.Members.{themselves}
 use Rattle.long_reading.specs.Reading.{AreRead, fault_of_blocks}
 
@@ -46,14 +48,6 @@ first_of-front (None ∷ xs) ys f h = first_of-front xs ys f h
 first_of-front (Some g ∷ xs) ys f h = h
 
 -- ---- what a fault says
-pub either_fault : (P : Type 0) (f : LogFault) (o : Option LogFault) → (f ≡ faults.Memory → P) → (o ≡ Some f → P) → IsFault f o → P
-either_fault v0 v1 o m h k = grind arith
-
-pub this_fault : (f : LogFault) (o : Option LogFault) → o ≡ Some f → IsFault f o
-this_fault v0 o h = grind arith
-
-pub fault_as : (f : LogFault) (o whole : Option LogFault) → (o ≡ Some f → whole ≡ Some f) → IsFault f o → IsFault f whole
-fault_as f o whole to h = either_fault (IsFault f whole) f o (λ m. subst (λ g. IsFault g whole) (sym m) tt) (λ e. this_fault f whole (to e)) h
 
 -- ---- of the blocks of a log
 faults_joined : (log : List ℕ) (a b : List Block) → fault_of_blocks log (a ++ b) ≡ first_of (map (block_fault log) a ++ map (block_fault log) b)
@@ -66,9 +60,6 @@ fault_in_front log a b f = fault_as f (fault_of_blocks log a) (fault_of_blocks l
 -- one that is met behind
 fault_behind : (log : List ℕ) (a b : List Block) (f : LogFault) → fault_of_blocks log a ≡ None → IsFault f (fault_of_blocks log b) → IsFault f (fault_of_blocks log (a ++ b))
 fault_behind log a b f none = fault_as f (fault_of_blocks log b) (fault_of_blocks log (a ++ b)) (λ e. faults_joined log a b ∙ (first_of-append (map (block_fault log) a) (map (block_fault log) b) none ∙ e))
-
-pub none_read : (log : List ℕ) → AreRead log [] []
-none_read log = record { legal = tt; held = tt; texts = refl; faultless = refl }
 
 pub read_joined : (log : List ℕ) (a b : List Block) (xs ys : List ClientSession) → AreRead log a xs → AreRead log b ys → AreRead log (a ++ b) (xs ++ ys)
 read_joined log a b xs ys front back = record {
@@ -106,11 +97,6 @@ one_refused log blocks i d ss f h front fault =
     subst (λ bs. IsFault f (fault_of_blocks log bs)) whole
     (fault_behind log (take i blocks) (b ∷ drop (i + 1) blocks) f front.faultless
     (fault_in_front log (b ∷ []) (drop (i + 1) blocks) f (same_fault f (fault_of_blocks log (b ∷ [])) (block_fault log b) (alone (block_fault log b)) fault)))
-
-pub at_place : {X : Type 0} (P : X → Type 0) (xs : List X) (i : ℕ) (d : X) → AllByRecursion P xs → i < length xs → P (get_or xs i d)
-at_place P [] i d h lt = absurd (omega arith)
-at_place P (x ∷ xs) zero d h lt = h.0
-at_place P (x ∷ xs) (suc i) d h lt = at_place P xs i d h.1 (omega arith)
 
 -- ---- one part more
 abbrev pub whole_of : List (List Block) → List Block
@@ -151,11 +137,6 @@ blocks_count parts = length-map parts (λ (part : Bor (List Block)). part.now)
 
 pub whole_is : (parts : List (Bor (List Block))) → whole_of (blocks_in parts) ≡ flat_map (λ part. part.now) parts
 whole_is parts = sym (flat_map-map (λ (part : List Block). part) (λ (part : Bor (List Block)). part.now) parts)
-
-pub some_at : {X : Type 0} (xs : List X) (i : ℕ) → i < length xs → (x : X) × (slice_get xs i ≡ Some x)
-some_at [] i h = absurd (omega arith)
-some_at (x ∷ xs) zero h = (x, refl)
-some_at (x ∷ xs) (suc i) h = some_at xs i (omega arith)
 
 pub part_is : (parts : List (Bor (List Block))) (i : ℕ) (d : Bor (List Block)) (blocks : List Block) → slice_get (blocks_in parts) i ≡ Some blocks → (get_or parts i d).now ≡ blocks
 part_is [] i d blocks e = cc

@@ -12,16 +12,14 @@ use Rattle.std.proofs.lemmas.List.Sorted.{sorted_far, ranks_by, Contains-permuta
 use Rattle.std.proofs.lemmas.List.Sums.{sum_by-cons}
 use Rattle.serializability.proofs.Places.{Has, Apart}
 use Rattle.log_definitions.specs.WellFormed.{repeated}
-use Rattle.long_log_definitions.proofs.Repeats.{numbers, apart_where_none, first_where_some, IsFirstRepeated}
+use Rattle.log_definitions.proofs.Scanning.{numbers}
+use Rattle.long_log_definitions.proofs.Repeats.{apart_where_none, first_where_some, IsFirstRepeated}
 use Rattle.long_reading.specs.declared.repeats.Stated.{Stated}
 use Rattle.long_reading.specs.Statements.{by_line, AscendFrom}
 
 -- the order of the numbers, and of the lines among equal ones
 abbrev pub compared : Stated → Stated → Ordering
 compared x y = ordering_then (nat_cmp x.number y.number) (nat_cmp x.line y.line)
-
-none : Stated
-none = record { number = 0; line = 0 }
 
 abbrev number_at : List Stated → ℕ → ℕ
 number_at ys k = (get_or ys k (record { number = 0; line = 0 })).number

@@ -2,7 +2,7 @@
 use Rattle.std.proofs.Common.{◌≡◌, ℕ, ◌+◌, ◌<◌, ◌≤◌, List, [], ◌∷◌, ◌++◌, length, map, take, drop, get_or, Option, refl, sym, ap, ◌∙◌, subst, arith, append_assoc, length-append}
 use Rattle.std.specs.List.{flat_map}
 use Rattle.std.proofs.lemmas.List.{append-nil, map-append, take_more, take_all, take-append-drop}
-use Rattle.std.proofs.lemmas.List.Concat.{flat_map-append}
+use Rattle.std.proofs.lemmas.List.Concat.{flat_map-append, flat_map_single}
 use Rattle.session_log.specs.Text.{view, view_txn, op_line, end_line, txn_lines, session_lines}
 use Rattle.session_log.specs.declared.line.Line.{Line}
 use Rattle.session_log.specs.declared.line.Line.TheVariants as line
@@ -11,7 +11,7 @@ use Rattle.session_log.specs.declared.session.Outcome.{Outcome}
 use Rattle.session_log.specs.declared.session.Txn.{Txn}
 use Rattle.session_log.specs.declared.session.Session.{Session}
 use Rattle.log_definitions.specs.WellFormed.{log_lines, sessions_from, writes_from}
-use Rattle.long_log_definitions.proofs.Lines.{sessions_from-append, writes_from-append}
+use Rattle.log_definitions.proofs.Lines.{sessions_from-append, writes_from-append}
 use Rattle.long_reading.specs.declared.repeats.Stated.{Stated}
 use Rattle.long_reading.specs.declared.stated.Statements.{Statements}
 use Rattle.long_reading.specs.Statements.{by_line, AscendFrom, Takes}
@@ -21,8 +21,6 @@ pub by_line-push : (stated now : List Stated) (s : Stated) → now ≡ stated ++
 by_line-push stated now s e = ap by_line e ∙ map-append (λ (s : Stated). (s.line, s.number)) stated (s ∷ [])
 
 -- ---- steps
-pub takes_none : (s : Statements) → Takes s s []
-takes_none s = record { line = omega arith; sessions = sym (append-nil (by_line s.sessions.items)); writes = sym (append-nil (by_line s.writes.items)) }
 
 pub takes_more : (a b c : Statements) (xs ys : List Line) → Takes a b xs → Takes b c ys → Takes a c (xs ++ ys)
 takes_more a b c xs ys h k =
@@ -91,12 +89,9 @@ writes_ascend n [] = grind (arith, one_less)
 writes_ascend n (x ∷ ls) = grind (arith, one_less, writes_ascend (n + 1) ls)
 
 -- ---- all of several
-singles : {X Z : Type 0} (f : X → Z) (xs : List X) → flat_map (λ x. f x ∷ []) xs ≡ map f xs
-singles f [] = refl
-singles f (x ∷ xs) = ap (λ l. f x ∷ l) (singles f xs)
 
 pub txn_length : (t : Txn) → length (txn_lines (view_txn t)) ≡ length (flat_map (λ (op : Op). op_line op ∷ []) t.ops.items) + 2
-txn_length t = grind (arith, length-append, singles)
+txn_length t = grind (arith, length-append, flat_map_single)
 
 pub session_length : (s : Session) → length (session_lines (view s)) ≡ length (flat_map (λ (t : Txn). txn_lines (view_txn t)) s.txns.items) + 1
 session_length s = let same = ap length (flat_map-map txn_lines view_txn s.txns.items) in omega (arith, same)
@@ -107,7 +102,7 @@ log_length ss = sym (ap length (flat_map-map session_lines view ss))
 pub takes_txn : (a b c d : Statements) (t : Txn) (i : ℕ) → b.line ≡ a.line + 1 → b.sessions ≡ a.sessions → b.writes ≡ a.writes → length t.ops.items ≤ i → Takes b c (flat_map (λ (op : Op). op_line op ∷ []) (take i t.ops.items))
     → d.line ≡ c.line + 1 → d.sessions ≡ c.sessions → d.writes ≡ c.writes → Takes a d (txn_lines (view_txn t))
 takes_txn a b c d t i l s w all inside m u x =
-    let ops : Takes b c (map op_line t.ops.items) = subst (Takes b c) (ap (flat_map (λ (op : Op). op_line op ∷ [])) (take_all i t.ops.items all) ∙ singles op_line t.ops.items) inside in
+    let ops : Takes b c (map op_line t.ops.items) = subst (Takes b c) (ap (flat_map (λ (op : Op). op_line op ∷ [])) (take_all i t.ops.items all) ∙ flat_map_single op_line t.ops.items) inside in
     takes_more a c d (line.Begin t.begun ∷ map op_line t.ops.items) (end_line t.outcome t.ended ∷ [])
     (takes_more a b c (line.Begin t.begun ∷ []) (map op_line t.ops.items) (takes_begin a b t.begun l s w) ops)
     (takes_end c d t.outcome t.ended m u x)

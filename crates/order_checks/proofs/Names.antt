@@ -1,9 +1,9 @@
 -- The names of nodes, for whoever prints an order.
 use Rattle.std.proofs.Common.{◌≡◌, ℕ, List, [], ◌∷◌, map, refl, sym, ap, ◌∙◌, arith}
 use Rattle.std.specs.List.{Contains}
+use Rattle.list_lemmas.proofs.Elements.{behind}
 use Rattle.session_log.specs.Text.{Transaction}
 use Rattle.log_definitions.specs.Serial.{Committed}
-use Rattle.piece_laws.proofs.Lists.{behind}
 use Rattle.order_checks.specs.Left.{nodes_from}
 use Rattle.order_checks.specs.Numbered.{names_of}
 use Rattle.order_checks.proofs.Left.{stands}

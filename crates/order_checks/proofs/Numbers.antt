@@ -2,24 +2,25 @@
 use Rattle.std.proofs.Common.{◌≡◌, ◌⊎◌, ℕ, zero, suc, ◌+◌, ◌<◌, ◌≤◌, Bool, false, List, [], ◌∷◌, ◌++◌, length, map, replicate, Option, Some, None, refl, sym, ap, ◌∙◌, subst, inl, inr, arith}
 use Rattle.std.specs.Prelude.{◌↔◌, IsTrue, nat_eq, slice_get}
 use Rattle.std.specs.List.{AllByRecursion, Contains, IsDistinct}
-use Rattle.std.proofs.lemmas.Option.{slice_get_within}
+use Rattle.std.proofs.lemmas.Option.{slice_get_within, same_Some}
 use Rattle.session_log.specs.Moments.{is_earlier}
 use Rattle.std.proofs.lemmas.List.{length-append}
+use Rattle.list_lemmas.proofs.Elements.{same_item, some_at, contains_at, behind}
 use Rattle.session_log.specs.Text.{ClientSession}
-use Rattle.serializability.proofs.Places.{Apart-from_IsDistinct}
+use Rattle.serializability.proofs.Places.{Apart-from_IsDistinct, length_mapped}
 use Rattle.log_definitions.specs.Serial.{Committed, committed_of, committed_in, node_in, Map, initial, IsSerialOrder}
 use Rattle.log_definitions.proofs.Members.{each_member}
 use Rattle.log_definitions.proofs.Renumbered.{Orders}
+use Rattle.log_definitions.proofs.OnlyTaken.{orders_from_serial, serial_from_orders}
+use Rattle.log_definitions.proofs.Settled.{IsLearnt}
 use Rattle.piece_laws.specs.Logs.{IsLearntLog}
 use Rattle.piece_laws.proofs.Lines.{IsLine}
-use Rattle.piece_laws.proofs.Left.{IsLearnt, numbers_of, split}
-use Rattle.piece_laws.proofs.Lists.{behind}
-use Rattle.piece_laws.proofs.Orders.{InOrder, contains_at, one_place, index_of, found, number, order_of, orders_from_line}
+use Rattle.piece_laws.proofs.Left.{numbers_of, split}
+use Rattle.piece_laws.proofs.Orders.{InOrder, one_place, index_of, found, number, order_of, orders_from_line}
 use Rattle.piece_laws.proofs.Sessions.{in_order}
-use Rattle.piece_laws.proofs.Shifted.{nodes_are, orders_from_serial, serial_from_orders}
+use Rattle.piece_laws.proofs.Shifted.{nodes_are}
 use Rattle.order_checks.specs.Left.{left_in, Ends, IsAt}
 use Rattle.order_checks.specs.Numbered.{nodes_of, places_from, NamesEach, EndsBy}
-use Rattle.order_checks.proofs.Lists.{same_some, same_item, length_mapped, at_place}
 use Rattle.order_checks.proofs.Left.{all_left}
 use Rattle.order_checks.proofs.Steps.{at_end}
 use Rattle.order_checks.proofs.Ordered.{line_of_order}
@@ -57,7 +58,7 @@ serial_where_line ss order learnt distinct = (to, from)
 -- ---- the places of nodes
 in_both : {X Z : Type 0} (f : X → Z) (xs ys : List X) (zs : List Z) (k : ℕ) (x : X) → slice_get (xs ++ ys) k ≡ Some x → (Contains xs x × (slice_get (map f xs ++ zs) k ≡ Some (f x))) ⊎ ((j : ℕ) × (slice_get ys j ≡ Some x) × (slice_get (map f xs ++ zs) k ≡ slice_get zs j))
 in_both f [] ys zs k x e = inr (k, e, refl)
-in_both f (y ∷ xs) ys zs zero x e = let same = same_some y x e in inl ((0, omega arith, same), ap (λ z. Some (f z)) same)
+in_both f (y ∷ xs) ys zs zero x e = let same = same_Some y x e in inl ((0, omega arith, same), ap (λ z. Some (f z)) same)
 in_both f (y ∷ xs) ys zs (suc k) x e = elim (in_both f xs ys zs k x e) [
   | inl here ↦ inl (behind y xs x here.0, here.1)
   | inr later ↦ inr later
@@ -116,7 +117,7 @@ ends_numbered ss next newest latest later held after k pick place met at h order
 
     from : IsTrue met × EndsBy ss newest later after order → EndsBy ss next latest held (suc k ∷ order)
     from (t, (line, end, names)) =
-        let node = at_place (nodes_of ss) k (omega (arith, slice_get_within (places_from 0 ss) k (pick, place) at, as_many ss 0)) in
+        let node = some_at (nodes_of ss) k (omega (arith, slice_get_within (places_from 0 ss) k (pick, place) at, as_many ss 0)) in
         (node.0 ∷ line, (h node.0 (noted_at ss k pick place node.0 at node.1) line).1 (t, end), (node.1, names))
 
 pub no_more : (ss : List ClientSession) (next : List ℕ) (latest : Option ℕ) (held : Map) → (EndsBy ss next latest held [] ↔ (left_in ss next ≡ []))

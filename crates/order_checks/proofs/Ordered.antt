@@ -4,7 +4,8 @@ use Rattle.std.specs.Prelude.{slice_get, option_and_then}
 use Rattle.std.specs.List.{flat_map, Contains}
 use Rattle.std.specs.Option.{option_map_or}
 use Rattle.std.proofs.lemmas.Bool.{cases_Bool, cases_order}
-use Rattle.std.proofs.lemmas.Option.{slice_get_within, slice_get-get_or}
+use Rattle.std.proofs.lemmas.Option.{slice_get_within, slice_get-get_or, same_Some}
+use Rattle.list_lemmas.proofs.Elements.{some_at, contains_at, behind}
 use Rattle.session_log.specs.Moments.{is_earlier}
 use Rattle.serializability.specs.Replay.{place_of, Before}
 use Rattle.serializability.proofs.Places.{Has, Apart, Has-from_Contains, Apart-from_IsDistinct, place_of-here, place_of-further}
@@ -13,23 +14,22 @@ use Rattle.log_definitions.specs.Serial.{Committed, node_in, initial, Replays}
 use Rattle.log_definitions.proofs.Members.{each_member}
 use Rattle.log_definitions.proofs.Renumbered.{Orders, session_at, ops_at, begun_at, ended_at}
 use Rattle.piece_laws.proofs.Lines.{MayPrecede, EachPair, IsLine, ops_along}
-use Rattle.piece_laws.proofs.Lists.{first_or_behind, behind}
-use Rattle.piece_laws.proofs.Orders.{InOrder, pair_at, contains_at}
+use Rattle.piece_laws.proofs.Lists.{first_or_behind}
+use Rattle.piece_laws.proofs.Orders.{InOrder, pair_at}
 use Rattle.order_checks.specs.Numbered.{NamesEach}
-use Rattle.order_checks.proofs.Lists.{same_some, at_place}
 
 named : (nodes : List Committed) (order : List ℕ) → ((v : ℕ) → Has v order → (0 < v) × (v ≤ length nodes)) → (line : List Committed) × NamesEach nodes order line
 named nodes [] h = ([], tt)
 named nodes (zero ∷ order) h = absurd (let lt = (h 0 (inl refl)).0 in omega (arith, lt))
 named nodes (suc i ∷ order) h =
-    let c = at_place nodes i (let le = (h (suc i) (inl refl)).1 in omega (arith, le)) in
+    let c = some_at nodes i (let le = (h (suc i) (inl refl)).1 in omega (arith, le)) in
     let r = named nodes order (λ v has. h v (inr has)) in
     (c.0 ∷ r.0, (c.1, r.1))
 
 in_line : (nodes : List Committed) (order : List ℕ) (line : List Committed) (v : ℕ) (n : Committed) → NamesEach nodes order line → Has v order → node_in nodes v ≡ Some n → Contains line n
 in_line nodes [] line v n names h e = absurd h
 in_line nodes (u ∷ us) [] v n names h e = absurd names
-in_line nodes (u ∷ us) (c ∷ line) v n names (inl same) e = (0, omega arith, same_some c n (sym names.0 ∙ ap (node_in nodes) same ∙ e))
+in_line nodes (u ∷ us) (c ∷ line) v n names (inl same) e = (0, omega arith, same_Some c n (sym names.0 ∙ ap (node_in nodes) same ∙ e))
 in_line nodes (u ∷ us) (c ∷ line) v n names (inr h) e = behind c line n (in_line nodes us line v n names.1 h e)
 
 of_line : (nodes : List Committed) (order : List ℕ) (line : List Committed) (n : Committed) → NamesEach nodes order line → Contains line n → (v : ℕ) × Has v order × (node_in nodes v ≡ Some n)

@@ -5,11 +5,11 @@ use Rattle.std.specs.List.{Contains, range_with_len}
 use Rattle.std.proofs.lemmas.Bool.{le-leb, lt-leb, and_right, false≢true}
 use Rattle.std.proofs.lemmas.List.{length-append}
 use Rattle.std.proofs.lemmas.Nat.{div-add-mod', ones-le}
+use Rattle.list_lemmas.proofs.Bools.{same_bool}
 use Rattle.serializability.specs.declared.literal.Literal.{Literal}
 use Rattle.reach_laws.specs.Reach.{Graph}
 use Rattle.known_graph.specs.Bits.{bit_of, row_len}
 use Rattle.known_graph.proofs.Edges.{nodes_within_row}
-use Rattle.known_graph.proofs.Tested.{same_bool}
 use Rattle.known_graph.proofs.Words.{bit_there}
 use Rattle.order_cnf.specs.Tables.{Relation, known_in}
 use Rattle.order_cnf.specs.Cycles.{is_open_cycle, is_open_from, IsWord, IsPairTable}

@@ -1,11 +1,12 @@
 -- Pairs are numbered in order.
-use Rattle.std.proofs.Common.{◌≡◌, ◌⊎◌, inl, inr, refl, sym, ap, ◌∙◌, ℕ, suc, ◌+◌, ◌-◌, ◌*◌, ◌<◌, ◌≤◌, ◌&&◌, Bool, true, false, cond, eqb, List, [], ◌∷◌, ◌++◌, length, get_or, arith, eq-eqb, eqb-true}
+use Rattle.std.proofs.Common.{◌≡◌, ◌⊎◌, inl, inr, refl, sym, ap, ◌∙◌, ℕ, suc, ◌+◌, ◌-◌, ◌*◌, ◌<◌, ◌≤◌, ◌&&◌, true, false, eqb, List, [], ◌∷◌, ◌++◌, length, get_or, arith, eq-eqb, eqb-true}
 use Rattle.std.specs.Prelude.{map, slice_set, replicate}
 use Rattle.std.specs.List.{filter, range_with_len, AllByRecursion}
 use Rattle.std.proofs.lemmas.Bool.{cases_Bool, cases_lt, cases_eq, cases_order, and_parts, cond-true, cond-false, and_from}
 use Rattle.std.proofs.lemmas.List.{append_assoc, length-append, get_or-set_other, get_or-replicate, get_or_past, length-replicate, length-set}
 use Rattle.std.proofs.lemmas.Grind.{get_or-set_at}
 use Rattle.std.proofs.lemmas.Nat.{same_from_place, mul-add-lt}
+use Rattle.std.proofs.lemmas.List.Elements.{filter-append}
 use Rattle.serializability.specs.Pairs.{is_free, pairs_of, pair_place}
 use Rattle.serializability.proofs.Places.{each_from_append}
 use Rattle.order_cnf.specs.Tables.{Relation, known_in, pairs_in, variable_of}
@@ -31,14 +32,6 @@ pub record IsNumbered (r : Relation) (table : List ℕ) (count low high : ℕ) :
   pub places : length table ≡ (r.nodes + 1) * (r.nodes + 1)
   pub entries : (u v : ℕ) → u < v → v ≤ r.nodes → IsPast low high (u, v) → get_or table (u * (r.nodes + 1) + v) 0 ≡ variable_of r u v
   pub empty : (u v : ℕ) → u < v → v ≤ r.nodes → (low < u) ⊎ ((low ≡ u) × (high ≤ v)) → get_or table (u * (r.nodes + 1) + v) 0 ≡ 0
-
-one_more : {X : Type 0} (b : Bool) (x : X) (xs ys zs : List X) → zs ≡ xs ++ ys → cond b (x ∷ zs) zs ≡ cond b (x ∷ xs) xs ++ ys
-one_more true x xs ys zs e = ap (λ l. x ∷ l) e
-one_more false x xs ys zs e = e
-
-filter-append : {X : Type 0} (p : X → Bool) (xs ys : List X) → filter p (xs ++ ys) ≡ filter p xs ++ filter p ys
-filter-append p [] ys = refl
-filter-append p (x ∷ xs) ys = one_more (p x) x (filter p xs) (filter p ys) (filter p (xs ++ ys)) (filter-append p xs ys)
 
 whole : (n : ℕ) → n + 1 ≡ n + 1 - 0
 whole n = omega arith

@@ -3,7 +3,7 @@ use Rattle.std.proofs.Common.{◌≡◌, refl, sym, ap, ◌∙◌, ℕ, zero, su
 use Rattle.std.specs.Prelude.{map, is_some, MatchOption}
 use Rattle.std.proofs.lemmas.Bool.{false≢true}
 use Rattle.std.specs.Iterator.{MakesProgress, at_most}
-use Rattle.std.proofs.lemmas.List.{map-append, append_assoc}
+use Rattle.std.proofs.lemmas.List.{map-append, append_assoc, nil_from_length}
 use Rattle.serializability.specs.declared.literal.Literal.{Literal}
 use Rattle.serializability.specs.Polygraph.{Edge, Choice}
 use Rattle.serializability.specs.Pairs.{Known, edge_literal}
@@ -98,10 +98,6 @@ rank_by l false e = rw e (omega arith)
 pub turned_rank : (l : Literal) → rank_of (turned l) ≡ rank_of l + 1
 turned_rank l = rank_by l l.positive refl
 
-pub none_of : {X : Type 0} (xs : List X) → length xs ≡ 0 → xs ≡ []
-none_of [] e = refl
-none_of (x ∷ xs) e = absurd (omega (arith, e))
-
 -- ---- a step of the whole
 pub unit_step : (r : Relation) (l : Literal) (units rest : List Literal) (bipaths : List Choice) (triples sides : List (List Literal)) → units ≡ l ∷ rest
     → rest_of r units bipaths triples sides ≡ (l ∷ []) ∷ rest_of r rest bipaths triples sides
@@ -112,26 +108,26 @@ pub bipath_step : (r : Relation) (c : List Literal) (units : List Literal) (b : 
     → rest_of r units bipaths triples sides ≡ c ∷ rest_of r units rest triples sides
 unfolding rest_of units_of bipaths_of
 bipath_step r c units b bipaths rest triples sides none same made =
-    ap (λ us. rest_of r us bipaths triples sides) (none_of units none)
+    ap (λ us. rest_of r us bipaths triples sides) (nil_from_length units none)
     ∙ ap (λ bs. rest_of r [] bs triples sides) same
     ∙ ap (λ cs. cs ++ (bipaths_of r rest ++ (triples ++ sides))) (sym made)
-    ∙ sym (ap (λ us. c ∷ rest_of r us rest triples sides) (none_of units none))
+    ∙ sym (ap (λ us. c ∷ rest_of r us rest triples sides) (nil_from_length units none))
 
 pub triple_step : (r : Relation) (c : List Literal) (units : List Literal) (bipaths : List Choice) (triples next sides : List (List Literal)) → length units ≡ 0 → length bipaths ≡ 0 → triples ≡ c ∷ next
     → rest_of r units bipaths triples sides ≡ c ∷ rest_of r units bipaths next sides
 unfolding rest_of units_of bipaths_of
 triple_step r c units bipaths triples next sides none no_more same =
-    ap (λ us. rest_of r us bipaths triples sides) (none_of units none)
-    ∙ ap (λ bs. rest_of r [] bs triples sides) (none_of bipaths no_more)
+    ap (λ us. rest_of r us bipaths triples sides) (nil_from_length units none)
+    ∙ ap (λ bs. rest_of r [] bs triples sides) (nil_from_length bipaths no_more)
     ∙ ap (λ ts. ts ++ sides) same
-    ∙ sym (ap (λ us. c ∷ rest_of r us bipaths next sides) (none_of units none) ∙ ap (λ bs. c ∷ rest_of r [] bs next sides) (none_of bipaths no_more))
+    ∙ sym (ap (λ us. c ∷ rest_of r us bipaths next sides) (nil_from_length units none) ∙ ap (λ bs. c ∷ rest_of r [] bs next sides) (nil_from_length bipaths no_more))
 
 pub all_sides : (r : Relation) (units : List Literal) (bipaths : List Choice) (triples sides : List (List Literal)) → length units ≡ 0 → length bipaths ≡ 0 → triples ≡ []
     → rest_of r units bipaths triples sides ≡ sides
 unfolding rest_of units_of bipaths_of
 all_sides r units bipaths triples sides none no_more same =
-    ap (λ us. rest_of r us bipaths triples sides) (none_of units none)
-    ∙ ap (λ bs. rest_of r [] bs triples sides) (none_of bipaths no_more)
+    ap (λ us. rest_of r us bipaths triples sides) (nil_from_length units none)
+    ∙ ap (λ bs. rest_of r [] bs triples sides) (nil_from_length bipaths no_more)
     ∙ ap (λ ts. ts ++ sides) same
 
 pub last_step : (item : Option Clause) (whole left old new : List (List Literal)) → whole ≡ old → left ≡ new → IsStep old item new → MatchOption item ((whole ≡ []) × (left ≡ [])) (λ x. whole ≡ literals x ∷ left)

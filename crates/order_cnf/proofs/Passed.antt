@@ -7,17 +7,16 @@ use Rattle.std.proofs.Math.Seq.{take-append_seam}
 use Rattle.serializability.specs.declared.literal.Literal.{Literal}
 use Rattle.serializability.specs.Formula.{clause_true}
 use Rattle.serializability.proofs.Places.{each_from_append, each_of_append}
+use Rattle.serializability.proofs.PlainLaws.{True}
 use Rattle.order_cnf.specs.Clauses.{IsWithin}
 use Rattle.order_cnf.specs.Data.{IsFirstFalse}
-
-abbrev Holds : List Bool → List Literal → Type 0
-Holds values c = clause_true values c ≡ true
+use Rattle.order_cnf.proofs.Wholes.{later_range}
 
 pub record IsPassed (values : List Bool) (all rest : List (List Literal)) (n : ℕ) : Type 0 where
   pub done : List (List Literal)
   pub split : all ≡ done ++ rest
   pub counted : length done ≡ n
-  pub held : AllByRecursion (Holds values) done
+  pub held : AllByRecursion (True values) done
   pub within : AllByRecursion (AllByRecursion (IsWithin (length values))) rest
 
 pub passed_begun : (values : List Bool) (variables : ℕ) (all rest : List (List Literal)) → rest ≡ all → length values ≡ variables → AllByRecursion (AllByRecursion (IsWithin variables)) all → IsPassed values all rest 0
@@ -37,7 +36,7 @@ passed_one values all rest next c n k same t = record {
   done = k.done ++ c ∷ [];
   split = k.split ∙ ap (λ l. k.done ++ l) same ∙ sym (append_assoc k.done (c ∷ []) next);
   counted = length-append k.done (c ∷ []) ∙ ap (λ m. m + 1) k.counted;
-  held = each_from_append (Holds values) k.done (c ∷ []) k.held (t, tt);
+  held = each_from_append (True values) k.done (c ∷ []) k.held (t, tt);
   within = (subst (λ l. AllByRecursion (AllByRecursion (IsWithin (length values))) l) same k.within).1;
 }
 
@@ -45,19 +44,16 @@ get_seam : (xs ys : List (List Literal)) (c : List Literal) → get_or (xs ++ c 
 get_seam [] ys c = refl
 get_seam (x ∷ xs) ys c = get_seam xs ys c
 
-one_back : (n : ℕ) → n + 1 - 1 ≡ n
-one_back n = omega arith
-
 pub passed_false : (values : List Bool) (all rest next : List (List Literal)) (c : List Literal) (n : ℕ) → IsPassed values all rest n → rest ≡ c ∷ next → clause_true values c ≡ false → IsFirstFalse values all (n + 1)
 passed_false values all rest next c n k same f =
     let here : all ≡ k.done ++ c ∷ next = k.split ∙ ap (λ l. k.done ++ l) same in
-    let back : n + 1 - 1 ≡ length k.done = one_back n ∙ sym k.counted in
+    let back : n + 1 - 1 ≡ length k.done = later_range n ∙ sym k.counted in
     record {
       counted = (omega arith, omega (arith, passed_number values all rest n k, ap length same));
-      earlier = subst (λ m. AllByRecursion (Holds values) (take m all)) (sym back) (subst (λ l. AllByRecursion (Holds values) (take (length k.done) l)) (sym here) (subst (AllByRecursion (Holds values)) (sym (take-append_seam k.done (c ∷ next))) k.held));
+      earlier = subst (λ m. AllByRecursion (True values) (take m all)) (sym back) (subst (λ l. AllByRecursion (True values) (take (length k.done) l)) (sym here) (subst (AllByRecursion (True values)) (sym (take-append_seam k.done (c ∷ next))) k.held));
       here = ap (λ m. clause_true values (get_or all m [])) back ∙ ap (λ l. clause_true values (get_or l (length k.done) [])) here ∙ ap (clause_true values) (get_seam k.done next c) ∙ f;
     }
 
-pub not_all : (values : List Bool) (all rest next : List (List Literal)) (c : List Literal) (n : ℕ) → IsPassed values all rest n → rest ≡ c ∷ next → clause_true values c ≡ false → AllByRecursion (Holds values) all → ⊥
+pub not_all : (values : List Bool) (all rest next : List (List Literal)) (c : List Literal) (n : ℕ) → IsPassed values all rest n → rest ≡ c ∷ next → clause_true values c ≡ false → AllByRecursion (True values) all → ⊥
 not_all values all rest next c n k same f h =
-    false≢true (sym f ∙ (each_of_append (Holds values) k.done (c ∷ next) (subst (AllByRecursion (Holds values)) (k.split ∙ ap (λ l. k.done ++ l) same) h)).1.0)
+    false≢true (sym f ∙ (each_of_append (True values) k.done (c ∷ next) (subst (AllByRecursion (True values)) (k.split ∙ ap (λ l. k.done ++ l) same) h)).1.0)

@@ -1,5 +1,5 @@
 -- The clauses of whole formulas are those of their definitions.
-use Rattle.std.proofs.Common.{◌≡◌, refl, sym, ap, ◌∙◌, subst, ℕ, suc, ◌+◌, ◌-◌, ◌||◌, Bool, true, false, not, List, [], ◌∷◌, ◌++◌, length, drop, arith, append-nil}
+use Rattle.std.proofs.Common.{◌≡◌, refl, sym, ap, ◌∙◌, subst, ℕ, suc, ◌+◌, ◌-◌, true, false, List, [], ◌∷◌, ◌++◌, length, drop, arith, append-nil}
 use Rattle.std.specs.Prelude.{map, Some, is_some}
 use Rattle.std.specs.List.{flat_map, range_with_len, AllByRecursion}
 use Rattle.std.proofs.lemmas.Bool.{false≢true}
@@ -7,10 +7,11 @@ use Rattle.std.proofs.lemmas.List.{append_assoc, length-append, length-map}
 use Rattle.std.proofs.Math.Seq.{take-append_seam, drop-append_seam}
 use Rattle.serializability.specs.declared.literal.Literal.{Literal}
 use Rattle.serializability.specs.Polygraph.{Edge, Choice, Polygraph}
-use Rattle.serializability.specs.Formula.{Cnf, Satisfies, value_of}
+use Rattle.serializability.specs.Formula.{Cnf}
 use Rattle.serializability.specs.Decoded.{IsFormula}
 use Rattle.serializability.specs.Pairs.{free_pairs, edge_literal, triples_of, triple_clauses, order_clauses}
 use Rattle.serializability.specs.Plain.{nothing_known, plain_nodes, plain_pairs, literals_of, plain_of, contradiction}
+use Rattle.serializability.proofs.PlainLaws.{contradicted}
 use Rattle.order_laws.specs.Reduced.{reduced, choice_clauses, side_clauses, order_nodes}
 use Rattle.order_cnf.specs.Bipaths.{IsBipath}
 use Rattle.order_cnf.specs.Tables.{Relation, known_in, pairs_in}
@@ -25,12 +26,6 @@ unfolding sides_after
 none_after r l = refl
 
 -- ---- the contradiction
-never : (b : Bool) → (b || false) ≡ true → (not b || false) ≡ true → ⊥
-never true p q = false≢true q
-never false p q = false≢true p
-
-unsatisfied : (values : List Bool) → Satisfies values contradiction → ⊥
-unsatisfied values h = never (value_of values 1) h.each_clause.0 h.each_clause.1.0
 
 pub contradiction_is_formula : IsFormula contradiction
 contradiction_is_formula = record {
@@ -38,7 +33,7 @@ contradiction_is_formula = record {
   few_clauses = omega arith;
   in_range = (((omega arith, omega arith), tt), (((omega arith, omega arith), tt), tt));
   short = ((omega arith, omega arith), ((omega arith, omega arith), tt));
-  orders = λ values h. absurd (unsatisfied values h);
+  orders = λ values h. absurd (contradicted values h);
 }
 
 abbrev pub contradicting : List Literal
@@ -128,7 +123,7 @@ sides_are r v (h ∷ hs) =
     ∙ ap (λ l. first ++ (second ++ l)) (sides_are r (v + 1) hs)
     ∙ sym (append_assoc first second (choice_clauses (known_in r) (pairs_in r) (v + 1 + 1) hs))
 
-later_range : (n : ℕ) → n + 1 - 1 ≡ n
+pub later_range : (n : ℕ) → n + 1 - 1 ≡ n
 later_range n = omega arith
 
 counted : (n : ℕ) → n + 1 ≡ suc n

@@ -1,10 +1,11 @@
 -- Words of bits.
-use Rattle.std.proofs.Common.{◌≡◌, ◌≢◌, refl, sym, ap, ◌∙◌, ℕ, zero, suc, ◌+◌, ◌-◌, ◌*◌, ◌/◌, ◌%◌, ◌^◌, ◌<◌, ◌≤◌, min, max, Bool, true, false, eqb, ◌&&◌, ◌||◌, inl, inr, arith}
+use Rattle.std.proofs.Common.{◌≡◌, ◌≢◌, refl, sym, ap, ◌∙◌, ℕ, zero, suc, ◌+◌, ◌-◌, ◌*◌, ◌/◌, ◌%◌, ◌^◌, ◌<◌, ◌≤◌, min, Bool, true, false, eqb, ◌&&◌, ◌||◌, inl, inr, arith}
 use Rattle.std.specs.Prelude.{bit_and, bit_or, nat_le}
 use Rattle.std.specs.Int.{bit_at, w64, trailing_zeros}
 use Rattle.std.proofs.lemmas.Bool.{cases_lt, le-leb, lt-leb}
 use Rattle.std.proofs.lemmas.Nat.{div-add-mod', mod_below}
 use Rattle.std.proofs.lemmas.Nat.Bits.{bit_at_and, bit_at_or, bit_at-lt, bit_at-trailing_zeros, bit_at-zero, bit_at_ones, bit_at_mask_inside, bit_at_mask_below, ones_shl}
+use Rattle.known_graph.proofs.Fresh.{either_bit}
 use Rattle.order_cnf.specs.Cycles.{IsWord}
 
 both : (x y : ℕ) → x < 2 → y < 2 → eqb (min x y) 1 ≡ (eqb x 1 && eqb y 1)
@@ -21,18 +22,10 @@ and_word p q place a b f g = record {
       ∙ ap (λ x. x && eqb (bit_at b i) 1) (f.bits i h) ∙ ap (λ x. p (place * 64 + i) && x) (g.bits i h);
 }
 
-either : (x y : ℕ) → x < 2 → y < 2 → eqb (max x y) 1 ≡ (eqb x 1 || eqb y 1)
-either zero zero hx hy = refl
-either zero (suc zero) hx hy = refl
-either (suc zero) zero hx hy = refl
-either (suc zero) (suc zero) hx hy = refl
-either x (suc (suc y)) hx hy = absurd (omega arith)
-either (suc (suc x)) y hx hy = absurd (omega arith)
-
 pub or_word : (p q : ℕ → Bool) (place a b : ℕ) → IsWord p place a → IsWord q place b → IsWord (λ k. p k || q k) place (bit_or a b)
 or_word p q place a b f g = record {
   bits = λ i h.
-      ap (λ n. eqb n 1) (bit_at_or a b i) ∙ either (bit_at a i) (bit_at b i) (bit_at-lt a i) (bit_at-lt b i)
+      ap (λ n. eqb n 1) (bit_at_or a b i) ∙ either_bit (bit_at a i) (bit_at b i) (bit_at-lt a i) (bit_at-lt b i)
       ∙ ap (λ x. x || eqb (bit_at b i) 1) (f.bits i h) ∙ ap (λ x. p (place * 64 + i) || x) (g.bits i h);
 }
 

@@ -1,40 +1,26 @@
 -- An order that fits gives an assignment that satisfies the reduced formula.
-use Rattle.std.proofs.Common.{◌≡◌, ◌⊎◌, ℕ, suc, ◌+◌, ◌-◌, Bool, true, false, ltb, cond, not, ◌&&◌, List, [], ◌∷◌, ◌++◌, length, get_or, refl, sym, ap, ◌∙◌, inl, inr, arith, length-append}
+use Rattle.std.proofs.Common.{◌≡◌, ◌⊎◌, ℕ, suc, ◌+◌, ◌-◌, Bool, true, false, cond, not, List, [], ◌∷◌, ◌++◌, length, get_or, refl, sym, ap, ◌∙◌, inl, inr, arith, length-append}
 use Rattle.std.specs.List.{AllByRecursion}
 use Rattle.std.specs.Prelude.{map}
-use Rattle.std.proofs.lemmas.Bool.{cases_Bool, false≢true, and_parts, and_from, lt-ltb, ltb-true, or_left, or_right}
+use Rattle.std.proofs.lemmas.Bool.{cases_Bool, false≢true, or_left, or_right}
 use Rattle.std.proofs.lemmas.List.{get_or-append-add}
-use Rattle.serializability.specs.Replay.{place_of, Before}
+use Rattle.serializability.specs.Replay.{Before}
 use Rattle.serializability.specs.Polygraph.{Edge, Choice, Polygraph, Keeps, KeepsOne, Fits}
 use Rattle.serializability.specs.declared.literal.Literal.{Literal}
-use Rattle.serializability.specs.Formula.{value_of, literal_true, clause_true, Satisfies}
+use Rattle.serializability.specs.Formula.{value_of, literal_true, Satisfies}
 use Rattle.serializability.specs.Pairs.{Known, free_pairs, edge_literal, order_clauses}
 use Rattle.serializability.proofs.Places.{each_from_append, length_mapped}
 use Rattle.serializability.proofs.Tournament.{lit}
 use Rattle.serializability.proofs.Made.{in_order, made, Agrees, lit_made, order_clauses_made}
+use Rattle.serializability.proofs.PlainLaws.{True}
 use Rattle.reach_laws.proofs.Walks.{reach_kept}
+use Rattle.pruning_laws.proofs.Pruned.{tested_keeps, keeps_tested, keeps_test}
 use Rattle.polygraph.specs.Polygraphs.{Joins, JoinsBoth}
 use Rattle.order_laws.specs.Reduced.{side_clauses, choice_clauses, order_nodes, reduced, IsReach}
 use Rattle.order_laws.specs.Proper.{IsProper}
 use Rattle.order_laws.proofs.Reached.{InitialKnown, initial_known, past_zero}
 
-abbrev True : List Bool → List Literal → Type 0
-True values c = clause_true values c ≡ true
-
 -- ---- whether an order keeps a side
-abbrev keeps_test : List ℕ → List Edge → Bool
-keeps_test order [] = true
-keeps_test order (e ∷ edges) = ltb (place_of (0 ∷ order) e.0) (place_of (0 ∷ order) e.1) && keeps_test order edges
-
-tested_keeps : (order : List ℕ) (edges : List Edge) → keeps_test order edges ≡ true → Keeps order edges
-tested_keeps order [] t = tt
-tested_keeps order (e ∷ edges) t =
-    let p = and_parts (ltb (place_of (0 ∷ order) e.0) (place_of (0 ∷ order) e.1)) (keeps_test order edges) t in
-    (ltb-true _ _ p.0, tested_keeps order edges p.1)
-
-keeps_tested : (order : List ℕ) (edges : List Edge) → Keeps order edges → keeps_test order edges ≡ true
-keeps_tested order [] k = refl
-keeps_tested order (e ∷ edges) k = and_from (ltb (place_of (0 ∷ order) e.0) (place_of (0 ∷ order) e.1)) (keeps_test order edges) (lt-ltb _ _ k.0) (keeps_tested order edges k.1)
 
 -- ---- the assignment: a choice's variable says that side one is kept
 abbrev sides_taken : List ℕ → List Choice → List Bool

@@ -11,7 +11,7 @@ use Rattle.serializability.specs.Pairs.{Known, is_free, free_pairs, pair_place, 
 use Rattle.serializability.specs.Decoded.{IsFormula}
 use Rattle.serializability.proofs.Places.{each_from_append, each_from_flat_map, each_from_map, each_from_filter, length_mapped}
 use Rattle.serializability.proofs.Tournament.{IsKnown}
-use Rattle.serializability.proofs.Made.{HasPair, pair_free, each_triple_from}
+use Rattle.serializability.proofs.Made.{HasPair, pair_free, each_triple_from, clause_from}
 use Rattle.reach_laws.proofs.Walks.{each_contained, each_from_contained}
 use Rattle.pruning_laws.specs.declared.side.Side.{Side}
 use Rattle.pruning_laws.specs.declared.side.Side.TheVariants.{One, Two}
@@ -107,10 +107,6 @@ some_left p (e ∷ edges) some = elim (cases_Bool (p e)) [
 few_left : (p : Edge → Bool) (edges : List Edge) → length (filter p edges) ≤ length edges
 few_left p edges = omega (arith, length-filter p edges, count_by-le-length p edges)
 
-unless_known : (P : List Literal → Type 0) (b : Bool) (c : List Literal) → (b ≡ false → P c) → AllByRecursion P (cond b [] (c ∷ []))
-unless_known P true c h = tt
-unless_known P false c h = (h refl, tt)
-
 pub each_mapped : {X : Type 0} (P Q : X → Type 0) (xs : List X) → ((x : X) → P x → Q x) → AllByRecursion P xs → AllByRecursion Q xs
 each_mapped P Q [] f h = tt
 each_mapped P Q (x ∷ xs) f h = (f x h.0, each_mapped P Q xs f h.1)
@@ -123,7 +119,7 @@ edge_clause_is known low m most le edges three within some =
     let literal : Edge → Literal = λ e. edge_literal pairs e.0 e.1 in
     let left = filter (λ (e : Edge). not (known e.1 e.0)) edges in
     let long : length (map literal left) ≡ length left = length_mapped literal left in
-    unless_known (IsClause most) (list_any (λ e. known e.0 e.1) edges) (map literal left) (λ none. record {
+    clause_from (IsClause most) (list_any (λ e. known e.0 e.1) edges) (map literal left) (λ none. record {
       literals = each_from_map (IsVariable most) literal left
           (each_from_filter (λ (e : Edge). IsVariable most (literal e)) (λ (e : Edge). not (known e.1 e.0)) edges
           (each_mapped (λ (e : Edge). not (known e.1 e.0) ≡ true → IsVariable (length pairs) (literal e)) (λ (e : Edge). not (known e.1 e.0) ≡ true → IsVariable most (literal e)) edges
@@ -187,7 +183,7 @@ side_clauses_are n known initial most le or_else is (e ∷ edges) h =
     let pairs = free_pairs known (order_nodes n) in
     let l = edge_literal pairs e.0 e.1 in
     each_from_append (IsClause most) (cond (known e.0 e.1) [] ((or_else ∷ l ∷ []) ∷ [])) (side_clauses known pairs or_else edges)
-    (unless_known (IsClause most) (known e.0 e.1) (or_else ∷ l ∷ []) (λ f. record {
+    (clause_from (IsClause most) (known e.0 e.1) (or_else ∷ l ∷ []) (λ f. record {
       literals = (is, (more_variables (length pairs) most l le (edge_in_range known 1 n e (side_edge_open n known initial e h.0.joins f h.0.back)), tt));
       some = omega arith;
       few = omega arith;

@@ -1,6 +1,7 @@
 -- Two forced sets of a polygraph hold the same sides, and two formulas of it are the same.
-use Rattle.std.proofs.Common.{◌≡◌, ℕ, ◌+◌, Bool, true, false, cond, ◌||◌, List, [], ◌∷◌, ◌++◌, refl, sym, ap, ◌∙◌, subst}
+use Rattle.std.proofs.Common.{◌≡◌, ℕ, ◌+◌, true, cond, ◌||◌, List, [], ◌∷◌, ◌++◌, refl, ap, ◌∙◌, subst}
 use Rattle.std.proofs.Math.Path.{fun_ext}
+use Rattle.list_lemmas.proofs.Bools.{same_bool}
 use Rattle.serializability.specs.Polygraph.{Edge, Choice, Polygraph}
 use Rattle.serializability.specs.Pairs.{Known}
 use Rattle.pruning_laws.specs.declared.side.Side.{Side}
@@ -9,12 +10,6 @@ use Rattle.pruning_laws.specs.Forced.{Sides, EachNumbered, kept_from, edges_with
 use Rattle.pruning_laws.proofs.Pruned.{numbered_and}
 use Rattle.order_laws.specs.Reduced.{reduced, IsReach}
 
-pub same_truth : (a b : Bool) → (a ≡ true → b ≡ true) → (b ≡ true → a ≡ true) → a ≡ b
-same_truth true true f g = refl
-same_truth true false f g = sym (f refl)
-same_truth false true f g = g refl
-same_truth false false f g = refl
-
 -- ---- one forced set
 abbrev pub Agree : Sides → Sides → ℕ → Choice → Type 0
 Agree forced same c h = (side : Side) → forced c side ≡ same c side
@@ -22,7 +17,7 @@ Agree forced same c h = (side : Side) → forced c side ≡ same c side
 pub one_forced : (p : Polygraph) (forced same : Sides) → IsForced p forced → IsForced p same → EachNumbered (λ c h. (side : Side) → forced c side ≡ same c side) 0 p.choices
 one_forced p forced same f g =
     numbered_and (λ c h. (s : Side) → forced c s ≡ true → same c s ≡ true) (λ c h. (s : Side) → same c s ≡ true → forced c s ≡ true) (Agree forced same) 0 p.choices
-    (λ c h there back. λ s. same_truth (forced c s) (same c s) (there s) (back s))
+    (λ c h there back. λ s. same_bool (forced c s) (same c s) (there s) (back s))
     (f.least same g.closed) (g.least forced f.closed)
 
 same_kept : (forced same : Sides) (c : ℕ) (hs : List Choice) → EachNumbered (Agree forced same) c hs → kept_from forced c hs ≡ kept_from same c hs
@@ -51,7 +46,7 @@ pub same_known : (edges more : List Edge) → edges ≡ more → (known knows : 
 same_known edges more e known knows is are =
     fun_ext (λ u. fun_ext (λ v.
     let there : IsReach more known = subst (λ es. IsReach es known) e is in
-    same_truth (known u v) (knows u v) (λ t. (are.each u v).1 ((there.each u v).0 t)) (λ t. (there.each u v).1 ((are.each u v).0 t))))
+    same_bool (known u v) (knows u v) (λ t. (are.each u v).1 ((there.each u v).0 t)) (λ t. (there.each u v).1 ((are.each u v).0 t))))
 
 pub same_formula : (p : Polygraph) (forced same : Sides) (known knows : Known) → IsForced p forced → IsForced p same → IsReach (edges_with p forced) known → IsReach (edges_with p same) knows → reduced known (pruned p forced) ≡ reduced knows (pruned p same)
 same_formula p forced same known knows f g is are =

@@ -1,17 +1,18 @@
 -- A satisfying assignment of a reduced formula stands for an order that fits.
-use Rattle.std.proofs.Common.{◌≡◌, ◌⊎◌, ℕ, suc, ◌+◌, Bool, true, false, cond, not, ◌||◌, List, [], ◌∷◌, ◌++◌, length, refl, sym, ap, ◌∙◌, subst, inl, inr, arith}
+use Rattle.std.proofs.Common.{◌≡◌, ◌⊎◌, ℕ, suc, ◌+◌, Bool, true, false, cond, not, List, [], ◌∷◌, ◌++◌, length, refl, sym, ap, ◌∙◌, subst, inl, inr, arith}
 use Rattle.std.specs.List.{AllByRecursion}
 use Rattle.std.proofs.lemmas.Bool.{cases_Bool, false≢true, or_cases}
 use Rattle.serializability.specs.Replay.{Before}
 use Rattle.serializability.specs.Polygraph.{Edge, Choice, Polygraph, Keeps, KeepsOne, Fits}
 use Rattle.serializability.specs.declared.literal.Literal.{Literal}
-use Rattle.serializability.specs.Formula.{value_of, literal_true, clause_true, Satisfies}
+use Rattle.serializability.specs.Formula.{value_of, literal_true, Satisfies}
 use Rattle.serializability.specs.Pairs.{Known, free_pairs, edge_literal, order_clauses}
 use Rattle.serializability.specs.Decoded.{is_before, before, IsOrder, IsDecoded}
 use Rattle.serializability.proofs.Places.{each_of_append}
 use Rattle.serializability.proofs.Ranks.{IsRanked, ranked_once, ranked_before}
 use Rattle.serializability.proofs.Lines.{decoded}
 use Rattle.serializability.proofs.Tournament.{lit, known_other, before_known, before_lit, turns_kept, is_order}
+use Rattle.serializability.proofs.PlainLaws.{unit_true, True}
 use Rattle.reach_laws.proofs.Walks.{each_contained, each_from_contained}
 use Rattle.pruning_laws.specs.declared.side.Side.{Side}
 use Rattle.pruning_laws.specs.declared.side.Side.TheVariants.{One, Two}
@@ -20,9 +21,6 @@ use Rattle.polygraph.specs.Polygraphs.{Joins, JoinsBoth}
 use Rattle.order_laws.specs.Reduced.{side_clauses, choice_clauses, order_nodes, reduced, IsReach}
 use Rattle.order_laws.specs.Proper.{IsProper}
 use Rattle.order_laws.proofs.Reached.{reach_known, edge_known, not_back, initial_known, same_pairs}
-
-abbrev True : List Bool → List Literal → Type 0
-True values c = clause_true values c ≡ true
 
 abbrev pairs_of_nodes : Polygraph → Known → List (ℕ × ℕ)
 pairs_of_nodes p known = free_pairs known (order_nodes p.nodes)
@@ -42,10 +40,6 @@ parts_of p known values s =
 -- an edge that is known, or whose literal is true
 abbrev Told : Known → List (ℕ × ℕ) → List Bool → Edge → Type 0
 Told known pairs values e = (known e.0 e.1 ≡ true) ⊎ (lit pairs values e.0 e.1 ≡ true)
-
-unit_true : (b : Bool) → (b || false) ≡ true → b ≡ true
-unit_true true e = refl
-unit_true false e = e
 
 clause_tells : (values : List Bool) (b : Bool) (or_else l : Literal) → literal_true values or_else ≡ false → AllByRecursion (True values) (cond b [] ((or_else ∷ l ∷ []) ∷ [])) → (b ≡ true) ⊎ (literal_true values l ≡ true)
 clause_tells values true or_else l f h = inl refl

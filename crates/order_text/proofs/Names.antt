@@ -5,7 +5,8 @@ use Rattle.std.specs.List.{find, filter, flat_map, enumerate_from, range_with_le
 use Rattle.std.specs.Option.{option_map_or}
 use Rattle.std.proofs.lemmas.Bool.{cases_Bool, and_from, cond-true}
 use Rattle.std.proofs.lemmas.List.{length-map}
-use Rattle.session_log.specs.Text.{ClientSession, Transaction, IsLegal, txn_lines, session_lines}
+use Rattle.list_lemmas.proofs.Elements.{some_at}
+use Rattle.session_log.specs.Text.{ClientSession, Transaction, IsLegal, session_lines}
 use Rattle.serializability.proofs.Places.{Has, Apart, Apart-from_IsDistinct, each_from_append, each_from_map, each_from_filter}
 use Rattle.log_definitions.specs.Unknown.{is_committed, settle, settled, taken, resolved}
 use Rattle.log_definitions.specs.WellFormed.{log_lines}
@@ -16,6 +17,7 @@ use Rattle.log_definitions.proofs.Nodes.{each_at}
 use Rattle.log_definitions.proofs.Settled.{numbers_resolved}
 use Rattle.log_definitions.proofs.Scanning.{rules_where_no_fault}
 use Rattle.session_history.specs.Tables.{name_in, node_named}
+use Rattle.session_history.proofs.Totals.{txns_in_lines}
 use Rattle.order_text.proofs.Reading.{IsNode, has_name, name_at, node_named-sound}
 
 -- a transaction with its place in the session
@@ -126,23 +128,14 @@ nodes_fit : (m : ℕ) (ss : List ClientSession) → AllByRecursion IsLegal ss �
 unfolding committed_in resolved
 nodes_fit m ss legal h = each_fits m (settled (taken ss) ss) (sized_settled m (taken ss) ss (sized m ss legal h))
 
--- a session has no more transactions than lines
-lines_of_txns : (ts : List Transaction) → length ts ≤ length (flat_map txn_lines ts)
-lines_of_txns [] = omega arith
-lines_of_txns (t ∷ ts) = let ih = lines_of_txns ts in let both = length-append (txn_lines t) (flat_map txn_lines ts) in omega (arith, ih, both)
-
 few_txns : (ss : List ClientSession) → AllByRecursion (λ s. length s.txns ≤ length (log_lines ss)) ss
 few_txns [] = tt
 few_txns (s ∷ ss) =
     let both = length-append (session_lines s) (log_lines ss) in
-    let some = lines_of_txns s.txns in
+    let some = txns_in_lines s.txns in
     (omega (arith, both, some), each_weaker (λ (t : ClientSession). length t.txns ≤ length (log_lines ss)) (λ (t : ClientSession). length t.txns ≤ length (log_lines (s ∷ ss))) (λ t few. omega (arith, both, few)) ss (few_txns ss))
 
 -- ---- the nodes
-element : {X : Type 0} (xs : List X) (i : ℕ) → i < length xs → (x : X) × (slice_get xs i ≡ Some x)
-element [] i h = absurd (omega arith)
-element (x ∷ xs) zero h = (x, refl)
-element (x ∷ xs) (suc i) h = element xs i (omega arith)
 
 -- a node, its transaction, and its name
 pub record IsNodeOf (ss : List ClientSession) (v : ℕ) (c : Committed) : Type 0 where
@@ -155,7 +148,7 @@ node : (ss : List ClientSession) (v : ℕ) → IsNode ss v → (c : Committed) �
 unfolding log_of node_of
 node ss zero h = absurd (omega (arith, h.0))
 node ss (suc i) h =
-    let e = element (committed_in ss) i (omega (arith, h.1)) in
+    let e = some_at (committed_in ss) i (omega (arith, h.1)) in
     (e.0, record { place = i; next = refl; item = e.1; node = e.1 })
 
 name_of-node : (ss : List ClientSession) (v : ℕ) (c : Committed) → IsNodeOf ss v c → name_in ss v ≡ (c.session, c.place)

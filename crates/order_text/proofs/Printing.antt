@@ -7,14 +7,14 @@ use Rattle.std.specs.Option.{option_map, option_map_or, option_or, is_some}
 use Rattle.std.specs.Str.Parse.{digits_value}
 use Rattle.std.proofs.lemmas.Bool.{and_parts, and_from, not-true, not_from_false, ne_eqb, cond-true, lt-ltb}
 use Rattle.std.proofs.lemmas.Fmt.{digits_decimal, length-decimal-le}
-use Rattle.std.proofs.lemmas.List.{take_at, drop_at}
+use Rattle.std.proofs.lemmas.List.{take_at}
 use Rattle.std.proofs.lemmas.List.Elements.{recursion_from_All}
 use Rattle.std.proofs.lemmas.List.Folds.{list_all-append}
 use Rattle.std.proofs.lemmas.Option.{cond_some}
 use Rattle.session_log.specs.Text.{ClientSession}
 use Rattle.session_log.specs.Lines.{lines, is_numeral, number_of}
 use Rattle.session_log.proofs.Digits.{own}
-use Rattle.session_log.proofs.Forms.{number_complete}
+use Rattle.session_log.proofs.Forms.{number_complete, after_key}
 use Rattle.session_log.proofs.Lines.{lines-nil, lines_line}
 use Rattle.log_definitions.specs.WellFormed.{log_lines}
 use Rattle.log_definitions.specs.Numbers.{IsWellFormedList}
@@ -49,15 +49,12 @@ space_at ds xs h =
     cond-true (nat_lt (position_or_len (λ b. b == 32) (ds ++ 32 ∷ xs)) (length (ds ++ 32 ∷ xs))) (Some (position_or_len (λ b. b == 32) (ds ++ 32 ∷ xs))) None (lt-ltb (position_or_len (λ b. b == 32) (ds ++ 32 ∷ xs)) (length (ds ++ 32 ∷ xs)) (omega (arith, end, room)))
     ∙ ap (λ i. Some i) end
 
-behind_space : (ds xs : List ℕ) → drop (length ds + 1) (ds ++ 32 ∷ xs) ≡ xs
-behind_space ds xs = ap (drop (length ds + 1)) (sym (append_assoc ds (32 ∷ []) xs)) ∙ drop_at (ds ++ 32 ∷ []) xs (length ds + 1) (simp length-append)
-
 words_of-joined : (s t : ℕ) → s < 2 ^ 64 → words_of (joined_by 32 (s, t)) ≡ Some (decimal s, decimal t)
 unfolding words_of
 words_of-joined s t h =
     let body : List ℕ = joined_by 32 (s, t) in
     ap (option_map (λ i. (take i body, drop (i + 1) body))) (space_at (decimal s) (decimal t) (without 32 refl (decimal s) (digits_decimal own s h)))
-    ∙ ap (λ (w : List ℕ × List ℕ). Some w) (cc (take_at (decimal s) (32 ∷ decimal t) (length (decimal s)) refl, behind_space (decimal s) (decimal t)))
+    ∙ ap (λ (w : List ℕ × List ℕ). Some w) (cc (take_at (decimal s) (32 ∷ decimal t) (length (decimal s)) refl, after_key (decimal s) (decimal t)))
 
 is_numeral-decimal : (n : ℕ) → n < 2 ^ 64 → is_numeral (decimal n) ≡ true
 unfolding number_of

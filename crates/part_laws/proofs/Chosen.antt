@@ -3,6 +3,7 @@ use Rattle.std.proofs.Common.{◌≡◌, ℕ, ◌+◌, Bool, List, [], ◌∷◌
 use Rattle.std.specs.List.{filter, Contains}
 use Rattle.std.proofs.lemmas.Bool.{cases_Bool}
 use Rattle.std.proofs.lemmas.List.Elements.{filter-append}
+use Rattle.list_lemmas.proofs.Elements.{behind}
 use Rattle.session_log.specs.Text.{ClientSession, Transaction}
 use Rattle.session_log.specs.declared.session.Op.{Op}
 use Rattle.session_log.specs.declared.session.Op.TheVariants.{Read, Write}
@@ -10,19 +11,20 @@ use Rattle.serializability.proofs.Places.{Has, Apart, Apart-from_IsDistinct}
 use Rattle.serializability.proofs.Listed.{Has-from_any, any-from_Has}
 use Rattle.log_definitions.specs.Unknown.{ops_in}
 use Rattle.log_definitions.specs.WellFormed.{written}
+use Rattle.log_definitions.proofs.Chosen.{Has-written}
 use Rattle.piece_laws.specs.Logs.{has_txns}
-use Rattle.piece_laws.proofs.Lists.{first_or_behind, behind, of_kept, kept as keeps}
-use Rattle.piece_laws.proofs.Identities.{wrote, ops_by, ops_in-cons}
+use Rattle.piece_laws.proofs.Lists.{first_or_behind, of_kept, kept as keeps}
+use Rattle.piece_laws.proofs.Identities.{ops_by, ops_in-cons}
 use Rattle.part_laws.specs.Parts.{IsThinned, done, left, kept, IsTxnPart, IsSessionPart}
 use Rattle.part_laws.specs.Chosen.{Flags, flagged, all_flagged, stays, thin_txn, thin, is_source, part_by, ChosenIsPart, ThinnedIsPart}
 use Rattle.part_laws.proofs.Thinned.{thinned_same, thinned_mapped, thinned_trans, thinned_filter, was_in}
 use Rattle.part_laws.proofs.Sessions.{AreParts, ops_of_part}
 use Rattle.part_laws.proofs.Logs.{session_trans}
 
-txn_itself : (t : Transaction) → IsTxnPart t t
+pub txn_itself : (t : Transaction) → IsTxnPart t t
 txn_itself t = record { ops = thinned_same (λ x y. x ≡ y) (λ x. refl) t.ops; outcome = refl; begun = refl; ended = refl }
 
-session_itself : (s : ClientSession) → IsSessionPart s s
+pub session_itself : (s : ClientSession) → IsSessionPart s s
 session_itself s = record { number = refl; txns = thinned_same IsTxnPart txn_itself s.txns }
 
 -- ---- the flagged transactions
@@ -75,11 +77,11 @@ apart_behind : (o : Op) (ops : List Op) → Apart (written (o ∷ ops)) → Apar
 apart_behind (Read k w) ops h = h
 apart_behind (Write k w) ops h = h.1
 
-same_key : (a b : List ℕ) (v w : ℕ) → Write a v ≡ Write b w → a ≡ b
+pub same_key : (a b : List ℕ) (v w : ℕ) → Write a v ≡ Write b w → a ≡ b
 same_key a b v w e = cc
 
 never_again : (o : Op) (ops : List Op) (a b : List ℕ) (wid : ℕ) → Apart (written (o ∷ ops)) → o ≡ Write a wid → Contains ops (Write b wid) → ⊥
-never_again o ops a b wid h e c = (subst (λ p. Apart (written (p ∷ ops))) e h).0 (wrote ops b wid c)
+never_again o ops a b wid h e c = (subst (λ p. Apart (written (p ∷ ops))) e h).0 (Has-written ops b wid c)
 
 one_key : (ops : List Op) (a b : List ℕ) (wid : ℕ) → Apart (written ops) → Contains ops (Write a wid) → Contains ops (Write b wid) → a ≡ b
 one_key [] a b wid h c d = absurd (omega (arith, c.1))
@@ -106,14 +108,14 @@ thinned_is_part ss some known log whole sources = record { sessions = thinned_tr
         let passes = (of_kept (stays known) (ops_in some) (Read key wid) (subst (λ l. Contains l (Read key wid)) (ops_thin known some) c)).1 in
         elim (sources wid passes) [
           | inl source ↦ elim (Has-from_any wid (0 ∷ written (ops_in some)) source) [
-            | inl none ↦ absurd (apart.0 (subst (λ w. Has w (written (ops_in ss))) (sym none) (wrote (ops_in ss) key wid d)))
+            | inl none ↦ absurd (apart.0 (subst (λ w. Has w (written (ops_in ss))) (sym none) (Has-written (ops_in ss) key wid d)))
             | inr has ↦
                 let r = write_of (ops_in some) wid has in
                 let same = one_key (ops_in ss) r.0 key wid apart.1 (was_in (ops_of_part whole) (Write r.0 wid) r.1) d in
                 subst (λ l. Contains l (Write key wid)) (sym (ops_thin known some))
                 (keeps (stays known) (ops_in some) (Write key wid) (subst (λ k. Contains (ops_in some) (Write k wid)) same r.1) refl)
           ]
-          | inr none ↦ absurd (none (any-from_Has wid (0 ∷ written (ops_in ss)) (inr (wrote (ops_in ss) key wid d))))
+          | inr none ↦ absurd (none (any-from_Has wid (0 ∷ written (ops_in ss)) (inr (Has-written (ops_in ss) key wid d))))
         ]
 
 pub chosen_is_part : ChosenIsPart

@@ -1,15 +1,16 @@
 -- Rows that are added, one transaction and one session after the other.
-use Rattle.std.proofs.Common.{◌≡◌, ℕ, zero, suc, ◌+◌, ◌-◌, ◌≤◌, Bool, true, false, cond, List, [], ◌∷◌, ◌++◌, length, drop, map, refl, sym, ap, ◌∙◌, Some, inl, inr, arith, append_assoc, length-append, Vec}
+use Rattle.std.proofs.Common.{◌≡◌, ℕ, zero, suc, ◌+◌, ◌≤◌, Bool, true, false, cond, List, [], ◌∷◌, ◌++◌, length, drop, map, refl, sym, ap, ◌∙◌, Some, inl, inr, arith, append_assoc, length-append, Vec}
 use Rattle.std.specs.Prelude.{slice_get, slice_index_or}
 use Rattle.std.specs.declared.alloc.Global.{Global}
 use Rattle.std.proofs.lemmas.Bool.{cases_Bool}
 use Rattle.std.proofs.lemmas.List.{append-nil, drop_all}
+use Rattle.list_lemmas.proofs.Elements.{get_drop}
 use Rattle.session_log.specs.Text.{ClientSession, Transaction, view, view_txn, txn_lines, session_lines}
 use Rattle.session_log.specs.declared.session.Session.{Session}
 use Rattle.session_log.specs.declared.session.Txn.{Txn}
 use Rattle.part_laws.specs.Chosen.{flagged, thin, thin_txn}
 use Rattle.log_parts.specs.Picked.{flag_of, flags_view, with_txns, picked}
-use Rattle.log_parts.proofs.Steps.{get_drop, txn_stays, txn_left, session_stays, none_from}
+use Rattle.log_parts.proofs.Steps.{txn_stays, txn_left, session_stays, none_from, flag_at}
 use Rattle.log_lines.specs.Rows.{TxnRow, Table}
 use Rattle.part_places.specs.PartRows.{part_row, flagged_rows, with_rows, part_table, first_txns, AddsRow, AddsRows}
 use Rattle.part_places.proofs.Matched.{drop_next}
@@ -25,12 +26,6 @@ rows_from known f txns line i = flagged_rows known (flag_of f) (i + 1) line (map
 pub record AreRows (known : ℕ → Bool) (f : List Bool) (txns : List Txn) (left : List Transaction) (first : ℕ) (more : List Transaction) (rows : List TxnRow) (line i : ℕ) : Type 0 where
   pub so_far : rows ++ rows_from known f txns line i ≡ rows_from known f txns (first + 1) 0
   pub behind : drop (length rows) left ≡ left_from known f txns i ++ more
-
-pub no_rows : (known : ℕ → Bool) (f : List Bool) (txns : List Txn) (left : List Transaction) (first : ℕ) (more : List Transaction) → left ≡ left_from known f txns 0 ++ more → AreRows known f txns left first more [] (first + 1) 0
-no_rows known f txns left first more e = record { so_far = refl; behind = e }
-
-flag_at : (f : List Bool) (i : ℕ) → flag_of f (i + 1) ≡ slice_index_or f i false
-flag_at f i = let same : (i + 1) - 1 ≡ i = omega arith in ap (λ n. slice_index_or f n false) same
 
 -- the transaction at a place, and those behind it
 rows_at : (known : ℕ → Bool) (f : List Bool) (txns : List Txn) (line i : ℕ) (t : Txn) → slice_get txns i ≡ Some t → (b : Bool) → slice_index_or f i false ≡ b
@@ -55,11 +50,6 @@ rows_more known f txns left first more old new line i t b at e a m =
       behind = step.1;
     }
 
-pub all_rows : (known : ℕ → Bool) (f : List Bool) (txns : List Txn) (left : List Transaction) (first : ℕ) (more : List Transaction) (rows : List TxnRow) (line i : ℕ) → length txns ≤ i → AreRows known f txns left first more rows line i → rows ≡ rows_from known f txns (first + 1) 0
-all_rows known f txns left first more rows line i le m =
-    let none : rows_from known f txns line i ≡ [] = ap (λ l. flagged_rows known (flag_of f) (i + 1) line (map view_txn l)) (drop_all i txns le) in
-    sym (append-nil rows) ∙ ap (λ l. rows ++ l) (sym none) ∙ m.so_far
-
 -- ---- one transaction
 drop_head : {X Y : Type 0} (f : X → Y) (xs : List X) (n : ℕ) (x : X) (y : Y) (ys : List Y) → slice_get xs n ≡ Some x → drop n (map f xs) ≡ y ∷ ys → f x ≡ y
 drop_head f [] n x y ys at e = cc
@@ -75,12 +65,6 @@ row_added known t place line left old next x row long at is = record {
       let more : length (old ++ row ∷ []) ≡ length old + 1 = length-append old (row ∷ []) in
       (ap (λ r. old ++ r ∷ []) same, ap (λ n. drop n (map view_txn left)) more ∙ drop_next (map view_txn left) (length old) (thin_txn known t) ts e);
 }
-
-pub row_left : (known : ℕ → Bool) (t : Transaction) (place line : ℕ) (left : List Transaction) (old : List TxnRow) → AddsRow known false t place line left old old
-row_left known t place line left old = record { adds = λ ts e. (sym (append-nil old), e) }
-
-pub row_missing : (known : ℕ → Bool) (t : Transaction) (place line : ℕ) (left : List Transaction) (old : List TxnRow) → length left ≤ length old → AddsRow known true t place line left old old
-row_missing known t place line left old le = record { adds = λ ts e. (let none = sym (drop_all (length old) left le) ∙ e in cc) }
 
 -- ---- sessions
 first_with : (known : ℕ → Bool) (number : ℕ) (ts : List Transaction) (rest : List ClientSession) → (more : List Transaction) × (first_txns (thin known (with_txns number ts) ++ rest) ≡ map (thin_txn known) ts ++ more)
@@ -121,9 +105,6 @@ table_from known flags sessions line i = part_table known (flags_view (drop i fl
 pub record IsTable (known : ℕ → Bool) (flags : List (Vec Bool Global)) (sessions : List Session) (part : List ClientSession) (first : ℕ) (table : Table) (line i : ℕ) : Type 0 where
   pub so_far : table ++ table_from known flags sessions line i ≡ table_from known flags sessions first 0
   pub behind : drop (length table) part ≡ part_from known flags sessions i
-
-pub no_table : (known : ℕ → Bool) (flags : List (Vec Bool Global)) (sessions : List Session) (part : List ClientSession) (first : ℕ) → part ≡ part_from known flags sessions 0 → IsTable known flags sessions part first [] first 0
-no_table known flags sessions part first e = record { so_far = refl; behind = e }
 
 pub table_more : (known : ℕ → Bool) (flags : List (Vec Bool Global)) (sessions : List Session) (part : List ClientSession) (first : ℕ) (old new : Table) (line i : ℕ) (f : Vec Bool Global) (s : Session) → slice_get flags i ≡ Some f → slice_get sessions i ≡ Some s
     → AddsRows known (flag_of f.items) (view s) line part old new → IsTable known flags sessions part first old line i → IsTable known flags sessions part first new (line + length (session_lines (view s))) (i + 1)

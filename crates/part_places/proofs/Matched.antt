@@ -3,10 +3,10 @@ use Rattle.std.proofs.Common.{◌≡◌, ℕ, zero, suc, ◌+◌, Bool, true, fa
 use Rattle.std.specs.Prelude.{slice_get}
 use Rattle.std.specs.List.{filter}
 use Rattle.std.proofs.lemmas.Bool.{false≢true, cases_Bool}
+use Rattle.list_lemmas.proofs.Elements.{get_drop}
 use Rattle.session_log.specs.declared.session.Op.{Op}
 use Rattle.session_log.specs.declared.session.Op.TheVariants.{Read, Write}
 use Rattle.part_laws.specs.Chosen.{stays}
-use Rattle.log_parts.proofs.Steps.{get_drop}
 use Rattle.part_places.specs.PartRows.{reads_next, is_kept, staying}
 
 pub drop_next : {X : Type 0} (xs : List X) (n : ℕ) (x : X) (ys : List X) → drop n xs ≡ x ∷ ys → drop (n + 1) xs ≡ ys
@@ -37,12 +37,6 @@ kept_stays known (Read k w) os = elim (cases_Bool (known w)) [
 pub record IsMatched (known : ℕ → Bool) (ops kept : List Op) (first : ℕ) (lines : List ℕ) (at : ℕ) : Type 0 where
   pub so_far : lines ++ staying known (first + at) (drop at ops) ≡ staying known first ops
   pub behind : drop (length lines) kept ≡ filter (stays known) (drop at ops)
-
-pub none_matched : (known : ℕ → Bool) (ops kept : List Op) (first : ℕ) → kept ≡ filter (stays known) ops → IsMatched known ops kept first [] 0
-none_matched known ops kept first e = record {
-  so_far = let same : first + 0 ≡ first = omega arith in ap (λ k. staying known k ops) same;
-  behind = e;
-}
 
 -- whether the next one is matched
 pub same_test : (known : ℕ → Bool) (ops kept : List Op) (first : ℕ) (lines : List ℕ) (at : ℕ) (o : Op) → slice_get ops at ≡ Some o → IsMatched known ops kept first lines at → is_kept o (drop (length lines) kept) ≡ stays known o

@@ -13,14 +13,10 @@ use Rattle.log_parts.specs.Picked.{flag_of, picked, with_txns}
 use Rattle.log_lines.specs.Rows.{TxnRow, Table, Fits, op_counts, line_at}
 use Rattle.log_lines.specs.Places.{BeginsAt, IsLineOf, StandsAt}
 use Rattle.log_lines.proofs.Texts.{begin_line, operation_line, ending_line}
+use Rattle.log_lines.proofs.Nodes.{counts, counts_in}
 use Rattle.part_places.specs.PartRows.{staying, part_row, flagged_rows, with_rows, part_table, IsInText}
 
 -- ---- a row for each transaction, and a line for each operation
-abbrev counts : List TxnRow → List ℕ
-counts rows = map (λ row. length row.ops) rows
-
-abbrev counts_in : List Transaction → List ℕ
-counts_in ts = map (λ t. length t.ops) ts
 
 stay_count : (known : ℕ → Bool) (line : ℕ) (os : List Op) → length (staying known line os) ≡ length (filter (stays known) os)
 stay_count known line [] = refl

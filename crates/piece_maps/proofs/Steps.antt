@@ -1,5 +1,5 @@
 -- Steps of the loops: what is left of a list begins with its next element.
-use Rattle.std.proofs.Common.{◌≡◌, ℕ, suc, zero, ◌+◌, ◌-◌, ◌<◌, List, [], ◌∷◌, ◌++◌, length, map, drop, Some, refl, sym, ap, ◌∙◌, arith, append_assoc}
+use Rattle.std.proofs.Common.{◌≡◌, ℕ, suc, ◌+◌, ◌-◌, ◌<◌, List, [], ◌++◌, length, map, drop, Some, sym, ap, ◌∙◌, arith, append_assoc}
 use Rattle.std.specs.Prelude.{slice_get}
 use Rattle.std.specs.BTreeMap.{BTreeMap, UpdatesBy}
 use Rattle.std.proofs.Math.Path.{fun_ext}
@@ -11,7 +11,6 @@ use Rattle.session_log.specs.declared.session.Op.TheVariants.{Read}
 use Rattle.piece_laws.specs.Held.{Held}
 use Rattle.cutting.specs.declared.part.Part.{Part}
 use Rattle.cutting.specs.Parts.{part_view, parts_view}
-use Rattle.cutting.proofs.Views.{get_drop}
 use Rattle.held_pieces.specs.Pieces.{HeldPiece}
 use Rattle.held_pieces.specs.Reigns.{read_cmp, last_in}
 use Rattle.held_pieces.proofs.Steps.{pair_cmp, inserted}
@@ -19,9 +18,7 @@ use Rattle.piece_maps.specs.Lines.{Lines, Reads, no_reads, with_line, heads_from
 use Rattle.piece_maps.specs.Lines.{with_op, with_ops, with_txns, with_piece, with_pieces}
 use Rattle.piece_maps.specs.Maps.{map_line, map_lines, map_session, map_sessions}
 use denote.Ref.{Bor}
-
-pub from_here : {X : Type 0} (xs : List X) (i : ℕ) (x : X) → slice_get xs i ≡ Some x → drop i xs ≡ x ∷ drop (i + 1) xs
-from_here xs i x e = let next : suc i ≡ i + 1 = omega arith in get_drop xs i x e ∙ ap (λ k. x ∷ drop k xs) next
+use Rattle.list_lemmas.proofs.Elements.{get_drop as from_here}
 
 -- ---- reads
 pub none_read : (t : BTreeMap (ℕ × Bor (List ℕ)) ℕ) → t.entries ≡ [] → last_in t ≡ no_reads
@@ -36,11 +33,6 @@ op_taken ops i line next o f g whole at e is h =
     ∙ ap (with_ops (line + 1) (drop (i + 1) ops)) is
     ∙ sym (ap (λ l. with_ops line l f) (from_here ops i o at))
     ∙ h
-
-pub some_at : {X : Type 0} (xs : List X) (i : ℕ) → i < length xs → (x : X) × (slice_get xs i ≡ Some x)
-some_at [] i lt = absurd (omega (arith, lt))
-some_at (x ∷ xs) zero lt = (x, refl)
-some_at (x ∷ xs) (suc i) lt = some_at xs i (omega (arith, lt))
 
 -- ---- sessions of the log
 pub head_taken : (ss : List Session) (i line next : ℕ) (s : Session) (f g whole : Lines) → slice_get ss i ≡ Some s → next ≡ line + length (session_lines (view s)) → g ≡ with_line s.number line f → heads_from line (map view (drop i ss)) f ≡ whole

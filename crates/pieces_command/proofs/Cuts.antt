@@ -1,9 +1,9 @@
 -- Files that are put one after the other, and that are cut short.
 use Rattle.std.proofs.Common.{◌≡◌, ℕ, ◌+◌, List, [], ◌∷◌, ◌++◌, drop, Option, Some, None, refl, sym, ap, ◌∙◌, subst, append_assoc, append-nil}
 use Rattle.std.specs.Prelude.{slice_get}
+use Rattle.list_lemmas.proofs.Elements.{get_drop}
 use Rattle.held_pieces.specs.Pieces.{HeldPiece}
 use Rattle.piece_maps.specs.Lines.{Lines, Reads, passed_by}
-use Rattle.piece_maps.proofs.Steps.{from_here}
 use Rattle.pieces_command.specs.Folders.{File, Adds, IsBegun, AreCutShort}
 use Rattle.pieces_command.specs.Files.{piece_files, files_from}
 
@@ -63,7 +63,7 @@ files_next n heads reads ps i p f g whole old mid new at is put h =
     record {
       done = h.done ++ one;
       split = h.split
-          ∙ ap (λ l. h.done ++ files_from n (i + 1) heads reads f l) (from_here ps i p at)
+          ∙ ap (λ l. h.done ++ files_from n (i + 1) heads reads f l) (get_drop ps i p at)
           ∙ sym (append_assoc h.done one (files_from n (i + 1 + 1) heads reads (passed_by p.sessions f) (drop (i + 1) ps)))
           ∙ ap (λ k. (h.done ++ one) ++ files_from n (i + 1 + 1) heads reads k (drop (i + 1) ps)) (sym is);
       told = adds_both old mid new h.done one h.told put;
@@ -73,8 +73,5 @@ pub files_failed : (n : ℕ) (heads : Lines) (reads : Reads) (ps : List HeldPiec
     → SoFar whole (files_from n (i + 1) heads reads f (drop i ps)) old mid → AreCutShort whole old new
 files_failed n heads reads ps i p f whole old mid new at short h =
     let rest = files_from n (i + 1 + 1) heads reads (passed_by p.sessions f) (drop (i + 1) ps) in
-    let is = h.split ∙ ap (λ l. h.done ++ files_from n (i + 1) heads reads f l) (from_here ps i p at) in
+    let is = h.split ∙ ap (λ l. h.done ++ files_from n (i + 1) heads reads f l) (get_drop ps i p at) in
     subst (λ l. AreCutShort l old new) (sym is) (cut_behind h.done (piece_files n (i + 1) heads reads f p ++ rest) old mid new h.told (cut_before (piece_files n (i + 1) heads reads f p) rest mid new short))
-
-pub files_all : (n m : ℕ) (heads : Lines) (reads : Reads) (ps : List HeldPiece) (f : Lines) (whole : List File) (old new : Option (List File)) → ps ≡ [] → SoFar whole (files_from n m heads reads f ps) old new → Adds old new whole
-files_all n m heads reads ps f whole old new none h = subst (Adds old new) (sym (h.split ∙ ap (λ l. h.done ++ files_from n m heads reads f l) none ∙ append-nil h.done)) h.told

@@ -1,9 +1,9 @@
 -- The lines of pieces, one after another.
 use Rattle.std.proofs.Common.{◌≡◌, ℕ, ◌+◌, ◌<◌, List, ◌∷◌, ◌++◌, length, drop, Some, sym, ap, ◌∙◌, append_assoc}
 use Rattle.std.specs.Prelude.{slice_get}
+use Rattle.list_lemmas.proofs.Elements.{get_drop, some_at}
 use Rattle.session_log.specs.Text.{ClientSession}
 use Rattle.held_pieces.specs.Pieces.{HeldPiece}
-use Rattle.piece_maps.proofs.Steps.{from_here, some_at}
 use Rattle.pieces_command.specs.Told.{line_of, lines_from}
 
 put : (p : HeldPiece) (ps : List HeldPiece) (i : ℕ) (out more whole : List ℕ) → more ≡ out ++ line_of (i + 1) p.sessions → out ++ lines_from (i + 1) (p ∷ ps) ≡ whole → more ++ lines_from (i + 1 + 1) ps ≡ whole
@@ -14,4 +14,4 @@ pub next_line : (ps : List HeldPiece) (i : ℕ) (out more whole : List ℕ) (par
 next_line ps i out more whole parts lt are e h =
     let p = some_at ps i lt in
     put p.0 (drop (i + 1) ps) i out more whole (e ∙ ap (λ ss. out ++ line_of (i + 1) ss) (are p.0 p.1))
-    (ap (λ l. out ++ lines_from (i + 1) l) (sym (from_here ps i p.0 p.1)) ∙ h)
+    (ap (λ l. out ++ lines_from (i + 1) l) (sym (get_drop ps i p.0 p.1)) ∙ h)

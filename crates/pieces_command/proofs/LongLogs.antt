@@ -1,19 +1,13 @@
 -- Pieces of a long log.
 use Rattle.std.proofs.Common.{◌≡◌, ℕ, List, map, sym, ◌∙◌, subst}
 use Rattle.session_log.specs.Text.{ClientSession, view}
-use Rattle.session_log.specs.Version.{first_line, version_of}
 use Rattle.log_definitions.specs.Unknown.{resolved}
 use Rattle.piece_laws.specs.Logs.{IsSoundLog, IsLearntLog}
 use Rattle.piece_laws.proofs.Several.{sound_resolved, learnt_once_resolved}
-use Rattle.long_log_definitions.specs.LongLog.{IsLongLog, HasOwnNumbers}
-use Rattle.long_log_definitions.proofs.Texts.{sound_where_long, numbers_where_no_fault}
+use Rattle.long_log_definitions.proofs.Texts.{sound_where_long}
 use Rattle.held_pieces.specs.Pieces.{HeldPiece, ArePieces}
 use Rattle.pieces_command.specs.declared.known.KnownLog.{KnownLog}
 use Rattle.pieces_command.specs.Told.{IsKnown}
-
--- no two sessions of a long log have one number, and no two of its writes one identity
-pub own_numbers : (log : List ℕ) (ss : List ClientSession) → IsLongLog log ss → HasOwnNumbers ss
-own_numbers log ss long = numbers_where_no_fault (first_line (version_of log)) ss long.sessions
 
 pub pieces_of_known : (log : List ℕ) (ss : List ClientSession) (known : KnownLog) (ps : List HeldPiece) → ss ≡ map view known.sessions.items → (IsSoundLog ss → IsLearntLog ss → ArePieces ss ps) → (k : IsKnown log known) → ArePieces (resolved k.sessions) ps
 pieces_of_known log ss known ps e of k = subst (λ l. ArePieces l ps) whole (of sound learnt)

@@ -1,13 +1,9 @@
 -- What holds of each element of a list, by its place.
-use Rattle.std.proofs.Common.{◌≡◌, ℕ, zero, suc, ◌<◌, List, [], ◌∷◌, length, get_or, sym, subst, arith}
+use Rattle.std.proofs.Common.{◌≡◌, ℕ, ◌<◌, List, length, get_or, sym, subst}
 use Rattle.std.specs.List.{AllByRecursion}
 use Rattle.std.specs.Prelude.{map}
 use Rattle.serializability.proofs.Places.{each_of_map}
-
-pub each_at : {X : Type 0} (P : X → Type 0) (xs : List X) → AllByRecursion P xs → (k : ℕ) (d : X) → k < length xs → P (get_or xs k d)
-each_at P [] h k d lt = absurd (omega arith)
-each_at P (x ∷ xs) h zero d lt = h.0
-each_at P (x ∷ xs) h (suc k) d lt = each_at P xs h.1 k d (omega arith)
+use Rattle.known_graph.proofs.ReadSources.{each_at}
 
 -- the same of an item read from the list, where P holds of what each item stands for
 pub each_item : {X Y : Type 0} (P : Y → Type 0) (f : X → Y) (xs : List X) → AllByRecursion P (map f xs) → (k : ℕ) (x : X) → k < length xs → x ≡ get_or xs k x → P (f x)

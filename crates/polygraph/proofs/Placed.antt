@@ -7,9 +7,9 @@ use Rattle.std.proofs.lemmas.List.{get_or-set_same, get_or-set_other, length-set
 use Rattle.serializability.specs.Replay.{place_of, ListsOnce}
 use Rattle.serializability.proofs.Places.{Has, Apart, Has-append_front, Has-append_back, Has-append_cases, Apart-not_both, Has-from_Contains, place_of-here, place_of-further, place_of-back}
 use Rattle.serializability.proofs.Fronts.{front_more, around, Apart-push}
-use Rattle.serializability.proofs.Serial.{node_of, behind_zero}
+use Rattle.serializability.proofs.Serial.{behind_zero}
 use Rattle.polygraph.specs.Places.{ArePlaces}
-use Rattle.serializability.proofs.Listed.{Has_get, Has-from_any, any-from_Has, once_apart, once_from}
+use Rattle.serializability.proofs.Listed.{Has-from_any, any-from_Has, once_apart, once_from}
 
 place_of-stays : (v : ℕ) (f b : List ℕ) → Has v f → place_of (f ++ b) v ≡ place_of f v
 place_of-stays v [] b h = absurd h
@@ -74,10 +74,6 @@ placed_more n order i v places few lt here lo hi z o =
     record { room = length-set places v (i + 1) ∙ o.room; placed = next.placed; unplaced = next.unplaced; apart = next.apart; within = next.within }
 
 -- ---- lists that do not have each node once
-pub not_once_outside : (n : ℕ) (order : List ℕ) (i v : ℕ) → i < length order → get_or order i v ≡ v → (0 < v → v ≤ n → ⊥) → ListsOnce n order → ⊥
-not_once_outside n order i v lt e outside once =
-    let within = node_of n order once v (subst (λ u. Has u order) e (Has_get order i v lt)) in
-    outside within.0 within.1
 
 pub not_once_twice : (n : ℕ) (order : List ℕ) (i v : ℕ) (places : List ℕ) → i < length order → get_or order i v ≡ v → v ≤ n → (get_or places v 0 ≡ 0 → ⊥) → PlacedSoFar n order i places → ListsOnce n order → ⊥
 not_once_twice n order i v places lt e hi taken o once =

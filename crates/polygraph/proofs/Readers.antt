@@ -1,10 +1,11 @@
 -- The bipaths of a log, by what its nodes read and who wrote the keys.
-use Rattle.std.proofs.Common.{◌≡◌, ℕ, ◌+◌, ◌-◌, ◌<◌, ◌≤◌, Bool, true, false, cond, ◌&&◌, List, [], ◌∷◌, ◌++◌, length, get_or, drop, Option, None, Some, refl, sym, ap, ◌∙◌, subst, arith}
+use Rattle.std.proofs.Common.{◌≡◌, ℕ, ◌+◌, ◌-◌, ◌<◌, List, [], ◌∷◌, ◌++◌, length, get_or, drop, Option, None, Some, refl, sym, ap, ◌∙◌, subst, arith}
 use Rattle.std.specs.Prelude.{is_some, map}
 use Rattle.std.specs.List.{filter, filter_map, cons_option, flat_map, range_with_len, count_by, AllByRecursion}
 use Rattle.std.specs.Option.{option_map}
-use Rattle.std.proofs.lemmas.List.{get_or-map, length-map, drop_more, drop_all}
+use Rattle.std.proofs.lemmas.List.{get_or-map, length-map, drop_more}
 use Rattle.std.proofs.lemmas.List.Sums.{length-filter}
+use Rattle.list_lemmas.proofs.Lists.{filter_both}
 use Rattle.serializability.specs.Log.{Log}
 use Rattle.serializability.specs.Reads.{last_write, IsClean}
 use Rattle.serializability.specs.Polygraph.{Choice, source, rival_choice, bipaths, bipaths_at, all_keys, committed}
@@ -15,10 +16,9 @@ use Rattle.polygraph.specs.Polygraphs.{JoinsBoth}
 use Rattle.polygraph.specs.Rivals.{is_other}
 use Rattle.polygraph.proofs.Each.{each_item}
 use Rattle.known_graph.proofs.Rests.{up_to, up_to_first, Split}
+use Rattle.known_graph.proofs.ReadSources.{reads_key}
 
 -- ---- from whom a node reads
-abbrev reads_key : Log → ℕ → ℕ → Option (ℕ × ℕ)
-reads_key log r x = option_map (λ w. (x, w)) (source log r x)
 
 -- ---- the key and the source of each read
 kept_read : (log : Log) (r : ℕ) (P : ℕ → Type 0) (x : ℕ) → P x → (o : Option ℕ) → source log r x ≡ o → (rest : List (ℕ × ℕ)) → AllByRecursion (λ p. P p.0 × (source log r p.0 ≡ Some p.1)) rest → AllByRecursion (λ p. P p.0 × (source log r p.0 ≡ Some p.1)) (cons_option (option_map (λ w. (x, w)) o) rest)
@@ -47,14 +47,6 @@ reader_bipaths log r = flat_map (λ x. bipaths_at log r x (source log r x)) (all
 
 abbrev pub read_bipaths : Log → ℕ → (ℕ × ℕ) → List Choice
 read_bipaths log r p = map (rival_choice p.1 r) (filter (is_other p.1 r) (writers_in log p.0))
-
-filter_both : {X : Type 0} (p q : X → Bool) (xs : List X) → filter p (filter q xs) ≡ filter (λ x. q x && p x) xs
-filter_both p q [] = refl
-filter_both p q (x ∷ xs) =
-    elim (q x) as (λ b. filter p (cond b (x ∷ filter q xs) (filter q xs)) ≡ cond (b && p x) (x ∷ filter (λ y. q y && p y) xs) (filter (λ y. q y && p y) xs)) [
-      | true ↦ ap (λ l. cond (p x) (x ∷ l) l) (filter_both p q xs)
-      | false ↦ filter_both p q xs
-    ]
 
 rivals : (log : Log) (x w r : ℕ) → bipaths_at log r x (Some w) ≡ read_bipaths log r (x, w)
 rivals log x w r = ap (map (rival_choice w r)) (sym (filter_both (is_other w r) (λ v. is_some (last_write x (log.ops v))) (committed log)))
@@ -95,11 +87,6 @@ first_read log r f reads e i read lt is =
       parts = ap (of_reads log r) (drop_more (sources_of log r) i (f read) (omega (arith, same)))
           ∙ ap (λ p. read_bipaths log r p ++ of_reads log r (drop (i + 1) (sources_of log r))) here;
     }
-
-pub no_reads : {X : Type 0} (log : Log) (r : ℕ) (f : X → ℕ × ℕ) (reads : List X) → map f reads ≡ sources_of log r → (i : ℕ) → length reads ≤ i → of_reads log r (drop i (sources_of log r)) ≡ []
-no_reads log r f reads e i h =
-    let same : length (sources_of log r) ≡ length reads = ap length (sym e) ∙ length-map reads f in
-    ap (of_reads log r) (drop_all i (sources_of log r) (omega (arith, same)))
 
 pub rival_number : (log : Log) (r : ℕ) (p : ℕ × ℕ) → length (read_bipaths log r p) ≡ count_by (is_other p.1 r) (writers_in log p.0)
 rival_number log r p = length-map (filter (is_other p.1 r) (writers_in log p.0)) (rival_choice p.1 r) ∙ length-filter (is_other p.1 r) (writers_in log p.0)

@@ -2,6 +2,7 @@
 use Rattle.std.proofs.Common.{◌≡◌, ℕ, zero, suc, ◌+◌, ◌<◌, ◌≤◌, length, take, take_all, get_or, add-one, Bool, true, false, not, ◌||◌, if◌then◌else◌, List, [], ◌∷◌, ◌++◌, Option, Some, None, Result, Ok, Err, IfOk, slice_get, refl, sym, ap, subst, ◌∙◌, ◌⊎◌, inl, inr}
 use Rattle.std.proofs.Math.Seq.{take-suc}
 use Rattle.std.specs.Option.{option_map}
+use Rattle.std.proofs.lemmas.Bool.{or_cases, or_left, or_right}
 use Rattle.serializability.specs.Formula.{value_of, literal_true, clause_true}
 use Rattle.serializability.specs.declared.literal.Literal.{Literal}
 use Rattle.refutation.specs.Follows.{SatisfiesAll, Follows, Entails}
@@ -18,7 +19,7 @@ use Rattle.proof_checks.specs.Held.{Holds}
 use Rattle.proof_checks.specs.Passed.{IsFound, IsTaken}
 use Rattle.proof_checks.specs.Reached.{EndsAt}
 use Rattle.proof_checks.proofs.Propagating.{stands_at, at_stands, twice_negated, alike, self_same, implied_more, held_implied, holds_added, holds_same}
-use Rattle.proof_checks.proofs.Reaching.{or_cases, or_left, or_right, both, more_cases}
+use Rattle.proof_checks.proofs.Reaching.{both, more_cases}
 
 -- what is left of a clause
 left_cases : (known : List (Option Bool)) (d : List Literal) (m : Literal) → is_among d m ≡ true → (known_false known m ≡ true) ⊎ (is_among (left_of known d) m ≡ true)

@@ -1,20 +1,14 @@
 -- Literals that are kept once.
 use Rattle.std.proofs.Common.{◌≡◌, ℕ, ◌+◌, ◌*◌, ◌<◌, ◌≤◌, Bool, true, false, not, ◌||◌, eqb, ◌==◌, if◌then◌else◌, List, [], ◌∷◌, ◌++◌, length, filter, take, refl, sym, ap, ◌∙◌, get_or, add-one, append-nil, arith, take_all}
 use Rattle.std.proofs.Math.Seq.{take-suc}
-use Rattle.std.proofs.lemmas.Bool.{eqb-true, eqb-false, eq-eqb, ne_eqb}
+use Rattle.std.proofs.lemmas.Bool.{eqb-true, ne_eqb}
 use Rattle.std.specs.List.{list_any}
 use Rattle.std.proofs.lemmas.List.Folds.{list_any_more}
 use Rattle.std.proofs.lemmas.List.Elements.{filter-append}
+use Rattle.list_lemmas.proofs.Comparisons.{eqb_flip}
 use Rattle.serializability.specs.declared.literal.Literal.{Literal}
 use Rattle.proof_checks.specs.Distinct.{code_of, is_same, is_among, with_literal, distinct, negated, is_tautology}
 use Rattle.proof_checks.specs.Ends.{is_nil}
-
-pub eqb_sym : (a b : ℕ) → eqb a b ≡ eqb b a
-eqb_sym a b = by_test (eqb a b) refl
-  where
-    by_test : (t : Bool) → eqb a b ≡ t → eqb a b ≡ eqb b a
-    by_test true e = e ∙ sym (eq-eqb b a (sym (eqb-true a b e)))
-    by_test false e = e ∙ sym (ne_eqb b a (λ h. eqb-false a b e (sym h)))
 
 -- a literal stands among literals as it stands among them without another
 among_others : (l m : Literal) (ls : List Literal) → is_same l m ≡ false → is_among (filter (λ k. not (is_same m k)) ls) l ≡ is_among ls l
@@ -42,12 +36,12 @@ more_by : (y x : Literal) (ds whole : List Literal) (b : Bool) → is_same y x �
     → y ∷ whole ≡ y ∷ filter (λ m. not (is_same y m)) ds ++ (if is_same x y || is_among (filter (λ m. not (is_same y m)) ds) x then [] else x ∷ [])
 more_by y x ds whole true e w =
     let others : List Literal = filter (λ m. not (is_same y m)) ds in
-    let same : is_same x y ≡ true = eqb_sym (code_of x) (code_of y) ∙ e in
+    let same : is_same x y ≡ true = eqb_flip (code_of x) (code_of y) ∙ e in
     ap (λ (t : List Literal). y ∷ t) (w ∙ ap (λ (t : List Literal). others ++ t) (dropped y x (is_among ds x) e))
     ∙ sym (ap (λ b. y ∷ others ++ (if b || is_among others x then [] else x ∷ [])) same)
 more_by y x ds whole false e w =
     let others : List Literal = filter (λ m. not (is_same y m)) ds in
-    let apart : is_same x y ≡ false = eqb_sym (code_of x) (code_of y) ∙ e in
+    let apart : is_same x y ≡ false = eqb_flip (code_of x) (code_of y) ∙ e in
     ap (λ (t : List Literal). y ∷ t) (w ∙ ap (λ (t : List Literal). others ++ t) (kept_on y x (is_among ds x) e))
     ∙ (sym (ap (λ b. y ∷ others ++ (if b then [] else x ∷ [])) (among_others x y ds apart))
     ∙ sym (ap (λ b. y ∷ others ++ (if b || is_among others x then [] else x ∷ [])) apart))

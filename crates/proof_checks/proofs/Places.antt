@@ -1,16 +1,14 @@
 -- The places of IDs among ascending ones, and the numbers of clauses.
-use Rattle.std.proofs.Common.{◌≡◌, ℕ, ◌+◌, ◌-◌, ◌<◌, ◌≤◌, Bool, true, false, ◌&&◌, if◌then◌else◌, is_some, cond, nat_lt, nat_le, ◌==◌, List, [], ◌∷◌, ◌++◌, length, Option, Some, None, Result, Ok, Err, MatchResult, refl, sym, ap, ◌∙◌, get_or, position, inl, inr, arith, append_assoc, append-nil, drop, add-one, slice_set}
+use Rattle.std.proofs.Common.{◌≡◌, ℕ, ◌+◌, ◌-◌, ◌<◌, ◌≤◌, Bool, true, false, ◌&&◌, if◌then◌else◌, is_some, cond, nat_lt, nat_le, ◌==◌, List, [], ◌∷◌, ◌++◌, length, Option, Some, None, Result, Ok, Err, MatchResult, refl, sym, ap, ◌∙◌, get_or, position, inl, inr, arith, append_assoc, append-nil, drop, slice_set}
 use Rattle.std.specs.List.{position_or_len}
 use Rattle.std.specs.List.Sorted.{IsStrictlyIncreasing, IsBinarySearchResult}
 use Rattle.std.specs.Ordering.{nat_cmp}
 use Rattle.std.specs.Option.{option_map, option_and_then}
 use Rattle.std.proofs.lemmas.Bool.{eq-eqb, ne_eqb, lt-ltb, le-ltb, le-leb, ltb-true, leb-true, cases_lt, cases_eq}
-use Rattle.std.proofs.lemmas.List.Quantifiers.{position-Some}
 use Rattle.std.proofs.lemmas.List.Sums.{position_or_len_is}
 use Rattle.std.proofs.lemmas.List.Kept.{AllPairs-from_increasing}
 use Rattle.std.proofs.lemmas.List.Sorted.{searched}
-use Rattle.std.proofs.lemmas.List.{get_or_append_left, get_or_push, length_push, drop_all, get_or_default, length-replicate}
-use Rattle.std.proofs.Math.Seq.{drop-cons}
+use Rattle.std.proofs.lemmas.List.{get_or_append_left, get_or_push, length_push, drop_all, get_or_default, length-replicate, drop_more}
 use Rattle.std.specs.Result.{result_ok}
 use Rattle.refutation.specs.Known.{all_open}
 use Rattle.serializability.specs.declared.literal.Literal.{Literal}
@@ -96,9 +94,6 @@ number_added p id o none e = ap (option_map (λ k. given_of p + k)) e ∙ by_tes
         ∙ ap (λ s. if s then Some (id - 1) else option_map (λ k. given_of p + k) (position (λ x. x == id) p.added)) b)
     by_tests false t a b = sym (ap (λ s. if s && nat_le id (given_of p) then Some (id - 1) else option_map (λ k. given_of p + k) (position (λ x. x == id) p.added)) a)
 
-pub place_within : (xs : List ℕ) (x k : ℕ) → Some k ≡ position (λ y. y == x) xs → k < length xs
-place_within xs x k e = (position-Some (λ y. y == x) xs k 0 (sym e)).0
-
 pub stands : (p : Proof) (id n : ℕ) (c : List Literal) → Some n ≡ number_at p id → clause_at p.clauses n ≡ Some c → Some n ≡ standing_at p id
 unfolding standing_at
 stands p id n c e at = sym (
@@ -115,21 +110,18 @@ pub has_no_number : (p : Proof) (id : ℕ) → None ≡ number_at p id → None 
 unfolding standing_at
 has_no_number p id e = ap (option_and_then (λ m. if is_some (clause_at p.clauses m) then Some m else None)) e
 
-step_to : {X : Type 0} (xs : List X) (i : ℕ) (d : X) → i < length xs → drop i xs ≡ get_or xs i d ∷ drop (i + 1) xs
-step_to xs i d lt = rw add-one (drop-cons xs i d lt)
-
 -- the numbers of the IDs up to a place, and of the others
 pub numbers_step : (p : Proof) (ns new : List ℕ) (ids : List (Option ℕ)) (i : ℕ) (d : Option ℕ) (n : ℕ) → i < length ids → option_map (λ r. ns ++ r) (numbers_at p (drop i ids)) ≡ numbers_at p ids
     → Some n ≡ named_at p (get_or ids i d) → new ≡ ns ++ n ∷ [] → option_map (λ r. new ++ r) (numbers_at p (drop (i + 1) ids)) ≡ numbers_at p ids
 numbers_step p ns new ids i d n lt inv e more =
     ap (λ (ms : List ℕ). option_map (λ r. ms ++ r) (numbers_at p (drop (i + 1) ids))) more
     ∙ (sym (numbers_more p ns (get_or ids i d) (drop (i + 1) ids) n (sym e))
-    ∙ (ap (λ (xs : List (Option ℕ)). option_map (λ r. ns ++ r) (numbers_at p xs)) (sym (step_to ids i d lt)) ∙ inv))
+    ∙ (ap (λ (xs : List (Option ℕ)). option_map (λ r. ns ++ r) (numbers_at p xs)) (sym (drop_more ids i d lt)) ∙ inv))
 
 pub numbers_stop : (p : Proof) (ns : List ℕ) (ids : List (Option ℕ)) (i : ℕ) (d : Option ℕ) → i < length ids → option_map (λ r. ns ++ r) (numbers_at p (drop i ids)) ≡ numbers_at p ids
     → None ≡ named_at p (get_or ids i d) → numbers_at p ids ≡ None
 numbers_stop p ns ids i d lt inv e =
-    sym inv ∙ (ap (λ (xs : List (Option ℕ)). option_map (λ r. ns ++ r) (numbers_at p xs)) (step_to ids i d lt) ∙ numbers_none p ns (get_or ids i d) (drop (i + 1) ids) (sym e))
+    sym inv ∙ (ap (λ (xs : List (Option ℕ)). option_map (λ r. ns ++ r) (numbers_at p xs)) (drop_more ids i d lt) ∙ numbers_none p ns (get_or ids i d) (drop (i + 1) ids) (sym e))
 
 pub numbers_end : (p : Proof) (ns : List ℕ) (ids : List (Option ℕ)) (i : ℕ) → length ids ≤ i → option_map (λ r. ns ++ r) (numbers_at p (drop i ids)) ≡ numbers_at p ids → numbers_at p ids ≡ Some ns
 unfolding numbers_at
@@ -143,7 +135,7 @@ ok_value (Err i) o e = e
 -- deleted clauses up to a place
 pub without_step : (ks : List ℕ) (i : ℕ) (cs new all : List (Option (List Literal))) → i < length ks → without (drop i ks) cs ≡ all → new ≡ slice_set cs (get_or ks i 0) None → without (drop (i + 1) ks) new ≡ all
 without_step ks i cs new all lt inv e =
-    ap (without (drop (i + 1) ks)) e ∙ (ap (λ (ms : List ℕ). without ms cs) (sym (step_to ks i 0 lt)) ∙ inv)
+    ap (without (drop (i + 1) ks)) e ∙ (ap (λ (ms : List ℕ). without ms cs) (sym (drop_more ks i 0 lt)) ∙ inv)
 
 pub opened : (n : ℕ) (known : List (Option Bool)) → known ≡ all_open n → length known ≡ n
 opened n known e = ap length e ∙ length-replicate n None

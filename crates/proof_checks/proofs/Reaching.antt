@@ -1,7 +1,7 @@
 -- A propagation that looks at one clause after the other, to its end.
 use Rattle.std.proofs.Common.{◌≡◌, ℕ, zero, suc, ◌+◌, ◌<◌, ◌≤◌, Bool, true, false, not, ◌||◌, if◌then◌else◌, List, [], ◌∷◌, ◌++◌, length, take, get_or, Contains, Option, Some, refl, sym, ap, subst, ◌∙◌, ◌⊎◌, inl, inr, arith, length-append, add-one, take_all}
 use Rattle.std.proofs.Math.Seq.{take-suc}
-use Rattle.std.proofs.lemmas.Bool.{cases_eq}
+use Rattle.std.proofs.lemmas.Bool.{cases_eq, or_cases, or_left, or_right}
 use Rattle.std.proofs.lemmas.List.Folds.{list_any-append}
 use Rattle.std.proofs.lemmas.List.Elements.{Contains-append_left, Contains-append_right, Contains-append_cases}
 use Rattle.serializability.specs.declared.literal.Literal.{Literal}
@@ -12,18 +12,6 @@ use Rattle.proof_checks.specs.Reached.{IsLast, IsOpen, IsDone, IsLeft, AreFalse,
 use Rattle.proof_checks.specs.declared.plain.Left.{Left}
 use Rattle.proof_checks.specs.declared.plain.Left.TheVariants as left
 use Rattle.proof_checks.proofs.Propagating.{stands_at, at_stands, within_clauses, twice_negated, alike, self_same}
-
-pub or_cases : (a b : Bool) → (a || b) ≡ true → (a ≡ true) ⊎ (b ≡ true)
-or_cases true b h = inl refl
-or_cases false b h = inr h
-
-pub or_left : (a b : Bool) → a ≡ true → (a || b) ≡ true
-or_left true b h = refl
-or_left false b h = cc
-
-pub or_right : (a b : Bool) → b ≡ true → (a || b) ≡ true
-or_right true b h = refl
-or_right false b h = h
 
 pub both : (b : Bool) → b ≡ true → b ≡ false → ⊥
 both b t f = cc

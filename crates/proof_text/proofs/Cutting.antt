@@ -3,15 +3,12 @@ use Rattle.std.proofs.Common.{◌≡◌, ℕ, ◌+◌, ◌<◌, ◌≤◌, Bool,
 use Rattle.std.proofs.lemmas.Bool.{not-false}
 use Rattle.std.proofs.lemmas.List.Sums.{prefix_len-le-length}
 use Rattle.std.specs.List.{position_or_len}
-use Rattle.session_log.proofs.Lines.{take_step, drop_step, position_some, position_none}
+use Rattle.session_log.proofs.Lines.{take_step, drop_step, position_some, position_none, is_lf}
 use Rattle.proof_text.specs.Words.{is_blank, onto_first, begins_word, words, lines, stated, is_passed}
 
 -- a byte of a word
 abbrev pub is_text : ℕ → Bool
 is_text b = not (is_blank b)
-
-abbrev pub is_feed : ℕ → Bool
-is_feed b = b == 10
 
 words_blank : (b : ℕ) (bs : List ℕ) → is_blank b ≡ true → words (b ∷ bs) ≡ words bs
 unfolding words
@@ -106,39 +103,39 @@ stated_empty n [] e = refl
 stated_empty n (b ∷ bs) e = absurd (omega arith)
 
 -- up to the first line feed
-lines_first : (bs : List ℕ) → position_or_len is_feed bs < length bs → lines bs ≡ take (position_or_len is_feed bs) bs ∷ lines (drop (position_or_len is_feed bs + 1) bs)
+lines_first : (bs : List ℕ) → position_or_len is_lf bs < length bs → lines bs ≡ take (position_or_len is_lf bs) bs ∷ lines (drop (position_or_len is_lf bs + 1) bs)
 unfolding lines
 lines_first [] h = absurd (omega arith)
 lines_first (b ∷ bs) h = go (lines_first bs) (b == 10) refl h
   where
-    go : (position_or_len is_feed bs < length bs → lines bs ≡ take (position_or_len is_feed bs) bs ∷ lines (drop (position_or_len is_feed bs + 1) bs)) → (t : Bool) → (b == 10) ≡ t → position_or_len is_feed (b ∷ bs) < length (b ∷ bs) → lines (b ∷ bs) ≡ take (position_or_len is_feed (b ∷ bs)) (b ∷ bs) ∷ lines (drop (position_or_len is_feed (b ∷ bs) + 1) (b ∷ bs))
+    go : (position_or_len is_lf bs < length bs → lines bs ≡ take (position_or_len is_lf bs) bs ∷ lines (drop (position_or_len is_lf bs + 1) bs)) → (t : Bool) → (b == 10) ≡ t → position_or_len is_lf (b ∷ bs) < length (b ∷ bs) → lines (b ∷ bs) ≡ take (position_or_len is_lf (b ∷ bs)) (b ∷ bs) ∷ lines (drop (position_or_len is_lf (b ∷ bs) + 1) (b ∷ bs))
     go ih true e h = rw e refl
     go ih false e h =
-        let k : ℕ = position_or_len is_feed bs in
+        let k : ℕ = position_or_len is_lf bs in
         let small = rw e at h in
         let first = ih (omega arith) in
         rw e (ap (onto_first b) first ∙ cc (take_step b (1 + k) k bs (omega arith), drop_step b (1 + k + 1) (k + 1) bs (omega arith)))
 
 -- with no line feed
-lines_last : (bs : List ℕ) → length bs ≤ position_or_len is_feed bs → lines bs ≡ bs ∷ []
+lines_last : (bs : List ℕ) → length bs ≤ position_or_len is_lf bs → lines bs ≡ bs ∷ []
 unfolding lines
 lines_last [] h = refl
 lines_last (b ∷ bs) h = go (lines_last bs) (b == 10) refl h
   where
-    go : (length bs ≤ position_or_len is_feed bs → lines bs ≡ bs ∷ []) → (t : Bool) → (b == 10) ≡ t → length (b ∷ bs) ≤ position_or_len is_feed (b ∷ bs) → lines (b ∷ bs) ≡ (b ∷ bs) ∷ []
+    go : (length bs ≤ position_or_len is_lf bs → lines bs ≡ bs ∷ []) → (t : Bool) → (b == 10) ≡ t → length (b ∷ bs) ≤ position_or_len is_lf (b ∷ bs) → lines (b ∷ bs) ≡ (b ∷ bs) ∷ []
     go ih true e h = let no = rw e at h in absurd (omega arith)
     go ih false e h =
         let less = rw e at h in
         rw e (ap (onto_first b) (ih (omega arith)))
 
 -- at the place that `position` answers
-pub lines_at : (bs : List ℕ) (i : ℕ) → Some i ≡ position is_feed bs → lines bs ≡ take i bs ∷ lines (drop (i + 1) bs)
+pub lines_at : (bs : List ℕ) (i : ℕ) → Some i ≡ position is_lf bs → lines bs ≡ take i bs ∷ lines (drop (i + 1) bs)
 lines_at bs i is =
-    let at = position_some is_feed bs i is in
+    let at = position_some is_lf bs i is in
     rw (← at.0) (lines_first bs at.1)
 
-pub lines_unended : (bs : List ℕ) → None ≡ position is_feed bs → lines bs ≡ bs ∷ []
-lines_unended bs none = lines_last bs (position_none is_feed bs none)
+pub lines_unended : (bs : List ℕ) → None ≡ position is_lf bs → lines bs ≡ bs ∷ []
+lines_unended bs none = lines_last bs (position_none is_lf bs none)
 
 -- the same as stated: the empty line behind the last says nothing
 pub stated_last : (n : ℕ) (bs line behind : List ℕ) → lines bs ≡ line ∷ [] → length behind ≡ 0 → stated n (lines bs) ≡ stated n (line ∷ lines behind)

@@ -2,13 +2,14 @@
 use Rattle.std.proofs.Common.{◌≡◌, ◌⊎◌, ◌↔◌, ℕ, ◌+◌, ◌<◌, ◌≤◌, List, [], ◌∷◌, ◌++◌, length, get_or, take, sym, ap, ◌∙◌, subst, inl, inr}
 use Rattle.std.specs.List.{Contains, filter}
 use Rattle.std.proofs.lemmas.List.{take_more}
+use Rattle.list_lemmas.proofs.Bools.{same_bool}
 use Rattle.serializability.specs.Polygraph.{Edge}
 use Rattle.reach_laws.specs.Reach.{Graph}
 use Rattle.known_graph.specs.Graphs.{IsKnownGraph}
 use Rattle.known_graph.specs.Pairs.{all_pairs}
 use Rattle.known_graph.proofs.Listed.{In, In-from_Contains, Contains-from_In, In-append_left, In-append_right, In-append_cases, In-filter, In-of_filter, filter_same, In-pairs}
 use Rattle.known_graph.specs.Tests.{has_edge}
-use Rattle.known_graph.proofs.Tested.{same_bool, edge_in, has_in}
+use Rattle.known_graph.proofs.Tested.{edge_in, has_in}
 use Rattle.prune_ledger.specs.Steps.{listed, with_edges}
 
 -- ---- more edges

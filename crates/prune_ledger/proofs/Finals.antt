@@ -4,8 +4,9 @@ use Rattle.std.specs.Prelude.{slice_get, IfSome, IsNone, map}
 use Rattle.std.specs.Option.{option_map_or}
 use Rattle.std.specs.List.{Contains, AllByRecursion}
 use Rattle.std.proofs.lemmas.Bool.{cases_Bool, false≢true, or_cases}
-use Rattle.std.proofs.lemmas.Option.{slice_get_within}
+use Rattle.std.proofs.lemmas.Option.{slice_get_within, same_Some}
 use Rattle.std.proofs.Math.Bool.{or_comm}
+use Rattle.list_lemmas.proofs.Bools.{same_bool}
 use Rattle.serializability.specs.Polygraph.{Edge, Choice, Polygraph}
 use Rattle.reach_laws.specs.Reach.{Graph, IsCyclic, IsCycle}
 use Rattle.reach_laws.proofs.Walks.{reach_joined}
@@ -34,10 +35,8 @@ use Rattle.prune_ledger.specs.declared.ledger.LedgerEntry.{LedgerEntry}
 use Rattle.prune_ledger.specs.declared.messages.ChoiceState.{ChoiceState}
 use Rattle.prune_ledger.specs.declared.messages.PruneEvent.{PruneEvent}
 use Rattle.prune_ledger.specs.declared.messages.PruneReply.{PruneReply}
-use Rattle.known_graph.proofs.Tested.{same_bool}
 use Rattle.prune_ledger.proofs.Sides.{side_is, side_with}
 use Rattle.prune_ledger.proofs.Grown.{some_mark, walk_in, reaches_in, grown_opening, opens, grown_reopened, ran, kept_append, shown_append, refuted_in, posts_append}
-use Rattle.prune_ledger.proofs.Marks.{some-inj}
 
 -- ---- the sides that are kept at the end are closed
 flag_at : (flags : List Bool) (k : ℕ) → k < length flags → (f : Bool) × (slice_get flags k ≡ Some f)
@@ -196,7 +195,7 @@ pub progress_more : (p : Polygraph) → IsWhole p → (entries next : List Ledge
     → next ≡ entries ++ entered_in history → IsProgress p next now
 progress_more p whole entries next s start now history i is reached is_next =
     let more = posts_more entries next history is_next in
-    let first : reached.0 ≡ reopened_state s = some-inj reached.0 start (sym reached.1) ∙ is in
+    let first : reached.0 ≡ reopened_state s = same_Some reached.0 start (sym reached.1) ∙ is in
     let legal = subst (λ (x : State). IsLegal next_of reply_of x history) first reached.2 in
     let last : now ≡ replay next_of (reopened_state s) history = reached.3 ∙ ap (λ (x : State). replay next_of x history) first in
     let r = ran p whole (kept_by entries) (reopened_state s) (grown_reopened p (kept_by entries) s i.grown) history legal in
@@ -207,7 +206,7 @@ progress_more p whole entries next s start now history i is reached is_next =
       rounds = subst (λ l. AreRounds p l now) (sym is_next) (entered.round entries s now history i.rounds (subst (λ (x : State). IsReached next_of reply_of (Some x) history now) is reached));
     }
 
-length_posts : (entries : List LedgerEntry) → length (posts_in entries) ≡ length entries
+pub length_posts : (entries : List LedgerEntry) → length (posts_in entries) ≡ length entries
 length_posts [] = refl
 length_posts (x ∷ xs) = ap suc (length_posts xs)
 

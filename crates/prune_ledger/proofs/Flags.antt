@@ -4,7 +4,7 @@ use Rattle.std.specs.Prelude.{slice_get, slice_set, map}
 use Rattle.std.specs.List.{AllByRecursion, Contains}
 use Rattle.std.proofs.lemmas.Bool.{cases_Bool}
 use Rattle.std.proofs.lemmas.List.{take_more}
-use Rattle.std.proofs.lemmas.Option.{slice_get-get_or}
+use Rattle.std.proofs.lemmas.Option.{slice_get-get_or, same_Some}
 use Rattle.serializability.specs.Polygraph.{Edge, Choice}
 use Rattle.reach_laws.proofs.Walks.{each_contained}
 use Rattle.known_graph.proofs.Listed.{In, Contains-from_In, In-append_left, In-append_right}
@@ -12,7 +12,6 @@ use Rattle.prune_ledger.specs.Opening.{given_back}
 use Rattle.prune_ledger.specs.Rounds.{IsOpenIn}
 use Rattle.prune_ledger.specs.Pruned.{unrefused, AreOpen}
 use Rattle.prune_ledger.specs.declared.messages.ChoiceState.{ChoiceState}
-use Rattle.prune_ledger.proofs.Marks.{some-inj}
 
 -- ---- flags
 -- each flag that is set now was set before, or is of a choice in this part
@@ -52,7 +51,7 @@ given_none ms = refl
 set_given : (n : ℕ) (ms : List ChoiceState) (m : ChoiceState) → slice_get (given_part n ms) n ≡ Some m → slice_set (given_part n ms) n (given_back m) ≡ given_part (suc n) ms
 unfolding given_part
 set_given zero [] m e = refl
-set_given zero (x ∷ xs) m e = ap (λ (y : ChoiceState). given_back y ∷ xs) (sym (some-inj x m e))
+set_given zero (x ∷ xs) m e = ap (λ (y : ChoiceState). given_back y ∷ xs) (sym (same_Some x m e))
 set_given (suc n) [] m e = refl
 set_given (suc n) (x ∷ xs) m e = ap (λ l. given_back x ∷ l) (set_given n xs m e)
 

@@ -5,7 +5,8 @@ use Rattle.std.specs.Option.{option_map_or}
 use Rattle.std.specs.List.{Contains, AllByRecursion, filter}
 use Rattle.std.proofs.lemmas.Bool.{false≢true, and_parts, or_parts, or_cases, or_right, not-true, cases_eq, eqb-true}
 use Rattle.std.proofs.lemmas.List.{length-set, length-map, length-replicate}
-use Rattle.std.proofs.lemmas.Option.{slice_get_within}
+use Rattle.std.proofs.lemmas.Option.{slice_get_within, same_Some}
+use Rattle.list_lemmas.proofs.Elements.{get_put}
 use Rattle.serializability.specs.Polygraph.{Edge, Choice, Polygraph}
 use Rattle.reach_laws.specs.Reach.{Graph, Walk, Reaches, IsWalk}
 use Rattle.reach_laws.proofs.Walks.{each_contained, reach_joined}
@@ -37,7 +38,7 @@ use Rattle.prune_ledger.specs.declared.messages.PruneReply.{PruneReply}
 use Rattle.prune_ledger.specs.declared.messages.PruneReply.TheVariants.{Entered, AlreadyIn, BadWalk, Dead}
 use Rattle.known_graph.proofs.Tested.{edge_in, walk_of}
 use Rattle.prune_ledger.proofs.Edges.{in_listed, in_of_listed}
-use Rattle.prune_ledger.proofs.Marks.{some-inj, side_joins}
+use Rattle.prune_ledger.proofs.Marks.{side_joins}
 use Rattle.prune_ledger.proofs.Sides.{ChoiceAt, choice_of_edge, side_is, numbered_first, known_with, side_with, more_kept, new_chosen, new_kept, kept_cases, no_kept}
 use Rattle.pruning_laws.proofs.Ledgers.{same_is}
 use Rattle.pruning_laws.proofs.Pruned.{other_other}
@@ -162,11 +163,6 @@ refusing_new : (m : ChoiceState) (side : Side) → refuses (refusing m side) sid
 refusing_new m One = refl
 refusing_new m Two = refl
 
-get_put : {A : Type 0} (xs : List A) (k : ℕ) (x y : A) → slice_get xs k ≡ Some x → slice_get (slice_set xs k y) k ≡ Some y
-get_put [] k x y e = absurd (cc)
-get_put (z ∷ zs) zero x y e = refl
-get_put (z ∷ zs) (suc k) x y e = get_put zs k x y e
-
 get_other : {A : Type 0} (xs : List A) (k j : ℕ) (y : A) → (j ≡ k → ⊥) → slice_get (slice_set xs k y) j ≡ slice_get xs j
 get_other [] k j y ne = refl
 get_other (z ∷ zs) zero zero y ne = absurd (ne refl)
@@ -214,7 +210,7 @@ length_handed marks c (Some m) = length-set marks c (hand_out m)
 
 free_at : (marks : List ChoiceState) (c : ℕ) (m : ChoiceState) → AllByRecursion (λ (x : ChoiceState). is_free x ≡ true) marks → slice_get marks c ≡ Some m → is_free m ≡ true
 free_at [] c m a e = absurd (cc)
-free_at (x ∷ xs) zero m a e = subst (λ (y : ChoiceState). is_free y ≡ true) (some-inj x m e) a.0
+free_at (x ∷ xs) zero m a e = subst (λ (y : ChoiceState). is_free y ≡ true) (same_Some x m e) a.0
 free_at (x ∷ xs) (suc c) m a e = free_at xs c m a.1 e
 
 not_refusing : (m : ChoiceState) (side : Side) → is_free m ≡ true → refuses m side ≡ true → ⊥

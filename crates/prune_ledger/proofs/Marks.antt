@@ -7,6 +7,7 @@ use Rattle.std.specs.List.{AllByRecursion, Contains}
 use Rattle.std.proofs.lemmas.Bool.{false≢true}
 use Rattle.std.proofs.lemmas.List.{length-set, length-replicate}
 use Rattle.std.proofs.Math.Bool.{and-false, or-true}
+use Rattle.std.proofs.lemmas.Option.{same_Some}
 use Rattle.serializability.specs.Polygraph.{Choice}
 use Rattle.reach_laws.specs.Reach.{Graph}
 use Rattle.reach_laws.proofs.Walks.{each_contained}
@@ -19,9 +20,6 @@ use Rattle.prune_ledger.specs.Kept.{IsPast, IsKept}
 use Rattle.prune_ledger.specs.Opening.{no_mark}
 use Rattle.prune_ledger.specs.Steps.{refuses, refusing, is_free, free_from, with_edges, refused, hand_out, taken}
 use Rattle.prune_ledger.specs.declared.messages.ChoiceState.{ChoiceState}
-
-pub some-inj : {A : Type 0} (x y : A) → Some x ≡ Some y → x ≡ y
-some-inj x y e = cc
 
 -- ---- free choices
 abbrev NoneBefore : ℕ → List ChoiceState → Type 0
@@ -44,14 +42,14 @@ pub free_past : (cursor : ℕ) (marks : List ChoiceState) → IsPast cursor mark
 free_past cursor marks h = let e : cursor ≡ 0 + cursor = omega arith in ap (λ b. free_from b (drop cursor marks)) e ∙ free_after cursor 0 marks h.each
 
 found : (b : Bool) (base c : ℕ) (o : Option ℕ) → Some c ≡ cond b (Some base) o → ((b ≡ true) × (c ≡ base)) ⊎ ((b ≡ false) × (Some c ≡ o))
-found true base c o e = inl (refl, some-inj c base e)
+found true base c o e = inl (refl, same_Some c base e)
 found false base c o e = inr (refl, e)
 
 least_free : (marks : List ChoiceState) (base c : ℕ) → Some c ≡ free_from base marks → (k : ℕ) (m : ChoiceState) → base + k < c → slice_get marks k ≡ Some m → is_free m ≡ false
 least_free [] base c e k m lt at = absurd (cc)
 least_free (x ∷ xs) base c e zero m lt at = elim (found (is_free x) base c (free_from (base + 1) xs) e) [
   | inl p ↦ (let q = p.1 in absurd (omega (arith, q)))
-  | inr p ↦ subst (λ (y : ChoiceState). is_free y ≡ false) (some-inj x m at) p.0
+  | inr p ↦ subst (λ (y : ChoiceState). is_free y ≡ false) (same_Some x m at) p.0
 ]
 least_free (x ∷ xs) base c e (suc k) m lt at = elim (found (is_free x) base c (free_from (base + 1) xs) e) [
   | inl p ↦ (let q = p.1 in absurd (omega (arith, q)))
@@ -98,7 +96,7 @@ kept_refused n now choices marks cursor c m side h e =
 -- ---- a choice and its sides
 pub contained_at : {A : Type 0} (xs : List A) (k : ℕ) (x : A) → slice_get xs k ≡ Some x → Contains xs x
 contained_at [] k x e = absurd (cc)
-contained_at (y ∷ ys) zero x e = (0, omega arith, some-inj y x e)
+contained_at (y ∷ ys) zero x e = (0, omega arith, same_Some y x e)
 contained_at (y ∷ ys) (suc k) x e = let r = contained_at ys k x e in (suc r.0, omega (arith, r.1), r.2)
 
 side_of_both : (n : ℕ) (h : Choice) (side : Side) → JoinsBoth n h → AllByRecursion (Joins n) (edges_of h side)

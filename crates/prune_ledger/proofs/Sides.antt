@@ -3,6 +3,7 @@ use Rattle.std.proofs.Common.{◌≡◌, ◌⊎◌, ℕ, zero, suc, ◌+◌, Boo
 use Rattle.std.specs.Prelude.{slice_get}
 use Rattle.std.specs.Option.{option_map_or}
 use Rattle.std.proofs.lemmas.Bool.{false≢true, and_parts, and_from, or_cases, or_left, or_right}
+use Rattle.std.proofs.lemmas.Option.{same_Some}
 use Rattle.serializability.specs.Polygraph.{Edge, Choice, Polygraph}
 use Rattle.known_graph.proofs.Listed.{In, In-append_left, In-append_right, In-append_cases}
 use Rattle.pruning_laws.specs.declared.side.Side.{Side}
@@ -11,7 +12,6 @@ use Rattle.pruning_laws.specs.Forced.{edges_of, Sides, EachNumbered, kept_from, 
 use Rattle.pruning_laws.specs.Ledger.{Entry, same_side, sides_in}
 use Rattle.pruning_laws.proofs.Ledgers.{same_is, same_itself}
 use Rattle.prune_ledger.specs.Ledger.{side_of, edges_after}
-use Rattle.prune_ledger.proofs.Marks.{some-inj}
 
 -- ---- a choice by its number
 pub record ChoiceAt (choices : List Choice) (c : ℕ) : Type 0 where
@@ -31,7 +31,7 @@ choice_of_edge choices c side x i = choice_with choices c (slice_get choices c) 
 
 pub numbered_at : (P : ℕ → Choice → Type 0) (c : ℕ) (hs : List Choice) (k : ℕ) (h : Choice) → EachNumbered P c hs → slice_get hs k ≡ Some h → P (c + k) h
 numbered_at P c [] k h n e = absurd (cc)
-numbered_at P c (x ∷ xs) zero h n e = let i : c ≡ c + 0 = omega arith in subst (λ m. P m h) i (subst (P c) (some-inj x h e) n.0)
+numbered_at P c (x ∷ xs) zero h n e = let i : c ≡ c + 0 = omega arith in subst (λ m. P m h) i (subst (P c) (same_Some x h e) n.0)
 numbered_at P c (x ∷ xs) (suc k) h n e = let i : c + 1 + k ≡ c + suc k = omega arith in subst (λ m. P m h) i (numbered_at P (c + 1) xs k h n.1 e)
 
 pub numbered_first : (P : ℕ → Choice → Type 0) (hs : List Choice) (k : ℕ) (h : Choice) → EachNumbered P 0 hs → slice_get hs k ≡ Some h → P k h
@@ -97,7 +97,7 @@ pub at_kept : (sides : Sides) (c : ℕ) (hs : List Choice) (x : Edge) (k : ℕ) 
 at_kept sides c [] x k h side at t i = absurd (cc)
 at_kept sides c (g ∷ hs) x zero h side at t i =
     let z : c + 0 ≡ c = omega arith in
-    here_kept sides c g hs x side (subst (λ m. sides m side ≡ true) z t) (subst (λ (f : Choice). In x (edges_of f side)) (sym (some-inj g h at)) i)
+    here_kept sides c g hs x side (subst (λ m. sides m side ≡ true) z t) (subst (λ (f : Choice). In x (edges_of f side)) (sym (same_Some g h at)) i)
 at_kept sides c (g ∷ hs) x (suc k) h side at t i =
     let z : c + suc k ≡ c + 1 + k = omega arith in
     In-append_right x (cond (sides c One) g.one [] ++ cond (sides c Two) g.two []) (kept_from sides (c + 1) hs)

@@ -2,6 +2,7 @@
 use Rattle.std.proofs.Common.{◌≡◌, ◌⊎◌, ℕ, zero, suc, ◌<◌, List, [], ◌∷◌, ◌++◌, length, get_or, sym, ap, ◌∙◌, subst, inl, inr, arith, append_assoc, append-nil}
 use Rattle.std.specs.Prelude.{slice_index_or, slice_get, Option, Some, None, MatchOption}
 use Rattle.std.specs.List.{Contains, AllByRecursion}
+use Rattle.std.proofs.lemmas.Option.{same_Some}
 use Rattle.serializability.proofs.Places.{each_from_append}
 use Rattle.serializability.specs.Polygraph.{Edge, Choice, Polygraph}
 use Rattle.pruning_laws.specs.declared.side.Side.{Side}
@@ -14,7 +15,7 @@ use Rattle.reach_rows.specs.ReachRows.{AreRowsOf}
 use Rattle.polygraph.specs.Polygraphs.{Joins, JoinsBoth, IsPolygraph}
 use Rattle.prune_ledger.proofs.Grown.{reaches_in}
 use Rattle.prune_ledger.proofs.KeptUp.{open_fewer}
-use Rattle.prune_ledger.proofs.Marks.{side_joins, contained_at, some-inj}
+use Rattle.prune_ledger.proofs.Marks.{side_joins, contained_at}
 use Rattle.prune_ledger.specs.Rounds.{Refutes, GoesAgainst, HasPost, EachHandled, Handled, PostedOf, Settled, Turned, IsOpenIn, Extends}
 use Rattle.prune_ledger.specs.declared.messages.PruneEvent.{PruneEvent}
 use Rattle.prune_ledger.specs.declared.messages.PruneEvent.TheVariants.{Take, Post, Pass, Release}
@@ -113,8 +114,8 @@ open_pushed edges choices c passed listed a f e = elim e [
 ]
 
 pub open_here : (edges : List Edge) (choices : List Choice) (c : ℕ) (h : Choice) → slice_get choices c ≡ Some h → (IsRefuted edges h.one → ⊥) → (IsRefuted edges h.two → ⊥) → IsOpenIn edges choices c
-open_here edges choices c h at one two k here One r = one (subst (λ (g : Choice). IsRefuted edges g.one) (some-inj k h (sym here ∙ at)) r)
-open_here edges choices c h at one two k here Two r = two (subst (λ (g : Choice). IsRefuted edges g.two) (some-inj k h (sym here ∙ at)) r)
+open_here edges choices c h at one two k here One r = one (subst (λ (g : Choice). IsRefuted edges g.one) (same_Some k h (sym here ∙ at)) r)
+open_here edges choices c h at one two k here Two r = two (subst (λ (g : Choice). IsRefuted edges g.two) (same_Some k h (sym here ∙ at)) r)
 
 -- ---- judging
 pub not_refuted_by : (rows graph : Graph) (side : List Edge) → AreRowsOf rows graph → AllByRecursion (λ (e : Edge). Contains rows.edges (e.1, e.0) → ⊥) side → IsRefuted graph.edges side → ⊥

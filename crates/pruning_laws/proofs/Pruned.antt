@@ -29,15 +29,15 @@ numbered_get f c (h ∷ hs) e =
     (ap f here ∙ e 0, numbered_get f (c + 1) hs (λ i. (let there : c + 1 + i ≡ c + suc i = omega arith in ap f there ∙ e (suc i))))
 
 -- ---- the sides that an order keeps
-abbrev keeps_test : List ℕ → List Edge → Bool
+abbrev pub keeps_test : List ℕ → List Edge → Bool
 keeps_test order [] = true
 keeps_test order (e ∷ edges) = ltb (place_of (0 ∷ order) e.0) (place_of (0 ∷ order) e.1) && keeps_test order edges
 
-keeps_tested : (order : List ℕ) (edges : List Edge) → Keeps order edges → keeps_test order edges ≡ true
+pub keeps_tested : (order : List ℕ) (edges : List Edge) → Keeps order edges → keeps_test order edges ≡ true
 keeps_tested order [] k = refl
 keeps_tested order (e ∷ edges) k = and_from (ltb (place_of (0 ∷ order) e.0) (place_of (0 ∷ order) e.1)) (keeps_test order edges) (lt-ltb _ _ k.0) (keeps_tested order edges k.1)
 
-tested_keeps : (order : List ℕ) (edges : List Edge) → keeps_test order edges ≡ true → Keeps order edges
+pub tested_keeps : (order : List ℕ) (edges : List Edge) → keeps_test order edges ≡ true → Keeps order edges
 tested_keeps order [] t = tt
 tested_keeps order (e ∷ edges) t =
     let p = and_parts (ltb (place_of (0 ∷ order) e.0) (place_of (0 ∷ order) e.1)) (keeps_test order edges) t in
@@ -58,7 +58,7 @@ numbered p = numbered_get (slice_get p.choices) 0 p.choices (λ i. (let e : 0 + 
 side_test : (p : Polygraph) (order : List ℕ) (c : ℕ) (h : Choice) (s : Side) → IsAt p c h → kept_sides p order c s ≡ keeps_test order (edges_of h s)
 side_test p order c h s e = ap (λ o. option_map_or (λ q. keeps_test order (edges_of q s)) o false) e
 
-part_kept : (order : List ℕ) (b : Bool) (edges : List Edge) → (b ≡ true → Keeps order edges) → Keeps order (cond b edges [])
+pub part_kept : (order : List ℕ) (b : Bool) (edges : List Edge) → (b ≡ true → Keeps order edges) → Keeps order (cond b edges [])
 part_kept order true edges h = h refl
 part_kept order false edges h = tt
 
@@ -128,7 +128,7 @@ one_of : (P : Choice → Type 0) (b : Bool) (h : Choice) (hs : List Choice) → 
 one_of P true h hs k = record { this = λ e. absurd (false≢true (sym e)); rest = k }
 one_of P false h hs k = record { this = λ e. k.0; rest = k.1 }
 
-part_of : (order : List ℕ) (b : Bool) (edges : List Edge) → b ≡ true → Keeps order (cond b edges []) → Keeps order edges
+pub part_of : (order : List ℕ) (b : Bool) (edges : List Edge) → b ≡ true → Keeps order (cond b edges []) → Keeps order edges
 part_of order true edges e k = k
 part_of order false edges e k = absurd (false≢true e)
 

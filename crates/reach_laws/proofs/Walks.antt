@@ -1,6 +1,7 @@
 -- Walks and edges in lists, and orders that keep them.
-use Rattle.std.proofs.Common.{ℕ, zero, suc, ◌<◌, List, [], ◌∷◌, ◌++◌, length, get_or, refl, subst, arith}
+use Rattle.std.proofs.Common.{ℕ, suc, List, [], ◌∷◌, ◌++◌, refl, arith}
 use Rattle.std.specs.List.{Contains, AllByRecursion}
+pub use Rattle.list_lemmas.proofs.Each.{member as each_contained, each_member as each_from_contained}
 use Rattle.serializability.specs.Replay.{Before}
 use Rattle.serializability.specs.Polygraph.{Edge, Keeps}
 use Rattle.reach_laws.specs.Reach.{Walk, Reaches, IsCyclic, IsCycle}
@@ -10,20 +11,6 @@ Contains-here x xs = (0, omega arith, refl)
 
 pub Contains-further : {X : Type 0} (x y : X) (xs : List X) → Contains xs y → Contains (x ∷ xs) y
 Contains-further x y xs c = (suc c.0, omega (arith, c.1), c.2)
-
-at_index : {X : Type 0} (P : X → Type 0) (xs : List X) (k : ℕ) (d : X) → AllByRecursion P xs → k < length xs → P (get_or xs k d)
-at_index P [] k d h lt = absurd (omega arith)
-at_index P (x ∷ xs) zero d h lt = h.0
-at_index P (x ∷ xs) (suc k) d h lt = at_index P xs k d h.1 (omega arith)
-
--- what holds of each element holds of one
-pub each_contained : {X : Type 0} (P : X → Type 0) (xs : List X) (x : X) → AllByRecursion P xs → Contains xs x → P x
-each_contained P xs x h c = subst P c.2 (at_index P xs c.0 x h c.1)
-
--- what holds of each contained one holds of each element
-pub each_from_contained : {X : Type 0} (P : X → Type 0) (xs : List X) → ((x : X) → Contains xs x → P x) → AllByRecursion P xs
-each_from_contained P [] h = tt
-each_from_contained P (x ∷ xs) h = (h x (Contains-here x xs), each_from_contained P xs (λ y c. h y (Contains-further x y xs c)))
 
 edge_kept : (order : List ℕ) (edges : List Edge) (u v : ℕ) → Keeps order edges → Contains edges (u, v) → Before order u v
 edge_kept order edges u v k c = each_contained (λ (e : Edge). Before order e.0 e.1) edges (u, v) k c

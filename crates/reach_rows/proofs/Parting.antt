@@ -1,14 +1,6 @@
 -- The sources of workers.
-use Rattle.std.proofs.Common.{◌≡◌, ℕ, ◌+◌, ◌-◌, ◌<◌, ◌≤◌, List, [], ◌∷◌, ◌++◌, length, get_or, ap, ◌∙◌, zero, suc, arith}
-use Rattle.std.proofs.lemmas.List.{get_or_append_left, get_or-append-add}
+use Rattle.std.proofs.Common.{◌≡◌, ℕ, ◌+◌, ◌-◌, ◌<◌, ◌≤◌, List, length, get_or, ap, zero, suc, arith}
 use Rattle.reach_rows.specs.Parts.{ArePartStarts}
-
--- one more
-front : (starts : List ℕ) (next i : ℕ) → i < length starts → get_or (starts ++ next ∷ []) i 0 ≡ get_or starts i 0
-front starts next i h = get_or_append_left starts (next ∷ []) 0 i h
-
-back : (starts : List ℕ) (next i : ℕ) → i ≡ length starts → get_or (starts ++ next ∷ []) i 0 ≡ next
-back starts next i e = let at : i ≡ length starts + 0 = omega (arith, e) in ap (λ k. get_or (starts ++ next ∷ []) k 0) at ∙ get_or-append-add starts (next ∷ []) 0 0
 
 -- each start is within the sources
 starts_up : (sources : ℕ) (starts : List ℕ) → ArePartStarts sources starts → (i k : ℕ) → i + k < length starts → get_or starts i 0 ≤ get_or starts (i + k) 0

@@ -1,5 +1,5 @@
 -- No serial order has crossed reads.
-use Rattle.std.proofs.Common.{◌≡◌, ◌≢◌, ◌⊎◌, ℕ, ◌<◌, ◌≤◌, List, ◌∷◌, None, Some, refl, sym, ap, ◌∙◌, subst, inl, inr, arith}
+use Rattle.std.proofs.Common.{◌≡◌, ◌≢◌, ◌⊎◌, ℕ, ◌<◌, ◌≤◌, List, ◌∷◌, None, Some, sym, ap, ◌∙◌, subst, inl, inr, arith}
 use Rattle.std.proofs.lemmas.Bool.{cases_eq}
 use Rattle.session_log.specs.Text.{ClientSession}
 use Rattle.serializability.specs.declared.event.Event.{Event}
@@ -7,7 +7,7 @@ use Rattle.serializability.specs.Log.{Log}
 use Rattle.serializability.specs.Replay.{place_of, Before}
 use Rattle.serializability.specs.Reads.{last_write, IsFinal, ReadsAfter}
 use Rattle.serializability.specs.Polygraph.{source}
-use Rattle.serializability.proofs.Sources.{source_from}
+use Rattle.serializability.proofs.Sources.{source_from, one_final}
 use Rattle.serializability.proofs.Serial.{rival_from, zero_first, never_before_zero}
 use Rattle.log_definitions.specs.WellFormed.{keys_in}
 use Rattle.log_definitions.specs.Serial.{IsSerialOrder}
@@ -16,7 +16,6 @@ use Rattle.reason_laws.specs.Crossed.{ReadsPair, AreCrossed}
 use Rattle.reason_laws.specs.declared.crossing.Crossing.{Crossing}
 use Rattle.reason_laws.specs.declared.crossing.PairRead.{PairRead}
 use Rattle.reason_laws.specs.Reasons.{IsNode, ReadsAt}
-use Rattle.reason_laws.proofs.Found.{final_one}
 use Rattle.reason_laws.proofs.Kept.{Serial, serial, source_before, reader_before}
 use Rattle.reason_laws.proofs.Numbers.{before_at, reads_after, none_before}
 
@@ -44,7 +43,7 @@ from_read log order s r x w u before reads external final =
 
 -- ---- two versions of a key
 nodes_apart : (log : Log) (p q x w y : ℕ) → IsFinal log p x w → IsFinal log q x y → w ≢ y → q ≢ p
-nodes_apart log p q x w y a b apart e = apart (final_one log p x w y a (subst (λ n. IsFinal log n x y) e b))
+nodes_apart log p q x w y a b apart e = apart (one_final log p x w y a (subst (λ n. IsFinal log n x y) e b))
 
 -- who reads the version that came first stands before the writer of the other, or is it
 not_past : (log : Log) (order : List ℕ) → Serial log order → (r x w p q y : ℕ) → From log order r x w p → IsFinal log q x y → Before order p q → place_of (0 ∷ order) r ≤ place_of (0 ∷ order) q

@@ -8,12 +8,12 @@ use Rattle.serializability.specs.Log.{Log, precedes}
 use Rattle.serializability.specs.Reads.{last_write, IsFinal, IsClean}
 use Rattle.serializability.specs.Polygraph.{Edge, arcs, is_arc, all_nodes, all_keys, committed, source}
 use Rattle.serializability.proofs.Places.{each_from_range, each_from_flat_map, each_from_map, each_from_filter}
-use Rattle.serializability.proofs.Sources.{source_is, source_from, reads_from_is}
+use Rattle.serializability.proofs.Sources.{source_is, source_from, reads_from_is, one_final}
 use Rattle.serializability.proofs.Serial.{each_from_arcs, arc_cases, some_cases, none_not_some}
 use Rattle.reach_laws.proofs.Walks.{each_contained}
 use Rattle.chain_laws.specs.Chains.{writes, readers, next, tail_from, tail, is_head, heads, inner_at, inner_edges, edges_to, chain_first, initial_first}
 use Rattle.chain_laws.proofs.Walks.{next_is, step_some, step_none, Head}
-use Rattle.chain_laws.proofs.Coalesced.{head_parts, each_from_readers}
+use Rattle.chain_laws.proofs.Coalesced.{head_parts, each_from_readers, none_some}
 use Rattle.log_definitions.specs.WellFormed.{keys_in}
 use Rattle.log_definitions.specs.Serial.{begun_of, ended_of}
 use Rattle.log_definitions.specs.Numbers.{number_in, log_of}
@@ -24,13 +24,6 @@ use Rattle.reason_laws.proofs.Numbers.{node_from, session_is, earlier_is, before
 final_positive : (log : Log) (v x w : ℕ) → 0 < v → IsFinal log v x w → last_write x (log.ops v) ≡ Some w
 final_positive log v x w lo (inl z) = absurd (omega (arith, z.0, lo))
 final_positive log v x w lo (inr f) = f.2
-
--- the final writes of one node name one identity
-pub final_one : (log : Log) (u x v w : ℕ) → IsFinal log u x v → IsFinal log u x w → v ≡ w
-final_one log u x v w (inl a) (inl b) = a.1 ∙ sym b.1
-final_one log u x v w (inl a) (inr b) = absurd (omega (arith, a.0, b.0))
-final_one log u x v w (inr a) (inl b) = absurd (omega (arith, b.0, a.0))
-final_one log u x v w (inr a) (inr b) = let e = a.2 in let f = b.2 in cc
 
 read_reason : (ss : List ClientSession) → IsClean (log_of ss) → (a b x : ℕ) → 0 < a → a ≤ (log_of ss).nodes → 0 < b → b ≤ (log_of ss).nodes → source (log_of ss) b x ≡ Some a → (i : ℕ) × ((j : ℕ) × IsReadBy ss a i b j)
 read_reason ss clean a b x alo ahi blo bhi e =
@@ -138,7 +131,7 @@ overwritten_reason ss clean x w v r e lo hi from ne =
     let k = next_is (log_of ss) x w v e in
     let f = source_is (log_of ss) clean r x w lo hi from in
     let g = source_is (log_of ss) clean v x w k.low k.high k.from in
-    let same : g.w ≡ f.w = final_one (log_of ss) w x g.w f.w g.final f.final in
+    let same : g.w ≡ f.w = one_final (log_of ss) w x g.w f.w g.final f.final in
     let y = writes_is (log_of ss) x v k.writer in
     let write = writes_in ss v x y.0 y.1 in
     let read = reads_key ss r x f.w write.key f.before write.number f.reads f.external in
@@ -224,7 +217,7 @@ link_to : (ss : List ClientSession) → IsClean (log_of ss) → (key : List ℕ)
 link_to ss clean key x u v wid n final e =
     let k = next_is (log_of ss) x u v e in
     let f = source_is (log_of ss) clean v x u k.low k.high k.from in
-    let same : f.w ≡ wid = final_one (log_of ss) u x f.w wid f.final final in
+    let same : f.w ≡ wid = one_final (log_of ss) u x f.w wid f.final final in
     let y = writes_is (log_of ss) x v k.writer in
     let read = reads_key ss v x f.w key f.before n f.reads f.external in
     let write = writes_key ss v x y.0 key n y.1 in
@@ -255,9 +248,6 @@ trail ss clean key x (suc f) u wid n final = elim (some_cases (next (log_of ss) 
       subst (Trail ss key x u wid) (sym (step_some (log_of ss) x f u v.0 v.1))
       (one_more ss key x u v.0 wid (tail_from (log_of ss) x f v.0) l (trail ss clean key x f v.0 l.left n l.final))
 ]
-
-none_some : (o : Option ℕ) (v : ℕ) → o ≡ None → o ≡ Some v → ⊥
-none_some o v a b = let e : None ≡ Some v = sym a ∙ b in cc
 
 -- b writes the key and reads it from nobody
 record Starts (ss : List ClientSession) (x b : ℕ) : Type 0 where
@@ -335,7 +325,7 @@ trail_last ss x t lo hi b g r =
 trail_reader : (ss : List ClientSession) → IsClean (log_of ss) → (x t a b : ℕ) (g : Starts ss x b) → Trail ss g.key x 0 0 t → 0 < a → a ≤ (log_of ss).nodes → source (log_of ss) a x ≡ Some t → (i : ℕ) × ((j : ℕ) × IsOfInitialBefore ss a i b j)
 trail_reader ss clean x t a b g r lo hi from =
     let f = source_is (log_of ss) clean a x t lo hi from in
-    let same : f.w ≡ left_by 0 r.links = final_one (log_of ss) t x f.w (left_by 0 r.links) f.final r.final in
+    let same : f.w ≡ left_by 0 r.links = one_final (log_of ss) t x f.w (left_by 0 r.links) f.final r.final in
     let read = reads_key ss a x f.w g.key f.before g.number f.reads f.external in (
       read.0,
       (

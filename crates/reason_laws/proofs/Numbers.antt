@@ -1,5 +1,5 @@
 -- What sessions say of a node, and what the log of their numbers says of it.
-use Rattle.std.proofs.Common.{◌≡◌, ℕ, suc, ◌+◌, ◌<◌, ◌≤◌, List, take, drop, length, None, Some, refl, sym, ap, ◌∙◌, subst, arith}
+use Rattle.std.proofs.Common.{◌≡◌, ℕ, suc, ◌+◌, ◌<◌, ◌≤◌, List, take, drop, None, Some, refl, sym, ap, ◌∙◌, subst, arith}
 use Rattle.std.specs.List.{AllByRecursion}
 use Rattle.session_log.specs.Moments.{is_earlier}
 use Rattle.session_log.specs.Text.{ClientSession, key_of}
@@ -9,21 +9,18 @@ use Rattle.serializability.specs.declared.event.Event.{Event}
 use Rattle.serializability.specs.Reads.{last_write, ReadsAfter, WritesAfter}
 use Rattle.anomaly_laws.proofs.Writes.{writes_at, some_last_write}
 use Rattle.log_definitions.specs.WellFormed.{keys_in}
-use Rattle.log_definitions.specs.Serial.{committed_in, session_of, ops_of, begun_of, ended_of}
+use Rattle.log_definitions.specs.Serial.{session_of, ops_of, begun_of, ended_of}
 use Rattle.log_definitions.specs.Numbers.{number_in, events_of, log_of}
-use Rattle.log_definitions.proofs.Keys.{Listed, all_listed, number_below}
-use Rattle.log_definitions.proofs.Nodes.{each_op, each_at}
+use Rattle.log_definitions.proofs.Keys.{Listed, all_listed, number_below, same_number}
+use Rattle.log_definitions.proofs.Nodes.{each_op, each_at, log_keys, log_nodes}
+use Rattle.log_definitions.proofs.Renaming.{AllListed}
 use Rattle.reason_laws.specs.Reasons.{IsNode, IsOpAt, IsNoWriteOf, ReadsAt, WritesLastAt}
-use Rattle.reason_laws.proofs.Texts.{AllListed, each_taken, events_cut, one_key, none_written, wrote_last, last_written, read_first}
+use Rattle.reason_laws.proofs.Texts.{each_taken, events_cut, none_written, wrote_last, last_written, read_first}
 
 -- ---- the log, field by field
 pub ops_is : (ss : List ClientSession) (v : ℕ) → (log_of ss).ops v ≡ events_of (keys_in ss) (ops_of ss v)
 unfolding log_of
 ops_is ss v = refl
-
-pub nodes_is : (ss : List ClientSession) → (log_of ss).nodes ≡ length (committed_in ss)
-unfolding log_of
-nodes_is ss = refl
 
 pub session_is : (ss : List ClientSession) (v : ℕ) → (log_of ss).session v ≡ session_of ss v
 unfolding log_of
@@ -35,10 +32,10 @@ earlier_is ss u v = refl
 
 -- a node of the log
 pub within : (ss : List ClientSession) (v : ℕ) → IsNode ss v → v ≤ (log_of ss).nodes
-within ss v h = subst (λ n. v ≤ n) (sym (nodes_is ss)) h.1
+within ss v h = subst (λ n. v ≤ n) (sym (log_nodes ss)) h.1
 
 pub node_from : (ss : List ClientSession) (v : ℕ) → 0 < v → v ≤ (log_of ss).nodes → IsNode ss v
-node_from ss v lo hi = (lo, subst (λ n. v ≤ n) (nodes_is ss) hi)
+node_from ss v lo hi = (lo, subst (λ n. v ≤ n) (log_nodes ss) hi)
 
 -- ---- keys
 
@@ -48,13 +45,9 @@ ops_listed ss v = each_op (λ o. Listed (keys_in ss) (key_of o)) ss (all_listed 
 pub listed_at : (ss : List ClientSession) (v i : ℕ) (op : Op) → IsOpAt ss v i op → Listed (keys_in ss) (key_of op)
 listed_at ss v i op e = each_at (λ o. Listed (keys_in ss) (key_of o)) (ops_of ss v) i op (ops_listed ss v) e
 
-pub keys_is : (ss : List ClientSession) → (log_of ss).keys ≡ length (keys_in ss)
-unfolding log_of
-keys_is ss = refl
-
 pub key_within : (ss : List ClientSession) (v i : ℕ) (key : List ℕ) (wid : ℕ) → IsOpAt ss v i (Write key wid) → number_in (keys_in ss) key < (log_of ss).keys
 key_within ss v i key wid e =
-    subst (λ n. number_in (keys_in ss) key < n) (sym (keys_is ss)) (number_below (keys_in ss) key (listed_at ss v i (Write key wid) e))
+    subst (λ n. number_in (keys_in ss) key < n) (sym (log_keys ss)) (number_below (keys_in ss) key (listed_at ss v i (Write key wid) e))
 
 -- ---- from the sessions to the log
 -- the events before operation i of node v
@@ -124,12 +117,12 @@ pub writes_key : (ss : List ClientSession) (v x w : ℕ) (key : List ℕ) → nu
 writes_key ss v x w key n e =
     let r = writes_in ss v x w e in
     let write = r.is.write in
-    let same = one_key (keys_in ss) r.key key (listed_at ss v r.place (Write r.key w) write) (r.number ∙ sym n) in
+    let same = same_number (keys_in ss) r.key key (listed_at ss v r.place (Write r.key w) write) (r.number ∙ sym n) in
     (r.place, subst (λ k. WritesLastAt ss v r.place k w) same r.is)
 
 pub reads_key : (ss : List ClientSession) (v x w : ℕ) (key : List ℕ) (before : List Event) → number_in (keys_in ss) key ≡ x → ReadsAfter (log_of ss) v before x w → last_write x before ≡ None → (i : ℕ) × ReadsAt ss v i key w
 reads_key ss v x w key before n reads external =
     let r = reads_in ss v x w before reads external in
     let read = r.is.read in
-    let same = one_key (keys_in ss) r.key key (listed_at ss v r.place (Read r.key w) read) (r.number ∙ sym n) in
+    let same = same_number (keys_in ss) r.key key (listed_at ss v r.place (Read r.key w) read) (r.number ∙ sym n) in
     (r.place, subst (λ k. ReadsAt ss v r.place k w) same r.is)

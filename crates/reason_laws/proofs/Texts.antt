@@ -11,9 +11,10 @@ use Rattle.session_log.specs.declared.session.Op.TheVariants.{Read, Write}
 use Rattle.serializability.specs.declared.event.Event.{Event}
 use Rattle.serializability.specs.declared.event.Event.TheVariants as event
 use Rattle.serializability.specs.Reads.{later, last_write}
-use Rattle.session_log.specs.Text.{key_of}
+use Rattle.serializability.proofs.Sources.{later_none_parts, later_none_from}
 use Rattle.log_definitions.specs.Numbers.{number_in, event_of, events_of}
-use Rattle.log_definitions.proofs.Keys.{Listed, numbers_differ}
+use Rattle.log_definitions.proofs.Keys.{numbers_differ}
+use Rattle.log_definitions.proofs.Renaming.{AllListed}
 use Rattle.reason_laws.specs.Reasons.{IsNoWriteOf}
 
 -- ---- a list cut at one of its places
@@ -37,21 +38,7 @@ bytes_apart a b ne = elim (cases_Bool (bytes_eq a b)) [
   | inr f ↦ f
 ]
 
-pub one_key : (keys : List (List ℕ)) (a b : List ℕ) → Listed keys a → number_in keys a ≡ number_in keys b → a ≡ b
-one_key keys a b listed e =
-    (bytes_eq-Decides a b).0 (sym (numbers_differ keys a b listed) ∙ eq-eqb (number_in keys a) (number_in keys b) e)
-
 -- ---- the later of two
-no_later : (b : Bool) (v : ℕ) (o : Option ℕ) → b ≡ false → o ≡ None → later (cond b (Some v) None) o ≡ None
-no_later true v o e h = absurd (false≢true (sym e))
-no_later false v None e h = refl
-no_later false v (Some w) e h = cc
-
-pub none_parts : (b : Bool) (v : ℕ) (o : Option ℕ) → later (cond b (Some v) None) o ≡ None → (b ≡ false) × (o ≡ None)
-none_parts true v None e = cc
-none_parts true v (Some w) e = cc
-none_parts false v None e = (refl, refl)
-none_parts false v (Some w) e = cc
 
 pub some_parts : (b : Bool) (v w : ℕ) (o : Option ℕ) → later (cond b (Some v) None) o ≡ Some w → (o ≡ Some w) ⊎ ((o ≡ None) × (b ≡ true) × (v ≡ w))
 some_parts true v w None e = inr (refl, refl, cc)
@@ -59,14 +46,12 @@ some_parts false v w None e = cc
 some_parts b v w (Some y) e = inl e
 
 -- ---- no write of the key
-abbrev pub AllListed : List (List ℕ) → List Op → Type 0
-AllListed keys ops = AllByRecursion (λ o. Listed keys (key_of o)) ops
 
 pub none_written : (keys : List (List ℕ)) (key : List ℕ) (ops : List Op) → AllListed keys ops → AllByRecursion (IsNoWriteOf key) ops → last_write (number_in keys key) (events_of keys ops) ≡ None
 none_written keys key [] l h = refl
 none_written keys key (Read k w ∷ ops) l h = none_written keys key ops l.1 h.1
 none_written keys key (Write k w ∷ ops) l h =
-    no_later (eqb (number_in keys k) (number_in keys key)) w (last_write (number_in keys key) (events_of keys ops))
+    later_none_from (eqb (number_in keys k) (number_in keys key)) w (last_write (number_in keys key) (events_of keys ops))
     (numbers_differ keys k key l.0 ∙ bytes_apart k key h.0) (none_written keys key ops l.1 h.1)
 
 number_apart : (keys : List (List ℕ)) (k key : List ℕ) (x : ℕ) → number_in keys key ≡ x → eqb (number_in keys k) x ≡ false → k ≢ key
@@ -76,7 +61,7 @@ pub no_write_of : (keys : List (List ℕ)) (key : List ℕ) (x : ℕ) (ops : Lis
 no_write_of keys key x [] n e = tt
 no_write_of keys key x (Read k w ∷ ops) n e = (tt, no_write_of keys key x ops n e)
 no_write_of keys key x (Write k w ∷ ops) n e =
-    let p = none_parts (eqb (number_in keys k) x) w (last_write x (events_of keys ops)) e in
+    let p = later_none_parts (eqb (number_in keys k) x) w (last_write x (events_of keys ops)) e in
     (number_apart keys k key x n p.0, no_write_of keys key x ops n p.1)
 
 -- ---- the last write of the key
@@ -138,6 +123,6 @@ read_first keys x w (Read k v ∷ ops) (d ∷ before) behind e h =
 read_first keys x w (Write k v ∷ ops) (d ∷ before) behind e h =
     let same : event.Write (number_in keys k) v ≡ d = cc in
     let rest : events_of keys ops ≡ before ++ event.Read x w ∷ behind = cc in
-    let p = none_parts (eqb (number_in keys k) x) v (last_write x before) (ap (λ c. last_write x (c ∷ before)) same ∙ h) in
+    let p = later_none_parts (eqb (number_in keys k) x) v (last_write x before) (ap (λ c. last_write x (c ∷ before)) same ∙ h) in
     let r = read_first keys x w ops before behind rest p.1 in
     record { place = suc r.place; key = r.key; is = r.is; number = r.number; external = (number_apart keys k r.key x r.number p.0, r.external) }

@@ -11,7 +11,7 @@ use Rattle.serializability.specs.declared.event.Event.TheVariants as event
 use Rattle.serializability.specs.Log.{Log}
 use Rattle.serializability.specs.Reads.{IsFinal, IsClean}
 use Rattle.serializability.specs.Polygraph.{source}
-use Rattle.serializability.proofs.Sources.{source_is, source_from, source_within}
+use Rattle.serializability.proofs.Sources.{source_is, source_from, source_within, one_final}
 use Rattle.serializability.proofs.Serial.{some_cases}
 use Rattle.log_definitions.specs.WellFormed.{keys_in}
 use Rattle.log_definitions.specs.Numbers.{number_in, log_of}
@@ -23,7 +23,6 @@ use Rattle.reason_laws.proofs.Numbers.{within, node_from, before_at, reads_after
 use Rattle.reasons.specs.Initials.{IsBackIn, IsOfInitial, FollowsInitial, IsBegun, IsBeginning, BeginsBehind, ArePlain}
 use Rattle.reasons.specs.Given.{NoneInitial}
 use Rattle.reasons.proofs.Ops.{event_at, write_at, item_at}
-use Rattle.reason_laws.proofs.Found.{final_one}
 
 -- ---- links, one after the other
 linked_more : (ss : List ClientSession) (key : List ℕ) (wid : ℕ) (ls : List Link) (l : Link) → AreLinked ss key wid ls → IsNode ss l.node → ReadsAt ss l.node l.read key (left_by wid ls) → WritesLastAt ss l.node l.write key l.wid → AreLinked ss key wid (ls ++ l ∷ [])
@@ -45,7 +44,7 @@ link_on ss clean key u s y w node e (inl z) before t = absurd (omega (arith, z.0
 link_on ss clean key u s y w node e (inr f) before t =
     let x = number_in (keys_in ss) key in
     let g = source_is (log_of ss) clean u x s node.0 (within ss u node) e in
-    let same : g.w ≡ w = final_one (log_of ss) s x g.w w g.final before in
+    let same : g.w ≡ w = one_final (log_of ss) s x g.w w g.final before in
     let read = reads_key ss u x g.w key g.before refl g.reads g.external in
     let write = writes_key ss u x y key refl f.2 in
     let link : Link = record { node = u; read = read.0; write = write.0; wid = y } in

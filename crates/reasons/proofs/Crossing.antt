@@ -7,14 +7,13 @@ use Rattle.serializability.specs.declared.event.Event.TheVariants as event
 use Rattle.serializability.specs.declared.event.Event.{Event}
 use Rattle.serializability.specs.Reads.{IsFinal, IsClean}
 use Rattle.serializability.specs.Polygraph.{source}
-use Rattle.serializability.proofs.Sources.{source_is, source_from}
+use Rattle.serializability.proofs.Sources.{source_is, source_from, one_final}
 use Rattle.log_definitions.specs.WellFormed.{keys_in}
 use Rattle.log_definitions.specs.Numbers.{number_in, log_of}
 use Rattle.reason_laws.specs.Reasons.{IsNode, ReadsAt}
 use Rattle.reason_laws.specs.Crossed.{ReadsPair, AreCrossed}
 use Rattle.reason_laws.specs.declared.crossing.Crossing.{Crossing}
 use Rattle.reason_laws.specs.declared.crossing.PairRead.{PairRead}
-use Rattle.reason_laws.proofs.Found.{final_one}
 use Rattle.reason_laws.proofs.Numbers.{within, node_from, before_at, reads_after, none_before, reads_in, reads_key}
 use Rattle.reasons.specs.Events.{is_read_of}
 use Rattle.reasons.specs.Squares.{IsReadFrom, IsPairFrom, ReadsBoth, ReadsKeys, IsSquare}
@@ -57,7 +56,7 @@ same_read : (ss : List ClientSession) (v i t j x u : ℕ) → IsReadFrom ss v i 
 same_read ss v i t j x u h g =
     let read = h.reads.read in
     let key : h.key ≡ g.key = same_key ss v i (Read h.key h.wid) g.key read (h.number ∙ sym g.number) in
-    let wid : h.wid ≡ g.wid = final_one (log_of ss) u x h.wid g.wid h.final g.final in
+    let wid : h.wid ≡ g.wid = one_final (log_of ss) u x h.wid g.wid h.final g.final in
     subst (λ k. ReadsAt ss v i k g.wid) key (subst (λ n. ReadsAt ss v i h.key n) wid h.reads)
 
 -- the same, where another reads another version of the key
@@ -143,7 +142,7 @@ both_of ss clean p key wid other beside h u w =
 versions_apart : (ss : List ClientSession) (key : List ℕ) (a b : ℕ) → a ≢ b → (u : Version ss key a) (w : Version ss key b) → u.node ≢ w.node
 versions_apart ss key a b apart u w same =
     let x = number_in (keys_in ss) key in
-    apart (final_one (log_of ss) w.node x a b (subst (λ n. IsFinal (log_of ss) n x a) same u.final) w.final)
+    apart (one_final (log_of ss) w.node x a b (subst (λ n. IsFinal (log_of ss) n x a) same u.final) w.final)
 
 pub none_crossed : (ss : List ClientSession) → IsClean (log_of ss) → ((s : Square) → IsSquare (log_of ss) s → ⊥) → (c : Crossing) → AreCrossed ss c → ⊥
 none_crossed ss clean none c h =

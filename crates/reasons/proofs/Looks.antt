@@ -6,12 +6,13 @@ use Rattle.std.proofs.lemmas.List.{length-map}
 use Rattle.std.proofs.lemmas.List.Sums.{sum_by-cons, sum_by_push}
 use Rattle.serializability.specs.Log.{Log}
 use Rattle.serializability.proofs.Places.{each_of_map}
+use Rattle.serializability.proofs.SoFar.{range_last}
 use Rattle.reach_laws.proofs.Walks.{each_contained}
 use Rattle.session_history.specs.Tables.{sources_of, writers_in}
 use Rattle.session_history.specs.declared.reads.ReadFrom.{ReadFrom}
-use Rattle.write_chains.proofs.Gathered.{range_push}
+use Rattle.write_chains.proofs.Gathered.{pair_of}
 use Rattle.reasons.specs.Crossed.{looks_at, looks}
-use Rattle.reasons.proofs.Pairs.{Read, reads_of, pair_of}
+use Rattle.reasons.proofs.Pairs.{Read, reads_of}
 
 -- at one read, where so many keys are read
 abbrev pub looks_by : Log → ℕ → ReadFrom → ℕ
@@ -40,7 +41,7 @@ pub looks_further : (log : Log) (r : ℕ) → 0 < r → looks_below log (r + 1) 
 looks_further log r low =
     let count : r + 1 - 1 ≡ (r - 1) + 1 = omega (arith, low) in
     let last : 1 + (r - 1) ≡ r = omega (arith, low) in
-    ap (λ n. sum_by (looks_at log) (range_with_len 1 n)) count ∙ ap (sum_by (looks_at log)) (range_push 1 (r - 1))
+    ap (λ n. sum_by (looks_at log) (range_with_len 1 n)) count ∙ ap (sum_by (looks_at log)) (range_last 1 (r - 1))
     ∙ sum_by_push (looks_at log) (range_with_len 1 (r - 1)) (1 + (r - 1)) ∙ ap (λ n. looks_below log r + looks_at log n) last
 
 -- ---- up to a greatest number

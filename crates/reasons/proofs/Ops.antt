@@ -11,12 +11,12 @@ use Rattle.serializability.specs.declared.event.Event.TheVariants as event
 use Rattle.log_definitions.specs.WellFormed.{keys_in}
 use Rattle.log_definitions.specs.Serial.{ops_of}
 use Rattle.log_definitions.specs.Numbers.{number_in, event_of, events_of, log_of}
-use Rattle.log_definitions.proofs.Keys.{number_below}
+use Rattle.log_definitions.proofs.Keys.{number_below, same_number}
 use Rattle.serializability.specs.Log.{Log}
 use Rattle.serializability.specs.Events.{event_key}
+use Rattle.log_definitions.proofs.Nodes.{log_keys}
 use Rattle.reason_laws.specs.Reasons.{IsNode, IsOpAt, IsReadBy}
-use Rattle.reason_laws.proofs.Texts.{one_key}
-use Rattle.reason_laws.proofs.Numbers.{ops_is, keys_is, listed_at}
+use Rattle.reason_laws.proofs.Numbers.{ops_is, listed_at}
 use Rattle.reasons.specs.Events.{names}
 use Rattle.reasons.specs.Given.{IsLeastRead, NoneRead}
 use Rattle.reasons.proofs.Positions.{FirstAt, any_from, some_at}
@@ -79,7 +79,7 @@ write_at ss v i x w h = let o = op_of ss v i (event.Write x w) h in write_of ss 
 
 -- keys of one number are one key
 pub same_key : (ss : List ClientSession) (v i : ℕ) (o : Op) (key : List ℕ) → IsOpAt ss v i o → number_in (keys_in ss) (key_of o) ≡ number_in (keys_in ss) key → key_of o ≡ key
-same_key ss v i o key h n = one_key (keys_in ss) (key_of o) key (listed_at ss v i o h) n
+same_key ss v i o key h n = same_number (keys_in ss) (key_of o) key (listed_at ss v i o h) n
 
 pub key_of_event : (keys : List (List ℕ)) (o : Op) → event_key (event_of keys o) ≡ number_in keys (key_of o)
 key_of_event keys (Read key w) = refl
@@ -91,7 +91,7 @@ key_below ss v i e h =
     let o = op_of ss v i e h in
     let below = number_below (keys_in ss) (key_of o.op) (listed_at ss v i o.op o.stands) in
     let n : event_key e ≡ number_in (keys_in ss) (key_of o.op) = ap event_key (sym o.event) ∙ key_of_event (keys_in ss) o.op in
-    let all = keys_is ss in
+    let all = log_keys ss in
     omega (arith, below, n, all)
 
 -- ---- a read that names a write

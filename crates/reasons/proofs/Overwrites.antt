@@ -9,12 +9,11 @@ use Rattle.serializability.specs.declared.event.Event.TheVariants as event
 use Rattle.serializability.specs.Log.{Log}
 use Rattle.serializability.specs.Reads.{IsClean}
 use Rattle.serializability.specs.Polygraph.{source}
-use Rattle.serializability.proofs.Sources.{source_is, source_from}
+use Rattle.serializability.proofs.Sources.{source_is, source_from, one_final}
 use Rattle.log_definitions.specs.WellFormed.{keys_in}
 use Rattle.log_definitions.specs.Serial.{ops_of}
 use Rattle.log_definitions.specs.Numbers.{number_in, log_of}
 use Rattle.reason_laws.specs.Reasons.{IsNode, IsOpAt, IsNoWriteOf, ReadsAt, IsOverwrittenBy}
-use Rattle.reason_laws.proofs.Found.{final_one}
 use Rattle.reason_laws.proofs.Numbers.{within, before_at, reads_after, none_before, reads_key}
 use Rattle.reasons.specs.Events.{same_source, reads_alike, is_read_of}
 use Rattle.reasons.specs.Given.{IsLeastOverwrite, NoneOverwritten}
@@ -80,7 +79,7 @@ found ss clean a b o first second l =
     let s = alike (log_of ss) a b o.key l.passes in
     let f = source_is (log_of ss) clean a o.key s.from first.0 (within ss a first) s.first in
     let g = source_is (log_of ss) clean b o.key s.from second.0 (within ss b second) s.second in
-    let same : g.w ≡ f.w = final_one (log_of ss) s.from o.key g.w f.w g.final f.final in
+    let same : g.w ≡ f.w = one_final (log_of ss) s.from o.key g.w f.w g.final f.final in
     let read = reads_key ss a o.key f.w w.key f.before w.number f.reads f.external in
     let also = reads_key ss b o.key g.w w.key g.before w.number g.reads g.external in
     record {

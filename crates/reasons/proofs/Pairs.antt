@@ -4,8 +4,8 @@ use Rattle.std.specs.Prelude.{map}
 use Rattle.std.specs.List.{Contains, cons_option, filter_map, AllByRecursion}
 use Rattle.std.specs.Option.{option_map}
 use Rattle.std.proofs.lemmas.Bool.{cases_eq}
-use Rattle.std.proofs.lemmas.List.{get_or-map, length-map}
 use Rattle.std.proofs.lemmas.List.Elements.{Contains-append_left, Contains-append_right, Contains-append_cases}
+use Rattle.list_lemmas.proofs.Elements.{behind, mapped}
 use Rattle.serializability.specs.Log.{Log}
 use Rattle.serializability.specs.Reads.{IsClean}
 use Rattle.serializability.specs.Polygraph.{source, all_keys}
@@ -14,6 +14,7 @@ use Rattle.serializability.proofs.Places.{each_from_range}
 use Rattle.reach_laws.proofs.Walks.{each_contained}
 use Rattle.session_history.specs.Tables.{sources_of, pair_at, pairs}
 use Rattle.session_history.specs.declared.reads.ReadFrom.{ReadFrom}
+use Rattle.write_chains.proofs.Gathered.{pair_of}
 use Rattle.reasons.specs.declared.crossings.Pair.{Pair}
 use Rattle.reasons.specs.Squares.{ReadsBoth, pair, pairs_by, ArePairs}
 
@@ -22,12 +23,10 @@ pub key_within : (log : Log) → IsClean log → (r x u : ℕ) → 0 < r → r �
 key_within log clean r x u low high from = let f = source_is log clean r x u low high from in clean.keys r x f.w f.before f.reads
 
 -- ---- among what a node reads
-there : {X : Type 0} (y : X) (xs : List X) (x : X) → Contains xs x → Contains (y ∷ xs) x
-there y xs x c = (suc c.0, omega (arith, c.1), c.2)
 
 one_there : (o : Option (ℕ × ℕ)) (ps : List (ℕ × ℕ)) (p : ℕ × ℕ) → Contains ps p → Contains (cons_option o ps) p
 one_there None ps p c = c
-one_there (Some q) ps p c = there q ps p c
+one_there (Some q) ps p c = behind q ps p c
 
 one_here : (x w : ℕ) (o : Option ℕ) (ps : List (ℕ × ℕ)) → o ≡ Some w → Contains {X = ℕ × ℕ} (cons_option (option_map (λ w. (x, w)) o) ps) (x, w)
 one_here x w None ps e = cc
@@ -59,8 +58,6 @@ pub reads_of : (log : Log) (r : ℕ) → AllByRecursion (Read log r) (sources_of
 reads_of log r = each_read (λ x. x < log.keys) (source log r) (all_keys log) (each_from_range (λ x. x < log.keys) 0 log.keys (λ x low high. omega (arith, high)))
 
 -- ---- the pairs of a node
-mapped : {X Y : Type 0} (f : X → Y) (xs : List X) (x : X) → Contains xs x → Contains (map f xs) (f x)
-mapped f xs x c = (c.0, omega (arith, c.1, length-map xs f), get_or-map f xs c.0 x (f x) c.1 ∙ ap f c.2)
 
 each_mapped : {X Y : Type 0} (f : X → Y) (P : Y → Type 0) (xs : List X) → AllByRecursion (λ x. P (f x)) xs → AllByRecursion P (map f xs)
 each_mapped f P [] h = tt
@@ -69,9 +66,6 @@ each_mapped f P (x ∷ xs) h = (h.0, each_mapped f P xs h.1)
 each_both : (log : Log) (r x u : ℕ) → 0 < r → r ≤ log.nodes → source log r x ≡ Some u → (ps : List (ℕ × ℕ)) → AllByRecursion (Read log r) ps → AllByRecursion {X = ℕ × ℕ} (λ p. ReadsBoth log r x u p.0 p.1) ps
 each_both log r x u low high from [] h = tt
 each_both log r x u low high from (p ∷ ps) h = (record { low = low; high = high; first = from; second = h.0.1 }, each_both log r x u low high from ps h.1)
-
-abbrev pub pair_of : ReadFrom → ℕ × ℕ
-pair_of read = (read.key, read.source)
 
 by_reads : (r u : ℕ) (reads : List ReadFrom) → map (λ read. pair r u read.key read.source) reads ≡ pairs_by r u (map pair_of reads)
 by_reads r u [] = refl

@@ -1,8 +1,8 @@
 -- The first item of a list that passes.
-use Rattle.std.proofs.Common.{◌≡◌, ℕ, zero, suc, ◌<◌, ◌≤◌, Bool, true, false, not, List, [], ◌∷◌, length, None, Some, refl, sym, ap, ◌∙◌, inl, inr, arith, get_or, lt-ltb, take}
+use Rattle.std.proofs.Common.{◌≡◌, ℕ, zero, suc, ◌<◌, ◌≤◌, Bool, true, not, List, [], ◌∷◌, length, None, Some, refl, sym, ap, ◌∙◌, inl, inr, arith, get_or, lt-ltb, take}
 use Rattle.std.specs.Prelude.{slice_get, nat_lt, position}
 use Rattle.std.specs.List.{position_or_len, list_any, AllByRecursion}
-use Rattle.std.proofs.lemmas.Bool.{false≢true, cond-true, or_cases, cases_lt}
+use Rattle.std.proofs.lemmas.Bool.{false≢true, cond-true, or_cases, cases_lt, not-false}
 use Rattle.std.proofs.lemmas.List.Folds.{list_any_at}
 use Rattle.std.proofs.lemmas.List.Sums.{prefix_len_passes, prefix_len_stops}
 use Rattle.std.proofs.lemmas.Option.{slice_get_within, slice_get_cases, get_or_from_slice_get}
@@ -23,10 +23,6 @@ pub record FirstAt {X : Type 0} (p : X → Bool) (xs : List X) (i : ℕ) : Type 
   pub passes : p item ≡ true
   pub first : (k : ℕ) (y : X) → slice_get xs k ≡ Some y → p y ≡ true → i ≤ k
 
-not_false : (b : Bool) → not b ≡ false → b ≡ true
-not_false true e = refl
-not_false false e = absurd (false≢true (sym e))
-
 pub first_at : {X : Type 0} (p : X → Bool) (xs : List X) (i : ℕ) → Some i ≡ position p xs → FirstAt p xs i
 first_at p xs i e =
     let f = position_some p xs i e in
@@ -36,7 +32,7 @@ first_at p xs i e =
           record {
             item = h.0;
             stands = h.2;
-            passes = ap p (sym h.3) ∙ ap (λ k. p (get_or xs k h.0)) (sym f.0) ∙ not_false (p (get_or xs (position_or_len p xs) h.0)) stops;
+            passes = ap p (sym h.3) ∙ ap (λ k. p (get_or xs k h.0)) (sym f.0) ∙ not-false (p (get_or xs (position_or_len p xs) h.0)) stops;
             first = λ k y at t. (let least = no_later p xs k y at t in omega (arith, least, f.0));
           }
       | inr h ↦ absurd (omega (arith, h.0, f.0, f.1))

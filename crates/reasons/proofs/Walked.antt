@@ -6,7 +6,7 @@ use Rattle.serializability.specs.Reads.{IsClean}
 use Rattle.serializability.specs.Polygraph.{source}
 use Rattle.serializability.proofs.Sources.{source_is}
 use Rattle.chain_laws.specs.Chains.{writes}
-use Rattle.chain_laws.proofs.Walks.{one_some}
+use Rattle.chain_laws.proofs.Walks.{some_one}
 use Rattle.write_chains.proofs.Backwards.{WalkedBack, alone, stepped, line_short}
 use Rattle.reasons.specs.Initials.{IsBackIn, IsOfInitial}
 
@@ -41,7 +41,7 @@ one_on log x v s e h = record { steps = suc h.steps; back = (s, (e, h.back)) }
 over_on : (log : Log) (x v s steps all : ℕ) → v ≢ 0 → source log v x ≡ Some s → (left : ℕ) → all ≡ left + steps → IsBackIn log x left v → Over log x s (steps + 1) all
 over_on log x v s steps all ne e zero n b = absurd (ne b)
 over_on log x v s steps all ne e (suc left) n b =
-    let same : b.0 ≡ s = one_some (source log v x) b.0 s b.1.0 e in
+    let same : b.0 ≡ s = some_one (source log v x) b.0 s b.1.0 e in
     record { left = left; count = omega (arith, n); back = subst (IsBackIn log x left) same b.1.1 }
 
 pub over_next : (log : Log) (x writer first s steps : ℕ) → Back log x writer first steps → source log first x ≡ Some s → (all : ℕ) → IsBackIn log x all writer → Over log x s (steps + 1) all

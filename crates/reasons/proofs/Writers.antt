@@ -8,15 +8,13 @@ use Rattle.serializability.specs.declared.event.Event.{Event}
 use Rattle.serializability.specs.declared.event.Event.TheVariants.{Read, Write}
 use Rattle.serializability.specs.Log.{Log}
 use Rattle.serializability.specs.Reads.{WritesAfter, IsNumbered}
-use Rattle.serializability.specs.Anomalies.{writes_as, is_write_of}
-use Rattle.anomaly_laws.proofs.Writes.{writes_split, is_write-self}
-use Rattle.log_definitions.proofs.Members.{any_member}
+use Rattle.serializability.specs.Anomalies.{writes_as}
+use Rattle.anomaly_laws.proofs.Writes.{writes_split}
 use Rattle.session_history.specs.Writes.{IsUnwritten, IsNodesWrite, IsWrite}
+use Rattle.session_history.proofs.Identified.{writes_where_contained}
 use Rattle.reasons.specs.Events.{names, names_any}
 
 -- ---- a write that stands in a list
-writes_contained : (x w : ℕ) (ops : List Event) → Contains ops (Write x w) → writes_as x w ops ≡ true
-writes_contained x w ops c = any_member (is_write_of x w) ops (Write x w) c (is_write-self x w)
 
 contained_split : (ops front back : List Event) (e : Event) → ops ≡ front ++ e ∷ back → Contains ops e
 contained_split ops front back e h = subst (λ l. Contains l e) (sym h) (Contains-append_right front (e ∷ back) e (0, omega arith, refl))
@@ -25,7 +23,7 @@ after_writes : (log : Log) (v x w : ℕ) → 0 < v → v ≤ log.nodes → write
 after_writes log v x w lo hi t = let s = writes_split x w (log.ops v) t in (s.before, (lo, hi, (s.behind, s.stands)))
 
 after_contained : (log : Log) (v x w : ℕ) (last : Bool) → IsNodesWrite log v x w last → (before : List Event) × WritesAfter log v before x w
-after_contained log v x w last h = after_writes log v x w h.node.0 h.node.1 (writes_contained x w (log.ops v) h.stands)
+after_contained log v x w last h = after_writes log v x w h.node.0 h.node.1 (writes_where_contained x w (log.ops v) h.stands)
 
 same_at : (front : List Event) (x y w : ℕ) (p q : List Event) → front ++ Write x w ∷ p ≡ front ++ Write y w ∷ q → x ≡ y
 same_at front x y w p q h = let tails = append_cancel_left front (Write x w ∷ p) (Write y w ∷ q) h in cc
@@ -53,7 +51,7 @@ other_names log numbered a u x k w last lo hi (inr h) ne =
 pub own_names : (log : Log) → IsNumbered log → (a u x k w : ℕ) (last : Bool) → 0 < a → a ≤ log.nodes → IsWrite log w k u last → u ≡ a → eqb k x ≡ names_any log a (Read x w)
 own_names log numbered a u x k w last lo hi (inl h) same = absurd (omega (arith, h.0, same, lo))
 own_names log numbered a u x k w last lo hi (inr h) same = elim (cases_eq k x) [
-  | inl e ↦ eq-eqb k x e ∙ sym (subst (λ v. names_any log v (Read x w) ≡ true) same (subst (λ y. writes_as y w (log.ops u) ≡ true) e (writes_contained k w (log.ops u) h.stands)))
+  | inl e ↦ eq-eqb k x e ∙ sym (subst (λ v. names_any log v (Read x w) ≡ true) same (subst (λ y. writes_as y w (log.ops u) ≡ true) e (writes_where_contained k w (log.ops u) h.stands)))
   | inr ne ↦ ne_eqb k x ne ∙ not_true (names_any log a (Read x w)) (λ t. (let s = after_writes log a x w lo hi t in let r = after_contained log u k w last h in
       ne (one_write log numbered u a k x w r.0 s.0 r.1 s.1).1))
 ]

@@ -19,6 +19,7 @@ use Rattle.polygraph.specs.declared.fault.PolyFault.{PolyFault}
 use Rattle.polygraph.specs.declared.fault.PolyFault.TheVariants.{TooManyChoices, Memory}
 use Rattle.prune_ledger.specs.declared.ledger.Ledger.{Ledger}
 use Rattle.prune_ledger.specs.Pruned.{Remainder, IsDeadBy, IsRemainder}
+use Rattle.prune_ledger.proofs.Grown.{walk_in}
 use Rattle.reduction.specs.Chained.{IsChained, HasItsOrders, IsCoalesced, IsUnpruned}
 use Rattle.reduction.specs.Outcome.{IsCyclicHistory, IsDeadHistory, IsOpenHistory, IsReduceFault}
 
@@ -31,13 +32,8 @@ pub none_closed : {A B : Type 0} (edges : List Edge) (line_of : B → List ℕ) 
 none_closed edges line_of (Ok a) cycle acyclic = refl
 none_closed edges line_of (Err b) cycle acyclic = absurd (acyclic (cyclic edges (line_of b) cycle))
 
--- among edges that are all among more, a walk is one among those
-walk_among : (edges more : List Edge) → ((e : Edge) → Contains edges e → Contains more e) → (ws : List ℕ) (u v : ℕ) → Walk edges u ws v → Walk more u ws v
-walk_among edges more sub [] u v w = sub (u, v) w
-walk_among edges more sub (x ∷ ws) u v w = (sub (u, x) w.0, walk_among edges more sub ws x v w.1)
-
 pub cycle_among : (edges more : List Edge) → ((e : Edge) → Contains edges e → Contains more e) → (line : List ℕ) → IsCycle edges line → IsCycle more line
-cycle_among edges more sub line c = (c.0, record { inner = c.1.inner; shape = c.1.shape; steps = walk_among edges more sub c.1.inner c.0 c.0 c.1.steps })
+cycle_among edges more sub line c = (c.0, record { inner = c.1.inner; shape = c.1.shape; steps = walk_in edges more sub c.1.inner c.0 c.0 c.1.steps })
 
 -- ---- the orders that fit
 pub has_its_orders : (ss : List ClientSession) → IsClean (log_of ss) → (p : Polygraph) → ((order : List ℕ) → (Fits (bipath_polygraph (log_of ss)) order ↔ Fits p order)) → HasItsOrders ss p

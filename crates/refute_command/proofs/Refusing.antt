@@ -16,7 +16,7 @@ use Rattle.cobra_answers.specs.declared.status.Status.TheVariants.{NotSerializab
 use Rattle.cobra_answers.proofs.Telling.{keeps}
 use Rattle.refute_command.specs.declared.refusal.Refusal.{Refusal}
 use Rattle.refute_command.specs.declared.refusal.Refusal.TheVariants.{Command, Proof}
-use Rattle.refute_command.specs.Refuted.{IsShownBy, IsRefutation, IsProofRefused, IsNotRefuted, IsRefuteRefused, refuted_formula_text, given_by}
+use Rattle.refute_command.specs.Refuted.{IsShownBy, IsRefutation, IsNotRefuted, IsRefuteRefused, refuted_formula_text, given_by}
 
 pub same_given : (s : Standing) (v : ℕ) (f : Cnf) → s.clauses ≡ map Some f.clauses → v ≡ f.variables → length s.known ≡ f.variables + 1 → given_to s v ≡ given_by f
 same_given s v f e n k = λ i. record { clauses = e i; variables = n i; known = k i }
@@ -39,9 +39,6 @@ refutation_of plain proof ss b f status text made faithful shown ends told = rec
   ends = ends;
   told = told;
 }
-
-pub proof_refused : (plain : Bool) (proof : List ℕ) (ss : List ClientSession) (b : Basis) (f : Cnf) (e : ProofFault) → IsFormulaFrom plain ss b f → IsProofFault (given_by f) proof e → IsProofRefused plain proof ss e
-proof_refused plain proof ss b f e made h = record { formula = f; belongs = record { basis = b; made = made }; refused = h }
 
 pub refused_so : (plain : Bool) (proof log : List ℕ) (ss : List ClientSession) (held : Option (List ℕ)) (r : Refusal) → IsWellFormed log ss → IsNotRefuted plain proof r ss → IsRefuteRefused plain proof log held held r
 refused_so plain proof log ss held (Command f) well h = by_command f ss well h (keeps held)

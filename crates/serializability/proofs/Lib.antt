@@ -12,3 +12,4 @@ pub mod Tournament
 pub mod Made
 pub mod PlainLaws
 pub mod Listed
+pub mod EachPair

@@ -33,7 +33,7 @@ unfolding IsDistinct
 IsDistinct-from_Apart [] a = tt
 IsDistinct-from_Apart (x ∷ xs) a = (differs x xs a.0, IsDistinct-from_Apart xs a.1)
 
-Apart_range : (a n : ℕ) → Apart (range_with_len a n)
+pub Apart_range : (a n : ℕ) → Apart (range_with_len a n)
 Apart_range a zero = tt
 Apart_range a (suc n) = (λ h. (let r = range-from_Has a (a + 1) n h in omega (arith, r.0)), Apart_range (a + 1) n)
 
@@ -84,3 +84,8 @@ once_from n order long a within = record {
     this_or_within : (n v : ℕ) (order : List ℕ) → v ≤ n → ((u : ℕ) → Has u order → (0 < u) × (u ≤ n)) → (u : ℕ) → Has u (v ∷ 0 ∷ order) → u ≤ n
     this_or_within n v order hi within u (inl e) = omega (arith, e)
     this_or_within n v order hi within u (inr h) = zero_or_within n order within u h
+
+pub not_once_outside : (n : ℕ) (order : List ℕ) (i v : ℕ) → i < length order → get_or order i v ≡ v → (0 < v → v ≤ n → ⊥) → ListsOnce n order → ⊥
+not_once_outside n order i v lt e outside once =
+    let within = node_of n order once v (subst (λ u. Has u order) e (Has_get order i v lt)) in
+    outside within.0 within.1

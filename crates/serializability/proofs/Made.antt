@@ -113,7 +113,7 @@ literal_made known low m order extra agrees (e ∷ edges) w f (inr any) =
       | inr n ↦ rw n rest
     ]
 
-clause_from : (P : List Literal → Type 0) (b : Bool) (c : List Literal) → (b ≡ false → P c) → AllByRecursion P (cond b [] (c ∷ []))
+pub clause_from : (P : List Literal → Type 0) (b : Bool) (c : List Literal) → (b ≡ false → P c) → AllByRecursion P (cond b [] (c ∷ []))
 clause_from P true c h = tt
 clause_from P false c h = (h refl, tt)
 

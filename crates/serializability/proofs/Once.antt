@@ -45,18 +45,18 @@ pub places_apart : (n : ℕ) (order : List ℕ) → ListsOnce n order → (u v :
 places_apart n order once u v hu ne e = ne (place_of-apart (0 ∷ order) u v (listed n order once u hu) e)
 
 -- ---- no more than n nodes
-any_index : (q : ℕ) (xs : List ℕ) → list_any (eqb q) xs ≡ true → (i : ℕ) × ((i < length xs) × (get_or xs i q ≡ q))
+pub any_index : (q : ℕ) (xs : List ℕ) → list_any (eqb q) xs ≡ true → (i : ℕ) × ((i < length xs) × (get_or xs i q ≡ q))
 any_index q [] e = absurd (false≢true e)
 any_index q (x ∷ xs) e = elim (or_cases (eqb q x) (list_any (eqb q) xs) e) [
   | inl t ↦ (0, (omega arith, sym (eqb-true q x t)))
   | inr t ↦ let r = any_index q xs t in (suc r.0, (omega (arith, r.1.0), r.1.1))
 ]
 
-absent_apart : (p : ℕ) (xs : List ℕ) → list_any (eqb p) xs ≡ false → AllByRecursion (λ y. nat_eq p y ≡ false) xs
+pub absent_apart : (p : ℕ) (xs : List ℕ) → list_any (eqb p) xs ≡ false → AllByRecursion (λ y. nat_eq p y ≡ false) xs
 absent_apart p [] e = tt
 absent_apart p (x ∷ xs) e = let b = or_parts (eqb p x) (list_any (eqb p) xs) e in (b.0, absent_apart p xs b.1)
 
-cons_distinct : (p : ℕ) (xs : List ℕ) → list_any (eqb p) xs ≡ false → IsDistinct nat_eq xs → IsDistinct nat_eq (p ∷ xs)
+pub cons_distinct : (p : ℕ) (xs : List ℕ) → list_any (eqb p) xs ≡ false → IsDistinct nat_eq xs → IsDistinct nat_eq (p ∷ xs)
 unfolding IsDistinct
 cons_distinct p xs e d = (absent_apart p xs e, d)
 

@@ -141,3 +141,20 @@ each_from_filter P p (x ∷ xs) h = from_filtered P p x xs (p x) refl h.0 (each_
 pub length_mapped : {X Y : Type 0} (f : X → Y) (xs : List X) → length (map f xs) ≡ length xs
 length_mapped f [] = refl
 length_mapped f (x ∷ xs) = ap suc (length_mapped f xs)
+
+pub place_within : (xs : List ℕ) (v : ℕ) → Has v xs → place_of xs v < length xs
+place_within [] v h = absurd h
+place_within (x ∷ xs) v h = elim (cases_eq x v) [
+  | inl e ↦ (let here : place_of (x ∷ xs) v ≡ 0 = cond-true {A = ℕ} (eqb x v) 0 _ (eq-eqb x v e) in omega (arith, here))
+  | inr ne ↦ elim h [
+    | inl e ↦ absurd (ne e)
+    | inr k ↦ (let there = place_of-further x v xs ne in omega (arith, there, place_within xs v k))
+  ]
+]
+
+pub Apart-append : (a b : List ℕ) → Apart a → Apart b → ((n : ℕ) → Has n a → Has n b → ⊥) → Apart (a ++ b)
+Apart-append [] b h k d = k
+Apart-append (x ∷ a) b h k d = (
+  λ i. elim (Has-append_cases x a b i) [ inl j ↦ h.0 j | inr j ↦ d x (inl refl) j ],
+  Apart-append a b h.1 k (λ n i j. d n (inr i) j),
+)

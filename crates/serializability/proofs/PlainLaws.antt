@@ -1,5 +1,5 @@
 -- The plain formula of a clean history, and the orders that fit its bipaths.
-use Rattle.std.proofs.Common.{◌≡◌, ◌≢◌, ℕ, ◌+◌, ◌≤◌, Bool, true, false, ◌||◌, List, [], ◌∷◌, ◌++◌, refl, sym, inl, inr, arith, length-append}
+use Rattle.std.proofs.Common.{◌≡◌, ◌≢◌, ℕ, ◌+◌, ◌≤◌, Bool, true, false, ◌||◌, List, [], ◌∷◌, ◌++◌, refl, sym, inl, inr, arith, length-append, not}
 use Rattle.std.specs.List.{AllByRecursion}
 use Rattle.std.specs.Prelude.{map}
 use Rattle.std.proofs.lemmas.Bool.{false≢true, or_cases, or_left, or_right}
@@ -10,9 +10,9 @@ use Rattle.serializability.specs.Polygraph.{Edge, Choice, KeepsOne, Fits, arcs, 
 use Rattle.serializability.proofs.Places.{each_of_append, each_from_append, each_of_map, each_from_map}
 use Rattle.serializability.proofs.Serial.{each_of_arcs, each_from_arcs, each_of_bipaths, each_from_bipaths, arc_from_zero, arc_apart, rival_is, source_within, serial_fits, fitting_serial}
 use Rattle.serializability.specs.declared.literal.Literal.{Literal}
-use Rattle.serializability.specs.Formula.{Satisfies, clause_true}
+use Rattle.serializability.specs.Formula.{Satisfies, clause_true, value_of}
 use Rattle.serializability.specs.Pairs.{order_clauses}
-use Rattle.serializability.specs.Plain.{nothing_known, plain_nodes, plain_pairs, literals_of, plain}
+use Rattle.serializability.specs.Plain.{nothing_known, plain_nodes, plain_pairs, literals_of, plain, contradiction}
 use Rattle.serializability.specs.Decoded.{is_before, before, IsOrder, IsDecoded}
 use Rattle.serializability.proofs.Ranks.{IsRanked, ranked_once, ranked_before}
 use Rattle.serializability.proofs.Tournament.{lit, IsKnown, before_lit, turns_kept, is_order}
@@ -23,13 +23,13 @@ use Rattle.serializability.proofs.Lines.{decoded}
 nothing_is : IsKnown nothing_known
 nothing_is = record { irreflexive = λ u. refl; transitive = λ u v w a b. absurd (false≢true a) }
 
-abbrev True : List Bool → List Literal → Type 0
+abbrev pub True : List Bool → List Literal → Type 0
 True values c = clause_true values c ≡ true
 
 abbrev B : ℕ → List Bool → ℕ → ℕ → Bool
 B n values u v = is_before nothing_known (plain_pairs n) values u v
 
-unit_true : (b : Bool) → (b || false) ≡ true → b ≡ true
+pub unit_true : (b : Bool) → (b || false) ≡ true → b ≡ true
 unit_true true e = refl
 unit_true false e = e
 
@@ -125,3 +125,10 @@ plain_serial log clean values s order d = fitting_serial log clean order (decode
 
 pub plain_decodes : (log : Log) → IsClean log → (values : List Bool) → Satisfies values (plain log) → (order : List ℕ) × IsDecoded log.nodes (before (plain log) values) order
 plain_decodes log clean values s = decoded log.nodes (before (plain log) values) (plain_is_order log values s)
+
+pub never_both : (b : Bool) → (b || false) ≡ true → (not b || false) ≡ true → ⊥
+never_both true p q = false≢true q
+never_both false p q = false≢true p
+
+pub contradicted : (values : List Bool) → Satisfies values contradiction → ⊥
+contradicted values s = never_both (value_of values 1) s.each_clause.0 s.each_clause.1.0

@@ -1,8 +1,8 @@
 -- Counting what stands before each node, in a strict total order of nodes 0 to n.
 use Rattle.std.proofs.Common.{◌≡◌, ℕ, zero, suc, ◌+◌, ◌-◌, ◌<◌, ◌≤◌, Bool, true, false, eqb, cond, List, [], ◌∷◌, length, get_or, refl, sym, ap, ◌∙◌, subst, inl, inr, arith, eqb-true, eq-eqb, ne_eqb}
-use Rattle.std.specs.List.{count_by, list_any, range_with_len, All, AllByRecursion, Contains, IsDistinct}
+use Rattle.std.specs.List.{count_by, list_any, range_with_len, All, Contains, IsDistinct}
 use Rattle.std.specs.Prelude.{nat_eq, map}
-use Rattle.std.proofs.lemmas.Bool.{cases_eq, cases_lt, cases_Bool, cond-true, cond-false, false≢true, true≢false, or_cases, or_parts}
+use Rattle.std.proofs.lemmas.Bool.{cases_eq, cases_lt, cases_Bool, cond-true, cond-false, false≢true, true≢false, or_cases}
 use Rattle.std.proofs.lemmas.List.Sums.{sum_by-cons, count_by-le-length}
 use Rattle.std.proofs.lemmas.List.{get_or_default}
 use Rattle.std.proofs.lemmas.List.FromFn.{length-range_with_len, length-map-range_with_len, get_or-map-range_with_len}
@@ -12,6 +12,7 @@ use Rattle.serializability.specs.Replay.{place_of, Before, ListsOnce}
 use Rattle.serializability.specs.Decoded.{IsOrder}
 use Rattle.serializability.proofs.Places.{Has, Apart, Apart-from_IsDistinct, Has_at, place_of-here, place_of-further}
 use Rattle.serializability.proofs.Sources.{Has-from_range, range-from_Has}
+use Rattle.serializability.proofs.Once.{any_index, cons_distinct}
 
 -- ---- two counts over one list
 count-cons : (p : ℕ → Bool) (x : ℕ) (xs : List ℕ) → count_by p (x ∷ xs) ≡ cond (p x) 1 0 + count_by p xs
@@ -92,13 +93,6 @@ ranks n r = map (rank n r) (range_with_len 0 (n + 1))
 ranks_at : (n : ℕ) (r : ℕ → ℕ → Bool) (i d : ℕ) → i ≤ n → get_or (ranks n r) i d ≡ rank n r i
 ranks_at n r i d h = get_or-map-range_with_len (rank n r) 0 (n + 1) i i d (omega arith) (omega arith)
 
-any_index : (q : ℕ) (xs : List ℕ) → list_any (eqb q) xs ≡ true → (i : ℕ) × ((i < length xs) × (get_or xs i q ≡ q))
-any_index q [] e = absurd (false≢true e)
-any_index q (x ∷ xs) e = elim (or_cases (eqb q x) (list_any (eqb q) xs) e) [
-  | inl t ↦ (0, (omega arith, sym (eqb-true q x t)))
-  | inr t ↦ let r = any_index q xs t in (suc r.0, (omega (arith, r.1.0), r.1.1))
-]
-
 ranks_below : (n : ℕ) (r : ℕ → ℕ → Bool) → IsOrder n r → (q : ℕ) → list_any (eqb q) (ranks n r) ≡ true → q < n + 1
 ranks_below n r o q t =
     let a = any_index q (ranks n r) t in
@@ -113,14 +107,6 @@ ranks_distinct n r o = IsDistinct-from_apart nat_eq (ranks n r) (λ i j d lt h.
     ne_eqb _ _ (λ e.
     let same = rank-apart n r o i j hi hj (sym (ranks_at n r i d hi) ∙ e ∙ ranks_at n r j d hj) in
     omega (arith, same)))
-
-absent_apart : (p : ℕ) (xs : List ℕ) → list_any (eqb p) xs ≡ false → AllByRecursion (λ y. nat_eq p y ≡ false) xs
-absent_apart p [] e = tt
-absent_apart p (x ∷ xs) e = let b = or_parts (eqb p x) (list_any (eqb p) xs) e in (b.0, absent_apart p xs b.1)
-
-cons_distinct : (p : ℕ) (xs : List ℕ) → list_any (eqb p) xs ≡ false → IsDistinct nat_eq xs → IsDistinct nat_eq (p ∷ xs)
-unfolding IsDistinct
-cons_distinct p xs e d = (absent_apart p xs e, d)
 
 one_more_below : (p n : ℕ) (xs : List ℕ) → p < n → ((q : ℕ) → list_any (eqb q) xs ≡ true → q < n) → (q : ℕ) → list_any (eqb q) (p ∷ xs) ≡ true → q < n
 one_more_below p n xs h below q t = elim (or_cases (eqb q p) (list_any (eqb q) xs) t) [

@@ -29,7 +29,7 @@ later-assoc : (a b c : Option ℕ) → later a (later b c) ≡ later (later a b)
 later-assoc a b None = refl
 later-assoc a b (Some w) = refl
 
-later-None : (b : Option ℕ) → later None b ≡ b
+pub later-None : (b : Option ℕ) → later None b ≡ b
 later-None None = refl
 later-None (Some w) = refl
 

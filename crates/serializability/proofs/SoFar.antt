@@ -4,7 +4,7 @@ use Rattle.std.specs.List.{flat_map, range_with_len}
 use Rattle.std.proofs.lemmas.List.{append-nil}
 use Rattle.std.proofs.lemmas.Grind.{flat_map-append}
 
-range_last : (a k : ℕ) → range_with_len a (k + 1) ≡ range_with_len a k ++ (a + k) ∷ []
+pub range_last : (a k : ℕ) → range_with_len a (k + 1) ≡ range_with_len a k ++ (a + k) ∷ []
 range_last a zero = let e : a ≡ a + 0 = omega arith in ap (λ n. n ∷ []) e
 range_last a (suc k) =
     let e : (a + 1) + k ≡ a + suc k = omega arith in

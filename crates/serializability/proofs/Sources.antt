@@ -2,12 +2,13 @@
 use Rattle.std.proofs.Common.{◌≡◌, ◌≢◌, ◌⊎◌, ℕ, zero, suc, ◌+◌, ◌<◌, ◌≤◌, Bool, true, false, eqb, cond, List, [], ◌∷◌, ◌++◌, Option, None, Some, refl, sym, ap, ◌∙◌, subst, inl, inr, arith, unwrap_or, eqb-true, eq-eqb}
 use Rattle.std.specs.List.{find, list_any, range_with_len}
 use Rattle.std.specs.Option.{option_map, option_map_or}
-use Rattle.std.proofs.lemmas.Bool.{cases_eq, cases_Bool, cond-true, cond-false, false≢true, or_cases}
+use Rattle.std.proofs.lemmas.Bool.{cases_eq, cases_Bool, cond-true, cond-false, false≢true, or_cases, and_parts, and_from}
 use Rattle.serializability.specs.declared.event.Event.{Event}
 use Rattle.serializability.specs.declared.event.Event.TheVariants.{Read, Write}
 use Rattle.serializability.specs.Log.{Log}
 use Rattle.serializability.specs.Reads.{later, last_write, external_read, IsFinal, ReadsAfter, IsClean}
 use Rattle.serializability.specs.Polygraph.{committed, all_keys, wrote, writer_of, source, reads_from}
+use Rattle.serializability.specs.Anomalies.{is_write_of}
 use Rattle.serializability.proofs.Places.{Has}
 
 pub Has-from_range : (v a n : ℕ) → a ≤ v → v < a + n → Has v (range_with_len a n)
@@ -50,9 +51,6 @@ any_found p (x ∷ xs) e = elim (or_cases (p x) (list_any p xs) e) [
   | inr h ↦ let r = any_found p xs h in (r.0, (r.1.0, inr r.1.1))
 ]
 
-or_here : (b c : Bool) → b ≡ true → (cond b true c) ≡ true
-or_here b c e = cond-true b true c e
-
 pub any_from : (p : ℕ → Bool) (xs : List ℕ) (v : ℕ) → p v ≡ true → Has v xs → list_any p xs ≡ true
 any_from p [] v e h = absurd h
 any_from p (x ∷ xs) v e (inl here) = let t : p x ≡ true = subst (λ n. p n ≡ true) (sym here) e in rw t refl
@@ -76,7 +74,7 @@ write_here : (k x w : ℕ) (rest : Option ℕ) (b : Bool) → eqb k x ≡ b → 
 write_here k x w rest true e h = cc
 write_here k x w rest false e h = (e, h)
 
-later_none_from : (b : Bool) (v : ℕ) (o : Option ℕ) → b ≡ false → o ≡ None → later (cond b (Some v) None) o ≡ None
+pub later_none_from : (b : Bool) (v : ℕ) (o : Option ℕ) → b ≡ false → o ≡ None → later (cond b (Some v) None) o ≡ None
 later_none_from true v o e h = absurd (false≢true (sym e))
 later_none_from false v None e h = refl
 later_none_from false v (Some w) e h = cc
@@ -93,7 +91,7 @@ external_read_split x w (Write k v ∷ ops) e =
     let s = external_read_split x w ops h.1 in
     record { before = Write k v ∷ s.before; behind = s.behind; stands = ap (λ l. Write k v ∷ l) s.stands; external = later_none_from (eqb k x) v (last_write x s.before) h.0 s.external }
 
-later_none_parts : (b : Bool) (v : ℕ) (o : Option ℕ) → later (cond b (Some v) None) o ≡ None → (b ≡ false) × (o ≡ None)
+pub later_none_parts : (b : Bool) (v : ℕ) (o : Option ℕ) → later (cond b (Some v) None) o ≡ None → (b ≡ false) × (o ≡ None)
 later_none_parts true v None e = cc
 later_none_parts true v (Some w) e = cc
 later_none_parts false v None e = (refl, refl)
@@ -185,7 +183,7 @@ reads_from_source log r x u k e =
     any_from (λ y. option_map_or (λ v. eqb v u) (source log r y) false) (all_keys log) x (wrote_from (source log r x) u e) (Has-from_range x 0 log.keys (omega arith) (omega arith))
 
 -- ---- the nodes read from are nodes of the log
-writer_within : (log : Log) (x w : ℕ) (o : Option ℕ) → find (wrote log x w) (committed log) ≡ o → unwrap_or o 0 ≤ log.nodes
+pub writer_within : (log : Log) (x w : ℕ) (o : Option ℕ) → find (wrote log x w) (committed log) ≡ o → unwrap_or o 0 ≤ log.nodes
 writer_within log x w None e = omega arith
 writer_within log x w (Some v) e =
     let r = range-from_Has v 1 log.nodes (find_some (wrote log x w) (committed log) v e).1 in omega (arith, r.1)
@@ -198,3 +196,18 @@ pub source_within : (log : Log) (v x u : ℕ) → source log v x ≡ Some u → 
 source_within log v x u e =
     let s = mapped_some (writer_of log x) (external_read x (log.ops v)) u e in
     omega (arith, writer_within log x s.0 (find (wrote log x s.0) (committed log)) refl, s.1)
+
+pub is_write : (x w : ℕ) (e : Event) → is_write_of x w e ≡ true → e ≡ Write x w
+is_write x w (Read k v) h = absurd (false≢true h)
+is_write x w (Write k v) h =
+    let p = and_parts (eqb k x) (eqb v w) h in
+    ap (λ n. Write n v) (eqb-true k x p.0) ∙ ap (λ n. Write x n) (eqb-true v w p.1)
+
+pub is_write-self : (x w : ℕ) → is_write_of x w (Write x w) ≡ true
+is_write-self x w = and_from (eqb x x) (eqb w w) (eq-eqb x x refl) (eq-eqb w w refl)
+
+pub one_final : (log : Log) (u x w y : ℕ) → IsFinal log u x w → IsFinal log u x y → w ≡ y
+one_final log u x w y (inl a) (inl b) = a.1 ∙ sym b.1
+one_final log u x w y (inl a) (inr b) = absurd (omega (arith, a.0, b.0))
+one_final log u x w y (inr a) (inl b) = absurd (omega (arith, b.0, a.0))
+one_final log u x w y (inr a) (inr b) = cc

@@ -6,6 +6,7 @@ use Rattle.std.proofs.lemmas.List.{take_all}
 use Rattle.std.proofs.lemmas.List.Folds.{Any-from_list_any}
 use Rattle.std.proofs.lemmas.List.Sums.{sum_by-cons}
 use Rattle.std.proofs.lemmas.Slice.Eq.{bytes_eq-Decides}
+use Rattle.list_lemmas.proofs.Bools.{same_bool}
 use Rattle.session_log.specs.Text.{ClientSession, Transaction}
 use Rattle.session_log.specs.declared.session.Op.TheVariants.{Read, Write}
 use Rattle.session_log.specs.declared.session.Outcome.{Outcome}
@@ -22,11 +23,6 @@ use Rattle.session_history.proofs.Grown.{Served}
 use Rattle.session_history.proofs.Unknowns.{EachWrite, each_of_unknown}
 use Rattle.session_history.proofs.Once.{thinner_all, each_last}
 use Rattle.session_history.proofs.Worked.{IsTakenSession, Worked}
-
-same_truth : (a b : Bool) → (a ≡ true → b ≡ true) → (b ≡ true → a ≡ true) → a ≡ b
-same_truth true b f g = sym (f refl)
-same_truth false true f g = g refl
-same_truth false false f g = refl
 
 -- two sessions with one number are one session
 one_session : (ss : List ClientSession) (s t : ClientSession) → IsDistinct nat_eq (map (λ s. s.number) ss) → Contains ss s → Contains ss t → s.number ≡ t.number → s ≡ t
@@ -83,7 +79,7 @@ finds_write ss chosen n once need =
 -- once nothing is left to read
 pub worked_all : (ss order : List ClientSession) (found : ℕ → Option WriteView) (done : ℕ) → IsOnce ss → ((wid : ℕ) → found wid ≡ last_with wid (unknown_writes ss)) → Worked ss order found done → length order ≤ done
     → (n : ℕ) → has order n ≡ taken ss n
-worked_all ss order found done once h k le n = same_truth (has order n) (taken ss n) only (λ e. taken_least ss (has order) closed n e)
+worked_all ss order found done once h k le n = same_bool (has order n) (taken ss n) only (λ e. taken_least ss (has order) closed n e)
   where
     closed : IsClosed ss (has order)
     closed = record {
@@ -110,7 +106,7 @@ none_counted p (x ∷ xs) e = go (p x) refl (e ∙ sum_by-cons (λ y. cond (p y)
     go false f g later = (f, later (omega (arith, g)))
 
 pub none_taken : (ss : List ClientSession) → 0 ≡ count_by is_unknown (txns_in ss) → (n : ℕ) → false ≡ taken ss n
-none_taken ss e n = sym (same_truth (taken ss n) false (λ t. taken_least ss (λ m. false) closed n t) (λ f. absurd (false≢true f)))
+none_taken ss e n = sym (same_bool (taken ss n) false (λ t. taken_least ss (λ m. false) closed n t) (λ f. absurd (false≢true f)))
   where
     closed : IsClosed ss (λ m. false)
     closed = record {

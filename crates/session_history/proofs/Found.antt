@@ -4,6 +4,7 @@ use Rattle.std.specs.Option.{option_or, option_map}
 use Rattle.std.specs.BTreeMap.{get, is_at}
 use Rattle.std.specs.Cmp.{unsigned_ties}
 use Rattle.std.proofs.lemmas.Grind.{flat_map-append}
+use Rattle.list_lemmas.proofs.Lists.{front_more}
 use Rattle.session_log.specs.Text.{ClientSession, Transaction}
 use Rattle.log_definitions.specs.Unknown.{is_unknown}
 use Rattle.session_log.specs.declared.session.Op.{Op}
@@ -12,7 +13,6 @@ use Rattle.session_history.specs.declared.taken.UnknownWrite.{UnknownWrite}
 use Rattle.session_history.specs.declared.taken.UnknownWrites.{UnknownWrites}
 use Rattle.session_history.specs.Worklist.{WriteView, WriteAt, writes_of, unknown_writes_of, last_with, with_read, with_reads}
 use Rattle.session_history.specs.Tracked.{write_view, FindsLast}
-use Rattle.session_history.proofs.Stepping.{step_itself}
 
 -- ---- the table of writes
 
@@ -46,7 +46,7 @@ pub ops_more : (old : List WriteAt) (s : ClientSession) (ops : List Op) (i : ℕ
     → (old ++ writes_of s (take i ops)) ++ writes_of s (op ∷ []) ≡ old ++ writes_of s (take (i + 1) ops)
 ops_more old s ops i op lt at =
     append_assoc old (writes_of s (take i ops)) (writes_of s (op ∷ []))
-    ∙ ap (λ l. old ++ l) (sym (writes_of-append s (take i ops) (op ∷ [])) ∙ ap (writes_of s) (sym (step_itself ops i op lt at)))
+    ∙ ap (λ l. old ++ l) (sym (writes_of-append s (take i ops) (op ∷ [])) ∙ ap (writes_of s) (sym (front_more ops i op lt at)))
 
 -- ---- the sessions
 

@@ -5,13 +5,13 @@ use Rattle.std.specs.Str.{bytes_eq}
 use Rattle.std.proofs.lemmas.Bool.{false≢true, or_left, or_right, or_parts}
 use Rattle.std.proofs.lemmas.List.{map-append}
 use Rattle.std.proofs.lemmas.List.Folds.{list_any-append}
+use Rattle.std.proofs.lemmas.Option.{same_Some}
 use Rattle.session_log.specs.Text.{ClientSession}
 use Rattle.session_log.specs.declared.session.Op.{Op}
 use Rattle.session_log.specs.declared.session.Op.TheVariants.{Read, Write}
 use Rattle.serializability.proofs.Places.{each_from_append}
 use Rattle.log_definitions.proofs.Members.{each_weaker}
 use Rattle.session_history.specs.Worklist.{WriteView, has, with_session, with_found, with_read, with_reads}
-use Rattle.session_history.proofs.Stepping.{some_same}
 
 has-append : (a b : List ClientSession) (n : ℕ) → has a n ≡ true → has (a ++ b) n ≡ true
 has-append a b n h = list_any-append (λ (s : ClientSession). eqb s.number n) a b ∙ or_left (has a n) (has b n) h
@@ -35,10 +35,6 @@ still_served found a b (Write key wid) h = tt
 
 pub all_still : (found : ℕ → Option WriteView) (a b : List ClientSession) (ops : List Op) → AllByRecursion (Served found a) ops → AllByRecursion (Served found (a ++ b)) ops
 all_still found a b ops h = each_weaker (Served found a) (Served found (a ++ b)) (λ op. still_served found a b op) ops h
-
-apart_from : (n : ℕ) (xs : List ClientSession) → has xs n ≡ false → AllByRecursion (λ x. eqb x n ≡ false) (numbers xs)
-apart_from n [] h = tt
-apart_from n (x ∷ xs) h = let p = or_parts (eqb x.number n) (has xs n) h in (p.0, apart_from n xs p.1)
 
 -- one more, whose number is new
 distinct_push : (xs : List ClientSession) (s : ClientSession) → IsDistinct nat_eq (numbers xs) → has xs s.number ≡ false → IsDistinct nat_eq (numbers (xs ++ s ∷ []))
@@ -70,7 +66,7 @@ grown_session : (found : ℕ → Option WriteView) (P : ClientSession → Type 0
 grown_session found P key wid w o e p = go (has o w.session.number) refl
   where
     serve : (new : List ClientSession) → has new w.session.number ≡ true → (v : WriteView) → found wid ≡ Some v → bytes_eq key v.key ≡ true → has new v.session.number ≡ true
-    serve new h v f _ = subst (λ (u : WriteView). has new u.session.number ≡ true) (some_same w v (sym e ∙ f)) h
+    serve new h v f _ = subst (λ (u : WriteView). has new u.session.number ≡ true) (same_Some w v (sym e ∙ f)) h
 
     go : (b : Bool) → has o w.session.number ≡ b → Grown found P (Read key wid ∷ []) o (cond b o (o ++ w.session ∷ []))
     go true h = stays found P (Read key wid) o (serve o h)
@@ -98,7 +94,7 @@ grown_op found P (Read key wid) o h = go (found wid) refl
       where
         at : (b : Bool) → bytes_eq key w.key ≡ b → Grown found P (Read key wid ∷ []) o (cond b (with_session w.session o) o)
         at true same = grown_session found P key wid w o e (h w e same)
-        at false other = stays found P (Read key wid) o (λ v f same. absurd (false≢true (sym other ∙ ap (λ (u : WriteView). bytes_eq key u.key) (some_same w v (sym e ∙ f)) ∙ same)))
+        at false other = stays found P (Read key wid) o (λ v f same. absurd (false≢true (sym other ∙ ap (λ (u : WriteView). bytes_eq key u.key) (same_Some w v (sym e ∙ f)) ∙ same)))
 
 -- each operation in turn
 pub grown : (found : ℕ → Option WriteView) (P : ClientSession → Type 0) (ops : List Op) (o : List ClientSession) → AllByRecursion (Finds found P) ops → Grown found P ops o (with_reads found ops o)

@@ -1,15 +1,15 @@
 -- The write that an identity finds.
-use Rattle.std.proofs.Common.{◌≡◌, ℕ, zero, suc, ◌<◌, Bool, true, false, eqb, ◌&&◌, List, [], ◌∷◌, length, get_or, Option, None, Some, refl, sym, ap, ◌∙◌, subst, inl, inr, arith, eqb-true, eq-eqb}
+use Rattle.std.proofs.Common.{◌≡◌, ℕ, zero, suc, ◌<◌, Bool, true, false, eqb, ◌&&◌, List, [], ◌∷◌, length, get_or, Option, None, Some, refl, sym, ap, ◌∙◌, subst, inl, inr, arith, eq-eqb}
 use Rattle.std.specs.Prelude.{MatchOption}
 use Rattle.std.specs.List.{list_any, Contains}
-use Rattle.std.proofs.lemmas.Bool.{cases_eq, cases_lt, false≢true, or_cases, or_left, or_right, and_parts, and_from}
+use Rattle.std.proofs.lemmas.Bool.{cases_eq, cases_lt, false≢true, or_cases, or_left, or_right, and_from}
 use Rattle.session_log.specs.Text.{ClientSession}
 use Rattle.serializability.specs.declared.event.Event.{Event}
-use Rattle.serializability.specs.declared.event.Event.TheVariants.{Read, Write}
+use Rattle.serializability.specs.declared.event.Event.TheVariants.{Write}
 use Rattle.serializability.specs.Log.{Log}
 use Rattle.serializability.specs.Reads.{last_write}
 use Rattle.serializability.specs.Anomalies.{is_write_of, writes_as}
-use Rattle.serializability.proofs.Sources.{wrote_is, wrote_from}
+use Rattle.serializability.proofs.Sources.{wrote_is, wrote_from, is_write as same_write, is_write-self}
 use Rattle.log_definitions.specs.Numbers.{log_of}
 use Rattle.session_history.specs.declared.writes.Written.{Written}
 use Rattle.session_history.specs.declared.writes.Writes.{Writes}
@@ -30,17 +30,8 @@ some_element p (y ∷ ys) e = elim (or_cases (p y) (list_any p ys) e) [
   | inr h ↦ let r = some_element p ys h in (r.0, ((suc r.1.0.0, omega (arith, r.1.0.1), r.1.0.2), r.1.1))
 ]
 
-same_write : (x w : ℕ) (e : Event) → is_write_of x w e ≡ true → e ≡ Write x w
-same_write x w (Read k v) t = absurd (false≢true t)
-same_write x w (Write k v) t =
-    let p = and_parts (eqb k x) (eqb v w) t in
-    ap (λ n. Write n v) (eqb-true k x p.0) ∙ ap (λ n. Write x n) (eqb-true v w p.1)
-
-is_itself : (x w : ℕ) → is_write_of x w (Write x w) ≡ true
-is_itself x w = and_from (eqb x x) (eqb w w) (eq-eqb x x refl) (eq-eqb w w refl)
-
-writes_where_contained : (x w : ℕ) (ops : List Event) → Contains ops (Write x w) → writes_as x w ops ≡ true
-writes_where_contained x w ops c = any_element (is_write_of x w) ops c.0 (Write x w) c.1 c.2 (is_itself x w)
+pub writes_where_contained : (x w : ℕ) (ops : List Event) → Contains ops (Write x w) → writes_as x w ops ≡ true
+writes_where_contained x w ops c = any_element (is_write_of x w) ops c.0 (Write x w) c.1 c.2 (is_write-self x w)
 
 contained_where_writes : (x w : ℕ) (ops : List Event) → writes_as x w ops ≡ true → Contains ops (Write x w)
 contained_where_writes x w ops t =

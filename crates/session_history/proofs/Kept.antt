@@ -5,7 +5,7 @@ use Rattle.std.specs.List.{filter_map, cons_option}
 use Rattle.std.specs.Option.{option_map, option_map_or}
 use Rattle.std.proofs.lemmas.Bool.{cases_lt, ltb-true, ltb-false}
 use Rattle.std.proofs.lemmas.List.{length-map}
-use Rattle.std.proofs.lemmas.Option.{slice_get_past, slice_get_read}
+use Rattle.std.proofs.lemmas.Option.{slice_get_past, slice_get_read, slice_get-map, same_Some}
 use Rattle.session_log.specs.Text.{ClientSession}
 use Rattle.serializability.specs.Log.{Log}
 use Rattle.serializability.specs.Reads.{external_read}
@@ -13,7 +13,7 @@ use Rattle.serializability.specs.Polygraph.{all_keys, source, writer_of}
 use Rattle.log_definitions.specs.WellFormed.{keys_in}
 use Rattle.log_definitions.specs.Serial.{Committed, committed_in, node_in, node_of, begun_of, ended_of}
 use Rattle.log_definitions.specs.Numbers.{events_of, log_of}
-use Rattle.session_history.specs.Tables.{sources_of, name_in}
+use Rattle.session_history.specs.Tables.{sources_of}
 use Rattle.session_history.specs.Taken.{NumberedNode, node_view}
 use Rattle.session_history.specs.Rows.{row_view}
 use Rattle.session_history.specs.Sources.{reads_view}
@@ -23,8 +23,8 @@ use Rattle.session_history.specs.declared.rows.KeyRow.{KeyRow}
 use Rattle.session_history.specs.declared.log.History.TheInside.{Inside}
 use Rattle.log_definitions.proofs.FewNodes.{few_nodes}
 use Rattle.log_definitions.proofs.Scanning.{rules_where_no_fault}
-use Rattle.session_history.proofs.Stepping.{some_same}
-use Rattle.session_history.proofs.Tabled.{log_nodes, log_keys, log_ops, log_session, slice_get-map, ops_past}
+use Rattle.log_definitions.proofs.Nodes.{log_keys, log_nodes}
+use Rattle.session_history.proofs.Tabled.{log_ops, log_session, ops_past}
 
 module _ (h : Inside) (k : IsHistory h) where
   abbrev its : List ClientSession
@@ -48,7 +48,7 @@ module _ (h : Inside) (k : IsHistory h) where
   pub row_kept : (x : ℕ) (row : KeyRow) → x < (log_of (sessions_of h)).keys → row ≡ get_or h.rows.items x row → row_view row ≡ row_in (log_of (sessions_of h)) x
   row_kept x row lt e =
       let at = slice_get_read h.rows.items (length h.rows.items) x row refl (omega (arith, k.rows.count)) e in
-      some_same (row_view row) (row_in (log_of its) x) (ap (option_map row_view) (sym at) ∙ k.rows.each x lt)
+      same_Some (row_view row) (row_in (log_of its) x) (ap (option_map row_view) (sym at) ∙ k.rows.each x lt)
 
   pub node_is : (i : ℕ) → option_map node_view (slice_get h.nodes.items i) ≡ node_kept (sessions_of h) (suc i)
   unfolding node_of
@@ -85,29 +85,6 @@ kept_ended keys (Some c) = refl
 
 pub ended_kept : (ss : List ClientSession) (v : ℕ) → ended_of ss v ≡ option_and_then (λ (node : NumberedNode). node.ended) (node_kept ss v)
 ended_kept ss v = kept_ended (keys_in ss) (node_of ss v)
-
-committed_name : Committed → ℕ × ℕ
-committed_name c = (c.session, c.place)
-
-pub node_name : NumberedNode → ℕ × ℕ
-node_name n = (n.session, n.place)
-
-kept_name : (keys : List (List ℕ)) (o : Option Committed) → option_map_or committed_name o (0, 0) ≡ option_map_or node_name (option_map (numbered_node keys) o) (0, 0)
-unfolding committed_name node_name
-kept_name keys None = refl
-kept_name keys (Some c) = refl
-
-pub name_kept : (ss : List ClientSession) (v : ℕ) → name_in ss v ≡ option_map_or node_name (node_kept ss v) (0, 0)
-unfolding committed_name
-name_kept ss v = kept_name (keys_in ss) (node_of ss v)
-
--- by the node that was found
-pub from_kept : {X : Type 0} (f : NumberedNode → X) (d : X) (o : Option Node) (ss : List ClientSession) (v : ℕ) → option_map node_view o ≡ node_kept ss v → option_map_or (λ n. f (node_view n)) o d ≡ option_map_or f (node_kept ss v) d
-from_kept f d o ss v e = go o ∙ ap (λ q. option_map_or f q d) e
-  where
-    go : (o : Option Node) → option_map_or (λ n. f (node_view n)) o d ≡ option_map_or f (option_map node_view o) d
-    go None = refl
-    go (Some n) = refl
 
 -- ---- reads of a node that there is not
 

@@ -9,7 +9,7 @@ use Rattle.std.proofs.Math.Seq.{get_or-append_seam}
 use Rattle.serializability.specs.declared.event.Event.{Event}
 use Rattle.serializability.specs.declared.event.Event.TheVariants.{Read, Write}
 use Rattle.serializability.specs.Reads.{last_write, external_read, later}
-use Rattle.serializability.proofs.Replays.{last_write-append}
+use Rattle.serializability.proofs.Replays.{last_write-append, later-None}
 use Rattle.session_history.specs.declared.nodes.Node.{Node}
 use Rattle.session_history.specs.declared.rows.KeyRow.{KeyRow}
 use Rattle.session_history.specs.declared.rows.Reader.{Reader}
@@ -17,10 +17,6 @@ use Rattle.session_history.specs.Rows.{RowView, reader_view, row_view, writer_if
 use Rattle.serializability.specs.Events.{event_key}
 
 -- ---- one operation more
-
-later_none : (o : Option ℕ) → later None o ≡ o
-later_none None = refl
-later_none (Some y) = refl
 
 external_read_written : (x w : ℕ) (front : List Event) → external_read x (front ++ Write x w ∷ []) ≡ external_read x front
 external_read_written x w [] = rw (eq-eqb x x refl)
@@ -44,12 +40,12 @@ external_read_more x w (Write k y ∷ front) = go (nat_eq k x) (external_read_mo
     go : (b : Bool) → external_read x (front ++ Read x w ∷ []) ≡ option_or (external_read x front) (cond (is_some (last_write x front)) None (Some w))
         → cond b None (external_read x (front ++ Read x w ∷ [])) ≡ option_or (cond b None (external_read x front)) (cond (is_some (later (cond b (Some y) None) (last_write x front))) None (Some w))
     go true e = ap (λ c. cond c None (Some w)) (sym (some_later (last_write x front)))
-    go false e = e ∙ ap (λ o. option_or (external_read x front) (cond (is_some o) None (Some w))) (sym (later_none (last_write x front)))
+    go false e = e ∙ ap (λ o. option_or (external_read x front) (cond (is_some o) None (Some w))) (sym (later-None (last_write x front)))
 
-last_write_written : (x w : ℕ) (front : List Event) → last_write x (front ++ Write x w ∷ []) ≡ Some w
+pub last_write_written : (x w : ℕ) (front : List Event) → last_write x (front ++ Write x w ∷ []) ≡ Some w
 last_write_written x w front = last_write-append x front (Write x w ∷ []) ∙ ap (λ b. later (last_write x front) (cond b (Some w) None)) (eq-eqb x x refl)
 
-last_write_read : (x k w : ℕ) (front : List Event) → last_write x (front ++ Read k w ∷ []) ≡ last_write x front
+pub last_write_read : (x k w : ℕ) (front : List Event) → last_write x (front ++ Read k w ∷ []) ≡ last_write x front
 last_write_read x k w front = last_write-append x front (Read k w ∷ [])
 
 -- an operation on another key
@@ -208,14 +204,6 @@ rows_entered keys v f rows old new k e front is_key within at step h = record {
         some_same a b e = cc
     go x lt false apart = ap (option_map row_view) (slice_get-set_apart rows k x new apart) ∙ h.each x lt
         ∙ ap (λ r. Some r) (sym (row_after_apart (f x) x v e front (ap (λ j. nat_eq j x) (sym is_key) ∙ apart)))
-
-row_after_none : (row : RowView) (x v : ℕ) → row_after row x v [] ≡ row
-row_after_none row x v =
-    ap (λ ws. record { writers = ws; readers = row.readers ++ [] }) (append-nil row.writers)
-    ∙ ap (λ rs. record { writers = row.writers; readers = rs }) (append-nil row.readers)
-
-pub rows_begin : (keys v : ℕ) (f : ℕ → RowView) (rows : List KeyRow) → AreRows keys f rows → AreRows keys (λ x. row_after (f x) x v []) rows
-rows_begin keys v f rows h = rows_same keys f (λ x. row_after (f x) x v []) rows (λ x _. sym (row_after_none (f x) x v)) h
 
 -- ---- node by node
 

@@ -7,7 +7,7 @@ use Rattle.std.proofs.lemmas.Grind.{flat_map-append}
 use Rattle.session_log.specs.Text.{ClientSession, Transaction}
 use Rattle.session_log.specs.declared.session.Op.{Op}
 use Rattle.session_log.specs.declared.session.Op.TheVariants.{Read, Write}
-use Rattle.serializability.proofs.Places.{Has, Apart, Has-append_front, Has-append_back, Has-append_cases, Apart-not_both}
+use Rattle.serializability.proofs.Places.{Has, Apart, Has-append_front, Has-append_back, Has-append_cases, Apart-not_both, Apart-append}
 use Rattle.log_definitions.specs.Unknown.{is_unknown, txns_in, ops_in}
 use Rattle.log_definitions.specs.WellFormed.{written}
 use Rattle.log_definitions.proofs.Members.{each_weaker}
@@ -25,13 +25,6 @@ Apart_parts : (a b : List ℕ) → Apart (a ++ b) → Apart a × Apart b
 Apart_parts [] b h = (tt, h)
 Apart_parts (x ∷ a) b h = let p = Apart_parts a b h.1 in ((λ k. h.0 (Has-append_front x a b k), p.0), p.1)
 
-Apart_both : (a b : List ℕ) → Apart a → Apart b → ((n : ℕ) → Has n a → Has n b → ⊥) → Apart (a ++ b)
-Apart_both [] b h k d = k
-Apart_both (x ∷ a) b h k d = (
-  λ i. elim (Has-append_cases x a b i) [ inl j ↦ h.0 j | inr j ↦ d x (inl refl) j ],
-  Apart_both a b h.1 k (λ n i j. d n (inr i) j),
-)
-
 thinner_itself : (xs : List ℕ) → Thinner xs xs
 thinner_itself xs = record { apart = λ h. h; has = λ n h. h }
 
@@ -42,7 +35,7 @@ thinner_both : (a b c d : List ℕ) → Thinner a c → Thinner b d → Thinner 
 thinner_both a b c d h k = record {
   apart = λ apart.
       let p = Apart_parts c d apart in
-      Apart_both a b (h.apart p.0) (k.apart p.1) (λ n i j. Apart-not_both n c d apart (h.has n i) (k.has n j));
+      Apart-append a b (h.apart p.0) (k.apart p.1) (λ n i j. Apart-not_both n c d apart (h.has n i) (k.has n j));
   has = λ n i. elim (Has-append_cases n a b i) [
     | inl j ↦ Has-append_front n c d (h.has n j)
     | inr j ↦ Has-append_back n c d (k.has n j)

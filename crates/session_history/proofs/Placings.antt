@@ -19,6 +19,7 @@ use Rattle.session_history.specs.Taken.{Placed, placed_from, placed_in, Numbered
 use Rattle.serializability.specs.Events.{event_key}
 use Rattle.session_history.specs.Held.{numbered_node}
 use Rattle.session_history.proofs.Seen.{number_below, seen_here, seen_stays}
+use Rattle.session_history.proofs.Taking.{nodes_among-append}
 
 -- ---- nodes
 
@@ -37,18 +38,6 @@ nodes_of_session keys number n (t ∷ ts) = go (is_committed t) (nodes_of_sessio
         → cond b (record { session = number; place = n; events = events_of keys t.ops; begun = t.begun; ended = t.ended } ∷ nodes_among keys (placed_from number (n + 1) ts)) (nodes_among keys (placed_from number (n + 1) ts))
         ≡ map (numbered_node keys) (map of (cond b ((n, t) ∷ rest) rest))
     go true e = ap (λ l. record { session = number; place = n; events = events_of keys t.ops; begun = t.begun; ended = t.ended } ∷ l) e
-    go false e = e
-
-nodes_among-append : (keys : List (List ℕ)) (a b : List Placed) → nodes_among keys (a ++ b) ≡ nodes_among keys a ++ nodes_among keys b
-nodes_among-append keys [] b = refl
-nodes_among-append keys (t ∷ a) b = go (is_committed t.2) (nodes_among-append keys a b)
-  where
-    node : NumberedNode
-    node = record { session = t.0; place = t.1; events = events_of keys t.2.ops; begun = t.2.begun; ended = t.2.ended }
-
-    go : (c : Bool) → nodes_among keys (a ++ b) ≡ nodes_among keys a ++ nodes_among keys b
-        → cond c (node ∷ nodes_among keys (a ++ b)) (nodes_among keys (a ++ b)) ≡ cond c (node ∷ nodes_among keys a) (nodes_among keys a) ++ nodes_among keys b
-    go true e = ap (λ l. node ∷ l) e
     go false e = e
 
 nodes_in_flat : (keys : List (List ℕ)) (ss : List ClientSession) → nodes_among keys (placed_in ss) ≡ map (numbered_node keys) (flat_map committed_of ss)

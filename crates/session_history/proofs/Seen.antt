@@ -11,12 +11,13 @@ use Rattle.std.proofs.lemmas.List.Folds.{list_any-append}
 use Rattle.std.proofs.lemmas.List.{map-append}
 use Rattle.serializability.specs.declared.event.Event.{Event}
 use Rattle.std.proofs.lemmas.Slice.Eq.{bytes_eq-Decides}
+use Rattle.list_lemmas.proofs.Comparisons.{bytes_flip}
+use Rattle.list_lemmas.proofs.Lists.{front_more}
 use Rattle.log_definitions.specs.WellFormed.{first_seen}
 use Rattle.session_log.specs.Text.{key_of}
 use Rattle.log_definitions.specs.Numbers.{number_in, event_of, events_of}
 use Rattle.session_log.specs.declared.session.Op.{Op}
 use Rattle.session_history.specs.Numbering.{number_among, KeepsPlaces}
-use Rattle.session_history.proofs.Stepping.{step_itself}
 
 pub seen_append : (s a b : List (List ℕ)) → first_seen s (a ++ b) ≡ first_seen (first_seen s a) b
 seen_append s [] b = refl
@@ -79,22 +80,12 @@ seen_here xs q = go (list_any (bytes_eq q) xs) refl
     go true e = e
     go false e = any_push q q xs ∙ or_right (list_any (bytes_eq q) xs) (bytes_eq q q) (same_key q)
 
--- a new key behind the others
-same_either_way : (k q : List ℕ) → bytes_eq k q ≡ bytes_eq q k
-same_either_way k q = go (bytes_eq k q) refl (bytes_eq q k) refl
-  where
-    go : (a : Bool) → bytes_eq k q ≡ a → (b : Bool) → bytes_eq q k ≡ b → bytes_eq k q ≡ bytes_eq q k
-    go true e true f = e ∙ sym f
-    go false e false f = e ∙ sym f
-    go true e false f = absurd (both_ways (bytes_eq q k) f ((bytes_eq-Decides q k).1 (sym ((bytes_eq-Decides k q).0 e))))
-    go false e true f = absurd (both_ways (bytes_eq k q) e ((bytes_eq-Decides k q).1 (sym ((bytes_eq-Decides q k).0 f))))
-
 pub among_push : (k : List ℕ) (xs : List (List ℕ)) → list_any (bytes_eq k) xs ≡ false → (q : List ℕ)
     → number_among (xs ++ k ∷ []) q ≡ cond (is_at (slice_cmp nat_cmp k) q) (Some (length xs)) (number_among xs q)
 among_push k xs new q = rw (any_push q k xs) (go (list_any (bytes_eq q) xs) refl (bytes_eq q k) refl)
   where
     at : is_at (slice_cmp nat_cmp k) q ≡ bytes_eq q k
-    at = sym (texts_ties k q) ∙ same_either_way k q
+    at = sym (texts_ties k q) ∙ bytes_flip k q
 
     go : (b : Bool) → list_any (bytes_eq q) xs ≡ b → (t : Bool) → bytes_eq q k ≡ t → cond (b || t) (Some (number_in (xs ++ k ∷ []) q)) None ≡ cond (is_at (slice_cmp nat_cmp k) q) (Some (length xs)) (cond b (Some (number_in xs q)) None)
     go true e true f = let same = (bytes_eq-Decides q k).0 f in absurd (both_ways (list_any (bytes_eq k) xs) new (ap (λ x. list_any (bytes_eq x) xs) (sym same) ∙ e))
@@ -146,7 +137,7 @@ pub keys_more : (xs ys zs : List (List ℕ)) (ops : List Op) (i : ℕ) (op : Op)
     → ys ≡ first_seen xs (map key_of (take i ops)) → zs ≡ first_seen ys (key_of op ∷ []) → zs ≡ first_seen xs (map key_of (take (i + 1) ops))
 keys_more xs ys zs ops i op h e so_far more =
     more ∙ ap (λ ks. first_seen ks (key_of op ∷ [])) so_far ∙ sym (seen_append xs (map key_of (take i ops)) (key_of op ∷ []))
-    ∙ ap (first_seen xs) (sym (map-append key_of (take i ops) (op ∷ [])) ∙ ap (map key_of) (sym (step_itself ops i op h e)))
+    ∙ ap (first_seen xs) (sym (map-append key_of (take i ops) (op ∷ [])) ∙ ap (map key_of) (sym (front_more ops i op h e)))
 
 pub events_more : (ys zs : List (List ℕ)) (ops : List Op) (i : ℕ) (op : Op) (old new : List Event) (event : Event) → i < length ops → op ≡ get_or ops i op
     → zs ≡ first_seen ys (key_of op ∷ [])
@@ -158,7 +149,7 @@ events_more ys zs ops i op old new event h e more so_far last pushed later =
     let keys : first_seen zs later ≡ first_seen ys (key_of op ∷ later) = ap (λ ks. first_seen ks later) more ∙ sym (seen_append ys (key_of op ∷ []) later) in
     pushed ∙ ap (λ es. es ++ event ∷ []) (so_far (key_of op ∷ later) ∙ ap (λ ks. events_of ks (take i ops)) (sym keys))
     ∙ ap (λ x. events_of (first_seen zs later) (take i ops) ++ x ∷ []) (last later)
-    ∙ sym (map-append (event_of (first_seen zs later)) (take i ops) (op ∷ [])) ∙ ap (events_of (first_seen zs later)) (sym (step_itself ops i op h e))
+    ∙ sym (map-append (event_of (first_seen zs later)) (take i ops) (op ∷ [])) ∙ ap (events_of (first_seen zs later)) (sym (front_more ops i op h e))
 
 -- and from then on
 pub seen_stays : (later xs : List (List ℕ)) (q : List ℕ) → list_any (bytes_eq q) xs ≡ true → list_any (bytes_eq q) (first_seen xs later) ≡ true

@@ -1,5 +1,5 @@
 -- One step of a loop over what a slice holds, seen as a list of values, and what an option holds.
-use Rattle.std.proofs.Common.{◌≡◌, ℕ, ◌+◌, ◌<◌, ◌≤◌, List, [], ◌∷◌, ◌++◌, length, map, take, get_or, Some, sym, ap, ◌∙◌, subst, append-nil}
+use Rattle.std.proofs.Common.{◌≡◌, ℕ, ◌+◌, ◌<◌, ◌≤◌, List, [], ◌∷◌, ◌++◌, length, map, take, get_or, sym, ap, ◌∙◌, subst, append-nil}
 use Rattle.std.specs.List.{flat_map}
 use Rattle.std.proofs.lemmas.List.{map-append, take_more, take_all}
 use Rattle.std.proofs.lemmas.Grind.{flat_map-append}
@@ -10,10 +10,6 @@ step f xs passed i x same lt at =
     let P : List _ → Type 0 = λ ys. (i < length ys) × (x ≡ get_or ys i x) in
     let here : P xs = subst P same (lt, at) in
     ap (map f) (take_more xs i x here.0 ∙ ap (λ y. take i xs ++ y ∷ []) (sym here.1)) ∙ map-append f (take i xs) (x ∷ [])
-
--- the same of the elements themselves
-pub step_itself : {X : Type 0} (xs : List X) (i : ℕ) (x : X) → i < length xs → x ≡ get_or xs i x → take (i + 1) xs ≡ take i xs ++ x ∷ []
-step_itself xs i x lt at = take_more xs i x lt ∙ ap (λ y. take i xs ++ y ∷ []) (sym at)
 
 -- and of what each of them holds
 pub step_in : {X Y Z : Type 0} (g : Y → List Z) (f : X → Y) (xs passed : List X) (i : ℕ) (x : X) → passed ≡ xs → i < length passed → x ≡ get_or passed i x
@@ -26,6 +22,3 @@ pub stepped : {X : Type 0} (xs passed : List X) (i : ℕ) → passed ≡ xs → 
 stepped xs passed i same le = let P : List _ → Type 0 = λ ys. length ys ≤ i in take_all i xs (subst P same le)
 
 -- ---- options
-
-pub some_same : {X : Type 0} (a b : X) → Some a ≡ Some b → a ≡ b
-some_same a b e = cc

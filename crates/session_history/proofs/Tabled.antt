@@ -4,7 +4,7 @@ use Rattle.std.specs.List.{filter, filter_map, cons_option, list_any, find, rang
 use Rattle.std.specs.Option.{option_map, option_map_or}
 use Rattle.std.proofs.Math.Path.{fun_ext}
 use Rattle.std.proofs.lemmas.Bool.{both_ways, eqb-true, eqb-false, eq-eqb, ne_eqb, cases_lt}
-use Rattle.std.proofs.lemmas.Option.{slice_get_past, slice_get-get_or}
+use Rattle.std.proofs.lemmas.Option.{slice_get_past, slice_get-get_or, slice_get-map, same_Some}
 use Rattle.std.proofs.lemmas.List.Elements.{All-from_recursion}
 use Rattle.std.proofs.lemmas.List.{append-nil, length-map}
 use Rattle.session_log.specs.Text.{ClientSession}
@@ -23,6 +23,7 @@ use Rattle.session_history.specs.declared.nodes.Transactions.{Transactions}
 use Rattle.session_history.specs.Naming.{node_among}
 use Rattle.session_history.specs.Rows.{RowView, row_view, reader_view, row_after, row_from, no_row, writer_if, reader_if, AreRows}
 use Rattle.serializability.specs.Events.{event_key}
+use Rattle.log_definitions.proofs.Nodes.{log_keys, log_nodes}
 use Rattle.session_history.specs.Sources.{AreReads, final_node, found_by, found_in, readers_of}
 use Rattle.session_history.specs.declared.reads.ReadFrom.{ReadFrom}
 use Rattle.session_history.specs.declared.rows.Reader.{Reader}
@@ -32,19 +33,10 @@ use Rattle.session_history.specs.declared.nodes.Node.{Node}
 use Rattle.session_history.specs.declared.rows.KeyRow.{KeyRow}
 use Rattle.session_history.specs.declared.writes.Written.{Written}
 use Rattle.session_history.specs.declared.writes.Writes.{Writes}
-use Rattle.session_history.proofs.Stepping.{some_same}
 use Rattle.session_history.proofs.Placings.{one_there, aborted_there, nodes_in, txns_placed, all_below, keys_settled, keys_placed, committed_placed}
 use Rattle.session_history.proofs.KeyRows.{rows_same}
 
 -- ---- the log, field by field
-
-pub log_nodes : (ss : List ClientSession) → (log_of ss).nodes ≡ length (committed_in ss)
-unfolding log_of
-log_nodes ss = refl
-
-pub log_keys : (ss : List ClientSession) → (log_of ss).keys ≡ length (keys_in ss)
-unfolding log_of
-log_keys ss = refl
 
 pub log_ops : (ss : List ClientSession) (v : ℕ) → (log_of ss).ops v ≡ events_of (keys_in ss) (option_map_or (λ node. node.ops) (node_in (committed_in ss) v) [])
 unfolding log_of node_of
@@ -60,7 +52,7 @@ log_aborted ss = refl
 
 -- ---- by node, from a list of nodes
 
-at_seam : {X : Type 0} (front : List X) (x : X) (back : List X) → slice_get (front ++ x ∷ back) (length front) ≡ Some x
+pub at_seam : {X : Type 0} (front : List X) (x : X) (back : List X) → slice_get (front ++ x ∷ back) (length front) ≡ Some x
 at_seam [] x back = refl
 at_seam (y ∷ front) x back = at_seam front x back
 
@@ -168,7 +160,7 @@ module _ (ops : ℕ → List Event) (x : ℕ) where
 rows_as_map_from : (f : ℕ → RowView) (x : ℕ) (rows : List KeyRow) → ((i : ℕ) → i < length rows → option_map row_view (slice_get rows i) ≡ Some (f (x + i))) → map row_view rows ≡ map f (range_with_len x (length rows))
 rows_as_map_from f x [] h = refl
 rows_as_map_from f x (row ∷ rows) h =
-    let first : row_view row ≡ f x = some_same (row_view row) (f x) (h 0 (omega arith) ∙ ap (λ y. Some (f y)) (omega arith)) in
+    let first : row_view row ≡ f x = same_Some (row_view row) (f x) (h 0 (omega arith) ∙ ap (λ y. Some (f y)) (omega arith)) in
     ap (λ r. r ∷ map row_view rows) first ∙ ap (λ l. f x ∷ l) (rows_as_map_from f (x + 1) rows (λ i lt. h (suc i) (omega arith) ∙ ap (λ y. Some (f y)) (omega arith)))
 
 pub rows_as_map : (keys : ℕ) (f : ℕ → RowView) (rows : List KeyRow) → AreRows keys f rows → map row_view rows ≡ map f (range_with_len 0 keys)
@@ -212,11 +204,6 @@ zero_or zero = inl refl
 zero_or (suc n) = inr (omega arith)
 
 -- ---- writers by identity
-
-pub slice_get-map : {A B : Type 0} (f : A → B) (xs : List A) (k : ℕ) → slice_get (map f xs) k ≡ option_map f (slice_get xs k)
-slice_get-map f [] k = refl
-slice_get-map f (x ∷ xs) zero = refl
-slice_get-map f (x ∷ xs) (suc k) = slice_get-map f xs k
 
 -- a test of a node's operations, by the list of nodes
 test_by_node : (keys : List (List ℕ)) (test : List Event → Bool) (cs : List Committed) (k : ℕ) → test [] ≡ false
@@ -370,7 +357,7 @@ by_view n (r ∷ rs) h = (h.0, by_view n rs h.1)
 pub readers_within : (log : Log) (rows : List KeyRow) → AreRows log.keys (row_in log) rows → All (λ row. All (λ r. (0 < r.node) × (r.node ≤ log.nodes)) row.readers.items) rows
 readers_within log rows h = λ k d lt.
     let row = get_or rows k d in
-    let is : row_view row ≡ row_in log k = some_same (row_view row) (row_in log k) (sym (ap (option_map row_view) (slice_get-get_or rows k d lt)) ∙ h.each k (omega (arith, h.count))) in
+    let is : row_view row ≡ row_in log k = same_Some (row_view row) (row_in log k) (sym (ap (option_map row_view) (slice_get-get_or rows k d lt)) ∙ h.each k (omega (arith, h.count))) in
     let P : List (ℕ × ℕ) → Type 0 = λ rs. AllByRecursion (λ r. (0 < r.0) × (r.0 ≤ log.nodes)) rs in
     let Q : Reader → Type 0 = λ r. (0 < r.node) × (r.node ≤ log.nodes) in
     All-from_recursion Q row.readers.items

@@ -18,6 +18,7 @@ use Rattle.log_definitions.specs.Unknown.{is_committed, txns_in, settle, settled
 use Rattle.log_definitions.specs.WellFormed.{first_seen, writes_from, log_lines}
 use Rattle.session_log.specs.Text.{key_of}
 use Rattle.log_definitions.specs.Numbers.{events_of}
+use Rattle.log_definitions.proofs.Lines.{writes_from-append}
 use Rattle.session_history.specs.declared.nodes.Node.{Node}
 use Rattle.session_history.specs.declared.nodes.Transactions.{Transactions}
 use Rattle.session_history.specs.Written.{HasSeen, HasWrites, writes_at}
@@ -32,16 +33,6 @@ length-txn_lines t =
     let a = length-append (line.Begin t.begun ∷ map op_line t.ops) (end_line t.outcome t.ended ∷ []) in
     let b = length-map t.ops op_line in
     omega (arith, a, b)
-
-pub writes_from-append : (n : ℕ) (a b : List Line) → writes_from n (a ++ b) ≡ writes_from n a ++ writes_from (n + length a) b
-writes_from-append n [] b = ap (λ m. writes_from m b) (omega arith)
-writes_from-append n (line.Write k w ∷ a) b = ap (λ xs. (n, w) ∷ xs) (writes_from-append (n + 1) a b ∙ ap (λ m. writes_from (n + 1) a ++ writes_from m b) (omega arith))
-writes_from-append n (line.Read k w ∷ a) b = writes_from-append (n + 1) a b ∙ ap (λ m. writes_from (n + 1) a ++ writes_from m b) (omega arith)
-writes_from-append n (line.Session k ∷ a) b = writes_from-append (n + 1) a b ∙ ap (λ m. writes_from (n + 1) a ++ writes_from m b) (omega arith)
-writes_from-append n (line.Begin _ ∷ a) b = writes_from-append (n + 1) a b ∙ ap (λ m. writes_from (n + 1) a ++ writes_from m b) (omega arith)
-writes_from-append n (line.Commit _ ∷ a) b = writes_from-append (n + 1) a b ∙ ap (λ m. writes_from (n + 1) a ++ writes_from m b) (omega arith)
-writes_from-append n (line.Abort ∷ a) b = writes_from-append (n + 1) a b ∙ ap (λ m. writes_from (n + 1) a ++ writes_from m b) (omega arith)
-writes_from-append n (line.Unknown ∷ a) b = writes_from-append (n + 1) a b ∙ ap (λ m. writes_from (n + 1) a ++ writes_from m b) (omega arith)
 
 writes_in_txn : (keys : List (List ℕ)) (n : ℕ) (ops : List Op) (o : Outcome) (ended : Option ℕ) → writes_from n (map op_line ops ++ end_line o ended ∷ []) ≡ writes_at n (events_of keys ops)
 writes_in_txn keys n [] Commit ended = refl
@@ -110,7 +101,7 @@ module _ (old new : Transactions) (t : Transaction) (is_taken : Bool) (session p
 
 -- ---- one after the other
 
-nodes_among-append : (keys : List (List ℕ)) (a b : List Placed) → nodes_among keys (a ++ b) ≡ nodes_among keys a ++ nodes_among keys b
+pub nodes_among-append : (keys : List (List ℕ)) (a b : List Placed) → nodes_among keys (a ++ b) ≡ nodes_among keys a ++ nodes_among keys b
 nodes_among-append keys [] b = refl
 nodes_among-append keys (t ∷ a) b = go (is_committed t.2) (nodes_among-append keys a b)
   where

@@ -82,7 +82,7 @@ committed_nodes ss = (settled_counted (taken ss) ss).least
 
 -- ---- there are no more transactions than lines
 
-txns_in_lines : (ts : List Transaction) → length ts ≤ length (flat_map txn_lines ts)
+pub txns_in_lines : (ts : List Transaction) → length ts ≤ length (flat_map txn_lines ts)
 txns_in_lines [] = omega arith
 txns_in_lines (t ∷ ts) =
     let later = txns_in_lines ts in

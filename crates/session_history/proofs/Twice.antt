@@ -1,5 +1,5 @@
 -- The first session number that stood before.
-use Rattle.std.proofs.Common.{◌≡◌, ℕ, ◌+◌, ◌<◌, Bool, true, false, ◌||◌, cond, List, [], ◌∷◌, ◌++◌, length, length-append, map, take, drop, get_or, Option, Some, None, refl, sym, ap, ◌∙◌, arith, nat_eq, nat_cmp}
+use Rattle.std.proofs.Common.{◌≡◌, ℕ, ◌+◌, ◌<◌, Bool, true, false, ◌||◌, cond, List, [], ◌∷◌, ◌++◌, length, length-append, map, take, drop, get_or, Option, Some, None, refl, sym, ap, ◌∙◌, nat_eq, nat_cmp}
 use Rattle.std.specs.List.{flat_map, list_any}
 use Rattle.std.specs.BTreeMap.{is_at}
 use Rattle.std.specs.Cmp.{unsigned_ties}
@@ -8,7 +8,6 @@ use Rattle.std.proofs.lemmas.List.{append-nil, map-append, take_more, take-appen
 use Rattle.std.proofs.lemmas.List.Folds.{list_any-append}
 use Rattle.std.proofs.lemmas.Grind.{flat_map-append}
 use Rattle.session_log.specs.Text.{ClientSession, Transaction, view, op_line, end_line, txn_lines, session_lines}
-use Rattle.session_log.specs.declared.line.Line.{Line}
 use Rattle.session_log.specs.declared.line.Line.TheVariants as line
 use Rattle.session_log.specs.declared.session.Op.{Op}
 use Rattle.session_log.specs.declared.session.Op.TheVariants.{Read, Write}
@@ -16,17 +15,8 @@ use Rattle.session_log.specs.declared.session.Outcome.{Outcome}
 use Rattle.session_log.specs.declared.session.Outcome.TheVariants.{Commit, Abort, Unknown}
 use Rattle.session_log.specs.declared.session.Session.{Session}
 use Rattle.log_definitions.specs.WellFormed.{log_lines, repeated, sessions_from, session_twice}
+use Rattle.log_definitions.proofs.Lines.{sessions_from-append}
 use Rattle.session_history.proofs.Writing.{repeated_found, repeated_push}
-
-sessions_from-append : (n : ℕ) (a b : List Line) → sessions_from n (a ++ b) ≡ sessions_from n a ++ sessions_from (n + length a) b
-sessions_from-append n [] b = ap (λ m. sessions_from m b) (omega arith)
-sessions_from-append n (line.Session k ∷ a) b = ap (λ xs. (n, k) ∷ xs) (sessions_from-append (n + 1) a b ∙ ap (λ m. sessions_from (n + 1) a ++ sessions_from m b) (omega arith))
-sessions_from-append n (line.Write k w ∷ a) b = sessions_from-append (n + 1) a b ∙ ap (λ m. sessions_from (n + 1) a ++ sessions_from m b) (omega arith)
-sessions_from-append n (line.Read k w ∷ a) b = sessions_from-append (n + 1) a b ∙ ap (λ m. sessions_from (n + 1) a ++ sessions_from m b) (omega arith)
-sessions_from-append n (line.Begin _ ∷ a) b = sessions_from-append (n + 1) a b ∙ ap (λ m. sessions_from (n + 1) a ++ sessions_from m b) (omega arith)
-sessions_from-append n (line.Commit _ ∷ a) b = sessions_from-append (n + 1) a b ∙ ap (λ m. sessions_from (n + 1) a ++ sessions_from m b) (omega arith)
-sessions_from-append n (line.Abort ∷ a) b = sessions_from-append (n + 1) a b ∙ ap (λ m. sessions_from (n + 1) a ++ sessions_from m b) (omega arith)
-sessions_from-append n (line.Unknown ∷ a) b = sessions_from-append (n + 1) a b ∙ ap (λ m. sessions_from (n + 1) a ++ sessions_from m b) (omega arith)
 
 none_in_txn : (n : ℕ) (ops : List Op) (o : Outcome) (ended : Option ℕ) → sessions_from n (map op_line ops ++ end_line o ended ∷ []) ≡ []
 none_in_txn n [] Commit ended = refl

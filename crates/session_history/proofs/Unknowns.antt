@@ -3,6 +3,7 @@ use Rattle.std.proofs.Common.{◌≡◌, ℕ, Bool, true, false, cond, eqb, List
 use Rattle.std.specs.List.{AllByRecursion, Contains}
 use Rattle.std.specs.Option.{option_or}
 use Rattle.std.proofs.lemmas.Bool.{false≢true}
+use Rattle.std.proofs.lemmas.Option.{same_Some}
 use Rattle.session_log.specs.Text.{ClientSession, Transaction}
 use Rattle.session_log.specs.declared.session.Op.{Op}
 use Rattle.session_log.specs.declared.session.Op.TheVariants.{Read, Write}
@@ -12,7 +13,6 @@ use Rattle.serializability.proofs.Places.{each_of_flat_map, each_from_flat_map}
 use Rattle.log_definitions.specs.Unknown.{is_unknown}
 use Rattle.log_definitions.proofs.Members.{each_weaker, each_member}
 use Rattle.session_history.specs.Worklist.{WriteView, WriteAt, writes_of, unknown_writes_of, unknown_writes, last_with}
-use Rattle.session_history.proofs.Stepping.{some_same}
 
 -- what holds of each of the writes holds of the one that is found
 pub last_each : (P : WriteAt → Type 0) (wid : ℕ) (xs : List WriteAt) (w : WriteView) → AllByRecursion P xs → last_with wid xs ≡ Some w → P (wid, w)
@@ -20,7 +20,7 @@ last_each P wid [] w h e = cc
 last_each P wid (x ∷ xs) w h e = go (last_with wid xs) refl e (last_each P wid xs w h.1)
   where
     here : (b : Bool) → eqb x.0 wid ≡ b → cond b (Some x.1) None ≡ Some w → P (wid, w)
-    here true f g = subst P (ap (λ n. (n, x.1)) (eqb-true x.0 wid f) ∙ ap (λ v. (wid, v)) (some_same x.1 w g)) h.0
+    here true f g = subst P (ap (λ n. (n, x.1)) (eqb-true x.0 wid f) ∙ ap (λ v. (wid, v)) (same_Some x.1 w g)) h.0
     here false f g = cc
 
     go : (o : Option WriteView) → last_with wid xs ≡ o → option_or o (cond (eqb x.0 wid) (Some x.1) None) ≡ Some w → (last_with wid xs ≡ Some w → P (wid, w)) → P (wid, w)

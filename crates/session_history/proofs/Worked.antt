@@ -6,6 +6,7 @@ use Rattle.std.proofs.lemmas.Map.Made.{length-le_from_is_member}
 use Rattle.std.proofs.lemmas.Cmp.{nat_eq_equiv}
 use Rattle.std.proofs.lemmas.List.Folds.{Any-from_list_any}
 use Rattle.std.proofs.lemmas.Slice.Eq.{bytes_eq-Decides}
+use Rattle.list_lemmas.proofs.Lists.{front_more}
 use Rattle.session_log.specs.Text.{ClientSession}
 use Rattle.session_log.specs.declared.session.Op.{Op}
 use Rattle.session_log.specs.declared.session.Op.TheVariants.{Read, Write}
@@ -16,7 +17,6 @@ use Rattle.session_log.specs.Text.{is_commit}
 use Rattle.log_definitions.proofs.Members.{member, themselves, each_weaker, any_member}
 use Rattle.log_definitions.proofs.Taken.{Counts, EachCounted, each_of_committed, needed_taken}
 use Rattle.session_history.specs.Worklist.{ops_ended, committed_in_all, WriteView, unknown_writes, last_with, with_reads}
-use Rattle.session_history.proofs.Stepping.{step_itself}
 use Rattle.session_history.proofs.Ended.{each_from_ended}
 use Rattle.session_history.proofs.Grown.{numbers, Served, Finds, grown, all_still}
 use Rattle.session_history.proofs.Unknowns.{last_each, IsUnknownWrite, all_unknown}
@@ -95,7 +95,7 @@ worked_more ss order new found done s h k lt at e =
     let ReadAt : List ClientSession → List ClientSession → Type 0 = λ o xs. AllByRecursion (λ s. AllByRecursion (Served found o) (ops_ended Unknown s.txns)) xs in
     let P : List ClientSession → Type 0 = λ o. Worked ss o found (done + 1) in
     let front : take (done + 1) next ≡ take done order ++ s ∷ [] =
-    ap (take (done + 1)) g.longer ∙ take-append-le (done + 1) order g.more (omega arith) ∙ step_itself order done s lt at in
+    ap (take (done + 1)) g.longer ∙ take-append-le (done + 1) order g.more (omega arith) ∙ front_more order done s lt at in
     let long = ap length g.longer ∙ length-append order g.more in
     let before : ReadAt (order ++ g.more) (take done order) =
     each_weaker _ _ (λ s. all_still found order g.more (ops_ended Unknown s.txns)) (take done order) k.taken in

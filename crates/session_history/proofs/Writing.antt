@@ -1,12 +1,12 @@
 -- One write more in a table of writes.
-use Rattle.std.proofs.Common.{◌≡◌, ℕ, ◌+◌, ◌<◌, Bool, true, false, ◌||◌, ◌&&◌, cond, List, [], ◌∷◌, ◌++◌, length, length-take, take, drop, get_or, Option, Some, None, is_some, unwrap_or, slice_index, refl, sym, ap, subst, ◌∙◌, arith, append_assoc, nat_eq, nat_cmp}
+use Rattle.std.proofs.Common.{◌≡◌, ℕ, ◌+◌, ◌<◌, Bool, true, false, ◌||◌, ◌&&◌, cond, List, [], ◌∷◌, ◌++◌, length, length-take, take, drop, get_or, Option, Some, None, is_some, unwrap_or, slice_index, refl, sym, ap, ◌∙◌, arith, append_assoc, nat_eq, nat_cmp}
 use Rattle.std.specs.List.{list_any}
 use Rattle.std.specs.Option.{option_map_or}
 use Rattle.std.specs.BTreeMap.{is_at, get}
 use Rattle.std.specs.Cmp.{unsigned_ties}
-use Rattle.std.proofs.Math.Bool.{or_assoc}
+use Rattle.std.proofs.Math.Bool.{or_assoc, or-false, or-true}
 use Rattle.std.proofs.lemmas.Bool.{eqb-true, eqb-false, eq-eqb, ne_eqb}
-use Rattle.std.proofs.lemmas.List.{append-nil, take_more, drop_more, take-append-drop}
+use Rattle.std.proofs.lemmas.List.{take_more, drop_more, take-append-drop}
 use Rattle.std.proofs.lemmas.List.Folds.{list_any-append}
 use Rattle.serializability.specs.declared.event.Event.{Event}
 use Rattle.serializability.specs.declared.event.Event.TheVariants.{Read, Write}
@@ -17,14 +17,6 @@ use Rattle.log_definitions.specs.WellFormed.{repeated}
 use Rattle.session_history.specs.declared.writes.Written.{Written}
 use Rattle.session_history.specs.declared.writes.Writes.{Writes}
 use Rattle.session_history.specs.Written.{entry_of, is_write, is_last_write, ends_with, writes_at, HasSeen, HasWrites, IsTaking}
-
-or_false : (b : Bool) → (b || false) ≡ b
-or_false true = refl
-or_false false = refl
-
-or_true : (b : Bool) → (b || true) ≡ true
-or_true true = refl
-or_true false = refl
 
 -- ---- the first identity that stood before
 
@@ -37,10 +29,10 @@ repeated_found seen (x ∷ xs) ys n h = go (list_any (nat_eq x.1) seen) h (repea
     go false e ih = ih e
 
 any_push : (w y : ℕ) (seen : List ℕ) → list_any (nat_eq w) (seen ++ y ∷ []) ≡ (list_any (nat_eq w) seen || nat_eq w y)
-any_push w y seen = list_any-append (nat_eq w) seen (y ∷ []) ∙ ap (λ b. list_any (nat_eq w) seen || b) (or_false (nat_eq w y))
+any_push w y seen = list_any-append (nat_eq w) seen (y ∷ []) ∙ ap (λ b. list_any (nat_eq w) seen || b) (or-false (nat_eq w y))
 
 pub repeated_push : (seen : List ℕ) (xs : List (ℕ × ℕ)) (n w : ℕ) → repeated seen xs ≡ None → repeated seen (xs ++ (n, w) ∷ []) ≡ cond (list_any (nat_eq w) seen || list_any (λ p. nat_eq w p.1) xs) (Some n) None
-repeated_push seen [] n w h = ap (λ b. cond b (Some n) None) (sym (or_false (list_any (nat_eq w) seen)))
+repeated_push seen [] n w h = ap (λ b. cond b (Some n) None) (sym (or-false (list_any (nat_eq w) seen)))
 repeated_push seen (x ∷ xs) n w h = go (list_any (nat_eq x.1) seen) h (repeated_push (seen ++ x.1 ∷ []) xs n w)
   where
     go : (b : Bool) → cond b (Some x.0) (repeated (seen ++ x.1 ∷ []) xs) ≡ None
@@ -50,9 +42,6 @@ repeated_push seen (x ∷ xs) n w h = go (list_any (nat_eq x.1) seen) h (repeate
     go false e ih = ih e ∙ ap (λ b. cond b (Some n) None) (ap (λ b. b || list_any (λ p. nat_eq w p.1) xs) (any_push w x.1 seen) ∙ or_assoc (list_any (nat_eq w) seen) (nat_eq w x.1) (list_any (λ p. nat_eq w p.1) xs))
 
 -- ---- what the lines say
-
-pub seen_read : (lines : List (ℕ × ℕ)) (t : Writes) → HasSeen lines t → HasSeen (lines ++ []) t
-seen_read lines t h = let P : List (ℕ × ℕ) → Type 0 = λ ls. HasSeen ls t in subst P (sym (append-nil lines)) h
 
 none_some : {X : Type 0} (o : Option X) → o ≡ None → is_some o ≡ true → ⊥
 none_some None e h = cc
@@ -82,12 +71,12 @@ pub seen_new : (lines : List (ℕ × ℕ)) (s t : Writes) (w n : ℕ) (r : Writt
 seen_new lines s t w n r none none' absent new h = record {
   twice = none' ∙ sym (repeated_push [] lines n w (sym h.twice ∙ none) ∙ ap (λ b. cond b (Some n) None) (sym (h.seen none w) ∙ absent));
   seen = λ _ q. ap is_some (new q) ∙ ap (λ b. is_some (cond b (Some r) (entry_of s q))) (tie w q) ∙ go q (nat_eq w q) refl (h.seen none q)
-      ∙ sym (list_any-append (λ p. nat_eq q p.1) lines ((n, w) ∷ []) ∙ ap (λ b. list_any (λ p. nat_eq q p.1) lines || b) (or_false (nat_eq q w)));
+      ∙ sym (list_any-append (λ p. nat_eq q p.1) lines ((n, w) ∷ []) ∙ ap (λ b. list_any (λ p. nat_eq q p.1) lines || b) (or-false (nat_eq q w)));
 }
   where
     go : (q : ℕ) (b : Bool) → nat_eq w q ≡ b → is_some (entry_of s q) ≡ list_any (λ p. nat_eq q p.1) lines → is_some (cond b (Some r) (entry_of s q)) ≡ (list_any (λ p. nat_eq q p.1) lines || nat_eq q w)
-    go q true e f = sym (ap (λ b. list_any (λ p. nat_eq q p.1) lines || b) (eq-eqb q w (sym (eqb-true w q e))) ∙ or_true (list_any (λ p. nat_eq q p.1) lines))
-    go q false e f = f ∙ sym (ap (λ b. list_any (λ p. nat_eq q p.1) lines || b) (ne_eqb q w (λ same. eqb-false w q e (sym same))) ∙ or_false (list_any (λ p. nat_eq q p.1) lines))
+    go q true e f = sym (ap (λ b. list_any (λ p. nat_eq q p.1) lines || b) (eq-eqb q w (sym (eqb-true w q e))) ∙ or-true (list_any (λ p. nat_eq q p.1) lines))
+    go q false e f = f ∙ sym (ap (λ b. list_any (λ p. nat_eq q p.1) lines || b) (ne_eqb q w (λ same. eqb-false w q e (sym same))) ∙ or-false (list_any (λ p. nat_eq q p.1) lines))
 
 -- ---- what the transactions say
 
@@ -100,8 +89,8 @@ here true false false wf h = refl
 here false false false wf h = refl
 
 other : (a nv wf kx : Bool) → (a || (nv && wf)) ≡ (a || (nv && (wf || (kx && false))))
-other a nv wf true = ap (λ b. a || (nv && b)) (sym (or_false wf))
-other a nv wf false = ap (λ b. a || (nv && b)) (sym (or_false wf))
+other a nv wf true = ap (λ b. a || (nv && b)) (sym (or-false wf))
+other a nv wf false = ap (λ b. a || (nv && b)) (sym (or-false wf))
 
 last_here : (kx nv b wf e last : Bool) → false ≡ (b || (nv && (wf && e))) → (kx ≡ true → last ≡ e) → ((kx && nv) && last) ≡ (b || (nv && ((wf || (kx && true)) && e)))
 last_here kx nv true wf e last h k = cc
@@ -113,14 +102,11 @@ last_here true false false wf e last h k = refl
 last_here false false false wf e last h k = refl
 
 last_other : (b nv wf kx e : Bool) → (b || (nv && (wf && e))) ≡ (b || (nv && ((wf || (kx && false)) && e)))
-last_other b nv wf true e = ap (λ a. b || (nv && (a && e))) (sym (or_false wf))
-last_other b nv wf false e = ap (λ a. b || (nv && (a && e))) (sym (or_false wf))
+last_other b nv wf true e = ap (λ a. b || (nv && (a && e))) (sym (or-false wf))
+last_other b nv wf false e = ap (λ a. b || (nv && (a && e))) (sym (or-false wf))
 
 wrote_push : (x v : ℕ) (front : List Event) (k w : ℕ) → writes_as x v (front ++ Write k w ∷ []) ≡ (writes_as x v front || (nat_eq k x && nat_eq w v))
-wrote_push x v front k w = list_any-append (is_write_of x v) front (Write k w ∷ []) ∙ ap (λ b. writes_as x v front || b) (or_false (nat_eq k x && nat_eq w v))
-
-wrote_read : (x v : ℕ) (front : List Event) (k w : ℕ) → writes_as x v (front ++ Read k w ∷ []) ≡ writes_as x v front
-wrote_read x v front k w = list_any-append (is_write_of x v) front (Read k w ∷ []) ∙ or_false (writes_as x v front)
+wrote_push x v front k w = list_any-append (is_write_of x v) front (Write k w ∷ []) ∙ ap (λ b. writes_as x v front || b) (or-false (nat_eq k x && nat_eq w v))
 
 -- what is written is written last by some write
 last_some : (k w : ℕ) (back : List Event) → (y : ℕ) × (last_write k (Write k w ∷ back) ≡ Some y)
@@ -133,20 +119,6 @@ last_some k w back = go (last_write k back) (cond (nat_eq k k) (Some w) None) (a
 later_some : (o q : Option ℕ) (y : ℕ) → q ≡ Some y → later o q ≡ Some y
 later_some o (Some z) y e = e
 later_some o None y e = cc
-
-pub taking_read : (txns : List (ℕ × List Event)) (node : ℕ) (all front : List Event) (k w : ℕ) (t : Writes) → IsTaking txns node all front t → IsTaking txns node all (front ++ Read k w ∷ []) t
-taking_read txns node all front k w t h = record {
-  writes = λ none x q v. h.writes none x q v ∙ ap (λ b. list_any (λ p. (nat_eq p.0 v) && writes_as x q p.1) txns || (nat_eq node v && b)) (sym (wrote_read x q front k w));
-  lasts = λ none x q v. h.lasts none x q v ∙ ap (λ b. list_any (λ p. (nat_eq p.0 v) && ends_with x q p.1) txns || (nat_eq node v && (b && ends_with x q all))) (sym (wrote_read x q front k w));
-  kept = h.kept;
-}
-
-pub taking_twice : (txns : List (ℕ × List Event)) (node : ℕ) (all front more : List Event) (s t : Writes) → (t.twice ≡ None → ⊥) → t.lasts.items ≡ s.lasts.items → IsTaking txns node all front s → IsTaking txns node all more t
-taking_twice txns node all front more s t never same h = record {
-  writes = λ none. absurd (never none);
-  lasts = λ none. absurd (never none);
-  kept = λ x w e. ap (λ l. slice_index l x) same ∙ h.kept x w e;
-}
 
 pub taking_new : (txns : List (ℕ × List Event)) (node : ℕ) (all front back : List Event) (k w : ℕ) (s t : Writes) (last : Bool)
     → all ≡ front ++ Write k w ∷ back → s.twice ≡ None → entry_of s w ≡ None → last ≡ nat_eq (slice_index s.lasts.items k) w → t.lasts.items ≡ s.lasts.items
@@ -195,8 +167,8 @@ taking_none txns node all s t twice entries lasts h = record {
 }
   where
     no_more : (a nv : Bool) → a ≡ (a || (nv && false))
-    no_more a true = sym (or_false a)
-    no_more a false = sym (or_false a)
+    no_more a true = sym (or-false a)
+    no_more a false = sym (or-false a)
 
 ends_written : (x w : ℕ) (ops : List Event) → ends_with x w ops ≡ true → writes_as x w ops ≡ true
 ends_written x w [] h = h
@@ -204,7 +176,7 @@ ends_written x w (Read k y ∷ ops) h = ends_written x w ops h
 ends_written x w (Write k y ∷ ops) h = go (last_write x ops) refl (nat_eq k x) h (ends_written x w ops)
   where
     go : (o : Option ℕ) → last_write x ops ≡ o → (b : Bool) → option_map_or (λ z. nat_eq z w) (later (cond b (Some y) None) o) false ≡ true → (ends_with x w ops ≡ true → writes_as x w ops ≡ true) → ((b && nat_eq y w) || writes_as x w ops) ≡ true
-    go (Some z) e b f ih = let g = ih (ap (λ o. option_map_or (λ z. nat_eq z w) o false) e ∙ f) in ap (λ a. (b && nat_eq y w) || a) g ∙ or_true (b && nat_eq y w)
+    go (Some z) e b f ih = let g = ih (ap (λ o. option_map_or (λ z. nat_eq z w) o false) e ∙ f) in ap (λ a. (b && nat_eq y w) || a) g ∙ or-true (b && nat_eq y w)
     go None e true f ih = ap (λ a. a || writes_as x w ops) f
     go None e false f ih = cc
 
@@ -212,11 +184,11 @@ pub taken_all : (txns : List (ℕ × List Event)) (node : ℕ) (all : List Event
 taken_all txns node all s t twice entries h = record {
   writes = λ none x w v. ap (is_write x v) (entries w) ∙ h.writes (sym twice ∙ none) x w v
       ∙ sym (list_any-append (λ p. (nat_eq p.0 v) && writes_as x w p.1) txns ((node, all) ∷ [])
-      ∙ ap (λ b. list_any (λ p. (nat_eq p.0 v) && writes_as x w p.1) txns || b) (or_false (nat_eq node v && writes_as x w all)));
+      ∙ ap (λ b. list_any (λ p. (nat_eq p.0 v) && writes_as x w p.1) txns || b) (or-false (nat_eq node v && writes_as x w all)));
   lasts = λ none x w v. ap (is_last_write x v) (entries w) ∙ h.lasts (sym twice ∙ none) x w v
       ∙ ap (λ b. list_any (λ p. (nat_eq p.0 v) && ends_with x w p.1) txns || (nat_eq node v && b)) (both (writes_as x w all) (ends_with x w all) (ends_written x w all))
       ∙ sym (list_any-append (λ p. (nat_eq p.0 v) && ends_with x w p.1) txns ((node, all) ∷ [])
-      ∙ ap (λ b. list_any (λ p. (nat_eq p.0 v) && ends_with x w p.1) txns || b) (or_false (nat_eq node v && ends_with x w all)));
+      ∙ ap (λ b. list_any (λ p. (nat_eq p.0 v) && ends_with x w p.1) txns || b) (or-false (nat_eq node v && ends_with x w all)));
 }
   where
     both : (a b : Bool) → (b ≡ true → a ≡ true) → (a && b) ≡ b

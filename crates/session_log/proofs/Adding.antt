@@ -21,7 +21,7 @@ use Rattle.session_log.specs.declared.parse.LineState.TheVariants as progress
 use Rattle.session_log.specs.declared.parse.Reading.{Reading}
 use Rattle.session_log.specs.declared.version.Version.{Version}
 
-all_more : {X : Type 0} (P : X → Type 0) (xs : List X) (x : X) → AllByRecursion P xs → P x → AllByRecursion P (xs ++ x ∷ [])
+pub all_more : {X : Type 0} (P : X → Type 0) (xs : List X) (x : X) → AllByRecursion P xs → P x → AllByRecursion P (xs ++ x ∷ [])
 all_more P [] x h p = (p, tt)
 all_more P (y ∷ ys) x h p = (h.0, all_more P ys x h.1 p)
 

@@ -54,7 +54,7 @@ pub end_accepted : (v : Version) (n : ℕ) (r : Reading) (rest : List ℕ) (whol
 end_accepted v n r rest whole e h c = e ∙ (fault_end v n (place_of r) rest h ∙ closed_place r.progress c)
 
 -- what the session's outcomes are then
-all_before : (ts : List Transaction) → AllByRecursion IsKnown ts → IsKnownBeforeLast ts
+pub all_before : (ts : List Transaction) → AllByRecursion IsKnown ts → IsKnownBeforeLast ts
 all_before [] h = tt
 all_before (t ∷ []) h = tt
 all_before (t ∷ u ∷ ts) h = (h.0, all_before (u ∷ ts) h.1)

@@ -7,7 +7,7 @@ use Rattle.std.specs.Str.{bytes_eq}
 use Rattle.std.specs.Str.Parse.{digits_value}
 use Rattle.std.proofs.lemmas.Bool.{ltb-true, leb-true, le-leb, lt-ltb, eqb-true, eq-eqb, and_parts, and_from, or_cases, or_left, or_right, not-true, not_from_false, ne_eqb, cond-true, false≢true}
 use Rattle.std.proofs.lemmas.Bool.Decides.{Decides-eqb}
-use Rattle.std.proofs.lemmas.Option.{cond_some, option_and_then_some}
+use Rattle.std.proofs.lemmas.Option.{cond_some, option_and_then_some, same_Some}
 use Rattle.std.proofs.lemmas.Slice.Eq.{bytes_eq-Decides, starts_is}
 use Rattle.std.proofs.lemmas.Fmt.{decimal-digits_value, digits_decimal, digits_value-decimal, decimal_nonempty, first_decimal, decimal_digit}
 use Rattle.std.proofs.lemmas.List.{take_at, drop_at}
@@ -65,9 +65,6 @@ space-key_byte : is_key_byte 32 ≡ false
 unfolding is_key_byte
 space-key_byte = refl
 
-pub is_space : ℕ → Bool
-is_space b = b == 32
-
 key_end : (k xs : List ℕ) → list_all is_key_byte k ≡ true → position_or_len (λ b. b == 32) (k ++ 32 ∷ xs) ≡ length k
 key_end [] xs h = refl
 key_end (b ∷ k) xs h =
@@ -89,7 +86,7 @@ keyed_sound ws k n e =
     let second : wid ≡ n = ap (λ (p : List ℕ × ℕ). p.1) key.1 in
     (split ∙ cc (first, number.0, ap decimal second), subst (λ x. is_key x ≡ true) first key.0, omega (arith, number.1, second))))
 
-after_key : (k d : List ℕ) → drop (length k + 1) (k ++ 32 ∷ d) ≡ d
+pub after_key : (k d : List ℕ) → drop (length k + 1) (k ++ 32 ∷ d) ≡ d
 after_key k d = ap (drop (length k + 1)) (sym (append_assoc k (32 ∷ []) d)) ∙ drop_at (k ++ 32 ∷ []) d (length k + 1) (simp length-append)
 
 keyed_complete : (k : List ℕ) (n : ℕ) → IsKey k → n < 2 ^ 64 → keyed_of (k ++ 32 ∷ decimal n) ≡ Some (k, n)
@@ -132,13 +129,10 @@ chosen : {A : Type 0} (b : Bool) (x y z : A) → cond b x y ≡ z → ((b ≡ tr
 chosen true x y z e = inl (refl, e)
 chosen false x y z e = inr (refl, e)
 
-some_of : {A : Type 0} (x y : A) → Some x ≡ Some y → x ≡ y
-some_of x y e = cc
-
 word_sound : (v : Version) (body word : List ℕ) (f g : Line) → bytes_eq body word ≡ true → Some g ≡ Some f → word ≡ line_text g → IsLegalLine v g → Sound v body f
 word_sound v body word f g b e text legal =
     let same = (bytes_eq-Decides body word).0 b in
-    subst (Sound v body) (some_of g f e) (same ∙ text, legal)
+    subst (Sound v body) (same_Some g f e) (same ∙ text, legal)
 
 session_line_sound : (v : Version) (body : List ℕ) (f : Line) → starts_with nat_eq body (codes "session ") ≡ true → session_of (drop 8 body) ≡ Some f → Sound v body f
 unfolding line_text
@@ -154,7 +148,7 @@ read_line_sound v body f b e =
     option_and_then_some (λ (k : List ℕ × ℕ). Some (line.Read k.0 k.1)) (keyed_of (drop 2 body)) f e
     (λ k got last.
     let s = keyed_sound (drop 2 body) k.0 k.1 got in
-    subst (Sound v body) (some_of (line.Read k.0 k.1) f last) (split ∙ ap (λ w. codes "r " ++ w) s.0, (s.1, s.2)))
+    subst (Sound v body) (same_Some (line.Read k.0 k.1) f last) (split ∙ ap (λ w. codes "r " ++ w) s.0, (s.1, s.2)))
 
 write_line_sound : (v : Version) (body : List ℕ) (f : Line) → starts_with nat_eq body (codes "w ") ≡ true → option_and_then (λ (k : List ℕ × ℕ). Some (line.Write k.0 k.1)) (keyed_of (drop 2 body)) ≡ Some f → Sound v body f
 unfolding line_text
@@ -163,7 +157,7 @@ write_line_sound v body f b e =
     option_and_then_some (λ (k : List ℕ × ℕ). Some (line.Write k.0 k.1)) (keyed_of (drop 2 body)) f e
     (λ k got last.
     let s = keyed_sound (drop 2 body) k.0 k.1 got in
-    subst (Sound v body) (some_of (line.Write k.0 k.1) f last) (split ∙ ap (λ w. codes "w " ++ w) s.0, (s.1, s.2)))
+    subst (Sound v body) (same_Some (line.Write k.0 k.1) f last) (split ∙ ap (λ w. codes "w " ++ w) s.0, (s.1, s.2)))
 
 -- by the tests of `form_of`, from the last
 w_sound : (v : Version) (body : List ℕ) (f : Line) (rest : Option Line) → (rest ≡ Some f → Sound v body f) → cond (starts_with nat_eq body (codes "w ")) (option_and_then (λ (k : List ℕ × ℕ). Some (line.Write k.0 k.1)) (keyed_of (drop 2 body))) rest ≡ Some f → Sound v body f
@@ -206,7 +200,7 @@ moment_sound v body word with_moment f text legal b e =
     option_and_then_some (λ m. Some (with_moment m)) (number_of (drop (length word) body)) f e
     (λ m got last.
     let s = number_sound (drop (length word) body) m got in
-    subst (Sound v body) (some_of (with_moment m) f last) (split ∙ (ap (λ w. word ++ w) s.0 ∙ sym (text m)), legal m s.1 parts.0))
+    subst (Sound v body) (same_Some (with_moment m) f last) (split ∙ (ap (λ w. word ++ w) s.0 ∙ sym (text m)), legal m s.1 parts.0))
 
 begin_text : (m : ℕ) → line_text (line.Begin (Some m)) ≡ codes "begin " ++ decimal m
 unfolding line_text

@@ -1,8 +1,9 @@
 -- The least version of a list of sessions.
-use Rattle.std.proofs.Common.{◌≡◌, ℕ, ◌≤◌, Bool, true, false, List, [], ◌∷◌, map, refl, sym, ap, ◌∙◌, subst, inl, inr, arith, ◌||◌, Option, None, Some}
+use Rattle.std.proofs.Common.{◌≡◌, ◌≤◌, Bool, true, false, List, [], ◌∷◌, map, refl, sym, ap, ◌∙◌, subst, inl, inr, arith, ◌||◌}
 use Rattle.std.specs.Prelude.{is_some}
 use Rattle.std.specs.List.{list_any, AllByRecursion}
 use Rattle.std.proofs.lemmas.Bool.{cases_Bool, or_parts}
+use Rattle.list_lemmas.proofs.Options.{none_of}
 use Rattle.session_log.specs.Text.{ClientSession, Transaction, view, view_txn, IsHeldBy, IsKnown, HasNoMoments, is_unknown, has_unknown, has_moment, least_version}
 use Rattle.session_log.specs.Version.{version_number}
 use Rattle.session_log.specs.declared.session.Session.{Session}
@@ -21,10 +22,6 @@ known_none (t ∷ ts) h = rw (h.0, known_none ts h.1) refl
 -- whether a moment of the transaction is stated
 abbrev pub is_stated : Transaction → Bool
 is_stated t = is_some t.begun || is_some t.ended
-
-none_of : (o : Option ℕ) → is_some o ≡ false → o ≡ None
-none_of None h = refl
-none_of (Some m) h = cc h
 
 none_stated : (ts : List Transaction) → list_any is_stated ts ≡ false → AllByRecursion HasNoMoments ts
 none_stated [] h = tt

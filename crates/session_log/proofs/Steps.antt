@@ -1,5 +1,5 @@
 -- One line more, and what it does to the first fault.
-use Rattle.std.proofs.Common.{◌≡◌, ℕ, ◌+◌, ◌<◌, ◌^◌, Bool, true, false, List, [], ◌∷◌, ◌++◌, length, Option, Some, None, Result, Ok, Err, refl, sym, ap, ◌∙◌, arith, codes, nat_eq, append_assoc}
+use Rattle.std.proofs.Common.{◌≡◌, ℕ, ◌+◌, ◌<◌, ◌^◌, Bool, true, false, List, [], ◌∷◌, ◌++◌, length, Option, Some, None, Result, Ok, Err, refl, sym, ap, ◌∙◌, arith, codes, nat_eq}
 use Rattle.std.specs.List.{starts_with}
 use Rattle.session_log.specs.Lines.{lines, bytes_of}
 use Rattle.session_log.specs.Text.{line_text, text_of_lines, IsLegalLine}
@@ -56,21 +56,6 @@ form_bytes v (body, false) f e = cc
 pub fault_on : (v : Version) (n : ℕ) (p q : Place) (l : List ℕ × Bool) (ls rest : List (List ℕ × Bool)) → rest ≡ l ∷ ls → step v n p l ≡ Ok q → first_fault v n p rest ≡ first_fault v (n + 1) q ls
 fault_on v n p q l ls rest e h = ap (first_fault v n p) e ∙ ap (λ r. going_on r (λ q. first_fault v (n + 1) q ls)) h
 
-stops : (v : Version) (n : ℕ) (p : Place) (l : List ℕ × Bool) (ls rest : List (List ℕ × Bool)) (f : LogFault) → rest ≡ l ∷ ls → step v n p l ≡ Err f → first_fault v n p rest ≡ Some f
-stops v n p l ls rest f e h = ap (first_fault v n p) e ∙ ap (λ r. going_on r (λ q. first_fault v (n + 1) q ls)) h
-
-pub fault_stop : (v : Version) (n : ℕ) (p : Place) (l : List ℕ × Bool) (ls rest : List (List ℕ × Bool)) (f : LogFault) → rest ≡ l ∷ ls → FailsAs f (step v n p l) → IsFault f (first_fault v n p rest)
-fault_stop v n p l ls rest faults.Memory e h = tt
-fault_stop v n p l ls rest (faults.BadLine k) e h = stops v n p l ls rest (faults.BadLine k) e h
-fault_stop v n p l ls rest (faults.SessionTwice k) e h = stops v n p l ls rest (faults.SessionTwice k) e h
-fault_stop v n p l ls rest (faults.OutsideTransaction k) e h = stops v n p l ls rest (faults.OutsideTransaction k) e h
-fault_stop v n p l ls rest (faults.OpenTransaction k) e h = stops v n p l ls rest (faults.OpenTransaction k) e h
-fault_stop v n p l ls rest (faults.WriteZero k) e h = stops v n p l ls rest (faults.WriteZero k) e h
-fault_stop v n p l ls rest (faults.WriteTwice k) e h = stops v n p l ls rest (faults.WriteTwice k) e h
-fault_stop v n p l ls rest (faults.UnknownNotLast k) e h = stops v n p l ls rest (faults.UnknownNotLast k) e h
-fault_stop v n p l ls rest (faults.EndsBeforeBegin k) e h = stops v n p l ls rest (faults.EndsBeforeBegin k) e h
-fault_stop v n p l ls rest (faults.OverLimit k) e h = stops v n p l ls rest (faults.OverLimit k) e h
-
 pub same_fault : (f : LogFault) (a b : Option LogFault) → a ≡ b → IsFault f b → IsFault f a
 same_fault faults.Memory a b e h = tt
 same_fault (faults.BadLine k) a b e h = e ∙ h
@@ -91,13 +76,6 @@ block_some (b ∷ bs) h = omega arith
 
 pub block_others : (l : List ℕ × Bool) (ls rest : List (List ℕ × Bool)) → rest ≡ l ∷ ls → IsBlock rest → NoSessionLine ls
 block_others l ls rest e h = rw e at h
-
-pub others_first : (l : List ℕ × Bool) (ls rest : List (List ℕ × Bool)) → rest ≡ l ∷ ls → NoSessionLine rest → (is_session_line l ≡ false) × NoSessionLine ls
-others_first l ls rest e h = rw e at h
-
--- the text goes on
-pub text_on : (front old new bytes rest after text : List ℕ) → text ≡ (front ++ old) ++ rest → rest ≡ bytes ++ after → new ≡ old ++ bytes → text ≡ (front ++ new) ++ after
-text_on front old new bytes rest after text a b c = rw (a, b, c) (simp append_assoc)
 
 -- what `with_line` says, of the line as it stands
 pub takes : (v : Version) (n : ℕ) (old : Reading) (l : List ℕ × Bool) (f : Line) (new : Reading) → is_session_line l ≡ false → Some f ≡ form_at v l → Adds n old f new → Takes v n old l new

@@ -70,7 +70,7 @@ line_other (line.Commit (Some m)) h = decimal_other m h.0
 line_other line.Abort h = refl
 line_other line.Unknown h = refl
 
-abbrev stands : Line → List ℕ × Bool
+abbrev pub stands : Line → List ℕ × Bool
 stands f = (line_text f, true)
 
 lines_text : (fs : List Line) → AllByRecursion (IsLegalLine Three) fs → lines (text_of_lines fs) ≡ map stands fs

@@ -1,5 +1,5 @@
 -- The edges of all sides by their targets.
-use Rattle.std.proofs.Common.{◌≡◌, ℕ, ◌+◌, ◌<◌, Bool, true, false, cond, eqb, ◌&&◌, ◌||◌, List, [], ◌∷◌, ◌++◌, length, get_or, take, Option, Some, refl, sym, ap, ◌∙◌, subst, inl, inr, arith, Vec, Global}
+use Rattle.std.proofs.Common.{◌≡◌, ℕ, ◌+◌, ◌<◌, Bool, true, false, cond, eqb, ◌&&◌, ◌||◌, List, [], ◌∷◌, ◌++◌, length, get_or, take, Option, Some, refl, sym, ap, ◌∙◌, inl, inr, arith, Vec, Global}
 use Rattle.std.specs.Prelude.{slice_get, slice_set}
 use Rattle.std.specs.Option.{option_map_or}
 use Rattle.std.specs.List.{list_any}
@@ -9,10 +9,10 @@ use Rattle.std.proofs.lemmas.List.{take_more, length-take-le}
 use Rattle.std.proofs.lemmas.List.Folds.{list_any-append}
 use Rattle.std.proofs.Math.Bool.{or-false, or_assoc}
 use Rattle.serializability.specs.Polygraph.{Edge, Choice}
-use Rattle.pruning_laws.specs.declared.side.Side.{Side}
 use Rattle.pruning_laws.specs.declared.side.Side.TheVariants.{One, Two}
 use Rattle.pruning_laws.specs.Forced.{Sides, kept_from}
 use Rattle.known_graph.specs.Tests.{has_edge}
+use Rattle.known_graph.proofs.Rows.{edge_append}
 use Rattle.side_edges.specs.Listed.{list_of, is_listed, AddsEntry, AddsSide, HasSides}
 use Rattle.side_edges.specs.declared.SideEdge.{SideEdge}
 use Rattle.side_edges.proofs.Lists.{slice_get-set_same, slice_get-set_other}
@@ -36,31 +36,6 @@ entry_pushed lists t old new x at pushed = record {
 }
 
 -- ---- a side
-pub edge_append : (xs ys : List Edge) (e : Edge) → has_edge (xs ++ ys) e ≡ (has_edge xs e || has_edge ys e)
-edge_append xs ys e = list_any-append (λ (x : Edge). eqb x.0 e.0 && eqb x.1 e.1) xs ys
-
-one_more : (o s h a b : Bool) → ((o || (s && h)) || (b && (a && s))) ≡ (o || (s && (h || ((a && b) || false))))
-one_more true s h a b = refl
-one_more false true true a b = refl
-one_more false true false true true = refl
-one_more false true false true false = refl
-one_more false true false false true = refl
-one_more false true false false false = refl
-one_more false false h true true = refl
-one_more false false h true false = refl
-one_more false false h false true = refl
-one_more false false h false false = refl
-
-pub side_more : (c : ℕ) (side : Side) (old now next : List (Vec SideEdge Global)) (edges : List Edge) (k : ℕ) (d : Edge) (s t : ℕ) → k < length edges → d ≡ get_or edges k d → s ≡ d.0 → t ≡ d.1
-    → AddsSide c side (take k edges) old now → AddsEntry t (record { source = s; choice = c; side = side }) now next → AddsSide c side (take (k + 1) edges) old next
-side_more c side old now next edges k d s t lt is p q a m =
-    subst (λ (l : List Edge). AddsSide c side l old next) (ap (λ (x : Edge). take k edges ++ x ∷ []) is ∙ sym (take_more edges k d lt)) (record {
-      each = λ sides e.
-          m.each sides e
-          ∙ (λ i. a.each sides e i || (eqb (q i) e.1 && (eqb (p i) e.0 && sides c side)))
-          ∙ one_more (is_listed sides old e) (sides c side) (has_edge (take k edges) e) (eqb d.0 e.0) (eqb d.1 e.1)
-          ∙ ap (λ b. is_listed sides old e || (sides c side && b)) (sym (edge_append (take k edges) (d ∷ []) e));
-    })
 
 -- ---- all choices
 part_edge : (b : Bool) (xs : List Edge) (e : Edge) → has_edge (cond b xs []) e ≡ (b && has_edge xs e)

@@ -1,18 +1,11 @@
 -- What is told of a solution.
-use Rattle.std.proofs.Common.{◌≡◌, ℕ, ◌<◌, ◌≤◌, Bool, List}
-use Rattle.std.specs.List.{All}
+use Rattle.std.proofs.Common.{◌≡◌, ℕ, Bool, List}
 use Rattle.session_log.specs.Text.{ClientSession}
-use Rattle.log_definitions.specs.Serial.{IsSerialOrder}
-use Rattle.log_definitions.specs.Numbers.{log_of}
 use Rattle.cobra_answers.specs.declared.reply.Reply.{Reply}
 use Rattle.solving.specs.declared.solution.Solution.{Solution}
 use Rattle.solving.specs.declared.solution.Solution.TheVariants.{Serial, Refuted, Spent}
 use Rattle.solving.specs.Solved.{Solves}
 use Rattle.solve_command.specs.Solved.{IsSolution, IsSerialWhereTold, status_of, solution_text}
-
-pub nodes_of_serial : (ss : List ClientSession) (order : List ℕ) → IsSerialOrder ss order → All (λ v. (0 < v) × (v ≤ (log_of ss).nodes)) order
-unfolding log_of
-nodes_of_serial ss order s = s.once.only
 
 pub serial_where_told : (plain : Bool) (ss : List ClientSession) (s : Solution) → Solves plain ss s → IsSerialWhereTold ss s
 serial_where_told plain ss (Serial order) h = h

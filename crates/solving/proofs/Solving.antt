@@ -3,12 +3,10 @@ use Rattle.std.proofs.Common.{◌≡◌, ◌≢◌, ℕ, zero, suc, ◌<◌, ◌
 use Rattle.std.specs.List.{AllByRecursion}
 use Rattle.session_log.specs.Text.{ClientSession}
 use Rattle.serializability.specs.Formula.{Cnf, Satisfies, clause_true}
-use Rattle.serializability.specs.Decoded.{before, IsDecoded}
 use Rattle.serializability.specs.declared.literal.Literal.{Literal}
-use Rattle.log_definitions.specs.Serial.{IsSerialOrder}
 use Rattle.order_cnf.specs.Data.{IsFirstFalse}
-use Rattle.cobra_formulas.specs.Formulas.{IsFaithful, IsFormulaFrom, IsFormulaOf}
-use Rattle.cobra_formulas.specs.declared.basis.Basis.{Basis}
+use Rattle.cobra_formulas.specs.Formulas.{IsFaithful, IsFormulaOf}
+pub use Rattle.cobra_formulas.proofs.Made.{belongs_so, serial_of}
 use Rattle.formula_search.specs.Searched.{IsUnsatisfiable}
 use Rattle.solving.specs.Solved.{IsRefutedFor}
 
@@ -28,12 +26,6 @@ none_false values f k s h =
 
 pub none_missing : (values : List Bool) (f : Cnf) → Satisfies values f → length values ≢ f.variables → ⊥
 none_missing values f s h = h s.each_variable
-
-pub belongs_so : (plain : Bool) (ss : List ClientSession) (b : Basis) (f : Cnf) → IsFormulaFrom plain ss b f → IsFormulaOf plain ss f
-belongs_so plain ss b f h = record { basis = b; made = h }
-
-pub serial_of : (ss : List ClientSession) (f : Cnf) → IsFaithful ss f → (values : List Bool) (order : List ℕ) → Satisfies values f → IsDecoded f.nodes (before f values) order → IsSerialOrder ss order
-serial_of ss f h values order s d = h.orders values s order d
 
 pub refuted_for : (plain : Bool) (ss : List ClientSession) (f : Cnf) → IsFormulaOf plain ss f → IsFaithful ss f → IsUnsatisfiable f → IsRefutedFor plain ss
 refuted_for plain ss f belongs faithful none = record {

@@ -1,26 +1,31 @@
 -- The locks' names are new, and a log can hold them.
-use Rattle.std.proofs.Common.{◌≡◌, ℕ, zero, suc, ◌+◌, ◌≤◌, ◌<◌, ◌^◌, Bool, true, false, ◌&&◌, List, [], ◌∷◌, length, refl, ap, sym, ◌∙◌, inl, inr, arith, subst, Option, Some, None, cond}
-use Rattle.std.specs.Prelude.{replicate, nat_lt, nat_le, ◌==◌, ◌↔◌}
+use Rattle.std.proofs.Common.{◌≡◌, ℕ, zero, suc, ◌+◌, ◌≤◌, ◌<◌, ◌^◌, Bool, true, false, ◌&&◌, List, [], ◌∷◌, length, ap, sym, ◌∙◌, inl, inr, arith, subst, Option, Some, None, cond}
+use Rattle.std.specs.Prelude.{replicate, nat_lt, nat_le, ◌↔◌}
 use Rattle.std.specs.List.{AllByRecursion, Contains, list_all}
-use Rattle.std.proofs.lemmas.Bool.{cases_Bool}
+use Rattle.std.proofs.lemmas.Bool.{cases_Bool, and_from}
 use Rattle.std.proofs.lemmas.List.{length-append}
 use Rattle.std.proofs.Math.ListN.{length-replicate}
+use Rattle.list_lemmas.proofs.Bools.{and_first}
 use Rattle.session_log.specs.Key.{IsKey, is_key_byte, is_key}
 use Rattle.session_log.specs.Text.{ClientSession, IsLegal, IsLegalOp, IsLegalTxn, key_of}
 use Rattle.session_log.specs.declared.session.Op.{Op}
 use Rattle.session_log.specs.declared.session.Op.TheVariants.{Read, Write}
 use Rattle.serializability.specs.Replay.{place_of}
-use Rattle.serializability.proofs.Places.{Has, Has-from_Contains}
+use Rattle.serializability.proofs.Places.{Has, Has-from_Contains, place_within}
 use Rattle.log_definitions.specs.Unknown.{ops_in, txns_in, resolved}
 use Rattle.log_definitions.specs.WellFormed.{written}
 use Rattle.log_definitions.proofs.Members.{member}
 use Rattle.log_definitions.proofs.Settled.{learnt_resolved, ops_resolved}
 use Rattle.piece_laws.specs.Logs.{IsLog, HasOrder}
 use Rattle.piece_laws.proofs.Lists.{of_mapped, of_flat}
+use Rattle.piece_laws.proofs.Sessions.{le_true}
+use Rattle.piece_laws.proofs.Given.{test_le}
 use Rattle.level_laws.specs.Snapshot.{HasSnapshotOrder}
 use Rattle.level_laws.specs.Split.{Locks, HasKey, split_writers}
 use Rattle.level_laws.proofs.Legal.{split_is_log, resolved_split_is_log}
 use Rattle.level_laws.proofs.Writers.{snapshot_by_writers}
+use Rattle.level_laws.proofs.Fresh.{same_behind}
+use Rattle.level_laws.proofs.Doubled.{same_place}
 use Rattle.splitting.specs.Locks.{leading, most_leading, longest, largest, lock_key, marks, locks_of, refusal, no_room, HasRoom}
 use Rattle.splitting.specs.Laws.{LocksAreFresh, SnapshotBySplitLog, SnapshotByResolvedSplit}
 use Rattle.splitting.proofs.Greatest.{within_greatest}
@@ -29,9 +34,6 @@ use Rattle.splitting.proofs.Greatest.{within_greatest}
 begins : (n : ℕ) (key : List ℕ) → n ≤ leading (lock_key n key)
 begins zero key = omega arith
 begins (suc n) key = let ih = begins n key in omega (arith, ih)
-
-same_behind : (x : ℕ) (a b : List ℕ) → x ∷ a ≡ x ∷ b → a ≡ b
-same_behind x a b e = cc
 
 pub lock_same : (n : ℕ) (a b : List ℕ) → lock_key n a ≡ lock_key n b → a ≡ b
 lock_same zero a b e = e
@@ -45,32 +47,19 @@ unfolding is_key_byte
 lock_bytes zero key e = e
 lock_bytes (suc n) key e = lock_bytes n key e
 
-and_left : (a b : Bool) → (a && b) ≡ true → a ≡ true
-and_left true b e = refl
-and_left false b e = cc
-
 and_right : (a b : Bool) → (a && b) ≡ true → b ≡ true
 and_right true b e = e
 and_right false b e = cc
 
-both : (a b : Bool) → a ≡ true → b ≡ true → (a && b) ≡ true
-both a b e f = rw e f
-
-le_true : (a b : ℕ) → a ≤ b → nat_le a b ≡ true
-le_true a b h = grind arith
-
-pub le_where : (a b : ℕ) → nat_le a b ≡ true → a ≤ b
-le_where a b h = grind arith
-
 -- the lock of a key is a key where it has room
 pub lock_is_key : (n : ℕ) (key : List ℕ) → IsKey key → n + length key ≤ 64 → IsKey (lock_key n key)
 lock_is_key n key h le =
-    let front = and_left (nat_le 1 (length key) && nat_le (length key) 64) (list_all is_key_byte key) h in
-    let one : 1 ≤ length key = le_where 1 (length key) (and_left (nat_le 1 (length key)) (nat_le (length key) 64) front) in
+    let front = and_first (nat_le 1 (length key) && nat_le (length key) 64) (list_all is_key_byte key) h in
+    let one : 1 ≤ length key = test_le 1 (length key) (and_first (nat_le 1 (length key)) (nat_le (length key) 64) front) in
     let bytes = and_right (nat_le 1 (length key) && nat_le (length key) 64) (list_all is_key_byte key) h in
     let is = lock_length n key in
-    both (nat_le 1 (length (lock_key n key)) && nat_le (length (lock_key n key)) 64) (list_all is_key_byte (lock_key n key))
-    (both (nat_le 1 (length (lock_key n key))) (nat_le (length (lock_key n key)) 64) (le_true 1 (length (lock_key n key)) (omega (arith, is, one))) (le_true (length (lock_key n key)) 64 (omega (arith, is, le))))
+    and_from (nat_le 1 (length (lock_key n key)) && nat_le (length (lock_key n key)) 64) (list_all is_key_byte (lock_key n key))
+    (and_from (nat_le 1 (length (lock_key n key))) (nat_le (length (lock_key n key)) 64) (le_true 1 (length (lock_key n key)) (omega (arith, is, one))) (le_true (length (lock_key n key)) 64 (omega (arith, is, le))))
     (lock_bytes n key bytes)
 
 pub never_none : (text lock : List ℕ) (o : Option (List ℕ)) → text ≡ lock → IsKey lock → o ≡ cond (is_key text) (Some text) None → o ≡ None → ⊥
@@ -80,44 +69,6 @@ never_none text lock o e h is none = let yes : is_key text ≡ true = ap is_key 
     some_none e = cc
 
 -- ---- identities
-place_within : (ws : List ℕ) (v : ℕ) → Has v ws → place_of ws v < length ws
-place_within [] v h = absurd h
-place_within (w ∷ ws) v h = elim (cases_Bool (w == v)) [
-  | inl e ↦ let here : place_of (w ∷ ws) v ≡ 0 = rw e refl in omega (arith, here)
-  | inr e ↦ let further : place_of (w ∷ ws) v ≡ suc (place_of ws v) = rw e refl in elim h [
-    | inl same ↦ absurd (other w v e same)
-    | inr k ↦ let ih = place_within ws v k in omega (arith, further, ih)
-  ]
-]
-  where
-    other : (a b : ℕ) → (a == b) ≡ false → a ≡ b → ⊥
-    other a b e same = grind arith
-
-place_same : (ws : List ℕ) (v w : ℕ) → Has v ws → Has w ws → place_of ws v ≡ place_of ws w → v ≡ w
-place_same [] v w h k e = absurd h
-place_same (u ∷ ws) v w h k e = elim (cases_Bool (u == v)) [
-  | inl a ↦ elim (cases_Bool (u == w)) [
-    | inl b ↦ sym (is u v a) ∙ is u w b
-    | inr b ↦ let x : place_of (u ∷ ws) v ≡ 0 = rw a refl in let y : place_of (u ∷ ws) w ≡ suc (place_of ws w) = rw b refl in absurd (omega (arith, e, x, y))
-  ]
-  | inr a ↦ elim (cases_Bool (u == w)) [
-    | inl b ↦ let x : place_of (u ∷ ws) v ≡ suc (place_of ws v) = rw a refl in let y : place_of (u ∷ ws) w ≡ 0 = rw b refl in absurd (omega (arith, e, x, y))
-    | inr b ↦
-        let x : place_of (u ∷ ws) v ≡ suc (place_of ws v) = rw a refl in
-        let y : place_of (u ∷ ws) w ≡ suc (place_of ws w) = rw b refl in
-        place_same ws v w (behind u v h a) (behind u w k b) (omega (arith, e, x, y))
-  ]
-]
-  where
-    is : (a b : ℕ) → (a == b) ≡ true → a ≡ b
-    is a b e = grind arith
-
-    behind : (a b : ℕ) → Has b (a ∷ ws) → (a == b) ≡ false → Has b ws
-    behind a b (inl same) e = absurd (differ a b e same)
-      where
-        differ : (a b : ℕ) → (a == b) ≡ false → a ≡ b → ⊥
-        differ a b e same = grind arith
-    behind a b (inr k) e = k
 
 -- ---- room
 pub record Room (marks longest largest writes : ℕ) : Type 0 where
@@ -198,7 +149,7 @@ locks_are_fresh ss legal sound room = (
     new_key = λ a b h k e. (let le = begins (marks ss) a in let few = fewer_begin ss b k in let same = ap leading e in omega (arith, le, few, same));
     one_key = λ a b h k e. lock_same (marks ss) a b e;
     new_identity = λ v w h k e. (let le = written_within (ops_in ss) w (Has-from_Contains (written (ops_in ss)) w k) in omega (arith, le, e));
-    one_identity = λ v w h k e. place_same (written (ops_in ss)) v w (Has-from_Contains (written (ops_in ss)) v h) (Has-from_Contains (written (ops_in ss)) w k) (omega (arith, e));
+    one_identity = λ v w h k e. same_place (written (ops_in ss)) v w (Has-from_Contains (written (ops_in ss)) v h) (Has-from_Contains (written (ops_in ss)) w k) (omega (arith, e));
   },
   record {
     key = λ a h. lock_is_key (marks ss) a (is_key_of ss legal a h) (let le = within_longest ss a h in let r = (room_of ss room).keys in omega (arith, le, r));

@@ -13,15 +13,8 @@ use Rattle.level_laws.specs.Snapshot.{is_in}
 use Rattle.level_laws.specs.Split.{first_writes_behind}
 use Rattle.splitting.specs.Halves.{has}
 use denote.Ref.{Bor}
-
-same_tests : (a b : Bool) → (a ≡ true → b ≡ true) → (b ≡ true → a ≡ true) → a ≡ b
-same_tests v0 v1 f g = grind arith
-
-flip : (a b : List ℕ) → bytes_eq a b ≡ bytes_eq b a
-flip a b = same_tests (bytes_eq a b) (bytes_eq b a) (λ t. (bytes_eq-Decides b a).1 (sym ((bytes_eq-Decides a b).0 t))) (λ t. (bytes_eq-Decides a b).1 (sym ((bytes_eq-Decides b a).0 t)))
-
-cond_or : (b c : Bool) → cond b true c ≡ (b || c)
-cond_or v0 v1 = grind arith
+use Rattle.list_lemmas.proofs.Bools.{cond_or}
+use Rattle.list_lemmas.proofs.Comparisons.{bytes_flip}
 
 abbrev ref : List ℕ → Bor (List ℕ)
 ref key = record { ref_ptr = (0, 0); now = key }
@@ -33,7 +26,7 @@ ref_cmp a b = slice_cmp nat_cmp a.now b.now
 pub has_more : (old new : BTreeSet (Bor (List ℕ))) (key : List ℕ) → UpdatesBy ref_cmp (λ k. slice_cmp nat_cmp key k.now) old new true → (k : List ℕ) → has new k ≡ (bytes_eq k key || has old k)
 has_more old new key h k =
     h.0 (ref k)
-    ∙ ap (λ b. cond b true (has old k)) (is_eq-slice_cmp key k ∙ flip key k)
+    ∙ ap (λ b. cond b true (has old k)) (is_eq-slice_cmp key k ∙ bytes_flip key k)
     ∙ cond_or (bytes_eq k key) (has old k)
 
 or_same : (a b : Bool) → (a ≡ true → b ≡ true) → b ≡ (a || b)

@@ -1,8 +1,9 @@
 -- Steps of the loops over transactions and sessions.
-use Rattle.std.proofs.Common.{◌≡◌, ℕ, ◌+◌, ◌<◌, List, [], ◌∷◌, ◌++◌, length, map, take, drop, get_or, refl, sym, ap, ◌∙◌, arith}
+use Rattle.std.proofs.Common.{◌≡◌, ℕ, ◌+◌, ◌<◌, List, [], ◌∷◌, ◌++◌, length, map, take, get_or, refl, ap, ◌∙◌, arith}
 use Rattle.std.specs.List.{flat_map}
-use Rattle.std.proofs.lemmas.List.{length-append, take_more, drop_more, map-append, append-nil}
+use Rattle.std.proofs.lemmas.List.{length-append, map-append, append-nil}
 use Rattle.std.proofs.lemmas.List.Concat.{flat_map-append}
+use Rattle.list_lemmas.proofs.Lists.{front_more}
 use Rattle.session_log.specs.Text.{ClientSession}
 use Rattle.session_log.specs.declared.session.Op.{Op}
 use Rattle.log_definitions.specs.Unknown.{ops_in}
@@ -12,8 +13,6 @@ use Rattle.piece_laws.proofs.Identities.{ops_in-cons}
 use Rattle.splitting.specs.Halves.{ops_by}
 
 -- ---- the front of a list with one more
-pub front_more : {X : Type 0} (xs : List X) (i : ℕ) (x : X) → i < length xs → x ≡ get_or xs i x → take (i + 1) xs ≡ take i xs ++ x ∷ []
-front_more xs i x lt at = take_more xs i x lt ∙ ap (λ y. take i xs ++ y ∷ []) (sym at)
 
 pub flat_front : {X Y A : Type 0} (f : Y → List A) (g : X → Y) (xs : List X) (i : ℕ) (x : X) → i < length xs → x ≡ get_or xs i x → flat_map f (map g (take (i + 1) xs)) ≡ flat_map f (map g (take i xs)) ++ f (g x)
 flat_front f g xs i x lt at =
@@ -21,10 +20,6 @@ flat_front f g xs i x lt at =
     ∙ ap (flat_map f) (map-append g (take i xs) (x ∷ []))
     ∙ flat_map-append f (map g (take i xs)) (g x ∷ [])
     ∙ ap (λ l. flat_map f (map g (take i xs)) ++ l) (append-nil (f (g x)))
-
--- what is left of it
-pub left_behind : {X Y : Type 0} (g : X → Y) (xs : List X) (i : ℕ) (x : X) → i < length xs → x ≡ get_or xs i x → map g (drop i xs) ≡ g x ∷ map g (drop (i + 1) xs)
-left_behind g xs i x lt at = ap (map g) (drop_more xs i x lt ∙ ap (λ y. y ∷ drop (i + 1) xs) (sym at))
 
 -- ---- operations
 pub ops_in_is : (ss : List ClientSession) → ops_in ss ≡ flat_map (λ s. ops_by s.txns) ss

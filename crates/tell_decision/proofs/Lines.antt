@@ -12,9 +12,6 @@ use Rattle.tell_steps.specs.declared.item.Item.TheVariants as item
 pub record Front (ss : List ClientSession) (line : List ℕ) (i : ℕ) (items : List Item) : Type 0 where
   pub whole : (later : List Item) → IsLineTold ss [] [] (drop i line) later → IsLineTold ss [] [] line (items ++ later)
 
-pub none_told : (ss : List ClientSession) (line : List ℕ) → Front ss line 0 []
-none_told ss line = record { whole = λ later h. h }
-
 drop_at : (line : List ℕ) (i k a : ℕ) → a ≡ get_or line i 0 → i + 1 ≡ k → i < length line → drop i line ≡ a ∷ drop k line
 drop_at line i k a same e lt =
     let s : suc i ≡ k = omega (arith, e) in

@@ -1,10 +1,9 @@
 -- A line of which runs are joined is told from its first node to its last.
-use Rattle.std.proofs.Common.{◌≡◌, ℕ, zero, suc, ◌+◌, ◌<◌, Bool, true, false, eqb, List, [], ◌∷◌, ◌++◌, length, Option, None, Some, refl, sym, ap, ◌∙◌, subst, arith, eqb-true}
-use Rattle.std.proofs.lemmas.Bool.{cases_Bool}
+use Rattle.std.proofs.Common.{◌≡◌, ℕ, ◌+◌, ◌<◌, Bool, true, false, eqb, List, [], ◌∷◌, ◌++◌, length, Option, None, Some, refl, sym, ap, ◌∙◌, subst, arith, eqb-true}
 use Rattle.std.specs.Prelude.{if◌then◌else◌}
+use Rattle.std.proofs.lemmas.List.{length_push}
 use Rattle.session_log.specs.Text.{ClientSession}
 use Rattle.reason_laws.specs.Reasons.{AreOfSession}
-use Rattle.reasons.specs.declared.reason.Reason.{Reason}
 use Rattle.reasons.specs.declared.reason.Reason.TheVariants as reason
 use Rattle.tell_reasons.specs.declared.why.ChainOrder.{ChainOrder}
 use Rattle.tell_reasons.specs.declared.why.Why.{Why}
@@ -13,7 +12,7 @@ use Rattle.tell_steps.specs.Steps as told
 use Rattle.tell_steps.specs.Steps.{IsWhy, IsLineTold}
 use Rattle.tell_steps.specs.declared.item.Item.{Item}
 use Rattle.tell_steps.specs.declared.item.Item.TheVariants as item
-use Rattle.tell_decision.specs.Runs.{session_edge, run_behind, run_ahead, edges_ahead, all_but_first, join_run, join_edge, join, joined_items}
+use Rattle.tell_decision.specs.Runs.{session_edge, run_behind, run_ahead, edges_ahead, all_but_first, join_run, join_edge, joined_items}
 
 -- ---- what goes on in the session
 none_some : (c : ℕ) → None ≡ Some c → ⊥
@@ -174,10 +173,6 @@ appended_some : (inner : List ℕ) (u : ℕ) → 0 < length (inner ++ u ∷ [])
 appended_some [] u = omega arith
 appended_some (a ∷ inner) u = omega arith
 
-length_appended : (inner : List ℕ) (u : ℕ) → length (inner ++ u ∷ []) ≡ length inner + 1
-length_appended [] u = refl
-length_appended (a ∷ inner) u = omega (arith, length_appended inner u)
-
 pub between_joined : (ss : List ClientSession) (steps decided : List ChainOrder) (v u : ℕ) (inner : List ℕ) (items : List Item) → IsLineTold ss steps decided (v ∷ (inner ++ u ∷ [])) items → Between ss steps decided v u (joined_items items)
 between_joined ss steps decided v u inner items h =
     let r = line_joined ss steps decided (v ∷ (inner ++ u ∷ [])) items h in
@@ -188,7 +183,7 @@ between_joined ss steps decided v u inner items h =
     let last : last_of r.first r.after ≡ u = r.last ∙ ap (last_of r.first) rest ∙ last_appended r.first inner u in
     let i = inner_of r.first u r.after some last in
     let n = ap (λ l. length l) i.is in
-    let m = length_appended i.inner u in
+    let m = length_push i.inner u in
     let says = subst (λ l. IsLineTold ss steps decided (r.first ∷ l) (joined_items items)) i.is r.says in
     record {
       inner = i.inner;

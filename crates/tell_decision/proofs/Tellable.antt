@@ -13,6 +13,7 @@ use Rattle.reasons.specs.declared.reason.Reason.{Reason}
 use Rattle.reasons.specs.declared.reason.Reason.TheVariants as reason
 use Rattle.tell_reasons.specs.Reasons.{CanTell}
 use Rattle.serializability.specs.Polygraph.{Choice}
+use Rattle.log_definitions.proofs.Nodes.{each_at}
 use Rattle.cube_laws.specs.declared.tree.TreeNode.{TreeNode}
 use Rattle.tell_reasons.specs.declared.why.ChainOrder.{ChainOrder}
 use Rattle.tell_reasons.specs.declared.why.Why.{Why}
@@ -80,11 +81,6 @@ below_length : {X : Type 0} (xs : List X) (k : ℕ) (x : X) → slice_get xs k �
 below_length [] k x e = let f : None ≡ Some x = e in cc
 below_length (y ∷ xs) zero x e = omega arith
 below_length (y ∷ xs) (suc k) x e = let h = below_length xs k x e in omega arith
-
-each_at : {X : Type 0} (P : X → Type 0) (xs : List X) (k : ℕ) (x : X) → AllByRecursion P xs → slice_get xs k ≡ Some x → P x
-each_at P [] k x h e = let f : None ≡ Some x = e in absurd (cc)
-each_at P (y ∷ xs) zero x h e = let f : Some y ≡ Some x = e in let same : y ≡ x = cc in subst P same h.0
-each_at P (y ∷ xs) (suc k) x h e = each_at P xs k x h.1 e
 
 -- ---- edges
 -- an edge that is told joins nodes, and its reason can be told

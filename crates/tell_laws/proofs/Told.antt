@@ -1,9 +1,8 @@
 -- What is told holds in each serial order.
 use Rattle.std.proofs.Common.{◌≡◌, ◌⊎◌, ℕ, ◌+◌, ◌<◌, ◌≤◌, cond, List, [], ◌∷◌, ◌++◌, Option, None, Some, refl, sym, ap, ◌∙◌, subst, inl, inr, arith}
 use Rattle.std.proofs.lemmas.Bool.{le-ltb}
-use Rattle.std.specs.Prelude.{slice_get}
 use Rattle.std.specs.List.{AllByRecursion, Contains}
-use Rattle.std.proofs.lemmas.Option.{slice_get_within, get_or_from_slice_get}
+use Rattle.list_lemmas.proofs.Elements.{contains_at}
 use Rattle.session_log.specs.Text.{ClientSession}
 use Rattle.serializability.specs.declared.anomaly.Anomaly.{Anomaly}
 use Rattle.serializability.specs.Replay.{Before}
@@ -58,9 +57,6 @@ edge_of ss order o a b k c = each_contained (λ (e : Edge). Before order e.0 e.1
 edge_among : (ss : List ClientSession) (order : List ℕ) (orders : List ChainOrder) (o : ChainOrder) (a b : ℕ) → AreKept ss order orders → Contains orders o → Contains (edges_in (log_of ss) o) (a, b) → Before order a b
 edge_among ss order orders o a b kept among has =
     edge_of ss order o a b (each_contained (λ o. Keeps order (edges_in (log_of ss) o)) orders o kept among) has
-
-contains_at : {X : Type 0} (xs : List X) (k : ℕ) (x : X) → slice_get xs k ≡ Some x → Contains xs x
-contains_at xs k x e = (k, slice_get_within xs k x e, get_or_from_slice_get xs k x x e)
 
 reason_before : (ss : List ClientSession) (order : List ℕ) → Setting ss order → (a b : ℕ) (r : Reason) → IsReason ss a b r → Before order a b
 reason_before ss order s a b reason.Session h = session_kept ss order s.well s.serial a b h

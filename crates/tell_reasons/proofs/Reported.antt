@@ -1,5 +1,5 @@
 -- The read, and the updates, of the anomaly that is reported.
-use Rattle.std.proofs.Common.{◌≡◌, ℕ, ◌-◌, ◌<◌, ◌≤◌, List, [], ◌∷◌, ◌++◌, length, Some, refl, ap, ◌∙◌, arith}
+use Rattle.std.proofs.Common.{◌≡◌, ℕ, ◌-◌, ◌<◌, ◌≤◌, List, length, Some, ap, ◌∙◌, arith}
 use Rattle.std.specs.Prelude.{slice_get}
 use Rattle.std.proofs.lemmas.Option.{slice_get_within}
 use Rattle.session_log.specs.Text.{ClientSession}
@@ -10,14 +10,11 @@ use Rattle.serializability.specs.Anomalies.{anomaly_of}
 use Rattle.anomaly_laws.proofs.Meaning.{kind_holds}
 use Rattle.log_definitions.specs.Serial.{ops_of}
 use Rattle.log_definitions.specs.Numbers.{log_of}
+use Rattle.session_history.proofs.Tabled.{at_seam}
 use Rattle.tell_reasons.specs.Reasons.{op_at}
 use Rattle.tell_reasons.specs.Anomalies.{IsRead}
 use Rattle.tell_reasons.proofs.Ops.{event_count}
 use Rattle.tell_reasons.proofs.Updates.{is_read}
-
-item_behind : {X : Type 0} (front : List X) (x : X) (back : List X) → slice_get (front ++ x ∷ back) (length front) ≡ Some x
-item_behind [] x back = refl
-item_behind (y ∷ front) x back = item_behind front x back
 
 -- operation k of node v, from 1, is a read
 pub record IsReadAt (ss : List ClientSession) (v k : ℕ) : Type 0 where
@@ -33,7 +30,7 @@ read_at ss kind v k e =
     let low : 1 ≤ k = omega (arith, place) in
     let index : k - 1 ≡ length r.before = omega (arith, place) in
     let item : slice_get es (k - 1) ≡ Some (event.Read r.key r.identity) =
-    ap (λ i. slice_get es i) index ∙ ap (λ l. slice_get l (length r.before)) r.stands ∙ item_behind r.before (event.Read r.key r.identity) r.behind in
+    ap (λ i. slice_get es i) index ∙ ap (λ l. slice_get l (length r.before)) r.stands ∙ at_seam r.before (event.Read r.key r.identity) r.behind in
     let within = slice_get_within es (k - 1) (event.Read r.key r.identity) item in
     let count = event_count ss v in
     record {

@@ -1,28 +1,16 @@
 -- Texts that are written piece by piece.
 use Rattle.std.proofs.Common.{◌≡◌, ℕ, List, ◌++◌, ap, ◌∙◌, append_assoc}
-
-pub two : (old a b mid new : List ℕ) → mid ≡ old ++ a → new ≡ mid ++ b → new ≡ old ++ (a ++ b)
-two old a b mid new p q = q ∙ ap (λ l. l ++ b) p ∙ append_assoc old a b
+use Rattle.list_lemmas.proofs.Lists.{appended_twice}
 
 pub three : (old a b c one mid new : List ℕ) → one ≡ old ++ a → mid ≡ one ++ b → new ≡ mid ++ c → new ≡ old ++ ((a ++ b) ++ c)
-three old a b c one mid new p q r = two old (a ++ b) c mid new (two old a b one mid p q) r
-
-pub five : (old a b c d e one two' mid four new : List ℕ) → one ≡ old ++ a → two' ≡ one ++ b → mid ≡ two' ++ c → four ≡ mid ++ d → new ≡ four ++ e → new ≡ old ++ ((((a ++ b) ++ c) ++ d) ++ e)
-five old a b c d e one two' mid four new p q r s t = three old ((a ++ b) ++ c) d e mid four new (three old a b c one two' mid p q r) s t
-
-joined : (a b c d e : List ℕ) → ((((a ++ b) ++ c) ++ d) ++ e) ≡ (a ++ b ++ c ++ d ++ e)
-joined a b c d e = simp append_assoc
-
--- five pieces, as they stand one behind the other
-pub five_joined : (old a b c d e one two' mid four new : List ℕ) → one ≡ old ++ a → two' ≡ one ++ b → mid ≡ two' ++ c → four ≡ mid ++ d → new ≡ four ++ e → new ≡ old ++ (a ++ b ++ c ++ d ++ e)
-five_joined old a b c d e one two' mid four new p q r s t = five old a b c d e one two' mid four new p q r s t ∙ ap (λ l. old ++ l) (joined a b c d e)
+three old a b c one mid new p q r = appended_twice old (a ++ b) c mid new (appended_twice old a b one mid p q) r
 
 joined_four : (a b c d : List ℕ) → (((a ++ b) ++ c) ++ d) ≡ (a ++ b ++ c ++ d)
 joined_four a b c d = simp append_assoc
 
 -- four pieces, as they stand one behind the other
 pub four_joined : (old a b c d one two' mid new : List ℕ) → one ≡ old ++ a → two' ≡ one ++ b → mid ≡ two' ++ c → new ≡ mid ++ d → new ≡ old ++ (a ++ b ++ c ++ d)
-four_joined old a b c d one two' mid new p q r s = two old ((a ++ b) ++ c) d mid new (three old a b c one two' mid p q r) s ∙ ap (λ l. old ++ l) (joined_four a b c d)
+four_joined old a b c d one two' mid new p q r s = appended_twice old ((a ++ b) ++ c) d mid new (three old a b c one two' mid p q r) s ∙ ap (λ l. old ++ l) (joined_four a b c d)
 
 -- words are joined from the right, texts from the left
 pub left_four : (a b c d : List ℕ) → (a ++ (b ++ (c ++ d))) ≡ (((a ++ b) ++ c) ++ d)

@@ -3,6 +3,7 @@ use Rattle.std.proofs.Common.{◌≡◌, ◌≢◌, ℕ, List, [], ◌∷◌, �
 use Rattle.std.specs.Prelude.{codes, slice_get, Result, OnOk}
 use Rattle.std.proofs.lemmas.Result.{on_ok_weaker}
 use Rattle.std.proofs.lemmas.Option.{slice_get_within}
+use Rattle.list_lemmas.proofs.Lists.{appended_twice}
 use Rattle.session_log.specs.Text.{ClientSession, view_txn}
 use Rattle.session_log.specs.declared.session.Op.TheVariants.{Write}
 use Rattle.log_definitions.specs.Unknown.{ops_in}
@@ -17,7 +18,6 @@ use Rattle.tell_reasons.specs.Versions.{written_before, other_before}
 use Rattle.tell_reasons.specs.Anomalies.{Appends, IsRead, IsWriteAt, IsWriterTold, IsReadTold, IsDoneTold, IsBadReadTold, words_of_read, wrote_text, elsewhere_text}
 use Rattle.tell_reasons.specs.Anomalies.IsWriterTold.{initial, nobody, elsewhere, wrote}
 use Rattle.tell_reasons.specs.Writes.{IsNoneWrite, Finds, IsThere}
-use Rattle.tell_reasons.proofs.Texts.{two}
 use Rattle.tell_reasons.proofs.Written.{txn_ops, among_this, none_here, none_anywhere}
 
 -- ---- who wrote
@@ -64,7 +64,7 @@ read_told log v reads i line old one mid new key wid r l k w p a q =
     subst (λ x. IsWriterTold log.history.now (table_in log) (op_line_in log v i) r.key x a.text) wids (subst (λ x. IsWriterTold log.history.now (table_in log) (op_line_in log v i) x wid a.text) keys (subst (λ x. IsWriterTold log.history.now (table_in log) x key wid a.text) l a.told)) in
     record {
       text = said ++ (a.text ++ 10 ∷ []);
-      added = two old said (a.text ++ 10 ∷ []) one new p (two one a.text (10 ∷ []) mid new a.added q);
+      added = appended_twice old said (a.text ++ 10 ∷ []) one new p (appended_twice one a.text (10 ∷ []) mid new a.added q);
       told = record { key = r.key; wid = r.wid; writer = a.text; is = r.is; told = told; whole = sym (append_assoc said a.text (10 ∷ [])) };
     }
 
@@ -80,7 +80,7 @@ bad_read log v i write read reads old mid new p q r a b =
     let words : reads ≡ words_of_read before other = r ∙ ap (λ o. words_of_read o read) p ∙ ap (λ o. words_of_read before o) q in
     record {
       text = a.text ++ b.text;
-      added = two old a.text b.text mid new a.added b.added;
+      added = appended_twice old a.text b.text mid new a.added b.added;
       told = record {
         before = a.text;
         line = b.text;

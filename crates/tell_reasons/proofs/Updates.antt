@@ -6,6 +6,7 @@ use Rattle.std.proofs.lemmas.Bool.{cases_Bool, false≢true}
 use Rattle.std.proofs.lemmas.List.{length-reverse, length-take-le, get_or-reverse, get_or-take}
 use Rattle.std.proofs.lemmas.Option.{slice_get-get_or}
 use Rattle.std.proofs.lemmas.List.Quantifiers.{position-Some}
+use Rattle.list_lemmas.proofs.Lists.{appended_twice as two}
 use Rattle.session_log.specs.Text.{ClientSession}
 use Rattle.session_log.specs.declared.session.Op.{Op}
 use Rattle.session_log.specs.declared.session.Op.TheVariants.{Read, Write}
@@ -25,7 +26,6 @@ use Rattle.tell_reasons.specs.Anomalies.{Appends, IsRead, IsReadTold, IsUpdateTo
 use Rattle.tell_reasons.proofs.Found.{none_at}
 use Rattle.reasons.proofs.Ops.{op_of}
 use Rattle.tell_reasons.proofs.Ops.{event_count}
-use Rattle.tell_reasons.proofs.Texts.{two}
 
 -- ---- an item that passes
 record PassesAt (p : Event → Bool) (es : List Event) : Type 0 where

@@ -11,6 +11,7 @@ use Rattle.std.proofs.lemmas.List.Concat.{flat_map-append}
 use Rattle.std.proofs.lemmas.List.Elements.{Contains-append_cases}
 use Rattle.std.proofs.lemmas.List.Quantifiers.{position-Some}
 use Rattle.std.proofs.lemmas.Slice.Eq.{bytes_eq-Decides}
+use Rattle.list_lemmas.proofs.Lists.{mapped_front}
 use Rattle.session_log.specs.Text.{ClientSession, Transaction, view, view_txn}
 use Rattle.session_log.specs.declared.session.Op.{Op}
 use Rattle.session_log.specs.declared.session.Op.TheVariants.{Read, Write}
@@ -24,7 +25,7 @@ use Rattle.tell_reasons.specs.Writes.{is_among, is_write_as, IsNoneWrite, FindsI
 use Rattle.tell_reasons.specs.declared.writes.Keys.{Keys}
 use Rattle.tell_reasons.specs.declared.writes.Keys.TheVariants.{This, Any}
 use Rattle.tell_reasons.specs.declared.writes.WriteAt.{WriteAt}
-use Rattle.tell_reasons.proofs.Found.{front, at_place, none_at}
+use Rattle.tell_reasons.proofs.Found.{at_place, none_at}
 
 -- ---- one operation
 pub among_itself : (keys : Keys) (key : List ℕ) → is_among keys key key ≡ true
@@ -77,9 +78,6 @@ none-append keys key wid a b p q = record {
   none = λ written among c. elim (Contains-append_cases a b (Write written wid) c) [ inl h ↦ p.none written among h | inr h ↦ q.none written among h ];
 }
 
-none_among : (keys : Keys) (key : List ℕ) (wid : ℕ) → IsNoneWrite keys key wid []
-none_among keys key wid = record { none = λ written among c. omega (arith, c.1) }
-
 -- of this key, or of any
 pub none_here : (key : List ℕ) (wid : ℕ) (ops : List Op) → IsNoneWrite This key wid ops → ¬ Contains ops (Write key wid)
 none_here key wid ops h = h.none key (among_itself This key)
@@ -96,7 +94,7 @@ pub before_more : (keys : Keys) (key : List ℕ) (wid : ℕ) (txns : List Txn) (
 before_more keys key wid txns i x h at b e =
     let before = map view_txn (take i txns) in
     let ops : txn_ops (map view_txn (take (i + 1) txns)) ≡ txn_ops before ++ x.ops.items =
-    ap txn_ops (front view_txn txns i x h at) ∙ flat_map-append (λ t. t.ops) before (view_txn x ∷ []) ∙ ap (λ l. txn_ops before ++ l) (append-nil x.ops.items) in
+    ap txn_ops (mapped_front view_txn txns i x h at) ∙ flat_map-append (λ t. t.ops) before (view_txn x ∷ []) ∙ ap (λ l. txn_ops before ++ l) (append-nil x.ops.items) in
     subst (λ l. IsNoneWrite keys key wid l) (sym ops) (none-append keys key wid (txn_ops before) x.ops.items b (no_write keys key wid x.ops.items e))
 
 -- each transaction has a row with a line for each operation
@@ -161,7 +159,7 @@ pub beyond_more : (keys : Keys) (key : List ℕ) (wid : ℕ) (sessions : List Se
     → IsNoneWrite keys key wid (txn_ops (map view_txn x.txns.items)) → IsNoneWrite keys key wid (ops_in (map view (take (i + 1) sessions)))
 beyond_more keys key wid sessions i x h at b e =
     let before = map view (take i sessions) in
-    let ops = ap ops_in (front view sessions i x h at) ∙ ops-append before (view x ∷ []) ∙ ap (λ ts. ops_in before ++ txn_ops ts) (append-nil (map view_txn x.txns.items)) in
+    let ops = ap ops_in (mapped_front view sessions i x h at) ∙ ops-append before (view x ∷ []) ∙ ap (λ ts. ops_in before ++ txn_ops ts) (append-nil (map view_txn x.txns.items)) in
     subst (λ l. IsNoneWrite keys key wid l) (sym ops) (none-append keys key wid (ops_in before) (txn_ops (map view_txn x.txns.items)) b e)
 
 pub write_beyond : (sessions : List Session) (tables : List (Vec TxnPlace Global)) (keys : Keys) (key : List ℕ) (wid i : ℕ) (x : Session) (rows : Vec TxnPlace Global) (w : WriteAt) → i < length sessions → x ≡ get_or sessions i x → i < length tables → rows ≡ get_or tables i rows

@@ -9,9 +9,9 @@ use Rattle.serializability.specs.Pairs.{pairs_of}
 use Rattle.serializability.specs.Polygraph.{all_keys, committed}
 use Rattle.serializability.proofs.Places.{each_from_range, each_from_map, each_from_flat_map}
 use Rattle.serializability.proofs.SoFar.{so_far}
+use Rattle.serializability.proofs.EachPair.{each_pair_from}
 use Rattle.known_graph.proofs.Listed.{In-filter, In-range, Contains-from_In}
 use Rattle.chain_laws.specs.Chains.{heads, is_head, chain_choice, chain_choices}
-use Rattle.chain_laws.proofs.Coalesced.{pairs_each}
 use Rattle.write_chains.specs.Views.{chain_from, chains_in}
 use Rattle.tell_reasons.specs.declared.why.ChainOrder.{ChainOrder}
 use Rattle.tell_steps.specs.Steps.{turned, IsOrder}
@@ -71,7 +71,7 @@ key_orders : (log : Log) (x : ℕ) → x < log.keys → AllByRecursion (IsOrder 
 key_orders log x key =
     subst (AllByRecursion (IsOrder log)) (sym (among_heads log x (heads log x)))
     (each_from_map (IsOrder log) (order_of x) (pairs_of (heads log x))
-    (pairs_each (λ p. IsOrder log (order_of x p)) (is_head log x) 1 log.nodes (λ u v lo lt hi pu pv. pair_order log x key u v lo lt hi pu pv)))
+    (each_pair_from (λ p. IsOrder log (order_of x p)) (is_head log x) 1 log.nodes (λ u v lo lt hi pu pv. pair_order log x key u v lo lt hi pu pv)))
 
 pub all_orders : (log : Log) → All (IsOrder log) (orders_in log)
 unfolding orders_in

@@ -5,6 +5,7 @@ use Rattle.std.specs.List.{All, Contains}
 use Rattle.std.proofs.lemmas.Option.{slice_get_within, slice_get-get_or}
 use Rattle.std.proofs.lemmas.List.{length-map, map-append}
 use Rattle.std.proofs.lemmas.List.Elements.{All-nil, All-cons, All-push, All-contains}
+use Rattle.list_lemmas.proofs.Elements.{get_map, same_item}
 use Rattle.reach_laws.specs.Reach.{Walk}
 use Rattle.session_log.specs.Text.{ClientSession}
 use Rattle.serializability.specs.Polygraph.{Edge}
@@ -25,8 +26,7 @@ use Rattle.tell_steps.specs.declared.ground.Grounds.{Grounds}
 use Rattle.serializability.specs.declared.node.TheConstants.{MAX_NODES}
 use Rattle.tell_steps.specs.Ledgers.{AreEntries, kept_by}
 use Rattle.tell_steps.specs.Told.{HasSteps}
-use Rattle.tell_steps.proofs.Ledgers.{Given, map_get, order_by, edge_leads, edge_rests, walk_end}
-use Rattle.tell_steps.proofs.Places.{one_of}
+use Rattle.tell_steps.proofs.Ledgers.{Given, order_by, edge_leads, edge_rests, walk_end}
 
 -- ---- places
 front_at : (front back : List ℕ) (a b : ℕ) → get_or (front ++ a ∷ b ∷ back) (length front) 0 ≡ a
@@ -110,12 +110,12 @@ grounds_more ss old new o table h two nodes kept firsts noted =
 pub first_step : (ss : List ClientSession) (steps : List ChainOrder) (e : Edge) (k : ℕ) (o : ChainOrder) → slice_get steps k ≡ Some o → IsFirstIn (sides_of ss steps) e k → IsFirstWith (log_of ss) steps k o e
 first_step ss steps e k o here f =
     let log = log_of ss in
-    let side : f.side ≡ edges_in log o = one_of (sides_of ss steps) k f.side (edges_in log o) f.at (map_get (edges_in log) steps k o here) in
+    let side : f.side ≡ edges_in log o = same_item (sides_of ss steps) k f.side (edges_in log o) f.at (get_map (edges_in log) steps k o here) in
     let P : List Edge → Type 0 = λ l. Contains l e in
     record {
       at = here;
       has = subst P side f.within;
-      before = λ j p lt at c. f.first j (edges_in log p) lt (map_get (edges_in log) steps j p at) c;
+      before = λ j p lt at c. f.first j (edges_in log p) lt (get_map (edges_in log) steps j p at) c;
     }
 
 -- the first side that has the edge is that of a step
@@ -127,7 +127,7 @@ no_step ss steps e n = record {
   none = λ o among c.
       (let log = log_of ss in
       let at : slice_get steps among.0 ≡ Some o = slice_get-get_or steps among.0 o among.1 ∙ ap Some among.2 in
-      n.none among.0 (edges_in log o) (map_get (edges_in log) steps among.0 o at) c);
+      n.none among.0 (edges_in log o) (get_map (edges_in log) steps among.0 o at) c);
 }
 
 -- ---- lines over what steps and decided orders have

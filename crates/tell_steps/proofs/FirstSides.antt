@@ -15,18 +15,6 @@ use Rattle.tell_steps.proofs.Places.{cell_within, cell_one, get_cases}
 abbrev pub Sides : Type 0
 Sides = List (List Edge)
 
-one_first : (sides : Sides) (e : Edge) (j k : ℕ) → IsFirstIn sides e j → IsFirstIn sides e k → j < k → ⊥
-one_first sides e j k f g lt = g.first j f.side lt f.at f.within
-
-pub first_unique : (sides : Sides) (e : Edge) (j k : ℕ) → IsFirstIn sides e j → IsFirstIn sides e k → j ≡ k
-first_unique sides e j k f g = elim (cases_lt j k) [
-  | inl lt ↦ absurd (one_first sides e j k f g lt)
-  | inr ge ↦ (elim (cases_eq j k) [
-    | inl same ↦ same
-    | inr other ↦ (let lt : k < j = omega (arith, other, ge) in absurd (one_first sides e k j g f lt))
-  ])
-]
-
 -- it is one of the first so many, where one of these has the edge
 pub first_below : (sides : Sides) (bound : ℕ) (e : Edge) (k : ℕ) → IsFirstIn sides e k → HasSide sides bound e → k < bound
 first_below sides bound e k f h = elim (cases_lt h.number k) [

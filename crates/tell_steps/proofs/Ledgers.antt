@@ -2,10 +2,10 @@
 use Rattle.std.proofs.Common.{◌≡◌, ◌⊎◌, ℕ, zero, suc, ◌+◌, ◌<◌, true, List, [], ◌∷◌, ◌++◌, length, get_or, take, Option, None, Some, refl, sym, ap, ◌∙◌, subst, inl, inr, arith}
 use Rattle.std.specs.Prelude.{map, slice_get, unwrap_or}
 use Rattle.std.specs.List.{All, AllByRecursion, Contains, flat_map}
-use Rattle.std.specs.Option.{option_map}
-use Rattle.std.proofs.lemmas.Option.{slice_get_within, slice_get-get_or, slice_get-map, slice_get_read}
+use Rattle.std.proofs.lemmas.Option.{slice_get_within, slice_get-get_or, slice_get_read}
 use Rattle.std.proofs.lemmas.List.{length-map, get_or-map}
 use Rattle.std.proofs.lemmas.List.Elements.{All-cons, All-nil, Contains-append_cases}
+use Rattle.list_lemmas.proofs.Elements.{get_map as map_get}
 use Rattle.session_log.specs.Text.{ClientSession}
 use Rattle.serializability.specs.Log.{Log}
 use Rattle.serializability.specs.Reads.{IsClean}
@@ -30,6 +30,7 @@ use Rattle.prune_ledger.specs.Pruned.{posts_in}
 use Rattle.prune_ledger.specs.declared.ledger.LedgerEntry.{LedgerEntry}
 use Rattle.prune_ledger.specs.declared.ledger.Ledger.{Ledger}
 use Rattle.prune_ledger.proofs.Sides.{side_is, choice_of_edge, kept_cases, no_kept}
+use Rattle.prune_ledger.proofs.Finals.{length_posts}
 use Rattle.tell_reasons.specs.declared.why.ChainOrder.{ChainOrder}
 use Rattle.tell_steps.specs.Steps.{turned, edges_in, IsOrder}
 use Rattle.tell_steps.specs.Orders.{choice_of, orders_in, kept_of, kept_order}
@@ -44,9 +45,6 @@ pub get_map : {X Y : Type 0} (f : X → Y) (xs : List X) (k : ℕ) (y : Y) → s
 get_map f [] k y e = absurd (cc)
 get_map f (x ∷ xs) zero y e = let same : f x ≡ y = cc in (x, (refl, same))
 get_map f (x ∷ xs) (suc k) y e = get_map f xs k y e
-
-pub map_get : {X Y : Type 0} (f : X → Y) (xs : List X) (k : ℕ) (x : X) → slice_get xs k ≡ Some x → slice_get (map f xs) k ≡ Some (f x)
-map_get f xs k x e = slice_get-map f xs k ∙ ap (option_map f) e
 
 get_take : {X : Type 0} (xs : List X) (n k : ℕ) (x : X) → slice_get (take n xs) k ≡ Some x → (k < n) × (slice_get xs k ≡ Some x)
 get_take xs zero k x e = absurd (cc)
@@ -275,9 +273,6 @@ edge_rests ss p g posts qs bound below a b c h = record {
 given_of : (ss : List ClientSession) (entries : List LedgerEntry) → IsClean (log_of ss) → (d : AreEntries ss entries) → Given ss d.poly
 given_of ss entries clean d = record { clean = clean; known = d.known; choices = d.choices }
 
-pub posts_many : (entries : List LedgerEntry) → length (posts_in entries) ≡ length entries
-posts_many entries = length-map entries (λ (x : LedgerEntry). x.post)
-
 -- a dead ledger's are such
 pub dead_entries : (ss : List ClientSession) (ledger : Ledger) → IsDeadLedger ss ledger → AreEntries ss ledger.entries.items
 dead_entries ss ledger d = record { poly = d.poly; known = d.known; choices = d.choices; shown = d.valid.shown }
@@ -308,7 +303,7 @@ step_of ss entries clean d k q at =
 
 pub steps_of : (ss : List ClientSession) (entries : List LedgerEntry) → IsClean (log_of ss) → AreEntries ss entries → AreSteps ss (kept_by ss entries) entries
 steps_of ss entries clean d = record {
-  count = length-map (posts_in entries) (order_by ss) ∙ posts_many entries;
+  count = length-map (posts_in entries) (order_by ss) ∙ length_posts entries;
   each = step_of ss entries clean d;
 }
 
@@ -359,7 +354,7 @@ dead_closed ss ledger clean d line c = closed_of ss ledger.entries.items clean (
 pub choice_within : (entries : List LedgerEntry) (orders : List ChainOrder) → All (λ q. q.choice < length orders) (posts_in entries) → (i : ℕ) (x : LedgerEntry) → i < length entries → x ≡ get_or entries i x → x.post.choice < length orders
 choice_within entries orders h i x lt is =
     let post : LedgerEntry → Posted = λ y. y.post in
-    let many : i < length (posts_in entries) = omega (arith, lt, posts_many entries) in
+    let many : i < length (posts_in entries) = omega (arith, lt, length_posts entries) in
     let here : get_or (posts_in entries) i x.post ≡ x.post = get_or-map post entries i x x.post lt ∙ ap post (sym is) in
     subst (λ (q : Posted). q.choice < length orders) here (h i x.post many)
 

@@ -1,10 +1,11 @@
 -- Marks of entries, as edges, lines and walks are looked at.
-use Rattle.std.proofs.Common.{◌≡◌, ℕ, zero, suc, ◌+◌, ◌<◌, ◌≤◌, Bool, true, false, List, [], ◌∷◌, length, get_or, set, take, replicate, Some, ◌⊎◌, refl, sym, ap, ◌∙◌, subst, inl, inr, arith, Bor}
+use Rattle.std.proofs.Common.{◌≡◌, ℕ, zero, suc, ◌+◌, ◌<◌, ◌≤◌, Bool, true, false, List, length, get_or, set, take, replicate, Some, refl, sym, ap, ◌∙◌, subst, inl, inr, arith, Bor}
 use Rattle.std.specs.Prelude.{slice_get}
 use Rattle.std.specs.List.{All, Contains}
 use Rattle.std.proofs.lemmas.Bool.{cases_eq, cases_lt, false≢true}
 use Rattle.std.proofs.lemmas.List.{get_or-set_same, get_or-set_other, length-set, take_more}
 use Rattle.std.proofs.lemmas.List.Elements.{All-push, All-weaker}
+use Rattle.list_lemmas.proofs.Elements.{same_item}
 use Rattle.session_log.specs.Text.{ClientSession}
 use Rattle.serializability.specs.Polygraph.{Edge}
 use Rattle.prune_ledger.specs.Pruned.{posts_in}
@@ -13,7 +14,6 @@ use Rattle.prune_ledger.specs.declared.ledger.LedgerEntry.{LedgerEntry}
 use Rattle.tell_steps.specs.Lines.{IsUnshown, LineRests, IsEntry}
 use Rattle.tell_steps.specs.Marks.{is_set, IsMarked, AreMore, AreSameFrom, AreNoOthers, IsFirstUnshown, IsNeededBy, IsEdgeMarked, IsCovered, IsLineMarked, IsWalkMarked, AreCovered, IsNeededByLine, IsNeededByWalk, AreNeeded}
 use Rattle.tell_steps.proofs.FirstSides.{Sides, first_below}
-use Rattle.tell_steps.proofs.Places.{one_of}
 
 -- ---- more marks
 pub more_same : (marks : List Bool) → AreMore marks marks
@@ -104,7 +104,7 @@ pub walks_more : (ss : List ClientSession) (sides : Sides) (entries : List Ledge
     → IsWalkMarked ss sides q.walk entry old new → AreCovered ss sides old entries count → AreCovered ss sides new entries (count + 1)
 walks_more ss sides entries count entry q old new at low w c = record {
   each = λ k p is le t. elim (cases_eq k entry) [
-    | inl same ↦ (let e : q ≡ p = one_of (posts_in entries) k q p (ap (slice_get (posts_in entries)) same ∙ at) is in
+    | inl same ↦ (let e : q ≡ p = same_item (posts_in entries) k q p (ap (slice_get (posts_in entries)) same ∙ at) is in
         let P : Posted → Type 0 = λ r. IsCovered ss sides new r.walk (length r.walk) in
         subst P e (w.covered (ap (λ i. get_or new i false) (sym same) ∙ t)))
     | inr other ↦ (elim (cases_lt k entry) [

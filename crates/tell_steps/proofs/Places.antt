@@ -3,8 +3,6 @@ use Rattle.std.proofs.Common.{◌≡◌, ◌⊎◌, ℕ, ◌+◌, ◌*◌, ◌<�
 use Rattle.std.specs.Prelude.{slice_get}
 use Rattle.std.proofs.Math.Nat.{mul-le-mul_left}
 use Rattle.std.proofs.lemmas.Bool.{cases_lt, cases_eq}
-use Rattle.std.proofs.lemmas.Option.{slice_get_within, get_or_from_slice_get}
-use Rattle.std.specs.List.{Contains}
 use Rattle.desk.proofs.Seating.{snoc_get}
 use Rattle.tell_steps.specs.Firsts.{cell, cells}
 
@@ -32,12 +30,6 @@ cell_one n a b c d hb hd e = elim (cases_eq a c) [
 pub get_cases : {X : Type 0} (xs : List X) (y z : X) (k : ℕ) → slice_get (xs ++ y ∷ []) k ≡ Some z → (slice_get xs k ≡ Some z) ⊎ ((k ≡ length xs) × (y ≡ z))
 get_cases xs y z k e = elim (snoc_get xs k y z e) [ inl last ↦ inr (last.0, sym last.1) | inr before ↦ inl before ]
 
-pub one_of : {X : Type 0} (xs : List X) (k : ℕ) (x y : X) → slice_get xs k ≡ Some x → slice_get xs k ≡ Some y → x ≡ y
-one_of xs k x y a b = let e : Some x ≡ Some y = sym a ∙ b in cc
-
 pub cell_is : (n a b x y : ℕ) → x ≡ a → y ≡ b → (n + 1) * x + y ≡ cell n a b
 unfolding cell
 cell_is n a b x y p q = ap (λ z. (n + 1) * z + y) p ∙ ap (λ z. (n + 1) * a + z) q
-
-pub contains_get : {X : Type 0} (xs : List X) (k : ℕ) (x : X) → slice_get xs k ≡ Some x → Contains xs x
-contains_get xs k x e = (k, slice_get_within xs k x e, get_or_from_slice_get xs k x x e)

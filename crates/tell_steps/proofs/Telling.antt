@@ -1,11 +1,12 @@
 -- How lines and steps are told.
-use Rattle.std.proofs.Common.{◌≡◌, ◌⊎◌, ℕ, zero, suc, ◌+◌, ◌-◌, ◌<◌, ◌≤◌, Bool, true, false, List, [], ◌∷◌, ◌++◌, length, get_or, drop, Some, refl, sym, ap, ◌∙◌, subst, inl, inr, arith, append_assoc, Bor}
+use Rattle.std.proofs.Common.{◌≡◌, ℕ, zero, suc, ◌+◌, ◌-◌, ◌<◌, ◌≤◌, Bool, true, false, List, [], ◌∷◌, ◌++◌, length, get_or, drop, Some, sym, ap, ◌∙◌, subst, inl, inr, arith, append_assoc, Bor}
 use Rattle.std.specs.Prelude.{slice_get}
 use Rattle.std.specs.List.{All, Contains}
 use Rattle.std.proofs.lemmas.Bool.{cases_lt, false≢true}
-use Rattle.std.proofs.lemmas.Option.{slice_get_within, get_or_from_slice_get}
+use Rattle.std.proofs.lemmas.Option.{slice_get_within}
 use Rattle.std.proofs.lemmas.List.{append-nil, drop_more, drop_all, length_push, length-map}
 use Rattle.std.proofs.lemmas.List.Elements.{Contains-append_left, Contains-append_right, All-weaker}
+use Rattle.list_lemmas.proofs.Elements.{get_map, same_item, contains_at}
 use Rattle.reach_laws.proofs.Walks.{Contains-here}
 use Rattle.known_graph.proofs.Listed.{In-from_Contains}
 use Rattle.session_log.specs.Text.{ClientSession}
@@ -24,13 +25,13 @@ use Rattle.tell_steps.specs.Steps.{turned, edges_in, IsOrder, Follows, IsFirstWi
 use Rattle.tell_steps.specs.Firsts.{IsFirstIn, HasSide}
 use Rattle.tell_steps.specs.Lines.{sides_of, IsUnshown, LineRests, OneHas, LineStands, IsRound, IsNeededIn}
 use Rattle.tell_steps.specs.Marks.{is_set, IsMarked, IsCovered, AreNeeded}
-use Rattle.tell_steps.specs.Ledgers.{IsStep, IsClosed}
-use Rattle.tell_steps.specs.Told.{IsPut, EdgesTold, IsRoundTold, IsStepTold, IsKeptBefore, IsTold, HasStep, IsOfMarked, IsEdgeTold, AreEdgesTold, AreTold, HasSteps, AreToldFor}
+use Rattle.tell_steps.specs.Ledgers.{IsStep}
+use Rattle.tell_steps.specs.Told.{IsPut, EdgesTold, IsRoundTold, IsStepTold, IsTold, IsOfMarked, IsEdgeTold, AreEdgesTold, AreTold, HasSteps, AreToldFor}
 use Rattle.desk.proofs.Seating.{get_front, get_last}
-use Rattle.tell_steps.proofs.Places.{get_cases, one_of, contains_get}
+use Rattle.prune_ledger.proofs.Finals.{length_posts}
+use Rattle.tell_steps.proofs.Places.{get_cases}
 use Rattle.tell_steps.proofs.FirstSides.{first_below}
 use Rattle.tell_steps.proofs.Answers.{reason_not_none}
-use Rattle.tell_steps.proofs.Ledgers.{map_get, posts_many}
 
 -- ---- the edges of a line
 edges_more : (ss : List ClientSession) (steps decided : List ChainOrder) (line : List ℕ) (i : ℕ) (before : List Item) (why : Why) → i + 1 < length line → EdgesTold ss steps decided line i before
@@ -102,9 +103,9 @@ why_forced ss steps decided a b r o (Known x) w have f = absurd (reason_not_none
 why_forced ss steps decided a b r o (Forced k p) w have f =
     let e : k ≡ r = one_step ss steps (a, b) k r p o w.1 f in
     let Stands : ℕ → Type 0 = λ n. slice_get steps n ≡ Some p in
-    let same : p ≡ o = one_of steps r p o (subst Stands e w.1.at) f.at in
+    let same : p ≡ o = same_item steps r p o (subst Stands e w.1.at) f.at in
     ap (λ n. Forced n p) e ∙ ap (λ z. Forced r z) same
-why_forced ss steps decided a b r o (Chosen p) w have f = absurd (w.1.none o (contains_get steps r o f.at) f.has)
+why_forced ss steps decided a b r o (Chosen p) w have f = absurd (w.1.none o (contains_at steps r o f.at) f.has)
 
 edge_named : (ss : List ClientSession) (steps decided : List ChainOrder) (a b r : ℕ) (o : ChainOrder) (items : List Item) → IsEdgeTold ss steps decided a b items → HaveNone ss a b → IsFirstWith (log_of ss) steps r o (a, b) → IsNamed items r
 edge_named ss steps decided a b r o items t have f =
@@ -161,21 +162,21 @@ told_later kept steps o k r m = record {
 first_with : (ss : List ClientSession) (kept steps : List ChainOrder) (e : Edge) (k r : ℕ) → IsFirstIn (sides_of ss kept) e k → (m : IsTold kept steps k r) → IsFirstWith (log_of ss) steps r m.order e
 first_with ss kept steps e k r f m =
     let log = log_of ss in
-    let side : f.side ≡ edges_in log m.order = one_of (sides_of ss kept) k f.side (edges_in log m.order) f.at (map_get (edges_in log) kept k m.order m.at) in
+    let side : f.side ≡ edges_in log m.order = same_item (sides_of ss kept) k f.side (edges_in log m.order) f.at (get_map (edges_in log) kept k m.order m.at) in
     let P : List Edge → Type 0 = λ l. Contains l e in
     record {
       at = m.stands;
       has = subst P side f.within;
       before = λ s o lt at c.
           (let b = m.earlier s o lt at in
-          f.first b.entry (edges_in log o) b.below (map_get (edges_in log) kept b.entry o b.at) c);
+          f.first b.entry (edges_in log o) b.below (get_map (edges_in log) kept b.entry o b.at) c);
     }
 
 -- a step has what a marked entry before this one keeps
 has_step : (ss : List ClientSession) (kept : List ChainOrder) (posts : List Posted) (marks : List Bool) (steps : List ChainOrder) (entries : ℕ) (items : List Item) (e : Edge) → AreTold ss kept posts marks steps entries items → IsMarked (sides_of ss kept) marks e → HasSide (sides_of ss kept) entries e → OneHas ss steps e
 has_step ss kept posts marks steps entries items e t m h =
     let n = t.each m.entry (first_below (sides_of ss kept) entries e m.entry m.first h) m.marked in
-    record { order = n.told.order; among = contains_get steps n.step n.told.order n.told.stands; has = (first_with ss kept steps e m.entry n.step m.first n.told).has }
+    record { order = n.told.order; among = contains_at steps n.step n.told.order n.told.stands; has = (first_with ss kept steps e m.entry n.step m.first n.told).has }
 
 walk_stands : (ss : List ClientSession) (kept : List ChainOrder) (posts : List Posted) (marks : List Bool) (steps : List ChainOrder) (entries : ℕ) (items : List Item) (line : List ℕ) → AreTold ss kept posts marks steps entries items → LineRests ss (sides_of ss kept) entries line
     → IsCovered ss (sides_of ss kept) marks line (length line) → LineStands ss steps [] line
@@ -260,14 +261,14 @@ told_step ss kept posts marks steps next i o q items new is at here marked s mor
       earlier = λ r p lt at'. elim (get_cases steps o p r at') [
         | inl before ↦
             let m = t.only r (slice_get_within steps r p before) in
-            record { entry = m.entry; below = m.below; at = subst (λ z. slice_get kept m.entry ≡ Some z) (one_of steps r m.told.order p m.told.stands before) m.told.at }
+            record { entry = m.entry; below = m.below; at = subst (λ z. slice_get kept m.entry ≡ Some z) (same_item steps r m.told.order p m.told.stands before) m.told.at }
         | inr last ↦ absurd (omega (arith, last.0, lt))
       ];
     }
 
     told : AreStepsTold ss later new
     told =
-        let same : s.order ≡ o = one_of kept i s.order o s.at at in
+        let same : s.order ≡ o = same_item kept i s.order o s.at at in
         let Refuted : ChainOrder → Type 0 = λ z. Follows (log_of ss) (turned z) (q.edge.0, q.edge.1) in
         let all : AreStepsTold ss later (items ++ (item.Step (length steps + 1) o q.edge.0 q.edge.1 ∷ h.against)) =
         step steps items t.told o (subst (IsOrder (log_of ss)) same s.two_chains) q.edge.0 q.edge.1 (subst Refuted same s.refuted) s.ends.inner h.against (subst (λ l. IsLineTold ss steps [] l h.against) s.ends.shape h.line) in
@@ -287,7 +288,7 @@ told_step ss kept posts marks steps next i o q items new is at here marked s mor
       walks = λ k p lt at' m. elim (cases_lt k i) [
         | inl below ↦ edges_later ss steps o p.walk items new front (t.walks k p below at' m)
         | inr ge ↦ (let last : i ≡ k = omega (arith, lt, ge) in
-            let one : q ≡ p = one_of posts k q p (ap (slice_get posts) (sym last) ∙ here) at' in
+            let one : q ≡ p = same_item posts k q p (ap (slice_get posts) (sym last) ∙ here) at' in
             subst (λ (z : Posted). AreEdgesTold ss later z.walk new) one own)
       ];
     }
@@ -324,7 +325,7 @@ told_for ss kept entries marks steps items lines count t covered need = record {
             let i = w.edge.place in
             let a = get_or walk i 0 in
             let b = get_or walk (i + 1) 0 in
-            let below : w.entry < length kept = omega (arith, slice_get_within (posts_in entries) w.entry w.post w.at, posts_many entries, count) in
+            let below : w.entry < length kept = omega (arith, slice_get_within (posts_in entries) w.entry w.post w.at, length_posts entries, count) in
             inl (edge_named ss steps [] a b s m.told.order items ((t.walks w.entry w.post below w.at w.marked).each i w.edge.within) w.edge.edge.none (first_with ss kept steps (a, b) m.entry s w.edge.edge.first m.told)))
       ]);
 }

@@ -5,13 +5,14 @@ use Rattle.std.proofs.lemmas.Bool.{cases_eq}
 use Rattle.std.proofs.lemmas.Bool.Decides.{nat_tests}
 use Rattle.std.proofs.lemmas.List.{length-append, length_push}
 use Rattle.std.proofs.lemmas.List.Sums.{sum_by-cons}
+use Rattle.std.proofs.lemmas.Option.{same_Some}
 use Rattle.serializability.specs.Polygraph.{Polygraph}
 use Rattle.cube_laws.specs.declared.tree.CubeDecision.{CubeDecision}
 use Rattle.cube_laws.specs.declared.tree.Growth.{Growth}
 use Rattle.cube_laws.specs.declared.tree.Growth.TheVariants.{Leaf, Inner}
 use Rattle.cube_laws.specs.declared.tree.TreeNode.{TreeNode}
 use Rattle.cube_laws.specs.Trees.{IsRefutationTree}
-use Rattle.cube_laws.proofs.Lists.{some_is, within, append_at}
+use Rattle.cube_laws.proofs.Lists.{within, append_at}
 use Rattle.pruning_laws.specs.declared.side.Side.TheVariants.{One, Two}
 use Rattle.tell_trees.specs.declared.visits.Visit.{Visit}
 use Rattle.tell_trees.specs.declared.TheConstants.{MAX_LEAVES}
@@ -54,7 +55,7 @@ below_at [] k j x at later = absurd (cc)
 below_at (y ∷ ys) k zero x at later =
     let here : below (y ∷ ys) k (k + 0) ≡ grown y.growth (below ys (suc k)) = grind (arith, nat_tests) in
     here
-    ∙ ap (λ (z : TreeNode). grown z.growth (below ys (suc k))) (some_is y x at)
+    ∙ ap (λ (z : TreeNode). grown z.growth (below ys (suc k))) (same_Some y x at)
     ∙ grown_same x.growth k (below ys (suc k)) (below (y ∷ ys) k) (later_less x.growth k (k + 0) (omega arith) later) (λ i lt. sym (below_other y ys k i lt))
 below_at (y ∷ ys) k (suc j) x at later =
     let n : k + suc j ≡ suc k + j = omega arith in
@@ -148,7 +149,7 @@ module _ (p : Polygraph) (nodes : List TreeNode) (t : IsRefutationTree p nodes) 
     children (Leaf line) is =
         let none = none_of f i (suc i) xs (λ j y at e. (
         let b = t.below (suc i + j) y (omega arith) (there_at j ∙ at) in
-        let parent_is = some_is b.parent x (sym b.here ∙ ap (slice_get nodes) e ∙ here) in
+        let parent_is = same_Some b.parent x (sym b.here ∙ ap (slice_get nodes) e ∙ here) in
         let inner = sym (ap (λ (z : TreeNode). z.growth) parent_is) ∙ b.split in
         let leaf = sym is ∙ inner in
         absurd (cc))) in
@@ -156,16 +157,16 @@ module _ (p : Polygraph) (nodes : List TreeNode) (t : IsRefutationTree p nodes) 
     children (Inner c first second) is =
         let s = t.inner i x c first second here is in
         let apart : first ≡ second → ⊥ = λ e. (
-        let same = some_is s.one.node s.two.node (sym s.one.here ∙ ap (slice_get nodes) e ∙ s.two.here) in
+        let same = same_Some s.one.node s.two.node (sym s.one.here ∙ ap (slice_get nodes) e ∙ s.two.here) in
         let sides = sym s.one.decision ∙ ap (λ (z : TreeNode). z.decision) same ∙ s.two.decision in
-        let one : One ≡ Two = ap (λ (d : CubeDecision). d.side) (some_is (record { choice = c; side = One }) (record { choice = c; side = Two }) sides) in
+        let one : One ≡ Two = ap (λ (d : CubeDecision). d.side) (same_Some (record { choice = c; side = One }) (record { choice = c; side = Two }) sides) in
         absurd (cc)) in
         let la = within nodes first s.one.node s.one.here in let lb = within nodes second s.two.node s.two.here in
         let two = two_of f i first second (suc i) xs apart (omega (arith, la, size)) (omega (arith, lb, size))
         (λ j y at e. s.only (suc i + j) y (omega arith) (there_at j ∙ at) e)
         (λ j y at e. elim e [
-          | inl k ↦ ap (λ (z : TreeNode). z.parent) (some_is y s.one.node (sym at ∙ sym (there_at j) ∙ ap (slice_get nodes) k ∙ s.one.here)) ∙ s.one.parent
-          | inr k ↦ ap (λ (z : TreeNode). z.parent) (some_is y s.two.node (sym at ∙ sym (there_at j) ∙ ap (slice_get nodes) k ∙ s.two.here)) ∙ s.two.parent
+          | inl k ↦ ap (λ (z : TreeNode). z.parent) (same_Some y s.one.node (sym at ∙ sym (there_at j) ∙ ap (slice_get nodes) k ∙ s.one.here)) ∙ s.one.parent
+          | inr k ↦ ap (λ (z : TreeNode). z.parent) (same_Some y s.two.node (sym at ∙ sym (there_at j) ∙ ap (slice_get nodes) k ∙ s.two.here)) ∙ s.two.parent
         ]) in
         grind (arith, nat_tests, two, s.one.later, s.two.later)
 

@@ -20,13 +20,13 @@ use Rattle.known_graph.specs.Tests.{has_edge}
 use Rattle.known_graph.proofs.Tested.{edge_in, has_contained, walk_of}
 use Rattle.chain_laws.specs.Chains.{chain_polygraph}
 use Rattle.log_definitions.specs.Numbers.{log_of}
+use Rattle.known_graph.proofs.Rows.{edge_append}
 use Rattle.prune_ledger.specs.Ledger.{edges_after}
 use Rattle.prune_ledger.specs.Pruned.{kept_by}
 use Rattle.prune_ledger.specs.declared.ledger.LedgerEntry.{LedgerEntry}
 use Rattle.cube_laws.specs.Cubes.{Cube, edges_under}
 use Rattle.cube_laws.specs.Steps.{is_cycle}
 use Rattle.cube_machine.specs.Sides.{side_in, cube_edges}
-use Rattle.side_edges.proofs.Listed.{edge_append}
 use Rattle.cube_machine.proofs.Edges.{under_is}
 use Rattle.cube_laws.specs.declared.tree.Growth.{Growth}
 use Rattle.cube_laws.specs.declared.tree.Growth.TheVariants.{Leaf, Inner}

@@ -3,6 +3,7 @@ use Rattle.std.proofs.Common.{◌≡◌, ℕ, zero, suc, ◌<◌, ◌≤◌, Lis
 use Rattle.std.specs.Prelude.{slice_get}
 use Rattle.std.specs.List.{All}
 use Rattle.std.proofs.lemmas.List.Elements.{All-nil, All-cons}
+use Rattle.std.proofs.lemmas.Option.{same_Some}
 use Rattle.serializability.specs.Polygraph.{Polygraph}
 use Rattle.pruning_laws.specs.declared.side.Side.{Side}
 use Rattle.pruning_laws.specs.declared.side.Side.TheVariants.{One, Two}
@@ -10,7 +11,7 @@ use Rattle.pruning_laws.specs.Ledger.{Entry}
 use Rattle.cube_laws.specs.declared.tree.CubeDecision.{CubeDecision}
 use Rattle.cube_laws.specs.declared.tree.TreeNode.{TreeNode}
 use Rattle.cube_laws.specs.Trees.{cube_below, cube_of, IsChild, IsRefutationTree}
-use Rattle.cube_laws.proofs.Lists.{some_is, within}
+use Rattle.cube_laws.proofs.Lists.{within}
 use Rattle.cube_laws.proofs.Upward.{cube_under, cube_top}
 use Rattle.tell_trees.specs.Visits.{IsTree, DecidesAmong}
 
@@ -23,7 +24,7 @@ pub record IsMade (choices : ℕ) (x : TreeNode) (i : ℕ) : Type 0 where
 
 module _ (p : Polygraph) (nodes : List TreeNode) (t : IsRefutationTree p nodes) where
   pub root_decides : (x : TreeNode) → slice_get nodes 0 ≡ Some x → x.decision ≡ None
-  root_decides x at = let r = t.root in ap (λ (z : TreeNode). z.decision) (some_is x r.node (sym at ∙ r.here)) ∙ r.decision
+  root_decides x at = let r = t.root in ap (λ (z : TreeNode). z.decision) (same_Some x r.node (sym at ∙ r.here)) ∙ r.decision
 
   pub root_cube : cube_of nodes 0 ≡ []
   root_cube = let r = t.root in let decision = r.decision in cube_top nodes 0 r.node r.here (omega arith) ∙ ap (cube_below []) decision
@@ -38,7 +39,7 @@ module _ (p : Polygraph) (nodes : List TreeNode) (t : IsRefutationTree p nodes) 
       cube_under nodes j k.node k.here lt ∙ (λ h. cube_below (cube_of nodes (parent h)) (decision h))
 
   child_made : (i c : ℕ) (side : Side) (j : ℕ) → c < length p.choices → IsChild nodes i c side j → (x : TreeNode) → slice_get nodes j ≡ Some x → x.decision ≡ Some (record { choice = c; side = side })
-  child_made i c side j lt k x at = ap (λ (z : TreeNode). z.decision) (some_is x k.node (sym at ∙ k.here)) ∙ k.decision
+  child_made i c side j lt k x at = ap (λ (z : TreeNode). z.decision) (same_Some x k.node (sym at ∙ k.here)) ∙ k.decision
 
   pub made_at : (i : ℕ) (x : TreeNode) → 0 < i → slice_get nodes i ≡ Some x → IsMade (length p.choices) x i
   made_at i x low at =
@@ -98,7 +99,7 @@ module _ (p : Polygraph) (nodes : List TreeNode) (t : IsRefutationTree p nodes) 
       at_node zero x d at e = absurd (let none = root_decides x at in cc)
       at_node (suc i) x d at e =
           let m = made_at (suc i) x (omega arith) at in
-          let same : m.made ≡ d = some_is m.made d (sym m.is ∙ e) in
+          let same : m.made ≡ d = same_Some m.made d (sym m.is ∙ e) in
           subst (λ (z : CubeDecision). z.choice < length p.choices) same m.among
 
 -- ---- the way up

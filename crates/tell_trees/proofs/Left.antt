@@ -9,8 +9,8 @@ use Rattle.pruning_laws.specs.Forced.{kept_from, open_from}
 use Rattle.pruning_laws.specs.Ledger.{Entry, sides_in}
 use Rattle.chain_laws.specs.Chains.{chain_polygraph, chain_choices}
 use Rattle.log_definitions.specs.Numbers.{log_of}
-use Rattle.prune_ledger.specs.Ledger.{edges_after, AreShown}
-use Rattle.prune_ledger.specs.Pruned.{kept_by, posts_in, Remainder}
+use Rattle.prune_ledger.specs.Ledger.{edges_after}
+use Rattle.prune_ledger.specs.Pruned.{kept_by, Remainder}
 use Rattle.prune_ledger.specs.declared.ledger.LedgerEntry.{LedgerEntry}
 use Rattle.reduction.specs.Outcome.{IsOpenHistory}
 use Rattle.cube_laws.specs.declared.tree.TreeNode.{TreeNode}
@@ -19,7 +19,7 @@ use Rattle.cube_laws.proofs.Lists.{within, map_length}
 use Rattle.tell_reasons.specs.declared.why.ChainOrder.{ChainOrder}
 use Rattle.tell_steps.specs.View.{StepsView}
 use Rattle.tell_steps.specs.Orders.{choice_of}
-use Rattle.tell_steps.specs.Lines.{HasLedger, IsNeededIn}
+use Rattle.tell_steps.specs.Lines.{IsNeededIn}
 use Rattle.tell_steps.specs.Steps.{IsOrder, AreStepsTold, IsNamed}
 use Rattle.tell_steps.specs.declared.item.Item.{Item}
 use Rattle.tell_steps.proofs.Telling.{named_among}
@@ -46,14 +46,6 @@ module _ (p : Polygraph) (log : Log) (known : (e : Edge) → (Contains p.known e
     | inl a ↦ Contains-append_left p.known (kept_from (sides_in kept) 0 p.choices) e ((known e).1 a)
     | inr b ↦ Contains-append_right p.known (kept_from (sides_in kept) 0 p.choices) e (subst (λ (cs : List Choice). Contains (kept_from (sides_in kept) 0 cs) e) (sym choices) b)
   ]
-
-pub left_ledger : (ss : List ClientSession) (r : Remainder) → IsOpenHistory ss r → (entries : List LedgerEntry) → entries ≡ r.ledger.entries.items → HasLedger ss entries
-left_ledger ss r h entries e = record {
-  poly = h.poly;
-  known = h.unpruned.chained.known;
-  choices = h.unpruned.chained.choices;
-  shown = subst (λ (xs : List LedgerEntry). AreShown h.poly [] (posts_in xs)) (sym e) h.left.ledger.shown;
-}
 
 pub left_orders : (ss of_chains : List ClientSession) (r : Remainder) → IsOpenHistory ss r → (entries : List LedgerEntry) → entries ≡ r.ledger.entries.items → of_chains ≡ ss → (orders : List ChainOrder)
     → AreOrdersOf (log_of of_chains) (open_from (sides_in (kept_by entries)) 0 (chain_choices (log_of of_chains))) orders → AreOrdersOf (log_of ss) r.poly.choices orders

@@ -1,13 +1,9 @@
 -- The lines of visited nodes, one behind the other.
-use Rattle.std.proofs.Common.{◌≡◌, ℕ, ◌+◌, ◌<◌, List, [], ◌∷◌, ◌++◌, length, map, take, get_or, Option, Some, None, refl, sym, ap, ◌∙◌, Bor}
+use Rattle.std.proofs.Common.{◌≡◌, ℕ, ◌+◌, ◌<◌, List, [], ◌∷◌, ◌++◌, length, map, take, get_or, Option, Some, None, sym, ap, ◌∙◌, Bor}
 use Rattle.std.specs.List.{filter_map, cons_option}
-use Rattle.std.proofs.lemmas.List.{take_more}
+use Rattle.std.proofs.lemmas.List.{take_more, append-nil}
 use Rattle.std.proofs.lemmas.List.Elements.{filter_map-append}
 use Rattle.cube_laws.proofs.Lists.{map_append}
-
-append_nil : {A : Type 0} (xs : List A) → xs ++ [] ≡ xs
-append_nil [] = refl
-append_nil (x ∷ xs) = ap (λ l. x ∷ l) (append_nil xs)
 
 module _ {A : Type 0} (f : A → Option (List ℕ)) (xs : List A) (i : ℕ) (d : A) (lt : i < length xs) (lines next : List (Bor (List ℕ))) (so_far : map (λ (l : Bor (List ℕ)). l.now) lines ≡ filter_map f (take i xs)) where
   one_more : filter_map f (take (i + 1) xs) ≡ filter_map f (take i xs) ++ cons_option (f (get_or xs i d)) []
@@ -25,6 +21,6 @@ module _ {A : Type 0} (f : A → Option (List ℕ)) (xs : List A) (i : ℕ) (d :
   line_kept e next_is =
       ap (map (λ (l : Bor (List ℕ)). l.now)) next_is
       ∙ so_far
-      ∙ sym (append_nil (filter_map f (take i xs)))
+      ∙ sym (append-nil (filter_map f (take i xs)))
       ∙ ap (λ o. filter_map f (take i xs) ++ cons_option o []) e
       ∙ sym one_more

@@ -1,32 +1,25 @@
 -- The orders that a ledger leaves open.
 use Rattle.std.proofs.Common.{◌≡◌, ℕ, ◌+◌, ◌<◌, Bool, true, false, cond, eqb, ◌&&◌, ◌||◌, List, [], ◌∷◌, length, map, refl, sym, ap, ◌∙◌, subst, arith}
 use Rattle.std.proofs.Math.Bool.{or_assoc, or_comm, or-false}
-use Rattle.std.proofs.lemmas.Bool.Decides.{nat_tests}
 use Rattle.std.specs.Prelude.{slice_index_or, Result, Ok, Err, IfOk}
 use Rattle.std.specs.List.{All, list_any}
 use Rattle.std.proofs.lemmas.List.Elements.{All-nil, All-cons, All-head, All-tail}
+use Rattle.list_lemmas.proofs.Bools.{either_way}
 use Rattle.serializability.specs.Log.{Log}
 use Rattle.serializability.specs.Polygraph.{Choice}
-use Rattle.pruning_laws.specs.declared.side.Side.{Side}
 use Rattle.pruning_laws.specs.declared.side.Side.TheVariants.{One, Two}
 use Rattle.pruning_laws.specs.Forced.{Sides, open_from}
 use Rattle.pruning_laws.specs.Ledger.{Entry, same_side, sides_in}
 use Rattle.prune_ledger.specs.Ledger.{kept_side, kept_after}
 use Rattle.prune_ledger.specs.Pruned.{kept_by, posts_in}
 use Rattle.prune_ledger.specs.declared.ledger.LedgerEntry.{LedgerEntry}
+use Rattle.cube_machine.proofs.Flags.{some_side}
 use Rattle.tell_reasons.specs.declared.why.ChainOrder.{ChainOrder}
 use Rattle.tell_steps.specs.Orders.{choice_of}
 use Rattle.tell_steps.specs.Steps.{IsOrder}
 use Rattle.tell_trees.specs.Orders.{AreOrdersOf, names_choice, AreFlags, unsettled_from}
 
 -- ---- a side is kept where an entry speaks of its choice
-either_way : (a b c d : Bool) → ((a || b) || (c || d)) ≡ ((a || c) || (b || d))
-either_way a b c d = grind (arith, nat_tests)
-
-either_side : (b : Bool) (s : Side) → ((b && same_side s One) || (b && same_side s Two)) ≡ b
-either_side true One = refl
-either_side true Two = refl
-either_side false s = refl
 
 abbrev named_in : List Entry → ℕ → Bool
 named_in entries c = list_any (λ e. eqb e.0 c) entries
@@ -35,7 +28,7 @@ kept_named : (kept : List Entry) (c : ℕ) → (sides_in kept c One || sides_in 
 kept_named [] c = refl
 kept_named (e ∷ kept) c =
     either_way (eqb e.0 c && same_side e.1 One) (sides_in kept c One) (eqb e.0 c && same_side e.1 Two) (sides_in kept c Two)
-    ∙ (λ i. either_side (eqb e.0 c) e.1 i || kept_named kept c i)
+    ∙ (λ i. some_side (eqb e.0 c) e.1 i || kept_named kept c i)
 
 named_after : (kept : List Entry) (entries : List LedgerEntry) (c : ℕ) → named_in (kept_after kept (posts_in entries)) c ≡ (names_choice entries c || named_in kept c)
 named_after kept [] c = refl

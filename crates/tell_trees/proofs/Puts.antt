@@ -1,14 +1,14 @@
 -- What is appended for visited nodes.
-use Rattle.std.proofs.Common.{◌≡◌, ℕ, ◌+◌, ◌-◌, ◌<◌, List, [], ◌∷◌, ◌++◌, length, map, get_or, Option, Some, None, refl, sym, ap, ◌∙◌, subst, append_assoc, arith}
+use Rattle.std.proofs.Common.{◌≡◌, ℕ, ◌<◌, List, [], ◌∷◌, ◌++◌, length, map, Option, Some, None, refl, sym, ap, ◌∙◌, subst, append_assoc, arith}
 use Rattle.std.proofs.lemmas.List.{append-nil}
 use Rattle.std.specs.Prelude.{slice_get, IfSome, option_and_then}
 use Rattle.cube_laws.specs.declared.tree.CubeDecision.{CubeDecision}
 use Rattle.cube_laws.specs.declared.tree.TreeNode.{TreeNode}
 use Rattle.std.specs.Option.{option_map}
-use Rattle.cube_laws.proofs.Lists.{some_is, there}
+use Rattle.std.proofs.lemmas.Option.{same_Some}
+use Rattle.cube_laws.proofs.Lists.{there}
 use Rattle.tell_reasons.specs.declared.why.ChainOrder.{ChainOrder}
 use Rattle.tell_steps.specs.View.{StepsView}
-use Rattle.tell_steps.specs.Told.{IsPut, IsRoundTold}
 use Rattle.tell_steps.specs.declared.item.Item.{Item}
 use Rattle.tell_steps.specs.declared.item.Item.TheVariants as item
 use Rattle.tell_trees.specs.declared.visits.Visit.{Visit}
@@ -21,16 +21,6 @@ use Rattle.tell_trees.proofs.Tellings.{told_more}
 -- ---- a leaf
 pub line_can : (s : StepsView) (decided : List ChainOrder) (o : Option (List ℕ)) (line : List ℕ) → Some line ≡ o → IfSome o (CanTell s decided) → CanTell s decided line
 line_can s decided o line e c = subst (λ (z : Option (List ℕ)). IfSome z (CanTell s decided)) (sym e) c
-
-pub leaf_added : (s : StepsView) (decided same : List ChainOrder) (o : Option (List ℕ)) (line : List ℕ) (old now : List Item) → Some line ≡ o → decided ≡ same → IsPut old now (IsRoundTold s.sessions s.orders decided line) → AddsLeaf s same o old now
-leaf_added s decided same o line old now e f p =
-    let a : AddsLeaf s decided (Some line) old now = record { cycle = p.items; added = p.appended; told = p.kind } in
-    subst (λ (z : Option (List ℕ)). AddsLeaf s same z old now) e (subst (λ (d : List ChainOrder). AddsLeaf s d (Some line) old now) f a)
-
-pub no_leaf_added : (s : StepsView) (decided : List ChainOrder) (o : Option (List ℕ)) (old : List Item) → None ≡ o → AddsLeaf s decided o old old
-no_leaf_added s decided o old e =
-    let none : AddsLeaf s decided None old old = record { cycle = []; added = sym (append-nil old); told = refl } in
-    subst (λ (z : Option (List ℕ)). AddsLeaf s decided z old old) e none
 
 -- ---- a visited node
 pub visit_added : (s : StepsView) (orders : List ChainOrder) (nodes : List TreeNode) (v : Visit) (x : TreeNode) (old mid now : List Item) → slice_get nodes v.node ≡ Some x → mid ≡ old ++ decision_items orders v.depth x.decision
@@ -78,7 +68,7 @@ module _ (orders : List ChainOrder) (nodes : List TreeNode) (t : IsTree nodes) (
     here = decided_by nodes i (Some d) within_nodes made
 
     parent_is : parent ≡ here.0.parent
-    parent_is = some_is parent here.0.parent (up ∙ ap (λ (z : Option TreeNode). option_map (λ (x : TreeNode). x.parent) z) here.1.0)
+    parent_is = same_Some parent here.0.parent (up ∙ ap (λ (z : Option TreeNode). option_map (λ (x : TreeNode). x.parent) z) here.1.0)
 
     pub parent_lower : parent < i
     parent_lower = omega (arith, up_before nodes t i here.0 d here.1.0 here.1.1, parent_is)

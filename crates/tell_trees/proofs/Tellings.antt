@@ -4,6 +4,7 @@ use Rattle.std.proofs.lemmas.List.{append-nil}
 use Rattle.std.specs.Prelude.{slice_get, option_and_then}
 use Rattle.std.specs.List.{All, Contains, filter_map, cons_option}
 use Rattle.std.proofs.lemmas.List.Elements.{Contains-append_left, Contains-append_right}
+use Rattle.std.proofs.lemmas.Option.{same_Some}
 use Rattle.known_graph.proofs.Listed.{In, In-from_Contains}
 use Rattle.serializability.specs.Polygraph.{Polygraph}
 use Rattle.pruning_laws.specs.declared.side.Side.{Side}
@@ -13,7 +14,6 @@ use Rattle.cube_laws.specs.declared.tree.Growth.{Growth}
 use Rattle.cube_laws.specs.declared.tree.Growth.TheVariants.{Leaf, Inner}
 use Rattle.cube_laws.specs.declared.tree.TreeNode.{TreeNode}
 use Rattle.cube_laws.specs.Trees.{cube_of, IsChild, IsRefutationTree}
-use Rattle.cube_laws.proofs.Lists.{some_is}
 use Rattle.tell_reasons.specs.declared.why.ChainOrder.{ChainOrder}
 use Rattle.tell_steps.specs.View.{StepsView}
 use Rattle.tell_steps.specs.Steps.{turned, IsOrder, IsCycleTold, IsNamed}
@@ -100,7 +100,7 @@ module _ (s : StepsView) (orders : List ChainOrder) (nodes : List TreeNode) wher
   module _ (p : Polygraph) (t : IsRefutationTree p nodes) (each : All (IsOrder (log_of s.sessions)) orders) (count : length orders ≡ length p.choices) where
     child_decides : (i c : ℕ) (side : Side) (j : ℕ) → IsChild nodes i c side j → (y : TreeNode) → slice_get nodes j ≡ Some y → decision_items orders (length (cube_of nodes j)) y.decision ≡ item.Decided (length (cube_of nodes i)) (order_at orders (c, side)) ∷ []
     child_decides i c side j k y at =
-        let decision : y.decision ≡ Some (record { choice = c; side = side }) = ap (λ (z : TreeNode). z.decision) (some_is y k.node (sym at ∙ k.here)) ∙ k.decision in
+        let decision : y.decision ≡ Some (record { choice = c; side = side }) = ap (λ (z : TreeNode). z.decision) (same_Some y k.node (sym at ∙ k.here)) ∙ k.decision in
         let one : length (cube_of nodes j) ≡ length ((c, side) ∷ cube_of nodes i) = ap length (child_cube p nodes t i c side j k) in
         let depth : length (cube_of nodes j) - 1 ≡ length (cube_of nodes i) = omega (arith, one) in
         ap (decision_items orders (length (cube_of nodes j))) decision ∙ ap (λ z. item.Decided z (order_at orders (c, side)) ∷ []) depth

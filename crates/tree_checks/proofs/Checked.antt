@@ -3,6 +3,7 @@ use Rattle.std.proofs.Common.{◌≡◌, ◌⊎◌, ℕ, zero, suc, ◌+◌, ◌
 use Rattle.std.specs.Prelude.{slice_get, nat_lt, is_none}
 use Rattle.std.specs.Option.{option_map_or}
 use Rattle.std.proofs.lemmas.Bool.{false≢true, and_parts, and_from, or_cases, or_left, or_right, not-true, ltb-true, lt-ltb, eqb-true, eq-eqb, ne_eqb, not_from_false}
+use Rattle.std.proofs.lemmas.Option.{same_Some}
 use Rattle.serializability.specs.Polygraph.{Choice, Polygraph, KeepsOne, Fits}
 use Rattle.pruning_laws.specs.declared.side.Side.{Side}
 use Rattle.pruning_laws.specs.declared.side.Side.TheVariants.{One, Two}
@@ -18,7 +19,7 @@ use Rattle.cube_laws.specs.declared.tree.Growth.TheVariants.{Leaf, Inner}
 use Rattle.cube_laws.specs.declared.tree.TreeNode.{TreeNode}
 use Rattle.cube_laws.specs.Trees.{cube_below, cube_of, IsChild, IsSplit, IsBelow, IsRoot, IsRefutationTree}
 use Rattle.tree_checks.specs.Checks.{decides_side, is_child, has_child, is_below, is_root, is_grown, is_sound}
-use Rattle.cube_laws.proofs.Lists.{some_is, within}
+use Rattle.cube_laws.proofs.Lists.{within}
 use Rattle.cube_laws.proofs.Growths.{first_is, second_is}
 use Rattle.cube_laws.proofs.Upward.{cube_under, cube_top}
 
@@ -143,7 +144,7 @@ module _ (p : Polygraph) (nodes : List TreeNode) (all : AllSound p nodes) where
   only_at i y c first second at split j x lt e same =
       let h = parent_at j x lt e in
       let n = h.names in
-      let one : h.parent ≡ y = some_is h.parent y (sym h.here ∙ ap (slice_get nodes) same ∙ at) in
+      let one : h.parent ≡ y = same_Some h.parent y (sym h.here ∙ ap (slice_get nodes) same ∙ at) in
       let g : Inner n.choice n.first n.second ≡ Inner c first second = sym n.split ∙ ap (λ (z : TreeNode). z.growth) one ∙ split in
       elim n.named [
         | inl a ↦ inl (a ∙ first_is n.choice c n.first n.second first second g)
@@ -183,7 +184,7 @@ module _ (p : Polygraph) (nodes : List TreeNode) (t : IsRefutationTree p nodes) 
 
   placed_from : (i : ℕ) (x : TreeNode) → slice_get nodes i ≡ Some x → cond (eqb i 0) (is_root x) (is_below nodes i x) ≡ true
   placed_from zero x e =
-      let same : t.root.node ≡ x = some_is t.root.node x (sym t.root.here ∙ e) in
+      let same : t.root.node ≡ x = same_Some t.root.node x (sym t.root.here ∙ e) in
       let parent = ap (λ (z : TreeNode). z.parent) (sym same) ∙ t.root.parent in
       let decision = ap (λ (z : TreeNode). z.decision) (sym same) ∙ t.root.decision in
       and_from (eqb x.parent 0) (is_none x.decision) (eq-eqb x.parent 0 parent) (ap is_none decision)

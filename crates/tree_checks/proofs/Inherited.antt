@@ -5,9 +5,9 @@ use Rattle.std.proofs.lemmas.Bool.{or_left}
 use Rattle.serializability.specs.Polygraph.{Edge, Polygraph}
 use Rattle.known_graph.specs.Tests.{has_edge}
 use Rattle.known_graph.proofs.Bools.{or_second}
+use Rattle.known_graph.proofs.Rows.{edge_append}
 use Rattle.cube_laws.specs.Cubes.{Cube, is_decided, edges_under}
 use Rattle.cube_machine.specs.Sides.{side_in, cube_edges}
-use Rattle.side_edges.proofs.Listed.{edge_append}
 use Rattle.cube_machine.proofs.Edges.{under_is}
 use Rattle.cube_laws.specs.declared.tree.CubeDecision.{CubeDecision}
 use Rattle.cube_laws.specs.declared.tree.TreeNode.{TreeNode}

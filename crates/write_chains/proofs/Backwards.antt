@@ -12,7 +12,7 @@ use Rattle.serializability.proofs.Places.{Has, Apart, Apart-from_IsDistinct}
 use Rattle.serializability.proofs.Sources.{source_is}
 use Rattle.session_history.specs.Tables.{writers_in}
 use Rattle.chain_laws.specs.Chains.{next, IsLinked, last, IsClosedChain, NoneCloses}
-use Rattle.chain_laws.proofs.Walks.{IsNext, next_from, one_some}
+use Rattle.chain_laws.proofs.Walks.{IsNext, next_from, some_one}
 use Rattle.chain_laws.proofs.Closed.{last_push, linked_push}
 use Rattle.chain_laws.proofs.Maximal.{below_all}
 use Rattle.reach_laws.proofs.Walks.{each_contained}
@@ -66,7 +66,7 @@ not_again log clean x v s [] b k a h = h
 not_again log clean x v s (u ∷ rest) b k a (inl e) =
     let there = next_from log clean x s (last u rest) k in
     let here = next_from log clean x u v b.0 in
-    let same : v ≡ last u rest = one_some (next log x s) v (last u rest) (ap (next log x) (sym e) ∙ here) there in
+    let same : v ≡ last u rest = some_one (next log x s) v (last u rest) (ap (next log x) (sym e) ∙ here) there in
     a.0 (subst (λ q. Has q (u ∷ rest)) (sym same) (last_among u rest))
 not_again log clean x v s (u ∷ rest) b k a (inr h) = not_again log clean x u s rest b.1 k a.1 h
 
@@ -109,9 +109,6 @@ line_short log x writer first line w =
     let many = length-le_from_distinct_below (writer ∷ w.rest) (log.nodes + 1) w.apart (below_all log.nodes (writer ∷ w.rest) w.within) in
     let same = ap length w.shape in
     omega (arith, many, same)
-
-pub first_within : (log : Log) (x writer first : ℕ) (line : List ℕ) → WalkedBack log x writer first line → first ≤ log.nodes
-first_within log x writer first line w = source_high log x first w.kind
 
 -- ---- a way that comes back
 record Reversed (log : Log) (x v : ℕ) (rest : List ℕ) : Type 0 where
@@ -193,7 +190,7 @@ never_open : (log : Log) (x steps v : ℕ) → Closing log x v → IsOpenIn log 
 never_open log x zero v c o = let r = source_closing log x v c in let bad : None ≡ Some r.0 = sym o ∙ r.1.0 in cc
 never_open log x (suc steps) v c o =
     let r = source_closing log x v c in
-    let same : r.0 ≡ o.0 = one_some (source log v x) r.0 o.0 r.1.0 o.1.0 in
+    let same : r.0 ≡ o.0 = some_one (source log v x) r.0 o.0 r.1.0 o.1.0 in
     never_open log x steps o.0 (subst (Closing log x) same r.1.1) o.1.1
 
 linked_writer : (log : Log) (x u v : ℕ) (rest : List ℕ) → IsLinked log x u rest → Has v rest → IsOneWriter log x v

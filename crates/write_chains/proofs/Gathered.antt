@@ -14,6 +14,7 @@ use Rattle.chain_laws.specs.Chains.{readers, reads_key}
 use Rattle.write_chains.specs.declared.readings.Reading.{Reading}
 use Rattle.write_chains.specs.Readings.{readings_among, readings_in, readings_by, readers_among}
 use Rattle.serializability.proofs.Sources.{source_within}
+use Rattle.serializability.proofs.SoFar.{range_last}
 
 abbrev pub reading : ℕ → ℕ → Reading
 reading r w = record { reader = r; source = w }
@@ -24,7 +25,7 @@ by_pairs r x [] = []
 by_pairs r x (p ∷ ps) = cond (eqb p.0 x) (reading r p.1 ∷ []) [] ++ by_pairs r x ps
 
 -- a read, by key and source
-abbrev pair_of : ReadFrom → ℕ × ℕ
+abbrev pub pair_of : ReadFrom → ℕ × ℕ
 pair_of r = (r.key, r.source)
 
 from_pairs : (r x : ℕ) (reads : List ReadFrom) → readings_by r x reads ≡ by_pairs r x (map pair_of reads)
@@ -73,16 +74,13 @@ readings_push r x [] read = grind (arith, append-nil)
 readings_push r x (a ∷ front) read = grind (arith, append-nil, readings_push r x front read)
 
 -- ---- node by node
-pub range_push : (a n : ℕ) → range_with_len a (n + 1) ≡ range_with_len a n ++ (a + n) ∷ []
-range_push a zero = grind arith
-range_push a (suc n) = grind (arith, range_push (a + 1) n)
 
 pub readings_further : (log : Log) (x r : ℕ) → 0 < r → readings_among log x (range_with_len 1 (r - 1)) ++ readings_among log x (r ∷ []) ≡ readings_among log x (range_with_len 1 (r + 1 - 1))
 readings_further log x r lo =
     let number : 1 + (r - 1) ≡ r = omega arith in
     let length : r - 1 + 1 ≡ r + 1 - 1 = omega arith in
     sym (filter_map-append (λ v. option_map (reading v) (source log v x)) (range_with_len 1 (r - 1)) (r ∷ []))
-    ∙ ap (readings_among log x) (ap (λ v. range_with_len 1 (r - 1) ++ v ∷ []) (sym number) ∙ sym (range_push 1 (r - 1)) ∙ ap (range_with_len 1) length)
+    ∙ ap (readings_among log x) (ap (λ v. range_with_len 1 (r - 1) ++ v ∷ []) (sym number) ∙ sym (range_last 1 (r - 1)) ∙ ap (range_with_len 1) length)
 
 -- ---- the keys that a node reads
 keys_below : (log : Log) (r : ℕ) (n : ℕ) (o : Option ℕ) (x : ℕ) (ps : List (ℕ × ℕ)) → x < n → AllByRecursion (λ (p : ℕ × ℕ). p.0 < n) ps → AllByRecursion (λ (p : ℕ × ℕ). p.0 < n) (cons_option (option_map (λ w. (x, w)) o) ps)

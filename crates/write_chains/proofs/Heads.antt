@@ -1,5 +1,5 @@
 -- The heads of a key among its writers, and where walks along a table end.
-use Rattle.std.proofs.Common.{◌≡◌, ℕ, zero, suc, Bool, true, false, ◌&&◌, not, List, [], ◌∷◌, ◌++◌, Option, None, Some, refl, ap, arith}
+use Rattle.std.proofs.Common.{◌≡◌, ℕ, zero, suc, Bool, true, false, not, List, [], ◌∷◌, ◌++◌, Option, None, Some, refl, ap, arith}
 use Rattle.std.specs.Prelude.{is_some, map}
 use Rattle.std.specs.List.{filter}
 use Rattle.std.specs.Option.{option_map_or}
@@ -11,14 +11,11 @@ use Rattle.write_chains.specs.Walks.{end_by}
 use Rattle.write_chains.specs.Views.{ChainView, chain_from}
 use Rattle.std.proofs.lemmas.List.{append-nil, map-append}
 use Rattle.std.proofs.lemmas.List.Elements.{filter-append}
+use Rattle.list_lemmas.proofs.Lists.{filter_both}
 
 -- whether v reads the key from nobody
 abbrev pub reads_nothing : Log → ℕ → ℕ → Bool
 reads_nothing log x v = not (is_some (source log v x))
-
-filter_both : {X : Type 0} (p q : X → Bool) (xs : List X) → filter p (filter q xs) ≡ filter (λ x. q x && p x) xs
-filter_both p q [] = grind arith
-filter_both p q (x ∷ xs) = grind (arith, filter_both p q xs)
 
 pub heads_among : (log : Log) (x : ℕ) → filter (reads_nothing log x) (writers_in log x) ≡ heads log x
 heads_among log x = filter_both (reads_nothing log x) (writes log x) (committed log)

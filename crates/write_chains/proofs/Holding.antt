@@ -5,13 +5,13 @@ use Rattle.std.specs.Option.{option_map}
 use Rattle.std.proofs.lemmas.List.{append-nil, length-map, get_or-map}
 use Rattle.std.proofs.lemmas.List.Elements.{filter_map-append}
 use Rattle.std.proofs.lemmas.List.FromFn.{length-map-range_with_len, get_or-map-range_with_len}
+use Rattle.serializability.proofs.SoFar.{range_last}
 use Rattle.log_definitions.specs.Numbers.{log_of}
 use Rattle.write_chains.specs.declared.chain.KeyChains.{KeyChains}
 use Rattle.write_chains.specs.declared.all.Chains.TheInside.{Inside}
 use Rattle.session_history.specs.Tables.{pair_at, pairs}
 use Rattle.write_chains.specs.Lists.{unless_empty}
 use Rattle.write_chains.specs.Held.{key_view, key_in, sessions_of, AreChains}
-use Rattle.write_chains.proofs.Gathered.{range_push}
 
 pub keys_held : (c : Inside) → AreChains c → length c.keys.items ≡ (log_of (sessions_of c)).keys
 keys_held c h = grind (arith, length-map, length-map-range_with_len)
@@ -39,7 +39,7 @@ list_absent f v e = no_list (f v) e
 
 -- ---- the lists that are not empty, one by one
 pub pairs_further : {Y : Type 0} (g : ℕ → Option Y) (k : ℕ) → pairs g 0 (k + 1) ≡ pairs g 0 k ++ cons_option (pair_at g k) []
-pairs_further g k = grind (arith, range_push, filter_map-append)
+pairs_further g k = grind (arith, range_last, filter_map-append)
 
 group_some : {X : Type 0} (k : ℕ) (l : List X) → 0 < length l → cons_option {X = ℕ × List X} (option_map (λ y. (k, y)) (unless_empty l)) [] ≡ (k, l) ∷ []
 group_some k [] lt = absurd (omega arith)

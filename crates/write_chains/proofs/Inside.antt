@@ -7,8 +7,8 @@ use Rattle.chain_laws.specs.Chains.{readers, next, inner_at}
 use Rattle.std.specs.Prelude.{map}
 use Rattle.std.proofs.lemmas.List.{append-nil, map-append}
 use Rattle.std.proofs.lemmas.Grind.{flat_map-append}
+use Rattle.serializability.proofs.SoFar.{range_last}
 use Rattle.write_chains.specs.Views.{edges_before}
-use Rattle.write_chains.proofs.Gathered.{range_push}
 
 -- the inner edges of a key
 abbrev pub inner_of : Log → ℕ → List graph.Edge
@@ -22,7 +22,7 @@ pub inner_by_links : (log : Log) (x : ℕ) → flat_map (λ w. edges_before (rea
 inner_by_links log x = grind (arith, flat_same)
 
 flat_further : {X : Type 0} (f : ℕ → List X) (k : ℕ) → flat_map f (range_with_len 0 (k + 1)) ≡ flat_map f (range_with_len 0 k) ++ f k
-flat_further f k = grind (arith, range_push, flat_map-append, append-nil)
+flat_further f k = grind (arith, range_last, flat_map-append, append-nil)
 
 -- with the edges of one more node, or key
 pub edges_further : {X : Type 0} (f : ℕ → List X) (k : ℕ) (first now new : List X) → now ≡ first ++ flat_map f (range_with_len 0 k) → new ≡ now ++ f k → new ≡ first ++ flat_map f (range_with_len 0 (k + 1))
@@ -33,4 +33,4 @@ pub inner_further : (log : Log) (k : ℕ) (now new : List graph.Edge) → now �
 inner_further log k now new h e = grind (arith, inner_by_links, flat_further)
 
 pub mapped_further : {X Y : Type 0} (f : ℕ → Y) (view : X → Y) (k : ℕ) (now new : List X) (x : X) → map view now ≡ map f (range_with_len 0 k) → new ≡ now ++ x ∷ [] → view x ≡ f k → map view new ≡ map f (range_with_len 0 (k + 1))
-mapped_further f view k now new x h e is = grind (arith, map-append, range_push)
+mapped_further f view k now new x h e is = grind (arith, map-append, range_last)

@@ -1,6 +1,5 @@
 -- The writer behind each node, writer by writer.
 use Rattle.std.proofs.Common.{◌≡◌, ◌≢◌, ◌⊎◌, ℕ, ◌+◌, ◌<◌, ◌≤◌, true, List, [], ◌∷◌, ◌++◌, length, get_or, set, Option, None, Some, sym, ap, subst, ◌∙◌, inl, inr, arith}
-use Rattle.std.specs.Prelude.{map}
 use Rattle.std.specs.List.{Contains, AllByRecursion}
 use Rattle.std.proofs.lemmas.Bool.{cases_eq, cases_lt}
 use Rattle.std.proofs.lemmas.List.{length-set, get_or-set_same, get_or-set_other, get_or_past}
@@ -12,7 +11,7 @@ use Rattle.serializability.proofs.Serial.{some_cases}
 use Rattle.reach_laws.proofs.Walks.{each_from_contained, each_contained}
 use Rattle.session_history.specs.Tables.{writers_in}
 use Rattle.chain_laws.specs.Chains.{writes, next}
-use Rattle.chain_laws.proofs.Walks.{IsNext, next_is, next_from, one_some}
+use Rattle.chain_laws.proofs.Walks.{IsNext, next_is, next_from, some_one}
 use Rattle.write_chains.specs.declared.links.Links.{Links}
 use Rattle.write_chains.specs.Lists.{IsTable}
 use Rattle.write_chains.specs.Views.{AreLinks, FitTogether}
@@ -66,7 +65,7 @@ next_added log clean x writers table v w h k from within =
 
     each : (y u : ℕ) → Has y (writers ++ v ∷ []) → IsNext log x u y → (u ≡ w) ⊎ (u ≢ w) → next log x w ≡ Some v → get_or (set table w (Some v)) u None ≡ Some y
     each y u has n (inl same) here =
-        let one : v ≡ y = one_some (next log x w) v y here (ap (next log x) (sym same) ∙ next_from log clean x u y n) in
+        let one : v ≡ y = some_one (next log x w) v y here (ap (next log x) (sym same) ∙ next_from log clean x u y n) in
         ap (λ i. get_or (set table w (Some v)) i None) same ∙ get_or-set_same table w (Some v) None within ∙ ap (λ i. Some i) one
     each y u has n (inr apart) here = get_or-set_other table w u (Some v) None apart ∙ elim (Has-append_cases y writers (v ∷ []) has) [
       | inl before ↦ h.each y u before n
@@ -111,7 +110,3 @@ fit log x links h = record {
   same = h.readers.count ∙ sym h.next.count;
   stays = next_stays log x links.next.items h.next;
 }
-
-pub each_mapped : {X Y : Type 0} (P : Y → Type 0) (f : X → Y) (xs : List X) → AllByRecursion P (map f xs) → AllByRecursion (λ x. P (f x)) xs
-each_mapped P f [] h = tt
-each_mapped P f (x ∷ xs) h = (h.0, each_mapped P f xs h.1)

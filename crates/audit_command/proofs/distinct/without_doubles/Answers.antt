@@ -1,7 +1,7 @@
 use Rattle.std.proofs.Common.{◌<◌, ◌∷◌, [], ◌++◌, sym, ap, length, length-append, subst, append_assoc, ◌∙◌, arith}
+use Rattle.session_log.proofs.Adding.{all_more}
 use Rattle.audit_command.specs.Audited.{IsPartTold, AreToldParts}
 use Rattle.audit_command.specs.Distinct.{AreDistinct, is_told}
-use Rattle.audit_command.proofs.Parts.{all_more}
 use Rattle.audit_command.proofs.Doubles.{one_more, some_told}
 use Rattle.audit_command.proofs.distinct.without_doubles.Goals as goal
 

@@ -1,7 +1,7 @@
 use Rattle.std.proofs.Common.{◌++◌, ap, ◌∙◌, codes}
+use Rattle.list_lemmas.proofs.Lists.{appended_twice}
 use Rattle.audit_command.specs.Words.{verdict_text}
 use Rattle.audit_command.specs.Objects.{verdict_value}
-use Rattle.audit_command.proofs.Appended.{more}
 use Rattle.audit_command.proofs.object.put_verdict.Goals as goal
 
 pub returns : goal.returns
@@ -11,4 +11,4 @@ returns c =
     let front = codes "{\"verdict\":\"" in
     let word = verdict_text c.args.level c.args.word in
     let spelled = c.in_ok-put-2.ensures.put ∙ ap (λ w. c.put.new.out.items ++ w) (c.as_bytes.ensures.value ∙ c.verdict_text.ensures.text) in
-    record { put = more old (front ++ word) (codes "\"") c.put-2.new.out.items c.put-3.new.out.items (more old front word c.put.new.out.items c.put-2.new.out.items c.in_ok-put.ensures.put spelled) c.in_ok-put-3.ensures.put }
+    record { put = appended_twice old (front ++ word) (codes "\"") c.put-2.new.out.items c.put-3.new.out.items (appended_twice old front word c.put.new.out.items c.put-2.new.out.items c.in_ok-put.ensures.put spelled) c.in_ok-put-3.ensures.put }

@@ -2,10 +2,11 @@ use Rattle.std.proofs.Common.{◌∷◌, [], map, length, length-append, sym, ap
 use Rattle.std.specs.List.{AllByRecursion}
 use Rattle.session_log.specs.Text.{view}
 use Rattle.session_log.specs.Version.{first_line}
+use Rattle.session_log.proofs.Adding.{all_more}
 use Rattle.judging.specs.Made.{IsToldPart}
 use Rattle.audit_command.specs.Audited.{IsPartTold, AreToldParts}
 use Rattle.audit_command.specs.Resolved.{IsPartOf}
-use Rattle.audit_command.proofs.Parts.{all_front, all_more}
+use Rattle.audit_command.proofs.Parts.{all_front}
 use Rattle.audit_command.proofs.telling.add_parts.Goals as goal
 
 pub told_part-requires-clause-part : goal.told_part-requires-clause-part

@@ -1,15 +1,15 @@
 use Rattle.std.proofs.Common.{◌∙◌, sym, subst}
+use Rattle.std.proofs.lemmas.Option.{same_Some}
 use Rattle.desk.specs.History.{IsLegal}
 use Rattle.cube_laws.specs.State.{opening_state}
 use Rattle.cube_laws.specs.Steps.{next_of, reply_of}
-use Rattle.cube_laws.proofs.Lists.{some_is}
 use Rattle.branch_search.proofs.Ends.{spent_at}
 use Rattle.branch_search.proofs.reading.read_answer.Goals as goal
 
 pub returns-in-Some-clause-yes : goal.returns-in-Some-clause-yes
 returns-in-Some-clause-yes c =
     let p = c.args.reduced.now.poly in let steps = c.args.closed.history.items in let r = c.requires.reached in
-    let legal = subst (λ s. IsLegal next_of reply_of s steps) (sym (some_is (opening_state p c.args.budget) r.0 r.1)) r.2 in
+    let legal = subst (λ s. IsLegal next_of reply_of s steps) (sym (same_Some (opening_state p c.args.budget) r.0 r.1)) r.2 in
     let each = c.solving_orders_fit.ensures p c.args.budget steps legal in
     (c.requires.its c.in-Some.line).0 (c.in-Some.ensures.fits p each)
 

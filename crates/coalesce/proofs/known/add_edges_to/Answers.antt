@@ -1,11 +1,11 @@
 use Rattle.std.proofs.Common.{ℕ, ◌+◌, ◌∙◌, take, subst, arith}
 use Rattle.std.specs.Prelude.{map}
 use Rattle.std.proofs.lemmas.List.{take_all}
+use Rattle.list_lemmas.proofs.Lists.{mapped_front}
 use Rattle.serializability.specs.Polygraph.{Edge}
 use Rattle.polygraph.specs.Polygraphs.{Joins}
 use Rattle.polygraph.proofs.Each.{each_item}
 use Rattle.coalesce.specs.Added.{IsWith}
-use Rattle.coalesce.proofs.Steps.{one_more}
 use Rattle.coalesce.proofs.Sets.{with_next}
 use Rattle.coalesce.proofs.known.add_edges_to.Goals as goal
 
@@ -26,7 +26,7 @@ loop-source-preserved c =
     let source = c.source-item.result in
     record {
       edges = with_next c.args.known.now.edges c.loop-source.known.edges c.add_edge.new.self.edges (map edge_from (take i sources)) (map edge_from (take (i + 1) sources)) source target
-          c.loop-source.invariant.edges c.add_edge.ensures.edges (one_more edge_from sources i source c.loop-source-test.true c.source-item.is);
+          c.loop-source.invariant.edges c.add_edge.ensures.edges (mapped_front edge_from sources i source c.loop-source-test.true c.source-item.is);
       nodes = c.add_edge.ensures.nodes ∙ c.loop-source.invariant.nodes;
     }
 

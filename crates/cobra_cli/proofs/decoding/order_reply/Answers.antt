@@ -1,8 +1,10 @@
 use Rattle.std.proofs.Common.{ap, length, ◌∙◌}
+use Rattle.log_definitions.proofs.Nodes.{nodes_of_serial}
 use Rattle.dimacs.specs.Answer.{items_of}
 use Rattle.order_cnf.specs.Data.{cnf_of}
+use Rattle.cobra_formulas.proofs.Made.{serial_of}
 use Rattle.cobra_cli.specs.Commands.{model}
-use Rattle.cobra_cli.proofs.Answering.{assignment_long, serial_of, nodes_of_serial, order_text_of}
+use Rattle.cobra_cli.proofs.Answering.{assignment_long, order_text_of}
 use Rattle.cobra_cli.proofs.decoding.order_reply.Goals as goal
 
 pub order_of-requires : goal.order_of-requires

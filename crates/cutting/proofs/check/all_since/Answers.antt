@@ -1,9 +1,10 @@
 use Rattle.std.proofs.Common.{◌≡◌, true, sym, ◌∙◌, subst}
 use Rattle.std.specs.List.{AllByRecursion}
+use Rattle.list_lemmas.proofs.Elements.{item}
 use Rattle.session_log.specs.Text.{ClientSession}
 use Rattle.cutting.specs.Parts.{part_view, parts_view}
 use Rattle.cutting.specs.Ends.{begins_since}
-use Rattle.cutting.proofs.Views.{item, front_all}
+use Rattle.cutting.proofs.Views.{front_all}
 use Rattle.cutting.proofs.Loops.{each_more}
 use Rattle.cutting.proofs.Overs.{all_since}
 use Rattle.cutting.proofs.check.all_since.Goals as goal

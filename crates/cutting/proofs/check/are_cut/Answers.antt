@@ -1,8 +1,10 @@
 use Rattle.std.proofs.Common.{◌≡◌, suc, ◌+◌, length, map, refl, sym, ap, ◌∙◌, subst, inl, inr, arith}
 use Rattle.std.specs.Prelude.{slice_get, drop}
+use Rattle.list_lemmas.proofs.Elements.{item, get_map}
+use Rattle.serializability.proofs.Places.{length_mapped}
 use Rattle.cutting.specs.Parts.{CutOff, parts_view, piece_view}
 use Rattle.cutting.specs.Splits.{IsApart, AllOver, AllSince, IsNoLater, behind}
-use Rattle.cutting.proofs.Views.{item, get_map, length_mapped, last_or_before}
+use Rattle.cutting.proofs.Views.{last_or_before}
 use Rattle.cutting.proofs.Overs.{some_same}
 use Rattle.cutting.proofs.Loops.{all_apart}
 use Rattle.cutting.proofs.check.are_cut.Goals as goal

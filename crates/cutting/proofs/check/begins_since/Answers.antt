@@ -1,6 +1,6 @@
 use Rattle.std.proofs.Common.{sym, ap, ◌∙◌}
+use Rattle.list_lemmas.proofs.Elements.{item}
 use Rattle.cutting.specs.Ends.{is_since}
-use Rattle.cutting.proofs.Views.{item}
 use Rattle.cutting.proofs.Loops.{begins_later, begins_here, begins_none}
 use Rattle.cutting.proofs.check.begins_since.Goals as goal
 

@@ -1,8 +1,9 @@
 use Rattle.std.proofs.Common.{map, sym, ap, ◌∙◌}
 use Rattle.std.specs.Prelude.{drop}
+use Rattle.list_lemmas.proofs.Elements.{looked_up, get_map}
 use Rattle.cutting.specs.Parts.{piece_view, parts_view}
 use Rattle.cutting.specs.Splits.{behind}
-use Rattle.cutting.proofs.Views.{looked_up, get_map, get_drop}
+use Rattle.cutting.proofs.Views.{get_drop}
 use Rattle.cutting.proofs.check.behind.Goals as goal
 
 pub returns-in-Some : goal.returns-in-Some

@@ -1,7 +1,8 @@
 use Rattle.std.proofs.Common.{map, sym, subst}
+use Rattle.list_lemmas.proofs.Elements.{looked_up, get_map}
 use Rattle.cutting.specs.Parts.{piece_view}
 use Rattle.cutting.specs.Splits.{IsNoLater}
-use Rattle.cutting.proofs.Views.{looked_up, get_map, get_drop, le_where}
+use Rattle.cutting.proofs.Views.{get_drop, le_where}
 use Rattle.cutting.proofs.check.is_no_later.Goals as goal
 
 pub returns-in-Some : goal.returns-in-Some

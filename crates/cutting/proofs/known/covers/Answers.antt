@@ -4,8 +4,10 @@ use Rattle.log_definitions.specs.Serial.{committed_of}
 use Rattle.std.specs.List.{Contains}
 use Rattle.std.specs.Prelude.{slice_get, slice_index}
 use Rattle.std.proofs.lemmas.Option.{slice_get_within}
+use Rattle.list_lemmas.proofs.Elements.{item, get_map}
+use Rattle.serializability.proofs.Places.{length_mapped}
 use Rattle.cutting.specs.Parts.{part_view, parts_view}
-use Rattle.cutting.proofs.Views.{item, get_map, length_mapped, last_or_before}
+use Rattle.cutting.proofs.Views.{last_or_before}
 use Rattle.cutting.proofs.Overs.{covered_part, some_same}
 use Rattle.cutting.proofs.known.covers.Goals as goal
 

@@ -1,8 +1,8 @@
 use Rattle.std.proofs.Common.{◌≡◌, ◌+◌, refl, sym, ap, ◌∙◌, subst}
+use Rattle.list_lemmas.proofs.Elements.{looked_up, get_map}
 use Rattle.session_log.specs.Text.{view_txn}
 use Rattle.cutting.specs.Parts.{part_view, parts_view}
 use Rattle.cutting.specs.Ends.{IsKnownOver, raised}
-use Rattle.cutting.proofs.Views.{looked_up, get_map}
 use Rattle.cutting.proofs.Overs.{raised_by_source}
 use Rattle.cutting.proofs.known.follow_read.Goals as goal
 

@@ -3,7 +3,8 @@ use Rattle.cutting.proofs.known.is_covered.Goals.{else-over-i-via-then-over-i+el
 use Rattle.std.proofs.Common.{map, sym, ◌∙◌, arith}
 use Rattle.session_log.specs.Text.{view_txn}
 use Rattle.std.proofs.lemmas.Option.{slice_get_within}
-use Rattle.cutting.proofs.Views.{item, length_mapped}
+use Rattle.list_lemmas.proofs.Elements.{item}
+use Rattle.serializability.proofs.Places.{length_mapped}
 use Rattle.cutting.proofs.known.is_covered.Goals as goal
 
 pub loop-i-init : goal.loop-i-init

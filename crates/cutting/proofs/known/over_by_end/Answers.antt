@@ -1,8 +1,8 @@
 use Rattle.std.proofs.Common.{◌≡◌, ℕ, ◌+◌, ◌-◌, true, List, map, Some, sym, ap, ◌∙◌, subst, arith}
 use Rattle.session_log.specs.Text.{Transaction, view_txn}
 use Rattle.std.specs.Prelude.{slice_get}
+use Rattle.list_lemmas.proofs.Elements.{item, get_map}
 use Rattle.cutting.specs.Ends.{ended_before, IsEnded}
-use Rattle.cutting.proofs.Views.{item, get_map}
 use Rattle.cutting.proofs.known.over_by_end.Goals.{then-ended_before, else-ended_before}
 use Rattle.cutting.proofs.known.over_by_end.Goals as goal
 

@@ -1,7 +1,7 @@
 use Rattle.std.proofs.Common.{◌+◌, refl, sym, ◌∙◌}
+use Rattle.list_lemmas.proofs.Elements.{looked_up, get_map}
 use Rattle.session_log.specs.Text.{view_txn}
 use Rattle.cutting.specs.Parts.{part_view, parts_view}
-use Rattle.cutting.proofs.Views.{looked_up, get_map}
 use Rattle.cutting.proofs.Overs.{over_at, node_of_part}
 use Rattle.piece_laws.proofs.Sessions.{node_at}
 use Rattle.cutting.proofs.known.over_node.Goals as goal

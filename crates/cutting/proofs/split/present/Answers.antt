@@ -1,9 +1,10 @@
 use Rattle.std.proofs.Common.{length}
 use Rattle.cutting.proofs.Views.{nonempty, empty}
 use Rattle.std.proofs.Common.{ap, ◌∙◌}
+use Rattle.list_lemmas.proofs.Elements.{item}
 use Rattle.cutting.specs.Parts.{part_view, parts_view}
 use Rattle.piece_laws.specs.Logs.{present}
-use Rattle.cutting.proofs.Views.{item, front_all}
+use Rattle.cutting.proofs.Views.{front_all}
 use Rattle.cutting.proofs.Loops.{present_kept, present_dropped}
 use Rattle.cutting.proofs.split.present.Goals.{then-not-is_empty+in_ok-push, else-not-is_empty}
 use Rattle.cutting.proofs.split.present.Goals as goal

@@ -1,8 +1,9 @@
 use Rattle.std.proofs.Common.{◌+◌, ◌++◌, ◌∷◌, ℕ, List, [], map, take, ◌∙◌, sym, ap, subst, refl}
 use Rattle.std.specs.List.{flat_map}
+use Rattle.std.proofs.lemmas.List.{map_push}
+use Rattle.list_lemmas.proofs.Elements.{item}
 use Rattle.log_definitions.specs.Unknown.{ops_in}
 use Rattle.cutting.specs.Parts.{parts_view}
-use Rattle.cutting.proofs.Views.{item, map_more}
 use Rattle.held_pieces.specs.Reigns.{last_in, first_reign, reign_in, reign_from, held_by, held_behind, sessions_in}
 use Rattle.held_pieces.specs.Kept.{kept_view, IsKept, AreKept}
 use Rattle.held_pieces.proofs.Reigning.{reign_append}
@@ -31,7 +32,7 @@ loop-i-preserved c =
     (subst (λ l. IsKept (λ key. held_by i (reign_in f c.loop-i.reigns key)) (λ key. held_by (i + 1) (reign_in f c.keep_piece.new.reigns key)) l p) here c.in_ok-keep_piece.ensures.kept) in
     let more = kept_more f 0 i [] so_far front ss (map kept_view c.loop-i.kept.items) p (sessions_count c.args.pieces.now i c.loop-i-test.true) refl one c.loop-i.invariant.kept in
     let pieces = sym (sessions_more c.args.pieces.now i parts at) in
-    let items = sym (ap (map kept_view) c.in_ok-push.ensures.items ∙ map_more kept_view c.loop-i.kept.items c.in_ok-keep_piece.field-0) in
+    let items = sym (ap (map kept_view) c.in_ok-push.ensures.items ∙ map_push kept_view c.loop-i.kept.items c.in_ok-keep_piece.field-0) in
     record {
       kept = subst (λ l. AreKept f 0 [] l (map kept_view c.push.new.self.items)) pieces (subst (AreKept f 0 [] (front ++ ss ∷ [])) items more);
       reigns = λ key. new key ∙ ap (reign_from f key (first_reign f key)) (sym (ops_more front ss) ∙ ap (flat_map ops_in) pieces);

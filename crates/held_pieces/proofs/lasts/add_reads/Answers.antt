@@ -1,5 +1,5 @@
 use Rattle.std.proofs.Common.{◌∙◌, ap}
-use Rattle.cutting.proofs.Views.{item}
+use Rattle.list_lemmas.proofs.Elements.{item}
 use Rattle.held_pieces.specs.Reigns.{last_in}
 use Rattle.held_pieces.proofs.Steps.{read_taken, other_taken}
 use Rattle.held_pieces.proofs.lasts.add_reads.Goals.{in-Read+in_ok-insert, in_default}

@@ -1,6 +1,6 @@
 use Rattle.std.proofs.Common.{◌≡◌, ◌+◌, ℕ, List, length, take, ◌∙◌, sym, ap, arith}
+use Rattle.list_lemmas.proofs.Elements.{item}
 use Rattle.cutting.specs.Parts.{parts_view}
-use Rattle.cutting.proofs.Views.{item}
 use Rattle.log_definitions.specs.Unknown.{committed_ops}
 use Rattle.held_pieces.specs.Ops.{seen}
 use Rattle.held_pieces.specs.Reigns.{put, last_in, sessions_in}

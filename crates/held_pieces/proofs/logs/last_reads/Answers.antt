@@ -2,8 +2,8 @@ use Rattle.std.proofs.Common.{◌≡◌, ◌-◌, ◌<◌, ◌∙◌, length, dr
 use Rattle.std.specs.List.{list_any}
 use Rattle.std.specs.BTreeSet.{contains_by}
 use Rattle.std.specs.Cmp.Lexicographic.{slice_cmp}
+use Rattle.list_lemmas.proofs.Elements.{item}
 use Rattle.piece_laws.specs.Held.{closing, writes_key}
-use Rattle.cutting.proofs.Views.{item}
 use Rattle.held_pieces.specs.Ops.{seen, reads_of}
 use Rattle.held_pieces.specs.Kept.{held_of}
 use Rattle.held_pieces.proofs.LastReads.{seen_before, reads_reversed, read_added, read_known, done_more, done_known}

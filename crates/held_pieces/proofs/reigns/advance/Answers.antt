@@ -1,7 +1,7 @@
 use Rattle.std.proofs.Common.{◌<◌, ◌≤◌, ◌∙◌, ap, subst, Some, nat_cmp}
 use Rattle.std.specs.BTreeMap.{Updates}
 use Rattle.std.specs.Cmp.Lexicographic.{slice_cmp}
-use Rattle.cutting.proofs.Views.{item}
+use Rattle.list_lemmas.proofs.Elements.{item}
 use Rattle.held_pieces.specs.Reigns.{last_in, reign_in}
 use Rattle.held_pieces.specs.declared.reigns.Reign.{Reign}
 use Rattle.held_pieces.proofs.Steps.{write_taken, read_passed, reign_begun, reign_stays}

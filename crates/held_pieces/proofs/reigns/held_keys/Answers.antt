@@ -1,7 +1,7 @@
 use Rattle.std.proofs.Common.{◌∙◌, sym, ap, List, ℕ, nat_cmp}
 use Rattle.std.specs.BTreeMap.{get}
 use Rattle.std.specs.Cmp.Lexicographic.{slice_cmp}
-use Rattle.cutting.proofs.Views.{item}
+use Rattle.list_lemmas.proofs.Elements.{item}
 use Rattle.held_pieces.specs.Reigns.{last_in, reign_in, held_by}
 use Rattle.held_pieces.proofs.Steps.{held_taken, none_taken}
 use Rattle.held_pieces.proofs.reigns.held_keys.Goals.{in-Some+in_ok-to_owned_key+in_ok-insert, in_default}

@@ -1,8 +1,9 @@
 use Rattle.std.proofs.Common.{◌≡◌, ◌+◌, ◌<◌, ◌^◌, ◌++◌, sym, ap, ◌∙◌, arith}
 use Rattle.std.specs.Int.{trailing_zeros, w64}
 use Rattle.std.proofs.lemmas.Nat.Bits.{bit_at-trailing_zeros}
+use Rattle.std.proofs.lemmas.List.{append-nil}
 use Rattle.known_graph.specs.Tree.{reached_from, word_numbers}
-use Rattle.known_graph.proofs.Fresh.{word_numbers-zero, word_numbers-first, without_bit, without_bit-lt, without_bit-bit, append_none, add_first}
+use Rattle.known_graph.proofs.Fresh.{word_numbers-zero, word_numbers-first, without_bit, without_bit-lt, without_bit-bit, add_first}
 use Rattle.known_graph.proofs.reached.add_word.Goals as goal
 
 pub overflow_add-first : goal.overflow_add-first
@@ -38,7 +39,7 @@ pub returns : goal.returns
 returns c =
     let none : c.loop-rest.rest ≡ 0 = omega arith in
     record {
-      added = sym (append_none c.loop-rest.found.items)
+      added = sym (append-nil c.loop-rest.found.items)
           ∙ ap (λ ws. c.loop-rest.found.items ++ reached_from c.args.from ws) (sym (word_numbers-zero c.args.first))
           ∙ ap (λ r. c.loop-rest.found.items ++ reached_from c.args.from (word_numbers c.args.first r)) (sym none)
           ∙ c.loop-rest.invariant.all;

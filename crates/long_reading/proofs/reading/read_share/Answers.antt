@@ -1,16 +1,17 @@
 use Rattle.std.proofs.Common.{get_or, map, subst}
 use Rattle.std.specs.List.{Contains}
 use Rattle.std.proofs.lemmas.Result.{err_from_is_err_and}
+use Rattle.list_lemmas.proofs.Each.{each_at_index}
 use Rattle.session_log.specs.Text.{view, IsHeldBy}
 use Rattle.session_log.specs.Blocks.{blocks_of}
 use Rattle.session_log.specs.declared.block.Block.{Block}
 use Rattle.session_log.specs.declared.version.Version.TheVariants.{One}
 use Rattle.session_log.proofs.Together.{block_version}
-use Rattle.long_reading.proofs.Read.{at_place, one_read, one_refused}
+use Rattle.long_reading.proofs.Read.{one_read, one_refused}
 use Rattle.long_reading.proofs.reading.read_share.Goals as goal
 
 pub parse_block-requires : goal.parse_block-requires
-parse_block-requires c = at_place (Contains (blocks_of c.args.log.now)) c.args.blocks.now c.loop-block.block-index _ c.requires c.loop-block-test.true
+parse_block-requires c = each_at_index (Contains (blocks_of c.args.log.now)) c.args.blocks.now c.loop-block.block-index _ c.requires c.loop-block-test.true
 
 pub returns-in_err-parse_block : goal.returns-in_err-parse_block
 returns-in_err-parse_block c =
@@ -24,6 +25,6 @@ loop-block-preserved c =
     let i = c.loop-block.block-index in
     let s = c.in_ok-parse_block.field-0 in
     let none : Block = record { version = One; start = 0; stop = 0; line = 0 } in
-    let member = at_place (Contains (blocks_of log)) blocks i none c.requires c.loop-block-test.true in
+    let member = each_at_index (Contains (blocks_of log)) blocks i none c.requires c.loop-block-test.true in
     one_read log blocks i none c.loop-block.sessions.items c.push.new.self.items s c.loop-block-test.true c.loop-block.invariant c.in_ok-push.ensures.items c.in_ok-parse_block.ensures.accepted c.in_ok-parse_block.ensures.legal
     (subst (λ v. IsHeldBy v (view s)) (block_version log (get_or blocks i none) member) c.in_ok-parse_block.ensures.held) c.in_ok-parse_block.ensures.text

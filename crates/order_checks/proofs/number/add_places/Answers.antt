@@ -1,8 +1,11 @@
 use Rattle.std.proofs.Common.{◌≤◌, ◌+◌, ◌++◌, List, map, length, sym, ap, ◌∙◌, arith, Vec}
+use Rattle.list_lemmas.proofs.Lists.{append_none}
+use Rattle.list_lemmas.proofs.Elements.{item, get_map}
 use Rattle.session_log.specs.Text.{view_txn}
+use Rattle.serializability.proofs.Places.{length_mapped}
 use Rattle.log_definitions.specs.Serial.{Committed}
 use Rattle.order_checks.specs.Left.{nodes_from}
-use Rattle.order_checks.proofs.Lists.{get_map, item, length_mapped, append_once, append_none}
+use Rattle.order_checks.proofs.Lists.{append_once}
 use Rattle.order_checks.proofs.Left.{node_here, none_here, none_behind}
 use Rattle.order_checks.proofs.number.add_places.Goals.{then-is_committed+in_ok-push, else-is_committed}
 use Rattle.order_checks.proofs.number.add_places.Goals as goal

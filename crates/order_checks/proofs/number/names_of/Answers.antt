@@ -1,15 +1,17 @@
 use Rattle.std.proofs.Common.{◌+◌, ◌++◌, List, map, sym, ap, ◌∙◌}
 use Rattle.std.specs.Prelude.{drop}
-use Rattle.std.proofs.lemmas.List.{drop_all}
+use Rattle.std.proofs.lemmas.List.{drop_all, map-append, append_assoc}
+use Rattle.list_lemmas.proofs.Lists.{append_none}
+use Rattle.list_lemmas.proofs.Elements.{get_drop, item}
 use Rattle.session_log.specs.Text.{view, view_txn}
 use Rattle.session_log.specs.declared.session.Session.{Session}
 use Rattle.session_log.specs.declared.session.Txn.{Txn}
 use Rattle.log_definitions.specs.Serial.{Committed}
-use Rattle.piece_laws.proofs.Left.{IsLearnt, split}
+use Rattle.log_definitions.proofs.Settled.{IsLearnt}
+use Rattle.piece_laws.proofs.Left.{split}
 use Rattle.piece_laws.proofs.Shifted.{nodes_are}
 use Rattle.order_checks.specs.Left.{nodes_from}
 use Rattle.order_checks.specs.Numbered.{nodes_of, names_of}
-use Rattle.order_checks.proofs.Lists.{item, get_drop, append_more, append_mapped, append_none}
 use Rattle.order_checks.proofs.Names.{named_here}
 use Rattle.order_checks.proofs.number.names_of.Goals as goal
 
@@ -25,8 +27,8 @@ loop-session-preserved c =
     ap (λ l. l ++ names_of rest) (c.in_ok-add_places.ensures session.number)
     ∙ ap (λ (l : List Txn). (names ++ map (λ (n : Committed). (session.number, n.place)) (nodes_from session.number 0 (map view_txn l))) ++ names_of rest) c.deref.ensures.value
     ∙ ap (λ l. (names ++ l) ++ names_of rest) (named_here session.number 0 (map view_txn session.txns.items))
-    ∙ append_more names (names_of here) (names_of rest)
-    ∙ ap (λ l. names ++ l) (sym (append_mapped (λ (n : Committed). (n.session, n.place)) here rest))
+    ∙ append_assoc names (names_of here) (names_of rest)
+    ∙ ap (λ l. names ++ l) (sym (map-append (λ (n : Committed). (n.session, n.place)) here rest))
     ∙ ap (λ (l : List Session). names ++ names_of (nodes_of (map view l))) (sym (get_drop sessions i session at))
     ∙ c.loop-session.invariant
 

@@ -1,13 +1,14 @@
 use Rattle.std.proofs.Common.{◌+◌, ◌++◌, List, map, sym, ap, ◌∙◌}
 use Rattle.std.specs.Prelude.{drop}
-use Rattle.std.proofs.lemmas.List.{drop_all}
+use Rattle.std.proofs.lemmas.List.{drop_all, append_assoc}
+use Rattle.list_lemmas.proofs.Lists.{append_none}
+use Rattle.list_lemmas.proofs.Elements.{get_drop, item}
 use Rattle.session_log.specs.Text.{view, view_txn}
 use Rattle.session_log.specs.declared.session.Session.{Session}
 use Rattle.session_log.specs.declared.session.Txn.{Txn}
 use Rattle.log_definitions.specs.Serial.{Committed}
 use Rattle.order_checks.specs.Left.{nodes_from}
 use Rattle.order_checks.specs.Numbered.{places_from}
-use Rattle.order_checks.proofs.Lists.{item, get_drop, append_more, append_none}
 use Rattle.order_checks.proofs.number.places_of.Goals as goal
 
 pub loop-i-preserved : goal.loop-i-preserved
@@ -21,7 +22,7 @@ loop-i-preserved c =
     let at = item sessions i session c.loop-i-test.true c.index-sessions-i.is in
     ap (λ l. l ++ rest) (c.in_ok-add_places.ensures session.number)
     ∙ ap (λ (l : List Txn). (places ++ map (λ (m : Committed). (i, m.place)) (nodes_from session.number 0 (map view_txn l))) ++ rest) c.deref.ensures.value
-    ∙ append_more places here rest
+    ∙ append_assoc places here rest
     ∙ ap (λ (l : List Session). places ++ places_from i (map view l)) (sym (get_drop sessions i session at))
     ∙ c.loop-i.invariant
 

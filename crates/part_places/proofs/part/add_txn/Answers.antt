@@ -1,8 +1,8 @@
 use Rattle.std.proofs.Common.{◌≡◌, Bool, List, [], ◌∷◌, ◌++◌, length, map, true, sym, ap, ◌∙◌, subst, arith}
 use Rattle.std.proofs.lemmas.List.{length-map, map-append}
+use Rattle.list_lemmas.proofs.Elements.{item}
 use Rattle.session_log.specs.Text.{view_txn}
 use Rattle.log_lines.specs.Rows.{TxnRow, view_place}
-use Rattle.log_parts.proofs.Steps.{item}
 use Rattle.part_places.specs.PartRows.{AddsRow}
 use Rattle.part_places.proofs.Added.{row_added}
 use Rattle.part_places.proofs.part.add_txn.Goals as goal

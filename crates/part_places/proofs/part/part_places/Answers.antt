@@ -1,10 +1,10 @@
 use Rattle.std.proofs.Common.{◌≡◌, List, ◌+◌, Bool, length, drop, map, sym, ap, ◌∙◌, subst, arith, length-append, Vec}
+use Rattle.list_lemmas.proofs.Elements.{get_drop, item}
 use Rattle.session_log.specs.Text.{ClientSession, view, session_lines}
 use Rattle.log_definitions.specs.WellFormed.{log_lines}
 use Rattle.session_log.specs.Version.{first_line}
 use Rattle.part_laws.specs.Chosen.{thin}
 use Rattle.log_parts.specs.Picked.{flag_of, flags_view, picked}
-use Rattle.log_parts.proofs.Steps.{item, get_drop}
 use Rattle.log_lines.specs.Rows.{Table, Fits, view_place}
 use Rattle.log_lines.specs.declared.places.TxnPlace.{TxnPlace}
 use Rattle.part_places.specs.PartRows.{AddsRows}

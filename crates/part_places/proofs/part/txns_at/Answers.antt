@@ -1,7 +1,7 @@
 use Rattle.std.proofs.Common.{map, sym, ap, ◌∙◌}
+use Rattle.list_lemmas.proofs.Elements.{get_drop, item, get_map}
 use Rattle.session_log.specs.Text.{view, view_txn}
 use Rattle.session_log.specs.declared.session.Session.{Session}
-use Rattle.log_parts.proofs.Steps.{item, get_map, get_drop}
 use Rattle.part_places.specs.PartRows.{first_txns}
 use Rattle.part_places.proofs.part.txns_at.Goals as goal
 

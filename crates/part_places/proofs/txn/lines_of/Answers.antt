@@ -1,5 +1,5 @@
 use Rattle.std.proofs.Common.{◌≡◌, ℕ, ◌+◌, List, length, drop, sym, ap, ◌∙◌, subst, arith, Vec}
-use Rattle.log_parts.proofs.Steps.{item}
+use Rattle.list_lemmas.proofs.Elements.{item}
 use Rattle.part_laws.specs.Chosen.{stays}
 use Rattle.part_places.specs.PartRows.{is_kept}
 use Rattle.part_places.proofs.Matched.{IsMatched, same_test, one_matched, one_left}

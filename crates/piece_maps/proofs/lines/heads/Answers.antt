@@ -1,6 +1,6 @@
 use Rattle.std.proofs.Common.{◌≡◌, ◌+◌, ap, map, arith, length, ◌∙◌}
+use Rattle.list_lemmas.proofs.Elements.{item}
 use Rattle.session_log.specs.Text.{view, view_txn, session_lines}
-use Rattle.cutting.proofs.Views.{item}
 use Rattle.piece_maps.specs.Lines.{lines_in, no_lines, heads_from, count_in}
 use Rattle.piece_maps.proofs.Steps.{head_taken}
 use Rattle.piece_maps.proofs.lines.heads.Goals as goal

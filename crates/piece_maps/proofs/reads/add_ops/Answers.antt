@@ -1,6 +1,6 @@
 use Rattle.std.proofs.Common.{◌∙◌, sym, ap}
+use Rattle.list_lemmas.proofs.Elements.{item}
 use Rattle.session_log.specs.declared.session.Op.{Op}
-use Rattle.cutting.proofs.Views.{item}
 use Rattle.held_pieces.specs.Reigns.{last_in}
 use Rattle.piece_maps.specs.Lines.{with_op, with_ops}
 use Rattle.piece_maps.proofs.Steps.{read_put, op_taken}

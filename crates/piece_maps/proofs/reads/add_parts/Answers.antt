@@ -1,6 +1,6 @@
 use Rattle.cutting.specs.Parts.{parts_view}
-use Rattle.cutting.proofs.Views.{item}
 use Rattle.std.proofs.Common.{◌∙◌, ap, map}
+use Rattle.list_lemmas.proofs.Elements.{item}
 use Rattle.session_log.specs.Text.{view_txn}
 use Rattle.held_pieces.specs.Reigns.{last_in}
 use Rattle.piece_maps.specs.Lines.{lines_in, passed_by, with_piece, with_txns}

@@ -1,7 +1,8 @@
 use Rattle.std.proofs.Common.{◌∙◌, ap, arith}
+use Rattle.list_lemmas.proofs.Elements.{some_at}
 use Rattle.held_pieces.specs.Reigns.{last_in}
 use Rattle.piece_maps.specs.Lines.{lines_in, no_lines, no_reads, passed_by, with_piece, with_pieces}
-use Rattle.piece_maps.proofs.Steps.{some_at, none_read, piece_read}
+use Rattle.piece_maps.proofs.Steps.{none_read, piece_read}
 use Rattle.piece_maps.proofs.reads.reads_of.Goals as goal
 
 pub loop-piece-init : goal.loop-piece-init

@@ -1,7 +1,7 @@
 use Rattle.std.proofs.Common.{[], length, sym, ap, ◌∙◌, arith}
+use Rattle.list_lemmas.proofs.Elements.{some_at}
 use Rattle.piece_maps.specs.Lines.{lines_in, no_lines}
 use Rattle.piece_maps.specs.Maps.{heads_of, last_reads_of}
-use Rattle.piece_maps.proofs.Steps.{some_at}
 use Rattle.pieces_command.specs.Files.{files_by, files_from}
 use Rattle.pieces_command.proofs.Cuts.{adds_none, cut_none, files_next, files_failed}
 use Rattle.pieces_command.proofs.Results.{on_any_err}

@@ -2,7 +2,7 @@ use Rattle.std.proofs.Common.{map}
 use Rattle.std.proofs.lemmas.Result.{err_from_is_err_and}
 use Rattle.session_log.specs.Text.{view}
 use Rattle.long_log_definitions.specs.LongLog.{memory}
-use Rattle.pieces_command.proofs.LongLogs.{own_numbers}
+use Rattle.long_log_definitions.proofs.Texts.{own_numbers}
 use Rattle.pieces_command.proofs.known.read_known.Goals as goal
 
 pub resolve-requires-clause-numbers : goal.resolve-requires-clause-numbers

@@ -1,7 +1,7 @@
 use Rattle.std.proofs.Common.{◌-◌, inl, inr, arith}
 use Rattle.std.proofs.lemmas.Result.{err_from_is_err_and}
+use Rattle.list_lemmas.proofs.Elements.{some_at}
 use Rattle.long_log_definitions.specs.LongLog.{memory}
-use Rattle.piece_maps.proofs.Steps.{some_at}
 use Rattle.pieces_command.proofs.listing.numbered_text.Goals.{then-number-eq0-via-then-number-eq0, then-number-eq0-via-else-number-eq0+then-number-count}
 use Rattle.pieces_command.proofs.listing.numbered_text.Goals as goal
 

@@ -2,9 +2,10 @@ use Rattle.std.proofs.Common.{◌+◌, take, sym, subst, inl, inr}
 use Rattle.std.specs.List.{Contains}
 use Rattle.std.proofs.lemmas.List.{take_all}
 use Rattle.std.proofs.lemmas.List.Elements.{Contains-push_cases}
+use Rattle.list_lemmas.proofs.Lists.{front_more}
 use Rattle.log_definitions.specs.Numbers.{log_of}
 use Rattle.reasons.specs.Squares.{IsSquareOf, NoSquareOf}
-use Rattle.reasons.proofs.Squares.{take_item, square_from, none_with}
+use Rattle.reasons.proofs.Squares.{square_from, none_with}
 use Rattle.reasons.proofs.crossings.square_at.Goals as goal
 
 pub returns-in-Some-clause-square : goal.returns-in-Some-clause-square
@@ -21,7 +22,7 @@ loop-version-preserved c =
     let i = c.loop-version.version-index in
     let v = c.version-item.result in
     let none = rw c.in_default.is at c.in_ok-square.ensures.none in
-    λ u has. elim (Contains-push_cases (take i writers) v u (subst (λ l. Contains l u) (take_item writers i v c.loop-version-test.true c.version-item.is) has)) [
+    λ u has. elim (Contains-push_cases (take i writers) v u (subst (λ l. Contains l u) (front_more writers i v c.loop-version-test.true c.version-item.is) has)) [
       | inl before ↦ c.loop-version.invariant u before
       | inr same ↦ subst (NoSquareOf c.in_ok-pairs.pairs.items) same (subst (λ l. NoSquareOf l v) c.deref.ensures.value none)
     ]

@@ -1,8 +1,9 @@
 use Rattle.std.proofs.Common.{take, sym, subst}
 use Rattle.std.proofs.lemmas.List.{take_all}
 use Rattle.std.specs.BTreeMap.{get}
+use Rattle.list_lemmas.proofs.Lists.{front_more}
 use Rattle.reasons.specs.Squares.{AreShared, pair_cmp}
-use Rattle.reasons.proofs.Squares.{take_item, none_met}
+use Rattle.reasons.proofs.Squares.{none_met}
 use Rattle.reasons.proofs.crossings.square_with.Goals as goal
 
 pub loop-pair-preserved : goal.loop-pair-preserved
@@ -12,7 +13,7 @@ loop-pair-preserved c =
     let p = c.pair-item.result in
     let within = c.loop-pair-test.true in
     let looked = c.in_ok-square.ensures.looked pairs (take i pairs) (i, within, sym c.pair-item.is) c.in_ok-beside.ensures.beside c.loop-pair.invariant in
-    subst (λ l. AreShared pairs l c.args.version (get pair_cmp c.in_ok-beside.beside) (get pair_cmp c.look.new.shared)) (sym (take_item pairs i p within c.pair-item.is)) (rw c.in_default.is at looked)
+    subst (λ l. AreShared pairs l c.args.version (get pair_cmp c.in_ok-beside.beside) (get pair_cmp c.look.new.shared)) (sym (front_more pairs i p within c.pair-item.is)) (rw c.in_default.is at looked)
 
 pub returns-clause-none : goal.returns-clause-none
 returns-clause-none c =

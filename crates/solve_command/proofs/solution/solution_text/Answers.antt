@@ -1,4 +1,4 @@
-use Rattle.solve_command.proofs.Solving.{nodes_of_serial}
+use Rattle.log_definitions.proofs.Nodes.{nodes_of_serial}
 use Rattle.solve_command.proofs.solution.solution_text.Goals as goal
 
 pub serial_text-requires : goal.serial_text-requires

@@ -7,7 +7,7 @@ use Rattle.log_definitions.specs.Unknown.{ops_in}
 use Rattle.log_definitions.specs.WellFormed.{written}
 use Rattle.log_definitions.proofs.Settled.{ops_resolved}
 use Rattle.long_log_definitions.specs.LongLog.{memory}
-use Rattle.split_command.proofs.LongLogs.{own_numbers}
+use Rattle.long_log_definitions.proofs.Texts.{own_numbers}
 use Rattle.split_command.proofs.command.split_text.Goals as goal
 
 pub resolve-requires-clause-numbers : goal.resolve-requires-clause-numbers

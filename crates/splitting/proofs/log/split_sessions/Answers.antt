@@ -1,6 +1,7 @@
 use Rattle.std.proofs.Common.{◌≡◌, [], ◌∷◌, ◌++◌, ◌+◌, length, drop, map, sym, ap, ◌∙◌, subst, append_assoc}
 use Rattle.std.specs.List.{flat_map}
 use Rattle.std.proofs.lemmas.List.{map-append}
+use Rattle.list_lemmas.proofs.Lists.{mapped_left}
 use Rattle.session_log.specs.Text.{ClientSession, view, view_txn}
 use Rattle.session_log.specs.declared.session.Session.{Session}
 use Rattle.log_definitions.specs.Unknown.{ops_in}
@@ -9,7 +10,7 @@ use Rattle.level_laws.specs.Split.{split_writers}
 use Rattle.splitting.specs.Room.{Fit, AreNamed}
 use Rattle.splitting.specs.Halves.{parts, ops_by}
 use Rattle.splitting.proofs.Named.{fit_front, fit_behind, named_front, named_behind}
-use Rattle.splitting.proofs.Walks.{left_behind, ops_first}
+use Rattle.splitting.proofs.Walks.{ops_first}
 use Rattle.splitting.proofs.log.split_sessions.Goals as goal
 
 pub split_txns-requires : goal.split_txns-requires
@@ -17,7 +18,7 @@ split_txns-requires c =
     let m = c.args.marks in
     let s = view c.session-item.result in
     let next = map view (drop (c.loop-session.session-index + 1) c.args.sessions.now) in
-    let left = left_behind view c.args.sessions.now c.loop-session.session-index c.session-item.result c.loop-session-test.true c.session-item.is in
+    let left = mapped_left view c.args.sessions.now c.loop-session.session-index c.session-item.result c.loop-session-test.true c.session-item.is in
     let whole = ops_first (map view (drop c.loop-session.session-index c.args.sessions.now)) next s left in
     subst (λ l. Fit m c.loop-session.last (ops_by (map view_txn l))) (sym c.deref.ensures.value)
     (fit_front m c.loop-session.last (ops_by s.txns) (ops_in next) (subst (Fit m c.loop-session.last) whole c.loop-session.invariant.0))
@@ -28,7 +29,7 @@ loop-session-preserved c =
     let s = view c.session-item.result in
     let last = c.loop-session.last in
     let next = map view (drop (c.loop-session.session-index + 1) c.args.sessions.now) in
-    let left : map view (drop c.loop-session.session-index c.args.sessions.now) ≡ s ∷ next = left_behind view c.args.sessions.now c.loop-session.session-index c.session-item.result c.loop-session-test.true c.session-item.is in
+    let left : map view (drop c.loop-session.session-index c.args.sessions.now) ≡ s ∷ next = mapped_left view c.args.sessions.now c.loop-session.session-index c.session-item.result c.loop-session-test.true c.session-item.is in
     let whole : ops_in (map view (drop c.loop-session.session-index c.args.sessions.now)) ≡ ops_by s.txns ++ ops_in next = ops_first (map view (drop c.loop-session.session-index c.args.sessions.now)) next s left in
     let own : map view_txn c.deref.result.now ≡ s.txns = ap (map view_txn) c.deref.ensures.value in
     let is : c.in_ok-txns.behind ≡ last + length (written (ops_by s.txns)) = c.in_ok-txns.ensures.0 ∙ ap (λ l. last + length (written (ops_by l))) own in

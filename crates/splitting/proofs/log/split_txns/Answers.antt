@@ -1,25 +1,26 @@
 use Rattle.std.proofs.Common.{◌≡◌, ◌∷◌, ◌++◌, ◌+◌, ◌<◌, ◌^◌, length, drop, map, sym, ap, ◌∙◌, subst, append_assoc}
 use Rattle.std.specs.List.{flat_map}
+use Rattle.list_lemmas.proofs.Lists.{mapped_left}
 use Rattle.session_log.specs.Text.{view_txn}
 use Rattle.log_definitions.specs.WellFormed.{written}
 use Rattle.splitting.specs.Room.{Fit, AreNamed}
 use Rattle.splitting.specs.Halves.{parts, ops_by}
 use Rattle.splitting.proofs.Named.{fit_front, fit_behind, named_front, named_behind}
-use Rattle.splitting.proofs.Walks.{left_behind, wrote_more}
+use Rattle.splitting.proofs.Walks.{wrote_more}
 use Rattle.splitting.proofs.log.split_txns.Goals as goal
 
 pub add_txn-requires : goal.add_txn-requires
 add_txn-requires c =
     let m = c.args.marks in
     let next = map view_txn (drop (c.loop-txn.txn-index + 1) c.args.txns.now) in
-    let whole = ap ops_by (left_behind view_txn c.args.txns.now c.loop-txn.txn-index c.txn-item.result c.loop-txn-test.true c.txn-item.is) in
+    let whole = ap ops_by (mapped_left view_txn c.args.txns.now c.loop-txn.txn-index c.txn-item.result c.loop-txn-test.true c.txn-item.is) in
     fit_front m c.loop-txn.last c.txn-item.result.ops.items (ops_by next) (subst (Fit m c.loop-txn.last) whole c.loop-txn.invariant.0)
 
 pub last_behind-last-requires : goal.last_behind-last-requires
 last_behind-last-requires c =
     let m = c.args.marks in
     let next = map view_txn (drop (c.loop-txn.txn-index + 1) c.args.txns.now) in
-    let whole = ap ops_by (left_behind view_txn c.args.txns.now c.loop-txn.txn-index c.txn-item.result c.loop-txn-test.true c.txn-item.is) in
+    let whole = ap ops_by (mapped_left view_txn c.args.txns.now c.loop-txn.txn-index c.txn-item.result c.loop-txn-test.true c.txn-item.is) in
     subst (λ l. c.loop-txn.last + length (written l) < 2 ^ 64) (sym c.deref.ensures.value)
     (fit_front m c.loop-txn.last c.txn-item.result.ops.items (ops_by next) (subst (Fit m c.loop-txn.last) whole c.loop-txn.invariant.0)).identities
 
@@ -31,7 +32,7 @@ loop-txn-preserved c =
     let behind = c.last_behind-last.result in
     let all = map view_txn c.args.txns.now in
     let next = map view_txn (drop (c.loop-txn.txn-index + 1) c.args.txns.now) in
-    let left : map view_txn (drop c.loop-txn.txn-index c.args.txns.now) ≡ t ∷ next = left_behind view_txn c.args.txns.now c.loop-txn.txn-index c.txn-item.result c.loop-txn-test.true c.txn-item.is in
+    let left : map view_txn (drop c.loop-txn.txn-index c.args.txns.now) ≡ t ∷ next = mapped_left view_txn c.args.txns.now c.loop-txn.txn-index c.txn-item.result c.loop-txn-test.true c.txn-item.is in
     let whole : ops_by (map view_txn (drop c.loop-txn.txn-index c.args.txns.now)) ≡ t.ops ++ ops_by next = ap ops_by left in
     let is : behind ≡ last + length (written t.ops) = c.last_behind-last.ensures ∙ ap (λ l. last + length (written l)) c.deref.ensures.value in
     let inv = c.loop-txn.invariant in (

@@ -1,8 +1,8 @@
 use Rattle.std.proofs.Common.{◌++◌}
 use Rattle.std.specs.Prelude.{codes}
 use Rattle.std.proofs.lemmas.Result.{on_ok_weaker}
+use Rattle.list_lemmas.proofs.Lists.{appended_twice}
 use Rattle.tell_reasons.specs.Crossed.{pair_text}
-use Rattle.tell_reasons.proofs.Texts.{two}
 use Rattle.tell_reasons.proofs.crossed.put_crossing.Goals as goal
 
 pub returns : goal.returns
@@ -21,10 +21,10 @@ returns c =
     record {
       text =
           on_ok_weaker c.put_text-2.result
-          (λ e. two old (head ++ told it.one_one ++ told it.one_two ++ told it.two_one ++ told it.two_two) name five new
-          (two old (head ++ told it.one_one ++ told it.one_two ++ told it.two_one) (told it.two_two) four five
-          (two old (head ++ told it.one_one ++ told it.one_two) (told it.two_one) three four
-          (two old (head ++ told it.one_one) (told it.one_two) two' three (two old head (told it.one_one) one two' c.in_ok-put_text.ensures.text c.in_ok-put_pair.ensures.text) c.in_ok-put_pair-2.ensures.text)
+          (λ e. appended_twice old (head ++ told it.one_one ++ told it.one_two ++ told it.two_one ++ told it.two_two) name five new
+          (appended_twice old (head ++ told it.one_one ++ told it.one_two ++ told it.two_one) (told it.two_two) four five
+          (appended_twice old (head ++ told it.one_one ++ told it.one_two) (told it.two_one) three four
+          (appended_twice old (head ++ told it.one_one) (told it.one_two) two' three (appended_twice old head (told it.one_one) one two' c.in_ok-put_text.ensures.text c.in_ok-put_pair.ensures.text) c.in_ok-put_pair-2.ensures.text)
           c.in_ok-put_pair-3.ensures.text) c.in_ok-put_pair-4.ensures.text) e)
           c.put_text-2.ensures.text;
     }

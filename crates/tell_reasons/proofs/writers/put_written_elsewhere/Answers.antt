@@ -1,10 +1,11 @@
 use Rattle.std.proofs.Common.{◌≡◌, ◌++◌, Some, sym, ap, ◌∙◌}
 use Rattle.std.specs.Prelude.{codes, slice_get}
 use Rattle.std.proofs.lemmas.Result.{on_ok_weaker}
+use Rattle.list_lemmas.proofs.Lists.{appended_twice}
 use Rattle.order_text.specs.Text.{name_text}
 use Rattle.log_lines.specs.Rows.{view_place, line_at}
 use Rattle.tell_reasons.specs.Reasons.{in_line, key_and_wid}
-use Rattle.tell_reasons.proofs.Texts.{two, left_four}
+use Rattle.tell_reasons.proofs.Texts.{left_four}
 use Rattle.tell_reasons.proofs.writers.put_written_elsewhere.Goals as goal
 
 pub returns : goal.returns
@@ -27,9 +28,9 @@ returns c =
     record {
       text =
           on_ok_weaker c.put_in_line.result
-          (λ e. two old (not_here ++ key ++ codes "; " ++ name ++ wrote ++ key_and_wid at) line four new
-          (two old (not_here ++ key ++ codes "; " ++ name ++ wrote) (key_and_wid at) three four
-          (two old (not_here ++ key) (codes "; " ++ (name ++ wrote)) two' three (two old not_here key one two' c.in_ok-put_text.ensures.text c.in_ok-put_text-2.ensures.text) c.in_ok-put_words.ensures.text
+          (λ e. appended_twice old (not_here ++ key ++ codes "; " ++ name ++ wrote ++ key_and_wid at) line four new
+          (appended_twice old (not_here ++ key ++ codes "; " ++ name ++ wrote) (key_and_wid at) three four
+          (appended_twice old (not_here ++ key) (codes "; " ++ (name ++ wrote)) two' three (appended_twice old not_here key one two' c.in_ok-put_text.ensures.text c.in_ok-put_text-2.ensures.text) c.in_ok-put_words.ensures.text
           ∙ ap (λ l. old ++ l) (left_four (not_here ++ key) (codes "; ") name wrote)) told) (e ∙ ap (λ n. four ++ in_line n) c.line_among.ensures))
           c.put_in_line.ensures.text;
     }

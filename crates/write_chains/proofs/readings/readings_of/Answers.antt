@@ -1,12 +1,12 @@
 use Rattle.std.proofs.Common.{ℕ, ◌-◌, ◌<◌, ◌++◌, ◌∷◌, [], sym, ap, ◌∙◌, subst, arith}
 use Rattle.std.specs.List.{AllByRecursion, range_with_len}
 use Rattle.std.proofs.lemmas.List.Elements.{All-from_recursion}
+use Rattle.serializability.proofs.Places.{each_of_map}
 use Rattle.log_definitions.specs.Numbers.{log_of}
 use Rattle.session_history.specs.declared.reads.ReadFrom.{ReadFrom}
 use Rattle.write_chains.specs.Readings.{readings_among}
 use Rattle.write_chains.proofs.Pushes.{lists_same}
 use Rattle.write_chains.proofs.Gathered.{all_keys_below, readings_one, readings_further}
-use Rattle.write_chains.proofs.Nexts.{each_mapped}
 use Rattle.write_chains.proofs.readings.readings_of.Goals as goal
 
 pub add_reads-requires : goal.add_reads-requires
@@ -14,7 +14,7 @@ add_reads-requires c =
     let log = log_of c.args.history.now in
     let below : ℕ × ℕ → Type 0 = λ p. p.0 < log.keys in
     let each = subst (AllByRecursion below) (sym c.reads_of.ensures.sources) (all_keys_below log c.node-reader.result log.keys 0 log.keys (omega arith)) in
-    let all = All-from_recursion (λ (r : ReadFrom). r.key < log.keys) c.reads_of.result.now (each_mapped below (λ (r : ReadFrom). (r.key, r.source)) c.reads_of.result.now each) in
+    let all = All-from_recursion (λ (r : ReadFrom). r.key < log.keys) c.reads_of.result.now (each_of_map below (λ (r : ReadFrom). (r.key, r.source)) c.reads_of.result.now each) in
     record { keys = λ k d lt. omega (arith, all k d lt, c.loop-number.invariant.count) }
 
 pub loop-number-preserved : goal.loop-number-preserved

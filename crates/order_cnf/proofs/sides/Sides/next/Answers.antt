@@ -1,6 +1,7 @@
 use Rattle.std.proofs.Common.{◌-◌, ◌++◌, ap, sym, ◌∙◌, arith, length}
+use Rattle.std.proofs.lemmas.List.{nil_from_length}
 use Rattle.order_cnf.specs.Streams.{sides_left, rank_of}
-use Rattle.order_cnf.proofs.Parts.{nothing_left, no_sides, edge_step, side_step, no_step, some_step, kept_step, turned_rank, none_of}
+use Rattle.order_cnf.proofs.Parts.{nothing_left, no_sides, edge_step, side_step, no_step, some_step, kept_step, turned_rank}
 use Rattle.order_cnf.proofs.sides.Sides.next.Goals as goal
 
 pub invariant_of-self : goal.invariant_of-self
@@ -11,7 +12,7 @@ returns-in_err-edge c =
     let s = c.loop-self.self-inside in
     record {
       step = no_step c.args.self.now _ c.from_residual.result c.from_residual.ensures (sym c.self.view_is ∙ sym c.loop-self.invariant.same)
-          (nothing_left s.relation.now s.literal s.count s.edges.now s.counts.now (none_of _ c.in_err-edge.ensures.cases));
+          (nothing_left s.relation.now s.literal s.count s.edges.now s.counts.now (nil_from_length _ c.in_err-edge.ensures.cases));
     }
 
 pub edge_clause-clause-requires : goal.edge_clause-clause-requires
@@ -48,7 +49,7 @@ returns-in_err-count c =
     let s = c.loop-self.self-inside in
     record {
       step = no_step c.args.self.now _ c.from_residual-in_err-count.result c.from_residual-in_err-count.ensures (sym c.self.view_is ∙ sym c.loop-self.invariant.same)
-          (no_sides s.relation.now s.literal s.count s.edges.now s.counts.now (omega (arith, c.if-self-gt0.false)) (none_of _ c.in_err-count.ensures.cases));
+          (no_sides s.relation.now s.literal s.count s.edges.now s.counts.now (omega (arith, c.if-self-gt0.false)) (nil_from_length _ c.in_err-count.ensures.cases));
     }
 
 pub turned-self-inside-requires : goal.turned-self-inside-requires

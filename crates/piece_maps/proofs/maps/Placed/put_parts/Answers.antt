@@ -1,6 +1,6 @@
 use Rattle.std.proofs.Common.{◌++◌}
+use Rattle.list_lemmas.proofs.Elements.{item}
 use Rattle.cutting.specs.Parts.{parts_view}
-use Rattle.cutting.proofs.Views.{item}
 use Rattle.held_pieces.specs.Pieces.{held_in}
 use Rattle.piece_maps.specs.Lines.{lines_in, passed_by}
 use Rattle.piece_maps.specs.Maps.{heads_of, last_reads_of, map_sessions}

@@ -6,10 +6,11 @@ use Rattle.log_definitions.specs.Unknown.{ops_in, resolved}
 use Rattle.session_history.specs.declared.nodes.Node.{Node}
 use Rattle.session_history.specs.Counted.{CountsAll}
 use Rattle.session_log.specs.declared.session.Session.{Session}
-use Rattle.session_history.proofs.Tabled.{log_nodes, events_within, named_node, keys_held, nodes_held, count_held, writes_held, rows_held, readers_held, reads_held}
+use Rattle.session_history.proofs.Tabled.{events_within, named_node, keys_held, nodes_held, count_held, writes_held, rows_held, readers_held, reads_held}
 use Rattle.session_history.specs.Naming.{node_among}
 use Rattle.log_definitions.proofs.FewNodes.{few_nodes}
 use Rattle.log_definitions.proofs.Scanning.{rules_where_no_fault}
+use Rattle.log_definitions.proofs.Nodes.{log_nodes}
 use Rattle.session_history.specs.Numbering.{KeepsPlaces}
 use Rattle.session_history.specs.Taken.{keys_among}
 use Rattle.session_history.proofs.Seen.{no_places, places_seen}

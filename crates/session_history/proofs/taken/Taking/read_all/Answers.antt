@@ -1,6 +1,6 @@
 use Rattle.std.proofs.Common.{◌+◌, take, ◌∷◌, []}
+use Rattle.list_lemmas.proofs.Lists.{front_more}
 use Rattle.session_history.specs.Tracked.{order_of, found_in}
-use Rattle.session_history.proofs.Stepping.{step_itself}
 use Rattle.session_history.proofs.Found.{reads_more}
 use Rattle.session_history.proofs.taken.Taking.read_all.Goals as goal
 
@@ -12,5 +12,5 @@ loop-op-preserved c =
     record {
       taking = c.in_ok-read.ensures.taking;
       order = reads_more (found_in c.args.writes.now) (take i ops) (op ∷ []) (take (i + 1) ops) (order_of c.args.self.now) (order_of c.loop-op.self) (order_of c.read.new.self)
-          c.loop-op.invariant.order c.in_ok-read.ensures.order (step_itself ops i op c.loop-op-test.true c.op-item.is);
+          c.loop-op.invariant.order c.in_ok-read.ensures.order (front_more ops i op c.loop-op-test.true c.op-item.is);
     }

@@ -1,7 +1,7 @@
 use Rattle.std.proofs.Common.{◌∷◌, [], take, sym, subst}
+use Rattle.list_lemmas.proofs.Lists.{front_more}
 use Rattle.splitting.specs.Room.{Finds}
 use Rattle.splitting.proofs.Greatest.{finds_join}
-use Rattle.splitting.proofs.Walks.{front_more}
 use Rattle.splitting.proofs.survey.Survey.add_ops.Goals as goal
 
 pub loop-op-preserved : goal.loop-op-preserved
