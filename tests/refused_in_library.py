@@ -23,7 +23,7 @@ void *__real_malloc(size_t); void *__wrap_malloc(size_t n) { return refuses() ? 
 void *__real_realloc(void *, size_t); void *__wrap_realloc(void *p, size_t n) { return refuses() ? refused() : __real_realloc(p, n); }
 '''
 NAME = 'library_calls'
-BELOW = 'branch_search cobra_cli desk dimacs session_log'
+BELOW = 'branch_search cobra_cli desk dimacs output session_log'
 LOGS = ('lost_update', 'crossed_readers', 'chain', 'two_writers', 'forced_choices', 'unknown_read', 'unknown_chain', 'overlap_in_time', 'stale_in_time',
         'five_reasons')
 MODELS = {'chain': b's SATISFIABLE\n', 'forced_choices': b's SATISFIABLE\n', 'two_writers': b's SATISFIABLE\nv 1 -2 3 0\n',

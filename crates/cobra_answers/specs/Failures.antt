@@ -1,6 +1,6 @@
 -- How a command's end shows in the sink's count of failures, and in the program's exit status.
 use Rattle.std.specs.Prelude.{ℕ, Result, Ok, Err}
-use Rattle.dimacs.specs.Sinks.{one_more}
+use Rattle.output.specs.Sinks.{one_more}
 use Rattle.cobra_answers.specs.declared.status.Status.{Status}
 use Rattle.cobra_answers.specs.declared.status.Status.TheVariants.{Done, NotSerializable, Unknown}
 use Rattle.cobra_answers.specs.declared.fault.Fault.{Fault}

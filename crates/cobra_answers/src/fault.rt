@@ -3,9 +3,10 @@
 ghost use Rattle.std.specs.Prelude.{◌≡◌};
 ghost use Rattle.cobra_answers.specs.declared.fault.Fault.TheVariants as fault;
 
-use dimacs::{AnswerFault, WriteFault};
+use dimacs::AnswerFault;
 use order_cnf::CnfFault;
 use order_text::OrderFault;
+use output::WriteFault;
 use polygraph::PolyFault;
 use session_log::LogFault;
 use std::alloc::AllocError;

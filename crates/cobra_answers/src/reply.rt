@@ -7,7 +7,7 @@ ghost use Rattle.cobra_answers.specs.Failures.{failures_after};
 
 use crate::fault::Fault;
 use crate::status::Status;
-use dimacs::{Sink, write_all};
+use output::{Sink, write_all};
 use std::alloc::{AllocError, Global};
 
 /// How a command ends, and what it has to write.

@@ -4,7 +4,7 @@ ghost use Rattle.std.specs.Prelude.{◌≡◌, ℕ, ◌+◌, ◌^◌, ◌<◌, �
 ghost use Rattle.std.specs.Prelude.{length, vec_len, is_err, true, IfOk, IfErr, OnOk, OnErr};
 ghost use Rattle.std.specs.Prelude.{IsErrOf};
 ghost use Rattle.std.specs.Io.KnownBytes.{ReadConsumes};
-ghost use Rattle.dimacs.specs.Sinks.{most_failures, one_more};
+ghost use Rattle.output.specs.Sinks.{most_failures, one_more};
 ghost use Rattle.cobra_answers.specs.Sources.{TakesPiece, IsReadWhole, IsReadInPart};
 ghost use Rattle.cobra_answers.specs.declared.source.ReadFault.TheVariants as fault;
 

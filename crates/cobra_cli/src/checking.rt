@@ -13,7 +13,7 @@ use cobra_answers::{
 use cobra_formulas::read_log;
 use deciding::{Decision, decide};
 use desk::gate::Gate;
-use dimacs::Sink;
+use output::Sink;
 use session_history::History;
 use std::alloc::{AllocError, Global};
 use std::sync::Wait;

@@ -16,7 +16,7 @@ use cobra_answers::{Fault, Reply, Status, tell};
 use cobra_formulas::read_log;
 use deciding::{Decision, decide};
 use desk::gate::Gate;
-use dimacs::Sink;
+use output::Sink;
 use session_history::History;
 use session_log::Version;
 use std::alloc::{AllocError, Global};

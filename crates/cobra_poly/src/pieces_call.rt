@@ -5,7 +5,7 @@ use crate::files::write_file;
 use crate::input::log_name;
 use cobra_cli::{Status, Stop};
 use cobra_words::{PiecesWord, Request};
-use dimacs::Counted;
+use output::Counted;
 use pieces_command::{Folder, FolderFault, PiecesFault, list, put_files, put_piece};
 use std::alloc::Global;
 use std::fs;

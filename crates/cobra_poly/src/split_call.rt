@@ -4,7 +4,7 @@ use crate::ending::Ending;
 use crate::input::log_name;
 use cobra_cli::{Status, Stop};
 use cobra_words::Request;
-use dimacs::Counted;
+use output::Counted;
 use split_command::{SplitFault, put_split};
 use splitting::NoRoom;
 use std::alloc::{AllocError, Global};

@@ -1,7 +1,6 @@
 pub mod Cuts
 pub mod Items
 pub mod Numerals
-pub mod Pieces
 pub mod ReadBack
 pub mod Sendings
 pub mod Takings

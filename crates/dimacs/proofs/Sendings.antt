@@ -6,10 +6,10 @@ use Rattle.std.specs.List.{flat_map}
 use Rattle.std.proofs.KnownBytes.{Appends-trans, Appends-nil}
 use Rattle.serializability.specs.declared.literal.Literal.{Literal}
 use Rattle.serializability.specs.Formula.{Cnf}
+use Rattle.output.specs.declared.fault.WriteFault.{WriteFault}
+use Rattle.output.specs.Sinks.{WritesFrom}
 use Rattle.dimacs.specs.Text.{header, clause_text, text_of}
 use Rattle.dimacs.proofs.Texts.{text-parts}
-use Rattle.dimacs.specs.declared.fault.WriteFault.{WriteFault}
-use Rattle.dimacs.specs.Sinks.{WritesFrom}
 use Rattle.dimacs.specs.Sending.{IsUnderWay, IsCutOff}
 
 at_start : (b : Option (List ℕ)) (piece rest whole : List ℕ) → whole ≡ piece ++ rest → IsUnderWay b b 0 piece rest whole

@@ -2,6 +2,5 @@ pub mod Answer
 pub mod Models
 pub mod Reading
 pub mod Sending
-pub mod Sinks
 pub mod Text
 pub mod Words

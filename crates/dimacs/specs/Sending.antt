@@ -1,7 +1,7 @@
 -- A text that is going out through a piece.
 use Rattle.std.specs.Prelude.{◌≡◌, ℕ, ◌<◌, ◌≤◌, List, ◌++◌, length, take, drop, Option}
 use Rattle.std.specs.Io.KnownBytes.{Appends}
-use Rattle.dimacs.specs.declared.fault.WriteFault.{WriteFault}
+use Rattle.output.specs.declared.fault.WriteFault.{WriteFault}
 
 -- of the whole text the first `written` bytes went out, then come those of the piece, and the rest
 -- is still to be made

@@ -1,25 +1,21 @@
-//! Formulas as DIMACS text, the sinks that take it, and the answers of solvers.
+//! Formulas as DIMACS text, and the answers of solvers.
 //!
 //! Called by the commands. It knows no history and no order.
 #![tactic(auto)]
 
 mod answer;
-mod fault;
 mod laws;
 mod number;
 mod numeral;
 mod piece;
 mod read;
 mod reading;
-mod sink;
 mod status;
 mod words;
 mod write;
 
 pub use answer::{AnswerFault, SolverAnswer};
-pub use fault::{SinkFailed, WriteFault};
 pub use laws::{model_is_read_back, text_belongs_to_one_formula};
 pub use read::{MAX_ANSWER_BYTES, read_answer};
-pub use sink::{Counted, Sink, write_all};
 pub use status::Status;
 pub use write::write_formula;

@@ -4,15 +4,14 @@ ghost use Rattle.std.specs.Prelude.{◌≡◌, ℕ, ◌+◌, ◌^◌, ◌<◌, �
 ghost use Rattle.std.specs.Prelude.{length, take, is_ok, IfOk, IfErr, OnOk, MatchResult};
 ghost use Rattle.std.specs.Io.KnownBytes.{Appends};
 ghost use Rattle.order_cnf.specs.Data.{cnf_of};
+ghost use Rattle.output.specs.Sinks.{one_more};
 ghost use Rattle.dimacs.specs.Sending.{IsUnderWay, IsCutOff};
-ghost use Rattle.dimacs.specs.Sinks.{one_more};
 ghost use Rattle.dimacs.specs.Text.{text_of};
 
-use crate::fault::WriteFault;
 use crate::numeral::Numerals;
 use crate::piece::Piece;
-use crate::sink::{Sink, put_all};
 use order_cnf::Formula;
+use output::{Sink, WriteFault, put_all};
 
 /// Writes the DIMACS text of a formula, and takes no memory. It fails only where the sink does, and
 /// then exactly the first `written` bytes of the text went out, and not all.

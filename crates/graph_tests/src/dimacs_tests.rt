@@ -1,5 +1,6 @@
-use dimacs::{AnswerFault, Counted, SolverAnswer, WriteFault, read_answer, write_formula};
+use dimacs::{AnswerFault, SolverAnswer, read_answer, write_formula};
 use order_cnf::{Formula, contradiction};
+use output::{Counted, WriteFault};
 use std::alloc::Global;
 use std::io;
 use std::io::{ErrorKind, Write};

@@ -6,7 +6,7 @@ ghost use Rattle.pieces_command.specs.declared.fault.PiecesFault.TheVariants.{Lo
 ghost use Rattle.pieces_command.specs.Faults.{fault_of};
 
 use crate::folder::FolderFault;
-use dimacs::WriteFault;
+use output::WriteFault;
 use session_log::LogFault;
 use std::alloc::AllocError;
 

@@ -10,7 +10,7 @@ use cobra_answers::{Fault, Reply, Status, tell};
 use cobra_formulas::read_log;
 use desk::gate::Gate;
 use desk::seat_no::Workers;
-use dimacs::Sink;
+use output::Sink;
 use session_history::History;
 use solving::solve_history;
 use std::alloc::Global;

@@ -5,9 +5,9 @@ ghost use Rattle.split_command.specs.Told.{IsSplitText, IsRefusal, IsTold, IsUnt
 
 use crate::fault::SplitFault;
 use desk::seat_no::Workers;
-use dimacs::{Sink, write_all};
 use known_outcomes::resolve;
 use long_reading::read_long_log;
+use output::{Sink, write_all};
 use session_log::print_log;
 use splitting::split;
 use std::alloc::Global;

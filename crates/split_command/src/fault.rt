@@ -4,7 +4,7 @@ ghost use Rattle.std.specs.Prelude.{◌≡◌};
 ghost use Rattle.session_log.specs.declared.fault.LogFault.TheVariants.{Memory};
 ghost use Rattle.split_command.specs.declared.fault.SplitFault.TheVariants.{Log, Locks, Output};
 
-use dimacs::WriteFault;
+use output::WriteFault;
 use session_log::LogFault;
 use splitting::NoRoom;
 use std::alloc::AllocError;

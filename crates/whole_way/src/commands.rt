@@ -7,7 +7,7 @@ use cobra_cli::{
     verify,
 };
 use desk::{Gate, OpenGate, Workers};
-use dimacs::Counted;
+use output::Counted;
 use std::alloc::Global;
 use std::process::Abort;
 use std::sync::Wait;

@@ -1,6 +1,6 @@
 use Rattle.std.proofs.Common.{◌≡◌, ◌+◌, ◌-◌, ◌≤◌, length, take, drop}
 use Rattle.std.specs.Io.KnownBytes.{Appends}
-use Rattle.dimacs.proofs.sink.put_all.Given as goal
+use Rattle.output.proofs.sink.put_all.Given as goal
 
 abbrev pub invariant-loop-rest : goal.invariant-loop-rest
 invariant-loop-rest g l = record {

@@ -1,6 +1,6 @@
 use Rattle.std.proofs.Common.{◌≡◌, ◌≤◌, length, arith, length-drop, ap, ◌∙◌, ◌-◌}
-use Rattle.dimacs.proofs.Pieces.{left_more, went_more, not_refused}
-use Rattle.dimacs.proofs.sink.put_all.Goals as goal
+use Rattle.output.proofs.Pieces.{left_more, went_more, not_refused}
+use Rattle.output.proofs.sink.put_all.Goals as goal
 
 pub loop-rest-preserved : goal.loop-rest-preserved
 loop-rest-preserved g c =

@@ -3,8 +3,8 @@ use Rattle.std.specs.Prelude.{◌≡◌, ℕ, zero, suc, ◌+◌, ◌-◌, ◌^�
 use Rattle.std.specs.Prelude.{List, [], ◌∷◌, length, take, Option, Result, Ok, Err, IfOk, IfErr}
 use Rattle.std.specs.Prelude.{Bool, true, false}
 use Rattle.std.specs.Io.KnownBytes.{Appends}
-use Rattle.dimacs.specs.declared.fault.SinkFailed.{SinkFailed}
-use Rattle.dimacs.specs.declared.fault.WriteFault.{WriteFault}
+use Rattle.output.specs.declared.fault.SinkFailed.{SinkFailed}
+use Rattle.output.specs.declared.fault.WriteFault.{WriteFault}
 
 -- the greatest count of failures
 abbrev pub most_failures : ℕ

@@ -3,7 +3,7 @@
 ghost use Rattle.std.specs.Prelude.{◌≡◌, ℕ, ◌+◌, ◌^◌, ◌<◌, ◌≤◌, if◌then◌else◌, List, Option};
 ghost use Rattle.std.specs.Prelude.{length, take, is_ok, true, IfOk, IfErr, OnOk};
 ghost use Rattle.std.specs.Io.KnownBytes.{Appends, WriteAppends};
-ghost use Rattle.dimacs.specs.Sinks.{most_failures, one_more, is_refused, WritesFrom};
+ghost use Rattle.output.specs.Sinks.{most_failures, one_more, is_refused, WritesFrom};
 
 use crate::fault::{SinkFailed, WriteFault};
 use std::io::Write;
@@ -75,7 +75,7 @@ impl<W: Write> Sink for Counted<W> {
 
 /// Puts a piece of a text of which `written` bytes went out before, and answers how many have gone
 /// out with it.
-pub(crate) fn put_all<W: Sink>(sink: &mut W, written: u64, piece: &[u8]) -> Result<u64, WriteFault>
+pub fn put_all<W: Sink>(sink: &mut W, written: u64, piece: &[u8]) -> Result<u64, WriteFault>
     requires { written + length piece.now < 2 ^ 64 }
     ensures went { WritesFrom (W.bytes sink.old) (W.bytes sink.new) written piece.now result }
     ensures count { W.failures sink.new ≡

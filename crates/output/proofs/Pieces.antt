@@ -2,7 +2,7 @@
 use Rattle.std.proofs.Common.{◌≡◌, ℕ, zero, suc, ◌+◌, ◌-◌, ◌≤◌, List, ◌++◌, length, take, drop, Option, Ok, refl, sym, ap, ◌∙◌, subst, arith, cond, take-add, take_all, drop-drop, length-drop}
 use Rattle.std.specs.Io.KnownBytes.{Appends}
 use Rattle.std.proofs.KnownBytes.{Appends-trans}
-use Rattle.dimacs.specs.Sinks.{is_refused}
+use Rattle.output.specs.Sinks.{is_refused}
 
 -- ---- one more turn of the loop over `put`
 pub left_more : (rest piece : List ℕ) (out written taken : ℕ) → rest ≡ drop (out - written) piece → written ≤ out → taken ≤ length rest → take (length rest - taken) (drop taken rest) ≡ drop (out + taken - written) piece
