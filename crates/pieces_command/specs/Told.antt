@@ -1,8 +1,9 @@
 -- What `pieces` tells of a long log.
 use Rattle.std.specs.Prelude.{◌≡◌, ◌⊎◌, ℕ, ◌+◌, ◌-◌, ◌<◌, List, [], ◌∷◌, ◌++◌, length, map, take}
-use Rattle.std.specs.Prelude.{count_by, slice_get, decimal, Option, Some}
+use Rattle.std.specs.Prelude.{count_by, slice_get, decimal, Option, Some, Result, Ok, Err}
 use Rattle.std.specs.List.{filter, flat_map}
 use Rattle.std.specs.Io.KnownBytes.{Appends}
+use Rattle.output.specs.Sinks.{one_more}
 use Rattle.session_log.specs.Text.{ClientSession, Transaction, view}
 use Rattle.session_log.specs.Version.{first_line, version_of}
 use Rattle.session_log.specs.declared.fault.LogFault.TheVariants.{Memory}
@@ -108,6 +109,12 @@ IsPieceUntold log number old new (NoSuchPiece pieces) = HasNoPiece log number pi
 IsPieceUntold log number old new (Output written) =
     IsCutShort (IsPieceText log number) written old new
 IsPieceUntold log number old new Folder = ⊥
+
+-- the sink failed in this call exactly where it is told that it did
+abbrev pub failures_after : {X : Type 0} → ℕ → Result X PiecesFault → ℕ
+failures_after before (Ok told) = before
+failures_after before (Err (Output written)) = one_more before
+failures_after before (Err _) = before
 
 -- ---- files in a folder
 -- these are the pieces of the log, all of them, and the lines at which its sessions begin

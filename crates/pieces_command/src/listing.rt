@@ -10,6 +10,7 @@ ghost use Rattle.long_log_definitions.specs.LongLog.{IsLongLogFault};
 ghost use Rattle.piece_maps.specs.Maps.{piece_text};
 ghost use Rattle.pieces_command.specs.Told.{AreNodes, line_of, lines_from, IsList, IsPieceText};
 ghost use Rattle.pieces_command.specs.Told.{IsNoPiece, IsTold, IsListUntold, IsPieceUntold};
+ghost use Rattle.pieces_command.specs.Told.{failures_after};
 
 use crate::fault::PiecesFault;
 use crate::known::read_known;
@@ -155,6 +156,7 @@ pub fn list<R: Threads + Sync, W: Sink>(
 ) -> Result<(), PiecesFault>
     ensures told { OnOk result (IsTold (IsList log.now) (W.bytes sink.old) (W.bytes sink.new)) }
     ensures untold { IfErr result (IsListUntold log.now (W.bytes sink.old) (W.bytes sink.new)) }
+    ensures count { W.failures sink.new ≡ failures_after (W.failures sink.old) result }
 {
     let text = list_of(rt, alloc, log, size, workers)?;
     write_all(sink, &text)?;
@@ -179,6 +181,7 @@ pub fn put_piece<R: Threads + Sync, W: Sink>(
         (IsTold (IsPieceText log.now number) (W.bytes sink.old) (W.bytes sink.new)) }
     ensures untold { IfErr result
         (IsPieceUntold log.now number (W.bytes sink.old) (W.bytes sink.new)) }
+    ensures count { W.failures sink.new ≡ failures_after (W.failures sink.old) result }
 {
     let text = numbered_text(rt, alloc, log, size, workers, number)?;
     write_all(sink, &text)?;

@@ -1,6 +1,7 @@
 -- What `split` tells of a long log.
-use Rattle.std.specs.Prelude.{◌≡◌, ℕ, ◌<◌, List, length, take, Option, Some}
+use Rattle.std.specs.Prelude.{◌≡◌, ℕ, ◌<◌, List, length, take, Option, Some, Result, Ok, Err}
 use Rattle.std.specs.Io.KnownBytes.{Appends}
+use Rattle.output.specs.Sinks.{one_more}
 use Rattle.session_log.specs.Text.{ClientSession, log_text, least_version}
 use Rattle.log_definitions.specs.Unknown.{resolved}
 use Rattle.long_log_definitions.specs.LongLog.{IsLongLog, IsLongLogFault}
@@ -55,3 +56,9 @@ abbrev pub IsUntold : List ℕ → Option (List ℕ) → Option (List ℕ) → S
 IsUntold log old new (Log fault) = IsRefusal log (Log fault) × (new ≡ old)
 IsUntold log old new (Locks why) = IsRefusal log (Locks why) × (new ≡ old)
 IsUntold log old new (Output written) = IsCutShort log written old new
+
+-- the sink failed in this call exactly where it is told that it did
+abbrev pub failures_after : {X : Type 0} → ℕ → Result X SplitFault → ℕ
+failures_after before (Ok told) = before
+failures_after before (Err (Output written)) = one_more before
+failures_after before (Err _) = before

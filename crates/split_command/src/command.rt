@@ -2,6 +2,7 @@
 
 ghost use Rattle.std.specs.Prelude.{◌≡◌, IfOk, IfErr, OnOk};
 ghost use Rattle.split_command.specs.Told.{IsSplitText, IsRefusal, IsTold, IsUntold};
+ghost use Rattle.split_command.specs.Told.{failures_after};
 
 use crate::fault::SplitFault;
 use desk::seat_no::Workers;
@@ -45,6 +46,7 @@ pub fn put_split<R: Threads + Sync, W: Sink>(
 ) -> Result<(), SplitFault>
     ensures told { OnOk result (IsTold log.now (W.bytes sink.old) (W.bytes sink.new)) }
     ensures untold { IfErr result (IsUntold log.now (W.bytes sink.old) (W.bytes sink.new)) }
+    ensures count { W.failures sink.new ≡ failures_after (W.failures sink.old) result }
 {
     let text = split_text(rt, alloc, log, workers)?;
     write_all(sink, &text)?;
