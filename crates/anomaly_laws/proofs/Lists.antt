@@ -43,5 +43,3 @@ two_places (z ∷ a) (t ∷ c) x y b d e =
         | inr s ↦ inr (inr (s.0, ap (λ l. z ∷ l) s.1 ∙ ap (λ n. n ∷ (c ++ y ∷ s.0)) head))
       ]
     ]
-
--- ---- pairs of the numbers that pass

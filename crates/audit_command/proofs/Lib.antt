@@ -1,5 +1,4 @@
 mod Counting
-mod Appended
 mod Names
 mod Parts
 mod Doubles

@@ -14,7 +14,6 @@ use Rattle.known_graph.specs.Graphs.{IsKnownGraph, arc_graph}
 use Rattle.known_graph.proofs.Listed.{In, In-from_Contains, Contains-from_In, In-filter, In-of_filter, In-of_pairs, filter_same}
 use Rattle.known_graph.proofs.Edges.{pair_same}
 
--- ---- tests
 -- ---- the arc of a session
 pub session_added : (old new : List Edge) (session : ℕ → ℕ) (b v : ℕ) → b + 1 ≡ v → session b ≡ session v → ((e : Edge) → (Contains new e ↔ (Contains old e ⊎ (e ≡ (b, v))))) → (e : Edge) → (Contains new e ↔ (Contains old e ⊎ ((e.1 ≡ v) × (e.0 + 1 ≡ v) × (session e.0 ≡ session v))))
 session_added old new session b v next same added e = (

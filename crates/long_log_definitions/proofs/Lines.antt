@@ -13,8 +13,6 @@ use Rattle.log_definitions.proofs.Scanning.{written-append, numbers}
 use Rattle.log_definitions.proofs.Settled.{txn_ops}
 use Rattle.log_definitions.proofs.Lines.{sessions_from-append, writes_from-append}
 
--- ---- of lines, and of lines behind them
-
 -- ---- their numbers, by the sessions
 joined_sessions : (n : ℕ) (a b : List Line) (xs ys : List ℕ) → ((m : ℕ) → numbers (sessions_from m a) ≡ xs) → ((m : ℕ) → numbers (sessions_from m b) ≡ ys) → numbers (sessions_from n (a ++ b)) ≡ xs ++ ys
 joined_sessions n a b xs ys e f = ap numbers (sessions_from-append n a b) ∙ (map-append (λ x. x.1) (sessions_from n a) (sessions_from (n + length a) b) ∙ (ap (λ l. l ++ numbers (sessions_from (n + length a) b)) (e n) ∙ ap (λ l. xs ++ l) (f (n + length a))))

@@ -47,8 +47,6 @@ first_of-front [] ys f h = cc
 first_of-front (None ∷ xs) ys f h = first_of-front xs ys f h
 first_of-front (Some g ∷ xs) ys f h = h
 
--- ---- what a fault says
-
 -- ---- of the blocks of a log
 faults_joined : (log : List ℕ) (a b : List Block) → fault_of_blocks log (a ++ b) ≡ first_of (map (block_fault log) a ++ map (block_fault log) b)
 faults_joined log a b = ap first_of (map-append (block_fault log) a b)

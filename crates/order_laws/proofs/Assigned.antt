@@ -20,8 +20,6 @@ use Rattle.order_laws.specs.Reduced.{side_clauses, choice_clauses, order_nodes, 
 use Rattle.order_laws.specs.Proper.{IsProper}
 use Rattle.order_laws.proofs.Reached.{InitialKnown, initial_known, past_zero}
 
--- ---- whether an order keeps a side
-
 -- ---- the assignment: a choice's variable says that side one is kept
 abbrev sides_taken : List ℕ → List Choice → List Bool
 sides_taken order hs = map (λ h. keeps_test order h.one) hs

@@ -18,8 +18,6 @@ use Rattle.polygraph.proofs.Each.{each_item}
 use Rattle.known_graph.proofs.Rests.{up_to, up_to_first, Split}
 use Rattle.known_graph.proofs.ReadSources.{reads_key}
 
--- ---- from whom a node reads
-
 -- ---- the key and the source of each read
 kept_read : (log : Log) (r : ℕ) (P : ℕ → Type 0) (x : ℕ) → P x → (o : Option ℕ) → source log r x ≡ o → (rest : List (ℕ × ℕ)) → AllByRecursion (λ p. P p.0 × (source log r p.0 ≡ Some p.1)) rest → AllByRecursion (λ p. P p.0 × (source log r p.0 ≡ Some p.1)) (cons_option (option_map (λ w. (x, w)) o) rest)
 kept_read log r P x h None e rest k = k

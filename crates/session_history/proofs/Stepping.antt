@@ -20,5 +20,3 @@ step_in g f xs passed i x same lt at =
 -- behind the last one
 pub stepped : {X : Type 0} (xs passed : List X) (i : ℕ) → passed ≡ xs → length passed ≤ i → take i xs ≡ xs
 stepped xs passed i same le = let P : List _ → Type 0 = λ ys. length ys ≤ i in take_all i xs (subst P same le)
-
--- ---- options

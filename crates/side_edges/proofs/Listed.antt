@@ -35,8 +35,6 @@ entry_pushed lists t old new x at pushed = record {
   ];
 }
 
--- ---- a side
-
 -- ---- all choices
 part_edge : (b : Bool) (xs : List Edge) (e : Edge) → has_edge (cond b xs []) e ≡ (b && has_edge xs e)
 part_edge true xs e = refl

@@ -68,8 +68,6 @@ never_none text lock o e h is none = let yes : is_key text ≡ true = ap is_key 
     some_none : {X : Type 0} {x : X} → Some x ≡ None → ⊥
     some_none e = cc
 
--- ---- identities
-
 -- ---- room
 pub record Room (marks longest largest writes : ℕ) : Type 0 where
   pub keys : marks + longest ≤ 64

@@ -5,8 +5,6 @@ use Rattle.tell_steps.specs.declared.item.Item.{Item}
 use Rattle.tell_steps.specs.declared.item.Item.TheVariants as item
 use Rattle.tell_decision.specs.Runs.{join, joined_items, IsBack}
 
--- ---- an edge of a session
-
 -- ---- a loop over the items from the last one on
 pub none_back : (items : List Item) (n : ℕ) (back : List Item) → back ≡ [] → n ≡ length items → IsBack back (joined_items (drop n items)) 0
 unfolding joined_items

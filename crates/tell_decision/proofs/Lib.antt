@@ -1,5 +1,4 @@
 pub mod Known
-pub mod Labels
 pub mod Lines
 pub mod Premises
 pub mod Tellable

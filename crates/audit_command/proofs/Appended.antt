@@ -1,1 +1,0 @@
--- Texts that are put behind each other.

@@ -1,1 +1,0 @@
--- Lines as a label.
