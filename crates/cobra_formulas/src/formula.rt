@@ -84,9 +84,8 @@ fn of_left(
 {
     let _invariant = reduced.poly().nodes();
     let left = reduced.poly().choices().len();
-    let pruned = Pruned::Open(reduced);
     Ok(Belonging {
-        formula: reduced_formula(alloc, &pruned)?,
+        formula: reduced_formula(alloc, Pruned::Open(reduced))?,
         basis: Basis::Chains { all: choices, left },
     })
 }

@@ -69,11 +69,4 @@ impl Tree {
     {
         &self.nodes
     }
-
-    /// The nodes, given back.
-    pub fn into_nodes(self) -> Vec<TreeNode>
-        ensures nodes { result.items ≡ self }
-    {
-        self.nodes
-    }
 }

@@ -1,10 +1,9 @@
 //! The machine of the search.
 
 ghost use Rattle.std.specs.Prelude.{◌≡◌, ℕ, ◌+◌, ◌<◌, ◌≤◌, ◌^◌, true, false, ◌∷◌, [], length};
-ghost use Rattle.std.specs.Prelude.{slice_get, Some, IfOk};
-ghost use Rattle.std.specs.Option.{option_map};
+ghost use Rattle.std.specs.Prelude.{IfOk};
 ghost use Rattle.cube_laws.specs.State.{opening_state, root};
-ghost use Rattle.cube_laws.specs.Steps.{has_solved, is_finished, is_exhausted, node_held};
+ghost use Rattle.cube_laws.specs.Steps.{is_finished, is_exhausted, node_held};
 ghost use Rattle.cube_laws.specs.Steps.{last_open, claim_reply, any_reply, split_reply};
 ghost use Rattle.cube_laws.specs.Steps.{refute_reply, solve_reply, claimed, taken, held_where};
 ghost use Rattle.cube_laws.specs.Steps.{split_where, refuted_where, solved_where, opened_at};
@@ -14,7 +13,6 @@ ghost use Rattle.cube_laws.specs.Cubes.{edges_under};
 ghost use Rattle.cube_laws.specs.declared.messages.CubeEvent.TheVariants.{TakeAny};
 ghost use Rattle.cube_laws.specs.declared.messages.CubeReply.TheVariants.{Released};
 ghost use Rattle.cube_machine.specs.Growth.{most_nodes};
-ghost use Rattle.cube_machine.specs.Ways.{IsWay};
 ghost use Rattle.cube_machine.specs.Noted.{AreNoted};
 
 use crate::budget::Budget;
@@ -99,13 +97,6 @@ impl<'a> CubeMachine<'a> {
         })
     }
 
-    /// Whether a node is solved.
-    pub fn is_solved(&self) -> bool
-        ensures solved { result ≡ has_solved self.now.nodes }
-    {
-        self.tree.has_solved()
-    }
-
     /// Whether no node is solved, open or held, so that every cube is split or refuted.
     pub fn is_exhausted(&self) -> bool
         ensures exhausted { result ≡ is_exhausted self.now }
@@ -118,29 +109,6 @@ impl<'a> CubeMachine<'a> {
         ensures closed { result ≡ self.now.closed }
     {
         self.closed
-    }
-
-    /// The number of nodes.
-    pub fn node_count(&self) -> usize
-        ensures count { result ≡ length self.now.nodes }
-    {
-        self.tree.len()
-    }
-
-    /// How a node was led to, which is `None` for node 0.
-    pub fn origin(&self, id: usize) -> Option<Origin>
-        requires within { id < length self.now.nodes }
-        ensures way { IsWay self.now.nodes id result }
-    {
-        self.tree.origin(id)
-    }
-
-    /// What is noted of a node.
-    pub fn mark(&self, id: usize) -> CubeState
-        requires within { id < length self.now.nodes }
-        ensures mark { option_map (λ x. x.mark) (slice_get self.now.nodes id) ≡ Some result }
-    {
-        self.tree.mark(id)
     }
 
     /// Whether the search is finished: a node is solved, the budget is spent, or no node is open or

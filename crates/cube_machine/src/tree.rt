@@ -3,7 +3,7 @@
 ghost use Rattle.std.specs.Prelude.{◌≡◌, ℕ, ◌+◌, ◌<◌, ◌≤◌, ◌&&◌, ◌||◌, Bool, true, false, not};
 ghost use Rattle.std.specs.Prelude.{List, [], ◌∷◌, ◌++◌, length, slice_get, slice_index, Option};
 ghost use Rattle.std.specs.Prelude.{Some, None, IfOk, MatchOption, is_some};
-ghost use Rattle.std.specs.Option.{option_map, option_map_or};
+ghost use Rattle.std.specs.Option.{option_map_or};
 ghost use Rattle.std.specs.List.{list_any};
 ghost use Rattle.cube_laws.specs.State.{root};
 ghost use Rattle.cube_laws.specs.Steps.{is_open, is_solved, is_held, held_from, last_open_from};
@@ -104,14 +104,6 @@ impl Tree {
         ensures root { cube_in self.now.nodes 0 ≡ [] }
     {
         self.nodes[id].origin
-    }
-
-    /// What is noted of a node.
-    pub fn mark(&self, id: usize) -> CubeState
-        requires within { id < length self.now.nodes }
-        ensures mark { option_map (λ x. x.mark) (slice_get self.now.nodes id) ≡ Some result }
-    {
-        self.nodes[id].mark
     }
 
     /// Whether there is such an open node.

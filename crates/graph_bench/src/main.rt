@@ -140,9 +140,10 @@ fn time_computed<R: Runtime + Threads + Wait + Sync>(
         return Ok(());
     };
     let start = Instant::now(rt)?;
-    let _ = Rows::compute(rt, alloc, known, workers, &OpenGate)?;
+    let rows = Rows::compute(rt, alloc, known, workers, &OpenGate)?;
     println!(rt; "workers: {count}")?;
-    told(rt, "rows, computed", start)
+    told(rt, "rows, computed", start)?;
+    time_copy(rt, alloc, &rows)
 }
 
 fn time_copy<R: Print + Clock>(rt: &R, alloc: Global, rows: &Rows) -> io::Result<()> {
@@ -157,13 +158,10 @@ fn time_rows<R: Runtime + Threads + Wait + Sync>(
     alloc: Global,
     known: &Known,
 ) -> io::Result<()> {
-    let start = Instant::now(rt)?;
-    let rows = Rows::plain(alloc, known)?;
-    told(rt, "rows, plain", start)?;
     for count in [1, 2, 4] {
         time_computed(rt, alloc, known, count)?;
     }
-    time_copy(rt, alloc, &rows)
+    Ok(())
 }
 
 /// Times what is done with a graph, where it could be made.

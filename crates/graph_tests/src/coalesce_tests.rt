@@ -5,7 +5,8 @@ use crate::logs::clean;
 use crate::node::node;
 use coalesce::coalesce;
 use known_graph::Known;
-use polygraph::{Edges, Polygraph, bipaths, order_fits};
+use polygraph::{Polygraph, bipaths, order_fits};
+use reach_laws::Edge;
 use session_history::History;
 use std::alloc::Global;
 use std::process::Abort;
@@ -43,19 +44,18 @@ fn coalesced(rt: &impl Abort, alloc: Global, history: &History) -> Polygraph
 }
 
 /// The side has one edge.
-fn see_side(rt: &impl Abort, side: &Edges, want: (usize, usize)) {
-    assert_eq!(rt; side.as_slice().len(), 1);
-    let edge = side.as_slice().first().expect(rt, "an edge");
+fn see_side(rt: &impl Abort, side: &[Edge], want: (usize, usize)) {
+    assert_eq!(rt; side.len(), 1);
+    let edge = side.first().expect(rt, "an edge");
     assert_eq!(rt; (edge.source().get(), edge.target().get()), want);
 }
 
 /// There is one choice, with one edge a side.
-fn see_choice(rt: &impl Abort, polygraph: Polygraph, one: (usize, usize), two: (usize, usize)) {
-    let (_known, mut choices) = polygraph.into_parts();
-    let (first, second) = choices.pop().expect(rt, "a choice").into_sides();
-    assert!(rt; choices.is_empty());
-    see_side(rt, &first, one);
-    see_side(rt, &second, two);
+fn see_choice(rt: &impl Abort, polygraph: &Polygraph, one: (usize, usize), two: (usize, usize)) {
+    assert_eq!(rt; polygraph.choices().len(), 1);
+    let choice = polygraph.choices().first().expect(rt, "a choice");
+    see_side(rt, choice.one(), one);
+    see_side(rt, choice.two(), two);
 }
 
 fn see_order(rt: &impl Abort, alloc: Global, polygraph: &Polygraph, order: &[usize], fits: bool) {
@@ -97,7 +97,7 @@ fn see_chains<R: Threads + Wait + Clock + Abort + Sync>(
 ) {
     let history = clean(rt, alloc, log);
     plain(rt, alloc, &history);
-    see_choice(rt, coalesced(rt, alloc, &history), one, two);
+    see_choice(rt, &coalesced(rt, alloc, &history), one, two);
 }
 
 #[test]

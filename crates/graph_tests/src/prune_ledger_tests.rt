@@ -251,7 +251,7 @@ fn two_threads_work_at_a_desk(rt: HostRuntime) -> Result<(), Fail> {
     let opened = Opened::new(alloc, machine(&rt, alloc, false), workers(&rt, 2))?;
     let polygraph = polygraph(&rt, alloc, false);
     let known = polygraph.known().copy(alloc)?;
-    let rows = Rows::plain(alloc, &known)?;
+    let rows = Rows::compute(&rt, alloc, &known, workers(&rt, 1), &OpenGate)?;
     let start = RowedGraph::new(known, rows);
     let first = polygraph.choice(index(&rt, 0)).ok_or("a choice")?;
     let verdict = judge(start.rows(), first);

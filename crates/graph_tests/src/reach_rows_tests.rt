@@ -87,10 +87,9 @@ fn rows_by<R: Threads + Wait + Clock + Abort + Sync>(
 }
 
 #[test]
-fn one_thread_or_several_see_the_same(rt: HostRuntime) {
+fn one_worker_or_several_see_the_same(rt: HostRuntime) {
     let alloc = rt.alloc();
     let known = arcs(&rt, alloc);
-    see_rows(&rt, alloc, Rows::plain(alloc, &known).expect(&rt, "memory"));
     for count in [1, 4, 16] {
         see_rows(&rt, alloc, rows_by(&rt, alloc, &known, count, &OpenGate));
     }

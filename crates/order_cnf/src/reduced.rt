@@ -74,17 +74,16 @@ fn left_is_proper(reduced: &Reduced)
 }
 
 /// The formula of what pruning leaves open.
-fn formula_of_open(alloc: Global, reduced: &Reduced) -> Result<Formula, CnfFault>
-    ensures formula { IfOk result (λ f. cnf_of f ≡ formula_of_rest reduced.now) }
-    ensures choices { IfOk result (λ f. f.choices ≡ length reduced.now.poly.choices) }
-    ensures proper { IsProperRest reduced.now }
-    ensures fits { IfOk result (λ _. size_fault (formula_of_rest reduced.now) ≡ None) }
-    ensures fault { IfErr result (λ e. IsFault e (size_fault (formula_of_rest reduced.now))) }
+fn formula_of_open(alloc: Global, reduced: Reduced) -> Result<Formula, CnfFault>
+    ensures formula { IfOk result (λ f. cnf_of f ≡ formula_of_rest reduced) }
+    ensures choices { IfOk result (λ f. f.choices ≡ length reduced.poly.choices) }
+    ensures proper { IsProperRest reduced }
+    ensures fits { IfOk result (λ _. size_fault (formula_of_rest reduced) ≡ None) }
+    ensures fault { IfErr result (λ e. IsFault e (size_fault (formula_of_rest reduced))) }
 {
-    left_is_proper(reduced);
-    let polygraph = reduced.poly();
+    left_is_proper(&reduced);
+    let (polygraph, rows, _ledger) = reduced.into_parts();
     let choices = polygraph.choices();
-    let rows = reduced.rows().copy(alloc)?;
     let relation = Relation::of(alloc, polygraph.nodes(), Some(rows))?;
     let variables = relation.variables() + choices.len() as u32;
     let Sides { edges, counts } = sides_of(alloc, choices)?;
@@ -98,12 +97,12 @@ fn formula_of_open(alloc: Global, reduced: &Reduced) -> Result<Formula, CnfFault
 ///
 /// Its satisfying assignments stand for the orders that fit. There is none of more than 20,000,000
 /// clauses.
-pub fn reduced_formula(alloc: Global, pruned: &Pruned) -> Result<Formula, CnfFault>
-    ensures formula { IfOk result (λ f. cnf_of f ≡ formula_left pruned.now) }
-    ensures choices { IfOk result (λ f. f.choices ≡ choices_left pruned.now) }
-    ensures lawful { IsLawful pruned.now }
-    ensures fits { IfOk result (λ _. size_fault (formula_left pruned.now) ≡ None) }
-    ensures fault { IfErr result (λ e. IsFault e (size_fault (formula_left pruned.now))) }
+pub fn reduced_formula(alloc: Global, pruned: Pruned) -> Result<Formula, CnfFault>
+    ensures formula { IfOk result (λ f. cnf_of f ≡ formula_left pruned) }
+    ensures choices { IfOk result (λ f. f.choices ≡ choices_left pruned) }
+    ensures lawful { IsLawful pruned }
+    ensures fits { IfOk result (λ _. size_fault (formula_left pruned) ≡ None) }
+    ensures fault { IfErr result (λ e. IsFault e (size_fault (formula_left pruned))) }
 {
     match pruned {
         Pruned::Dead(_) => contradiction(alloc),

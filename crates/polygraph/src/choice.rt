@@ -54,13 +54,4 @@ impl Choice {
             Side::Two => self.two(),
         }
     }
-
-    /// Sides one and two, given back.
-    pub fn into_sides(self) -> (Edges, Edges)
-        ensures one { result.0 ≡ self.one }
-        ensures two { result.1 ≡ self.two }
-    {
-        let Choice { one, two } = self;
-        (one, two)
-    }
 }

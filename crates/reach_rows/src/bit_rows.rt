@@ -9,13 +9,10 @@ ghost use Rattle.reach_rows.specs.Sources.{IsGrown};
 ghost use Rattle.serializability.specs.declared.node.TheConstants.{MAX_NODES};
 
 use crate::parts::rows_by_workers;
-use crate::source::add_source;
 use desk::gate::Gate;
 use desk::seat_no::Workers;
-use known_graph::bits::row_len;
 use known_graph::{BitTable, Known};
 use serializability::NodeIx;
-use serializability::numbers::node;
 use std::alloc::{AllocError, Global};
 use std::marker::Model;
 use std::sync::Wait;
@@ -38,20 +35,6 @@ impl Model for Rows {
 }
 
 impl Rows {
-    /// The rows of a graph, computed by the calling thread alone.
-    pub fn plain(alloc: Global, known: &Known) -> Result<Rows, AllocError>
-        ensures rows { IfOk result (λ rows. AreRowsOf rows known.now) }
-    {
-        let nodes = known.nodes();
-        let mut words = Vec::with_capacity(alloc, (nodes + 1) * row_len(nodes))?;
-        for source in 0..nodes + 1 {
-            add_source(known, node(source), &mut words)?;
-        }
-        Ok(Rows {
-            table: BitTable::of(nodes, words),
-        })
-    }
-
     /// The rows of a graph, computed by so many workers in threads of their own.
     ///
     /// Each worker has consecutive nodes, with about as many edges as those of each other one. It

@@ -4,7 +4,7 @@
 //! Called by `prune_ledger`, `branching` and `order_cnf`. It knows no choice and no log.
 //!
 //! A node reaches another by a walk of at least one edge, so it reaches itself only where it lies
-//! on a cycle. `Rows` are computed by one thread or by several workers, asked in constant time, and
+//! on a cycle. `Rows` are computed by one worker or several, asked in constant time, and
 //! kept up while edges are added to the graph.
 #![tactic(auto)]
 

@@ -99,20 +99,41 @@ fn seven_nodes_refute_every_cube(rt: HostRuntime) {
     }
 }
 
-/// The cycle of the last node, or nothing where that is no leaf.
-fn last_cycle(rt: &impl Abort, alloc: Global, nodes: &[TreeNode]) -> NodeLine {
-    match &nodes.last().expect(rt, "a node").growth {
-        Growth::Leaf(line) => {
-            NodeLine::from_nodes(line.nodes().to_vec(alloc).expect(rt, "memory"))
-        }
-        Growth::Inner { .. } => NodeLine::from_nodes(Vec::new(alloc)),
+fn copied(rt: &impl Abort, alloc: Global, growth: &Growth) -> Growth {
+    match growth {
+        Growth::Leaf(line) => Growth::Leaf(NodeLine::from_nodes(
+            line.nodes().to_vec(alloc).expect(rt, "memory"),
+        )),
+        Growth::Inner {
+            choice,
+            first,
+            second,
+        } => Growth::Inner {
+            choice: *choice,
+            first: *first,
+            second: *second,
+        },
     }
+}
+
+fn nodes_of(rt: &impl Abort, alloc: Global, tree: &Tree) -> Vec<TreeNode> {
+    let mut nodes = Vec::new(alloc);
+    for node in tree.nodes() {
+        let copy = TreeNode {
+            parent: node.parent,
+            decision: node.decision,
+            growth: copied(rt, alloc, &node.growth),
+        };
+        nodes.push(copy).expect(rt, "memory");
+    }
+    nodes
 }
 
 /// The last two nodes are leaves: the last one with the cycle of the other.
 fn with_another_cycle(rt: &impl Abort, alloc: Global, mut nodes: Vec<TreeNode>) -> Vec<TreeNode> {
     let mut last = nodes.pop().expect(rt, "a node");
-    last.growth = Growth::Leaf(last_cycle(rt, alloc, &nodes));
+    let other = nodes.last().expect(rt, "a node");
+    last.growth = copied(rt, alloc, &other.growth);
     nodes.push(last).expect(rt, "memory");
     nodes
 }
@@ -138,7 +159,8 @@ fn changed_tree<R: Threads + Wait + Clock + Abort + Sync>(
     alloc: Global,
     change: u8,
 ) -> Tree {
-    let nodes = tree_of_eight(rt, alloc, &FirstOpen, 1, &OpenGate).into_nodes();
+    let tree = tree_of_eight(rt, alloc, &FirstOpen, 1, &OpenGate);
+    let nodes = nodes_of(rt, alloc, &tree);
     Tree::from_nodes(match change {
         0 => without_the_last(nodes),
         1 => with_another_cycle(rt, alloc, nodes),

@@ -15,21 +15,21 @@ use Rattle.order_cnf.proofs.reduced.formula_of_open.Goals as goal
 
 pub of-requires-clause-strict : goal.of-requires-clause-strict
 of-requires-clause-strict c =
-    let p = c.args.reduced.now.poly in
-    let rows = c.args.reduced.now.rows in
+    let p = c.args.reduced.poly in
+    let rows = c.args.reduced.rows in
     let rest = c.left_is_proper.ensures.rest in
-    let copied = c.in_ok-rows.ensures.same ∙ c.rows.ensures.rows in
-    subst (λ g. IsStrict (is_listed g.edges)) (sym copied) (is_strict p rows rest)
+    let rows_same = c.into_parts-polygraph.ensures.rows in
+    subst (λ g. IsStrict (is_listed g.edges)) (sym rows_same) (is_strict p rows rest)
 
 pub new-layout-requires : goal.new-layout-requires
 new-layout-requires c =
-    let same = c.poly-polygraph.ensures.poly in
-    let p = c.args.reduced.now.poly in
-    let rows = c.args.reduced.now.rows in
+    let same = c.into_parts-polygraph.ensures.poly in
+    let p = c.args.reduced.poly in
+    let rows = c.args.reduced.rows in
     let rest = c.left_is_proper.ensures.rest in
-    let copied = c.in_ok-rows.ensures.same ∙ c.rows.ensures.rows in
+    let rows_same = c.into_parts-polygraph.ensures.rows in
     let nodes = ap (λ r. r.nodes) c.in_ok-relation.ensures.relation ∙ c.nodes.ensures.count ∙ ap (λ q. q.nodes) same in
-    let known = ap (λ r. r.known) c.in_ok-relation.ensures.relation ∙ ap (λ g. g.edges) copied in
+    let known = ap (λ r. r.known) c.in_ok-relation.ensures.relation ∙ ap (λ g. g.edges) rows_same in
     let choices = c.choices-choices.ensures.choices ∙ ap (λ q. q.choices) same in
     record {
       layout = record {
@@ -42,13 +42,13 @@ new-layout-requires c =
 
 pub of-requires-2-clause-sound : goal.of-requires-2-clause-sound
 of-requires-2-clause-sound c =
-    let same = c.poly-polygraph.ensures.poly in
-    let p = c.args.reduced.now.poly in
-    let rows = c.args.reduced.now.rows in
+    let same = c.into_parts-polygraph.ensures.poly in
+    let p = c.args.reduced.poly in
+    let rows = c.args.reduced.rows in
     let rest = c.left_is_proper.ensures.rest in
-    let copied = c.in_ok-rows.ensures.same ∙ c.rows.ensures.rows in
+    let rows_same = c.into_parts-polygraph.ensures.rows in
     let nodes = ap (λ r. r.nodes) c.in_ok-relation.ensures.relation ∙ c.nodes.ensures.count ∙ ap (λ q. q.nodes) same in
-    let known = ap (λ r. r.known) c.in_ok-relation.ensures.relation ∙ ap (λ g. g.edges) copied in
+    let known = ap (λ r. r.known) c.in_ok-relation.ensures.relation ∙ ap (λ g. g.edges) rows_same in
     let choices = c.choices-choices.ensures.choices ∙ ap (λ q. q.choices) same in
     let whole = rest_is c.new-layout.result p rows c.in_ok-relation.relation c.variables.result c.choices-choices.result.now _ _ _ _ rest nodes known c.variables.ensures.count choices
     c.new.ensures.items c.new-2.ensures.items c.in_ok-edges.ensures.edges c.in_ok-edges.ensures.counts c.new-layout.ensures.value in
@@ -56,20 +56,20 @@ of-requires-2-clause-sound c =
 
 pub returns : goal.returns
 returns c =
-    let same = c.poly-polygraph.ensures.poly in
-    let p = c.args.reduced.now.poly in
-    let rows = c.args.reduced.now.rows in
+    let same = c.into_parts-polygraph.ensures.poly in
+    let p = c.args.reduced.poly in
+    let rows = c.args.reduced.rows in
     let rest = c.left_is_proper.ensures.rest in
-    let copied = c.in_ok-rows.ensures.same ∙ c.rows.ensures.rows in
+    let rows_same = c.into_parts-polygraph.ensures.rows in
     let nodes = ap (λ r. r.nodes) c.in_ok-relation.ensures.relation ∙ c.nodes.ensures.count ∙ ap (λ q. q.nodes) same in
-    let known = ap (λ r. r.known) c.in_ok-relation.ensures.relation ∙ ap (λ g. g.edges) copied in
+    let known = ap (λ r. r.known) c.in_ok-relation.ensures.relation ∙ ap (λ g. g.edges) rows_same in
     let choices = c.choices-choices.ensures.choices ∙ ap (λ q. q.choices) same in
     let whole = rest_is c.new-layout.result p rows c.in_ok-relation.relation c.variables.result c.choices-choices.result.now _ _ _ _ rest nodes known c.variables.ensures.count choices
     c.new.ensures.items c.new-2.ensures.items c.in_ok-edges.ensures.edges c.in_ok-edges.ensures.counts c.new-layout.ensures.value in
     record {
-      formula = IfOk-weaker c.of-2.result _ (λ f. cnf_of f ≡ formula_of_rest c.args.reduced.now) (λ f e. ap cnf_of e ∙ whole) c.of-2.ensures.formula;
-      choices = IfOk-weaker c.of-2.result _ (λ f. f.choices ≡ length c.args.reduced.now.poly.choices) (λ f e. ap (λ d. d.choices) e ∙ ap length choices) c.of-2.ensures.formula;
+      formula = IfOk-weaker c.of-2.result _ (λ f. cnf_of f ≡ formula_of_rest c.args.reduced) (λ f e. ap cnf_of e ∙ whole) c.of-2.ensures.formula;
+      choices = IfOk-weaker c.of-2.result _ (λ f. f.choices ≡ length c.args.reduced.poly.choices) (λ f e. ap (λ d. d.choices) e ∙ ap length choices) c.of-2.ensures.formula;
       proper = c.left_is_proper.ensures.proper;
       fits = subst (λ g. IfOk c.of-2.result (λ _. size_fault g ≡ None)) whole c.of-2.ensures.fits;
-      fault = IfErr-weaker c.of-2.result _ (λ e. IsFault e (size_fault (formula_of_rest c.args.reduced.now))) (λ e h. inr (sym (ap size_fault whole) ∙ h)) c.of-2.ensures.fault;
+      fault = IfErr-weaker c.of-2.result _ (λ e. IsFault e (size_fault (formula_of_rest c.args.reduced))) (λ e h. inr (sym (ap size_fault whole) ∙ h)) c.of-2.ensures.fault;
     }
