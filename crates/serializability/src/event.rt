@@ -1,7 +1,7 @@
 //! An operation of a transaction, on a numbered key.
 
 ghost use Rattle.std.specs.Prelude.{◌≡◌};
-ghost use Rattle.serializability.specs.Events.{event_key};
+ghost use Rattle.serializability.specs.Events.{event_key, event_wid};
 
 /// A read or a write. Keys are numbered from 0, in the order of their first appearance in the log.
 #[derive(Clone, Copy, PartialEq, Eq)]
@@ -19,6 +19,15 @@ impl Event {
     {
         match self {
             Event::Read { key, .. } | Event::Write { key, .. } => key,
+        }
+    }
+
+    /// The identity.
+    pub fn wid(self) -> u64
+        ensures { result ≡ event_wid self }
+    {
+        match self {
+            Event::Read { wid, .. } | Event::Write { wid, .. } => wid,
         }
     }
 }
