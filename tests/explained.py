@@ -10,8 +10,8 @@ decided above, edges follow each other, a walk leads from where it has to to whe
 shortcut that the log shows, and a walk leads to a near one of those that would stand elsewhere, each cycle closes, each step is needed,
 and each choice that is split has both its orders, with all that is below them. Of each explanation of cycles, lines are then spoilt in
 many ways, and each has to be seen; so the test is tested too. The graph of one worker must be what the lines of the text tell, to the
-byte; where Graphviz is there, it draws those of the examples. Where SEEDS is not said, each form of line has to be met among the logs.
-Last line:
+byte; where Graphviz is there, it draws those of the examples. Crossed reads are told of a log that takes as many looks as docs/FORMATS.md
+allows, and not of one that takes one more. Where SEEDS is not said, each form of line has to be met among the logs. Last line:
 'explained: N passed, M failed'."""
 import collections, concurrent.futures, itertools, math, os, random, re, shutil, subprocess, sys
 
