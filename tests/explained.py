@@ -10,10 +10,10 @@ decided above, edges follow each other, a walk leads from where it has to to whe
 shortcut that the log shows, and a walk leads to a near one of those that would stand elsewhere, each cycle closes, each step is needed,
 and each choice that is split has both its orders, with all that is below them. Of each explanation of cycles, lines are then spoilt in
 many ways, and each has to be seen; so the test is tested too. The graph of one worker must be what the lines of the text tell, to the
-byte; where Graphviz is there, it draws those of the examples. Where SEEDS is not said, each form of line has to be met among the logs.
-Last line:
+byte; where Graphviz is there, it draws those of the examples. Crossed reads are told of a log that takes as many looks as docs/FORMATS.md
+allows, and not of one that takes one more. Where SEEDS is not said, each form of line has to be met among the logs. Last line:
 'explained: N passed, M failed'."""
-import collections, concurrent.futures, itertools, os, random, re, shutil, subprocess, sys
+import collections, concurrent.futures, itertools, math, os, random, re, shutil, subprocess, sys
 
 HERE = os.path.dirname(os.path.abspath(__file__))
 sys.path.insert(0, HERE)
@@ -37,6 +37,8 @@ LEAVES = re.compile('whichever of these versions came first, a cycle closes(?:, 
 CROSSED = 'no serial order allows all four reads: in any, one of these pairs is never current:'
 PAIR = re.compile(r'    %s reads %s %s \(line %s\) and %s %s \(line %s\)' % (NODE, KEY, NUMBER, NUMBER, KEY, NUMBER, NUMBER))
 LONG_FORK = 'known as: long fork (G-nonadjacent-item)'
+# Crossed reads are sought where that takes no more looks.
+LOOKS = 20000000
 # What is said of an edge of a step or of a decided order: whose operation, its key, and what Q wrote, behind this.
 KEPT = ('%s (?:reads|wrote) %s [1-9][0-9]* \\(line [1-9][0-9]*\\)(?:%s|%s)?, which %%s before [1-9][0-9]*, '
         'which %s wrote \\(line [1-9][0-9]*\\)' % (NODE, KEY, BEHIND, OVER, NODE))
@@ -55,7 +57,7 @@ KINDS = [('session', 'session %s' % NUMBER, 'black'), ('version order', '.+ read
          ('moments', '.+ ended at .+, .+ began at .+', 'purple')]
 # What has to be met among the logs, so that each form of line is tried.
 WANTED = ['A1', 'A2', 'A3', 'A4', 'A5', 'A6', 'A7', 'A8', 'A9', 'serializable', 'tree', 'unknown', 'refused', 'A9 forced',
-          'A9 named by a step', 'made by hand', 'on the page']
+          'A9 named by a step', 'made by hand', 'on the page', 'looks at the limit']
 WANTED += ['%s %s' % (code, kind) for code in ('A8', 'A9') for kind in ('session', 'read', 'anti-dependency', 'version order', 'moments')]
 WANTED += ['A8 of 4 edges or more', 'steps 1', 'steps 2', 'steps 3', 'steps 4 or more', 'a walk of 4 edges or more', 'a cycle with 2 steps']
 WANTED += ['tree ' + kind for kind in ('session', 'read', 'anti-dependency', 'version order', 'moments', 'forced', 'decided',
@@ -1170,6 +1172,17 @@ def large_tree(keys):
     return generate.text_of([(number, [reference.Transaction(ops, 'commit')]) for number, ops in enumerate(its, 1)])
 
 
+def looked_at(looks):
+    """A log with crossed reads, in which a search for them looks so often at a read: 48 times, and each other transaction reads as many keys
+    that nobody wrote as one square takes of what is left."""
+    its = [[('w', key, wid)] for key, wid in (('x', 1), ('x', 2), ('y', 3), ('y', 4))] + [[('r', 'x', x), ('r', 'y', y)] for x in (1, 2) for y in (3, 4)]
+    left = looks - 48
+    while left:
+        its.append([('r', 'k%d' % n, 0) for n in range(math.isqrt(left))])
+        left -= len(its[-1]) ** 2
+    return generate.text_of([(number, [reference.Transaction(ops, 'commit')]) for number, ops in enumerate(its, 1)])
+
+
 def logs(seeds):
     """The name and the text of each log. Of the first one the strategy is `first`."""
     yield 'log of a large tree', large_tree(8)
@@ -1275,6 +1288,13 @@ def wanted(program, what, text, words, right):
     return collections.Counter([what]), [None if answer == right else 'explain %s of %r: %r, wanted %r' % (' '.join(words), text, answer, right)]
 
 
+def sought(program, looks, right):
+    """Whether crossed reads are told of a log that takes so many looks."""
+    status, said, error = call(program, looked_at(looks), 'explain', '--workers', '1')
+    answer = status, error, CROSSED in said.split('\n'), said.count('cycle from ')
+    return collections.Counter(['looks at the limit']), [None if answer == (1, '', right, 4) else '%d looks: %r' % (looks, answer)]
+
+
 def on_the_page():
     """The words, the log and the text of each call of `explain` in docs/FORMATS.md and examples/EXPLAINED.md."""
     for path in ('docs/FORMATS.md', 'examples/EXPLAINED.md'):
@@ -1286,6 +1306,7 @@ def on_the_page():
 def main():
     program, seeds = os.path.abspath(sys.argv[1]), int(sys.argv[2]) if len(sys.argv) > 2 else 400
     jobs = [(wanted, 'made by hand', text, ['--format', 'text'], ['not serializable: ' + said[0], *said[1:]]) for text, said in BY_HAND]
+    jobs += [(sought, LOOKS, True), (sought, LOOKS + 1, False)]
     jobs += [(wanted, 'on the page', *it) for it in on_the_page()] + [(judged, place, *log) for place, log in enumerate(logs(seeds))]
     passed, failed, met = 0, 0, collections.Counter()
     with concurrent.futures.ThreadPoolExecutor() as pool:

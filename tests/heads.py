@@ -1,7 +1,7 @@
 #!/usr/bin/env python3
 """heads.py: the head of each crate names who calls it, as crates.txt and the sources have it.
 
-A head says so in a paragraph that begins with `Called by` or `Cited by`. Each crate that this paragraph names must stand on the crate in
+A head says so in a paragraph that begins with `Called`, `Cited` or `Named`, and each crate has one, but for programs, tests and benches. Each crate that this paragraph names must stand on the crate in
 crates.txt; one that the first sentence has behind `Called by` must name it in its code, and not in proofs alone. Each crate that calls a
 function of it must be named there, but for tests and benches; unless the paragraph speaks of a group, as `the crates that tell` or `the
 commands`. Last line: 'heads: N passed, M failed'."""
@@ -9,7 +9,7 @@ import glob, os, re, sys
 
 TOP = os.path.dirname(os.path.dirname(os.path.abspath(__file__)))
 ASIDE = re.compile(r'.*_(tests|bench)|whole_way')
-GROUP = re.compile(r'\b(crates|every crate|commands|no command|whoever)\b')
+GROUP = re.compile(r'\b(wherever|crates|every crate|commands|no command|whoever)\b')
 
 
 def text_of(path):
@@ -40,7 +40,7 @@ def paragraph(crate):
     head = re.match(r'(//!.*\n)*', text_of(path))[0] if os.path.exists(path) else ''
     for part in re.sub(r'(?m)^//! ?', '', head).split('\n\n'):
         said = ' '.join(part.split())
-        if re.match('(Called|Cited) by ', said):
+        if re.match('(Called|Cited|Named) (by|wherever) ', said):
             return re.split(r'(?<=\.) It ', said)[0]
     return None
 
@@ -49,6 +49,8 @@ def faults(crate, stands, uses):
     """What is wrong with the head of a crate."""
     said = paragraph(crate)
     if said is None:
+        if not ASIDE.fullmatch(crate) and os.path.exists(os.path.join(TOP, 'crates', crate, 'src', 'lib.rt')):
+            yield 'it says not who calls it'
         return
     named = [name for name in re.findall(r'`(\w+)`', said) if name in stands]
     first = re.split('[;.]| and cited by ', said)[0]

@@ -17,7 +17,7 @@ use std::alloc::{AllocError, Global};
 #[derive(Drop)]
 pub struct PartFile {
     pub log: Vec<u8>,
-    /// For each of its lines that of the whole log, a line each.
+    /// For each of its lines that of the whole log, a line each. No contract speaks of it.
     pub map: Vec<u8>,
 }
 

@@ -5,10 +5,12 @@
 //!
 //! # What is promised
 //!
-//! The verdict is that on the whole log, at the level of isolation that is asked for. Each part that is told is one of the log and has no order;
-//! its code is what was found of it, and the names and the lines of its transactions are the log's.
-//! The text is exactly that of what is told, but for the words of an explanation, of a reason and of
-//! what may help. The part as a log, and the order, are those of the verdict.
+//! The verdict is that on the whole log, at the level of isolation that is asked for. Each part that
+//! is told is one of the log and has no order; its code is what was found of it, and the names and
+//! the lines of its transactions are the log's. The text is exactly that of what is told, but for
+//! the words of a reason and of what may help, and at levels of snapshots those of an explanation
+//! and of a name. The part as a log, and the order, are those of the verdict. The lines of the
+//! part's map are tested.
 #![tactic(auto)]
 
 mod codes;

@@ -112,7 +112,8 @@ fn add_parts<R: Threads + Wait + Clock + Sync>(
     Ok(())
 }
 
-/// Puts parts into the order of their sizes, the least one first.
+/// Puts parts into the order of their sizes, the least one first. No contract speaks of that order;
+/// tests see it.
 fn put_least_first(told: &mut Vec<ToldPart>) -> Result<(), AllocError>
     ensures told { (o : AuditOptions) (n : ℕ) (ss : List ClientSession)
         → AreToldParts o n ss told.old.items → AreToldParts o n ss told.new.items }

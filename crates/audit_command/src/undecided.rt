@@ -1,4 +1,4 @@
-//! Why a log is not decided, and what may help.
+//! Why a log is not decided, and what may help. No contract speaks of these words.
 
 use crate::places::told_txns;
 use crate::told::ToldTxn;

@@ -31,11 +31,11 @@ pub enum Why {
     TooManyChoices,
     /// Its split log has no room for locks.
     NoRoom(NoRoom),
-    /// The time was up.
+    /// A time was set; that it was up is tested.
     NotBegun,
 }
 
-/// What became of what was proposed of a log that is not decided.
+/// What became of what was proposed of a log that is not decided. No contract speaks of it.
 #[derive(Clone, Copy, Debug, PartialEq, Eq)]
 pub enum Tried {
     /// Nothing was proposed.

@@ -40,8 +40,8 @@ fn last_reader(part: &[Session]) -> (usize, usize) {
     last
 }
 
-/// Leaves out the transaction of a part whose reads show that it has no order. The answer is whether
-/// it was not left out before.
+/// Leaves out the last transaction of a part that reads. The answer is whether it was not left out
+/// before.
 fn leave_out_shown(
     alloc: Global,
     sessions: &[Session],

@@ -170,7 +170,7 @@ fn put_known<F: Folder>(
 /// Puts two files into a folder for each piece of a long log: its log, and its map, which has a
 /// line for each line of the log: the number of the line of the long log that stands there; for a
 /// read at the end of a session that of the last read for which it stands; and `-` for the lines
-/// around such reads. The folder is made once the log is read.
+/// around such reads. The folder is made once the log is read (tested).
 ///
 /// # Errors
 /// The log's first fault, and no folder is made; the folder's failure; want of memory. Files that

@@ -22,7 +22,7 @@ pub struct KnownLog {
 }
 
 impl KnownLog {
-    /// Its pieces, of at least so many nodes.
+    /// Its pieces, of at least so many nodes. Contracts leave free which cuts are taken; tests see it.
     pub fn pieces(&self, alloc: Global, size: usize) -> Result<Pieces<'_>, AllocError>
         ensures pieces { IfOk result (λ pieces. (log : List ℕ) (known : IsKnown log self.now)
             → ArePieces (resolved known.sessions) pieces) }

@@ -142,7 +142,7 @@ fn numbered_text<R: Threads + Sync>(
 
 /// Puts a line `K TRANSACTIONS OPERATIONS` for each piece of a long log into a sink: its number
 /// from 1, its nodes, and their operations. A piece ends at the first cut before which it has at
-/// least so many nodes.
+/// least so many nodes; contracts leave free which cuts are taken, and tests see it.
 ///
 /// # Errors
 /// The log's first fault, and nothing is written; the sink's failure; want of memory.

@@ -27,8 +27,9 @@ fn empty(format: Format) -> &'static [u8]
 
 /// Why a decision about a history stands, in the places and lines that its transactions have: the
 /// operations that show an anomaly; of each edge of a cycle the reason; the forced steps that
-/// pruning's cycle needs, and the cycle; the steps that a tree needs, and the tree. Nothing, or a
-/// graph without boxes, of an order and of a spent budget.
+/// pruning's cycle needs, and the cycle; the steps that a tree needs, and the tree; before steps or a
+/// tree, reads that rule out every order, where such are sought and found. Nothing, or a graph
+/// without boxes, of an order and of a spent budget.
 pub fn explain_placed(
     alloc: Global,
     log: &PlacedHistory<'_>,

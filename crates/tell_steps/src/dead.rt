@@ -97,7 +97,8 @@ fn tell_with(
 
 /// A dead ledger, told as forced steps, and the cycle that they end in: only the steps that the
 /// cycle needs, numbered from 1, each of which rests on what the log shows and on earlier steps.
-/// They are those of a proposal, where one is right, and else those of the ledger.
+/// Which steps these are is free: those of a proposal, where one is right, and else those of the
+/// ledger.
 pub fn tell_dead(
     alloc: Global,
     history: &History,
