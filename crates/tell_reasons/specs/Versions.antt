@@ -95,7 +95,8 @@ of_text log x head = of_at log head (left_at log.history.now x head)
 -- whose version operation i of node v reads, where that is the one that `head` leaves; or who wrote
 -- an update of it that it reads
 abbrev pub from_text : PlacedHistory → ℕ → ℕ → ℕ → ℕ → List ℕ
-from_text log x head v i = if op_wid (op_at log.history.now v i) == version_of log.history.now x head
+from_text log x head v i =
+    if op_wid (op_at log.history.now v i) == version_of log.history.now x head
     then of_text log x head else behind_text log (version_of log.history.now x head) v i
 
 -- the version of a key that a node has, by its last write of it, or else by its first read, and how
