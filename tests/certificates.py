@@ -8,7 +8,7 @@ import explained, pieces_model, reference
 
 COUNTS = ('sessions', 'committed', 'aborted', 'unknown', 'taken', 'keys', 'operations', 'part')
 TITLES = {'A1 unknown read', 'A2 aborted read', 'A3 intermediate read', 'A4 own write missed', 'A5 future read', 'A6 split read', 'A7 lost update',
-          'A8 cycle of known edges', 'A9 pruning ends in a cycle', 'every cube is refuted', 'the formula is refuted'}
+          'A8 cycle of known edges', 'A9 pruning ends in a cycle', 'every order of its versions closes a cycle', 'the formula is refuted'}
 SHORT = {title.split()[0] if title[0] == 'A' else title: title for title in TITLES}
 # What the field calls the anomalies.
 NAMES = {'A2': 'aborted read (G1a)', 'A3': 'intermediate read (G1b)', 'A4': 'own write missed (internal)', 'A5': 'future read (internal)',
@@ -273,7 +273,7 @@ def check_code(program, said, part):
     if len(read_long(said)) > reference.LIMITS['sessions']:
         must(checked == (2, '', 'refused: L7 sessions\n'), '`check` says of a part of many sessions %r' % (checked,))
         return checked[1]
-    title = 'every cube is refuted' if part.title == 'the formula is refuted' else part.title
+    title = part.title if part.code else 'every cube is refuted'
     must(checked[0] == 1 and checked[1].startswith('not serializable: ' + title), '`check` says of the part %r, told is %r' % (checked, part.title))
     return checked[1]
 

@@ -26,9 +26,11 @@ EDGE = re.compile('%s before %s: (.+)' % (NODE, NODE))
 VERSION = r'[1-9][0-9]*, which %s wrote \(line [1-9][0-9]*\)' % NODE
 VERSIONS = '%s: %s, comes before %s' % (KEY, VERSION, VERSION)
 STEP = re.compile(r'\[%s\] %s:' % (NUMBER, VERSIONS))
-# Over what a version was written that is an update of another; and of one that was read, by whom.
+# Over what a version was written that is an update of another; and of one that was read, by whom. Whose version was read, where that is the
+# one itself.
 OVER = r' over (?:an update of )?(?:[1-9][0-9]*|the initial value)'
 BEHIND = r'(?:, which [1-9][0-9]*\.[1-9][0-9]* wrote \(line [1-9][0-9]*\)%s)' % OVER
+OF = r'(?: of [1-9][0-9]*\.[1-9][0-9]*|, the initial value)'
 SINCE = re.compile(r'    if [1-9][0-9]* came first, %s, which reads [0-9]+ \(line [1-9][0-9]*\)%s?, '
                    'would come before %s, but %s comes before %s:' % (NODE, BEHIND, NODE, NODE, NODE))
 CYCLE = re.compile('cycle from %s:' % NODE)
@@ -40,8 +42,8 @@ LONG_FORK = 'known as: long fork (G-nonadjacent-item)'
 # Crossed reads are sought where that takes no more looks.
 LOOKS = 20000000
 # What is said of an edge of a step or of a decided order: whose operation, its key, and what Q wrote, behind this.
-KEPT = ('%s (?:reads|wrote) %s [1-9][0-9]* \\(line [1-9][0-9]*\\)(?:%s|%s)?, which %%s before [1-9][0-9]*, '
-        'which %s wrote \\(line [1-9][0-9]*\\)' % (NODE, KEY, BEHIND, OVER, NODE))
+KEPT = ('%s (?:reads|wrote) %s [0-9]+ \\(line [1-9][0-9]*\\)(?:%s|%s|%s)?, which %%s before [1-9][0-9]*, '
+        'which %s wrote \\(line [1-9][0-9]*\\)' % (NODE, KEY, BEHIND, OVER, OF, NODE))
 # By how many decisions the walk of a step is indented.
 WALK = 2
 BY_STEP, SUPPOSED = re.compile(KEPT % r'by \[([0-9]+)\] comes'), re.compile(KEPT % 'is supposed to come')
@@ -63,7 +65,7 @@ WANTED += ['A8 of 4 edges or more', 'steps 1', 'steps 2', 'steps 3', 'steps 4 or
 WANTED += ['tree ' + kind for kind in ('session', 'read', 'anti-dependency', 'version order', 'moments', 'forced', 'decided',
                                        'of depth 2', 'of depth 3', 'of depth 4 or more', 'of more than 1000 leaves')]
 WANTED += ['a step by a read', 'a step by a read of an update', 'a step by a walk alone', 'forced over an update', 'decided over an update']
-WANTED += ['forced reads of an update', 'forced wrote of an update', 'decided reads of an update']
+WANTED += ['forced reads of an update', 'forced wrote of an update', 'decided reads of an update', 'forced of a writer', 'decided of a writer']
 WANTED += ['A9 known as: ' + name for name in
            ('cycle with one missed write (G-single)', 'cycle with one missed write and sessions (G-single-process)',
             'cycle of writes and real time (G0-realtime)', 'a read from the future (G1c-process)', 'read skew (G-single)',
@@ -299,6 +301,10 @@ class Log:
         writer = self.writers[read.key, read.wid]
         return ', which %s wrote (line %d)%s' % (writer.name, writer.writes(read.key)[-1].line, self.over(writer, read.key, base))
 
+    def whose(self, read):
+        """Whose version a read names, as the log has it."""
+        return ' of ' + self.writers[read.key, read.wid].name if read.wid else ', the initial value'
+
     def update(self, it, op, key, first):
         """How what an operation names is an update of the version of the first writer of a chain, where it is another."""
         left = self.named[first].writes(key)[-1].wid
@@ -310,7 +316,8 @@ class Log:
         a, b = (self.named[name] for name in edge)
         op = (a.writes(key)[-1:] or [op for op in a.ops if (op.kind, op.key) == ('r', key)])[0]
         left, verb = b.writes(key)[-1], 'wrote' if op.kind == 'w' else 'reads'
-        said = (a.name, verb, key, op.wid, op.line, self.update(a, op, key, first), which, left.wid, b.name, left.line)
+        held = self.update(a, op, key, first) or (self.whose(op) if op.kind == 'r' else '')
+        said = (a.name, verb, key, op.wid, op.line, held, which, left.wid, b.name, left.line)
         return '%s %s %s %d (line %d)%s, which %s before %d, which %s wrote (line %d)' % said
 
     def said_of_step(self, number, key, first, second, u, v):
@@ -551,6 +558,7 @@ class Telling:
             self.met['an order of 2 decided above'] += len(rights) > 1
             self.met['%s over an update' % kind] += kind in ('forced', 'decided') and ' over an update of ' in said
             self.met['%s %s of an update' % (kind, said.split(' ')[1])] += kind in ('forced', 'decided') and ' over ' in said
+            self.met['%s of a writer' % kind] += kind in ('forced', 'decided') and bool(re.search(r'\(line [0-9]+\) of ', said))
             found.append((a, b, rights[said]))
         told(found, '%s: no edge at %r' % (where, self.rest()))
         return found
@@ -713,7 +721,7 @@ def spoilt(r, text, checked, explained):
             yield 'a step is named that is no earlier one', instead(n, bare[n].replace(named, '[%d]' % later))
         yield 'a step of number 0 is named', instead(n, bare[n].replace(named, '[0]'))
         yield 'a step is called a supposition', instead(n, bare[n].replace('by %s comes' % named, 'is supposed to come'))
-        yield from spoilt_update(bare, n, instead)
+        yield from spoilt_update(log, bare, n, instead)
     if orders:
         yield from spoilt_tree(r, log, lines, bare, without, instead)
     if not steps:
@@ -771,11 +779,18 @@ def spoilt_crossed(r, lines):
     yield 'a read is indented otherwise', lines[:n] + [lines[n][2:]] + lines[n + 1:]
 
 
-def spoilt_update(bare, n, instead):
-    """The same of what an edge by an order says of the version of which another is an update."""
+def spoilt_update(log, bare, n, instead):
+    """The same of what an edge by an order says of whose version one is, or of which it is an update."""
     head, tail = re.fullmatch(r'(.*?\(line [0-9]+\))(.*)', bare[n]).groups()
-    update = re.match('(?:%s|%s)?' % (BEHIND, OVER), tail)[0]
-    tail = tail[len(update):]
+    update, whose = (re.match('(?:%s)?' % form, tail)[0] for form in ('%s|%s' % (BEHIND, OVER), OF))
+    tail = tail[len(update or whose):]
+    if whose:
+        yield 'it is not told whose version is read', instead(n, head + tail)
+        yield 'the line of a writer is told', instead(n, head + ', which %s wrote (line 1)' % whose[4:] + tail)
+    for it in [it for it in log.transactions if whose != ' of ' + it.name][:3]:
+        yield 'a version is of another writer', instead(n, head + ' of ' + it.name + tail)
+    if whose != ', the initial value':
+        yield 'a version is the initial value', instead(n, head + ', the initial value' + tail)
     if update:
         yield 'it is not told over what a version was written', instead(n, head + tail)
         yield 'a version was written over another', instead(n, head + update + '9' + tail)
@@ -822,7 +837,7 @@ def spoilt_tree(r, log, lines, bare, without, instead):
     chosen = [(n, *found.groups()) for n, found in ((n, EDGE.fullmatch(line)) for n, line in enumerate(bare)) if found and SUPPOSED.fullmatch(found[3])]
     for n, a, b, said in chosen[:3]:
         found = SUPPOSED.fullmatch(said)
-        yield from spoilt_update(bare, n, instead)
+        yield from spoilt_update(log, bare, n, instead)
         yield 'an order of another key is named', instead(n, '%s before %s: %s' % (a, b, said[:found.end(2)] + '_' + said[found.end(2):]))
         yield 'a supposition is called a step', instead(n, '%s before %s: %s' % (a, b, said.replace('is supposed to come', 'by [1] comes')))
         for it in log.nodes:

@@ -25,6 +25,8 @@ LONG = 3000
 BROWSERS, AROUND = ('chromium-headless-shell', 'chromium'), 70
 # Another test installs what it needs meanwhile, and of two that read the lists of packages at once one would fail.
 ALONE = 'flock', '--no-fork', '/var/lib/apt'
+# What `check` and the headline of `audit` say of a log of which every cube is refuted.
+TREES = explained.EVERY_CUBE, 'not serializable: every order of its versions closes a cycle'
 BEFORE, LINE = re.compile(r'^ *([0-9.]+) before ([0-9.]+): (.*)$', re.M), re.compile(r'\(line ([0-9]+)\)')
 # Measures and tries what only a browser knows, in each page, which is a frame of this one, and leaves what is wrong, and the pages as they stand.
 TRIED = r'''
@@ -172,7 +174,7 @@ def cycles_of(said):
 def expected(said):
     """The edges that are bold arrows, and how many arrows else lead from one told line to another."""
     first, runs = said.split('\n')[0], cycles_of(said)
-    if first == explained.EVERY_CUBE:
+    if first in TREES:
         steps, tree = said.count('\n['), []
         for run in runs[steps:]:
             if sorted(run) not in map(sorted, tree):
@@ -233,7 +235,7 @@ def fault(page, text, said):
 
 
 def explained_by_audit(program, path):
-    """What `audit --explain` tells of the part of a log, behind a first line as `explain` has it; None where the log is not refuted."""
+    """What `audit --explain` tells of the part of a log, behind its headline as a verdict; None where the log is not refuted."""
     ran = subprocess.run([program, 'audit', '--explain', '--workers', '1', path], stdout=subprocess.PIPE, stderr=subprocess.PIPE, timeout=120)
     first, *lines = ran.stdout.decode().split('\n')
     if ran.returncode != 1:

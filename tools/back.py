@@ -4,7 +4,7 @@ import json, re
 NAME, KEY = r'[1-9][0-9]*\.[1-9][0-9]*', r'[A-Za-z0-9_.:/-]+'
 # What a told line is made of; all else stays as it is. A key may look like a name, so what has a key comes before the names.
 PARTS = re.compile(r'''
-    (?P<verb>\b(?:reads|writes|wrote|overwrites\ it\ with|and)\ (?:%(key)s\ )??)(?P<id>[0-9]+)\ \(line\ (?P<at>[0-9]+)\)
+    (?P<verb>\b(?:reads|writes|wrote|overwrites\ it\ with|and)\ (?:%(key)s\ )??)(?P<id>[0-9]+)\ \(line\ (?P<at>[0-9]+)\)(?:\ of\ (?P<whose>%(name)s))?
         (?P<initial>,\ the\ initial\ value)?(?:,\ which\ (?P<writer>%(name)s|no\ transaction)\ wrote(?:\ \(line\ [0-9]+\)|\b(?!\ to)))?
     | (?P<own>(?:and\ overwrote\ with\ [0-9]+|writes\ itself\ only\ later)\ \(line\ (?P<own_at>[0-9]+)\))
     | (?P<head>(?:^\[[0-9]+\]|\bsuppose)\ )%(key)s:\ (?P<head_id>[0-9]+),\ which\ (?P<head_writer>%(name)s)\ wrote\ \(line\ (?P<head_at>[0-9]+)\)
@@ -84,7 +84,8 @@ class Retold:
             words, writer = self.words(self.operation(found['at'], found['id']))
             words = 'and ' * (verb == 'and') + words
             name = found['writer'] if found['writer'] in (None, 'no transaction') else self.name(found['writer'])
-            return words + (', ' + writer % name if name else '')
+            whose = ' ' + writer % self.name(found['whose']) if found['whose'] else ''
+            return words + whose + (', ' + writer % name if name else '')
         if found['own']:
             record = self.operation(found['own_at'])
             done = self.done(record)

@@ -6,15 +6,19 @@ from typing import List, Optional, Tuple
 
 NODE, NUMBER, KEY = r'([1-9][0-9]*\.[1-9][0-9]*)', r'([1-9][0-9]*)', r'([A-Za-z0-9_.:/-]+)'
 LINE = re.compile(r'\(line %s\)' % NUMBER)
-REFUTED = re.compile('not serializable: (?:(A[1-9]) .+|every cube is refuted)')
+# Of a log of which every cube is refuted: what `check` says, and what `audit` says of a part.
+EVERY_CUBE, EVERY_ORDER = 'every cube is refuted', 'every order of its versions closes a cycle'
+REFUTED = re.compile('not serializable: (?:(A[1-9]) .+|%s|%s)' % (EVERY_CUBE, EVERY_ORDER))
 ROUND = re.compile(r'cycle((?: [0-9]+\.[0-9]+)+)')
 EDGE = re.compile('%s before %s: (.+)' % (NODE, NODE))
 VERSION = r'([0-9]+), which %s wrote \(line %s\)' % (NODE, NUMBER)
 VERSIONS = '%s: %s, comes before %s' % (KEY, VERSION, VERSION)
 STEP = re.compile(r'\[%s\] %s:' % (NUMBER, VERSIONS))
-# Over what a version was written that is an update of another; and of one that was read, by whom.
+# Over what a version was written that is an update of another; and of one that was read, by whom. Whose version was read, where that is the
+# one itself.
 OVER = r' over (?:an update of )?(?:[0-9]+|the initial value)'
 BEHIND = r'(?:, which [1-9][0-9]*\.[1-9][0-9]* wrote \(line [1-9][0-9]*\)%s)' % OVER
+OF = r'(?: of [1-9][0-9]*\.[1-9][0-9]*|, the initial value)'
 SINCE = re.compile(r'    if [0-9]+ came first, %s, which reads [0-9]+ \(line %s\)%s?, would come before %s, but %s comes before %s:'
                    % (NODE, NUMBER, BEHIND, NODE, NODE, NODE))
 CYCLE = re.compile('cycle from %s:' % NODE)
@@ -24,7 +28,7 @@ LEAVES = re.compile('whichever of these versions came first, a cycle closes(?:, 
 CROSSED = re.compile('no serial order allows all four reads: in any, one of these pairs is never current:')
 PAIR = re.compile(r'    %s reads %s ([0-9]+) \(line %s\) and %s ([0-9]+) \(line %s\)' % (NODE, KEY, NUMBER, KEY, NUMBER))
 # What is said of an edge by an order of versions: what its first transaction has of the key, and what the second one wrote.
-KEPT = r'%s (?:reads|wrote) %s ([0-9]+) \(line %s\)(?:%s|%s)?, which %%s before %s' % (NODE, KEY, NUMBER, BEHIND, OVER, VERSION)
+KEPT = r'%s (?:reads|wrote) %s ([0-9]+) \(line %s\)(?:%s|%s|%s)?, which %%s before %s' % (NODE, KEY, NUMBER, BEHIND, OVER, OF, VERSION)
 # By how many decisions the walk of a step is indented.
 WALK = 2
 # Where a line of an anomaly names a transaction.
@@ -38,10 +42,10 @@ KINDS = [('session', re.compile('session %s' % NUMBER)), ('forced', re.compile(K
          ('moments', re.compile('.+ ended at ([0-9]+) .+, .+ began at ([0-9]+) .+'))]
 # The code of a log of which every cube is refuted: it has none of its own.
 TREE = 'tree'
-# What `check` says of each code that the JSON of `audit` has.
+# What the headline of `audit` says of each code that its JSON has.
 FAULTS = {'A1': 'A1 unknown read', 'A2': 'A2 aborted read', 'A3': 'A3 intermediate read', 'A4': 'A4 own write missed', 'A5': 'A5 future read',
           'A6': 'A6 split read', 'A7': 'A7 lost update', 'A8': 'A8 cycle of known edges', 'A9': 'A9 pruning ends in a cycle',
-          None: 'every cube is refuted'}
+          None: EVERY_ORDER}
 
 
 class Unread(Exception):

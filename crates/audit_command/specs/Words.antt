@@ -31,7 +31,7 @@ abbrev pub finding_title : Finding → List ℕ
 finding_title (finding.Anomaly a) = anomaly_title a
 finding_title finding.Cycle = codes "A8 cycle of known edges"
 finding_title finding.Dead = codes "A9 pruning ends in a cycle"
-finding_title finding.Refuted = codes "every cube is refuted"
+finding_title finding.Refuted = codes "every order of its versions closes a cycle"
 finding_title finding.Formula = codes "the formula is refuted"
 
 -- a verdict in words

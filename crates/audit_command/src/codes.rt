@@ -40,7 +40,7 @@ pub fn finding_title(finding: Finding) -> &'static str
         Finding::Anomaly(anomaly) => anomaly_title(anomaly),
         Finding::Cycle => "A8 cycle of known edges",
         Finding::Dead => "A9 pruning ends in a cycle",
-        Finding::Refuted => "every cube is refuted",
+        Finding::Refuted => "every order of its versions closes a cycle",
         Finding::Formula => "the formula is refuted",
     }
 }

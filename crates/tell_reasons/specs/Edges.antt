@@ -40,8 +40,8 @@ abbrev pub comes_by : Option ℕ → List ℕ
 comes_by (Some k) = codes ", which by [" ++ decimal (k + 1) ++ codes "] comes before "
 comes_by None = codes ", which is supposed to come before "
 
--- what a has of the key of this order, and that it comes before what b wrote of it: `1.7 wrote k27
--- 9001 (line 32), which by [1] comes before 9005, which 2.1 wrote (line 40)`
+-- what a has of the key of this order, and that it comes before what b wrote of it: `7.1 reads y 3
+-- (line 30) of 3.1, which by [1] comes before 4, which 4.1 wrote (line 15)`
 abbrev pub comes_text : PlacedHistory → ChainOrder → ℕ → ℕ → Option ℕ → List ℕ
 comes_text log o a b step = held_text log o.key o.first a ++ comes_by step
     ++ version_text log o.key b ++ codes "\n"

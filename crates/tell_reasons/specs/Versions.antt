@@ -84,21 +84,36 @@ abbrev pub updates_text : List ClientSession → ℕ → ℕ → ℕ → List �
 updates_text ss base v i = if op_wid (op_at ss v i) == base then [] else
     over_text ss (key_number ss v i) base v
 
--- the version of a key that a node has, by its last write of it, or else by its first read, and how
--- that goes back to that of `head`: `9.16 reads k1 16013 (line 1193), which 4.2 wrote (line 77) over
--- 16009`
-abbrev pub had_at : PlacedHistory → ℕ → ℕ → Option ℕ → List ℕ
-had_at log version v None = named log v
-had_at log version v (Some i) = reads_text log v i ++ behind_text log version v i
+-- whose version of a key it is that node `head` leaves: ` of 3.1`
+abbrev pub of_at : PlacedHistory → ℕ → Option ℕ → List ℕ
+of_at log head None = codes ", the initial value"
+of_at log head (Some i) = codes " of " ++ named log head
 
-abbrev pub held_at : PlacedHistory → ℕ → ℕ → Option ℕ → Option ℕ → List ℕ
-held_at log version v None read = had_at log version v read
-held_at log version v (Some i) read =
-    does_text log v (codes " wrote ") i ++ updates_text log.history.now version v i
+abbrev pub of_text : PlacedHistory → ℕ → ℕ → List ℕ
+of_text log x head = of_at log head (left_at log.history.now x head)
+
+-- whose version operation i of node v reads, where that is the one that `head` leaves; or who wrote
+-- an update of it that it reads
+abbrev pub from_text : PlacedHistory → ℕ → ℕ → ℕ → ℕ → List ℕ
+from_text log x head v i =
+    if op_wid (op_at log.history.now v i) == version_of log.history.now x head
+    then of_text log x head else behind_text log (version_of log.history.now x head) v i
+
+-- the version of a key that a node has, by its last write of it, or else by its first read, and how
+-- that goes back to that of `head`: `7.1 reads y 3 (line 30) of 3.1`, `9.16 reads k1 16013 (line
+-- 1193), which 4.2 wrote (line 77) over 16009`
+abbrev pub had_at : PlacedHistory → ℕ → ℕ → ℕ → Option ℕ → List ℕ
+had_at log x head v None = named log v
+had_at log x head v (Some i) = reads_text log v i ++ from_text log x head v i
+
+abbrev pub held_at : PlacedHistory → ℕ → ℕ → ℕ → Option ℕ → Option ℕ → List ℕ
+held_at log x head v None read = had_at log x head v read
+held_at log x head v (Some i) read = does_text log v (codes " wrote ") i
+    ++ updates_text log.history.now (version_of log.history.now x head) v i
 
 abbrev pub held_text : PlacedHistory → ℕ → ℕ → ℕ → List ℕ
-held_text log x head v = held_at log (version_of log.history.now x head) v
-    (left_at log.history.now x v) (read_at log.history.now x v)
+held_text log x head v =
+    held_at log x head v (left_at log.history.now x v) (read_at log.history.now x v)
 
 -- which of two versions of a key comes first: `x: 25, which 11.1 wrote (line 54), comes before 20,
 -- which 6.1 wrote (line 28)`

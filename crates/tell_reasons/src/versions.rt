@@ -7,9 +7,9 @@ ghost use Rattle.log_definitions.specs.Numbers.{log_of};
 ghost use Rattle.tell_reasons.specs.Versions as spec;
 ghost use Rattle.tell_reasons.specs.Versions.{version_text, versions_text, over_text};
 ghost use Rattle.tell_reasons.specs.Versions.{writer_text, source_text, behind_text, updates_text};
-ghost use Rattle.tell_reasons.specs.Versions.{since_text, had_at, held_text};
+ghost use Rattle.tell_reasons.specs.Versions.{since_text, of_text, from_text, had_at, held_text};
 
-use crate::phrases::{key_number, wid_at};
+use crate::phrases::{key_number, put_text, wid_at};
 use crate::places::{first_read_among, last_among};
 use crate::say;
 use crate::why::ChainOrder;
@@ -161,24 +161,63 @@ fn put_updates(
     }
 }
 
-/// Appends a node's first read of a key, and how that goes back to a version, as `9.16 reads k1
-/// 16013 (line 1193), which 4.2 wrote (line 77) over 16009`.
+/// Appends whose version of a key it is that `head` leaves, as ` of 3.1`.
+#[tactic(auto, using(crate::proofs::Begun::op_within))]
+fn put_of(
+    out: &mut Vec<u8>,
+    log: &PlacedHistory<'_>,
+    key: usize,
+    head: NodeIx,
+) -> Result<(), AllocError>
+    ensures text { OnOk result (out.new.items ≡ out.old.items ++ of_text log.now key head) }
+{
+    match left_at(log.history, key, head) {
+        Some(_) => say!(out, log; Text(b" of "), Node(head)),
+        None => put_text(out, b", the initial value"),
+    }
+}
+
+/// Appends whose version an operation reads, where that is the one that `head` leaves; or who wrote
+/// an update of it that it reads.
+fn put_from(
+    out: &mut Vec<u8>,
+    log: &PlacedHistory<'_>,
+    key: usize,
+    head: NodeIx,
+    node: NodeIx,
+    op: usize,
+) -> Result<(), AllocError>
+    requires op { op < length (ops_of log.now.history.now node) }
+    ensures text { OnOk result (out.new.items
+        ≡ out.old.items ++ from_text log.now key head node op) }
+{
+    let version = version_of(log.history, key, head);
+    if wid_at(log.history, node, op) == version {
+        put_of(out, log, key, head)
+    } else {
+        put_behind(out, log, version, node, op)
+    }
+}
+
+/// Appends a node's first read of a key, and how that goes back to the version of `head`, as `7.1
+/// reads y 3 (line 30) of 3.1`, or `9.16 reads k1 16013 (line 1193), which 4.2 wrote (line 77) over
+/// 16009`.
 #[tactic(auto, using(reason_laws::proofs::Numbers::within))]
 fn put_had(
     out: &mut Vec<u8>,
     log: &PlacedHistory<'_>,
-    version: u64,
     key: usize,
+    head: NodeIx,
     node: NodeIx,
 ) -> Result<(), AllocError>
     requires node { IsNode log.now.history.now node }
     ensures text { OnOk result (out.new.items ≡ out.old.items
-        ++ had_at log.now version node (spec.read_at log.now.history.now key node)) }
+        ++ had_at log.now key head node (spec.read_at log.now.history.now key node)) }
 {
     match read_at(log.history, key, node) {
         Some(op) => {
             say!(out, log; Does(node, b" reads ", op))?;
-            put_behind(out, log, version, node, op)
+            put_from(out, log, key, head, node, op)
         }
         None => say!(out, log; Node(node)),
     }
@@ -196,13 +235,12 @@ pub fn put_held(
     requires node { IsNode log.now.history.now node }
     ensures text { OnOk result (out.new.items ≡ out.old.items ++ held_text log.now key head node) }
 {
-    let version = version_of(log.history, key, head);
     match left_at(log.history, key, node) {
         Some(op) => {
             say!(out, log; Does(node, b" wrote ", op))?;
-            put_updates(out, log, version, node, op)
+            put_updates(out, log, version_of(log.history, key, head), node, op)
         }
-        None => put_had(out, log, version, key, node),
+        None => put_had(out, log, key, head, node),
     }
 }
 
