@@ -1,5 +1,6 @@
-//! What unit propagation finds of a step: the clauses that the checker is to be shown. Nothing
-//! rests on it: where it finds none, `plain` has the last word.
+//! What unit propagation finds of a step: the clauses that the checker is to be shown. Where it
+//! finds none, `plain` has the last word. Roots are given to the checker; that they follow is proved
+//! here.
 
 ghost use Rattle.std.specs.Prelude.{◌≡◌, ◌∷◌, [], List, Option, Some, IfOk, OnOk, IsTrue, IsFalse};
 ghost use Rattle.serializability.specs.declared.literal.Literal.{Literal};
