@@ -791,11 +791,11 @@ class Driver:
 
 
 def page(checks):
-    """The lines of Python that docs/COLLECTING.md has, as they stand there."""
+    """The first lines of Python that docs/COLLECTING.md has, and its `look`, as they stand there."""
     with open(os.path.join(os.path.dirname(HERE), 'docs', 'COLLECTING.md'), encoding='utf-8') as file:
         blocks = re.findall(r'^```python\n(.*?)^```', file.read(), re.M | re.S)
     store = Store(random.Random(1))
-    names = {'SerializationFailure': Aborted, 'ConnectionLost': Lost}
+    names = {'SerializationFailure': Aborted, 'ConnectionLost': Lost, 'connect': lambda: Driver(Connection(store, 4))}
     back = os.getcwd()
     os.chdir(checks.folder)
     exec(blocks[0], names)
@@ -806,7 +806,7 @@ def page(checks):
     for thread in threads:
         thread.join()
     names.update(store=Driver(Connection(store, 4)))
-    exec(blocks[1], names)
+    exec(next(it for it in blocks if it.startswith('def look')), names)
     names['look'](['stock/7'])
     with quiet() as told:
         warnings = names['run'].close()

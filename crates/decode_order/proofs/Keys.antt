@@ -2,11 +2,11 @@
 use Rattle.std.proofs.Common.{ℕ, ◌<◌, List, [], ◌∷◌, length}
 use Rattle.std.specs.List.{AllByRecursion}
 use Rattle.session_log.specs.Text.{ClientSession}
+use Rattle.session_log.specs.Text as text
 use Rattle.session_log.specs.declared.session.Op.{Op}
 use Rattle.session_log.specs.declared.session.Op.TheVariants.{Read, Write}
 use Rattle.serializability.specs.declared.event.Event.{Event}
 use Rattle.log_definitions.specs.WellFormed.{keys_in}
-use Rattle.log_definitions.specs.WellFormed as text
 use Rattle.log_definitions.specs.Serial.{ops_of}
 use Rattle.log_definitions.specs.Numbers.{events_of, log_of}
 use Rattle.log_definitions.proofs.Keys.{Listed, all_listed, number_below}
