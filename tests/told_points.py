@@ -32,7 +32,7 @@ WROTE = re.compile('%s, which %s wrote \\(line (\\d+)\\)' % (READS, NAME))
 LATER = re.compile('%s, which %s writes itself only later \\(line (\\d+)\\)' % (READS, NAME))
 OVERWRITES = re.compile('%s, and %s overwrites it with (\\d+) \\(line (\\d+)\\)' % (READS, NAME))
 INITIAL = re.compile('%s, the initial value, and %s wrote %s (\\d+) \\(line (\\d+)\\)' % (READS, NAME, KEY))
-BEHIND = re.compile('%s, which by \\[(\\d+)\\] comes before (\\d+), which %s wrote \\(line (\\d+)\\)' % (READS, NAME))
+BEHIND = re.compile('%s of %s, which by \\[(\\d+)\\] comes before (\\d+), which %s wrote \\(line (\\d+)\\)' % (READS, NAME, NAME))
 MOMENTS = re.compile('%s ended at (\\d+) \\(line (\\d+)\\), %s began at (\\d+) \\(line (\\d+)\\)' % (NAME, NAME))
 SESSION, STEP = re.compile('session (\\d+)'), re.compile('by \\[(\\d+)\\]')
 WANTED = {'lost update', 'read skew (G-single)', 'circular information flow (G1c)', 'long fork (G-nonadjacent-item)', 'aborted read (G1a)',
@@ -111,10 +111,11 @@ class Telling:
             log.must_read(reader, key, wid, line), log.must_write(writer, again, new, at)
             is_right = (reader, writer, wid, key) == (one[0], other[0], '0', again) and shape == ('snapshot', 'commit') and reader != writer
         elif found := BEHIND.fullmatch(reason):
-            reader, key, wid, line, step, new, writer, at = found.groups()
+            reader, key, wid, line, of, step, new, writer, at = found.groups()
             log.must_read(reader, key, wid, line), log.must_write(writer, key, new, at)
             is_right = (reader, writer) == (one[0], other[0]) and shape == ('snapshot', 'commit') and reader != writer
-            must(self.step(step) == (log.wrote(key, wid), writer), 'step %s says something else: %r' % (step, reason))
+            must(of == log.wrote(key, wid), 'not of %s: %r' % (of, reason))
+            must(self.step(step) == (of, writer), 'step %s says something else: %r' % (step, reason))
         elif found := MOMENTS.fullmatch(reason):
             first, ended, line, second, begun, at = found.groups()
             must(self.level.startswith('strict') and int(ended) < int(begun), reason)

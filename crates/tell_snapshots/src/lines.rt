@@ -39,6 +39,17 @@ fn read_text(alloc: Global, part: &Part<'_>, read: Access<'_>) -> Result<String,
     format!(in alloc; "{node} reads {key} {wid} (line {line})")
 }
 
+/// Whose version is read, as ` of 3.1`.
+fn writer_text(alloc: Global, part: &Part<'_>, read: Access<'_>) -> Result<String, AllocError> {
+    match part.writes.iter().find(|write| write.is_same(&read)) {
+        Some(write) => {
+            let writer = name(alloc, part, write.node)?;
+            format!(in alloc; " of {writer}")
+        }
+        None => Ok(String::new(alloc)),
+    }
+}
+
 /// Two moments.
 fn moments_text(
     alloc: Global,
@@ -84,9 +95,12 @@ fn read_reason(
     let (node, line) = (name(alloc, part, write.node)?, write.line);
     let (key, wid) = (key_text(write.key), write.wid);
     match why {
-        Why::Behind { .. } => format!(in alloc;
-            "{reads}, which by [{step}] comes before {wid}, which {node} wrote (line {line})"
-        ),
+        Why::Behind { .. } => {
+            let of = writer_text(alloc, part, read)?;
+            format!(in alloc;
+                "{reads}{of}, which by [{step}] comes before {wid}, which {node} wrote (line {line})"
+            )
+        }
         Why::Missed { .. } if is_read_by_both(part, read, write) => {
             format!(in alloc; "{reads}, and {node} overwrites it with {wid} (line {line})")
         }
