@@ -1,8 +1,10 @@
-use Rattle.std.proofs.Common.{◌≡◌, List, ◌+◌, Bool, length, drop, map, sym, ap, ◌∙◌, subst, arith, length-append, Vec}
+use Rattle.std.proofs.Common.{◌≡◌, List, ◌+◌, ◌≤◌, Bool, length, drop, map, sym, ap, ◌∙◌, subst, arith, length-append, Vec}
 use Rattle.list_lemmas.proofs.Elements.{get_drop, item}
 use Rattle.session_log.specs.Text.{ClientSession, view, session_lines}
 use Rattle.log_definitions.specs.WellFormed.{log_lines}
 use Rattle.session_log.specs.Version.{first_line}
+use Rattle.session_log.specs.declared.version.Version.{Version}
+use Rattle.session_log.specs.declared.version.Version.TheVariants.{One, Two, Three}
 use Rattle.part_laws.specs.Chosen.{thin}
 use Rattle.log_parts.specs.Picked.{flag_of, flags_view, picked}
 use Rattle.log_lines.specs.Rows.{Table, Fits, view_place}
@@ -12,6 +14,11 @@ use Rattle.part_places.proofs.Added.{IsTable, table_more, table_past, whole_tabl
 use Rattle.part_places.proofs.Whole.{fits}
 use Rattle.part_places.proofs.part.part_places.Goals.{then-at-flags+in_ok-add_session, else-at-flags}
 use Rattle.part_places.proofs.part.part_places.Goals as goal
+
+first_low : (v : Version) → first_line v ≤ 2
+first_low One = omega arith
+first_low Two = omega arith
+first_low Three = omega arith
 
 pub loop-at-preserved : goal.loop-at-preserved
 loop-at-preserved c =
@@ -29,8 +36,10 @@ loop-at-preserved c =
     let count : length (log_lines (map view (drop i sessions))) ≡ length (session_lines (view s)) + length (log_lines (map view rest)) =
     ap (λ l. length (log_lines (map view l))) (get_drop sessions i s at) ∙ length-append (session_lines (view s)) (log_lines (map view rest)) in
     let before = c.loop-at.invariant.room in
+    let exact : c.line_count-line.result ≡ length (session_lines (view s)) =
+    omega (arith, c.line_count-line.ensures, count, before, first_low c.args.version, c.requires) in
     record {
-      rows = λ known same. (let m = c.loop-at.invariant.rows known same in subst (λ k. IsTable known flags sessions part first (map (λ s. map view_place s.items) c.if-at-flags.table.items) (line + k) (i + 1)) (sym c.session_line_count-line.ensures)
+      rows = λ known same. (let m = c.loop-at.invariant.rows known same in subst (λ k. IsTable known flags sessions part first (map (λ s. map view_place s.items) c.if-at-flags.table.items) (line + k) (i + 1)) (sym exact)
           (elim c.if-at-flags.branch [
             | then-at-flags+in_ok-add_session w ↦
                 let f = w.index-flags-at.result in
@@ -43,7 +52,7 @@ loop-at-preserved c =
                 subst (λ (v : Vec (Vec TxnPlace _) _). IsTable known flags sessions part first (map (λ s. map view_place s.items) v.items) next (i + 1)) (sym w.table-is)
                 (table_past known flags sessions part first old line next i w.if-at-flags.false m)
           ]));
-      room = omega (arith, count, before, c.session_line_count-line.ensures);
+      room = omega (arith, count, before, exact);
     }
 
 pub returns-clause-fits : goal.returns-clause-fits

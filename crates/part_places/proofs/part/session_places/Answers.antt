@@ -22,7 +22,7 @@ loop-at-preserved c =
     ap (λ l. length (flat_map txn_lines (map view_txn l))) (get_drop txns i t at) ∙ length-append (txn_lines (view_txn t)) (flat_map txn_lines (map view_txn rest)) in
     let before = c.loop-at.invariant.room in
     record {
-      rows = λ known more same. (subst (λ k. AreRows known f txns left c.args.first more new (line + k) (i + 1)) (sym c.txn_line_count-line.ensures)
+      rows = λ known more same. (subst (λ k. AreRows known f txns left c.args.first more new (line + k) (i + 1)) (sym c.line_count-line.ensures)
           (rows_more known f txns left c.args.first more (map view_place c.loop-at.rows.items) new line i t c.is_flagged.result at c.is_flagged.ensures (c.in_ok-add_txn.ensures known) (c.loop-at.invariant.rows known more same)));
-      room = omega (arith, count, before, c.txn_line_count-line.ensures);
+      room = omega (arith, count, before, c.line_count-line.ensures);
     }
