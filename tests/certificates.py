@@ -82,6 +82,13 @@ def counted(sessions):
 
 # ---- an answer in text
 
+# What stands behind a part where a client or its recorder is more often at fault than a store.
+ORDER = 'check first: did the client record its operations in their order?'
+HINTS = {'A1': 'check first: does the log have the writes of all clients?', 'A4': ORDER, 'A5': ORDER}
+# What is said where a log has an order without its moments, and none with them.
+TIME_ALONE = 'only real time was broken: without it the whole log is serializable'
+
+
 class Part:
     """A part that is told: what was found of it, its transactions with their lines, and why it has no order."""
 
@@ -98,7 +105,9 @@ class Part:
         must(found and listed == 'transactions ' + ', '.join(said), 'the transactions: %r' % listed)
         must(int(count) == len(found) == len(self.lines), 'says %s transactions, tells %d' % (count, len(self.lines)))
         must(('transaction:' in heading) == (len(found) == 1), 'the noun: %r' % heading)
-        self.why = why
+        hint = HINTS.get(self.code)
+        must(hint is None or why[-1:] == [hint], 'behind a part of %s stands %r' % (self.code, why[-1:]))
+        self.why = why[:-1] if hint else why
         told = [line[len('known as: '):] for line in why if line.startswith('known as: ')]
         must(not told or self.known_as in told, 'known as %r, and told as %r' % (self.known_as, told))
         must(self.code not in NAMES or self.known_as in (None, NAMES[self.code]), 'A %s known as %r' % (self.code, self.known_as))
@@ -143,9 +152,14 @@ class Answer:
                 shows = ', as %s' % ('shown above' if self.shown is None else 'the next part shows') if (level, found[1]) == (last, 'not kept') else None
                 must(found[2] == shows, 'what shows it: %r' % found[0])
         must(not self.weaker or 'snapshot isolation' in self.weaker, 'levels: %r' % self.weaker)
-        if middle and middle[-1].startswith('the whole log without real time: '):
+        if middle and middle[-1] == TIME_ALONE:
+            self.without = 'serializable'
+            must(self.verdict == 'not serializable', 'told of %r: %r' % (self.verdict, TIME_ALONE))
+            middle.pop()
+        elif middle and middle[-1].startswith('the whole log without real time: '):
             self.without = middle.pop()[len('the whole log without real time: '):]
             must(self.without in STATUS and self.without != 'refused', 'without moments %r' % self.without)
+            must((self.verdict, self.without) != ('not serializable', 'serializable'), 'not said that real time alone was broken')
 
     def refuted(self, middle, faults):
         self.below(middle)

@@ -33,6 +33,7 @@ BEHIND = r'(?:, which [1-9][0-9]*\.[1-9][0-9]* wrote \(line [1-9][0-9]*\)%s)' % 
 OF = r'(?: of [1-9][0-9]*\.[1-9][0-9]*|, the initial value)'
 SINCE = re.compile(r'    if [1-9][0-9]* came first, %s, which reads [0-9]+ \(line [1-9][0-9]*\)%s?, '
                    'would come before %s, but %s comes before %s:' % (NODE, BEHIND, NODE, NODE, NODE))
+FORCED = 'these orders of versions are forced:'
 CYCLE = re.compile('cycle from %s:' % NODE)
 ORDER = re.compile('suppose %s:' % VERSIONS)
 LEAVES = re.compile('whichever of these versions came first, a cycle closes(?:, %s in all; the first 1000 of them)?:' % NUMBER)
@@ -574,11 +575,27 @@ class Telling:
         return 'decided', {self.log.said_of_kept(edge, *order[:2], 'is supposed to come'): order for order in decided if edge in self.log.side(*order)}
 
 
+def steps_first(lines):
+    """These lines with the steps, which are told last, before the cycle or the tree that rests on them."""
+    if FORCED not in lines:
+        told(not any(STEP.fullmatch(line) for line in lines), 'steps that are not told last')
+        return lines
+    at = lines.index(FORCED)
+    begins = next((n for n, line in enumerate(lines[:at]) if CYCLE.fullmatch(line) or LEAVES.fullmatch(line)), at)
+    told(lines[at + 1:] and not any(STEP.fullmatch(line) for line in lines[:at]), 'steps elsewhere than behind their line')
+    return lines[:begins] + lines[at + 1:] + lines[begins:at]
+
+
 def judge(text, checked, explained, log=None):
     """What is met in an explanation, of which the first lines have to be these; else Wrong. Names and lines are those of this log."""
     told(explained[:len(checked)] == checked, 'the first lines are not those of check')
     told(explained.endswith('\n'), 'the last line does not end')
-    first, lines = checked.split('\n')[0], explained[len(checked):].split('\n')[:-1]
+    return judge_lines(text, checked, steps_first(explained[len(checked):].split('\n')[:-1]), log)
+
+
+def judge_lines(text, checked, lines, log=None):
+    """The same of the lines behind the first ones, in which steps stand before what rests on them."""
+    first = checked.split('\n')[0]
     if first.startswith('unknown: '):
         told(lines == [TRY], 'wanted %r' % TRY)
         return collections.Counter(['unknown'])
@@ -629,7 +646,7 @@ def edges_of(log, lines):
 
 def graph_of(text, checked, explained):
     """The graph of what these lines say, and nothing where a log was refused."""
-    lines = explained[len(checked):].split('\n')[:-1]
+    lines = steps_first(explained[len(checked):].split('\n')[:-1])
     first, log = checked.split('\n')[0], Log(text) if checked else None
     if READ.fullmatch(first) or UPDATE.fullmatch(first):
         drawn = ['"anomaly" [label="%s"];' % ''.join(line + '\\n' for line in lines)]
@@ -650,7 +667,7 @@ def graph_of(text, checked, explained):
 
 def spoilt(r, text, checked, explained):
     """What was done to an explanation of cycles, and what it then says, which is wrong."""
-    log, lines = Log(text), explained[len(checked):].split('\n')[:-1]
+    log, lines = Log(text), steps_first(explained[len(checked):].split('\n')[:-1])
     bare = [line.lstrip(' ') for line in lines]
     edges, steps, cycles, orders = ([n for n, line in enumerate(bare) if form.fullmatch(line)] for form in (EDGE, STEP, CYCLE, ORDER))
     forced = [n for n in edges if BY_STEP.fullmatch(EDGE.fullmatch(bare[n])[3])]
@@ -956,19 +973,19 @@ BY_HAND = [
             'known as: a read from the future (G1c-process)'),
     # neither order of two versions, and no write is missed in either
     by_hand('session 1, begin, w x 1, commit, begin, w x 2, w y 4, commit, session 2, begin, r x 1, w x 3, r y 4, commit',
-            'A9 pruning ends in a cycle', '[1] x: 1, which 1.1 wrote (line 3), comes before 2, which 1.2 wrote (line 6):',
-            '    1.1 before 1.2: session 1', 'cycle from 1.2:', '1.2 before 2.1: 2.1 reads y 4 (line 13), which 1.2 wrote (line 7)',
+            'A9 pruning ends in a cycle', 'cycle from 1.2:', '1.2 before 2.1: 2.1 reads y 4 (line 13), which 1.2 wrote (line 7)',
             '2.1 before 1.2: 2.1 wrote x 3 (line 12) over 1, which by [1] comes before 2, which 1.2 wrote (line 6)',
-            'known as: a read from the future (G1c-process)'),
+            'known as: a read from the future (G1c-process)', FORCED,
+            '[1] x: 1, which 1.1 wrote (line 3), comes before 2, which 1.2 wrote (line 6):', '    1.1 before 1.2: session 1'),
     # neither order, and what the step refutes is milder than the cycle
     by_hand('session 1, begin, w x 1, r y 5, commit, begin, r z 0, commit, session 2, begin, w x 2, w y 5, commit, '
             'session 3, begin, r x 2, w z 3, commit',
-            'A9 pruning ends in a cycle', '[1] x: 1, which 1.1 wrote (line 3), comes before 2, which 2.1 wrote (line 11):',
-            '    if 2 came first, 3.1, which reads 2 (line 16), would come before 1.1, but 1.1 comes before 3.1:',
-            '    1.1 before 1.2: session 1', '    1.2 before 3.1: 1.2 reads z 0 (line 7), the initial value, and 3.1 wrote z 3 (line 17)',
-            'cycle from 2.1:', '2.1 before 1.1: 1.1 reads y 5 (line 4), which 2.1 wrote (line 12)',
+            'A9 pruning ends in a cycle', 'cycle from 2.1:', '2.1 before 1.1: 1.1 reads y 5 (line 4), which 2.1 wrote (line 12)',
             '1.1 before 2.1: 1.1 wrote x 1 (line 3), which by [1] comes before 2, which 2.1 wrote (line 11)',
-            'known as: cycle of missed writes and sessions (G2-item-process)'),
+            'known as: cycle of missed writes and sessions (G2-item-process)', FORCED,
+            '[1] x: 1, which 1.1 wrote (line 3), comes before 2, which 2.1 wrote (line 11):',
+            '    if 2 came first, 3.1, which reads 2 (line 16), would come before 1.1, but 1.1 comes before 3.1:',
+            '    1.1 before 1.2: session 1', '    1.2 before 3.1: 1.2 reads z 0 (line 7), the initial value, and 3.1 wrote z 3 (line 17)'),
 ]
 
 
@@ -1293,7 +1310,11 @@ def fault(text, checked, explained):
 
 
 def is_right(text, checked, lines):
-    return fault(text, checked, checked + ''.join(line + '\n' for line in lines)) is None
+    try:
+        judge_lines(text, checked, lines)
+    except Wrong:
+        return False
+    return True
 
 
 def wanted(program, what, text, words, right):

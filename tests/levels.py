@@ -27,7 +27,7 @@ IMPLIED = [('strict-serializable', 'serializable'), ('strict-serializable', 'str
 KEPT = {True: 'kept', False: 'not kept'}
 ANSWERS = {'yes': (0, KEPT[True]), 'no': (1, KEPT[False]), 'silent': (3, 'unknown: the log states no moments')}
 WEAKER = re.compile(r'^the whole log: ((?:strict )?snapshot isolation) (kept|not kept|unknown)(?:, as .+)?$', re.M)
-WITHOUT = re.compile(r'^the whole log without real time: (.+)$', re.M)
+WITHOUT = re.compile(r'^(?:the whole log without real time: (.+)|only real time was broken: without it the whole log is serializable)$', re.M)
 CASES, SEED, SHOWN = 600, 1, 20
 LANES = min(4, os.cpu_count())
 TABLE = os.path.join(generate.EXAMPLES, 'README.md')
@@ -235,7 +235,7 @@ class Log:
         asked = ['strict-snapshot'] * (is_strict and is_serial) + ['snapshot'] * (is_strict or is_serial) if is_refused else []
         rows, wanted = WEAKER.findall(said), [(LEVELS[it], KEPT[self.kept[it]]) for it in asked]
         must(rows == wanted, '%s: the weaker levels are %r, wanted %r' % (level, rows, wanted))
-        without, right = WITHOUT.findall(said), 'serializable' if self.kept['serializable'] else 'not serializable'
+        without, right = [word or 'serializable' for word in WITHOUT.findall(said)], 'serializable' if self.kept['serializable'] else 'not serializable'
         if without or is_refused and is_strict and is_serial:
             must(without == [right], '%s: without moments %r, and it is %s' % (level, without, right))
 

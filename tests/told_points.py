@@ -4,7 +4,7 @@
 Each log of examples/ and some hundred made ones, as tests/levels.py has them, are asked for both levels of snapshots. Of each refuted one
 each told line must be so in the log: the transactions, lines, keys, identities and moments that it names, and that it follows from them that
 the one point stands before the other. Each step must follow from lines and from earlier steps, and each must be named; what is told last must
-be a circle, or two that write a key of which neither can commit first. So no order is left. Nothing that is told may name a lock. `explain
+be a circle, or two that write a key of which neither can commit first, and behind it the steps. So no order is left. Nothing that is told may name a lock. `explain
 --level` must say the same. Last line: 'told points: N passed, M failed'."""
 import argparse, collections, concurrent.futures, os, re, sys
 
@@ -16,6 +16,7 @@ from certificates import Part, call, must
 CASES, SEED, SHOWN = 600, 1, 20
 LANES = min(4, os.cpu_count())
 LEVELS = ('strict-snapshot', 'snapshot')
+FORCED = 'these orders of snapshots and commits are forced:'
 BY_SEARCH = 'no order of their snapshots and commits is left: a search shows it'
 NAME, KEY, POINT = r'(\d+\.\d+)', r'([A-Za-z0-9_.:/-]+)', r"(\d+\.\d+)'s (snapshot|commit)"
 EDGE = re.compile('%s before %s: (.+)' % (POINT, POINT))
@@ -84,6 +85,12 @@ class Telling:
     def __init__(self, log, names, lines, level):
         self.log, self.names, self.left, self.level = log, names, list(lines), level
         self.steps, self.named, self.met = {}, set(), set()
+        if FORCED in self.left:  # told last, and read first
+            at = self.left.index(FORCED)
+            self.left = self.left[at + 1:] + self.left[:at]
+            must(self.left[0].startswith('['), 'no step behind %r' % FORCED)
+        else:
+            must(not any(line.startswith('[') for line in self.left), 'steps that are not told last: %r' % self.left)
 
     def edge(self, line):
         """The two points of a line, each a name and 'snapshot' or 'commit'; the line must be so."""

@@ -22,6 +22,7 @@ OF = r'(?: of [1-9][0-9]*\.[1-9][0-9]*|, the initial value)'
 SINCE = re.compile(r'    if [0-9]+ came first, %s, which reads [0-9]+ \(line %s\)%s?, would come before %s, but %s comes before %s:'
                    % (NODE, NUMBER, BEHIND, NODE, NODE, NODE))
 CYCLE = re.compile('cycle from %s:' % NODE)
+FORCED = re.compile('these orders of versions are forced:')
 ORDER = re.compile('suppose %s:' % VERSIONS)
 KNOWN = re.compile('known as: (.+)')
 LEAVES = re.compile('whichever of these versions came first, a cycle closes(?:, %s in all; the first 1000 of them)?:' % NUMBER)
@@ -119,7 +120,7 @@ class Pair:
 class Explanation:
     """The verdict, and what stands behind it. `code` is A1 to A9 or TREE, and None where the log is not refuted; `behind` is the number of the
     first line of an anomaly behind that. A tree is told by its leaves: each cycle with the orders that are decided above it; `count` says
-    how many there are where not all are told. `pairs` are four reads that rule out every order, where the text has them before steps or a tree."""
+    how many there are where not all are told. `pairs` are four reads that rule out every order, where the text has them before a cycle or a tree."""
     lines: List[str]
     code: Optional[str] = None
     behind: int = 2
@@ -199,7 +200,7 @@ class Reader:
             found.append(Step(line, int(number), key, first, second, walk[-1].second, said, walk))
 
     def pairs(self):
-        """The four reads before steps or a tree, behind the line that says what they are."""
+        """The four reads before a cycle or a tree, behind the line that says what they are."""
         pairs = [self.next(PAIR) for _ in range(4)] if self.next(CROSSED) else []
         return [Pair(line, name, (int(first), int(second))) for line, name, _, _, first, _, _, second in filter(None, pairs)]
 
@@ -248,12 +249,12 @@ def read(text):
     elif it.code in ('A9', TREE):
         it.pairs = reader.pairs()
         it.known_as = reader.known_as() if it.pairs else None
-        it.steps = reader.steps()
         if it.code == 'A9':
             it.cycle, it.known_as = reader.cycle(), reader.known_as()
         else:
             several = reader.next(LEAVES)
             it.count, it.leaves = several and several[1] and int(several[1]), reader.leaves()
+        it.steps = reader.steps() if reader.next(FORCED) else []
     else:
         reader.at = len(reader.lines)
     if reader.at < len(reader.lines):

@@ -6,7 +6,7 @@ use Rattle.std.specs.String.{string_bytes}
 use Rattle.std.specs.Prelude.{String}
 use Rattle.std.specs.declared.alloc.Global.{Global}
 use Rattle.isolation.specs.Levels.{level_title}
-use Rattle.audit_command.specs.Words.{code_number, finding_title, word_text, word_of}
+use Rattle.audit_command.specs.Words.{code_number, finding_title, hint_text, word_text, word_of}
 use Rattle.audit_command.specs.Words.{verdict_text, kept_text}
 use Rattle.judging.specs.declared.judged.Finding.{Finding}
 use Rattle.isolation.specs.declared.level.Isolation.{Isolation}
@@ -96,9 +96,9 @@ heading_of p = field (codes "part of ") (length p.txns.items) ++ noun_of (length
 abbrev pub listed : List ToldTxn → List ℕ
 listed txns = codes "transactions " ++ txns_text txns ++ 10 ∷ []
 
--- these, and why it has no order
+-- these, why it has no order, and what to check first
 unfoldable pub part_text : ToldPart → List ℕ
-part_text p = heading_of p ++ listed p.txns.items ++ p.why.items
+part_text p = heading_of p ++ listed p.txns.items ++ p.why.items ++ hint_text p.refuted.finding
 
 -- so many of the parts have the code of this number, or none
 abbrev pub code_count : List ToldPart → ℕ → ℕ
@@ -133,9 +133,17 @@ middle_text faults (answer.NotSerializable parts) = parts_text parts.items
 middle_text faults (answer.Undecided reason advice) = lines_of advice.items
 middle_text faults _ = []
 
-unfoldable pub without_text : Option Word → List ℕ
-without_text None = []
-without_text (Some word) = codes "the whole log without real time: " ++ word_text word ++ 10 ∷ []
+-- what holds of the log without moments; where it has an order then, and none with them, that these
+-- alone were broken
+unfoldable pub without_text : Word → Word → List ℕ
+without_text word.NotSerializable word.Serializable =
+    codes "only real time was broken: without it the whole log is serializable\n"
+without_text with without = codes "the whole log without real time: " ++ word_text without
+    ++ 10 ∷ []
+
+abbrev pub without_row : Word → Option Word → List ℕ
+without_row with None = []
+without_row with (Some without) = without_text with without
 
 -- the name of a level, and whether it was kept
 unfoldable pub kept_line : Isolation → Word → List ℕ
@@ -163,7 +171,7 @@ snapshot_rows (Some word) shown = kept_line Snapshot word ++ shown_text word sho
 
 -- what holds without moments and at weaker levels
 unfoldable pub weaker_text : Told → List ℕ
-weaker_text told = without_text told.without_moments
+weaker_text told = without_row (word_of told.answer) told.without_moments
     ++ level_row StrictSnapshot told.strict_snapshot ++ snapshot_rows told.snapshot told.shown
 
 -- so many transactions has the first part that is told

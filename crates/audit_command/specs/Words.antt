@@ -2,6 +2,8 @@
 use Rattle.std.specs.Prelude.{ℕ, List, codes, Option, None, Some}
 use Rattle.serializability.specs.declared.anomaly.Anomaly.{Anomaly}
 use Rattle.serializability.specs.declared.anomaly.Anomaly.TheVariants as anomaly
+use Rattle.serializability.specs.declared.anomaly.ReadAnomaly.{ReadAnomaly}
+use Rattle.serializability.specs.declared.anomaly.ReadAnomaly.TheVariants as read
 use Rattle.serializability.specs.Anomalies.{anomaly_number}
 use Rattle.cobra_answers.specs.Verdicts.{read_title}
 use Rattle.cobra_answers.specs.declared.status.Status.{Status}
@@ -33,6 +35,20 @@ finding_title finding.Cycle = codes "A8 cycle of known edges"
 finding_title finding.Dead = codes "A9 pruning ends in a cycle"
 finding_title finding.Refuted = codes "every order of its versions closes a cycle"
 finding_title finding.Formula = codes "the formula is refuted"
+
+abbrev pub order_hint : List ℕ
+order_hint = codes "check first: did the client record its operations in their order?\n"
+
+-- what to check first, where a client or its recorder is more often at fault than a store
+abbrev pub read_hint : ReadAnomaly → List ℕ
+read_hint read.Unknown = codes "check first: does the log have the writes of all clients?\n"
+read_hint read.OwnWriteMissed = order_hint
+read_hint read.Future = order_hint
+read_hint _ = []
+
+abbrev pub hint_text : Finding → List ℕ
+hint_text (finding.Anomaly (anomaly.Read kind v op)) = read_hint kind
+hint_text _ = []
 
 -- a verdict in words
 abbrev pub word_text : Word → List ℕ

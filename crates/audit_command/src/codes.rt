@@ -3,13 +3,13 @@
 ghost use Rattle.std.specs.Prelude.{◌≡◌};
 ghost use Rattle.audit_command.specs.Words.{code_number};
 ghost use Rattle.audit_command.specs.Words.{anomaly_title, finding_title, word_text, word_of};
-ghost use Rattle.audit_command.specs.Words.{kept_text, verdict_text};
+ghost use Rattle.audit_command.specs.Words.{kept_text, verdict_text, read_hint, hint_text};
 
 use crate::told::{Answer, Word};
 use cobra_answers::read_title;
 use isolation::Isolation;
 use judging::Finding;
-use session_history::Anomaly;
+use session_history::{Anomaly, ReadAnomaly};
 
 /// The number of the code of a finding, 1 to 9; 0 where it has none.
 pub fn code_number(finding: Finding) -> usize
@@ -42,6 +42,36 @@ pub fn finding_title(finding: Finding) -> &'static str
         Finding::Dead => "A9 pruning ends in a cycle",
         Finding::Refuted => "every order of its versions closes a cycle",
         Finding::Formula => "the formula is refuted",
+    }
+}
+
+const WRITES_HINT: &str = "check first: does the log have the writes of all clients?\n";
+
+const ORDER_HINT: &str = "check first: did the client record its operations in their order?\n";
+
+/// What to check first of a read, as a line, where a client or its recorder is more often at fault
+/// than a store.
+fn read_hint(kind: ReadAnomaly) -> &'static str
+    ensures hint { result.now ≡ read_hint kind }
+{
+    match kind {
+        ReadAnomaly::Unknown => WRITES_HINT,
+        ReadAnomaly::OwnWriteMissed | ReadAnomaly::Future => ORDER_HINT,
+        ReadAnomaly::Aborted | ReadAnomaly::Intermediate | ReadAnomaly::Split => "",
+    }
+}
+
+/// The same of a finding.
+pub fn hint_text(finding: Finding) -> &'static str
+    ensures hint { result.now ≡ hint_text finding }
+{
+    match finding {
+        Finding::Anomaly(Anomaly::Read { kind, .. }) => read_hint(kind),
+        Finding::Anomaly(Anomaly::LostUpdate { .. })
+        | Finding::Cycle
+        | Finding::Dead
+        | Finding::Refuted
+        | Finding::Formula => "",
     }
 }
 

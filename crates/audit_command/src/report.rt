@@ -3,13 +3,15 @@
 ghost use Rattle.std.specs.Prelude.{◌≡◌, ◌++◌, ◌<◌, OnOk, IfOk, length};
 ghost use Rattle.audit_command.specs.Report.{first_line, txn_text, txns_text, noun_of, part_text};
 ghost use Rattle.audit_command.specs.Report.{behind_comma, code_count, code_line, uncoded_line, codes_text};
-ghost use Rattle.audit_command.specs.Report.{middle_text, without_text, part_size, counts_text};
+ghost use Rattle.audit_command.specs.Report.{middle_text, without_text, without_row, part_size, counts_text};
 ghost use Rattle.audit_command.specs.Report.{parts_text, first_size, report_text, too_few, heading_of};
 ghost use Rattle.audit_command.specs.Report.{listed, codes_where, behind_first, level_text, reason_line};
 ghost use Rattle.audit_command.specs.Report.{level_row, weaker_text, short_title, found_text};
 ghost use Rattle.audit_command.specs.Report.{kept_line, snapshot_rows, shown_text, next_text};
 
-use crate::codes::{code_number, finding_title, kept_text, verdict_text, word_of, word_text};
+use crate::codes::{
+    code_number, finding_title, hint_text, kept_text, verdict_text, word_of, word_text,
+};
 use crate::lines::{put, put_count, put_line, put_lines, put_name, put_number};
 use crate::told::{Answer, Told, ToldPart, ToldTxn, Totals, Word};
 use isolation::Isolation;
@@ -170,7 +172,8 @@ fn put_part(out: &mut Vec<u8>, part: &ToldPart) -> Result<(), AllocError>
 {
     put_heading(out, part)?;
     put_listed(out, &part.txns)?;
-    put(out, &part.why)
+    put(out, &part.why)?;
+    put(out, hint_text(part.refuted.finding).as_bytes())
 }
 
 /// How many of the parts have the code of this number.
@@ -256,17 +259,35 @@ fn put_middle(out: &mut Vec<u8>, faults: usize, answer: &Answer) -> Result<(), A
     }
 }
 
+/// Appends what holds of the log without moments, where this holds with them.
 #[tactic(auto, unfolding(crate::specs::Report::without_text))]
-fn put_without(out: &mut Vec<u8>, word: Option<Word>) -> Result<(), AllocError>
-    ensures put { OnOk result (out.new.items ≡ out.old.items ++ without_text word) }
+fn put_without(out: &mut Vec<u8>, with: Word, without: Word) -> Result<(), AllocError>
+    ensures put { OnOk result (out.new.items ≡ out.old.items ++ without_text with without) }
 {
-    match word {
-        None => Ok(()),
-        Some(word) => {
+    match (with, without) {
+        (Word::NotSerializable, Word::Serializable) => put(
+            out,
+            b"only real time was broken: without it the whole log is serializable\n",
+        ),
+        (_, _) => {
             put(out, b"the whole log without real time: ")?;
-            put(out, word_text(word).as_bytes())?;
+            put(out, word_text(without).as_bytes())?;
             put(out, b"\n")
         }
+    }
+}
+
+/// The same, where that is told.
+fn put_without_row(
+    out: &mut Vec<u8>,
+    with: Word,
+    without: Option<Word>,
+) -> Result<(), AllocError>
+    ensures put { OnOk result (out.new.items ≡ out.old.items ++ without_row with without) }
+{
+    match without {
+        None => Ok(()),
+        Some(without) => put_without(out, with, without),
     }
 }
 
@@ -343,7 +364,7 @@ fn put_snapshot_rows(
 fn put_weaker(out: &mut Vec<u8>, told: &Told) -> Result<(), AllocError>
     ensures put { OnOk result (out.new.items ≡ out.old.items ++ weaker_text told.now) }
 {
-    put_without(out, told.without_moments)?;
+    put_without_row(out, word_of(&told.answer), told.without_moments)?;
     put_level_row(out, Isolation::StrictSnapshot, told.strict_snapshot)?;
     put_snapshot_rows(out, told.snapshot, &told.shown)
 }

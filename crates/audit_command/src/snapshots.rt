@@ -27,6 +27,9 @@ const NO_POINTS_LEFT: &str = "no order of their snapshots and commits is left: a
 
 const NO_SERIAL_ORDER: &str = "why they have no serial order either:";
 
+/// What stands before steps.
+const FORCED: &str = "these orders of snapshots and commits are forced:";
+
 const ABORTED_READ: &str = "aborted read (G1a)";
 
 const INTERMEDIATE_READ: &str = "intermediate read (G1b)";
@@ -82,13 +85,23 @@ fn with_name(
     })
 }
 
-/// These lines.
-fn text_of_lines(alloc: Global, lines: &[String]) -> Result<Vec<u8>, AllocError> {
-    let mut text = Vec::new(alloc);
+fn put_lines(text: &mut Vec<u8>, lines: &[String]) -> Result<(), AllocError> {
     for line in lines {
-        put_line(&mut text, line)?;
+        put_line(text, line)?;
     }
-    Ok(text)
+    Ok(())
+}
+
+/// What closes, with its name, and the steps that it rests on.
+fn text_of_points(alloc: Global, told: &Told) -> Result<Explained, AllocError> {
+    let mut text = Vec::new(alloc);
+    put_lines(&mut text, &told.lines)?;
+    let mut explained = with_name(alloc, text, told.known_as)?;
+    if !told.steps.is_empty() {
+        put_line(&mut explained.text, FORCED)?;
+        put_lines(&mut explained.text, &told.steps)?;
+    }
+    Ok(explained)
 }
 
 /// Why a part has no snapshot order, by its snapshots and commits; `None` where circles of these do
@@ -106,10 +119,7 @@ fn explain_points(
     }
     let places = places_of(alloc, version, sessions, refuted)?;
     match tell_snapshots(alloc, &refuted.part, &places)? {
-        Some(Told { lines, known_as }) => {
-            let text = text_of_lines(alloc, &lines)?;
-            Ok(Some(with_name(alloc, text, known_as)?))
-        }
+        Some(told) => Ok(Some(text_of_points(alloc, &told)?)),
         None => Ok(None),
     }
 }

@@ -1,5 +1,5 @@
 -- What is told can be written: what it names is there, and its numbers fit.
-use Rattle.std.proofs.Common.{◌≡◌, ℕ, zero, suc, ◌+◌, ◌<◌, ◌≤◌, ◌*◌, ◌^◌, List, [], ◌∷◌, ◌++◌, length, Bool, true, false, cond, None, Some, refl, sym, ap, ◌∙◌, subst, inl, inr, arith, length-append}
+use Rattle.std.proofs.Common.{◌≡◌, ℕ, zero, suc, ◌+◌, ◌<◌, ◌≤◌, ◌*◌, ◌^◌, List, [], ◌∷◌, ◌++◌, length, take, drop, Bool, true, false, cond, None, Some, refl, sym, ap, ◌∙◌, subst, inl, inr, arith, length-append}
 use Rattle.std.specs.Prelude.{slice_get, nat_lt}
 use Rattle.std.specs.List.{AllByRecursion, Contains}
 use Rattle.session_log.specs.Text.{ClientSession}
@@ -27,6 +27,17 @@ use Rattle.tell_trees.specs.Trees.{IsCubeTold, leaves_items, IsTreeTold}
 use Rattle.tell_trees.specs.Visits.{leaf_count}
 use Rattle.tell_texts.specs.Texts.{IsOrderOf, IsTellable, AreTellable}
 use Rattle.tell_decision.proofs.Known.{head_inside, ordered_nodes, followed_nodes}
+
+-- ---- the first of these, and what stands behind them
+pub taken_tellable : (ss : List ClientSession) (n : ℕ) (items : List Item) → AreTellable ss items → AreTellable ss (take n items)
+taken_tellable ss zero items h = tt
+taken_tellable ss (suc n) [] h = tt
+taken_tellable ss (suc n) (i ∷ items) h = (h.0, taken_tellable ss n items h.1)
+
+pub left_tellable : (ss : List ClientSession) (n : ℕ) (items : List Item) → AreTellable ss items → AreTellable ss (drop n items)
+left_tellable ss zero items h = h
+left_tellable ss (suc n) [] h = tt
+left_tellable ss (suc n) (i ∷ items) h = left_tellable ss n items h.1
 
 -- ---- orders of chains
 abbrev pub AreOrders : List ClientSession → List ChainOrder → Type 0

@@ -1,6 +1,6 @@
 -- Why there is no order, written behind what `check` says.
-use Rattle.std.specs.Prelude.{◌≡◌, ℕ, ◌==◌, false, if◌then◌else◌, List, [], ◌∷◌, ◌++◌, codes}
-use Rattle.std.specs.Prelude.{Option, None, Some}
+use Rattle.std.specs.Prelude.{◌≡◌, ℕ, ◌==◌, Bool, true, false, if◌then◌else◌, List, [], ◌∷◌}
+use Rattle.std.specs.Prelude.{◌++◌, codes, length, take, drop, take_while, Option, None, Some}
 use Rattle.std.specs.List.{flat_map}
 use Rattle.session_log.specs.Text.{ClientSession}
 use Rattle.serializability.specs.declared.anomaly.Anomaly.{Anomaly}
@@ -14,6 +14,7 @@ use Rattle.tell_reasons.specs.Anomalies.{IsAnomalyTold}
 use Rattle.tell_reasons.specs.Crossed.{crossing_text}
 use Rattle.tell_steps.specs.Steps.{IsLineTold, IsDeadTold}
 use Rattle.tell_steps.specs.declared.item.Item.{Item}
+use Rattle.tell_steps.specs.declared.item.Item.TheVariants.{Step, Edge}
 use Rattle.tell_decision.specs.Runs.{joined_items}
 use Rattle.serializability.specs.Polygraph.{Choice}
 use Rattle.cube_laws.specs.declared.tree.TreeNode.{TreeNode}
@@ -30,14 +31,15 @@ abbrev pub told_text : Format → PlacedHistory → List Item → List ℕ
 told_text Text log items = items_text log 0 false items
 told_text Dot log items = graph_text log items
 
--- the name of a cycle, a line of a text
-abbrev pub known_as : Format → List ℕ → List ℕ
-known_as Text name = codes "known as: " ++ name ++ codes "\n"
+-- the name of a cycle, where it has one, as a line of a text
+abbrev pub known_as : Format → Option (List ℕ) → List ℕ
+known_as Text (Some name) = codes "known as: " ++ name ++ codes "\n"
+known_as Text None = []
 known_as Dot name = []
 
 abbrev pub cycle_text : Format → PlacedHistory → List Item → List ℕ
 cycle_text format log items =
-    told_text format log items ++ known_as format (name_of log.history.now items)
+    told_text format log items ++ known_as format (Some (name_of log.history.now items))
 
 -- reads that rule out every order, where such were found
 abbrev pub crossed_text : Format → PlacedHistory → Option Crossing → List ℕ
@@ -45,15 +47,37 @@ crossed_text Text log (Some c) = crossing_text log c
 crossed_text Text log None = []
 crossed_text Dot log found = []
 
--- such reads; and steps, a cycle behind them, and its name
-abbrev pub dead_text : Format → PlacedHistory → Option Crossing → List Item → List ℕ
-dead_text format log found items =
-    (crossed_text format log found ++ told_text format log items)
-    ++ known_as format (name_behind log.history.now items)
+-- of a step: itself, or an edge of its walk
+abbrev pub is_of_step : Item → Bool
+is_of_step (Step number o u v) = true
+is_of_step (Edge a b w) = true
+is_of_step _ = false
 
--- such reads, and a tree
+-- how many items are of steps, before all else
+abbrev pub of_steps : List Item → ℕ
+of_steps items = length (take_while is_of_step items)
+
+abbrev pub forced_text : PlacedHistory → List Item → List ℕ
+forced_text log [] = []
+forced_text log (i ∷ items) =
+    codes "these orders of versions are forced:\n" ++ items_text log 0 false (i ∷ items)
+
+-- what closes, and its name; and last the steps that it rests on
+abbrev pub steps_last : Format → PlacedHistory → Option (List ℕ) → List Item → List ℕ
+steps_last Text log name items =
+    items_text log 0 false (drop (of_steps items) items) ++ known_as Text name
+    ++ forced_text log (take (of_steps items) items)
+steps_last Dot log name items = graph_text log items
+
+-- such reads; and a cycle, its name, and the steps before it
+abbrev pub dead_text : Format → PlacedHistory → Option Crossing → List Item → List ℕ
+dead_text format log found items = crossed_text format log found
+    ++ steps_last format log (Some (name_behind log.history.now items)) items
+
+-- such reads; and a tree, and the steps before it
 abbrev pub tree_text : Format → PlacedHistory → Option Crossing → List Item → List ℕ
-tree_text format log found items = crossed_text format log found ++ told_text format log items
+tree_text format log found items =
+    crossed_text format log found ++ steps_last format log None items
 
 -- in a label a line break is a backslash and n
 abbrev pub label_byte : ℕ → List ℕ

@@ -2,9 +2,11 @@
 
 ghost use Rattle.std.specs.Prelude.{◌≡◌, ◌++◌, IfSome, IfOk, OnOk};
 ghost use Rattle.std.specs.List.{flat_map};
+ghost use Rattle.std.specs.Option.{option_map};
 ghost use Rattle.reason_laws.specs.Crossed.{AreCrossed};
 ghost use Rattle.tell_texts.specs.Texts.{AreTellable};
 ghost use Rattle.tell_decision.specs.Explained.{told_text, crossed_text, tree_text};
+ghost use Rattle.tell_decision.specs.Explained.{is_of_step, of_steps, forced_text, steps_last};
 ghost use Rattle.tell_decision.specs.Explained.{known_as, cycle_text, dead_text};
 ghost use Rattle.tell_decision.specs.Explained.{lines_text, label_byte, box_text};
 
@@ -52,37 +54,19 @@ fn put_crossed(
     }
 }
 
-/// Reads that rule out every order, where such were found, and a tree, as lines of text; or the
-/// tree as a graph.
-pub fn written_tree(
-    alloc: Global,
-    log: &PlacedHistory<'_>,
-    format: Format,
-    found: Option<Crossing>,
-    items: &[Item],
-) -> Result<Vec<u8>, AllocError>
-    requires crossed { IfSome found (λ c. AreCrossed log.now.history.now c) }
-    requires items { AreTellable log.now.history.now items.now }
-    ensures text { IfOk result (λ text. text.items ≡ tree_text format log.now found items.now) }
+/// Appends the name of a cycle, where it has one, as a line of a text.
+fn put_known_as(out: &mut Vec<u8>, format: Format, name: Option<&str>) -> Result<(), AllocError>
+    ensures text { OnOk result (out.new.items
+        ≡ out.old.items ++ known_as format (option_map (λ name. name.now) name)) }
 {
-    let mut out = Vec::new(alloc);
-    put_crossed(&mut out, log, format, found)?;
-    put_told(alloc, &mut out, log, format, items)?;
-    Ok(out)
-}
-
-/// Appends the name of a cycle, a line of a text.
-fn put_known_as(out: &mut Vec<u8>, format: Format, name: &str) -> Result<(), AllocError>
-    ensures text { OnOk result (out.new.items ≡ out.old.items ++ known_as format name.now) }
-{
-    match format {
-        Format::Text => {
+    match (format, name) {
+        (Format::Text, Some(name)) => {
             out.extend_from_slice(b"known as: ")?;
             out.extend_from_slice(name.as_bytes())?;
             out.extend_from_slice(b"\n")?;
             Ok(())
         }
-        Format::Dot => Ok(()),
+        (Format::Text, None) | (Format::Dot, _) => Ok(()),
     }
 }
 
@@ -98,12 +82,84 @@ pub fn written_cycle(
 {
     let mut out = Vec::new(alloc);
     put_told(alloc, &mut out, log, format, items)?;
-    put_known_as(&mut out, format, name_of(log.history, items))?;
+    put_known_as(&mut out, format, Some(name_of(log.history, items)))?;
     Ok(out)
 }
 
-/// Reads that rule out every order, where such were found, and steps and the cycle behind them, as
-/// lines of text, with the cycle's name; or the steps and the cycle as a graph.
+/// How many of these items are of steps, before all else.
+fn of_steps(items: &[Item]) -> usize
+    ensures count { result ≡ of_steps items.now }
+{
+    items.iter().take_while(|item| is_of_step(**item)).count()
+}
+
+/// Whether the item is a step, or an edge of its walk.
+fn is_of_step(item: Item) -> bool
+    ensures is { result ≡ is_of_step item }
+{
+    matches!(item, Item::Step { .. } | Item::Edge { .. })
+}
+
+/// Appends steps, where there are any.
+fn put_forced(
+    out: &mut Vec<u8>,
+    log: &PlacedHistory<'_>,
+    items: &[Item],
+) -> Result<(), AllocError>
+    requires items { AreTellable log.now.history.now items.now }
+    ensures text { OnOk result (out.new.items ≡ out.old.items ++ forced_text log.now items.now) }
+{
+    if items.is_empty() {
+        return Ok(());
+    }
+    out.extend_from_slice(b"these orders of versions are forced:\n")?;
+    put_items(out, log, items)
+}
+
+/// Appends what closes, its name, and last the steps that it rests on; or all as a graph.
+fn put_steps_last(
+    alloc: Global,
+    out: &mut Vec<u8>,
+    log: &PlacedHistory<'_>,
+    format: Format,
+    name: Option<&str>,
+    items: &[Item],
+) -> Result<(), AllocError>
+    requires items { AreTellable log.now.history.now items.now }
+    ensures text { OnOk result (out.new.items ≡ out.old.items
+        ++ steps_last format log.now (option_map (λ name. name.now) name) items.now) }
+{
+    match format {
+        Format::Text => {
+            let (steps, closing) = items.split_at(of_steps(items));
+            put_items(out, log, closing)?;
+            put_known_as(out, format, name)?;
+            put_forced(out, log, steps)
+        }
+        Format::Dot => put_graph(alloc, out, log, items),
+    }
+}
+
+/// Reads that rule out every order, where such were found; a tree; and the steps that it rests on;
+/// as lines of text, or the steps and the tree as a graph.
+pub fn written_tree(
+    alloc: Global,
+    log: &PlacedHistory<'_>,
+    format: Format,
+    found: Option<Crossing>,
+    items: &[Item],
+) -> Result<Vec<u8>, AllocError>
+    requires crossed { IfSome found (λ c. AreCrossed log.now.history.now c) }
+    requires items { AreTellable log.now.history.now items.now }
+    ensures text { IfOk result (λ text. text.items ≡ tree_text format log.now found items.now) }
+{
+    let mut out = Vec::new(alloc);
+    put_crossed(&mut out, log, format, found)?;
+    put_steps_last(alloc, &mut out, log, format, None, items)?;
+    Ok(out)
+}
+
+/// The same of a cycle, with its name.
 pub fn written_dead(
     alloc: Global,
     log: &PlacedHistory<'_>,
@@ -115,8 +171,10 @@ pub fn written_dead(
     requires items { AreTellable log.now.history.now items.now }
     ensures text { IfOk result (λ text. text.items ≡ dead_text format log.now found items.now) }
 {
-    let mut out = written_tree(alloc, log, format, found, items)?;
-    put_known_as(&mut out, format, name_behind(log.history, items))?;
+    let mut out = Vec::new(alloc);
+    put_crossed(&mut out, log, format, found)?;
+    let name = name_behind(log.history, items);
+    put_steps_last(alloc, &mut out, log, format, Some(name), items)?;
     Ok(out)
 }
 

@@ -12,6 +12,7 @@ use crate::ways::Way;
 use log_lines::LogPlaces;
 use session_log::Session;
 use std::alloc::{AllocError, Global};
+use std::mem;
 use tell_reasons::names::{MISSED, NO_EDGES, Shape, WRITTEN, followed, with_orders};
 
 /// Of a part with more committed transactions, or with more operations in them, nothing is told.
@@ -25,7 +26,10 @@ const INDENT: &str = "    ";
 /// Why a part has no snapshot order.
 #[derive(Drop)]
 pub struct Told {
+    /// What closes.
     pub lines: Vec<String>,
+    /// The steps that it rests on.
+    pub steps: Vec<String>,
     /// What the field calls such a fault, where it has a name.
     pub known_as: Option<&'static str>,
 }
@@ -154,8 +158,10 @@ impl<'a, 'b> Telling<'a, 'b> {
         not_first: &Against<'a>,
         not_second: &Against<'a>,
     ) -> Result<(), AllocError> {
+        let lost = self.lost(not_first, not_second);
+        let told = self.told_writes(writes, lost).unwrap_or(writes);
         self.lines
-            .push(neither_line(self.alloc, self.part, writes)?)?;
+            .push(neither_line(self.alloc, self.part, told)?)?;
         self.lines
             .push(not_first_line(self.alloc, self.part, writes.0.node)?)?;
         self.put_against(not_first)?;
@@ -197,7 +203,7 @@ impl<'a, 'b> Telling<'a, 'b> {
                 not_second,
                 ..
             } => {
-                if self.is_lost_update(not_first, not_second) {
+                if self.lost(not_first, not_second).is_some() {
                     return Some("lost update");
                 }
                 let circle = either(self.supposed(not_first), self.supposed(not_second))?;
@@ -217,16 +223,26 @@ impl<'a, 'b> Telling<'a, 'b> {
         }
     }
 
-    /// Whether both read the same, and each overwrites it.
-    fn is_lost_update(&self, not_first: &Against<'a>, not_second: &Against<'a>) -> bool {
-        match (self.only_missed(not_first), self.only_missed(not_second)) {
-            (Some(one), Some(other)) => one.is_same(&other),
-            _ => false,
-        }
+    /// What both read, where each overwrites it.
+    fn lost(&self, not_first: &Against<'a>, not_second: &Against<'a>) -> Option<Access<'a>> {
+        let (one, other) = (self.only_missed(not_first)?, self.only_missed(not_second)?);
+        one.is_same(&other).then_some(one)
     }
 
-    /// Tells all.
-    fn put_all(&mut self, ending: &Ending<'a>) -> Result<(), AllocError> {
+    /// The writes by which two exclude each other: those of the key of which both lost an update,
+    /// where they did.
+    fn told_writes(
+        &self,
+        writes: (Access<'a>, Access<'a>),
+        lost: Option<Access<'a>>,
+    ) -> Option<(Access<'a>, Access<'a>)> {
+        let key = lost?.key;
+        let (one, other) = (writes.0.node, writes.1.node);
+        Some((self.part.first_write(one, key)?, self.part.first_write(other, key)?))
+    }
+
+    /// Finds which steps are needed, and tells what closes.
+    fn put_ending(&mut self, ending: &Ending<'a>) -> Result<(), AllocError> {
         match ending {
             Ending::Circle(way) => self.need(way),
             Ending::Neither {
@@ -239,7 +255,6 @@ impl<'a, 'b> Telling<'a, 'b> {
             }
         }
         self.need_below();
-        self.put_steps()?;
         match ending {
             Ending::Circle(way) => self.put_way(way, ""),
             Ending::Neither {
@@ -271,10 +286,13 @@ fn tell<'a>(
         is_needed: vec![in alloc; false; refuted.steps.len()]?,
         lines: Vec::new(alloc),
     };
-    telling.put_all(&refuted.ending)?;
+    telling.put_ending(&refuted.ending)?;
+    let lines = mem::replace(&mut telling.lines, Vec::new(alloc));
+    telling.put_steps()?;
     Ok(Told {
         known_as: telling.name(&refuted.ending),
-        lines: telling.lines,
+        lines,
+        steps: telling.lines,
     })
 }
 
