@@ -1,12 +1,13 @@
--- Parts of different transactions.
-use Rattle.std.proofs.Common.{◌≡◌, ◌<◌, length, arith, true, false, List, [], ◌∷◌, ◌++◌, refl, subst}
+-- Parts of different transactions, the least first.
+use Rattle.std.proofs.Common.{◌≡◌, ◌<◌, length, length-append, arith, true, false, List, [], ◌∷◌, ◌++◌, remove, refl, ap, subst}
+use Rattle.std.proofs.lemmas.List.Quantifiers.{all_pairs_remove}
 use Rattle.std.proofs.lemmas.Cmp.{nat_eq_equiv}
 use Rattle.std.specs.Cmp.Lexicographic.{pointwise}
 use Rattle.std.proofs.lemmas.Bool.{or_parts}
 use Rattle.session_log.proofs.Adding.{all_more}
 use Rattle.audit_command.specs.declared.told.ToldTxn.{ToldTxn}
 use Rattle.audit_command.specs.declared.told.ToldPart.{ToldPart}
-use Rattle.audit_command.specs.Distinct.{AreDistinct, IsOther, same_txn, has_txns, is_told}
+use Rattle.audit_command.specs.Distinct.{AreDistinct, IsOther, IsNoLarger, AreLeastFirst, same_txn, has_txns, is_told}
 
 same_itself : (xs : List ToldTxn) → pointwise same_txn xs xs ≡ true
 same_itself [] = refl
@@ -26,3 +27,12 @@ one_more (q ∷ ps) p h e =
 pub some_told : (txns : List ToldTxn) (ps : List ToldPart) → is_told txns ps ≡ true → 0 < length ps
 some_told txns [] e = cc
 some_told txns (p ∷ ps) e = omega arith
+
+removed : (ps qs : List ToldPart) (p : ToldPart) → remove (ps ++ p ∷ qs) (length ps) ≡ ps ++ qs
+removed [] qs p = refl
+removed (q ∷ ps) qs p = ap (λ l. q ∷ l) (removed ps qs p)
+
+pub without_one : (ps : List ToldPart) (p : ToldPart) (qs : List ToldPart) → AreLeastFirst (ps ++ p ∷ qs) → AreLeastFirst (ps ++ qs)
+without_one ps p qs h =
+    let long = length-append ps (p ∷ qs) in
+    subst AreLeastFirst (removed ps qs p) (all_pairs_remove IsNoLarger (ps ++ p ∷ qs) (length ps) (omega (arith, long)) h)

@@ -28,7 +28,7 @@ use Rattle.judging.specs.declared.judged.Verdict.{Verdict}
 use Rattle.judging.specs.declared.judged.Verdict.TheVariants as verdict
 use Rattle.judging.specs.declared.means.JudgeMeans.{JudgeMeans}
 use Rattle.audit_command.specs.Counts.{AreCounts}
-use Rattle.audit_command.specs.Distinct.{AreDistinct, is_told}
+use Rattle.audit_command.specs.Distinct.{AreDistinct, AreLeastFirst, is_told}
 use Rattle.audit_command.specs.Levels.{asks_moments}
 use Rattle.audit_command.specs.Words.{status_of}
 use Rattle.audit_command.specs.Places.{told_by}
@@ -82,11 +82,13 @@ pub record IsPartTold (o : AuditOptions) (n : ℕ) (ss : List ClientSession) (p 
 abbrev pub AreToldParts : AuditOptions → ℕ → List ClientSession → List ToldPart → Type 0
 AreToldParts o n ss parts = AllByRecursion (IsPartTold o n ss) parts
 
--- of these parts, one at least and no more than are asked for, no two have the same transactions
+-- of these parts, one at least and no more than are asked for, the least stands first, and no two
+-- have the same transactions
 pub record AreParts (o : AuditOptions) (n : ℕ) (ss : List ClientSession)
     (parts : List ToldPart) : Type 0 where
   pub some : 0 < length parts
   pub at_most : length parts ≤ 1 + (o.faults - 1)
+  pub least_first : AreLeastFirst parts
   pub distinct : AreDistinct parts
   pub told : AreToldParts o n ss parts
 

@@ -1,5 +1,5 @@
--- Parts of different transactions.
-use Rattle.std.specs.Prelude.{◌&&◌, Bool, nat_eq, ◌≢◌, List, [], ◌∷◌}
+-- Parts of different transactions, the least first.
+use Rattle.std.specs.Prelude.{◌&&◌, Bool, nat_eq, ◌≤◌, ◌≢◌, List, [], ◌∷◌, length, AllPairs}
 use Rattle.std.specs.List.{AllByRecursion, list_any}
 use Rattle.std.specs.Cmp.Lexicographic.{pointwise}
 use Rattle.audit_command.specs.declared.told.ToldTxn.{ToldTxn}
@@ -13,6 +13,13 @@ IsOther txns p = p.txns.items ≢ txns
 abbrev pub AreDistinct : List ToldPart → Type 0
 AreDistinct [] = Unit {0}
 AreDistinct (p ∷ ps) = AllByRecursion (IsOther p.txns.items) ps × AreDistinct ps
+
+-- no part has more transactions than a later one
+abbrev pub IsNoLarger : ToldPart → ToldPart → Type 0
+IsNoLarger p q = length p.txns.items ≤ length q.txns.items
+
+abbrev pub AreLeastFirst : List ToldPart → Type 0
+AreLeastFirst parts = AllPairs IsNoLarger parts
 
 -- ---- looked for
 

@@ -4,7 +4,7 @@ ghost use Rattle.std.specs.Prelude.{◌≡◌, ◌+◌, ◌-◌, ◌≤◌, ◌<
 ghost use Rattle.session_log.specs.Text.{ClientSession};
 ghost use Rattle.audit_command.specs.declared.options.AuditOptions.{AuditOptions};
 ghost use Rattle.audit_command.specs.Audited.{AreToldParts, AreParts};
-ghost use Rattle.audit_command.specs.Distinct.{has_txns, is_told};
+ghost use Rattle.audit_command.specs.Distinct.{AreLeastFirst, has_txns, is_told};
 
 use crate::told::{ToldPart, ToldTxn};
 use std::alloc::{AllocError, Global};
@@ -27,7 +27,7 @@ pub fn is_told(parts: &[ToldPart], txns: &[ToldTxn]) -> bool
 pub fn without_doubles(alloc: Global, parts: Vec<ToldPart>) -> Result<Vec<ToldPart>, AllocError>
     ensures parts { (o : AuditOptions) (n : ℕ) (ss : List ClientSession)
         → 0 < length parts.items → length parts.items ≤ 1 + (o.faults - 1)
-        → AreToldParts o n ss parts.items
+        → AreLeastFirst parts.items → AreToldParts o n ss parts.items
         → IfOk result (λ kept. AreParts o n ss kept.items) }
 {
     let mut kept = Vec::new(alloc);

@@ -12,6 +12,7 @@ ghost use Rattle.judging.specs.Levels.{IsLogAt, IsOrderAt, HasOrderAt};
 ghost use Rattle.audit_command.specs.declared.options.AuditOptions.{AuditOptions};
 ghost use Rattle.audit_command.specs.Audited.{nodes_in, IsPartTold, AreToldParts, AreParts};
 ghost use Rattle.audit_command.specs.Audited.{IsAnswered, IsOrderText, IsOrderFile, IsOpen, states_moments};
+ghost use Rattle.audit_command.specs.Distinct.{AreLeastFirst};
 ghost use Rattle.audit_command.specs.Resolved.{IsResolved, IsPartOf, IsPartOfVerdict};
 
 use crate::distinct::without_doubles;
@@ -112,12 +113,12 @@ fn add_parts<R: Threads + Wait + Clock + Sync>(
     Ok(())
 }
 
-/// Puts parts into the order of their sizes, the least one first. No contract speaks of that order;
-/// tests see it.
+/// Puts parts into the order of their sizes, the least one first.
 fn put_least_first(told: &mut Vec<ToldPart>) -> Result<(), AllocError>
     ensures told { (o : AuditOptions) (n : ℕ) (ss : List ClientSession)
         → AreToldParts o n ss told.old.items → AreToldParts o n ss told.new.items }
     ensures as_many { length told.new.items ≡ length told.old.items }
+    ensures least_first { OnOk result (AreLeastFirst told.new.items) }
 {
     told.sort_by_key(|part| part.txns.len())
 }

@@ -208,7 +208,7 @@ fn see_serial<R: Threads + Wait + Clock + Sync>(
     if means.is_over(rt) {
         return Ok(undecided(alloc, Why::NotBegun));
     }
-    if let Some(which) = size_limit(alloc, log)? {
+    if let Some(which) = size_limit(log) {
         return Ok(undecided(alloc, Why::TooLarge { which }));
     }
     match History::build(alloc, Version::One, copy_log(alloc, log)?) {

@@ -1,8 +1,8 @@
-use Rattle.std.proofs.Common.{◌<◌, ◌∷◌, [], ◌++◌, sym, ap, length, length-append, subst, append_assoc, ◌∙◌, arith}
+use Rattle.std.proofs.Common.{◌<◌, ◌∷◌, [], ◌++◌, sym, ap, length, length-append, subst, append_assoc, append-nil, ◌∙◌, arith}
 use Rattle.session_log.proofs.Adding.{all_more}
 use Rattle.audit_command.specs.Audited.{IsPartTold, AreToldParts}
-use Rattle.audit_command.specs.Distinct.{AreDistinct, is_told}
-use Rattle.audit_command.proofs.Doubles.{one_more, some_told}
+use Rattle.audit_command.specs.Distinct.{AreDistinct, AreLeastFirst, is_told}
+use Rattle.audit_command.proofs.Doubles.{one_more, some_told, without_one}
 use Rattle.audit_command.proofs.distinct.without_doubles.Goals as goal
 
 pub loop-part-preserved-in-Continue-1 : goal.loop-part-preserved-in-Continue-1
@@ -19,6 +19,7 @@ loop-part-preserved-in-Continue-1 c =
           let was = i.told o n ss all in
           let split = subst (AreToldParts o n ss) c.in-Some.ensures.steps.0 was.0 in
           (split.1, subst (AreToldParts o n ss) (sym grown) (all_more (IsPartTold o n ss) kept x was.1 split.0)));
+      least = λ all. subst AreLeastFirst (ap (λ l. kept ++ l) c.in-Some.ensures.steps.0 ∙ sym (append_assoc kept (x ∷ []) more) ∙ ap (λ l. l ++ more) (sym grown)) (i.least all);
       distinct = subst AreDistinct (sym grown) (one_more kept x i.distinct (apart ∙ sym c.is_told.ensures.told ∙ c.if-not-is_told.true));
       some = λ some. omega (arith, longer);
       at_most = omega (arith, longer, counted, i.at_most);
@@ -32,6 +33,7 @@ loop-part-preserved c =
     record {
       whole = append_assoc seen (x ∷ []) more ∙ ap (λ l. seen ++ l) (sym step) ∙ i.whole;
       told = λ o n ss all. (let was = i.told o n ss all in ((subst (AreToldParts o n ss) step was.0).1, was.1));
+      least = λ all. without_one kept x more (subst AreLeastFirst (ap (λ l. kept ++ l) step) (i.least all));
       distinct = i.distinct;
       some = λ some. subst (λ l. 0 < length l) c.deref.ensures.value (some_told c.deref-in-loop-part.result.now c.deref.result.now (sym c.is_told.ensures.told ∙ c.if-not-is_told.false));
       at_most = omega (arith, length-append seen (x ∷ []), i.at_most);
@@ -39,7 +41,7 @@ loop-part-preserved c =
 
 pub returns : goal.returns
 returns c = record {
-  parts = λ o n ss some most all.
+  parts = λ o n ss some most least all.
       let i = c.loop-part.invariant in
       let seen = c.loop-part.yielded in
       let rest = c.loop-part.part-iterator.rest in
@@ -50,6 +52,7 @@ returns c = record {
       record {
         some = i.some (omega (arith, end, both, none, as_long, some));
         at_most = omega (arith, i.at_most, end, both, none, as_long, most);
+        least_first = subst AreLeastFirst (ap (λ l. c.loop-part.kept.items ++ l) none ∙ append-nil c.loop-part.kept.items) (i.least least);
         distinct = i.distinct;
         told = (i.told o n ss all).1;
       };

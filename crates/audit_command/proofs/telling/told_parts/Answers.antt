@@ -25,5 +25,6 @@ returns g c = record {
       c.without_doubles.ensures.parts o n ss
       (omega (arith, ap length one, grown, as_many))
       (omega (arith, ap length one, few, as_many, c.in_ok-more.ensures.at_most, c.saturating_sub-count.ensures))
+      c.in_ok-put_least_first.ensures.least_first
       sorted;
 }
