@@ -84,9 +84,9 @@ def counted(sessions):
 
 # What stands behind a part where a client or its recorder is more often at fault than a store.
 ORDER = 'check first: did the client record its operations in their order?'
-HINTS = {'A1': 'check first: does the log have the writes of all clients?', 'A4': ORDER, 'A5': ORDER}
+HINTS = {'A1': 'check first: does the log have each write of all clients, under its own key?', 'A4': ORDER, 'A5': ORDER}
 # What is said where a log has an order without its moments, and none with them.
-TIME_ALONE = 'only real time was broken: without it the whole log is serializable'
+TIME_ALONE = ['only real time was broken: without it the whole log is serializable', 'check first: do the clients share a clock?']
 
 
 class Part:
@@ -152,10 +152,10 @@ class Answer:
                 shows = ', as %s' % ('shown above' if self.shown is None else 'the next part shows') if (level, found[1]) == (last, 'not kept') else None
                 must(found[2] == shows, 'what shows it: %r' % found[0])
         must(not self.weaker or 'snapshot isolation' in self.weaker, 'levels: %r' % self.weaker)
-        if middle and middle[-1] == TIME_ALONE:
+        if middle[-2:] == TIME_ALONE:
             self.without = 'serializable'
             must(self.verdict == 'not serializable', 'told of %r: %r' % (self.verdict, TIME_ALONE))
-            middle.pop()
+            del middle[-2:]
         elif middle and middle[-1].startswith('the whole log without real time: '):
             self.without = middle.pop()[len('the whole log without real time: '):]
             must(self.without in STATUS and self.without != 'refused', 'without moments %r' % self.without)

@@ -32,12 +32,12 @@ OVER = r' over (?:an update of )?(?:[1-9][0-9]*|the initial value)'
 BEHIND = r'(?:, which [1-9][0-9]*\.[1-9][0-9]* wrote \(line [1-9][0-9]*\)%s)' % OVER
 OF = r'(?: of [1-9][0-9]*\.[1-9][0-9]*|, the initial value)'
 SINCE = re.compile(r'    if [1-9][0-9]* came first, %s, which reads [0-9]+ \(line [1-9][0-9]*\)%s?, '
-                   'would come before %s, but %s comes before %s:' % (NODE, BEHIND, NODE, NODE, NODE))
-FORCED = 'these orders of versions are forced:'
+                   'would come before %s, which would overwrite it, but %s comes before %s:' % (NODE, BEHIND, NODE, NODE, NODE))
+FORCED, TABLE = 'these orders of versions are forced:', 'the reads and writes that matter:'
 CYCLE = re.compile('cycle from %s:' % NODE)
 ORDER = re.compile('suppose %s:' % VERSIONS)
-LEAVES = re.compile('whichever of these versions came first, a cycle closes(?:, %s in all; the first 1000 of them)?:' % NUMBER)
-CROSSED = 'no serial order allows all four reads: in any, one of these pairs is never current:'
+LEAVES = re.compile('proof: whichever of these versions came first, a cycle closes(?:, %s in all; the first 1000 of them)?:' % NUMBER)
+CROSSED = 'four transactions read these pairs of versions; a serial order has at most three of them:'
 PAIR = re.compile(r'    %s reads %s %s \(line %s\) and %s %s \(line %s\)' % (NODE, KEY, NUMBER, NUMBER, KEY, NUMBER, NUMBER))
 LONG_FORK = 'known as: long fork (G-nonadjacent-item)'
 # Crossed reads are sought where that takes no more looks.
@@ -327,7 +327,7 @@ class Log:
         lines = ['[%s] %s:' % (number, self.said_of_order(key, first, second))]
         for read in [op for op in self.named[u].ops if (op.kind, op.key) == ('r', key)][:u != second]:
             said = (self.named[second].writes(key)[-1].wid, u, read.wid, read.line, self.update(self.named[u], read, key, second), v, v, u)
-            lines.append('    if %d came first, %s, which reads %d (line %d)%s, would come before %s, but %s comes before %s:' % said)
+            lines.append('    if %d came first, %s, which reads %d (line %d)%s, would come before %s, which would overwrite it, but %s comes before %s:' % said)
         return lines
 
     def side(self, key, first, second):
@@ -586,11 +586,23 @@ def steps_first(lines):
     return lines[:begins] + lines[at + 1:] + lines[begins:at]
 
 
+def without_table(lines):
+    """These lines without the table of what the transactions of a tree did."""
+    if lines[:1] != [TABLE]:
+        return lines
+    return lines[next((n for n, line in enumerate(lines) if n and not line.startswith('    ')), len(lines)):]
+
+
 def judge(text, checked, explained, log=None):
     """What is met in an explanation, of which the first lines have to be these; else Wrong. Names and lines are those of this log."""
     told(explained[:len(checked)] == checked, 'the first lines are not those of check')
     told(explained.endswith('\n'), 'the last line does not end')
-    return judge_lines(text, checked, steps_first(explained[len(checked):].split('\n')[:-1]), log)
+    lines, log = steps_first(explained[len(checked):].split('\n')[:-1]), log or Log(text)
+    rest = without_table(lines)
+    is_asked = checked.split('\n')[0] == EVERY_CUBE and CROSSED not in rest
+    right = [TABLE] + ['    ' + '  '.join(row) for row in named_of(log, rest)] if is_asked else []
+    told(lines[:len(lines) - len(rest)] == right, 'the table is %r, wanted %r' % (lines[:len(lines) - len(rest)], right))
+    return judge_lines(text, checked, rest, log)
 
 
 def judge_lines(text, checked, lines, log=None):
@@ -644,19 +656,24 @@ def edges_of(log, lines):
             yield (*edge.groups(), *kind_of(edge[3]))
 
 
+def named_of(log, lines):
+    """Of each transaction that these lines tell edges of, its name and those of its operations that the reasons name."""
+    edges = list(edges_of(log, lines))
+    parts = {name for edge in edges for name in edge[:2]}
+    shown = [re.sub(BEHIND, '', said) for _, _, said, _, colour in edges if colour not in ('orange', 'gray')]
+    named = {int(line) for said in shown for line in re.findall(r'\(line ([0-9]+)\)', said)}
+    return [[it.name] + ['%s %s %d (line %d)' % op for op in it.ops if op.line in named] for it in log.transactions if it.name in parts]
+
+
 def graph_of(text, checked, explained):
     """The graph of what these lines say, and nothing where a log was refused."""
-    lines = steps_first(explained[len(checked):].split('\n')[:-1])
+    lines = without_table(steps_first(explained[len(checked):].split('\n')[:-1]))
     first, log = checked.split('\n')[0], Log(text) if checked else None
     if READ.fullmatch(first) or UPDATE.fullmatch(first):
         drawn = ['"anomaly" [label="%s"];' % ''.join(line + '\\n' for line in lines)]
     else:
         edges = list(edges_of(log, lines))
-        parts = {name for edge in edges for name in edge[:2]}
-        shown = [re.sub(BEHIND, '', said) for _, _, said, _, colour in edges if colour not in ('orange', 'gray')]
-        named = {int(line) for said in shown for line in re.findall(r'\(line ([0-9]+)\)', said)}
-        drawn = ['"%s" [label="%s"];' % (it.name, '\\n'.join([it.name] + ['%s %s %d (line %d)' % op for op in it.ops if op.line in named]))
-                 for it in (log.transactions if log else ()) if it.name in parts]
+        drawn = ['"%s" [label="%s"];' % (row[0], '\\n'.join(row)) for row in (named_of(log, lines) if log else ())]
         drawn += ['"%s" -> "%s" [label="%s" color="%s"];' % (a, b, kind, colour) for a, b, _, kind, colour in edges]
     comments = ['// ' + line for line in [first] + lines[:first.startswith('unknown: ')]]
     graph = [*comments, 'strict digraph explanation {', 'node [shape=box];', *drawn, '}'] if checked else []
@@ -667,7 +684,7 @@ def graph_of(text, checked, explained):
 
 def spoilt(r, text, checked, explained):
     """What was done to an explanation of cycles, and what it then says, which is wrong."""
-    log, lines = Log(text), steps_first(explained[len(checked):].split('\n')[:-1])
+    log, lines = Log(text), without_table(steps_first(explained[len(checked):].split('\n')[:-1]))
     bare = [line.lstrip(' ') for line in lines]
     edges, steps, cycles, orders = ([n for n, line in enumerate(bare) if form.fullmatch(line)] for form in (EDGE, STEP, CYCLE, ORDER))
     forced = [n for n in edges if BY_STEP.fullmatch(EDGE.fullmatch(bare[n])[3])]
@@ -765,7 +782,7 @@ def spoilt(r, text, checked, explained):
         yield 'the walk is not said to end there', stepped(both[0], both[1].rsplit(', but ', 1)[0] + ':')
     else:
         op = r.choice(log.named[u].ops)
-        yield 'a read is told where none is', stepped(both[0], '    if %d came first, %s, which reads %d (line %d), would come before %s, but %s comes before %s:'
+        yield 'a read is told where none is', stepped(both[0], '    if %d came first, %s, which reads %d (line %d), would come before %s, which would overwrite it, but %s comes before %s:'
                                                     % (op.wid, u, op.wid, op.line, v, v, u))
     n = r.randrange(walk, behind)
     for moved in (bare[n], '  ' + bare[n], '   ' + bare[n], '     ' + bare[n], '      ' + bare[n]):
@@ -871,7 +888,7 @@ def spoilt_tree(r, log, lines, bare, without, instead):
     yield 'no line is indented', bare
     yield 'no line stands before the tree', without(orders[0] - 1)
     for count in (len(pairs) + 1, MOST_LEAVES, MOST_LEAVES + 1):
-        said = 'whichever of these versions came first, a cycle closes, %d in all; the first 1000 of them:' % count
+        said = 'proof: whichever of these versions came first, a cycle closes, %d in all; the first 1000 of them:' % count
         yield 'leaves are counted that are all told', lines[:orders[0] - 1] + [said] + lines[orders[0]:]
 
 
@@ -984,7 +1001,7 @@ BY_HAND = [
             '1.1 before 2.1: 1.1 wrote x 1 (line 3), which by [1] comes before 2, which 2.1 wrote (line 11)',
             'known as: cycle of missed writes and sessions (G2-item-process)', FORCED,
             '[1] x: 1, which 1.1 wrote (line 3), comes before 2, which 2.1 wrote (line 11):',
-            '    if 2 came first, 3.1, which reads 2 (line 16), would come before 1.1, but 1.1 comes before 3.1:',
+            '    if 2 came first, 3.1, which reads 2 (line 16), would come before 1.1, which would overwrite it, but 1.1 comes before 3.1:',
             '    1.1 before 1.2: session 1', '    1.2 before 3.1: 1.2 reads z 0 (line 7), the initial value, and 3.1 wrote z 3 (line 17)'),
 ]
 

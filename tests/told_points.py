@@ -27,7 +27,7 @@ WAY_STEP = re.compile("\\[(\\d+)\\] %s's commit before %s's snapshot:" % (NAME, 
 FORCED_STEP = re.compile("\\[(\\d+)\\] %s's commit before %s's snapshot: %s, and %s cannot commit first:" % (NAME, NAME, BOTH, NAME))
 NEITHER = re.compile('%s and %s %s, so one of them commits before the other takes its snapshot' % (NAME, NAME, BOTH))
 NOT_FIRST = re.compile('%s cannot commit first:' % NAME)
-WOULD = re.compile("    %s's snapshot would come before %s's commit: %s, and %s would overwrite it with (\\d+) \\(line (\\d+)\\)" % (NAME, NAME, READS, NAME))
+WOULD = re.compile("    %s's snapshot would come before %s's commit, since %s of (\\d+\\.\\d+), and %s would overwrite it with (\\d+) \\(line (\\d+)\\); but" % (NAME, NAME, READS, NAME))
 # Forms of reasons.
 WROTE = re.compile('%s, which %s wrote \\(line (\\d+)\\)' % (READS, NAME))
 LATER = re.compile('%s, which %s writes itself only later \\(line (\\d+)\\)' % (READS, NAME))
@@ -168,9 +168,9 @@ class Telling:
             must(self.leads((other, 'snapshot'), first) and self.leads(last, (node, 'commit')), 'this leads from %s to %s' % (first, last))
             return
         self.left.pop(0)
-        reader, writer, again, key, wid, line, writer_again, new, at = found.groups()
+        reader, writer, again, key, wid, line, of, writer_again, new, at = found.groups()
         self.log.must_read(reader, key, wid, line), self.log.must_write(other, key, new, at)
-        must(reader == again and writer == writer_again == other and self.log.wrote(key, wid) == node and reader not in (node, other), found[0])
+        must(reader == again and writer == writer_again == other and self.log.wrote(key, wid) == of == node and reader not in (node, other), found[0])
         first, last = self.way('    ')
         must(self.leads((other, 'commit'), first) and self.leads(last, (reader, 'snapshot')), 'this leads from %s to %s' % (first, last))
 

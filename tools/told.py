@@ -19,14 +19,16 @@ STEP = re.compile(r'\[%s\] %s:' % (NUMBER, VERSIONS))
 OVER = r' over (?:an update of )?(?:[0-9]+|the initial value)'
 BEHIND = r'(?:, which [1-9][0-9]*\.[1-9][0-9]* wrote \(line [1-9][0-9]*\)%s)' % OVER
 OF = r'(?: of [1-9][0-9]*\.[1-9][0-9]*|, the initial value)'
-SINCE = re.compile(r'    if [0-9]+ came first, %s, which reads [0-9]+ \(line %s\)%s?, would come before %s, but %s comes before %s:'
+SINCE = re.compile(r'    if [0-9]+ came first, %s, which reads [0-9]+ \(line %s\)%s?, would come before %s, which would overwrite it, but %s comes before %s:'
                    % (NODE, NUMBER, BEHIND, NODE, NODE, NODE))
 CYCLE = re.compile('cycle from %s:' % NODE)
+TABLE = re.compile('the reads and writes that matter:')
+ROW = re.compile(r'    %s(?:  [rw] [A-Za-z0-9_.:/-]+ [0-9]+ \(line [1-9][0-9]*\))*' % NODE)
 FORCED = re.compile('these orders of versions are forced:')
 ORDER = re.compile('suppose %s:' % VERSIONS)
 KNOWN = re.compile('known as: (.+)')
-LEAVES = re.compile('whichever of these versions came first, a cycle closes(?:, %s in all; the first 1000 of them)?:' % NUMBER)
-CROSSED = re.compile('no serial order allows all four reads: in any, one of these pairs is never current:')
+LEAVES = re.compile('proof: whichever of these versions came first, a cycle closes(?:, %s in all; the first 1000 of them)?:' % NUMBER)
+CROSSED = re.compile('four transactions read these pairs of versions; a serial order has at most three of them:')
 PAIR = re.compile(r'    %s reads %s ([0-9]+) \(line %s\) and %s ([0-9]+) \(line %s\)' % (NODE, KEY, NUMBER, KEY, NUMBER))
 # What is said of an edge by an order of versions: what its first transaction has of the key, and what the second one wrote.
 KEPT = r'%s (?:reads|wrote) %s ([0-9]+) \(line %s\)(?:%s|%s|%s)?, which %%s before %s' % (NODE, KEY, NUMBER, BEHIND, OVER, OF, VERSION)
@@ -204,6 +206,12 @@ class Reader:
         pairs = [self.next(PAIR) for _ in range(4)] if self.next(CROSSED) else []
         return [Pair(line, name, (int(first), int(second))) for line, name, _, _, first, _, _, second in filter(None, pairs)]
 
+    def table(self):
+        """Passes what the transactions of a tree did: the edges name it too."""
+        if self.next(TABLE):
+            while self.next(ROW):
+                pass
+
     def leaves(self):
         """The cycles of a tree, each with the orders that are decided above it."""
         found, decided = [], []
@@ -249,6 +257,7 @@ def read(text):
     elif it.code in ('A9', TREE):
         it.pairs = reader.pairs()
         it.known_as = reader.known_as() if it.pairs else None
+        reader.table()
         if it.code == 'A9':
             it.cycle, it.known_as = reader.cycle(), reader.known_as()
         else:

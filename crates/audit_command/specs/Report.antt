@@ -138,6 +138,7 @@ middle_text faults _ = []
 unfoldable pub without_text : Word → Word → List ℕ
 without_text word.NotSerializable word.Serializable =
     codes "only real time was broken: without it the whole log is serializable\n"
+    ++ codes "check first: do the clients share a clock?\n"
 without_text with without = codes "the whole log without real time: " ++ word_text without
     ++ 10 ∷ []
 

@@ -265,10 +265,13 @@ fn put_without(out: &mut Vec<u8>, with: Word, without: Word) -> Result<(), Alloc
     ensures put { OnOk result (out.new.items ≡ out.old.items ++ without_text with without) }
 {
     match (with, without) {
-        (Word::NotSerializable, Word::Serializable) => put(
-            out,
-            b"only real time was broken: without it the whole log is serializable\n",
-        ),
+        (Word::NotSerializable, Word::Serializable) => {
+            put(
+                out,
+                b"only real time was broken: without it the whole log is serializable\n",
+            )?;
+            put(out, b"check first: do the clients share a clock?\n")
+        }
         (_, _) => {
             put(out, b"the whole log without real time: ")?;
             put(out, word_text(without).as_bytes())?;

@@ -20,7 +20,7 @@ use Rattle.serializability.specs.Polygraph.{Choice}
 use Rattle.cube_laws.specs.declared.tree.TreeNode.{TreeNode}
 use Rattle.tell_trees.specs.Trees.{IsTreeTold}
 use Rattle.tell_texts.specs.Texts.{items_text}
-use Rattle.tell_texts.specs.Graphs.{graph_text}
+use Rattle.tell_texts.specs.Graphs.{graph_text, table_text}
 use Rattle.tell_decision.specs.Names.{name_of, name_behind}
 use Rattle.call_options.specs.declared.format.Format.{Format}
 use Rattle.call_options.specs.declared.format.Format.TheVariants.{Text, Dot}
@@ -74,10 +74,16 @@ abbrev pub dead_text : Format → PlacedHistory → Option Crossing → List Ite
 dead_text format log found items = crossed_text format log found
     ++ steps_last format log (Some (name_behind log.history.now items)) items
 
--- such reads; and a tree, and the steps before it
+-- what the transactions did, where no such reads say it
+abbrev pub table_where : Format → PlacedHistory → Option Crossing → List Item → List ℕ
+table_where Text log None items = table_text log items
+table_where Text log (Some c) items = []
+table_where Dot log found items = []
+
+-- such reads, or what the transactions did; and a tree, and the steps before it
 abbrev pub tree_text : Format → PlacedHistory → Option Crossing → List Item → List ℕ
-tree_text format log found items =
-    crossed_text format log found ++ steps_last format log None items
+tree_text format log found items = crossed_text format log found
+    ++ table_where format log found items ++ steps_last format log None items
 
 -- in a label a line break is a backslash and n
 abbrev pub label_byte : ℕ → List ℕ

@@ -6,7 +6,7 @@ ghost use Rattle.std.specs.Option.{option_map};
 ghost use Rattle.reason_laws.specs.Crossed.{AreCrossed};
 ghost use Rattle.tell_texts.specs.Texts.{AreTellable};
 ghost use Rattle.tell_decision.specs.Explained.{told_text, crossed_text, tree_text};
-ghost use Rattle.tell_decision.specs.Explained.{is_of_step, of_steps, forced_text, steps_last};
+ghost use Rattle.tell_decision.specs.Explained.{is_of_step, of_steps, forced_text, steps_last, table_where};
 ghost use Rattle.tell_decision.specs.Explained.{known_as, cycle_text, dead_text};
 ghost use Rattle.tell_decision.specs.Explained.{lines_text, label_byte, box_text};
 
@@ -17,7 +17,7 @@ use reason_laws::Crossing;
 use std::alloc::{AllocError, Global};
 use tell_reasons::put_crossing;
 use tell_steps::Item;
-use tell_texts::{put_graph, put_items};
+use tell_texts::{put_graph, put_items, put_table};
 
 /// Appends items as lines of text, or as a graph.
 fn put_told(
@@ -140,8 +140,28 @@ fn put_steps_last(
     }
 }
 
-/// Reads that rule out every order, where such were found; a tree; and the steps that it rests on;
-/// as lines of text, or the steps and the tree as a graph.
+/// Appends what the transactions of a tree did, as lines of a text, where no reads that rule out
+/// every order say it.
+fn put_table_where(
+    alloc: Global,
+    out: &mut Vec<u8>,
+    log: &PlacedHistory<'_>,
+    format: Format,
+    found: Option<Crossing>,
+    items: &[Item],
+) -> Result<(), AllocError>
+    requires items { AreTellable log.now.history.now items.now }
+    ensures text { OnOk result (out.new.items
+        ≡ out.old.items ++ table_where format log.now found items.now) }
+{
+    match (format, found) {
+        (Format::Text, None) => put_table(alloc, out, log, items),
+        (Format::Text, Some(_)) | (Format::Dot, _) => Ok(()),
+    }
+}
+
+/// Reads that rule out every order, where such were found, else what the transactions did; a tree;
+/// and the steps that it rests on; as lines of text, or the steps and the tree as a graph.
 pub fn written_tree(
     alloc: Global,
     log: &PlacedHistory<'_>,
@@ -155,11 +175,13 @@ pub fn written_tree(
 {
     let mut out = Vec::new(alloc);
     put_crossed(&mut out, log, format, found)?;
+    put_table_where(alloc, &mut out, log, format, found, items)?;
     put_steps_last(alloc, &mut out, log, format, None, items)?;
     Ok(out)
 }
 
-/// The same of a cycle, with its name.
+/// Reads that rule out every order, where such were found; a cycle, its name, and the steps that it
+/// rests on; as lines of text, or the steps and the cycle as a graph.
 pub fn written_dead(
     alloc: Global,
     log: &PlacedHistory<'_>,

@@ -17,7 +17,7 @@ pair_text log p =
 -- the four, and what that is called (Elle)
 abbrev pub crossing_text : PlacedHistory → Crossing → List ℕ
 crossing_text log c =
-    codes "no serial order allows all four reads: in any, one of these pairs is never current:\n"
+    codes "four transactions read these pairs of versions; a serial order has at most three of them:\n"
     ++ pair_text log c.one_one ++ pair_text log c.one_two
     ++ pair_text log c.two_one ++ pair_text log c.two_two
     ++ codes "known as: long fork (G-nonadjacent-item)\n"

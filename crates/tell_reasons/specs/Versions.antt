@@ -131,7 +131,7 @@ since_at log version u v (Some i) =
     codes "    if " ++ decimal version ++ codes " came first, " ++ named log u
     ++ codes ", which reads " ++ wid_text (op_at log.history.now u i) ++ op_in_line log u i
     ++ behind_text log version u i ++ codes ", would come before " ++ named log v
-    ++ codes ", but " ++ named log v ++ codes " comes before " ++ named log u ++ codes ":\n"
+    ++ codes ", which would overwrite it, but " ++ named log v ++ codes " comes before " ++ named log u ++ codes ":\n"
 
 abbrev pub since_text : PlacedHistory → ChainOrder → ℕ → ℕ → List ℕ
 since_text log o u v = since_at log (version_of log.history.now o.key o.second) u v

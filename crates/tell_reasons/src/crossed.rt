@@ -37,7 +37,7 @@ pub fn put_crossing(
 {
     put_text(
         out,
-        b"no serial order allows all four reads: in any, one of these pairs is never current:\n",
+        b"four transactions read these pairs of versions; a serial order has at most three of them:\n",
     )?;
     put_pair(out, log, crossing.one_one)?;
     put_pair(out, log, crossing.one_two)?;

@@ -284,7 +284,8 @@ pub fn put_since(
                 Text(b", which reads "), Identity(source, op), AtLine(source, op))?;
             put_behind(out, log, version, source, op)?;
             say!(out, log;
-                Text(b", would come before "), Node(target), Text(b", but "), Node(target),
+                Text(b", would come before "), Node(target),
+                Text(b", which would overwrite it, but "), Node(target),
                 Text(b" comes before "), Node(source), Text(b":\n"))
         }
         None => Ok(()),

@@ -221,10 +221,10 @@ pub fn overwritten_line(
     read: Access<'_>,
     write: Access<'_>,
 ) -> Result<String, AllocError> {
-    let reads = read_text(alloc, part, read)?;
+    let (reads, of) = (read_text(alloc, part, read)?, writer_text(alloc, part, read)?);
     let reader = name(alloc, part, read.node)?;
     let (node, line, wid) = (name(alloc, part, write.node)?, write.line, write.wid);
     format!(in alloc;
-        "    {reader}'s snapshot would come before {node}'s commit: {reads}, and {node} would overwrite it with {wid} (line {line})"
+        "    {reader}'s snapshot would come before {node}'s commit, since {reads}{of}, and {node} would overwrite it with {wid} (line {line}); but"
     )
 }

@@ -18,6 +18,8 @@ use Rattle.tell_reasons.specs.declared.why.Why.{Why}
 use Rattle.tell_reasons.specs.declared.why.Why.TheVariants as why
 use Rattle.tell_steps.specs.declared.item.Item.{Item}
 use Rattle.tell_steps.specs.declared.item.Item.TheVariants.{Edge}
+use Rattle.tell_texts.specs.declared.boxes.Look.{Look}
+use Rattle.tell_texts.specs.declared.boxes.Look.TheVariants as look
 
 -- the operations that a reason names, each with its node
 abbrev pub reason_names : ℕ → ℕ → Reason → List (ℕ × ℕ)
@@ -90,28 +92,40 @@ abbrev pub HasNodes : ℕ → Item → Type 0
 HasNodes count (Edge a b w) = (a < count) × (b < count)
 HasNodes count _ = Unit {0}
 
--- ---- boxes
--- behind the line break of a label: a backslash and n
-abbrev pub op_label : PlacedHistory → ℕ → ℕ → List ℕ
-op_label log v i = codes "\\n" ++ listed_text (op_at log.history.now v i) ++ op_in_line log v i
+-- ---- boxes, and lines in their place
+-- before an operation: in a box the line break of a label, a backslash and n
+abbrev pub before_op : Look → List ℕ
+before_op look.Box = codes "\\n"
+before_op look.Line = codes "  "
+
+abbrev pub op_label : Look → PlacedHistory → ℕ → ℕ → List ℕ
+op_label look log v i =
+    before_op look ++ listed_text (op_at log.history.now v i) ++ op_in_line log v i
 
 -- the first so many operations of the node, without those that fail the test
-unfoldable pub op_labels : PlacedHistory → ℕ → (ℕ → Bool) → ℕ → List ℕ
-op_labels log v test count = flat_map (op_label log v) (filter test (range_with_len 0 count))
+unfoldable pub op_labels : Look → PlacedHistory → ℕ → (ℕ → Bool) → ℕ → List ℕ
+op_labels look log v test count =
+    flat_map (op_label look log v) (filter test (range_with_len 0 count))
 
--- with these labels: `"2.1" [label="2.1\nr x 7 (line 12)"];`
-abbrev pub box_with : PlacedHistory → ℕ → List ℕ → List ℕ
-box_with log v labels = codes "\"" ++ named log v ++ codes "\" [label=\"" ++ named log v ++ labels
-    ++ codes "\"];\n"
+-- with these labels: `"2.1" [label="2.1\nr x 7 (line 12)"];`, or `    2.1  r x 7 (line 12)`
+abbrev pub box_with : Look → PlacedHistory → ℕ → List ℕ → List ℕ
+box_with look.Box log v labels = codes "\"" ++ named log v ++ codes "\" [label=\"" ++ named log v
+    ++ labels ++ codes "\"];\n"
+box_with look.Line log v labels = codes "    " ++ named log v ++ labels ++ codes "\n"
 
-abbrev pub box : PlacedHistory → List Item → ℕ → List ℕ
-box log items v =
-    box_with log v (op_labels log v (names items v) (length (ops_of log.history.now v)))
+abbrev pub box : Look → PlacedHistory → List Item → ℕ → List ℕ
+box look log items v =
+    box_with look log v (op_labels look log v (names items v) (length (ops_of log.history.now v)))
 
 -- the boxes of the first so many nodes, without those that take no part
-unfoldable pub boxes : PlacedHistory → List Item → ℕ → List ℕ
-boxes log items count =
-    flat_map (box log items) (filter (takes_part items) (range_with_len 1 count))
+unfoldable pub boxes : Look → PlacedHistory → List Item → ℕ → List ℕ
+boxes look log items count =
+    flat_map (box look log items) (filter (takes_part items) (range_with_len 1 count))
+
+-- a line for each transaction that takes part
+abbrev pub table_text : PlacedHistory → List Item → List ℕ
+table_text log items = codes "the reads and writes that matter:\n"
+    ++ boxes look.Line log items (log_of log.history.now).nodes
 
 -- ---- arrows
 -- the kind of a reason, and the colour of an arrow for which there is such a one
@@ -142,5 +156,5 @@ arrows log items = flat_map (arrow log) items
 -- two arrows between the same boxes are drawn as one
 abbrev pub graph_text : PlacedHistory → List Item → List ℕ
 graph_text log items =
-    codes "strict digraph explanation {\nnode [shape=box];\n" ++ boxes log items
+    codes "strict digraph explanation {\nnode [shape=box];\n" ++ boxes look.Box log items
     (log_of log.history.now).nodes ++ arrows log items ++ codes "}\n"

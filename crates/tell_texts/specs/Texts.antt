@@ -36,9 +36,9 @@ order_line log o = codes "suppose " ++ versions_line log o
 -- that a tree has several leaves; how many, where that is more than are told
 abbrev pub leaves_line : ℕ → List ℕ
 leaves_line count = if nat_lt 1000 count
-    then codes "whichever of these versions came first, a cycle closes, " ++ decimal count
+    then codes "proof: whichever of these versions came first, a cycle closes, " ++ decimal count
     ++ codes " in all; the first 1000 of them:\n"
-    else codes "whichever of these versions came first, a cycle closes:\n"
+    else codes "proof: whichever of these versions came first, a cycle closes:\n"
 
 abbrev pub item_line : PlacedHistory → Item → List ℕ
 item_line log (Step number o u v) = step_lines log number o u v

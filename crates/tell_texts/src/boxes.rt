@@ -1,4 +1,5 @@
-//! The boxes of a graph: transactions, with those of their operations that the explanation names.
+//! The boxes of a graph, or lines: transactions, with those of their operations that the explanation
+//! names.
 
 ghost use Rattle.std.specs.Prelude.{◌≡◌, ◌<◌, ◌++◌, length, OnOk, if◌then◌else◌, []};
 ghost use Rattle.reason_laws.specs.Reasons.{IsNode};
@@ -15,22 +16,44 @@ use std::alloc::{AllocError, Global};
 use tell_reasons::say;
 use tell_steps::Item;
 
-/// Appends a line break of a label, an operation, and its line.
+/// How a transaction is shown.
+#[derive(Clone, Copy)]
+pub enum Look {
+    /// As a box of a graph.
+    Box,
+    /// As a line.
+    Line,
+}
+
+/// What stands before an operation.
+fn before_op(look: Look) -> &'static [u8]
+    ensures text { result.now ≡ spec.before_op look }
+{
+    match look {
+        Look::Box => b"\\n",
+        Look::Line => b"  ",
+    }
+}
+
+/// Appends an operation and its line.
 fn put_op_label(
     out: &mut Vec<u8>,
+    look: Look,
     log: &PlacedHistory<'_>,
     node: NodeIx,
     op: usize,
 ) -> Result<(), AllocError>
     requires op { op < length (ops_of log.now.history.now node) }
-    ensures text { OnOk result (out.new.items ≡ out.old.items ++ spec.op_label log.now node op) }
+    ensures text { OnOk result (out.new.items
+        ≡ out.old.items ++ spec.op_label look log.now node op) }
 {
-    say!(out, log; Text(b"\\n"), Listed(node, op), AtLine(node, op))
+    say!(out, log; Text(before_op(look)), Listed(node, op), AtLine(node, op))
 }
 
 /// Appends the label of an operation, where it is marked.
 fn put_where_marked(
     out: &mut Vec<u8>,
+    look: Look,
     log: &PlacedHistory<'_>,
     node: NodeIx,
     op: usize,
@@ -38,10 +61,10 @@ fn put_where_marked(
 ) -> Result<(), AllocError>
     requires op { op < length (ops_of log.now.history.now node) }
     ensures text { OnOk result (out.new.items ≡ out.old.items
-        ++ (if marked then spec.op_label log.now node op else [])) }
+        ++ (if marked then spec.op_label look log.now node op else [])) }
 {
     if marked {
-        put_op_label(out, log, node, op)?;
+        put_op_label(out, look, log, node, op)?;
     }
     Ok(())
 }
@@ -50,16 +73,17 @@ fn put_where_marked(
 #[tactic(auto, using(std::proofs::lemmas::Grind::common_steps, crate::proofs::Drawn::label_steps))]
 fn put_op_labels(
     out: &mut Vec<u8>,
+    look: Look,
     log: &PlacedHistory<'_>,
     node: NodeIx,
     marks: &[bool],
 ) -> Result<(), AllocError>
     requires marks { length marks.now ≡ length (ops_of log.now.history.now node) }
     ensures text { OnOk result (out.new.items ≡ out.old.items
-        ++ spec.op_labels log.now node (spec.is_marked marks.now) (length marks.now)) }
+        ++ spec.op_labels look log.now node (spec.is_marked marks.now) (length marks.now)) }
 {
     for (op, marked) in marks.iter().enumerate() {
-        put_where_marked(out, log, node, op, *marked)?;
+        put_where_marked(out, look, log, node, op, *marked)?;
     }
     Ok(())
 }
@@ -68,23 +92,34 @@ fn put_op_labels(
 #[tactic(auto, using(reason_laws::proofs::Numbers::within))]
 fn put_box(
     out: &mut Vec<u8>,
+    look: Look,
     log: &PlacedHistory<'_>,
     node: NodeIx,
     marks: &[bool],
 ) -> Result<(), AllocError>
     requires node { IsNode log.now.history.now node }
     requires marks { length marks.now ≡ length (ops_of log.now.history.now node) }
-    ensures text { OnOk result (out.new.items ≡ out.old.items ++ spec.box_with log.now node
-        (spec.op_labels log.now node (spec.is_marked marks.now) (length marks.now))) }
+    ensures text { OnOk result (out.new.items ≡ out.old.items ++ spec.box_with look log.now node
+        (spec.op_labels look log.now node (spec.is_marked marks.now) (length marks.now))) }
 {
-    say!(out, log; Text(b"\""), Node(node), Text(b"\" [label=\""), Node(node))?;
-    put_op_labels(out, log, node, marks)?;
-    say!(out, log; Text(b"\"];\n"))
+    match look {
+        Look::Box => {
+            say!(out, log; Text(b"\""), Node(node), Text(b"\" [label=\""), Node(node))?;
+            put_op_labels(out, look, log, node, marks)?;
+            say!(out, log; Text(b"\"];\n"))
+        }
+        Look::Line => {
+            say!(out, log; Text(b"    "), Node(node))?;
+            put_op_labels(out, look, log, node, marks)?;
+            say!(out, log; Text(b"\n"))
+        }
+    }
 }
 
 /// Appends the box of a node, where it takes part.
 fn put_where_part(
     out: &mut Vec<u8>,
+    look: Look,
     log: &PlacedHistory<'_>,
     node: NodeIx,
     takes_part: bool,
@@ -93,11 +128,11 @@ fn put_where_part(
     requires node { IsNode log.now.history.now node }
     requires marks { length marks.now ≡ length (ops_of log.now.history.now node) }
     ensures text { OnOk result (out.new.items ≡ out.old.items ++ (if takes_part
-        then spec.box_with log.now node (spec.op_labels log.now node (spec.is_marked marks.now)
+        then spec.box_with look log.now node (spec.op_labels look log.now node (spec.is_marked marks.now)
         (length marks.now)) else [])) }
 {
     if takes_part {
-        put_box(out, log, node, marks)?;
+        put_box(out, look, log, node, marks)?;
     }
     Ok(())
 }
@@ -106,18 +141,19 @@ fn put_where_part(
 pub fn put_boxes(
     alloc: Global,
     out: &mut Vec<u8>,
+    look: Look,
     log: &PlacedHistory<'_>,
     items: &[Item],
 ) -> Result<(), AllocError>
     requires items { AreTellable log.now.history.now items.now }
     ensures text { OnOk result (out.new.items ≡ out.old.items
-        ++ spec.boxes log.now items.now (log_of log.now.history.now).nodes) }
+        ++ spec.boxes look log.now items.now (log_of log.now.history.now).nodes) }
 {
     let marks = marks_of(alloc, log.history, items)?;
     for number in 1..log.history.committed() + 1 {
         let takes_part = marks.nodes[number];
         let operations = &marks.operations[number];
-        put_where_part(out, log, node_of(number), takes_part, operations)?;
+        put_where_part(out, look, log, node_of(number), takes_part, operations)?;
     }
     Ok(())
 }

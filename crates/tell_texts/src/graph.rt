@@ -5,7 +5,7 @@ ghost use Rattle.tell_texts.specs.Graphs.{graph_text};
 ghost use Rattle.tell_texts.specs.Texts.{AreTellable};
 
 use crate::arrows::put_arrows;
-use crate::boxes::put_boxes;
+use crate::boxes::{Look, put_boxes};
 use log_lines::PlacedHistory;
 use std::alloc::{AllocError, Global};
 use tell_steps::Item;
@@ -23,7 +23,7 @@ pub fn put_graph(
     ensures text { OnOk result (out.new.items ≡ out.old.items ++ graph_text log.now items.now) }
 {
     out.extend_from_slice(b"strict digraph explanation {\nnode [shape=box];\n")?;
-    put_boxes(alloc, out, log, items)?;
+    put_boxes(alloc, out, Look::Box, log, items)?;
     put_arrows(out, log, items)?;
     out.extend_from_slice(b"}\n")?;
     Ok(())

@@ -7,7 +7,9 @@ mod arrows;
 mod boxes;
 mod graph;
 mod marks;
+mod table;
 mod text;
 
 pub use graph::put_graph;
+pub use table::put_table;
 pub use text::put_items;

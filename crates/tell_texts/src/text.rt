@@ -94,10 +94,10 @@ fn put_leaves(out: &mut Vec<u8>, log: &PlacedHistory<'_>, count: usize) -> Resul
     ensures text { OnOk result (out.new.items ≡ out.old.items ++ spec.leaves_line count) }
 {
     if 1000 < count {
-        say!(out, log; Text(b"whichever of these versions came first, a cycle closes, "),
+        say!(out, log; Text(b"proof: whichever of these versions came first, a cycle closes, "),
             Number(count as u64), Text(b" in all; the first 1000 of them:\n"))
     } else {
-        say!(out, log; Text(b"whichever of these versions came first, a cycle closes:\n"))
+        say!(out, log; Text(b"proof: whichever of these versions came first, a cycle closes:\n"))
     }
 }
 

@@ -29,8 +29,8 @@ returns-in_ok-put_behind-in-Some c =
     let line = op_in_line log c.args.source i in
     let behind = behind_text log version c.args.source i in
     let front = codes "    if " ++ (decimal version ++ (codes " came first, " ++ (source ++ (codes ", which reads " ++ (wid ++ line))))) in
-    let back = codes ", would come before " ++ (target ++ (codes ", but " ++ (target ++ (codes " comes before " ++ (source ++ codes ":\n"))))) in
-    let joined = left (codes "    if ") (decimal version) (codes " came first, ") source (codes ", which reads ") wid line behind (codes ", would come before ") target (codes ", but ") target (codes " comes before ") source (codes ":\n") in
+    let back = codes ", would come before " ++ (target ++ (codes ", which would overwrite it, but " ++ (target ++ (codes " comes before " ++ (source ++ codes ":\n"))))) in
+    let joined = left (codes "    if ") (decimal version) (codes " came first, ") source (codes ", which reads ") wid line behind (codes ", would come before ") target (codes ", which would overwrite it, but ") target (codes " comes before ") source (codes ":\n") in
     let told : OnOk result (new ≡ old ++ since_at log version c.args.source c.args.target (Some i)) =
     on_ok_weaker result (λ e. three old front behind back one mid new c.in_ok-put_words-in-Some.ensures.text c.in_ok-put_behind-in-Some.ensures.text e ∙ ap (λ l. old ++ l) joined) c.put_words-in-Some.ensures.text in
     record {

@@ -11,8 +11,9 @@ use Rattle.tell_texts.proofs.boxes.put_boxes.Goals as goal
 
 pub loop-number-init : goal.loop-number-init
 loop-number-init c =
+    let look = c.args.look in
     let log = c.args.log.now in
-    begun c.args.out.now.items (boxes log c.args.items.now 0) (boxes_none log c.args.items.now)
+    begun c.args.out.now.items (boxes look log c.args.items.now 0) (boxes_none look log c.args.items.now)
 
 pub put_where_part-requires-clause-node : goal.put_where_part-requires-clause-node
 put_where_part-requires-clause-node c =
@@ -22,6 +23,7 @@ put_where_part-requires-clause-node c =
 
 pub loop-number-preserved : goal.loop-number-preserved
 loop-number-preserved c =
+    let look = c.args.look in
     let log = c.args.log.now in
     let ss = log.history.now in
     let items = c.args.items.now in
@@ -31,8 +33,8 @@ loop-number-preserved c =
     let table = c.in_ok-marks.marks.operations.items in
     let marks = c.deref.result.now in
     let old = c.loop-number.out.items in
-    let all = boxes log items (number - 1) in
-    let piece = if takes_part items v then box log items v else [] in
+    let all = boxes look log items (number - 1) in
+    let piece = if takes_part items v then box look log items v else [] in
     let is = c.node.ensures.value in
     let low : 0 < v = omega (arith, is, c.loop-number.auto.number) in
     let within : number < (log_of ss).nodes + 1 = omega (arith, c.loop-number-test.true, c.committed-number-end.ensures.count) in
@@ -43,9 +45,9 @@ loop-number-preserved c =
     mark_at ((log_of ss).nodes + 1) (takes_part items) nodes number c.index-takes_part.result.now within c.index-takes_part.ensures c.in_ok-marks.ensures.nodes ∙ ap (takes_part items) (sym is) in
     let put =
     c.in_ok-put_where_part.ensures.text
-    ∙ ap (λ labels. old ++ (if c.index-takes_part.result.now then box_with log v labels else [])) (labels_marked log items v marks known)
-    ∙ ap (λ t. old ++ (if t then box log items v else [])) part in
+    ∙ ap (λ labels. old ++ (if c.index-takes_part.result.now then box_with look log v labels else [])) (labels_marked look log items v marks known)
+    ∙ ap (λ t. old ++ (if t then box look log items v else [])) part in
     let here : number + 1 - 1 ≡ v = omega (arith, is) in
     let before : v - 1 ≡ number - 1 = omega (arith, is) in
-    let next = ap (λ n. boxes log items n) here ∙ boxes_more log items v low ∙ ap (λ n. boxes log items n ++ piece) before in
-    appended c.args.out.now.items old c.put_where_part.new.out.items piece (boxes log items (number + 1 - 1)) all c.loop-number.invariant put next
+    let next = ap (λ n. boxes look log items n) here ∙ boxes_more look log items v low ∙ ap (λ n. boxes look log items n ++ piece) before in
+    appended c.args.out.now.items old c.put_where_part.new.out.items piece (boxes look log items (number + 1 - 1)) all c.loop-number.invariant put next

@@ -3,4 +3,4 @@ use Rattle.tell_texts.specs.Graphs.{boxes}
 use Rattle.tell_texts.proofs.boxes.put_boxes.Given as goal
 
 abbrev pub invariant-loop-number : goal.invariant-loop-number
-invariant-loop-number l = l.out.items ≡ l.initial.out.items ++ boxes l.log l.items (l.number - 1)
+invariant-loop-number l = l.out.items ≡ l.initial.out.items ++ boxes l.look l.log l.items (l.number - 1)
