@@ -1,7 +1,7 @@
 -- The nodes that contracts see, and those in memory.
 use Rattle.std.proofs.Common.{◌≡◌, ℕ, zero, suc, ◌+◌, ◌<◌, ◌≤◌, Bool, ◌||◌, List, [], ◌∷◌, ◌++◌, length, get_or, Option, None, Some, refl, sym, ap, ◌∙◌, arith}
 use Rattle.std.specs.Prelude.{slice_get, slice_set}
-use Rattle.std.specs.Option.{option_map, option_map_or}
+use Rattle.std.specs.Option.{option_map_or}
 use Rattle.std.specs.List.{list_any}
 use Rattle.std.proofs.lemmas.List.{get_or_append_left, get_or_push, length_push}
 use Rattle.std.proofs.lemmas.Option.{slice_get_within, slice_get-get_or, slice_get_past, same_Some}
@@ -65,9 +65,6 @@ mark_tested t d xs k x at = ap (λ (o : Option Node). option_map_or (λ (y : Nod
 
 pub mark_absent : (t : CubeState → Bool) (d : Bool) (xs : List TreeNode) (k : ℕ) → length xs ≤ k → option_map_or (λ (y : Node). t y.mark) (slice_get (nodes_of xs) k) d ≡ d
 mark_absent t d xs k le = ap (λ (o : Option Node). option_map_or (λ (y : Node). t y.mark) o d) (none_at xs k le)
-
-pub mark_read : (xs : List TreeNode) (k : ℕ) (x : TreeNode) → slice_get xs k ≡ Some x → option_map (λ (y : Node). y.mark) (slice_get (nodes_of xs) k) ≡ Some x.mark
-mark_read xs k x at = ap (λ (o : Option Node). option_map (λ (y : Node). y.mark) o) (node_at xs k x at)
 
 -- a test of all marks
 any_with : (t : CubeState → Bool) (cs : List Cube) (xs : List TreeNode) → length cs ≡ length xs → list_any (λ (y : Node). t y.mark) (nodes_with cs xs) ≡ list_any (λ (y : TreeNode). t y.mark) xs
