@@ -1,61 +1,24 @@
 -- How far a search has come, and what it says at its end.
-use Rattle.std.proofs.Common.{◌≡◌, ◌≢◌, ◌↔◌, ℕ, zero, suc, ◌+◌, ◌-◌, ◌*◌, ◌/◌, ◌<◌, ◌≤◌, Bool, true, false, eqb, ◌||◌, ◌&&◌, List, [], ◌∷◌, ◌++◌, length, refl, sym, ap, ◌∙◌, subst, inl, inr, arith, length-append, eqb-true, eq-eqb, ne_eqb}
-use Rattle.std.specs.List.{Contains, filter, range_with_len, list_any, AllByRecursion, IsDistinct}
-use Rattle.std.specs.Prelude.{map, not, nat_eq}
+use Rattle.std.proofs.Common.{◌≡◌, ◌≢◌, ◌↔◌, ℕ, zero, suc, ◌+◌, ◌-◌, ◌*◌, ◌/◌, ◌<◌, ◌≤◌, Bool, true, false, eqb, ◌||◌, ◌&&◌, List, [], ◌∷◌, ◌++◌, length, refl, sym, ap, ◌∙◌, subst, inl, inr, arith, length-append, eqb-true, eq-eqb}
+use Rattle.std.specs.List.{Contains, range_with_len}
+use Rattle.std.specs.Prelude.{map, not}
 use Rattle.std.proofs.Math.ListN.{get_or-append}
 use Rattle.std.proofs.Math.Seq.{get_or-append_right}
 use Rattle.std.proofs.lemmas.Bool.{cases_lt, cases_Bool, false≢true, or_cases, or_left, or_right}
+use Rattle.std.proofs.lemmas.Bool.Decides.{Decides-eqb}
 use Rattle.std.proofs.lemmas.List.{length-map, map-append}
+use Rattle.std.proofs.lemmas.List.Kept.{AllPairs-filter}
+use Rattle.std.proofs.lemmas.Map.Made.{AllPairs-from_IsDistinct, IsDistinct-from_AllPairs}
 use Rattle.std.proofs.lemmas.Map.Steps.{length-le_from_distinct_below}
 use Rattle.serializability.specs.Polygraph.{Edge}
+use Rattle.serializability.proofs.Places.{Has, Apart, Has-from_Contains, Contains-from_Has, Has-append_front, Has-append_back, Has-append_cases, Apart-from_IsDistinct, Apart-append}
+use Rattle.serializability.proofs.Listed.{Has-from_any, IsDistinct-from_Apart, Apart_range}
 use Rattle.reach_laws.specs.Reach.{Graph, Walk, Reaches}
 use Rattle.known_graph.specs.declared.reached.Reached.{Reached}
 use Rattle.known_graph.specs.Bits.{bit_of}
 use Rattle.known_graph.specs.Tree.{reached_from, fresh_numbers, node_at, from_at, IsTree}
-use Rattle.known_graph.proofs.Listed.{In, In-of_filter, In-filter, In-of_range, In-range, In-append_left, In-append_right, In-append_cases}
+use Rattle.known_graph.proofs.Listed.{In-from_Contains, Contains-from_In, In-of_filter, In-filter, In-range}
 use Rattle.known_graph.proofs.Words.{bit_of-past}
-
--- ---- lists without repetition
-abbrev pub Apart : List ℕ → Type 0
-Apart [] = Unit {0}
-Apart (x ∷ xs) = (In x xs → ⊥) × Apart xs
-
-Apart-append : (xs ys : List ℕ) → Apart xs → Apart ys → ((v : ℕ) → In v xs → In v ys → ⊥) → Apart (xs ++ ys)
-Apart-append [] ys a b h = b
-Apart-append (x ∷ xs) ys a b h = (
-  λ k. elim (In-append_cases x xs ys k) [ inl i ↦ a.0 i | inr i ↦ h x (inl refl) i ],
-  Apart-append xs ys a.1 b (λ v i j. h v (inr i) j),
-)
-
-Apart-range : (a n : ℕ) → Apart (range_with_len a n)
-Apart-range a zero = tt
-Apart-range a (suc n) = (λ k. (let r = In-of_range a (a + 1) n k in absurd (omega (arith, r.0))), Apart-range (a + 1) n)
-
-Apart-filter : (p : ℕ → Bool) (xs : List ℕ) → Apart xs → Apart (filter p xs)
-Apart-filter p [] a = tt
-Apart-filter p (x ∷ xs) a = elim (cases_Bool (p x)) [
-  | inl t ↦ rw t (λ k. a.0 (In-of_filter p x xs k).0, Apart-filter p xs a.1)
-  | inr f ↦ rw f (Apart-filter p xs a.1)
-]
-
-none_equal : (x : ℕ) (xs : List ℕ) → (In x xs → ⊥) → AllByRecursion (λ y. nat_eq x y ≡ false) xs
-none_equal x [] h = tt
-none_equal x (y ∷ ys) h = (ne_eqb x y (λ e. h (inl (sym e))), none_equal x ys (λ k. h (inr k)))
-
-distinct : (xs : List ℕ) → Apart xs → IsDistinct nat_eq xs
-unfolding IsDistinct
-distinct [] a = tt
-distinct (x ∷ xs) a = (none_equal x xs a.0, distinct xs a.1)
-
-any_In : (q : ℕ) (xs : List ℕ) → list_any (eqb q) xs ≡ true → In q xs
-any_In q [] e = absurd (false≢true e)
-any_In q (x ∷ xs) e = elim (or_cases (eqb q x) (list_any (eqb q) xs) e) [
-  | inl t ↦ inl (sym (eqb-true q x t))
-  | inr t ↦ inr (any_In q xs t)
-]
-
-few_apart : (n : ℕ) (xs : List ℕ) → Apart xs → ((v : ℕ) → In v xs → v ≤ n) → length xs ≤ n + 1
-few_apart n xs a h = length-le_from_distinct_below xs (n + 1) (distinct xs a) (λ q t. (let k = h q (any_In q xs t) in omega (arith, k)))
 
 -- ---- the found nodes
 abbrev pub nodes_of : List Reached → List ℕ
@@ -69,17 +32,17 @@ nodes-append : (place : ℕ) (found : List Reached) (ws : List ℕ) → nodes_of
 nodes-append place found ws =
     map-append (λ (r : Reached). r.node) found (reached_from place ws) ∙ ap (λ l. nodes_of found ++ l) (nodes-reached_from place ws)
 
-place_of_node : (found : List Reached) (w : ℕ) → In w (nodes_of found) → (k : ℕ) × ((k < length found) × (node_at found k ≡ w))
+place_of_node : (found : List Reached) (w : ℕ) → Has w (nodes_of found) → (k : ℕ) × ((k < length found) × (node_at found k ≡ w))
 place_of_node [] w h = absurd h
 place_of_node (r ∷ found) w (inl e) = (0, (omega arith, e))
 place_of_node (r ∷ found) w (inr h) = let p = place_of_node found w h in (suc p.0, (omega (arith, p.1.0), p.1.1))
 
-In_at_place : (found : List Reached) (k : ℕ) → k < length found → In (node_at found k) (nodes_of found)
-In_at_place [] k h = absurd (omega arith)
-In_at_place (r ∷ found) zero h = inl refl
-In_at_place (r ∷ found) (suc k) h = inr (In_at_place found k (omega arith))
+Has_at_place : (found : List Reached) (k : ℕ) → k < length found → Has (node_at found k) (nodes_of found)
+Has_at_place [] k h = absurd (omega arith)
+Has_at_place (r ∷ found) zero h = inl refl
+Has_at_place (r ∷ found) (suc k) h = inr (Has_at_place found k (omega arith))
 
-reached_at : (place : ℕ) (ws : List ℕ) (j : ℕ) → j < length ws → (from_at (reached_from place ws) j ≡ place) × In (node_at (reached_from place ws) j) ws
+reached_at : (place : ℕ) (ws : List ℕ) (j : ℕ) → j < length ws → (from_at (reached_from place ws) j ≡ place) × Has (node_at (reached_from place ws) j) ws
 reached_at place [] j h = absurd (omega arith)
 reached_at place (w ∷ ws) zero h = (refl, inl refl)
 reached_at place (w ∷ ws) (suc j) h = let r = reached_at place ws j (omega arith) in (r.0, inr r.1)
@@ -94,16 +57,21 @@ and_parts true true e = absurd (false≢true e)
 and_parts true false e = (refl, refl)
 and_parts false b e = absurd (false≢true e)
 
-fresh_is : (row seen : List ℕ) (w : ℕ) → In w (fresh_numbers row seen) → IsFresh row seen w
+fresh_is : (row seen : List ℕ) (w : ℕ) → Has w (fresh_numbers row seen) → IsFresh row seen w
 unfolding fresh_numbers
 fresh_is row seen w h =
-    let r = In-of_filter (λ v. bit_of row v && not (bit_of seen v)) w (range_with_len 0 (length row * 64)) h in
+    let all = range_with_len 0 (length row * 64) in
+    let r = In-of_filter (λ v. bit_of row v && not (bit_of seen v)) w all (In-from_Contains (fresh_numbers row seen) w (Contains-from_Has (fresh_numbers row seen) w h)) in
     let p = and_parts (bit_of row w) (bit_of seen w) r.1 in
     record { edge = p.0; unseen = p.1 }
 
 fresh_apart : (row seen : List ℕ) → Apart (fresh_numbers row seen)
 unfolding fresh_numbers
-fresh_apart row seen = Apart-filter (λ v. bit_of row v && not (bit_of seen v)) (range_with_len 0 (length row * 64)) (Apart-range 0 (length row * 64))
+fresh_apart row seen =
+    let all = range_with_len 0 (length row * 64) in
+    let apart = AllPairs-from_IsDistinct Decides-eqb all (IsDistinct-from_Apart all (Apart_range 0 (length row * 64))) in
+    let kept = AllPairs-filter (λ x y. x ≢ y) (λ v. bit_of row v && not (bit_of seen v)) all apart in
+    Apart-from_IsDistinct (fresh_numbers row seen) (IsDistinct-from_AllPairs Decides-eqb (fresh_numbers row seen) kept)
 
 pub bit_within : (words : List ℕ) (k : ℕ) → bit_of words k ≡ true → k / 64 < length words
 bit_within words k t = elim (cases_lt (k / 64) (length words)) [
@@ -111,12 +79,13 @@ bit_within words k t = elim (cases_lt (k / 64) (length words)) [
   | inr ge ↦ absurd (false≢true (sym (bit_of-past words k ge) ∙ t))
 ]
 
-In-fresh : (row seen : List ℕ) (w : ℕ) → bit_of row w ≡ true → bit_of seen w ≡ false → In w (fresh_numbers row seen)
+Has-fresh : (row seen : List ℕ) (w : ℕ) → bit_of row w ≡ true → bit_of seen w ≡ false → Has w (fresh_numbers row seen)
 unfolding fresh_numbers
-In-fresh row seen w t f =
+Has-fresh row seen w t f =
     let small = bit_within row w t in
-    In-filter (λ v. bit_of row v && not (bit_of seen v)) w (range_with_len 0 (length row * 64)) (In-range w 0 (length row * 64) (omega arith) (omega (arith, small)))
-    (ap (λ b. b && not (bit_of seen w)) t ∙ ap not f)
+    let there = In-range w 0 (length row * 64) (omega arith) (omega (arith, small)) in
+    let passes = ap (λ b. b && not (bit_of seen w)) t ∙ ap not f in
+    Has-from_Contains (fresh_numbers row seen) w (Contains-from_In (fresh_numbers row seen) w (In-filter (λ v. bit_of row v && not (bit_of seen v)) w (range_with_len 0 (length row * 64)) there passes))
 
 -- ---- a search
 -- The nodes before a place have been passed: their edges lead to nodes that were seen, and none leads to v.
@@ -125,9 +94,9 @@ pub record IsSearched (g : Graph) (u v : ℕ) (found : List Reached) (marks : Li
   pub some : 0 < length found
   pub start : node_at found 0 ≡ u
   pub tree : IsTree g.edges found
-  pub below : (w : ℕ) → In w (nodes_of found) → w ≤ g.nodes
-  pub seen : (w : ℕ) → bit_of marks w ≡ true → In w (nodes_of found)
-  pub marked : (w : ℕ) → In w (nodes_of found) → bit_of marks w ≡ true
+  pub below : (w : ℕ) → Has w (nodes_of found) → w ≤ g.nodes
+  pub seen : (w : ℕ) → bit_of marks w ≡ true → Has w (nodes_of found)
+  pub marked : (w : ℕ) → Has w (nodes_of found) → bit_of marks w ≡ true
   pub apart : Apart (nodes_of found)
   pub passed : (k w : ℕ) → k < place → Contains g.edges (node_at found k, w) → (bit_of marks w ≡ true) × (w ≢ v)
 
@@ -148,7 +117,7 @@ record Grown (edges : List Edge) (found : List Reached) (k : ℕ) : Type 0 where
   pub earlier : from_at found k < k
   pub edge : Contains edges (node_at found (from_at found k), node_at found k)
 
-tree_grown : (edges : List Edge) (found : List Reached) (place : ℕ) (ws : List ℕ) → IsTree edges found → place < length found → ((w : ℕ) → In w ws → Contains edges (node_at found place, w)) → (k : ℕ) → 0 < k → k < length (found ++ reached_from place ws) → Grown edges (found ++ reached_from place ws) k
+tree_grown : (edges : List Edge) (found : List Reached) (place : ℕ) (ws : List ℕ) → IsTree edges found → place < length found → ((w : ℕ) → Has w ws → Contains edges (node_at found place, w)) → (k : ℕ) → 0 < k → k < length (found ++ reached_from place ws) → Grown edges (found ++ reached_from place ws) k
 tree_grown edges found place ws tree within each k lo hi = elim (cases_lt k (length found)) [
   | inl old ↦
       let all = found ++ reached_from place ws in
@@ -187,25 +156,25 @@ searched_more g u v found seen row after place s within p =
     let more = reached_from place ws in
     let names = nodes-append place found ws in
     let grown = tree_grown g.edges found place ws s.tree within (λ w h. (p.row w).0 (fresh_is row seen w h).edge) in
-    let to_both : (w : ℕ) → In w (nodes_of (found ++ more)) → In w (nodes_of found ++ ws) = λ w h. subst (In w) names h in
-    let from_both : (w : ℕ) → In w (nodes_of found ++ ws) → In w (nodes_of (found ++ more)) = λ w h. subst (In w) (sym names) h in
+    let to_both : (w : ℕ) → Has w (nodes_of (found ++ more)) → Has w (nodes_of found ++ ws) = λ w h. subst (Has w) names h in
+    let from_both : (w : ℕ) → Has w (nodes_of found ++ ws) → Has w (nodes_of (found ++ more)) = λ w h. subst (Has w) (sym names) h in
     record {
       count = omega (arith, within, length-append found more);
       some = omega (arith, within, length-append found more);
       start = node_kept found more 0 s.some ∙ s.start;
       tree = record { earlier = λ k lo hi. (grown k lo hi).earlier; edge = λ k lo hi. (grown k lo hi).edge };
-      below = λ w h. elim (In-append_cases w (nodes_of found) ws (to_both w h)) [
+      below = λ w h. elim (Has-append_cases w (nodes_of found) ws (to_both w h)) [
         | inl old ↦ s.below w old
         | inr new ↦ p.joined w ((p.row w).0 (fresh_is row seen w new).edge)
       ];
       seen = λ w t. elim (cases_Bool (bit_of seen w)) [
-        | inl old ↦ from_both w (In-append_left w (nodes_of found) ws (s.seen w old))
+        | inl old ↦ from_both w (Has-append_front w (nodes_of found) ws (s.seen w old))
         | inr none ↦ elim (or_cases (bit_of seen w) (bit_of row w) (sym (p.seen w) ∙ t)) [
           | inl old ↦ absurd (false≢true (sym none ∙ old))
-          | inr new ↦ from_both w (In-append_right w (nodes_of found) ws (In-fresh row seen w new none))
+          | inr new ↦ from_both w (Has-append_back w (nodes_of found) ws (Has-fresh row seen w new none))
         ]
       ];
-      marked = λ w h. p.seen w ∙ elim (In-append_cases w (nodes_of found) ws (to_both w h)) [
+      marked = λ w h. p.seen w ∙ elim (Has-append_cases w (nodes_of found) ws (to_both w h)) [
         | inl old ↦ or_left (bit_of seen w) (bit_of row w) (s.marked w old)
         | inr new ↦ or_right (bit_of seen w) (bit_of row w) (fresh_is row seen w new).edge
       ];
@@ -243,11 +212,11 @@ searched_none g u v seen hu bits = record {
 -- there is no more to find than there are nodes
 pub searched_count : (g : Graph) (u v : ℕ) (found : List Reached) (seen : List ℕ) (place : ℕ) → IsSearched g u v found seen place → length found ≤ g.nodes + 1
 searched_count g u v found seen place s =
-    let few = few_apart g.nodes (nodes_of found) s.apart s.below in
+    let few = length-le_from_distinct_below (nodes_of found) (g.nodes + 1) (IsDistinct-from_Apart (nodes_of found) s.apart) (λ w t. omega (arith, s.below w (Has-from_any w (nodes_of found) t))) in
     omega (arith, few, length-map found (λ (r : Reached). r.node))
 
 -- where each found node is passed, v is not reached
-not_reached : (g : Graph) (u v : ℕ) (found : List Reached) (seen : List ℕ) (place : ℕ) → IsSearched g u v found seen place → length found ≤ place → (ws : List ℕ) (x : ℕ) → In x (nodes_of found) → Walk g.edges x ws v → ⊥
+not_reached : (g : Graph) (u v : ℕ) (found : List Reached) (seen : List ℕ) (place : ℕ) → IsSearched g u v found seen place → length found ≤ place → (ws : List ℕ) (x : ℕ) → Has x (nodes_of found) → Walk g.edges x ws v → ⊥
 not_reached g u v found seen place s end [] x h w =
     let k = place_of_node found x h in
     (s.passed k.0 v (omega (arith, k.1.0, end)) (subst (λ y. Contains g.edges (y, v)) (sym k.1.1) w)).1 refl
@@ -258,7 +227,7 @@ not_reached g u v found seen place s end (y ∷ ws) x h w =
 
 pub searched_all : (g : Graph) (u v : ℕ) (found : List Reached) (seen : List ℕ) (place : ℕ) → IsSearched g u v found seen place → length found ≤ place → Reaches g.edges u v → ⊥
 searched_all g u v found seen place s end r =
-    not_reached g u v found seen place s end r.0 u (subst (λ x. In x (nodes_of found)) s.start (In_at_place found 0 s.some)) r.1
+    not_reached g u v found seen place s end r.0 u (subst (λ x. Has x (nodes_of found)) s.start (Has_at_place found 0 s.some)) r.1
 
 pub below_at : (g : Graph) (u v : ℕ) (found : List Reached) (seen : List ℕ) (place : ℕ) → IsSearched g u v found seen place → (k : ℕ) → k < length found → node_at found k ≤ g.nodes
-below_at g u v found seen place s k h = s.below (node_at found k) (In_at_place found k h)
+below_at g u v found seen place s k h = s.below (node_at found k) (Has_at_place found k h)
