@@ -178,7 +178,7 @@ held_here h ops all t e f key is = sym (said t key) ∙ f key ∙ ap (λ l. held
 
 -- ---- one piece more
 
-pub kept_more : (f : Lasts) (n m : ℕ) (earlier so_far : List Op) (pieces : List (List ClientSession)) (ss : List ClientSession) (ps : List HeldPiece) (p : HeldPiece) → m ≡ n + length pieces → so_far ≡ earlier ++ flat_map ops_in pieces
+pub kept_more : (f : Lasts) (n m : ℕ) (earlier so_far : List Op) (pieces : List (List ClientSession)) (ss : List ClientSession) (ps : List HeldPiece) (p : HeldPiece) → m ≡ n + length ps → so_far ≡ earlier ++ flat_map ops_in pieces
     → IsKept (held_behind f m so_far) (held_behind f (m + 1) (so_far ++ ops_in ss)) ss p → AreKept f n earlier pieces ps → AreKept f n earlier (pieces ++ ss ∷ []) (ps ++ p ∷ [])
 kept_more f n m earlier so_far [] ss [] p e is k h =
     let same : m ≡ n = omega (arith, e) in
@@ -234,6 +234,3 @@ kept_same a b h k ss p e g is = grind arith
 
 pub ops_more : (pieces : List (List ClientSession)) (ss : List ClientSession) → flat_map ops_in (pieces ++ ss ∷ []) ≡ flat_map ops_in pieces ++ ops_in ss
 ops_more pieces ss = flat_map-append ops_in pieces (ss ∷ []) ∙ ap (λ l. flat_map ops_in pieces ++ l) (append-nil (ops_in ss))
-
-pub sessions_count : (pieces : List (Vec Part Global)) (i : ℕ) → i < length pieces → i ≡ 0 + length (sessions_in (take i pieces))
-sessions_count pieces i lt = (let e = sessions_length pieces i lt in omega (arith, e))

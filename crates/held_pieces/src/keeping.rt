@@ -24,26 +24,16 @@ ghost use Rattle.held_pieces.specs.Reigns.{last_in, reign_in, reign_from, held_b
 ghost use Rattle.held_pieces.specs.Reigns.{sessions_in, pieces_in};
 ghost use Rattle.held_pieces.specs.Kept.{kept_view, IsKept, AreKept};
 
-fn copied<'a>(alloc: Global, parts: &[Part<'a>]) -> Result<Vec<Part<'a>>, AllocError>
-    ensures { IfOk result (λ all. parts_view all.items ≡ parts_view parts.now) }
-{
-    let mut all = Vec::with_capacity(alloc, parts.len())?;
-    for part in parts {
-        all.push(*part)?;
-    }
-    Ok(all)
-}
-
 /// The parts of each piece.
-fn pieces_of<'a>(alloc: Global, cuts: &Cuts<'a>) -> Result<Vec<Vec<Part<'a>>>, AllocError>
+fn pieces_of<'a>(alloc: Global, cuts: Cuts<'a>) -> Result<Vec<Vec<Part<'a>>>, AllocError>
     ensures { IfOk result (λ pieces. sessions_in pieces.items ≡ pieces_in
-        (map piece_view cuts.now.pieces.items) (parts_view cuts.now.last.items)) }
+        (map piece_view cuts.entry.pieces.items) (parts_view cuts.entry.last.items)) }
 {
     let mut pieces = Vec::new(alloc);
-    for piece in &cuts.pieces {
-        pieces.push(copied(alloc, &piece.parts)?)?;
+    for piece in cuts.pieces {
+        pieces.push(piece.parts)?;
     }
-    pieces.push(copied(alloc, &cuts.last)?)?;
+    pieces.push(cuts.last)?;
     Ok(pieces)
 }
 
@@ -52,23 +42,22 @@ fn keep_piece<'a>(
     alloc: Global,
     lasts: &BTreeMap<(u64, &'a Key), usize>,
     reigns: &mut BTreeMap<Key, Reign>,
-    parts: &[Part<'a>],
+    parts: Vec<Part<'a>>,
     count: usize,
 ) -> Result<Kept<'a>, AllocError>
     requires { count + 1 < 2 ^ 64 }
     ensures reigns { OnOk result ((key : List ℕ) → reign_in (last_in lasts.now) reigns.new key
         ≡ reign_from (last_in lasts.now) key (reign_in (last_in lasts.now) reigns.old key)
-        (ops_in (parts_view parts.now))) }
+        (ops_in (parts_view parts.entry.items))) }
     ensures kept { IfOk result (λ kept. IsKept
         (λ key. held_by count (reign_in (last_in lasts.now) reigns.old key))
         (λ key. held_by (count + 1) (reign_in (last_in lasts.now) reigns.new key))
-        (parts_view parts.now) (kept_view kept)) }
+        (parts_view parts.entry.items) (kept_view kept)) }
 {
-    let ops = ops_of(alloc, parts, Whose::All)?;
+    let ops = ops_of(alloc, &parts, Whose::All)?;
     let before = held_keys(alloc, lasts, reigns, &ops, count)?;
     advance(alloc, lasts, reigns, &ops)?;
     let behind = held_keys(alloc, lasts, reigns, &ops, count + 1)?;
-    let parts = copied(alloc, parts)?;
     Ok(Kept {
         parts,
         before,
@@ -80,27 +69,27 @@ fn keep_piece<'a>(
 fn keep_all<'a>(
     alloc: Global,
     lasts: &BTreeMap<(u64, &'a Key), usize>,
-    pieces: &[Vec<Part<'a>>],
+    pieces: Vec<Vec<Part<'a>>>,
 ) -> Result<Vec<Kept<'a>>, AllocError>
-    ensures { IfOk result (λ kept. AreKept (last_in lasts.now) 0 [] (sessions_in pieces.now)
+    ensures { IfOk result (λ kept. AreKept (last_in lasts.now) 0 [] (sessions_in pieces.entry.items)
         (map kept_view kept.items)) }
 {
     let mut kept = Vec::with_capacity(alloc, pieces.len())?;
     let mut reigns = BTreeMap::new(alloc);
-    for (i, parts) in pieces.iter().enumerate() {
-        kept.push(keep_piece(alloc, lasts, &mut reigns, parts, i)?)?;
+    for parts in pieces {
+        kept.push(keep_piece(alloc, lasts, &mut reigns, parts, kept.len())?)?;
     }
     Ok(kept)
 }
 
 /// The pieces of a log that is cut, each with what is held.
-pub fn keep<'a>(alloc: Global, cuts: &Cuts<'a>) -> Result<Vec<Kept<'a>>, AllocError>
+pub fn keep<'a>(alloc: Global, cuts: Cuts<'a>) -> Result<Vec<Kept<'a>>, AllocError>
     ensures { IfOk result (λ kept. (f : List ℕ → ℕ → ℕ) ×
-        AreLasts f 0 (pieces_in (map piece_view cuts.now.pieces.items)
-        (parts_view cuts.now.last.items)) ×
-        AreKept f 0 [] (pieces_in (map piece_view cuts.now.pieces.items) (parts_view cuts.now.last.items)) (map kept_view kept.items)) }
+        AreLasts f 0 (pieces_in (map piece_view cuts.entry.pieces.items)
+        (parts_view cuts.entry.last.items)) ×
+        AreKept f 0 [] (pieces_in (map piece_view cuts.entry.pieces.items) (parts_view cuts.entry.last.items)) (map kept_view kept.items)) }
 {
     let pieces = pieces_of(alloc, cuts)?;
     let lasts = lasts_of(alloc, &pieces)?;
-    keep_all(alloc, &lasts, &pieces)
+    keep_all(alloc, &lasts, pieces)
 }

@@ -46,7 +46,7 @@ impl<'a> Pieces<'a> {
             ArePieces (map view sessions.now) pieces) }
     {
         let cuts = cut(alloc, sessions, least)?;
-        let kept = keep(alloc, &cuts)?;
+        let kept = keep(alloc, cuts)?;
         let kept = some_of(alloc, kept)?;
         Ok(Pieces { kept })
     }
