@@ -81,7 +81,8 @@ class Client:
                     self.store.write(key, '%d %s' % (txn.write(key), self.dice.choice(COLOURS)))
             if not is_kept:
                 txn.abort()
-        if txn.outcome == 'unknown':
+        if cut_at is not None or txn.outcome == 'unknown':
+            # a connection that was cut may still get an answer, which would be taken for that of the next question
             self.connect()
         elif txn.outcome == 'abort':
             try:

@@ -3,9 +3,9 @@
 
 Logs of the sound store, without moments, with all of them, and with barriers, must be serializable where `check` can tell, also where the
 outcome of each session's last committed transaction is said to be unknown, and `verify` must accept the order; of the logs of the store that
-is broken on purpose one at least must be refused. `audit` must say so too, also without moments. A log with barriers has pieces. Where this
-Python has no sqlite3 nothing is run, and a line says so. Last line: 'collecting: N passed, M failed'."""
-import os, re, subprocess, sys, tempfile
+is broken on purpose one at least must be refused. `audit` must say so too, also without moments. A log with barriers has pieces. A
+connection that was cut is used no more. Where this Python has no sqlite3 nothing is run, and a line says so. Last line: 'collecting: N passed, M failed'."""
+import argparse, os, re, subprocess, sys, tempfile
 
 TOP = os.path.dirname(os.path.dirname(os.path.abspath(__file__)))
 COLLECTOR, RUNS = os.path.join(TOP, 'collect', 'sqlite.py'), 3
@@ -70,6 +70,35 @@ def misfits(checks, folder):
         checks.expect(ran.returncode == status and re.fullmatch(told, ran.stderr) and not os.path.exists(path), '%s: %s' % (words, ran))
 
 
+def left_when_cut(checks, folder):
+    """A connection that was cut is used no more, also where its commit is answered."""
+    sys.path.insert(0, os.path.dirname(COLLECTOR))
+    import clients, recorder
+
+    class Answering(clients.Store):
+        made = 0
+
+        def __init__(self, arguments):
+            Answering.made += 1
+
+        def read(self, key):
+            return None
+
+        def commit(self):
+            return True
+
+        def cut(self, way):
+            pass
+
+    arguments = argparse.Namespace(seed=1, pause=0)
+    with recorder.Recorder(os.path.join(folder, 'cut')) as run:
+        client = clients.Client(run, Answering, arguments, 0)
+        with client.session:
+            for cut_at, made in ((None, 1), ('commit', 2), (0, 3), (None, 3)):
+                client.transaction([('read', 'x')], cut_at=cut_at)
+                checks.expect(Answering.made == made, '%d connections behind a cut at %r, wanted %d' % (Answering.made, cut_at, made))
+
+
 def main():
     try:
         import sqlite3
@@ -98,6 +127,7 @@ def main():
         with open(path, 'rb') as file:
             checks.expect(again.returncode == 2 and b'--overwrite' in again.stderr and file.read() == log, 'a log that is there is replaced')
         misfits(checks, folder)
+        left_when_cut(checks, folder)
         checks.expect(refused > 0, 'no log of the weak store was refused')
         checks.expect(checks.pieces > 1, 'no log was cut')
         print('collecting: SQLite %s, %d of %d logs of the weak store were refused; at most %d pieces' % (sqlite3.sqlite_version, refused, RUNS, checks.pieces))

@@ -3,9 +3,9 @@
 
 Each log of examples/ and some hundred made ones, as tests/levels.py has them, are asked for both levels of snapshots. Of each refuted one
 each told line must be so in the log: the transactions, lines, keys, identities and moments that it names, and that it follows from them that
-the one point stands before the other. Each step must follow from lines and from earlier steps, and each must be named; what is told last must
-be a circle, or two that write a key of which neither can commit first, and behind it the steps. So no order is left. Nothing that is told may name a lock. `explain
---level` must say the same. Last line: 'told points: N passed, M failed'."""
+the one point stands before the other. Each step must follow from lines and from earlier steps, and each must be named; first stands a
+circle, or two that write a key of which neither can commit first, and behind it the steps. So no order is left. Nothing that is told may
+name a lock. `explain --level` must say the same. Last line: 'told points: N passed, M failed'."""
 import argparse, collections, concurrent.futures, os, re, sys
 
 HERE = os.path.dirname(os.path.abspath(__file__))
@@ -227,7 +227,8 @@ def told(program, text, level):
     lines = said.split('\n')
     names = set(re.findall(NAME + ' \\(lines', lines[2]))
     why = lines[3:next(at for at, line in enumerate(lines) if line.startswith('sessions '))]
-    log, code = Log(text), Part(*lines[1:3], []).code
+    part = Part(*lines[1:3], why)
+    log, code, why = Log(text), part.code, part.why
     keys = {key for _, key, _ in list(log.reads) + list(log.writes)}
     must(all('_' + key not in line for line in why for key in keys), 'a lock is told: %r' % why)
     again = call(program, 'explain', '--level', level, text=text)[1]
