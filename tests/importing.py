@@ -378,10 +378,11 @@ BACK = [
                      '%s then appended 1 to list 1 behind 2 (as operation 7 read it), which %s appended'], (1, 1, 1, 3), {1: 0, 3: 1}),
     (REGISTERS.replace('[:r 1 1]', '[:r 1 9]'), ['not serializable: A1 unknown read at %s', '%s reads 9 of 1, which no transaction wrote'], (3, 3), {3: 1}),
     (history_of('0 ok [:w 1 1]', '1 ok [:w 1 2]', '2 ok [:r 1 1]'),
-     ['not serializable: A9 pruning ends in a cycle', '[1] 1: 1, which %s wrote, comes before 2, which %s wrote:',
-      '    %s before %s: %s ended at 1, %s began at 2', 'cycle from %s:', '%s before %s: %s ended at 3, %s began at 4',
-      '%s before %s: %s reads 1 of 1 which %s wrote, which by [1] comes before 2, which %s wrote', 'known as: stale read (G-single-realtime)'],
-     (1, 3, 1, 3, 1, 3, 3, 3, 5, 3, 5, 5, 3, 5, 1, 3), {1: 0, 3: 1, 5: 2}),
+     ['not serializable: A9 pruning ends in a cycle', 'cycle from %s:', '%s before %s: %s ended at 3, %s began at 4',
+      '%s before %s: %s reads 1 of 1 which %s wrote, which by [1] comes before 2, which %s wrote', 'known as: stale read (G-single-realtime)',
+      'these orders of versions are forced:', '[1] 1: 1, which %s wrote, comes before 2, which %s wrote:',
+      '    %s before %s: %s ended at 1, %s began at 2'],
+     (3, 3, 5, 3, 5, 5, 3, 5, 1, 3, 1, 3, 1, 3, 1, 3), {1: 0, 3: 1, 5: 2}),
 ]
 CLAIM = re.compile(r"process (\d+)'s transaction \(index (\d+)\) (?:then )?(appended|wrote|reads) (\[[^]]*\]|\S+) (?:to|of) (?:list )?(\d+)(?: behind (\S+) \(as operation (\d+))?")
 

@@ -1,7 +1,7 @@
 -- Why there is no order, written behind what `check` says.
 use Rattle.std.specs.Prelude.{◌≡◌, ℕ, ◌==◌, Bool, true, false, if◌then◌else◌, List, [], ◌∷◌}
-use Rattle.std.specs.Prelude.{◌++◌, codes, length, take, drop, take_while, Option, None, Some}
-use Rattle.std.specs.List.{flat_map}
+use Rattle.std.specs.Prelude.{◌++◌, codes, take, drop, Option, None, Some}
+use Rattle.std.specs.List.{flat_map, prefix_len}
 use Rattle.session_log.specs.Text.{ClientSession}
 use Rattle.serializability.specs.declared.anomaly.Anomaly.{Anomaly}
 use Rattle.log_lines.specs.Rows.{Table, rows_of}
@@ -55,7 +55,7 @@ is_of_step _ = false
 
 -- how many items are of steps, before all else
 abbrev pub of_steps : List Item → ℕ
-of_steps items = length (take_while is_of_step items)
+of_steps items = prefix_len is_of_step items
 
 abbrev pub forced_text : PlacedHistory → List Item → List ℕ
 forced_text log [] = []

@@ -1,6 +1,6 @@
 //! What is told, as text or as a graph.
 
-ghost use Rattle.std.specs.Prelude.{◌≡◌, ◌++◌, IfSome, IfOk, OnOk};
+ghost use Rattle.std.specs.Prelude.{◌≡◌, ◌≤◌, ◌++◌, length, IfSome, IfOk, OnOk};
 ghost use Rattle.std.specs.List.{flat_map};
 ghost use Rattle.std.specs.Option.{option_map};
 ghost use Rattle.reason_laws.specs.Crossed.{AreCrossed};
@@ -89,6 +89,7 @@ pub fn written_cycle(
 /// How many of these items are of steps, before all else.
 fn of_steps(items: &[Item]) -> usize
     ensures count { result ≡ of_steps items.now }
+    ensures few { result ≤ length items.now }
 {
     items.iter().take_while(|item| is_of_step(**item)).count()
 }
