@@ -6,6 +6,7 @@ NAME, KEY = r'[1-9][0-9]*\.[1-9][0-9]*', r'[A-Za-z0-9_.:/-]+'
 PARTS = re.compile(r'''
     (?P<verb>\b(?:reads|writes|wrote|overwrites\ it\ with|and)\ (?:%(key)s\ )??)(?P<id>[0-9]+)\ \(line\ (?P<at>[0-9]+)\)(?:\ of\ (?P<whose>%(name)s))?
         (?P<initial>,\ the\ initial\ value)?(?:,\ which\ (?P<writer>%(name)s|no\ transaction)\ wrote(?:\ \(line\ [0-9]+\)|\b(?!\ to)))?
+    | \ \ (?P<row>[rw])\ %(key)s\ (?P<row_id>[0-9]+)\ \(line\ (?P<row_at>[0-9]+)\)
     | (?P<own>(?:and\ overwrote\ with\ [0-9]+|writes\ itself\ only\ later)\ \(line\ (?P<own_at>[0-9]+)\))
     | (?P<head>(?:^\[[0-9]+\]|\bsuppose)\ )%(key)s:\ (?P<head_id>[0-9]+),\ which\ (?P<head_writer>%(name)s)\ wrote\ \(line\ (?P<head_at>[0-9]+)\)
     | (?P<before>comes\ before\ )(?P<before_id>[0-9]+),\ which\ (?P<before_writer>%(name)s)\ wrote\ \(line\ (?P<before_at>[0-9]+)\)
@@ -86,6 +87,8 @@ class Retold:
             name = found['writer'] if found['writer'] in (None, 'no transaction') else self.name(found['writer'])
             whose = ' ' + writer % self.name(found['whose']) if found['whose'] else ''
             return words + whose + (', ' + writer % name if name else '')
+        if found['row']:
+            return '  ' + self.words(self.operation(found['row_at'], found['row_id']))[0]
         if found['own']:
             record = self.operation(found['own_at'])
             done = self.done(record)
