@@ -31,15 +31,15 @@ abbrev pub told_text : Format → PlacedHistory → List Item → List ℕ
 told_text Text log items = items_text log 0 false items
 told_text Dot log items = graph_text log items
 
--- the name of a cycle, where it has one, as a line of a text
-abbrev pub known_as : Format → Option (List ℕ) → List ℕ
-known_as Text (Some name) = codes "known as: " ++ name ++ codes "\n"
-known_as Text None = []
+-- a name, where there is one, as a line of a text
+abbrev pub known_as : Format → List ℕ → List ℕ
+known_as Text [] = []
+known_as Text (b ∷ bs) = codes "known as: " ++ (b ∷ bs) ++ codes "\n"
 known_as Dot name = []
 
 abbrev pub cycle_text : Format → PlacedHistory → List Item → List ℕ
 cycle_text format log items =
-    told_text format log items ++ known_as format (Some (name_of log.history.now items))
+    told_text format log items ++ known_as format (name_of log.history.now items)
 
 -- reads that rule out every order, where such were found
 abbrev pub crossed_text : Format → PlacedHistory → Option Crossing → List ℕ
@@ -63,7 +63,7 @@ forced_text log (i ∷ items) =
     codes "these orders of versions are forced:\n" ++ items_text log 0 false (i ∷ items)
 
 -- what closes, and its name; and last the steps that it rests on
-abbrev pub steps_last : Format → PlacedHistory → Option (List ℕ) → List Item → List ℕ
+abbrev pub steps_last : Format → PlacedHistory → List ℕ → List Item → List ℕ
 steps_last Text log name items =
     items_text log 0 false (drop (of_steps items) items) ++ known_as Text name
     ++ forced_text log (take (of_steps items) items)
@@ -72,18 +72,18 @@ steps_last Dot log name items = graph_text log items
 -- such reads; and a cycle, its name, and the steps before it
 abbrev pub dead_text : Format → PlacedHistory → Option Crossing → List Item → List ℕ
 dead_text format log found items = crossed_text format log found
-    ++ steps_last format log (Some (name_behind log.history.now items)) items
+    ++ steps_last format log (name_behind log.history.now items) items
 
--- what the transactions did, where no such reads say it
-abbrev pub table_where : Format → PlacedHistory → Option Crossing → List Item → List ℕ
-table_where Text log None items = table_text log items
-table_where Text log (Some c) items = []
-table_where Dot log found items = []
+-- before a tree: such reads; where none were found, what the transactions did
+abbrev pub front_text : Format → PlacedHistory → Option Crossing → List Item → List ℕ
+front_text Text log (Some c) items = crossing_text log c
+front_text Text log None items = table_text log items
+front_text Dot log found items = []
 
--- such reads, or what the transactions did; and a tree, and the steps before it
+-- and the tree, and the steps before it
 abbrev pub tree_text : Format → PlacedHistory → Option Crossing → List Item → List ℕ
-tree_text format log found items = crossed_text format log found
-    ++ table_where format log found items ++ steps_last format log None items
+tree_text format log found items =
+    front_text format log found items ++ steps_last format log [] items
 
 -- in a label a line break is a backslash and n
 abbrev pub label_byte : ℕ → List ℕ

@@ -2,11 +2,10 @@
 
 ghost use Rattle.std.specs.Prelude.{◌≡◌, ◌≤◌, ◌++◌, length, IfSome, IfOk, OnOk};
 ghost use Rattle.std.specs.List.{flat_map};
-ghost use Rattle.std.specs.Option.{option_map};
 ghost use Rattle.reason_laws.specs.Crossed.{AreCrossed};
 ghost use Rattle.tell_texts.specs.Texts.{AreTellable};
 ghost use Rattle.tell_decision.specs.Explained.{told_text, crossed_text, tree_text};
-ghost use Rattle.tell_decision.specs.Explained.{is_of_step, of_steps, forced_text, steps_last, table_where};
+ghost use Rattle.tell_decision.specs.Explained.{is_of_step, of_steps, forced_text, steps_last, front_text};
 ghost use Rattle.tell_decision.specs.Explained.{known_as, cycle_text, dead_text};
 ghost use Rattle.tell_decision.specs.Explained.{lines_text, label_byte, box_text};
 
@@ -54,19 +53,18 @@ fn put_crossed(
     }
 }
 
-/// Appends the name of a cycle, where it has one, as a line of a text.
-fn put_known_as(out: &mut Vec<u8>, format: Format, name: Option<&str>) -> Result<(), AllocError>
-    ensures text { OnOk result (out.new.items
-        ≡ out.old.items ++ known_as format (option_map (λ name. name.now) name)) }
+/// Appends a name, where there is one, as a line of a text.
+fn put_known_as(out: &mut Vec<u8>, format: Format, name: &str) -> Result<(), AllocError>
+    ensures text { OnOk result (out.new.items ≡ out.old.items ++ known_as format name.now) }
 {
-    match (format, name) {
-        (Format::Text, Some(name)) => {
+    match (format, name.as_bytes()) {
+        (Format::Text, [_, ..]) => {
             out.extend_from_slice(b"known as: ")?;
             out.extend_from_slice(name.as_bytes())?;
             out.extend_from_slice(b"\n")?;
             Ok(())
         }
-        (Format::Text, None) | (Format::Dot, _) => Ok(()),
+        (Format::Text, []) | (Format::Dot, _) => Ok(()),
     }
 }
 
@@ -82,7 +80,7 @@ pub fn written_cycle(
 {
     let mut out = Vec::new(alloc);
     put_told(alloc, &mut out, log, format, items)?;
-    put_known_as(&mut out, format, Some(name_of(log.history, items)))?;
+    put_known_as(&mut out, format, name_of(log.history, items))?;
     Ok(out)
 }
 
@@ -110,11 +108,13 @@ fn put_forced(
     requires items { AreTellable log.now.history.now items.now }
     ensures text { OnOk result (out.new.items ≡ out.old.items ++ forced_text log.now items.now) }
 {
-    if items.is_empty() {
-        return Ok(());
+    match items {
+        [] => Ok(()),
+        [_, ..] => {
+            out.extend_from_slice(b"these orders of versions are forced:\n")?;
+            put_items(out, log, items)
+        }
     }
-    out.extend_from_slice(b"these orders of versions are forced:\n")?;
-    put_items(out, log, items)
 }
 
 /// Appends what closes, its name, and last the steps that it rests on; or all as a graph.
@@ -123,12 +123,12 @@ fn put_steps_last(
     out: &mut Vec<u8>,
     log: &PlacedHistory<'_>,
     format: Format,
-    name: Option<&str>,
+    name: &str,
     items: &[Item],
 ) -> Result<(), AllocError>
     requires items { AreTellable log.now.history.now items.now }
     ensures text { OnOk result (out.new.items ≡ out.old.items
-        ++ steps_last format log.now (option_map (λ name. name.now) name) items.now) }
+        ++ steps_last format log.now name.now items.now) }
 {
     match format {
         Format::Text => {
@@ -141,9 +141,9 @@ fn put_steps_last(
     }
 }
 
-/// Appends what the transactions of a tree did, as lines of a text, where no reads that rule out
-/// every order say it.
-fn put_table_where(
+/// Appends reads that rule out every order, where such were found, else what the transactions of a
+/// tree did, as lines of a text.
+fn put_front(
     alloc: Global,
     out: &mut Vec<u8>,
     log: &PlacedHistory<'_>,
@@ -151,13 +151,15 @@ fn put_table_where(
     found: Option<Crossing>,
     items: &[Item],
 ) -> Result<(), AllocError>
+    requires crossed { IfSome found (λ c. AreCrossed log.now.history.now c) }
     requires items { AreTellable log.now.history.now items.now }
     ensures text { OnOk result (out.new.items
-        ≡ out.old.items ++ table_where format log.now found items.now) }
+        ≡ out.old.items ++ front_text format log.now found items.now) }
 {
     match (format, found) {
+        (Format::Text, Some(crossing)) => put_crossing(out, log, crossing),
         (Format::Text, None) => put_table(alloc, out, log, items),
-        (Format::Text, Some(_)) | (Format::Dot, _) => Ok(()),
+        (Format::Dot, _) => Ok(()),
     }
 }
 
@@ -175,9 +177,8 @@ pub fn written_tree(
     ensures text { IfOk result (λ text. text.items ≡ tree_text format log.now found items.now) }
 {
     let mut out = Vec::new(alloc);
-    put_crossed(&mut out, log, format, found)?;
-    put_table_where(alloc, &mut out, log, format, found, items)?;
-    put_steps_last(alloc, &mut out, log, format, None, items)?;
+    put_front(alloc, &mut out, log, format, found, items)?;
+    put_steps_last(alloc, &mut out, log, format, "", items)?;
     Ok(out)
 }
 
@@ -197,7 +198,7 @@ pub fn written_dead(
     let mut out = Vec::new(alloc);
     put_crossed(&mut out, log, format, found)?;
     let name = name_behind(log.history, items);
-    put_steps_last(alloc, &mut out, log, format, Some(name), items)?;
+    put_steps_last(alloc, &mut out, log, format, name, items)?;
     Ok(out)
 }
 
