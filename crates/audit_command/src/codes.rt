@@ -45,7 +45,8 @@ pub fn finding_title(finding: Finding) -> &'static str
     }
 }
 
-const WRITES_HINT: &str = "check first: does the log have each write of all clients, under its own key?\n";
+const WRITES_HINT: &str =
+    "check first: does the log have each write of all clients, under its own key?\n";
 
 const ORDER_HINT: &str = "check first: did the client record its operations in their order?\n";
 

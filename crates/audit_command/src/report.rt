@@ -281,11 +281,7 @@ fn put_without(out: &mut Vec<u8>, with: Word, without: Word) -> Result<(), Alloc
 }
 
 /// The same, where that is told.
-fn put_without_row(
-    out: &mut Vec<u8>,
-    with: Word,
-    without: Option<Word>,
-) -> Result<(), AllocError>
+fn put_without_row(out: &mut Vec<u8>, with: Word, without: Option<Word>) -> Result<(), AllocError>
     ensures put { OnOk result (out.new.items ≡ out.old.items ++ without_row with without) }
 {
     match without {

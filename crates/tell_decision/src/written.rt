@@ -100,11 +100,7 @@ fn is_of_step(item: Item) -> bool
 }
 
 /// Appends steps, where there are any.
-fn put_forced(
-    out: &mut Vec<u8>,
-    log: &PlacedHistory<'_>,
-    items: &[Item],
-) -> Result<(), AllocError>
+fn put_forced(out: &mut Vec<u8>, log: &PlacedHistory<'_>, items: &[Item]) -> Result<(), AllocError>
     requires items { AreTellable log.now.history.now items.now }
     ensures text { OnOk result (out.new.items ≡ out.old.items ++ forced_text log.now items.now) }
 {

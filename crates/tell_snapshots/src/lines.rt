@@ -221,7 +221,10 @@ pub fn overwritten_line(
     read: Access<'_>,
     write: Access<'_>,
 ) -> Result<String, AllocError> {
-    let (reads, of) = (read_text(alloc, part, read)?, writer_text(alloc, part, read)?);
+    let (reads, of) = (
+        read_text(alloc, part, read)?,
+        writer_text(alloc, part, read)?,
+    );
     let reader = name(alloc, part, read.node)?;
     let (node, line, wid) = (name(alloc, part, write.node)?, write.line, write.wid);
     format!(in alloc;

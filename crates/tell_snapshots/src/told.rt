@@ -160,8 +160,7 @@ impl<'a, 'b> Telling<'a, 'b> {
     ) -> Result<(), AllocError> {
         let lost = self.lost(not_first, not_second);
         let told = self.told_writes(writes, lost).unwrap_or(writes);
-        self.lines
-            .push(neither_line(self.alloc, self.part, told)?)?;
+        self.lines.push(neither_line(self.alloc, self.part, told)?)?;
         self.lines
             .push(not_first_line(self.alloc, self.part, writes.0.node)?)?;
         self.put_against(not_first)?;
@@ -238,7 +237,10 @@ impl<'a, 'b> Telling<'a, 'b> {
     ) -> Option<(Access<'a>, Access<'a>)> {
         let key = lost?.key;
         let (one, other) = (writes.0.node, writes.1.node);
-        Some((self.part.first_write(one, key)?, self.part.first_write(other, key)?))
+        Some((
+            self.part.first_write(one, key)?,
+            self.part.first_write(other, key)?,
+        ))
     }
 
     /// Finds which steps are needed, and tells what closes.
