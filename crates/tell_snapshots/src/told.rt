@@ -169,6 +169,11 @@ impl<'a, 'b> Telling<'a, 'b> {
         self.put_against(not_second)
     }
 
+    /// The lines so far, which are handed on.
+    fn take_lines(&mut self) -> Vec<String> {
+        mem::replace(&mut self.lines, Vec::new(self.alloc))
+    }
+
     /// The edges of the steps that are needed.
     fn step_shape(&self) -> Shape {
         let mut shape = NO_EDGES;
@@ -289,7 +294,7 @@ fn tell<'a>(
         lines: Vec::new(alloc),
     };
     telling.put_ending(&refuted.ending)?;
-    let lines = mem::replace(&mut telling.lines, Vec::new(alloc));
+    let lines = telling.take_lines();
     telling.put_steps()?;
     Ok(Told {
         known_as: telling.name(&refuted.ending),
