@@ -28,6 +28,10 @@ pub some_told : (txns : List ToldTxn) (ps : List ToldPart) → is_told txns ps �
 some_told txns [] e = cc
 some_told txns (p ∷ ps) e = omega arith
 
+pub empty : (ps : List ToldPart) → length ps ≡ 0 → ps ≡ []
+empty [] e = refl
+empty (p ∷ ps) e = absurd (omega (arith, e))
+
 removed : (ps qs : List ToldPart) (p : ToldPart) → remove (ps ++ p ∷ qs) (length ps) ≡ ps ++ qs
 removed [] qs p = refl
 removed (q ∷ ps) qs p = ap (λ l. q ∷ l) (removed ps qs p)

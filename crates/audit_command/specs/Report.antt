@@ -96,9 +96,13 @@ heading_of p = field (codes "part of ") (length p.txns.items) ++ noun_of (length
 abbrev pub listed : List ToldTxn → List ℕ
 listed txns = codes "transactions " ++ txns_text txns ++ 10 ∷ []
 
--- these, why it has no order, and what to check first
+-- why it has no order, and what to check first
+unfoldable pub why_text : ToldPart → List ℕ
+why_text p = p.why.items ++ hint_text p.refuted.finding
+
+-- these
 unfoldable pub part_text : ToldPart → List ℕ
-part_text p = heading_of p ++ listed p.txns.items ++ p.why.items ++ hint_text p.refuted.finding
+part_text p = heading_of p ++ listed p.txns.items ++ why_text p
 
 -- so many of the parts have the code of this number, or none
 abbrev pub code_count : List ToldPart → ℕ → ℕ
@@ -133,14 +137,23 @@ middle_text faults (answer.NotSerializable parts) = parts_text parts.items
 middle_text faults (answer.Undecided reason advice) = lines_of advice.items
 middle_text faults _ = []
 
--- what holds of the log without moments; where it has an order then, and none with them, that these
--- alone were broken
-unfoldable pub without_text : Word → Word → List ℕ
-without_text word.NotSerializable word.Serializable =
+-- what holds of the log without moments
+unfoldable pub without_line : Word → List ℕ
+without_line word = codes "the whole log without real time: " ++ word_text word ++ 10 ∷ []
+
+-- of a log that has an order without them: where it has none with them, they alone were broken
+unfoldable pub time_text : Word → List ℕ
+time_text word.Serializable = without_line word.Serializable
+time_text word.NotSerializable =
     codes "only real time was broken: without it the whole log is serializable\n"
     ++ codes "check first: do the clients share a clock?\n"
-without_text with without = codes "the whole log without real time: " ++ word_text without
-    ++ 10 ∷ []
+time_text word.Unknown = without_line word.Serializable
+
+-- the same of each log, of which this holds with them
+abbrev pub without_text : Word → Word → List ℕ
+without_text with word.Serializable = time_text with
+without_text with word.NotSerializable = without_line word.NotSerializable
+without_text with word.Unknown = without_line word.Unknown
 
 abbrev pub without_row : Word → Option Word → List ℕ
 without_row with None = []

@@ -1,5 +1,5 @@
 -- The words for what stands against a part, and for verdicts.
-use Rattle.std.specs.Prelude.{ℕ, List, codes, Option, None, Some}
+use Rattle.std.specs.Prelude.{ℕ, List, [], codes, Option, None, Some}
 use Rattle.serializability.specs.declared.anomaly.Anomaly.{Anomaly}
 use Rattle.serializability.specs.declared.anomaly.Anomaly.TheVariants as anomaly
 use Rattle.serializability.specs.declared.anomaly.ReadAnomaly.{ReadAnomaly}
@@ -46,7 +46,7 @@ read_hint read.OwnWriteMissed = order_hint
 read_hint read.Future = order_hint
 read_hint _ = []
 
-abbrev pub hint_text : Finding → List ℕ
+unfoldable pub hint_text : Finding → List ℕ
 hint_text (finding.Anomaly (anomaly.Read kind v op)) = read_hint kind
 hint_text _ = []
 

@@ -63,6 +63,7 @@ fn read_hint(kind: ReadAnomaly) -> &'static str
 }
 
 /// The same of a finding.
+#[tactic(auto, unfolding(crate::specs::Words::hint_text))]
 pub fn hint_text(finding: Finding) -> &'static str
     ensures hint { result.now ≡ hint_text finding }
 {

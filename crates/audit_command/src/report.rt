@@ -4,6 +4,7 @@ ghost use Rattle.std.specs.Prelude.{◌≡◌, ◌++◌, ◌<◌, OnOk, IfOk, le
 ghost use Rattle.audit_command.specs.Report.{first_line, txn_text, txns_text, noun_of, part_text};
 ghost use Rattle.audit_command.specs.Report.{behind_comma, code_count, code_line, uncoded_line, codes_text};
 ghost use Rattle.audit_command.specs.Report.{middle_text, without_text, without_row, part_size, counts_text};
+ghost use Rattle.audit_command.specs.Report.{without_line, time_text, why_text};
 ghost use Rattle.audit_command.specs.Report.{parts_text, first_size, report_text, too_few, heading_of};
 ghost use Rattle.audit_command.specs.Report.{listed, codes_where, behind_first, level_text, reason_line};
 ghost use Rattle.audit_command.specs.Report.{level_row, weaker_text, short_title, found_text};
@@ -166,14 +167,22 @@ fn put_listed(out: &mut Vec<u8>, txns: &[ToldTxn]) -> Result<(), AllocError>
     put(out, b"\n")
 }
 
+/// Appends why a part has no order, and what to check first.
+#[tactic(auto, unfolding(crate::specs::Report::why_text))]
+fn put_why(out: &mut Vec<u8>, part: &ToldPart) -> Result<(), AllocError>
+    ensures put { OnOk result (out.new.items ≡ out.old.items ++ why_text part.now) }
+{
+    put(out, &part.why)?;
+    put(out, hint_text(part.refuted.finding).as_bytes())
+}
+
 #[tactic(auto, unfolding(crate::specs::Report::part_text))]
 fn put_part(out: &mut Vec<u8>, part: &ToldPart) -> Result<(), AllocError>
     ensures put { OnOk result (out.new.items ≡ out.old.items ++ part_text part.now) }
 {
     put_heading(out, part)?;
     put_listed(out, &part.txns)?;
-    put(out, &part.why)?;
-    put(out, hint_text(part.refuted.finding).as_bytes())
+    put_why(out, part)
 }
 
 /// How many of the parts have the code of this number.
@@ -259,24 +268,42 @@ fn put_middle(out: &mut Vec<u8>, faults: usize, answer: &Answer) -> Result<(), A
     }
 }
 
-/// Appends what holds of the log without moments, where this holds with them.
-#[tactic(auto, unfolding(crate::specs::Report::without_text))]
-fn put_without(out: &mut Vec<u8>, with: Word, without: Word) -> Result<(), AllocError>
-    ensures put { OnOk result (out.new.items ≡ out.old.items ++ without_text with without) }
+/// Appends what holds of the log without moments.
+#[tactic(auto, unfolding(crate::specs::Report::without_line))]
+fn put_without_line(out: &mut Vec<u8>, word: Word) -> Result<(), AllocError>
+    ensures put { OnOk result (out.new.items ≡ out.old.items ++ without_line word) }
 {
-    match (with, without) {
-        (Word::NotSerializable, Word::Serializable) => {
+    put(out, b"the whole log without real time: ")?;
+    put(out, word_text(word).as_bytes())?;
+    put(out, b"\n")
+}
+
+/// The same of a log that has an order without them, where this holds with them.
+#[tactic(auto, unfolding(crate::specs::Report::time_text))]
+fn put_time(out: &mut Vec<u8>, with: Word) -> Result<(), AllocError>
+    ensures put { OnOk result (out.new.items ≡ out.old.items ++ time_text with) }
+{
+    match with {
+        Word::Serializable => put_without_line(out, Word::Serializable),
+        Word::NotSerializable => {
             put(
                 out,
                 b"only real time was broken: without it the whole log is serializable\n",
             )?;
             put(out, b"check first: do the clients share a clock?\n")
         }
-        (_, _) => {
-            put(out, b"the whole log without real time: ")?;
-            put(out, word_text(without).as_bytes())?;
-            put(out, b"\n")
-        }
+        Word::Unknown => put_without_line(out, Word::Serializable),
+    }
+}
+
+/// The same of each log.
+fn put_without(out: &mut Vec<u8>, with: Word, without: Word) -> Result<(), AllocError>
+    ensures put { OnOk result (out.new.items ≡ out.old.items ++ without_text with without) }
+{
+    match without {
+        Word::Serializable => put_time(out, with),
+        Word::NotSerializable => put_without_line(out, Word::NotSerializable),
+        Word::Unknown => put_without_line(out, Word::Unknown),
     }
 }
 

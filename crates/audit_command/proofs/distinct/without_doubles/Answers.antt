@@ -2,7 +2,7 @@ use Rattle.std.proofs.Common.{◌<◌, ◌∷◌, [], ◌++◌, sym, ap, length,
 use Rattle.session_log.proofs.Adding.{all_more}
 use Rattle.audit_command.specs.Audited.{IsPartTold, AreToldParts}
 use Rattle.audit_command.specs.Distinct.{AreDistinct, AreLeastFirst, is_told}
-use Rattle.audit_command.proofs.Doubles.{one_more, some_told, without_one}
+use Rattle.audit_command.proofs.Doubles.{one_more, some_told, empty, without_one}
 use Rattle.audit_command.proofs.distinct.without_doubles.Goals as goal
 
 pub loop-part-preserved-in-Continue-1 : goal.loop-part-preserved-in-Continue-1
@@ -52,7 +52,7 @@ returns c = record {
       record {
         some = i.some (omega (arith, end, both, none, as_long, some));
         at_most = omega (arith, i.at_most, end, both, none, as_long, most);
-        least_first = subst AreLeastFirst (ap (λ l. c.loop-part.kept.items ++ l) none ∙ append-nil c.loop-part.kept.items) (i.least least);
+        least_first = subst AreLeastFirst (ap (λ l. c.loop-part.kept.items ++ l) (empty rest.items (omega (arith, none, as_long))) ∙ append-nil c.loop-part.kept.items) (i.least least);
         distinct = i.distinct;
         told = (i.told o n ss all).1;
       };

@@ -1,4 +1,5 @@
-use Rattle.std.proofs.Common.{length, arith}
+use Rattle.std.proofs.Common.{rules, length, arith}
+use Rattle.std.proofs.lemmas.Result.{on_ok_weaker}
 use Rattle.std.proofs.lemmas.List.Sorted.{IsNonDecreasingBy-from_sort_by_key}
 use Rattle.audit_command.specs.Audited.{IsPartTold}
 use Rattle.audit_command.specs.declared.told.ToldPart.{ToldPart}
@@ -10,5 +11,6 @@ returns-clause-told c o n ss h = all_permuted (IsPartTold o n ss) c.args.told.no
 
 pub returns-clause-least_first : goal.returns-clause-least_first
 returns-clause-least_first c =
-    let rises = IsNonDecreasingBy-from_sort_by_key (λ (p : ToldPart). length p.txns.items) c.sort_by_key.new.self.items c.sort_by_key.ensures.sorted (λ a r q k. search rules) in
-    λ i j d lt within. rises i j d (omega (arith, lt)) within
+    on_ok_weaker c.sort_by_key.result
+    (λ sorted. let rises = IsNonDecreasingBy-from_sort_by_key (λ (p : ToldPart). length p.txns.items) c.sort_by_key.new.self.items sorted (λ a r q k. search rules) in λ i j d lt within. rises i j d (omega (arith, lt)) within)
+    c.sort_by_key.ensures.sorted
