@@ -176,11 +176,12 @@ def expected(said):
     first, runs = said.split('\n')[0], cycles_of(said)
     if first in TREES:
         steps, tree = said.count('\n['), []
-        for run in runs[steps:]:
+        behind = len(runs) - steps
+        for run in runs[:behind]:
             if sorted(run) not in map(sorted, tree):
                 tree.append(run)
-        return tree[:picture.MOST_PICTURES] + runs[:min(steps, picture.MOST_PICTURES)], steps
-    return runs[-1:] + runs[:-1], len(runs) - 1
+        return tree[:picture.MOST_PICTURES] + runs[behind:][:picture.MOST_PICTURES], steps
+    return runs, len(runs) - 1
 
 
 def fault_of_picture(boxes, arrows, text):
@@ -240,8 +241,9 @@ def explained_by_audit(program, path):
     first, *lines = ran.stdout.decode().split('\n')
     if ran.returncode != 1:
         return None
-    end = next(place for place, line in enumerate(lines) if re.match('the whole log|sessions [0-9]+$', line))
-    return ''.join(line + '\n' for line in ['not serializable: ' + Part(*lines[:2], []).title, *lines[2:end]])
+    end = next(place for place, line in enumerate(lines) if re.match('the whole log|only real time|sessions [0-9]+$', line))
+    part = Part(*lines[:2], lines[2:end])
+    return ''.join(line + '\n' for line in ['not serializable: ' + part.title, *part.why])
 
 
 class Checks:
