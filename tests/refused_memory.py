@@ -71,7 +71,7 @@ def is_right(words, wanted, got):
     if words[0] == 'explain' and 'dot' not in words and got[::2] == wanted[::2] == (1, b''):
         with open(words[-1], 'rb') as log:
             text, checked = log.read(), wanted[1].decode().split('\n')[0] + '\n'
-        return explained.is_right(text, checked, got[1].decode()[len(checked):].split('\n')[:-1])
+        return explained.fault(text, checked, got[1].decode()) is None
     return got == wanted or words[0] == 'check' and got in BOTH
 
 
