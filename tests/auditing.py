@@ -217,7 +217,7 @@ ANSWERED = [
     ('two transactions where three are asked for', SMALL, ['--at-least', '3'], 'unknown: 2 committed, 3 asked for', []),
     ('two transactions where many are asked for', SMALL, ['--at-least', '1000000000'], 'unknown: 2 committed, 1000000000 asked for', []),
     ('taken transactions are not asked for', TAKEN, ['--at-least', '2'], 'unknown: 1 committed, 2 asked for', []),
-    ('too few, and refuted', LOST, ['--at-least', '9'], 'not serializable', ['part of 2 transactions: A7']),
+    ('too few, and refuted', LOST, ['--at-least', '9'], 'not serializable', ['shown by 2 transactions: A7']),
     ('with all options', SMALL, '--workers 16 --strategy least --budget 1000000 --seconds 1000000 --at-least 1 --format text --progress --explain '
      '--faults 1000 --no-moments'.split(), 'serializable', []),
     ('1,001 transactions without moments', blind_log(1001, 64, 1001), [], 'serializable', []),
@@ -236,13 +236,13 @@ ANSWERED = [
     ('1,024 sessions at once', blind_log(2048, 1024, 5), [], 'serializable', []),
     ('1,025 sessions at once', blind_log(2050, 1025, 5), [], 'unknown: more than 1024 sessions at once', []),
     ('1,025 sessions at once, and a read of nothing', blind_log(2050, 1025, 5) + NOT_WRITTEN, [], 'not serializable',
-     ['part of 1 transactions: A1']),
-    ('a circle of 64 sessions', circle(64), [], 'not serializable', ['part of 64 transactions: A8']),
-    ('a circle of 65 sessions', circle(65), [], 'not serializable', ['part of 65 transactions: A8']),
+     ['shown by 1 transactions: A1']),
+    ('a circle of 64 sessions', circle(64), [], 'not serializable', ['shown by 64 transactions: A8']),
+    ('a circle of 65 sessions', circle(65), [], 'not serializable', ['shown by 65 transactions: A8']),
     ('a circle of 1,001 sessions', circle(1001), [], 'unknown: a part that was found has too many transactions', []),
-    ('a circle with 9,998 other keys', circle(2, 9998), [], 'not serializable', ['part of 2 transactions: A8']),
+    ('a circle with 9,998 other keys', circle(2, 9998), [], 'not serializable', ['shown by 2 transactions: A8']),
     ('a circle behind a larger one', circle(5) + LOST.replace(b'session ', b'session 10').replace(b'w x ', b'w x 9'), ['--faults', '2'], 'not serializable',
-     ['part of 2 transactions: A7', 'part of 5 transactions: A8']),
+     ['shown by 2 transactions: A7', 'shown by 5 transactions: A8']),
 ]
 
 # Of a refused log: its text, the line and the code, and what is wrong.
@@ -287,7 +287,7 @@ def answered(program, folder, name, text, words, first, within):
     faults = int(words[words.index('--faults') + 1]) if '--faults' in words else 1
     answer = Answer(call(program, 'audit', *words, '--part', at, '--order', at + '.order', text=text)[:2] + ('',), faults)
     must(answer.first == first, 'says %r, wanted %r' % (answer.first, first))
-    said = [part.title for part in answer.parts] + ['part of %d transactions: %s' % (len(part.lines), part.code) for part in answer.parts]
+    said = [part.title for part in answer.parts] + ['shown by %d transactions: %s' % (len(part.lines), part.code) for part in answer.parts]
     must(all(title in said for title in within), 'says %r, and nowhere %r' % (said, within))
     certificates.check_counts(answer, sessions)
     if answer.verdict == 'serializable':

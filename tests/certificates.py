@@ -15,7 +15,7 @@ NAMES = {'A2': 'aborted read (G1a)', 'A3': 'intermediate read (G1b)', 'A4': 'own
          'A6': 'non-repeatable read (internal)', 'A7': 'lost update (G-single)'}
 WEAKER = {'strict snapshot isolation': 'strict_snapshot', 'snapshot isolation': 'snapshot'}
 STATUS = {'serializable': 0, 'not serializable': 1, 'unknown': 3, 'refused': 2}
-HEADING = re.compile(r'part of (\d+) transactions?: (.+)')
+HEADING = re.compile(r'shown by (\d+) transactions?: (.+)')
 TRANSACTION = re.compile(r'(\d+)\.(\d+) \(lines (\d+) to (\d+)\)')
 OBJECT = ['verdict', 'code', 'known_as', 'part', 'explanation', 'without_moments', 'strict_snapshot', 'snapshot', 'snapshot_fault', 'faults', 'reason', *COUNTS[:-1], 'version']
 # Of parts of so many nodes all orders are tried.

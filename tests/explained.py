@@ -34,6 +34,8 @@ OF = r'(?: of [1-9][0-9]*\.[1-9][0-9]*|, the initial value)'
 SINCE = re.compile(r'    if [1-9][0-9]* came first, %s, which reads [0-9]+ \(line [1-9][0-9]*\)%s?, '
                    'would come before %s, which would overwrite it, but %s comes before %s:' % (NODE, BEHIND, NODE, NODE, NODE))
 FORCED, TABLE = 'these orders of versions are forced:', 'the reads and writes that matter:'
+# A cycle of so many edges is told in a sentence too.
+SHORT, FEW = 'in short: ', 6
 CYCLE = re.compile('cycle from %s:' % NODE)
 ORDER = re.compile('suppose %s:' % VERSIONS)
 LEAVES = re.compile('proof: whichever of these versions came first, a cycle closes(?:, %s in all; the first 1000 of them)?:' % NUMBER)
@@ -218,6 +220,32 @@ class Log:
             return 'long fork' + by_order(' (G-nonadjacent-item)', ' by way of sessions (G-nonadjacent-item-process)',
                                           ' by way of real time (G-nonadjacent-item-realtime)')
         return 'cycle of missed writes' + by_order(' (G2-item)', ' and sessions (G2-item-process)', ' and real time (G2-item-realtime)')
+
+    def words(self, a, b, said):
+        """An edge in few words: whose these are, whether they say what that one did not see, and the words."""
+        kind, kept = self.reason(a, b)[0], BY_STEP.fullmatch(said) or SUPPOSED.fullmatch(said)
+        if kind == 'session':
+            return b, False, 'came after %s in its session' % a
+        if kind == 'moments':
+            return b, False, 'began after %s ended' % a
+        key = kept[2] if kept else said.split(' ')[2]
+        by = ' (by [%s])' % kept[3] if kept and kept.re is BY_STEP else ''
+        if kept and self.named[a].writes(key):
+            return b, False, 'wrote %s after %s%s' % (key, a, by)
+        return (b, False, "saw %s's %s" % (a, key)) if kind == 'read' else (a, True, "did not see %s's %s%s" % (b, key, by))
+
+    def short(self, edges):
+        """The line that tells a cycle in a sentence, where it has few edges: two ends, and what is said of them. It begins so that what a
+        transaction did not see stands behind what else is said of that one."""
+        words = [self.words(*edge) for edge in edges]
+        if not words or len(words) > FEW:
+            return []
+        if words[0][1] and not words[-1][1]:
+            words = words[-1:] + words[:-1]
+        said = SHORT + '%s %s' % words[0][::2]
+        for (_, missed, _), (whose, misses, more) in zip(words, words[1:]):
+            said += ', but ' + more if misses and not missed else '; %s %s' % (whose, more)
+        return [said]
 
     # ---- an edge
 
@@ -586,6 +614,19 @@ def steps_first(lines):
     return lines[:begins] + lines[at + 1:] + lines[begins:at]
 
 
+def without_short(log, checked, explained):
+    """The lines behind those of `check`, without the one that tells the cycle in a sentence, which has to stand before the cycle."""
+    lines = explained[len(checked):].split('\n')[:-1]
+    rest = [line for line in lines if not line.startswith(SHORT)]
+    cycles = [n for n, line in enumerate(rest) if CYCLE.fullmatch(line)]
+    at = cycles[0] if cycles else 0
+    edges = [found.groups() for found in itertools.takewhile(bool, map(EDGE.fullmatch, rest[at + len(cycles):]))]
+    is_cycle = edges and checked.split('\n')[0] != EVERY_CUBE
+    right = rest[:at] + log.short(edges) + rest[at:] if is_cycle else rest
+    told(lines == right, 'in short: wanted %r' % right)
+    return rest
+
+
 def without_table(lines):
     """These lines without the table of what the transactions of a tree did."""
     if lines[:1] != [TABLE]:
@@ -597,7 +638,8 @@ def judge(text, checked, explained, log=None):
     """What is met in an explanation, of which the first lines have to be these; else Wrong. Names and lines are those of this log."""
     told(explained[:len(checked)] == checked, 'the first lines are not those of check')
     told(explained.endswith('\n'), 'the last line does not end')
-    lines, log = steps_first(explained[len(checked):].split('\n')[:-1]), log or Log(text)
+    log = log or Log(text)
+    lines = steps_first(without_short(log, checked, explained))
     rest = without_table(lines)
     is_asked = checked.split('\n')[0] == EVERY_CUBE and CROSSED not in rest
     right = [TABLE] + ['    ' + '  '.join(row) for row in named_of(log, rest)] if is_asked else []
@@ -667,8 +709,8 @@ def named_of(log, lines):
 
 def graph_of(text, checked, explained):
     """The graph of what these lines say, and nothing where a log was refused."""
-    lines = without_table(steps_first(explained[len(checked):].split('\n')[:-1]))
     first, log = checked.split('\n')[0], Log(text) if checked else None
+    lines = without_table(steps_first(without_short(log, checked, explained)))
     if READ.fullmatch(first) or UPDATE.fullmatch(first):
         drawn = ['"anomaly" [label="%s"];' % ''.join(line + '\\n' for line in lines)]
     else:
@@ -684,7 +726,8 @@ def graph_of(text, checked, explained):
 
 def spoilt(r, text, checked, explained):
     """What was done to an explanation of cycles, and what it then says, which is wrong."""
-    log, lines = Log(text), without_table(steps_first(explained[len(checked):].split('\n')[:-1]))
+    log = Log(text)
+    lines = without_table(steps_first(without_short(log, checked, explained)))
     bare = [line.lstrip(' ') for line in lines]
     edges, steps, cycles, orders = ([n for n, line in enumerate(bare) if form.fullmatch(line)] for form in (EDGE, STEP, CYCLE, ORDER))
     forced = [n for n in edges if BY_STEP.fullmatch(EDGE.fullmatch(bare[n])[3])]
@@ -796,6 +839,27 @@ def spoilt(r, text, checked, explained):
             spoilt_line = both[place][:at] + '9' + both[place][at:]
             yield 'another number in a step', stepped(*(both[:place] + [spoilt_line] + both[place + 1:]))
     yield 'all numbers one higher', renamed(lines, 1)
+
+
+def spoilt_short(r, log, explained):
+    """The same of the sentence of a cycle, by the whole text."""
+    lines = explained.split('\n')
+    at = next((n for n, line in enumerate(lines) if line.startswith(SHORT)), None)
+    if at is None:
+        return
+    said, others = lines[at], [it.name for it in log.nodes]
+    instead = lambda *those: '\n'.join(lines[:at] + list(those) + lines[at + 1:])
+    yield 'the sentence is not told', instead()
+    yield 'the sentence is told twice', instead(said, said)
+    yield 'the sentence stands elsewhere', instead(lines[at + 1], said) if lines[at + 1].startswith('cycle') else '\n'.join(lines[:at] + lines[at + 1:-1] + [said, ''])
+    yield 'the sentence ends too early', instead(re.split('; |, but ', said)[0])
+    place = r.choice([found.span() for found in re.finditer(NODE, said)])
+    other = r.choice(others)
+    if other != said[place[0]:place[1]]:
+        yield 'another transaction in the sentence', instead(said[:place[0]] + other + said[place[1]:])
+    for one, another in ((' saw ', ' did not see '), (' did not see ', ' saw '), ('; ', ', but '), (', but ', '; '), ("'s ", "'s _"), (' after ', ' before ')):
+        if one in said:
+            yield 'other words in the sentence', instead(said.replace(one, another, 1))
 
 
 def spoilt_crossed(r, lines):
@@ -947,57 +1011,62 @@ BY_HAND = [
             '3.1 overwrites it with 8 (line 16)'),
     # session, over an aborted one, and read
     by_hand('session 1, begin, r x 1, commit, begin, w x 9, abort, begin, w x 1, commit', 'A8 cycle of known edges', 'cycle 1.1 1.3 1.1',
-            '1.1 before 1.3: session 1', '1.3 before 1.1: 1.1 reads x 1 (line 3), which 1.3 wrote (line 9)',
+            "in short: 1.3 came after 1.1 in its session; 1.1 saw 1.3's x", '1.1 before 1.3: session 1', '1.3 before 1.1: 1.1 reads x 1 (line 3), which 1.3 wrote (line 9)',
             'known as: a read from the future (G1c-process)'),
     # anti-dependencies, of the least key, with the first operations
     by_hand('session 1, begin, w b 1, abort, session 2, begin, r a 0, r a 0, r b 0, w a 2, w a 3, w b 4, w b 8, r c 0, r c 0, commit, '
             'session 3, begin, r c 0, w c 5, w c 9, w d 7, r b 0, r b 0, r a 0, commit, session 4, begin, r a 0, w a 6, abort',
             'A8 cycle of known edges', 'cycle 2.1 3.1 2.1',
+            "in short: 2.1 did not see 3.1's c; 3.1 did not see 2.1's b",
             '2.1 before 3.1: 2.1 reads c 0 (line 14), and 3.1 overwrites it with 5 (line 20)',
             '3.1 before 2.1: 3.1 reads b 0 (line 23), and 2.1 overwrites it with 4 (line 12)',
             'known as: write skew (G2-item)'),
     # version order, behind a chain of two writers, with the first operation and not the least key
     by_hand('session 1, begin, r z 0, r x 0, w x 1, commit, session 2, begin, r x 1, w x 2, r y 4, r z 0, commit, '
             'session 3, begin, w x 3, w z 9, w y 4, commit', 'A8 cycle of known edges', 'cycle 2.1 3.1 2.1',
+            "in short: 2.1 saw 3.1's y, but did not see 3.1's x",
             '2.1 before 3.1: 2.1 reads x 1 (line 9), which 1.1 wrote (line 5) over the initial value, and 3.1 wrote x 3 (line 16)',
             '3.1 before 2.1: 2.1 reads y 4 (line 11), which 3.1 wrote (line 18)',
             'known as: read skew (G-single)'),
     # version order, behind a chain of two writers that is read to its end
     by_hand('session 1, begin, r x 0, w x 1, commit, session 2, begin, r x 1, w x 5, w x 2, commit, session 3, begin, r x 2, r y 4, commit, '
             'session 4, begin, w x 3, w y 4, commit', 'A8 cycle of known edges', 'cycle 3.1 4.1 3.1',
+            "in short: 3.1 saw 4.1's y, but did not see 4.1's x",
             '3.1 before 4.1: 3.1 reads x 2 (line 14), which 2.1 wrote (line 10) over an update of the initial value, and 4.1 wrote x 3 (line 19)',
             '4.1 before 3.1: 3.1 reads y 4 (line 15), which 4.1 wrote (line 20)',
             'known as: read skew (G-single)'),
     # a read, an anti-dependency and moments one way, an anti-dependency and the order of versions the other
     by_hand('log 3, session 1, begin 1, w x 1, r y 0, r u 0, w u 2, w v 3, commit 3, session 2, begin 5, r v 0, r u 0, r y 0, w y 4, r x 1, '
             'r x 1, commit 6', 'A8 cycle of known edges', 'cycle 1.1 2.1 1.1',
+            "in short: 2.1 saw 1.1's x, but did not see 1.1's u",
             '1.1 before 2.1: 2.1 reads x 1 (line 16), which 1.1 wrote (line 4)',
             '2.1 before 1.1: 2.1 reads u 0 (line 13), and 1.1 overwrites it with 2 (line 7)',
             'known as: read skew (G-single)'),
     # the order of versions, and moments
     by_hand('log 3, session 1, begin 1, r x 0, r y 2, commit 3, session 2, begin 5, w x 1, w y 2, commit 6',
             'A8 cycle of known edges', 'cycle 1.1 2.1 1.1',
+            "in short: 1.1 saw 2.1's y, but did not see 2.1's x",
             '1.1 before 2.1: 1.1 reads x 0 (line 4), the initial value, and 2.1 wrote x 1 (line 9)',
             '2.1 before 1.1: 1.1 reads y 2 (line 5), which 2.1 wrote (line 10)',
             'known as: read skew (G-single)'),
     # moments
     by_hand('log 3, session 5, begin 7, r x 1, commit 8, session 6, begin 9, w x 1, commit 10', 'A8 cycle of known edges', 'cycle 5.1 6.1 5.1',
-            '5.1 before 6.1: 5.1 ended at 8 (line 5), 6.1 began at 9 (line 7)', '6.1 before 5.1: 5.1 reads x 1 (line 4), which 6.1 wrote (line 8)',
+            "in short: 6.1 began after 5.1 ended; 5.1 saw 6.1's x", '5.1 before 6.1: 5.1 ended at 8 (line 5), 6.1 began at 9 (line 7)', '6.1 before 5.1: 5.1 reads x 1 (line 4), which 6.1 wrote (line 8)',
             'known as: a read from the future (G1c-realtime)'),
     # the session of two comes before what one reads of the other
     by_hand('session 1, begin, w x 1, r y 2, commit, begin, r x 1, w y 2, commit', 'A8 cycle of known edges', 'cycle 1.1 1.2 1.1',
-            '1.1 before 1.2: session 1', '1.2 before 1.1: 1.1 reads y 2 (line 4), which 1.2 wrote (line 8)',
+            "in short: 1.2 came after 1.1 in its session; 1.1 saw 1.2's y", '1.1 before 1.2: session 1', '1.2 before 1.1: 1.1 reads y 2 (line 4), which 1.2 wrote (line 8)',
             'known as: a read from the future (G1c-process)'),
     # neither order of two versions, and no write is missed in either
     by_hand('session 1, begin, w x 1, commit, begin, w x 2, w y 4, commit, session 2, begin, r x 1, w x 3, r y 4, commit',
-            'A9 pruning ends in a cycle', 'cycle from 1.2:', '1.2 before 2.1: 2.1 reads y 4 (line 13), which 1.2 wrote (line 7)',
+            'A9 pruning ends in a cycle', "in short: 2.1 saw 1.2's y; 1.2 wrote x after 2.1 (by [1])", 'cycle from 1.2:', '1.2 before 2.1: 2.1 reads y 4 (line 13), which 1.2 wrote (line 7)',
             '2.1 before 1.2: 2.1 wrote x 3 (line 12) over 1, which by [1] comes before 2, which 1.2 wrote (line 6)',
             'known as: a read from the future (G1c-process)', FORCED,
             '[1] x: 1, which 1.1 wrote (line 3), comes before 2, which 1.2 wrote (line 6):', '    1.1 before 1.2: session 1'),
     # neither order, and what the step refutes is milder than the cycle
     by_hand('session 1, begin, w x 1, r y 5, commit, begin, r z 0, commit, session 2, begin, w x 2, w y 5, commit, '
             'session 3, begin, r x 2, w z 3, commit',
-            'A9 pruning ends in a cycle', 'cycle from 2.1:', '2.1 before 1.1: 1.1 reads y 5 (line 4), which 2.1 wrote (line 12)',
+            'A9 pruning ends in a cycle', "in short: 1.1 saw 2.1's y; 2.1 wrote x after 1.1 (by [1])", 'cycle from 2.1:', '2.1 before 1.1: 1.1 reads y 5 (line 4), which 2.1 wrote (line 12)',
             '1.1 before 2.1: 1.1 wrote x 1 (line 3), which by [1] comes before 2, which 2.1 wrote (line 11)',
             'known as: cycle of missed writes and sessions (G2-item-process)', FORCED,
             '[1] x: 1, which 1.1 wrote (line 3), comes before 2, which 2.1 wrote (line 11):',
@@ -1314,6 +1383,8 @@ def judged(program, place, name, text):
             continue
         for what, lines in spoilt(r, text, checked[1], explained) if (here['A8'] or here['A9'] or here['tree']) and len(explained) < SPOILT else ():
             found.append('%s, %s: not seen that %s: %r' % (name, ' '.join(words), what, lines) if is_right(text, checked[1], lines) else None)
+        for what, said in spoilt_short(r, Log(text), explained) if here['A8'] or here['A9'] else ():
+            found.append(None if fault(text, checked[1], said) else '%s, %s: not seen that %s: %r' % (name, ' '.join(words), what, said))
     return met, found
 
 

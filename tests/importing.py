@@ -371,18 +371,20 @@ CONTRADICTING = [
 # what is said of a history, in its own words
 BACK = [
     (EXAMPLE, ['not serializable: A8 cycle of known edges', 'cycle %s %s %s',
+               'in short: %s did not see what %s wrote to :x; %s did not see what %s wrote to :y',
                '%s before %s: %s reads [] of list :x, and %s appended 1 to list :x', '%s before %s: %s reads [] of list :y, and %s appended 1 to list :y',
                'known as: write skew (G2-item)'],
-     (2, 3, 2, 2, 3, 2, 3, 3, 2, 3, 2), {2: 0, 3: 1}),
+     (2, 3, 2, 2, 3, 3, 2, 2, 3, 2, 3, 3, 2, 3, 2), {2: 0, 3: 1}),
     (CONTRADICTION, ['not serializable: A6 split read at %s', '%s appended 1 to list 1 behind nothing (as operation 5 read it)',
                      '%s then appended 1 to list 1 behind 2 (as operation 7 read it), which %s appended'], (1, 1, 1, 3), {1: 0, 3: 1}),
     (REGISTERS.replace('[:r 1 1]', '[:r 1 9]'), ['not serializable: A1 unknown read at %s', '%s reads 9 of 1, which no transaction wrote'], (3, 3), {3: 1}),
     (history_of('0 ok [:w 1 1]', '1 ok [:w 1 2]', '2 ok [:r 1 1]'),
-     ['not serializable: A9 pruning ends in a cycle', 'cycle from %s:', '%s before %s: %s ended at 3, %s began at 4',
+     ['not serializable: A9 pruning ends in a cycle', 'in short: %s began after %s ended, but did not see what %s wrote to 1 (by [1])',
+      'cycle from %s:', '%s before %s: %s ended at 3, %s began at 4',
       '%s before %s: %s reads 1 of 1 which %s wrote, which by [1] comes before 2, which %s wrote', 'known as: stale read (G-single-realtime)',
       'these orders of versions are forced:', '[1] 1: 1, which %s wrote, comes before 2, which %s wrote:',
       '    %s before %s: %s ended at 1, %s began at 2'],
-     (3, 3, 5, 3, 5, 5, 3, 5, 1, 3, 1, 3, 1, 3, 1, 3), {1: 0, 3: 1, 5: 2}),
+     (5, 3, 3, 3, 3, 5, 3, 5, 5, 3, 5, 1, 3, 1, 3, 1, 3, 1, 3), {1: 0, 3: 1, 5: 2}),
 ]
 CLAIM = re.compile(r"process (\d+)'s transaction \(index (\d+)\) (?:then )?(appended|wrote|reads) (\[[^]]*\]|\S+) (?:to|of) (?:list )?(\d+)(?: behind (\S+) \(as operation (\d+))?")
 

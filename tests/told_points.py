@@ -6,7 +6,7 @@ each told line must be so in the log: the transactions, lines, keys, identities 
 the one point stands before the other. Each step must follow from lines and from earlier steps, and each must be named; first stands a
 circle, or two that write a key of which neither can commit first, and behind it the steps. So no order is left. Nothing that is told may
 name a lock. `explain --level` must say the same. Last line: 'told points: N passed, M failed'."""
-import argparse, collections, concurrent.futures, os, re, sys
+import argparse, collections, concurrent.futures, itertools, os, re, sys
 
 HERE = os.path.dirname(os.path.abspath(__file__))
 sys.path.insert(0, HERE)
@@ -17,6 +17,8 @@ CASES, SEED, SHOWN = 600, 1, 20
 LANES = min(4, os.cpu_count())
 LEVELS = ('strict-snapshot', 'snapshot')
 FORCED = 'these orders of snapshots and commits are forced:'
+# A circle of so many edges is told in a sentence too.
+SHORT, FEW = 'in short: ', 6
 BY_SEARCH = 'no order of their snapshots and commits is left: a search shows it'
 NAME, KEY, POINT = r'(\d+\.\d+)', r'([A-Za-z0-9_.:/-]+)', r"(\d+\.\d+)'s (snapshot|commit)"
 EDGE = re.compile('%s before %s: (.+)' % (POINT, POINT))
@@ -38,6 +40,11 @@ MOMENTS = re.compile('%s ended at (\\d+) \\(line (\\d+)\\), %s began at (\\d+) \
 SESSION, STEP = re.compile('session (\\d+)'), re.compile('by \\[(\\d+)\\]')
 WANTED = {'lost update', 'read skew (G-single)', 'circular information flow (G1c)', 'long fork (G-nonadjacent-item)', 'aborted read (G1a)',
           'intermediate read (G1b)', 'stale read (G-single-realtime)', 'steps', 'neither', 'circle', 'session', 'moments'}
+
+
+# Two writers of a key: what the first sentence says begins with one of them and ends at the other.
+TWO_WRITERS = '\n'.join('session 1,begin,r z 2,r w 0,w k 10,commit,session 2,begin,r y 0,w k 11,w w 12,commit,session 3,begin,w y 1,w z 2,commit,'.split(',')).encode()
+TWO_SAID = "in short: if 1.1 came first, 2.1 did not see 3.1's y; 1.1 saw 3.1's z. If 2.1 came first, 1.1 did not see 2.1's w"
 
 
 class Log:
@@ -84,7 +91,7 @@ class Telling:
 
     def __init__(self, log, names, lines, level):
         self.log, self.names, self.left, self.level = log, names, list(lines), level
-        self.steps, self.named, self.met = {}, set(), set()
+        self.steps, self.named, self.met, self.told, self.sides = {}, set(), set(), [], []
         if FORCED in self.left:  # told last, and read first
             at = self.left.index(FORCED)
             self.left = self.left[at + 1:] + self.left[:at]
@@ -99,6 +106,7 @@ class Telling:
         one, kind, other, kind_of_other, reason = found.groups()
         must(one in self.names and other in self.names, 'of others: %r' % line)
         self.reason((one, kind), (other, kind_of_other), reason)
+        self.told.append((one, other, reason))
         return (one, kind), (other, kind_of_other)
 
     def reason(self, one, other, reason):
@@ -160,11 +168,40 @@ class Telling:
     def leads(one, other):
         return one == other or one[0] == other[0] and (one[1], other[1]) == ('snapshot', 'commit')
 
+    def words(self, one, other, reason):
+        """An edge in few words: whose these are, whether they say what that one did not see, and what they may be."""
+        if SESSION.fullmatch(reason):
+            return other, False, ['came after %s in its session' % one]
+        if MOMENTS.fullmatch(reason):
+            return other, False, ['began after %s ended' % one]
+        step = STEP.fullmatch(reason) or BEHIND.fullmatch(reason)
+        by = ' (by [%s])' % step[1 if step.re is STEP else 6] if step else ''
+        if STEP.fullmatch(reason):
+            keys = [{key for name, key, _ in self.log.writes if name == it} for it in (one, other)]
+            return other, False, ['wrote %s after %s%s' % (key, one, by) for key in keys[0] & keys[1]]
+        key = re.match(READS, reason)[2]
+        is_seen = WROTE.fullmatch(reason) or LATER.fullmatch(reason)
+        return (other, False, ["saw %s's %s" % (one, key)]) if is_seen else (one, True, ["did not see %s's %s%s" % (other, key, by)])
+
+    @staticmethod
+    def sentences(lead, words, is_circle):
+        """What may be said of edges in a sentence, where they are few. Of a circle it begins so that what a transaction did not see stands
+        behind what else is said of that one; a way does not come back to where it begins."""
+        if len(words) > FEW:
+            return []
+        if is_circle and words[0][1] and not words[-1][1]:
+            words = words[-1:] + words[:-1]
+        said = [lead + '%s %s' % (words[0][0], it) for it in words[0][2]]
+        for (_, missed, _), (whose, misses, more) in zip(words, words[1:]):
+            said = [front + (', but ' if misses and not missed else '; %s ' % whose) + it for front in said for it in more]
+        return said
+
     def not_first(self, node, other):
         """Why a node cannot commit before another takes its snapshot."""
-        found = WOULD.fullmatch(self.left[0])
+        found, self.told = WOULD.fullmatch(self.left[0]), []
         if not found:
             first, last = self.way('    ')
+            self.sides.append([self.words(*edge) for edge in self.told])
             must(self.leads((other, 'snapshot'), first) and self.leads(last, (node, 'commit')), 'this leads from %s to %s' % (first, last))
             return
         self.left.pop(0)
@@ -172,6 +209,7 @@ class Telling:
         self.log.must_read(reader, key, wid, line), self.log.must_write(other, key, new, at)
         must(reader == again and writer == writer_again == other and self.log.wrote(key, wid) == of == node and reader not in (node, other), found[0])
         first, last = self.way('    ')
+        self.sides.append([self.words(*edge) for edge in self.told] + [(reader, True, ["did not see %s's %s" % (other, key)])])
         must(self.leads((other, 'commit'), first) and self.leads(last, (reader, 'snapshot')), 'this leads from %s to %s' % (first, last))
 
     def told_steps(self):
@@ -198,6 +236,7 @@ class Telling:
 
     def all(self):
         self.told_steps()
+        short, self.sides = self.left.pop(0) if self.left[0].startswith(SHORT) else None, []
         if found := NEITHER.fullmatch(self.left[0]):
             self.left.pop(0)
             one, other, key, at, at_other = found.groups()
@@ -206,11 +245,16 @@ class Telling:
                 found = NOT_FIRST.fullmatch(self.left.pop(0))
                 must(found and found[1] == node, '%s cannot commit first is not said' % node)
                 self.not_first(node, against)
+            both = [self.sentences('%s came first, ' % node, side, False) for node, side in zip((one, other), self.sides)]
+            right = ['%sif %s. If %s' % (SHORT, *it) for it in itertools.product(*both)] or [None]
             self.met.add('neither')
         else:
+            self.told = []
             first, last = self.way('')
             must(self.leads(last, first), 'no circle: from %s to %s' % (first, last))
+            right = self.sentences(SHORT, [self.words(*edge) for edge in self.told], True) or [None]
             self.met.add('circle')
+        must(short in right, '%r, wanted %r' % (short, right))
         must(self.named == set(self.steps), 'steps that nothing names: %r' % (set(self.steps) - self.named))
         if self.left:
             found = re.fullmatch('known as: (.+)', self.left.pop(0))
@@ -262,13 +306,15 @@ def main():
     words.add_argument('cases', metavar='CASES', type=int, nargs='?', default=CASES, help='how many made logs (%(default)s)')
     words.add_argument('--seed', type=int, default=SEED, help='from which number they are made (%(default)s)')
     words = words.parse_args()
-    texts = list(generate.examples((1, 2, 3)))
+    texts = list(generate.examples((1, 2, 3))) + [('two writers', TWO_WRITERS)]
     texts += [('made log %d' % seed, levels.made_text(seed)) for seed in range(words.seed, words.seed + words.cases)]
     program, faults, met = os.path.abspath(words.program), [], collections.Counter()
     with concurrent.futures.ProcessPoolExecutor(LANES) as pool:
         for fault, what in pool.map(judged, [(program, name, text) for name, text in texts], chunksize=10):
             met.update(what)
             faults += [] if fault is None else [fault]
+    said = call(program, 'audit', '--explain', '--only', '--level', 'snapshot', text=TWO_WRITERS)[1]
+    faults += [] if TWO_SAID in said.split('\n') else ['two writers: %r' % said]
     missing = sorted(WANTED - set(met))
     faults += ['nothing met: %s' % ', '.join(missing)] if missing and words.cases >= CASES else []
     for fault in faults[:SHOWN]:

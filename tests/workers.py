@@ -149,7 +149,7 @@ def audit_fault(program, others, words, first, status):
             return 'its %s depends on the number of workers' % form
         said = got[1].decode()
         if form == 'text':
-            wanted = [first + '\n'] + ['\npart of '] * bool(others)
+            wanted = [first + '\n'] + ['\nshown by '] * bool(others)
             if got[0] != status or got[2] or not said.startswith(wanted[0]) or not all(it in said for it in wanted):
                 return 'it says %r, wanted %r' % (got, wanted)
     return None

@@ -12,7 +12,10 @@ PARTS = re.compile(r'''
     | (?P<before>comes\ before\ )(?P<before_id>[0-9]+),\ which\ (?P<before_writer>%(name)s)\ wrote\ \(line\ (?P<before_at>[0-9]+)\)
     | (?P<version>(?:^\ *if|\bover|an\ update\ of)\ )(?P<version_id>[0-9]+)\b
     | (?P<of_key>(?:which\ no\ transaction\ wrote|A7\ lost\ update)(?:\ (?:to|of)\ %(key)s)?)(?:\ from\ [0-9.]+)?
+    | (?P<sight>\ saw|\bdid\ not\ see)\ (?P<seen>%(name)s)'s\ (?P<seen_key>%(key)s)
+    | (?P<later>\ wrote\ %(key)s\ after\ )(?P<after>%(name)s)
     | (?P<session>:\ session\ [0-9]+$)
+    | (?P<its>\ in\ its\ session\b)
     | \ op\ [0-9]+$ | \ \(lines?\ [0-9]+(?:\ to\ [0-9]+)?\)
     | (?<![\w.:/-])(?P<name>%(name)s)(?![\w./-])''' % {'key': KEY, 'name': NAME}, re.VERBOSE | re.M)
 # Of a list so many elements are told, its last ones.
@@ -104,8 +107,14 @@ class Retold:
             return found['version'] + self.value(found['version_id'])
         if found['of_key']:
             return 'A7 lost update' if found['of_key'].startswith('A7') else 'which no transaction wrote'
+        if found['sight']:
+            return '%s what %s wrote to %s' % (found['sight'], self.name(found['seen']), found['seen_key'])
+        if found['later']:
+            return found['later'] + self.name(found['after'])
         if found['session']:
             return ': both are of one process'
+        if found['its']:
+            return ' in its process'
         return self.name(found['name']) if found['name'] else ''
 
 

@@ -467,6 +467,8 @@ class Page:
         named = len([name for name in it.names if name in self.history.named])
         facts = '%s: %d transaction%s, of which the explanation names %d' % (self.name, self.count, '' if self.count == 1 else 's', named)
         head = element('p', escape(facts), class_='facts') + element('h1', escape(it.verdict)) + element('p', MEANINGS[it.code], class_='meaning')
+        if it.short:
+            head += element('p', escape('In short: ' + it.short), class_='meaning')
         if it.known_as:
             head += element('p', escape('Known as: ' + it.known_as))
         if it.pairs:

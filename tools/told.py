@@ -27,6 +27,7 @@ ROW = re.compile(r'    %s(?:  [rw] [A-Za-z0-9_.:/-]+ [0-9]+ \(line [1-9][0-9]*\)
 FORCED = re.compile('these orders of versions are forced:')
 ORDER = re.compile('suppose %s:' % VERSIONS)
 KNOWN = re.compile('known as: (.+)')
+SHORT = re.compile('in short: (.+)')
 LEAVES = re.compile('proof: whichever of these versions came first, a cycle closes(?:, %s in all; the first 1000 of them)?:' % NUMBER)
 CROSSED = re.compile('four transactions read these pairs of versions; a serial order has at most three of them:')
 PAIR = re.compile(r'    %s reads %s ([0-9]+) \(line %s\) and %s ([0-9]+) \(line %s\)' % (NODE, KEY, NUMBER, KEY, NUMBER))
@@ -121,13 +122,14 @@ class Pair:
 @dataclass
 class Explanation:
     """The verdict, and what stands behind it. `code` is A1 to A9 or TREE, and None where the log is not refuted; `behind` is the number of the
-    first line of an anomaly behind that. A tree is told by its leaves: each cycle with the orders that are decided above it; `count` says
+    first line of an anomaly behind that. `short` is a cycle in a sentence. A tree is told by its leaves: each cycle with the orders that are decided above it; `count` says
     how many there are where not all are told. `pairs` are four reads that rule out every order, where the text has them before a cycle or a tree."""
     lines: List[str]
     code: Optional[str] = None
     behind: int = 2
     steps: List[Step] = field(default_factory=list)
     cycle: Optional[Cycle] = None
+    short: Optional[str] = None
     known_as: Optional[str] = None
     pairs: List[Pair] = field(default_factory=list)
     leaves: List[Tuple[List[Order], Cycle]] = field(default_factory=list)
@@ -185,6 +187,10 @@ class Reader:
     def known_as(self):
         known = self.next(KNOWN)
         return known and known[1]
+
+    def short(self):
+        short = self.next(SHORT)
+        return short and short[1]
 
     def steps(self):
         found = []
@@ -251,7 +257,7 @@ def read(text):
         return it
     reader.at = it.behind - 1
     if it.code == 'A8':
-        cycle = reader.next(ROUND)  # which audit leaves out
+        cycle, it.short = reader.next(ROUND), reader.short()  # audit leaves the first out
         it.cycle = Cycle(cycle[0] if cycle else 0, reader.edges())
         it.known_as = reader.known_as()
     elif it.code in ('A9', TREE):
@@ -259,7 +265,7 @@ def read(text):
         it.known_as = reader.known_as() if it.pairs else None
         reader.table()
         if it.code == 'A9':
-            it.cycle, it.known_as = reader.cycle(), reader.known_as()
+            it.short, it.cycle, it.known_as = reader.short(), reader.cycle(), reader.known_as()
         else:
             several = reader.next(LEAVES)
             it.count, it.leaves = several and several[1] and int(several[1]), reader.leaves()

@@ -89,7 +89,7 @@ found_text (Some name) f = string_bytes name ++ codes ", " ++ short_title f
 
 -- how many transactions it has, and what was found of it
 abbrev pub heading_of : ToldPart → List ℕ
-heading_of p = field (codes "part of ") (length p.txns.items) ++ noun_of (length p.txns.items)
+heading_of p = field (codes "shown by ") (length p.txns.items) ++ noun_of (length p.txns.items)
     ++ found_text p.known_as p.refuted.finding ++ 10 ∷ []
 
 -- which they are

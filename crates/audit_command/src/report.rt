@@ -152,7 +152,7 @@ fn put_found(out: &mut Vec<u8>, part: &ToldPart) -> Result<(), AllocError>
 fn put_heading(out: &mut Vec<u8>, part: &ToldPart) -> Result<(), AllocError>
     ensures put { OnOk result (out.new.items ≡ out.old.items ++ heading_of part.now) }
 {
-    put_number(out, b"part of ", part.txns.len())?;
+    put_number(out, b"shown by ", part.txns.len())?;
     put(out, noun_of(part.txns.len()))?;
     put_found(out, part)?;
     put(out, b"\n")

@@ -2,7 +2,6 @@
 use Rattle.std.proofs.Common.{◌≡◌, ℕ, suc, ◌<◌, List, [], ◌∷◌, length, get_or, drop, refl, sym, ap, ◌∙◌, subst, drop-cons}
 use Rattle.std.specs.Prelude.{reverse}
 use Rattle.tell_steps.specs.declared.item.Item.{Item}
-use Rattle.tell_steps.specs.declared.item.Item.TheVariants as item
 use Rattle.tell_decision.specs.Runs.{join, joined_items, IsBack}
 
 -- ---- a loop over the items from the last one on

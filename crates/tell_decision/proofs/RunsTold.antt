@@ -1,5 +1,5 @@
 -- Where runs are joined, steps and cubes are told as before.
-use Rattle.std.proofs.Common.{◌≡◌, ◌≢◌, ℕ, zero, suc, ◌+◌, ◌<◌, Bool, true, false, List, [], ◌∷◌, ◌++◌, length, Option, None, Some, refl, sym, ap, ◌∙◌, subst, inl, inr, arith}
+use Rattle.std.proofs.Common.{◌≡◌, ℕ, ◌+◌, Bool, true, false, List, [], ◌∷◌, ◌++◌, length, Option, None, Some, refl, sym, ap, ◌∙◌, subst, inl, inr, arith}
 use Rattle.std.specs.Prelude.{nat_lt, if◌then◌else◌}
 use Rattle.std.specs.List.{Contains}
 use Rattle.std.proofs.lemmas.List.Elements.{Contains-append_left, Contains-append_right, Contains-append_cases, Contains-push, Contains-push_cases}
@@ -17,7 +17,7 @@ use Rattle.tell_steps.specs.declared.item.Item.TheVariants as item
 use Rattle.tell_trees.specs.Trees as trees
 use Rattle.tell_trees.specs.Trees.{IsCubeTold, leaves_items, IsTreeTold}
 use Rattle.tell_trees.specs.Visits.{leaf_count}
-use Rattle.tell_decision.specs.Runs.{session_edge, run_behind, run_ahead, edges_ahead, all_but_first, join_run, join_edge, join, joined_items}
+use Rattle.tell_decision.specs.Runs.{session_edge, run_behind, run_ahead, edges_ahead, join_run, join_edge, join, joined_items}
 use Rattle.tell_decision.proofs.RunLines.{ahead_is, between_joined}
 
 -- ---- lists that no edge begins

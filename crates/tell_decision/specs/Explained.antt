@@ -1,5 +1,5 @@
 -- Why there is no order, written behind what `check` says.
-use Rattle.std.specs.Prelude.{◌≡◌, ℕ, ◌==◌, Bool, true, false, if◌then◌else◌, List, [], ◌∷◌}
+use Rattle.std.specs.Prelude.{◌≡◌, ℕ, ◌+◌, ◌==◌, Bool, true, false, if◌then◌else◌, List, [], ◌∷◌}
 use Rattle.std.specs.Prelude.{◌++◌, codes, take, drop, Option, None, Some}
 use Rattle.std.specs.List.{flat_map, prefix_len}
 use Rattle.session_log.specs.Text.{ClientSession}
@@ -22,6 +22,7 @@ use Rattle.tell_trees.specs.Trees.{IsTreeTold}
 use Rattle.tell_texts.specs.Texts.{items_text}
 use Rattle.tell_texts.specs.Graphs.{graph_text, table_text}
 use Rattle.tell_decision.specs.Names.{name_of, name_behind}
+use Rattle.tell_decision.specs.Short.{short_text}
 use Rattle.call_options.specs.declared.format.Format.{Format}
 use Rattle.call_options.specs.declared.format.Format.TheVariants.{Text, Dot}
 use Rattle.log_lines.specs.declared.placed.PlacedHistory.{PlacedHistory}
@@ -38,8 +39,8 @@ known_as Text (b ∷ bs) = codes "known as: " ++ (b ∷ bs) ++ codes "\n"
 known_as Dot name = []
 
 abbrev pub cycle_text : Format → PlacedHistory → List Item → List ℕ
-cycle_text format log items =
-    told_text format log items ++ known_as format (name_of log.history.now items)
+cycle_text format log items = short_text format log items
+    ++ told_text format log items ++ known_as format (name_of log.history.now items)
 
 -- reads that rule out every order, where such were found
 abbrev pub crossed_text : Format → PlacedHistory → Option Crossing → List ℕ
@@ -69,9 +70,14 @@ steps_last Text log name items =
     ++ forced_text log (take (of_steps items) items)
 steps_last Dot log name items = graph_text log items
 
--- such reads; and a cycle, its name, and the steps before it
+-- the edges of the cycle behind steps
+abbrev pub edges_behind : List Item → List Item
+edges_behind items = drop (of_steps items + 1) items
+
+-- such reads; the cycle in a sentence; and the cycle, its name, and the steps before it
 abbrev pub dead_text : Format → PlacedHistory → Option Crossing → List Item → List ℕ
 dead_text format log found items = crossed_text format log found
+    ++ short_text format log (edges_behind items)
     ++ steps_last format log (name_behind log.history.now items) items
 
 -- before a tree: such reads; where none were found, what the transactions did

@@ -2,3 +2,4 @@ pub mod Explained
 pub mod Names
 pub mod Shown
 pub mod Runs
+pub mod Short

@@ -36,7 +36,7 @@ fn kind_by_order(history: &History, key: usize, node: NodeIx) -> Shape
 }
 
 /// What an edge from this node is.
-fn kind_of(history: &History, first: NodeIx, why: Why) -> Shape
+pub fn kind_of(history: &History, first: NodeIx, why: Why) -> Shape
     ensures { result ≡ spec.kind_of history.now first why }
 {
     match why {

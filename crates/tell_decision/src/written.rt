@@ -6,10 +6,11 @@ ghost use Rattle.reason_laws.specs.Crossed.{AreCrossed};
 ghost use Rattle.tell_texts.specs.Texts.{AreTellable};
 ghost use Rattle.tell_decision.specs.Explained.{told_text, crossed_text, tree_text};
 ghost use Rattle.tell_decision.specs.Explained.{is_of_step, of_steps, forced_text, steps_last, front_text};
-ghost use Rattle.tell_decision.specs.Explained.{known_as, cycle_text, dead_text};
+ghost use Rattle.tell_decision.specs.Explained.{known_as, cycle_text, edges_behind, dead_text};
 ghost use Rattle.tell_decision.specs.Explained.{lines_text, label_byte, box_text};
 
 use crate::names::{name_behind, name_of};
+use crate::short::put_short;
 use call_options::Format;
 use log_lines::PlacedHistory;
 use reason_laws::Crossing;
@@ -68,7 +69,7 @@ fn put_known_as(out: &mut Vec<u8>, format: Format, name: &str) -> Result<(), All
     }
 }
 
-/// The edges of a cycle as lines of text and its name, or as a graph.
+/// The edges of a cycle, in a sentence and as lines of text, and its name; or as a graph.
 pub fn written_cycle(
     alloc: Global,
     log: &PlacedHistory<'_>,
@@ -79,6 +80,7 @@ pub fn written_cycle(
     ensures text { IfOk result (λ text. text.items ≡ cycle_text format log.now items.now) }
 {
     let mut out = Vec::new(alloc);
+    put_short(&mut out, log, format, items)?;
     put_told(alloc, &mut out, log, format, items)?;
     put_known_as(&mut out, format, name_of(log.history, items))?;
     Ok(out)
@@ -97,6 +99,18 @@ fn is_of_step(item: Item) -> bool
     ensures is { result ≡ is_of_step item }
 {
     matches!(item, Item::Step { .. } | Item::Edge { .. })
+}
+
+/// The edges of the cycle behind steps.
+fn edges_behind(items: &[Item]) -> &[Item]
+    ensures edges { result.now ≡ edges_behind items.now }
+{
+    let count = of_steps(items);
+    if count < items.len() {
+        &items[count + 1..]
+    } else {
+        &[]
+    }
 }
 
 /// Appends steps, where there are any.
@@ -178,8 +192,8 @@ pub fn written_tree(
     Ok(out)
 }
 
-/// Reads that rule out every order, where such were found; a cycle, its name, and the steps that it
-/// rests on; as lines of text, or the steps and the cycle as a graph.
+/// Reads that rule out every order, where such were found; a cycle, in a sentence and in lines, its
+/// name, and the steps that it rests on; as lines of text, or the steps and the cycle as a graph.
 pub fn written_dead(
     alloc: Global,
     log: &PlacedHistory<'_>,
@@ -193,6 +207,7 @@ pub fn written_dead(
 {
     let mut out = Vec::new(alloc);
     put_crossed(&mut out, log, format, found)?;
+    put_short(&mut out, log, format, edges_behind(items))?;
     let name = name_behind(log.history, items);
     put_steps_last(alloc, &mut out, log, format, name, items)?;
     Ok(out)

@@ -6,10 +6,10 @@ use Rattle.log_definitions.specs.Numbers.{log_of}
 use Rattle.order_text.specs.Text.{name_text}
 use Rattle.log_lines.specs.declared.placed.PlacedHistory.{PlacedHistory}
 use Rattle.tell_reasons.specs.Reasons.{named, in_line, op_at, op_in_line, key_and_wid, wid_text}
-use Rattle.tell_reasons.specs.Reasons.{key_bytes, listed_text, does_text, base_text}
+use Rattle.tell_reasons.specs.Reasons.{key_bytes, key_text, listed_text, does_text, base_text}
 use Rattle.tell_reasons.specs.declared.words.Word.{Word}
 use Rattle.tell_reasons.specs.declared.words.Word.TheVariants.{Text, Number, Line, Name, Node, Key}
-use Rattle.tell_reasons.specs.declared.words.Word.TheVariants.{Operation, Listed, Identity, AtLine}
+use Rattle.tell_reasons.specs.declared.words.Word.TheVariants.{KeyOf, Operation, Listed, Identity, AtLine}
 use Rattle.tell_reasons.specs.declared.words.Word.TheVariants.{Does, Base}
 
 abbrev pub word_text : PlacedHistory → Word → List ℕ
@@ -19,6 +19,7 @@ word_text log (Line k) = in_line k
 word_text log (Name session place) = name_text (session, place)
 word_text log (Node v) = named log v
 word_text log (Key x) = key_bytes log.history.now x
+word_text log (KeyOf v i) = key_text (op_at log.history.now v i)
 word_text log (Operation v i) = key_and_wid (op_at log.history.now v i)
 word_text log (Listed v i) = listed_text (op_at log.history.now v i)
 word_text log (Identity v i) = wid_text (op_at log.history.now v i)
@@ -36,6 +37,7 @@ words_text log (word ∷ next ∷ more) = word_text log word ++ words_text log (
 abbrev pub CanSay : PlacedHistory → Word → Type 0
 CanSay log (Node v) = v ≤ (log_of log.history.now).nodes
 CanSay log (Key x) = x < (log_of log.history.now).keys
+CanSay log (KeyOf v i) = i < length (ops_of log.history.now v)
 CanSay log (Operation v i) = i < length (ops_of log.history.now v)
 CanSay log (Listed v i) = i < length (ops_of log.history.now v)
 CanSay log (Identity v i) = i < length (ops_of log.history.now v)

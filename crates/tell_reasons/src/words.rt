@@ -4,7 +4,7 @@ ghost use Rattle.std.specs.Prelude.{◌≡◌, ◌++◌, OnOk};
 ghost use Rattle.tell_reasons.specs.Words.{word_text, words_text, CanSay, CanSayAll};
 
 use crate::phrases::{
-    put_base, put_does, put_in_line, put_key_and_wid, put_listed, put_named, put_number,
+    key_at, put_base, put_does, put_in_line, put_key_and_wid, put_listed, put_named, put_number,
     put_op_in_line, put_place, put_text, wid_at,
 };
 use log_lines::PlacedHistory;
@@ -24,6 +24,8 @@ pub enum Word<'a> {
     Node(NodeIx),
     /// A key, by its number.
     Key(usize),
+    /// The key of a node's operation.
+    KeyOf(NodeIx, usize),
     /// The key and the identity of a node's operation, with a space between.
     Operation(NodeIx, usize),
     /// A node's operation as its line has it, as `r x 7`.
@@ -58,6 +60,7 @@ fn put_word(out: &mut Vec<u8>, log: &PlacedHistory<'_>, word: &Word<'_>) -> Resu
         Word::Name(session, place) => put_place(out, *session, *place),
         Word::Node(node) => put_named(out, b"", log, *node),
         Word::Key(key) => put_text(out, log.history.key_text(*key).as_bytes()),
+        Word::KeyOf(node, op) => put_text(out, key_at(log.history, *node, *op)),
         Word::Operation(node, op) => put_key_and_wid(out, log.history, *node, *op),
         Word::Listed(node, op) => put_listed(out, log.history, *node, *op),
         Word::Identity(node, op) => put_number(out, wid_at(log.history, *node, *op)),

@@ -10,6 +10,7 @@ mod graph;
 mod lines;
 mod names;
 mod nodes;
+mod short;
 mod steps;
 mod told;
 mod ways;

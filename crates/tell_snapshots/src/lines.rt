@@ -6,7 +6,7 @@ use session_log::Key;
 use std::alloc::{AllocError, Global};
 
 /// A key as text.
-fn key_text(key: &Key) -> &str {
+pub fn key_text(key: &Key) -> &str {
     std::str::from_utf8(key.as_bytes()).unwrap_or("")
 }
 

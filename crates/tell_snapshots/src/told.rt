@@ -7,6 +7,7 @@ use crate::lines::{
 };
 use crate::names::{either, name_of, shape_of};
 use crate::nodes::{Access, Part};
+use crate::short::{Known, told_number};
 use crate::steps::{Against, Ending, Refuted, Step, StepWhy, refute};
 use crate::ways::Way;
 use log_lines::LogPlaces;
@@ -70,11 +71,18 @@ impl<'a, 'b> Telling<'a, 'b> {
 
     /// The number under which a step is told.
     fn number(&self, step: usize) -> usize {
-        self.is_needed
-            .iter()
-            .take(step.saturating_add(1))
-            .filter(|is_needed| **is_needed)
-            .count()
+        told_number(&self.is_needed, step)
+    }
+
+    /// What sentences are made from.
+    fn known(&self) -> Known<'a, '_> {
+        Known {
+            alloc: self.alloc,
+            part: self.part,
+            graph: self.graph,
+            steps: self.steps,
+            is_needed: &self.is_needed,
+        }
     }
 
     /// Tells a way, a line for each of its edges but those from a snapshot to its own commit.
@@ -158,6 +166,10 @@ impl<'a, 'b> Telling<'a, 'b> {
         not_first: &Against<'a>,
         not_second: &Against<'a>,
     ) -> Result<(), AllocError> {
+        let (one, other) = ((writes.0.node, not_first), (writes.1.node, not_second));
+        if let Some(line) = self.known().neither(one, other)? {
+            self.lines.push(line)?;
+        }
         let lost = self.lost(not_first, not_second);
         let told = self.told_writes(writes, lost).unwrap_or(writes);
         self.lines.push(neither_line(self.alloc, self.part, told)?)?;
@@ -248,6 +260,14 @@ impl<'a, 'b> Telling<'a, 'b> {
         ))
     }
 
+    /// Tells a circle, in a sentence and in lines.
+    fn put_circle(&mut self, way: &Way) -> Result<(), AllocError> {
+        if let Some(line) = self.known().circle(way)? {
+            self.lines.push(line)?;
+        }
+        self.put_way(way, "")
+    }
+
     /// Finds which steps are needed, and tells what closes.
     fn put_ending(&mut self, ending: &Ending<'a>) -> Result<(), AllocError> {
         match ending {
@@ -263,7 +283,7 @@ impl<'a, 'b> Telling<'a, 'b> {
         }
         self.need_below();
         match ending {
-            Ending::Circle(way) => self.put_way(way, ""),
+            Ending::Circle(way) => self.put_circle(way),
             Ending::Neither {
                 writes,
                 not_first,

@@ -1,0 +1,117 @@
+-- A cycle in a sentence: what each of its transactions saw of another one, and what not: `in short:
+-- 2.1 saw 1.1's x, but did not see 1.1's y`.
+use Rattle.std.specs.Prelude.{ℕ, ◌+◌, ◌-◌, ◌||◌, ◌&&◌, Bool, true, not, nat_lt, if◌then◌else◌, List, [], ◌∷◌}
+use Rattle.std.specs.Prelude.{◌++◌, codes, decimal, length, take, slice_get, nat_eq, Option, None, Some}
+use Rattle.session_log.specs.Text.{ClientSession}
+use Rattle.reasons.specs.declared.reason.Reason.{Reason}
+use Rattle.reasons.specs.declared.reason.Reason.TheVariants as reason
+use Rattle.tell_reasons.specs.Reasons.{named, key_text, op_at}
+use Rattle.tell_reasons.specs.Versions.{left_at}
+use Rattle.tell_reasons.specs.declared.why.Why.{Why}
+use Rattle.tell_reasons.specs.declared.why.Why.TheVariants as why
+use Rattle.tell_steps.specs.declared.item.Item.{Item}
+use Rattle.tell_steps.specs.declared.item.Item.TheVariants.{Edge}
+use Rattle.tell_decision.specs.Names.{kind_of}
+use Rattle.tell_decision.specs.declared.short.TheConstants.{MOST_EDGES}
+use Rattle.tell_decision.specs.declared.short.Before.{Before}
+use Rattle.tell_decision.specs.declared.short.Before.TheVariants.{Nothing, Same, Other}
+use Rattle.call_options.specs.declared.format.Format.{Format}
+use Rattle.call_options.specs.declared.format.Format.TheVariants.{Text, Dot}
+use Rattle.log_lines.specs.declared.placed.PlacedHistory.{PlacedHistory}
+
+-- whether the first transaction of an edge did not see a write of the second one
+abbrev pub is_missed : List ClientSession → ℕ → Why → Bool
+is_missed ss a w = nat_lt 0 (kind_of ss a w).missed
+
+-- with which of an edge's transactions its words begin
+abbrev pub whose : Bool → ℕ → ℕ → ℕ
+whose missed a b = if missed then a else b
+
+-- what leads to the words of an edge: they go on the words before, where both are of one
+-- transaction
+abbrev pub lead_text : PlacedHistory → Before → Bool → ℕ → List ℕ
+lead_text log Nothing missed v = codes "in short: " ++ named log v
+lead_text log Other missed v = codes "; " ++ named log v
+lead_text log Same missed v = if missed then codes ", but" else codes "; " ++ named log v
+
+-- a write that is not seen, by its key; and what a transaction wrote of a key
+abbrev pub unseen_text : PlacedHistory → ℕ → ℕ → List ℕ
+unseen_text log v i = codes " did not see "
+    ++ (named log v ++ (codes "'s " ++ key_text (op_at log.history.now v i)))
+
+abbrev pub unseen_at : PlacedHistory → ℕ → Option ℕ → List ℕ
+unseen_at log v None = codes " did not see " ++ named log v
+unseen_at log v (Some i) = unseen_text log v i
+
+abbrev pub unseen_of : PlacedHistory → ℕ → ℕ → List ℕ
+unseen_of log x v = unseen_at log v (left_at log.history.now x v)
+
+abbrev pub known_text : PlacedHistory → ℕ → ℕ → Reason → List ℕ
+known_text log a b reason.Session = codes " came after " ++ (named log a ++ codes " in its session")
+known_text log a b reason.Moments = codes " began after " ++ (named log a ++ codes " ended")
+known_text log a b (reason.Read written read) = codes " saw "
+    ++ (named log a ++ (codes "'s " ++ key_text (op_at log.history.now a written)))
+known_text log a b (reason.Overwritten read overwrites) = unseen_text log b overwrites
+known_text log a b (reason.Initial read begins) = unseen_text log b begins
+
+-- by an order of two versions of a key: from who wrote it, or from who reads it
+abbrev pub ordered_at : PlacedHistory → ℕ → ℕ → ℕ → Option ℕ → List ℕ
+ordered_at log x a b None = unseen_of log x b
+ordered_at log x a b (Some i) = codes " wrote "
+    ++ (key_text (op_at log.history.now a i) ++ (codes " after " ++ named log a))
+
+abbrev pub ordered_text : PlacedHistory → ℕ → ℕ → ℕ → List ℕ
+ordered_text log x a b = ordered_at log x a b (left_at log.history.now x a)
+
+-- by which step: steps count from 1 in a text
+abbrev pub by_text : ℕ → List ℕ
+by_text step = codes " (by [" ++ (decimal (step + 1) ++ codes "])")
+
+-- what an edge says, but for the transaction with which that begins
+abbrev pub said_text : PlacedHistory → ℕ → ℕ → Why → List ℕ
+said_text log a b (why.Known r) = known_text log a b r
+said_text log a b (why.Forced step o) = ordered_text log o.key a b ++ by_text step
+said_text log a b (why.Chosen o) = ordered_text log o.key a b
+
+abbrev pub words_of : PlacedHistory → Before → Item → List ℕ
+words_of log before (Edge a b w) =
+    lead_text log before (is_missed log.history.now a w) (whose (is_missed log.history.now a w) a b)
+    ++ said_text log a b w
+words_of log before _ = []
+
+-- no edge, or one whose words say what a transaction did not see
+abbrev pub misses : List ClientSession → Item → Bool
+misses ss (Edge a b w) = is_missed ss a w
+misses ss _ = true
+
+-- what the words of an item are for those behind them
+abbrev pub behind : List ClientSession → Item → Before
+behind ss i = if misses ss i then Other else Same
+
+abbrev pub all_words : PlacedHistory → Before → List Item → List ℕ
+all_words log before [] = []
+all_words log before (i ∷ items) =
+    words_of log before i ++ all_words log (behind log.history.now i) items
+
+-- the last of these edges, where the words of the first one go on its own
+abbrev pub led_at : List ClientSession → Option Item → Option Item → Option Item
+led_at ss (Some i) (Some j) = if misses ss i && not (misses ss j) then Some j else None
+led_at ss _ _ = None
+
+abbrev pub led_by : List ClientSession → List Item → Option Item
+led_by ss items = led_at ss (slice_get items 0) (slice_get items (length items - 1))
+
+-- from that one, or from the first
+abbrev pub round_at : PlacedHistory → List Item → Option Item → List ℕ
+round_at log items None = all_words log Nothing items
+round_at log items (Some last) =
+    words_of log Nothing last ++ all_words log Same (take (length items - 1) items)
+
+abbrev pub round_text : PlacedHistory → List Item → List ℕ
+round_text log items = round_at log items (led_by log.history.now items)
+
+-- the edges of a cycle, where they are few
+abbrev pub short_text : Format → PlacedHistory → List Item → List ℕ
+short_text Text log items = if nat_eq (length items) 0 || nat_lt MOST_EDGES (length items) then []
+    else round_text log items ++ codes "\n"
+short_text Dot log items = []

@@ -1,0 +1,312 @@
+//! A cycle in a sentence: what each of its transactions saw of another one, and what not.
+
+ghost use Rattle.std.specs.Prelude.{◌≡◌, ◌+◌, ◌<◌, ◌≤◌, ◌^◌, ◌++◌, length, IfSome, OnOk};
+ghost use Rattle.log_definitions.specs.Serial.{ops_of};
+ghost use Rattle.log_definitions.specs.Numbers.{log_of};
+ghost use Rattle.reason_laws.specs.Reasons.{IsNode};
+ghost use Rattle.reasons.specs.Given.{IsReason};
+ghost use Rattle.tell_reasons.specs.Reasons.{CanTell};
+ghost use Rattle.tell_texts.specs.Texts.{IsTellable, AreTellable};
+ghost use Rattle.tell_decision.specs.Short as spec;
+
+use crate::names::kind_of;
+use call_options::Format;
+use log_lines::PlacedHistory;
+use reasons::Reason;
+use serializability::NodeIx;
+use session_history::History;
+use std::alloc::AllocError;
+use tell_reasons::{Why, left_at, say};
+use tell_steps::Item;
+
+/// A cycle of more edges is not told in a sentence.
+pub const MOST_EDGES: usize = 6;
+
+/// What stands before the words of an edge.
+#[derive(Clone, Copy)]
+pub enum Before {
+    Nothing,
+    /// Words that begin with the transaction from which the edge leads.
+    Same,
+    /// Other words.
+    Other,
+}
+
+/// Whether an edge says that its first transaction did not see a write of its second one.
+fn is_missed(history: &History, first: NodeIx, why: &Why) -> bool
+    ensures { result ≡ spec.is_missed history.now first why.now }
+{
+    kind_of(history, first, *why).missed > 0
+}
+
+/// The transaction with which the words of an edge begin.
+#[tactic(auto, using(reason_laws::proofs::Numbers::within))]
+fn whose(_history: &History, is_missed: bool, first: NodeIx, second: NodeIx) -> NodeIx
+    requires first { IsNode _history.now first }
+    requires second { IsNode _history.now second }
+    ensures whose { result ≡ spec.whose is_missed first second }
+    ensures within { result ≤ (log_of _history.now).nodes }
+{
+    if is_missed { first } else { second }
+}
+
+/// Appends what leads from other words to those of an edge, up to the transaction with which they
+/// begin.
+fn put_lead(
+    out: &mut Vec<u8>,
+    log: &PlacedHistory<'_>,
+    before: Before,
+    is_missed: bool,
+    whose: NodeIx,
+) -> Result<(), AllocError>
+    requires within { whose ≤ (log_of log.now.history.now).nodes }
+    ensures text { OnOk result (out.new.items
+        ≡ out.old.items ++ spec.lead_text log.now before is_missed whose) }
+{
+    match before {
+        Before::Nothing => say!(out, log; Text(b"in short: "), Node(whose)),
+        Before::Other => say!(out, log; Text(b"; "), Node(whose)),
+        Before::Same => {
+            if is_missed {
+                say!(out, log; Text(b", but"))
+            } else {
+                say!(out, log; Text(b"; "), Node(whose))
+            }
+        }
+    }
+}
+
+/// Appends that a write is not seen, by its key.
+#[tactic(auto, using(reason_laws::proofs::Numbers::within))]
+fn put_unseen(
+    out: &mut Vec<u8>,
+    log: &PlacedHistory<'_>,
+    writer: NodeIx,
+    op: usize,
+) -> Result<(), AllocError>
+    requires writer { IsNode log.now.history.now writer }
+    requires op { op < length (ops_of log.now.history.now writer) }
+    ensures text { OnOk result (out.new.items
+        ≡ out.old.items ++ spec.unseen_text log.now writer op) }
+{
+    say!(out, log; Text(b" did not see "), Node(writer), Text(b"'s "), KeyOf(writer, op))
+}
+
+/// Appends that what a transaction wrote of a key is not seen.
+#[tactic(auto, using(reason_laws::proofs::Numbers::within))]
+fn put_unseen_of(
+    out: &mut Vec<u8>,
+    log: &PlacedHistory<'_>,
+    key: usize,
+    writer: NodeIx,
+) -> Result<(), AllocError>
+    requires writer { IsNode log.now.history.now writer }
+    ensures text { OnOk result (out.new.items
+        ≡ out.old.items ++ spec.unseen_of log.now key writer) }
+{
+    match left_at(log.history, key, writer) {
+        Some(op) => put_unseen(out, log, writer, op),
+        None => say!(out, log; Text(b" did not see "), Node(writer)),
+    }
+}
+
+/// Appends what an edge says that the log shows, but for the transaction with which that begins.
+#[tactic(auto, using(reason_laws::proofs::Numbers::within, tell_reasons::proofs::Ops::op_below))]
+fn put_known(
+    out: &mut Vec<u8>,
+    log: &PlacedHistory<'_>,
+    first: NodeIx,
+    second: NodeIx,
+    reason: Reason,
+) -> Result<(), AllocError>
+    requires first { IsNode log.now.history.now first }
+    requires second { IsNode log.now.history.now second }
+    requires reason { IsReason log.now.history.now first second reason }
+    ensures text { OnOk result (out.new.items
+        ≡ out.old.items ++ spec.known_text log.now first second reason) }
+{
+    match reason {
+        Reason::Session => {
+            say!(out, log; Text(b" came after "), Node(first), Text(b" in its session"))
+        }
+        Reason::Moments => { say!(out, log; Text(b" began after "), Node(first), Text(b" ended")) }
+        Reason::Read { written, .. } => {
+            say!(out, log; Text(b" saw "), Node(first), Text(b"'s "), KeyOf(first, written))
+        }
+        Reason::Overwritten { overwrites, .. } => put_unseen(out, log, second, overwrites),
+        Reason::Initial { begins, .. } => put_unseen(out, log, second, begins),
+    }
+}
+
+/// Appends what an edge by an order of two versions of a key says, but for the transaction with
+/// which that begins.
+#[tactic(auto, using(reason_laws::proofs::Numbers::within))]
+fn put_ordered(
+    out: &mut Vec<u8>,
+    log: &PlacedHistory<'_>,
+    key: usize,
+    first: NodeIx,
+    second: NodeIx,
+) -> Result<(), AllocError>
+    requires first { IsNode log.now.history.now first }
+    requires second { IsNode log.now.history.now second }
+    ensures text { OnOk result (out.new.items
+        ≡ out.old.items ++ spec.ordered_text log.now key first second) }
+{
+    match left_at(log.history, key, first) {
+        Some(op) => {
+            say!(out, log; Text(b" wrote "), KeyOf(first, op), Text(b" after "), Node(first))
+        }
+        None => put_unseen_of(out, log, key, second),
+    }
+}
+
+/// Appends by which step an edge stands; steps count from 1 in a text.
+fn put_by(out: &mut Vec<u8>, log: &PlacedHistory<'_>, step: usize) -> Result<(), AllocError>
+    requires step { step + 1 < 2 ^ 64 }
+    ensures text { OnOk result (out.new.items ≡ out.old.items ++ spec.by_text step) }
+{
+    say!(out, log; Text(b" (by ["), Number(step as u64 + 1), Text(b"])"))
+}
+
+/// Appends what an edge says, but for the transaction with which that begins.
+fn put_said(
+    out: &mut Vec<u8>,
+    log: &PlacedHistory<'_>,
+    first: NodeIx,
+    second: NodeIx,
+    why: &Why,
+) -> Result<(), AllocError>
+    requires first { IsNode log.now.history.now first }
+    requires second { IsNode log.now.history.now second }
+    requires why { CanTell log.now.history.now first second why.now }
+    ensures text { OnOk result (out.new.items
+        ≡ out.old.items ++ spec.said_text log.now first second why.now) }
+{
+    match why {
+        Why::Known(reason) => put_known(out, log, first, second, *reason),
+        Why::Forced { step, order } => {
+            put_ordered(out, log, order.key, first, second)?;
+            put_by(out, log, *step)
+        }
+        Why::Chosen(order) => put_ordered(out, log, order.key, first, second),
+    }
+}
+
+/// Appends the words of an item, where it is an edge.
+fn put_words(
+    out: &mut Vec<u8>,
+    log: &PlacedHistory<'_>,
+    before: Before,
+    item: &Item,
+) -> Result<(), AllocError>
+    requires item { IsTellable log.now.history.now item.now }
+    ensures text { OnOk result (out.new.items
+        ≡ out.old.items ++ spec.words_of log.now before item.now) }
+{
+    match item {
+        Item::Edge { first, second, why } => {
+            let missed = is_missed(log.history, *first, why);
+            let begins = whose(log.history, missed, *first, *second);
+            put_lead(out, log, before, missed, begins)?;
+            put_said(out, log, *first, *second, why)
+        }
+        _ => Ok(()),
+    }
+}
+
+/// Whether an item is no edge, or one whose words say what a transaction did not see.
+fn misses(history: &History, item: &Item) -> bool
+    ensures { result ≡ spec.misses history.now item.now }
+{
+    match item {
+        Item::Edge { first, why, .. } => is_missed(history, *first, why),
+        _ => true,
+    }
+}
+
+/// What the words of an item are for those behind them.
+fn behind(history: &History, item: &Item) -> Before
+    ensures { result ≡ spec.behind history.now item.now }
+{
+    if misses(history, item) {
+        Before::Other
+    } else {
+        Before::Same
+    }
+}
+
+/// Appends the words of edges.
+fn put_all(
+    out: &mut Vec<u8>,
+    log: &PlacedHistory<'_>,
+    start: Before,
+    items: &[Item],
+) -> Result<(), AllocError>
+    requires items { AreTellable log.now.history.now items.now }
+    ensures text { OnOk result (out.new.items
+        ≡ out.old.items ++ spec.all_words log.now start items.now) }
+{
+    let mut before = start;
+    for item in items {
+        put_words(out, log, before, item)?;
+        before = behind(log.history, item);
+    }
+    Ok(())
+}
+
+/// The last of these edges, where the words of the first one go on its own.
+fn led_by(history: &History, edges: &[Item]) -> Option<Item>
+    requires some { 0 < length edges.now }
+    requires edges { AreTellable history.now edges.now }
+    ensures led { result ≡ spec.led_by history.now edges.now }
+    ensures tellable { IfSome result (IsTellable history.now) }
+{
+    let last = &edges[edges.len() - 1];
+    if misses(history, &edges[0]) && !misses(history, last) {
+        Some(*last)
+    } else {
+        None
+    }
+}
+
+/// Appends the words of edges that close: from the last one, where those of the first one go on its
+/// own.
+fn put_round(out: &mut Vec<u8>, log: &PlacedHistory<'_>, edges: &[Item]) -> Result<(), AllocError>
+    requires some { 0 < length edges.now }
+    requires edges { AreTellable log.now.history.now edges.now }
+    ensures text { OnOk result (out.new.items
+        ≡ out.old.items ++ spec.round_text log.now edges.now) }
+{
+    match led_by(log.history, edges) {
+        Some(last) => {
+            let (before, _) = edges.split_at(edges.len() - 1);
+            put_words(out, log, Before::Nothing, &last)?;
+            put_all(out, log, Before::Same, before)
+        }
+        None => put_all(out, log, Before::Nothing, edges),
+    }
+}
+
+/// Appends the edges of a cycle as a sentence, where they are few, as a line of a text.
+pub fn put_short(
+    out: &mut Vec<u8>,
+    log: &PlacedHistory<'_>,
+    format: Format,
+    edges: &[Item],
+) -> Result<(), AllocError>
+    requires edges { AreTellable log.now.history.now edges.now }
+    ensures text { OnOk result (out.new.items
+        ≡ out.old.items ++ spec.short_text format log.now edges.now) }
+{
+    match format {
+        Format::Text => {
+            if edges.is_empty() || edges.len() > MOST_EDGES {
+                return Ok(());
+            }
+            put_round(out, log, edges)?;
+            say!(out, log; Text(b"\n"))
+        }
+        Format::Dot => Ok(()),
+    }
+}
