@@ -35,11 +35,11 @@ SINCE = re.compile(r'    if [1-9][0-9]* came first, %s, which reads [0-9]+ \(lin
                    'would come before %s, which would overwrite it, but %s comes before %s:' % (NODE, BEHIND, NODE, NODE, NODE))
 FORCED, TABLE = 'these orders of versions are forced:', 'the reads and writes that matter:'
 # A cycle of so many edges is told in a sentence too.
-SHORT, FEW = 'in short: ', 6
+SHORT, FEW, CONCLUSION = 'in short: ', 6, '; so none of them can come first'
 CYCLE = re.compile('cycle from %s:' % NODE)
 ORDER = re.compile('suppose %s:' % VERSIONS)
 LEAVES = re.compile('proof: whichever of these versions came first, a cycle closes(?:, %s in all; the first 1000 of them)?:' % NUMBER)
-CROSSED = 'four transactions read these pairs of versions; a serial order has at most three of them:'
+CROSSED = 'four transactions read these pairs of versions; in a serial order each key changes once from one version to the other, so it has at most three of them:'
 PAIR = re.compile(r'    %s reads %s %s \(line %s\) and %s %s \(line %s\)' % (NODE, KEY, NUMBER, NUMBER, KEY, NUMBER, NUMBER))
 LONG_FORK = 'known as: long fork (G-nonadjacent-item)'
 # Crossed reads are sought where that takes no more looks.
@@ -245,7 +245,7 @@ class Log:
         said = SHORT + '%s %s' % words[0][::2]
         for (_, missed, _), (whose, misses, more) in zip(words, words[1:]):
             said += ', but ' + more if misses and not missed else '; %s %s' % (whose, more)
-        return [said]
+        return [said + CONCLUSION * (len(words) > 2)]
 
     # ---- an edge
 
@@ -709,8 +709,13 @@ def named_of(log, lines):
 
 def graph_of(text, checked, explained):
     """The graph of what these lines say, and nothing where a log was refused."""
-    first, log = checked.split('\n')[0], Log(text) if checked else None
-    lines = without_table(steps_first(without_short(log, checked, explained)))
+    log = Log(text) if checked else None
+    return drawn_of(log, checked, without_table(steps_first(without_short(log, checked, explained))))
+
+
+def drawn_of(log, checked, lines):
+    """The same of the lines behind those of `check`, in which there is no sentence and no table, and steps stand first."""
+    first = checked.split('\n')[0]
     if READ.fullmatch(first) or UPDATE.fullmatch(first):
         drawn = ['"anomaly" [label="%s"];' % ''.join(line + '\\n' for line in lines)]
     else:

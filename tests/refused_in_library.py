@@ -153,8 +153,8 @@ def explanation(log, drawn):
     checked = reference.History(reference.read_log(log)).known_verdict() or explained.EVERY_CUBE + '\n'
     if not drawn:
         return Explanation(log, checked)
-    lines = ''.join(line + '\n' for line in explained.Log(log).said_behind(checked))
-    return Text('NotSerializable', explained.graph_of(log, checked, checked + lines))
+    read = explained.Log(log)
+    return Text('NotSerializable', explained.drawn_of(read, checked, read.said_behind(checked)))
 
 
 def calls(folder):

@@ -29,7 +29,7 @@ ORDER = re.compile('suppose %s:' % VERSIONS)
 KNOWN = re.compile('known as: (.+)')
 SHORT = re.compile('in short: (.+)')
 LEAVES = re.compile('proof: whichever of these versions came first, a cycle closes(?:, %s in all; the first 1000 of them)?:' % NUMBER)
-CROSSED = re.compile('four transactions read these pairs of versions; a serial order has at most three of them:')
+CROSSED = re.compile('four transactions read these pairs of versions; in a serial order each key changes once from one version to the other, so it has at most three of them:')
 PAIR = re.compile(r'    %s reads %s ([0-9]+) \(line %s\) and %s ([0-9]+) \(line %s\)' % (NODE, KEY, NUMBER, KEY, NUMBER))
 # What is said of an edge by an order of versions: what its first transaction has of the key, and what the second one wrote.
 KEPT = r'%s (?:reads|wrote) %s ([0-9]+) \(line %s\)(?:%s|%s|%s)?, which %%s before %s' % (NODE, KEY, NUMBER, BEHIND, OVER, OF, VERSION)

@@ -110,8 +110,12 @@ round_at log items (Some last) =
 abbrev pub round_text : PlacedHistory → List Item → List ℕ
 round_text log items = round_at log items (led_by log.history.now items)
 
+-- what follows from so many edges, where two do not show it at a glance
+abbrev pub end_text : ℕ → List ℕ
+end_text n = if nat_lt 2 n then codes "; so none of them can come first\n" else codes "\n"
+
 -- the edges of a cycle, where they are few
 abbrev pub short_text : Format → PlacedHistory → List Item → List ℕ
 short_text Text log items = if nat_eq (length items) 0 || nat_lt MOST_EDGES (length items) then []
-    else round_text log items ++ codes "\n"
+    else round_text log items ++ end_text (length items)
 short_text Dot log items = []

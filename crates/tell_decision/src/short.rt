@@ -288,6 +288,17 @@ fn put_round(out: &mut Vec<u8>, log: &PlacedHistory<'_>, edges: &[Item]) -> Resu
     }
 }
 
+/// Appends what follows from so many edges, where two do not show it at a glance, and ends the line.
+fn put_end(out: &mut Vec<u8>, log: &PlacedHistory<'_>, edges: usize) -> Result<(), AllocError>
+    ensures text { OnOk result (out.new.items ≡ out.old.items ++ spec.end_text edges) }
+{
+    if edges > 2 {
+        say!(out, log; Text(b"; so none of them can come first\n"))
+    } else {
+        say!(out, log; Text(b"\n"))
+    }
+}
+
 /// Appends the edges of a cycle as a sentence, where they are few, as a line of a text.
 pub fn put_short(
     out: &mut Vec<u8>,
@@ -305,7 +316,7 @@ pub fn put_short(
                 return Ok(());
             }
             put_round(out, log, edges)?;
-            say!(out, log; Text(b"\n"))
+            put_end(out, log, edges.len())
         }
         Format::Dot => Ok(()),
     }

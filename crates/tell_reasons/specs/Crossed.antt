@@ -17,7 +17,7 @@ pair_text log p =
 -- the four, and what that is called (Elle)
 abbrev pub crossing_text : PlacedHistory → Crossing → List ℕ
 crossing_text log c =
-    codes "four transactions read these pairs of versions; a serial order has at most three of them:\n"
+    codes "four transactions read these pairs of versions; in a serial order each key changes once from one version to the other, so it has at most three of them:\n"
     ++ pair_text log c.one_one ++ pair_text log c.one_two
     ++ pair_text log c.two_one ++ pair_text log c.two_two
     ++ codes "known as: long fork (G-nonadjacent-item)\n"

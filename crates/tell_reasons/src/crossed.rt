@@ -37,7 +37,7 @@ pub fn put_crossing(
 {
     put_text(
         out,
-        b"four transactions read these pairs of versions; a serial order has at most three of them:\n",
+        b"four transactions read these pairs of versions; in a serial order each key changes once from one version to the other, so it has at most three of them:\n",
     )?;
     put_pair(out, log, crossing.one_one)?;
     put_pair(out, log, crossing.one_two)?;

@@ -10,6 +10,9 @@ use std::alloc::{AllocError, Global};
 /// A circle of more edges is not told in a sentence.
 const MOST_EDGES: usize = 6;
 
+/// What follows from a circle, where two edges do not show it at a glance.
+const CONCLUSION: &str = "; so none of them can come first";
+
 /// What an edge says.
 #[derive(Drop)]
 struct Words {
@@ -105,7 +108,12 @@ impl<'a, 'b> Known<'a, 'b> {
 
     /// A circle in a sentence, where its edges are few.
     pub fn circle(&self, way: &Way) -> Result<Option<String>, AllocError> {
-        sentence(self.alloc, "in short: ", &self.all_words(way)?, true)
+        let all = self.all_words(way)?;
+        let Some(said) = sentence(self.alloc, "in short: ", &all, true)? else {
+            return Ok(None);
+        };
+        let end = if all.len() > 2 { CONCLUSION } else { "" };
+        Ok(Some(format!(in self.alloc; "{said}{end}")?))
     }
 
     /// What would be so if a node committed before another one, behind what leads to that.
