@@ -107,6 +107,8 @@ class Made:
             checked = certificates.check_code(self.program, said, part)
             if explain:
                 self.met.update(certificates.check_explained(said, numbers, law, checked, part.why))
+        if explain:
+            self.met.update(certificates.check_sessions(law, part))
 
     def must_be_without(self, sessions, answer):
         """What holds without moments is told where it is another question."""

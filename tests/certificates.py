@@ -17,7 +17,9 @@ WEAKER = {'strict snapshot isolation': 'strict_snapshot', 'snapshot isolation': 
 STATUS = {'serializable': 0, 'not serializable': 1, 'unknown': 3, 'refused': 2}
 HEADING = re.compile(r'shown by (\d+) transactions?: (.+)')
 TRANSACTION = re.compile(r'(\d+)\.(\d+) \(lines (\d+) to (\d+)\)')
-OBJECT = ['verdict', 'code', 'known_as', 'part', 'explanation', 'without_moments', 'strict_snapshot', 'snapshot', 'snapshot_fault', 'faults', 'reason', *COUNTS[:-1], 'version']
+# What is told with --explain alone.
+EXPLAINED = 'explanation', 'only_sessions'
+OBJECT = ['verdict', 'code', 'known_as', 'part', *EXPLAINED, 'without_moments', 'strict_snapshot', 'snapshot', 'snapshot_fault', 'faults', 'reason', *COUNTS[:-1], 'version']
 # Of parts of so many nodes all orders are tried.
 TRIED = 9
 LATE = 600
@@ -85,12 +87,15 @@ def counted(sessions):
 # What stands behind a part where a client or its recorder is more often at fault than a store.
 ORDER = 'check first: did the client record its operations in their order?'
 HINTS = {'A1': 'check first: does the log have each write of all clients, under its own key?', 'A4': ORDER, 'A5': ORDER}
+# What is said of a part that has an order without that of sessions.
+SESSIONS_ALONE = 'only the order of sessions was broken here: without it these have a serial order'
 # What is said where a log has an order without its moments, and none with them.
 TIME_ALONE = ['only real time was broken: without it the whole log is serializable', 'check first: do the clients share a clock?']
 
 
 class Part:
-    """A part that is told: what was found of it, its transactions with their lines, and why it has no order."""
+    """A part that is told: what was found of it, its transactions with their lines, why it has no order, and whether it has one without that
+    of sessions."""
 
     def __init__(self, heading, listed, why):
         count, found = HEADING.fullmatch(heading).groups()
@@ -108,6 +113,8 @@ class Part:
         hint = HINTS.get(self.code)
         must(hint is None or why[-1:] == [hint], 'behind a part of %s stands %r' % (self.code, why[-1:]))
         self.why = why[:-1] if hint else why
+        self.only_sessions = self.why[-1:] == [SESSIONS_ALONE]
+        self.why = self.why[:-1] if self.only_sessions else self.why
         told = [line[len('known as: '):] for line in why if line.startswith('known as: ')]
         must(not told or self.known_as in told, 'known as %r, and told as %r' % (self.known_as, told))
         must(self.code not in NAMES or self.known_as in (None, NAMES[self.code]), 'A %s known as %r' % (self.code, self.known_as))
@@ -232,6 +239,14 @@ def check_told(sessions, text, part):
     return law
 
 
+def check_sessions(law, part):
+    """That it is told of a part whether it has an order without that of sessions; gives what is met."""
+    alone = [(number, [it]) for number, it in enumerate((it for _, its in law for it in its), 1)]
+    has = orders(alone)
+    must(has is None or part.only_sessions == has, 'only the order of sessions: told %r, wanted %r' % (part.only_sessions, has))
+    return {'only the order of sessions': part.only_sessions}
+
+
 def leaner(sessions, part):
     """A transaction without which the part has no order either, or None."""
     resolved = pieces_model.resolved(sessions)
@@ -321,7 +336,7 @@ def part_said(part):
 def check_fault(part, said, explain):
     if part is None:
         return must(said is None, 'JSON: a part %r' % said)
-    wanted = dict(code=part.code, known_as=part.known_as, part=part_said(part), **(dict(explanation=part.why) if explain else {}))
+    wanted = dict(code=part.code, known_as=part.known_as, part=part_said(part), **(dict(zip(EXPLAINED, (part.why, part.only_sessions))) if explain else {}))
     must(said == wanted, 'JSON: fault %r, wanted %r' % (said, wanted))
 
 
@@ -332,7 +347,7 @@ def check_object(answer, said, explain=False):
     must(line.endswith('}\n') and line.count('\n') == 1, 'JSON: not one line: %r' % line)
     it = json.loads(line, object_pairs_hook=once)
     told = explain and answer.parts
-    must(list(it) == [name for name in OBJECT if name != 'explanation' or told], 'JSON: names %r' % list(it))
+    must(list(it) == [name for name in OBJECT if name not in EXPLAINED or told], 'JSON: names %r' % list(it))
     must({name: it[name] for name in COUNTS[:-1]} == {name: answer.counts[name] for name in COUNTS[:-1]}, 'JSON: counts %r' % it)
     must((it['verdict'], it['without_moments']) == (answer.verdict, answer.without), 'JSON: %r' % it)
     weaker = {name: answer.weaker.get(level) for level, name in WEAKER.items()}

@@ -231,6 +231,7 @@ def check_part(program, path, text, sessions, part, most, has_files=True):
     left = certificates.leaner(sessions, part)
     must(left is None, 'the part %r has no order without %r' % (list(part.lines), left))
     if has_files:
+        certificates.check_sessions(law, part)
         said, numbers = certificates.check_files(sessions, text, law, path + '.part')
         return certificates.check_explained(said, numbers, law, certificates.check_code(program, said, part), part.why)
     return {}

@@ -22,7 +22,7 @@ KEYS = ('x', 'y', '1.1', '2.1:', 'reads', 'which', 'before', 'wrote', 'line', 'a
 OPERATION = re.compile(r'(?<!over)(reads|writes|wrote) ([A-Za-z0-9_.:/-]+) ([0-9]+) \(line ([0-9]+)\)')
 MOMENT = re.compile(r'([0-9.]+) (ended|began) at ([0-9]+) \(line ([0-9]+)\)')
 # What has to be met.
-WANTED = ['A1', 'A2', 'A3', 'A4', 'A5', 'A6', 'A7', 'A8', 'A9', 'tree', 'serializable', 'operations', 'moments']
+WANTED = ['A1', 'A2', 'A3', 'A4', 'A5', 'A6', 'A7', 'A8', 'A9', 'tree', 'serializable', 'operations', 'moments', 'only the order of sessions']
 
 Txn = collections.namedtuple('Txn', 'ops outcome begun ended')
 
@@ -161,6 +161,7 @@ def told(program, path, text, words):
         must(part.why, 'no reason is told')
         law = certificates.check_told(sessions, text, part)
         met += said_in_whole(text, part.why)
+        met += collections.Counter(certificates.check_sessions(law, part))
         if place == 0:
             said, numbers = certificates.check_files(sessions, text, law, path + '.part')
             met += certificates.check_explained(said, numbers, law, certificates.check_code(program, said, part), part.why)

@@ -6,3 +6,4 @@ mod Points
 mod Resolved
 mod Weaker
 mod Searched
+mod Singles

@@ -27,6 +27,7 @@ use Rattle.judging.specs.declared.judged.Tried.{Tried}
 use Rattle.judging.specs.declared.judged.Verdict.{Verdict}
 use Rattle.judging.specs.declared.judged.Verdict.TheVariants as verdict
 use Rattle.judging.specs.declared.means.JudgeMeans.{JudgeMeans}
+use Rattle.audit_command.specs.Apart.{IsBySessionsWhere}
 use Rattle.audit_command.specs.Counts.{AreCounts}
 use Rattle.audit_command.specs.Distinct.{AreDistinct, AreLeastFirst, is_told}
 use Rattle.audit_command.specs.Levels.{asks_moments}
@@ -70,12 +71,13 @@ pub record AreTotals (ss : List ClientSession) (t : Totals) : Type 0 where
 
 -- it is told of a part of the log that it has no order, and so the log has none; its transactions
 -- are told by their names and lines in the log, whose first session begins at line n; and why it has
--- none, where that is asked for
+-- none, and whether it has one without the order of sessions, where that is asked for
 pub record IsPartTold (o : AuditOptions) (n : ℕ) (ss : List ClientSession) (p : ToldPart)
     : Type 0 where
   pub part : IsToldPart o.means.level ss p.refuted
   pub txns : p.txns.items ≡ told_by p.refuted.flags n (resolved ss)
   pub why : IsWhyWhere o.explain o.means n (resolved ss) p.refuted p.why.items
+  pub by_sessions : IsBySessionsWhere o.explain o.means (map view p.refuted.part.items) p.by_sessions
   pub named : (text : List ℕ) × IsWhy o.means n (resolved ss) p.refuted text
       × IsNamed o.means.level p.refuted.finding p.known_as text
 

@@ -86,8 +86,13 @@ part_values p = codes "\"code\":" ++ code_value (code_number p.refuted.finding)
 unfoldable pub explanation_value : List ℕ → List ℕ
 explanation_value text = codes ",\"explanation\":[" ++ lines_value text ++ codes "]"
 
+-- whether it has a serial order without that of sessions
+unfoldable pub sessions_value : Bool → List ℕ
+sessions_value told = codes ",\"only_sessions\":" ++ (if told then codes "true" else codes "false")
+
 unfoldable pub why_values : Bool → ToldPart → List ℕ
-why_values explain p = if explain then explanation_value p.why.items else []
+why_values explain p = if explain then explanation_value p.why.items ++ sessions_value p.by_sessions
+    else []
 
 abbrev pub part_object : Bool → ToldPart → List ℕ
 part_object explain p = 123 ∷ part_values p ++ why_values explain p ++ 125 ∷ []

@@ -13,6 +13,7 @@
 //! part's map are tested.
 #![tactic(auto)]
 
+mod apart;
 mod codes;
 mod command;
 mod counts;

@@ -8,7 +8,7 @@ ghost use Rattle.audit_command.specs.Objects.{behind_comma, joined, list_value, 
 ghost use Rattle.audit_command.specs.Objects.{line_byte, lines_value, part_values, why_values, part_object};
 ghost use Rattle.audit_command.specs.Objects.{first_values, reason_value, count_values};
 ghost use Rattle.audit_command.specs.Objects.{version_value, verdict_value, report_object};
-ghost use Rattle.audit_command.specs.Objects.{parts_of, rest_of_object, explanation_value, without_value};
+ghost use Rattle.audit_command.specs.Objects.{parts_of, rest_of_object, explanation_value, sessions_value, without_value};
 ghost use Rattle.audit_command.specs.Objects.{faults_value, why_unknown, behind_verdict, level_value};
 ghost use Rattle.audit_command.specs.Objects.{kept_or_null, strict_value, snapshot_value};
 ghost use Rattle.audit_command.specs.Objects.{head_values, weaker_values, part_or_null, shown_value};
@@ -191,13 +191,27 @@ fn put_explanation(out: &mut Vec<u8>, text: &[u8]) -> Result<(), AllocError>
     put(out, b"]")
 }
 
+/// Appends whether a part has a serial order without the order of sessions.
+#[tactic(auto, unfolding(crate::specs::Objects::sessions_value))]
+fn put_sessions(out: &mut Vec<u8>, by_sessions: bool) -> Result<(), AllocError>
+    ensures put { OnOk result (out.new.items ≡ out.old.items ++ sessions_value by_sessions) }
+{
+    put(out, b",\"only_sessions\":")?;
+    if by_sessions {
+        put(out, b"true")
+    } else {
+        put(out, b"false")
+    }
+}
+
 /// Appends why a part has no order, where that is asked for.
 #[tactic(auto, unfolding(crate::specs::Objects::why_values))]
 fn put_why(out: &mut Vec<u8>, explain: bool, part: &ToldPart) -> Result<(), AllocError>
     ensures put { OnOk result (out.new.items ≡ out.old.items ++ why_values explain part.now) }
 {
     if explain {
-        put_explanation(out, &part.why)
+        put_explanation(out, &part.why)?;
+        put_sessions(out, part.by_sessions)
     } else {
         Ok(())
     }

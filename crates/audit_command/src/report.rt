@@ -4,7 +4,7 @@ ghost use Rattle.std.specs.Prelude.{◌≡◌, ◌++◌, ◌<◌, OnOk, IfOk, le
 ghost use Rattle.audit_command.specs.Report.{first_line, txn_text, txns_text, noun_of, part_text};
 ghost use Rattle.audit_command.specs.Report.{behind_comma, code_count, code_line, uncoded_line, codes_text};
 ghost use Rattle.audit_command.specs.Report.{middle_text, without_text, without_row, part_size, counts_text};
-ghost use Rattle.audit_command.specs.Report.{without_line, time_text, why_text};
+ghost use Rattle.audit_command.specs.Report.{without_line, time_text, sessions_line, why_text};
 ghost use Rattle.audit_command.specs.Report.{parts_text, first_size, report_text, too_few, heading_of};
 ghost use Rattle.audit_command.specs.Report.{listed, codes_where, behind_first, level_text, reason_line};
 ghost use Rattle.audit_command.specs.Report.{level_row, weaker_text, short_title, found_text};
@@ -167,12 +167,27 @@ fn put_listed(out: &mut Vec<u8>, txns: &[ToldTxn]) -> Result<(), AllocError>
     put(out, b"\n")
 }
 
+/// Appends that a part has a serial order without the order of sessions, where it has.
+fn put_sessions(out: &mut Vec<u8>, by_sessions: bool) -> Result<(), AllocError>
+    ensures put { OnOk result (out.new.items ≡ out.old.items ++ sessions_line by_sessions) }
+{
+    if by_sessions {
+        put(
+            out,
+            b"only the order of sessions was broken here: without it these have a serial order\n",
+        )
+    } else {
+        Ok(())
+    }
+}
+
 /// Appends why a part has no order, and what to check first.
 #[tactic(auto, unfolding(crate::specs::Report::why_text))]
 fn put_why(out: &mut Vec<u8>, part: &ToldPart) -> Result<(), AllocError>
     ensures put { OnOk result (out.new.items ≡ out.old.items ++ why_text part.now) }
 {
     put(out, &part.why)?;
+    put_sessions(out, part.by_sessions)?;
     put(out, hint_text(part.refuted.finding).as_bytes())
 }
 

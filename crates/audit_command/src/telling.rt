@@ -15,6 +15,7 @@ ghost use Rattle.audit_command.specs.Audited.{IsAnswered, IsOrderText, IsOrderFi
 ghost use Rattle.audit_command.specs.Distinct.{AreLeastFirst};
 ghost use Rattle.audit_command.specs.Resolved.{IsResolved, IsPartOf, IsPartOfVerdict};
 
+use crate::apart::is_by_sessions;
 use crate::distinct::without_doubles;
 use crate::explaining::Explained;
 use crate::files::order_file;
@@ -70,16 +71,22 @@ pub fn told_part<R: Threads + Wait + Clock + Sync>(
     let txns = told_txns(alloc, version, sessions, &refuted.flags)?;
     let explained = explain_part(rt, alloc, version, sessions, &refuted, &options.means)?;
     let Explained { text, known_as } = explained;
-    let why = if options.explain {
-        text
-    } else {
-        Vec::new(alloc)
-    };
+    if !options.explain {
+        return Ok(ToldPart {
+            refuted,
+            txns,
+            known_as,
+            why: Vec::new(alloc),
+            by_sessions: false,
+        });
+    }
+    let by_sessions = is_by_sessions(rt, alloc, &refuted.part, &options.means)?;
     Ok(ToldPart {
         refuted,
         txns,
         known_as,
-        why,
+        why: text,
+        by_sessions,
     })
 }
 
