@@ -280,7 +280,10 @@ class Checks:
             path, lines = self.put('page.log', text), text.decode().splitlines()
             said = explained_by_audit(self.program, path)
             if said:
-                yield name, text.decode(), said, picture.page_of_part(lines, picture.scripts.audited(self.program, path), name, unit).html()
+                report = picture.scripts.audited(self.program, path)
+                page = picture.page_of_part(lines, report, name, unit).html()
+                self.expect(('Only the order of sessions was broken' in page) == report['only_sessions'], '%s: the order of sessions' % name)
+                yield name, text.decode(), said, page
             ran = subprocess.run([self.program, 'explain', '--workers', '1', path], stdout=subprocess.PIPE, stderr=subprocess.PIPE, timeout=120)
             self.expect((ran.returncode == 1) == bool(said) or len(lines) > LONG, '%s: explain ends with %d, and audit says %r' % (name, ran.returncode, said))
             if ran.returncode == 1:
