@@ -18,7 +18,7 @@ STATUS = {'serializable': 0, 'not serializable': 1, 'unknown': 3, 'refused': 2}
 HEADING = re.compile(r'shown by (\d+) transactions?: (.+)')
 TRANSACTION = re.compile(r'(\d+)\.(\d+) \(lines (\d+) to (\d+)\)')
 # What is told with --explain alone.
-EXPLAINED = 'explanation', 'only_sessions'
+EXPLAINED = 'explanation', 'without_sessions'
 OBJECT = ['verdict', 'code', 'known_as', 'part', *EXPLAINED, 'without_moments', 'strict_snapshot', 'snapshot', 'snapshot_fault', 'faults', 'reason', *COUNTS[:-1], 'version']
 # Of parts of so many nodes all orders are tried.
 TRIED = 9
@@ -88,7 +88,7 @@ def counted(sessions):
 ORDER = 'check first: did the client record its operations in their order?'
 HINTS = {'A1': 'check first: does the log have each write of all clients, under its own key?', 'A4': ORDER, 'A5': ORDER}
 # What is said of a part that has an order without that of sessions.
-SESSIONS_ALONE = 'only the order of sessions was broken here: without it these have a serial order'
+SERIAL_APART = 'without the order of sessions these have a serial order; not every store promises that order'
 # What is said where a log has an order without its moments, and none with them.
 TIME_ALONE = ['only real time was broken: without it the whole log is serializable', 'check first: do the clients share a clock?']
 
@@ -113,8 +113,8 @@ class Part:
         hint = HINTS.get(self.code)
         must(hint is None or why[-1:] == [hint], 'behind a part of %s stands %r' % (self.code, why[-1:]))
         self.why = why[:-1] if hint else why
-        self.only_sessions = self.why[-1:] == [SESSIONS_ALONE]
-        self.why = self.why[:-1] if self.only_sessions else self.why
+        self.is_serial_apart = self.why[-1:] == [SERIAL_APART]
+        self.why = self.why[:-1] if self.is_serial_apart else self.why
         told = [line[len('known as: '):] for line in why if line.startswith('known as: ')]
         must(not told or self.known_as in told, 'known as %r, and told as %r' % (self.known_as, told))
         must(self.code not in NAMES or self.known_as in (None, NAMES[self.code]), 'A %s known as %r' % (self.code, self.known_as))
@@ -243,8 +243,8 @@ def check_sessions(law, part):
     """That it is told of a part whether it has an order without that of sessions; gives what is met."""
     alone = [(number, [it]) for number, it in enumerate((it for _, its in law for it in its), 1)]
     has = orders(alone)
-    must(has is None or part.only_sessions == has, 'only the order of sessions: told %r, wanted %r' % (part.only_sessions, has))
-    return {'only the order of sessions': part.only_sessions}
+    must(has is None or part.is_serial_apart == has, 'without the order of sessions: told %r, wanted %r' % (part.is_serial_apart, has))
+    return {'an order without sessions': part.is_serial_apart}
 
 
 def leaner(sessions, part):
@@ -336,7 +336,7 @@ def part_said(part):
 def check_fault(part, said, explain):
     if part is None:
         return must(said is None, 'JSON: a part %r' % said)
-    wanted = dict(code=part.code, known_as=part.known_as, part=part_said(part), **(dict(zip(EXPLAINED, (part.why, part.only_sessions))) if explain else {}))
+    wanted = dict(code=part.code, known_as=part.known_as, part=part_said(part), **(dict(zip(EXPLAINED, (part.why, 'serializable' if part.is_serial_apart else None))) if explain else {}))
     must(said == wanted, 'JSON: fault %r, wanted %r' % (said, wanted))
 
 

@@ -282,7 +282,7 @@ class Checks:
             if said:
                 report = picture.scripts.audited(self.program, path)
                 page = picture.page_of_part(lines, report, name, unit).html()
-                self.expect(('Only the order of sessions was broken' in page) == report['only_sessions'], '%s: the order of sessions' % name)
+                self.expect(('Without the order of sessions' in page) == (report['without_sessions'] is not None), '%s: the order of sessions' % name)
                 yield name, text.decode(), said, page
             ran = subprocess.run([self.program, 'explain', '--workers', '1', path], stdout=subprocess.PIPE, stderr=subprocess.PIPE, timeout=120)
             self.expect((ran.returncode == 1) == bool(said) or len(lines) > LONG, '%s: explain ends with %d, and audit says %r' % (name, ran.returncode, said))

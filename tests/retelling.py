@@ -22,7 +22,7 @@ KEYS = ('x', 'y', '1.1', '2.1:', 'reads', 'which', 'before', 'wrote', 'line', 'a
 OPERATION = re.compile(r'(?<!over)(reads|writes|wrote) ([A-Za-z0-9_.:/-]+) ([0-9]+) \(line ([0-9]+)\)')
 MOMENT = re.compile(r'([0-9.]+) (ended|began) at ([0-9]+) \(line ([0-9]+)\)')
 # What has to be met.
-WANTED = ['A1', 'A2', 'A3', 'A4', 'A5', 'A6', 'A7', 'A8', 'A9', 'tree', 'serializable', 'operations', 'moments', 'only the order of sessions']
+WANTED = ['A1', 'A2', 'A3', 'A4', 'A5', 'A6', 'A7', 'A8', 'A9', 'tree', 'serializable', 'operations', 'moments', 'an order without sessions']
 
 Txn = collections.namedtuple('Txn', 'ops outcome begun ended')
 

@@ -471,8 +471,8 @@ class Page:
             head += element('p', escape('In short: ' + it.short), class_='meaning')
         if it.known_as:
             head += element('p', escape('Known as: ' + it.known_as))
-        if it.only_sessions:
-            head += element('p', 'Only the order of sessions was broken here: without it these have a serial order.', class_='meaning')
+        if it.is_serial_apart:
+            head += element('p', 'Without the order of sessions these have a serial order; not every store promises that order.', class_='meaning')
         if it.pairs:
             lines = ''.join(self.line(pair.line) for pair in it.pairs)
             head += element('p', escape(it.lines[it.pairs[0].line - 2])) + element('ul', lines, class_='lines')

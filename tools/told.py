@@ -124,7 +124,7 @@ class Explanation:
     """The verdict, and what stands behind it. `code` is A1 to A9 or TREE, and None where the log is not refuted; `behind` is the number of the
     first line of an anomaly behind that. `short` is a cycle in a sentence. A tree is told by its leaves: each cycle with the orders that are
     decided above it; `count` says how many there are where not all are told. `pairs` are four reads that rule out every order, where the text
-    has them before a cycle or a tree. `only_sessions` says that a part has an order without that of sessions."""
+    has them before a cycle or a tree. `is_serial_apart` says that a part has an order without that of sessions."""
     lines: List[str]
     code: Optional[str] = None
     behind: int = 2
@@ -135,7 +135,7 @@ class Explanation:
     pairs: List[Pair] = field(default_factory=list)
     leaves: List[Tuple[List[Order], Cycle]] = field(default_factory=list)
     count: Optional[int] = None
-    only_sessions: bool = False
+    is_serial_apart: bool = False
 
     @property
     def verdict(self):
@@ -284,5 +284,5 @@ def read(text):
 def of_part(report):
     """What the JSON of `audit --explain` tells of the part that it tells first."""
     it = read('\n'.join(['not serializable: ' + FAULTS[report['code']], *report['explanation']]))
-    it.only_sessions = report['only_sessions']
+    it.is_serial_apart = report['without_sessions'] is not None
     return it

@@ -45,15 +45,15 @@ pub data IsTooLargeApart (ss : List ClientSession) : Type 0 where
   limit : (f : LogFault) → list_fault (first_line One) (apart ss) ≡ Some f → IsTooLargeApart ss
 
 -- whether an order of it is found without that of sessions
-abbrev pub IsBySessions : ℕ → List ClientSession → Bool → Type 0
-IsBySessions budget ss told = IsFound budget (apart ss) told ⊎ ((told ≡ false) × IsTooLargeApart ss)
+abbrev pub IsSerialApart : ℕ → List ClientSession → Bool → Type 0
+IsSerialApart budget ss told = IsFound budget (apart ss) told ⊎ ((told ≡ false) × IsTooLargeApart ss)
 
 -- that is asked of serial orders alone
-abbrev pub IsBySessionsAt : Level → ℕ → List ClientSession → Bool → Type 0
-IsBySessionsAt level.Serializable budget ss told = IsBySessions budget ss told
-IsBySessionsAt level.Snapshot budget ss told = told ≡ false
+abbrev pub IsSerialApartAt : Level → ℕ → List ClientSession → Bool → Type 0
+IsSerialApartAt level.Serializable budget ss told = IsSerialApart budget ss told
+IsSerialApartAt level.Snapshot budget ss told = told ≡ false
 
 -- where it is asked for
-abbrev pub IsBySessionsWhere : Bool → JudgeMeans → List ClientSession → Bool → Type 0
-IsBySessionsWhere false m ss told = told ≡ false
-IsBySessionsWhere true m ss told = IsBySessionsAt m.level m.deciding.budget ss told
+abbrev pub IsSerialApartWhere : Bool → JudgeMeans → List ClientSession → Bool → Type 0
+IsSerialApartWhere false m ss told = told ≡ false
+IsSerialApartWhere true m ss told = IsSerialApartAt m.level m.deciding.budget ss told

@@ -27,7 +27,7 @@ use Rattle.judging.specs.declared.judged.Tried.{Tried}
 use Rattle.judging.specs.declared.judged.Verdict.{Verdict}
 use Rattle.judging.specs.declared.judged.Verdict.TheVariants as verdict
 use Rattle.judging.specs.declared.means.JudgeMeans.{JudgeMeans}
-use Rattle.audit_command.specs.Apart.{IsBySessionsWhere}
+use Rattle.audit_command.specs.Apart.{IsSerialApartWhere}
 use Rattle.audit_command.specs.Counts.{AreCounts}
 use Rattle.audit_command.specs.Distinct.{AreDistinct, AreLeastFirst, is_told}
 use Rattle.audit_command.specs.Levels.{asks_moments}
@@ -77,7 +77,7 @@ pub record IsPartTold (o : AuditOptions) (n : ℕ) (ss : List ClientSession) (p 
   pub part : IsToldPart o.means.level ss p.refuted
   pub txns : p.txns.items ≡ told_by p.refuted.flags n (resolved ss)
   pub why : IsWhyWhere o.explain o.means n (resolved ss) p.refuted p.why.items
-  pub by_sessions : IsBySessionsWhere o.explain o.means (map view p.refuted.part.items) p.by_sessions
+  pub is_serial_apart : IsSerialApartWhere o.explain o.means (map view p.refuted.part.items) p.is_serial_apart
   pub named : (text : List ℕ) × IsWhy o.means n (resolved ss) p.refuted text
       × IsNamed o.means.level p.refuted.finding p.known_as text
 

@@ -88,10 +88,11 @@ explanation_value text = codes ",\"explanation\":[" ++ lines_value text ++ codes
 
 -- whether it has a serial order without that of sessions
 unfoldable pub sessions_value : Bool → List ℕ
-sessions_value told = codes ",\"only_sessions\":" ++ (if told then codes "true" else codes "false")
+sessions_value told = codes ",\"without_sessions\":"
+    ++ (if told then codes "\"serializable\"" else codes "null")
 
 unfoldable pub why_values : Bool → ToldPart → List ℕ
-why_values explain p = if explain then explanation_value p.why.items ++ sessions_value p.by_sessions
+why_values explain p = if explain then explanation_value p.why.items ++ sessions_value p.is_serial_apart
     else []
 
 abbrev pub part_object : Bool → ToldPart → List ℕ

@@ -99,12 +99,12 @@ listed txns = codes "transactions " ++ txns_text txns ++ 10 ∷ []
 -- that it has a serial order without that of sessions
 abbrev pub sessions_line : Bool → List ℕ
 sessions_line told = if told
-    then codes "only the order of sessions was broken here: without it these have a serial order\n"
+    then codes "without the order of sessions these have a serial order; not every store promises that order\n"
     else []
 
 -- why it has no order, and what to check first
 unfoldable pub why_text : ToldPart → List ℕ
-why_text p = p.why.items ++ sessions_line p.by_sessions ++ hint_text p.refuted.finding
+why_text p = p.why.items ++ sessions_line p.is_serial_apart ++ hint_text p.refuted.finding
 
 -- these
 unfoldable pub part_text : ToldPart → List ℕ

@@ -5,7 +5,7 @@ ghost use Rattle.std.specs.List.{AllByRecursion};
 ghost use Rattle.session_log.specs.Text.{IsLegal, view, view_txn};
 ghost use Rattle.log_definitions.specs.Unknown.{txns_in};
 ghost use Rattle.audit_command.specs.Apart as spec;
-ghost use Rattle.audit_command.specs.Apart.{IsFound, IsBySessions, IsBySessionsAt};
+ghost use Rattle.audit_command.specs.Apart.{IsFound, IsSerialApart, IsSerialApartAt};
 
 use crate::explaining::MANY_LINES;
 use deciding::{Decision, Means, decide};
@@ -106,7 +106,7 @@ fn is_found_apart<R: Threads + Wait + Clock + Sync>(
 ) -> Result<bool, AllocError>
     requires legal { AllByRecursion IsLegal (map view apart.items) }
     requires apart { map view apart.items ≡ spec.apart (map view _part.now) }
-    ensures found { IfOk result (IsBySessions means.now.budget (map view _part.now)) }
+    ensures found { IfOk result (IsSerialApart means.now.budget (map view _part.now)) }
 {
     if line_count(&apart) > MANY_LINES {
         return Ok(false);
@@ -120,14 +120,14 @@ fn is_found_apart<R: Threads + Wait + Clock + Sync>(
 
 /// Whether it is known of a part, which has no serial order, that it has one without the order of
 /// sessions.
-pub fn is_by_sessions<R: Threads + Wait + Clock + Sync>(
+pub fn is_serial_apart<R: Threads + Wait + Clock + Sync>(
     rt: &R,
     alloc: Global,
     part: &[Session],
     means: &JudgeMeans,
 ) -> Result<bool, AllocError>
     requires legal { AllByRecursion IsLegal (map view part.now) }
-    ensures told { IfOk result (IsBySessionsAt means.now.level means.now.deciding.budget
+    ensures told { IfOk result (IsSerialApartAt means.now.level means.now.deciding.budget
         (map view part.now)) }
 {
     match means.level {

@@ -193,14 +193,14 @@ fn put_explanation(out: &mut Vec<u8>, text: &[u8]) -> Result<(), AllocError>
 
 /// Appends whether a part has a serial order without the order of sessions.
 #[tactic(auto, unfolding(crate::specs::Objects::sessions_value))]
-fn put_sessions(out: &mut Vec<u8>, by_sessions: bool) -> Result<(), AllocError>
-    ensures put { OnOk result (out.new.items ≡ out.old.items ++ sessions_value by_sessions) }
+fn put_sessions(out: &mut Vec<u8>, is_serial_apart: bool) -> Result<(), AllocError>
+    ensures put { OnOk result (out.new.items ≡ out.old.items ++ sessions_value is_serial_apart) }
 {
-    put(out, b",\"only_sessions\":")?;
-    if by_sessions {
-        put(out, b"true")
+    put(out, b",\"without_sessions\":")?;
+    if is_serial_apart {
+        put(out, b"\"serializable\"")
     } else {
-        put(out, b"false")
+        put(out, b"null")
     }
 }
 
@@ -211,7 +211,7 @@ fn put_why(out: &mut Vec<u8>, explain: bool, part: &ToldPart) -> Result<(), Allo
 {
     if explain {
         put_explanation(out, &part.why)?;
-        put_sessions(out, part.by_sessions)
+        put_sessions(out, part.is_serial_apart)
     } else {
         Ok(())
     }

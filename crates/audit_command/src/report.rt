@@ -168,13 +168,13 @@ fn put_listed(out: &mut Vec<u8>, txns: &[ToldTxn]) -> Result<(), AllocError>
 }
 
 /// Appends that a part has a serial order without the order of sessions, where it has.
-fn put_sessions(out: &mut Vec<u8>, by_sessions: bool) -> Result<(), AllocError>
-    ensures put { OnOk result (out.new.items ≡ out.old.items ++ sessions_line by_sessions) }
+fn put_sessions(out: &mut Vec<u8>, is_serial_apart: bool) -> Result<(), AllocError>
+    ensures put { OnOk result (out.new.items ≡ out.old.items ++ sessions_line is_serial_apart) }
 {
-    if by_sessions {
+    if is_serial_apart {
         put(
             out,
-            b"only the order of sessions was broken here: without it these have a serial order\n",
+            b"without the order of sessions these have a serial order; not every store promises that order\n",
         )
     } else {
         Ok(())
@@ -187,7 +187,7 @@ fn put_why(out: &mut Vec<u8>, part: &ToldPart) -> Result<(), AllocError>
     ensures put { OnOk result (out.new.items ≡ out.old.items ++ why_text part.now) }
 {
     put(out, &part.why)?;
-    put_sessions(out, part.by_sessions)?;
+    put_sessions(out, part.is_serial_apart)?;
     put(out, hint_text(part.refuted.finding).as_bytes())
 }
 

@@ -15,7 +15,7 @@ ghost use Rattle.audit_command.specs.Audited.{IsAnswered, IsOrderText, IsOrderFi
 ghost use Rattle.audit_command.specs.Distinct.{AreLeastFirst};
 ghost use Rattle.audit_command.specs.Resolved.{IsResolved, IsPartOf, IsPartOfVerdict};
 
-use crate::apart::is_by_sessions;
+use crate::apart::is_serial_apart;
 use crate::distinct::without_doubles;
 use crate::explaining::Explained;
 use crate::files::order_file;
@@ -77,16 +77,16 @@ pub fn told_part<R: Threads + Wait + Clock + Sync>(
             txns,
             known_as,
             why: Vec::new(alloc),
-            by_sessions: false,
+            is_serial_apart: false,
         });
     }
-    let by_sessions = is_by_sessions(rt, alloc, &refuted.part, &options.means)?;
+    let is_serial = is_serial_apart(rt, alloc, &refuted.part, &options.means)?;
     Ok(ToldPart {
         refuted,
         txns,
         known_as,
         why: text,
-        by_sessions,
+        is_serial_apart: is_serial,
     })
 }
 

@@ -26,7 +26,7 @@ pub struct ToldPart {
     pub why: Vec<u8>,
     /// Whether it has a serial order without the order of sessions, where that is asked for and
     /// known.
-    pub by_sessions: bool,
+    pub is_serial_apart: bool,
 }
 
 /// The verdict, in a word.
