@@ -1,5 +1,5 @@
--- Whether only the order of sessions rules out a serial order of a part: it has one if each of its
--- transactions stands in a session of its own.
+-- Whether a part has a serial order without that of sessions: with each of its transactions in a
+-- session of its own. The moments that it states still count.
 use Rattle.std.specs.Prelude.{◌≡◌, ◌⊎◌, ℕ, ◌+◌, ◌<◌, Bool, true, false, List, [], ◌∷◌, length, Some}
 use Rattle.session_log.specs.Text.{ClientSession, Transaction}
 use Rattle.session_log.specs.Version.{first_line}

@@ -77,7 +77,8 @@ pub record IsPartTold (o : AuditOptions) (n : ℕ) (ss : List ClientSession) (p 
   pub part : IsToldPart o.means.level ss p.refuted
   pub txns : p.txns.items ≡ told_by p.refuted.flags n (resolved ss)
   pub why : IsWhyWhere o.explain o.means n (resolved ss) p.refuted p.why.items
-  pub is_serial_apart : IsSerialApartWhere o.explain o.means (map view p.refuted.part.items) p.is_serial_apart
+  pub is_serial_apart : IsSerialApartWhere o.explain o.means (map view p.refuted.part.items)
+      p.is_serial_apart
   pub named : (text : List ℕ) × IsWhy o.means n (resolved ss) p.refuted text
       × IsNamed o.means.level p.refuted.finding p.known_as text
 

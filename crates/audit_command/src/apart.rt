@@ -1,4 +1,4 @@
-//! Whether only the order of sessions rules out a serial order of a part.
+//! Whether a part has a serial order without that of sessions.
 
 ghost use Rattle.std.specs.Prelude.{◌≡◌, ◌+◌, ◌∷◌, [], ◌≤◌, ◌<◌, length, map, IfOk, IfSome, MatchOption, None, Some};
 ghost use Rattle.std.specs.List.{AllByRecursion};
