@@ -18,7 +18,7 @@ LANES = min(4, os.cpu_count())
 LEVELS = ('strict-snapshot', 'snapshot')
 FORCED = 'these orders of snapshots and commits are forced:'
 # A circle of so many edges is told in a sentence too.
-SHORT, FEW = 'in short: ', 6
+SHORT, FEW, CONCLUSION = 'in short: ', 6, '; so none of them can come first'
 BY_SEARCH = 'no order of their snapshots and commits is left: a search shows it'
 NAME, KEY, POINT = r'(\d+\.\d+)', r'([A-Za-z0-9_.:/-]+)', r"(\d+\.\d+)'s (snapshot|commit)"
 EDGE = re.compile('%s before %s: (.+)' % (POINT, POINT))
@@ -186,7 +186,7 @@ class Telling:
     @staticmethod
     def sentences(lead, words, is_circle):
         """What may be said of edges in a sentence, where they are few. Of a circle it begins so that what a transaction did not see stands
-        behind what else is said of that one; a way does not come back to where it begins."""
+        behind what else is said of that one, and ends with what follows; a way does not come back to where it begins."""
         if len(words) > FEW:
             return []
         if is_circle and words[0][1] and not words[-1][1]:
@@ -194,7 +194,7 @@ class Telling:
         said = [lead + '%s %s' % (words[0][0], it) for it in words[0][2]]
         for (_, missed, _), (whose, misses, more) in zip(words, words[1:]):
             said = [front + (', but ' if misses and not missed else '; %s ' % whose) + it for front in said for it in more]
-        return said
+        return [it + CONCLUSION * (is_circle and len(words) > 2) for it in said]
 
     def not_first(self, node, other):
         """Why a node cannot commit before another takes its snapshot."""

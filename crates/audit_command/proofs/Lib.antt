@@ -7,3 +7,4 @@ mod Resolved
 mod Weaker
 mod Searched
 mod Singles
+mod Decided

@@ -80,7 +80,15 @@ fn without_sessions(alloc: Global, part: &[Session]) -> Result<Option<Vec<Sessio
     Ok(Some(singles(alloc, txns)?))
 }
 
+/// Whether a decision is an order.
+fn is_order(decision: &Decision) -> bool
+    ensures order { result ≡ spec.is_order decision.now }
+{
+    matches!(decision, Decision::Serial(_))
+}
+
 /// Whether a search within the budget finds a serial order of a history.
+#[tactic(auto, using(crate::proofs::Decided::found))]
 fn is_found<R: Threads + Wait + Clock + Sync>(
     rt: &R,
     alloc: Global,
@@ -90,8 +98,8 @@ fn is_found<R: Threads + Wait + Clock + Sync>(
     ensures found { IfOk result (IsFound means.now.budget history.now) }
 {
     match decide(rt, alloc, history, means, &OpenGate) {
-        Ok(Decision::Serial(_)) => Ok(true),
-        Ok(_) | Err(PolyFault::TooManyChoices) => Ok(false),
+        Ok(decision) => Ok(is_order(&decision)),
+        Err(PolyFault::TooManyChoices) => Ok(false),
         Err(PolyFault::Memory) => Err(AllocError),
     }
 }
@@ -112,9 +120,14 @@ fn is_found_apart<R: Threads + Wait + Clock + Sync>(
         return Ok(false);
     }
     match History::build(alloc, Version::One, apart) {
-        Ok(history) => is_found(rt, alloc, &history, means),
-        Err(LogFault::Memory) => Err(AllocError),
-        Err(_) => Ok(false),
+        Ok(history) => {
+            let found = is_found(rt, alloc, &history, means)?;
+            Ok(found)
+        }
+        Err(fault) => match fault {
+            LogFault::Memory => Err(AllocError),
+            _ => Ok(false),
+        },
     }
 }
 
