@@ -88,7 +88,7 @@ def counted(sessions):
 ORDER = 'check first: did the client record its operations in their order?'
 HINTS = {'A1': 'check first: does the log have each write of all clients, under its own key?', 'A4': ORDER, 'A5': ORDER}
 # What is said of a part that has an order without that of sessions.
-SERIAL_APART = 'without the order of sessions these have a serial order; not every store promises that order'
+SERIAL_APART = 'without the order of sessions these have a serial order; of the rest of the log this says nothing'
 # What is said where a log has an order without its moments, and none with them.
 TIME_ALONE = ['only real time was broken: without it the whole log is serializable', 'check first: do the clients share a clock?']
 

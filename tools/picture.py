@@ -472,7 +472,7 @@ class Page:
         if it.known_as:
             head += element('p', escape('Known as: ' + it.known_as))
         if it.is_serial_apart:
-            head += element('p', 'Without the order of sessions these have a serial order; not every store promises that order.', class_='meaning')
+            head += element('p', 'Without the order of sessions these have a serial order; of the rest of the log this says nothing.', class_='meaning')
         if it.pairs:
             lines = ''.join(self.line(pair.line) for pair in it.pairs)
             head += element('p', escape(it.lines[it.pairs[0].line - 2])) + element('ul', lines, class_='lines')

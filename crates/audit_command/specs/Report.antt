@@ -99,7 +99,7 @@ listed txns = codes "transactions " ++ txns_text txns ++ 10 ∷ []
 -- that it has a serial order without that of sessions
 abbrev pub sessions_line : Bool → List ℕ
 sessions_line told = if told
-    then codes "without the order of sessions these have a serial order; not every store promises that order\n"
+    then codes "without the order of sessions these have a serial order; of the rest of the log this says nothing\n"
     else []
 
 -- why it has no order, and what to check first

@@ -174,7 +174,7 @@ fn put_sessions(out: &mut Vec<u8>, is_serial_apart: bool) -> Result<(), AllocErr
     if is_serial_apart {
         put(
             out,
-            b"without the order of sessions these have a serial order; not every store promises that order\n",
+            b"without the order of sessions these have a serial order; of the rest of the log this says nothing\n",
         )
     } else {
         Ok(())
