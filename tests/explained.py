@@ -49,7 +49,7 @@ KEPT = ('%s (?:reads|wrote) %s [0-9]+ \\(line [1-9][0-9]*\\)(?:%s|%s|%s)?, which
         'which %s wrote \\(line [1-9][0-9]*\\)' % (NODE, KEY, BEHIND, OVER, OF, NODE))
 # By how many decisions the walk of a step is indented.
 WALK = 2
-BY_STEP, SUPPOSED = re.compile(KEPT % r'by \[([0-9]+)\] comes'), re.compile(KEPT % 'is supposed to come')
+BY_STEP, SUPPOSED = re.compile(KEPT % r'by \[([0-9]+)\] comes'), re.compile(KEPT % 'by supposition comes')
 GRAPHVIZ = shutil.which('dot')
 # An explanation of so many bytes is not spoilt.
 SPOILT = 10000
@@ -251,7 +251,7 @@ class Log:
 
     def reasons(self, a, b):
         """Each reason why a stands before b, as its kind and what its line says, the one that is to be said first."""
-        kinds = (('session', self.by_session), ('read', self.by_read), ('anti-dependency', self.by_anti_dependency),
+        kinds = (('read', self.by_read), ('session', self.by_session), ('anti-dependency', self.by_anti_dependency),
                  ('version order', self.by_version_order), ('moments', self.by_moments))
         return [(kind, said) for kind, tried in kinds for said in tried(self.named[a], self.named[b]) if a != b]
 
@@ -600,7 +600,7 @@ class Telling:
         for number, (key, first, kept) in enumerate(self.steps, 1):
             if edge in kept:
                 return 'forced', {self.log.said_of_kept(edge, key, first, 'by [%d] comes' % number): number}
-        return 'decided', {self.log.said_of_kept(edge, *order[:2], 'is supposed to come'): order for order in decided if edge in self.log.side(*order)}
+        return 'decided', {self.log.said_of_kept(edge, *order[:2], 'by supposition comes'): order for order in decided if edge in self.log.side(*order)}
 
 
 def steps_first(lines):
@@ -802,7 +802,7 @@ def spoilt(r, text, checked, explained):
         for later in (behind, behind + 1):
             yield 'a step is named that is no earlier one', instead(n, bare[n].replace(named, '[%d]' % later))
         yield 'a step of number 0 is named', instead(n, bare[n].replace(named, '[0]'))
-        yield 'a step is called a supposition', instead(n, bare[n].replace('by %s comes' % named, 'is supposed to come'))
+        yield 'a step is called a supposition', instead(n, bare[n].replace('by %s comes' % named, 'by supposition comes'))
         yield from spoilt_update(log, bare, n, instead)
     if orders:
         yield from spoilt_tree(r, log, lines, bare, without, instead)
@@ -942,7 +942,7 @@ def spoilt_tree(r, log, lines, bare, without, instead):
         found = SUPPOSED.fullmatch(said)
         yield from spoilt_update(log, bare, n, instead)
         yield 'an order of another key is named', instead(n, '%s before %s: %s' % (a, b, said[:found.end(2)] + '_' + said[found.end(2):]))
-        yield 'a supposition is called a step', instead(n, '%s before %s: %s' % (a, b, said.replace('is supposed to come', 'by [1] comes')))
+        yield 'a supposition is called a step', instead(n, '%s before %s: %s' % (a, b, said.replace('by supposition comes', 'by [1] comes')))
         for it in log.nodes:
             if it.name != b and it.writes(found[2]):
                 left, held = it.writes(found[2])[-1], said[:said.index(' before ')]

@@ -39,7 +39,7 @@ WALK = 2
 TELLS = re.compile('(?:^|, which |; )%s (?=reads |then reads |wrote |writes |overwrites )' % NODE)
 # The kinds of what is said of an edge, by its form; the first that fits.
 KINDS = [('session', re.compile('session %s' % NUMBER)), ('forced', re.compile(KEPT % r'by \[([0-9]+)\] comes')),
-         ('decided', re.compile(KEPT % 'is supposed to come')),
+         ('decided', re.compile(KEPT % 'by supposition comes')),
          ('version order', re.compile('.+ reads %s [0-9]+ .+ the initial value, and .+ wrote .+' % KEY)),
          ('read', re.compile('.+ reads .+, which [1-9][0-9.]+ wrote .+')),
          ('anti-dependency', re.compile('.+ reads .+, and .+ overwrites it with .+')),

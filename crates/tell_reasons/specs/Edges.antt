@@ -38,7 +38,7 @@ reason_text log a b reason.Moments =
 -- by which step a version comes first, from 1, or that it is supposed to
 abbrev pub comes_by : Option ℕ → List ℕ
 comes_by (Some k) = codes ", which by [" ++ decimal (k + 1) ++ codes "] comes before "
-comes_by None = codes ", which is supposed to come before "
+comes_by None = codes ", which by supposition comes before "
 
 -- what a has of the key of this order, and that it comes before what b wrote of it: `7.1 reads y 3
 -- (line 30) of 3.1, which by [1] comes before 4, which 4.1 wrote (line 15)`

@@ -106,12 +106,12 @@ fn put_comes_by(
     match step {
         Some(step) => say!(out, log;
             Text(b", which by ["), Number(step as u64 + 1), Text(b"] comes before ")),
-        None => put_text(out, b", which is supposed to come before "),
+        None => put_text(out, b", which by supposition comes before "),
     }
 }
 
 /// Appends what `a` has of a key, and that a forced step puts it before what `b` wrote of it, or
-/// that it is supposed to come before that, and ends the line.
+/// that it by supposition comes before that, and ends the line.
 #[tactic(auto, using(reason_laws::proofs::Numbers::within))]
 fn put_comes(
     out: &mut Vec<u8>,
