@@ -10,7 +10,7 @@ use Rattle.reasons.specs.declared.reason.Reason.{Reason}
 use Rattle.reasons.specs.declared.reason.Reason.TheVariants as reason
 use Rattle.tell_reasons.specs.Reasons.{before_text, named, op_at, op_in_line, op_wid, in_line}
 use Rattle.tell_reasons.specs.Reasons.{key_and_wid, wid_text, reads_text, end_in_line}
-use Rattle.tell_reasons.specs.Versions.{behind_text, held_text, version_text}
+use Rattle.tell_reasons.specs.Versions.{behind_text, held_text, version_text, whose_text}
 use Rattle.log_lines.specs.declared.placed.PlacedHistory.{PlacedHistory}
 
 -- whether operation i of node v names the initial value itself, or an update of it
@@ -24,8 +24,8 @@ reason_text log a b (reason.Read written read) =
     reads_text log b read ++ codes ", which " ++ named log a ++ codes " wrote"
     ++ op_in_line log a written
 reason_text log a b (reason.Overwritten read overwrites) =
-    reads_text log a read ++ codes ", and " ++ named log b ++ codes " overwrites it with "
-    ++ wid_text (op_at log.history.now b overwrites) ++ op_in_line log b overwrites
+    reads_text log a read ++ whose_text log a read ++ codes ", and " ++ named log b
+    ++ codes ", which reads it too, overwrites it with " ++ wid_text (op_at log.history.now b overwrites) ++ op_in_line log b overwrites
 reason_text log a b (reason.Initial read begins) =
     reads_text log a read ++ origin_text log a read ++ codes ", and " ++ named log b
     ++ codes " wrote " ++ key_and_wid (op_at log.history.now b begins)

@@ -92,6 +92,15 @@ of_at log head (Some i) = codes " of " ++ named log head
 abbrev pub of_text : PlacedHistory → ℕ → ℕ → List ℕ
 of_text log x head = of_at log head (left_at log.history.now x head)
 
+-- whose version operation i of node v reads
+abbrev pub whose_at : PlacedHistory → ℕ → Option ℕ → List ℕ
+whose_at log x None = []
+whose_at log x (Some head) = of_text log x head
+
+abbrev pub whose_text : PlacedHistory → ℕ → ℕ → List ℕ
+whose_text log v i = whose_at log (key_number log.history.now v i)
+    (source (log_of log.history.now) v (key_number log.history.now v i))
+
 -- whose version operation i of node v reads, where that is the one that `head` leaves; or who wrote
 -- an update of it that it reads
 abbrev pub from_text : PlacedHistory → ℕ → ℕ → ℕ → ℕ → List ℕ

@@ -11,7 +11,7 @@ ghost use Rattle.tell_reasons.specs.Edges.{comes_by};
 
 use crate::phrases::{begin_of, end_of, put_text, wid_at};
 use crate::say;
-use crate::versions::{put_behind, put_held, put_version};
+use crate::versions::{put_behind, put_held, put_version, put_whose};
 use crate::why::{ChainOrder, Why};
 use log_lines::PlacedHistory;
 use reasons::Reason;
@@ -72,9 +72,12 @@ fn put_reason(
             say!(out, log; Text(b"session "), Number(u64::from(session)))
         }
         Reason::Read { written, read } => put_read(out, log, a, b, written, read),
-        Reason::Overwritten { read, overwrites } => say!(out, log;
-            Does(a, b" reads ", read), Text(b", and "), Node(b), Text(b" overwrites it with "),
-            Identity(b, overwrites), AtLine(b, overwrites)),
+        Reason::Overwritten { read, overwrites } => {
+            say!(out, log; Does(a, b" reads ", read))?;
+            put_whose(out, log, a, read)?;
+            say!(out, log; Text(b", and "), Node(b), Text(b", which reads it too, overwrites it with "),
+                Identity(b, overwrites), AtLine(b, overwrites))
+        }
         Reason::Initial {
             read,
             begins: write,

@@ -1,6 +1,7 @@
 //! Versions of a key, by their writers.
 
 ghost use Rattle.std.specs.Prelude.{◌≡◌, ◌<◌, ◌≤◌, ◌++◌, Some, length, IfSome, OnOk};
+ghost use Rattle.serializability.specs.Polygraph.{source};
 ghost use Rattle.reason_laws.specs.Reasons.{IsNode};
 ghost use Rattle.log_definitions.specs.Serial.{ops_of};
 ghost use Rattle.log_definitions.specs.Numbers.{log_of};
@@ -175,6 +176,36 @@ fn put_of(
         Some(_) => say!(out, log; Text(b" of "), Node(head)),
         None => put_text(out, b", the initial value"),
     }
+}
+
+/// Appends whose version of a key a node reads.
+fn put_whose_of(
+    out: &mut Vec<u8>,
+    log: &PlacedHistory<'_>,
+    key: usize,
+    node: NodeIx,
+) -> Result<(), AllocError>
+    requires key { key < (log_of log.now.history.now).keys }
+    ensures text { OnOk result (out.new.items ≡ out.old.items
+        ++ spec.whose_at log.now key (source (log_of log.now.history.now) node key)) }
+{
+    match log.history.source_of(node, key) {
+        Some(head) => put_of(out, log, key, head),
+        None => Ok(()),
+    }
+}
+
+/// Appends whose version an operation reads, as ` of 3.1`.
+pub fn put_whose(
+    out: &mut Vec<u8>,
+    log: &PlacedHistory<'_>,
+    node: NodeIx,
+    op: usize,
+) -> Result<(), AllocError>
+    requires op { op < length (ops_of log.now.history.now node) }
+    ensures text { OnOk result (out.new.items ≡ out.old.items ++ spec.whose_text log.now node op) }
+{
+    put_whose_of(out, log, key_number(log.history, node, op), node)
 }
 
 /// Appends whose version an operation reads, where that is the one that `head` leaves; or who wrote
