@@ -50,6 +50,15 @@ fn writer_text(alloc: Global, part: &Part<'_>, read: Access<'_>) -> Result<Strin
     }
 }
 
+/// Whose version is read, or that it is the initial value.
+fn whose_text(alloc: Global, part: &Part<'_>, read: Access<'_>) -> Result<String, AllocError> {
+    if read.wid == 0 {
+        String::from_str(alloc, ", the initial value")
+    } else {
+        writer_text(alloc, part, read)
+    }
+}
+
 /// Two moments.
 fn moments_text(
     alloc: Global,
@@ -102,7 +111,10 @@ fn read_reason(
             )
         }
         Why::Missed { .. } if is_read_by_both(part, read, write) => {
-            format!(in alloc; "{reads}, and {node} overwrites it with {wid} (line {line})")
+            let of = whose_text(alloc, part, read)?;
+            format!(in alloc;
+                "{reads}{of}, and {node}, which reads it too, overwrites it with {wid} (line {line})"
+            )
         }
         Why::Missed { .. } => {
             format!(in alloc;

@@ -163,8 +163,8 @@ fn explained(rt: HostRuntime) {
             1,
             "not serializable: A8 cycle of known edges\ncycle 1.1 2.1 1.1\n\
             in short: 1.1 did not see 2.1's y; 2.1 did not see 1.1's x\n\
-            1.1 before 2.1: 1.1 reads y 0 (line 4), and 2.1 overwrites it with 2 (line 11)\n\
-            2.1 before 1.1: 2.1 reads x 0 (line 9), and 1.1 overwrites it with 1 (line 5)\n\
+            1.1 before 2.1: 1.1 reads y 0 (line 4), the initial value, and 2.1, which reads it too, overwrites it with 2 (line 11)\n\
+            2.1 before 1.1: 2.1 reads x 0 (line 9), the initial value, and 1.1, which reads it too, overwrites it with 1 (line 5)\n\
             known as: write skew (G2-item)\n",
         ),
         (
