@@ -274,8 +274,8 @@ class Log:
         for key in self.keys:
             for read in a.reads(key):
                 for write in b.writes(key) if [it.wid for it in b.reads(key)[:1]] == [read.wid] else ():
-                    said = (a.name, key, read.wid, read.line, b.name, write.wid, write.line)
-                    yield '%s reads %s %d (line %d), and %s overwrites it with %d (line %d)' % said
+                    said = (a.name, key, read.wid, read.line, self.whose(read), b.name, write.wid, write.line)
+                    yield '%s reads %s %d (line %d)%s, and %s, which reads it too, overwrites it with %d (line %d)' % said
 
     def by_version_order(self, a, b):
         for write in b.ops:
@@ -1023,8 +1023,8 @@ BY_HAND = [
             'session 3, begin, r c 0, w c 5, w c 9, w d 7, r b 0, r b 0, r a 0, commit, session 4, begin, r a 0, w a 6, abort',
             'A8 cycle of known edges', 'cycle 2.1 3.1 2.1',
             "in short: 2.1 did not see 3.1's c; 3.1 did not see 2.1's b",
-            '2.1 before 3.1: 2.1 reads c 0 (line 14), and 3.1 overwrites it with 5 (line 20)',
-            '3.1 before 2.1: 3.1 reads b 0 (line 23), and 2.1 overwrites it with 4 (line 12)',
+            '2.1 before 3.1: 2.1 reads c 0 (line 14), the initial value, and 3.1, which reads it too, overwrites it with 5 (line 20)',
+            '3.1 before 2.1: 3.1 reads b 0 (line 23), the initial value, and 2.1, which reads it too, overwrites it with 4 (line 12)',
             'known as: write skew (G2-item)'),
     # version order, behind a chain of two writers, with the first operation and not the least key
     by_hand('session 1, begin, r z 0, r x 0, w x 1, commit, session 2, begin, r x 1, w x 2, r y 4, r z 0, commit, '
@@ -1045,7 +1045,7 @@ BY_HAND = [
             'r x 1, commit 6', 'A8 cycle of known edges', 'cycle 1.1 2.1 1.1',
             "in short: 2.1 saw 1.1's x, but did not see 1.1's u",
             '1.1 before 2.1: 2.1 reads x 1 (line 16), which 1.1 wrote (line 4)',
-            '2.1 before 1.1: 2.1 reads u 0 (line 13), and 1.1 overwrites it with 2 (line 7)',
+            '2.1 before 1.1: 2.1 reads u 0 (line 13), the initial value, and 1.1, which reads it too, overwrites it with 2 (line 7)',
             'known as: read skew (G-single)'),
     # the order of versions, and moments
     by_hand('log 3, session 1, begin 1, r x 0, r y 2, commit 3, session 2, begin 5, w x 1, w y 2, commit 6',
@@ -1058,10 +1058,11 @@ BY_HAND = [
     by_hand('log 3, session 5, begin 7, r x 1, commit 8, session 6, begin 9, w x 1, commit 10', 'A8 cycle of known edges', 'cycle 5.1 6.1 5.1',
             "in short: 6.1 began after 5.1 ended; 5.1 saw 6.1's x", '5.1 before 6.1: 5.1 ended at 8 (line 5), 6.1 began at 9 (line 7)', '6.1 before 5.1: 5.1 reads x 1 (line 4), which 6.1 wrote (line 8)',
             'known as: a read from the future (G1c-realtime)'),
-    # the session of two comes before what one reads of the other
+    # what one of two reads of the other comes before their session
     by_hand('session 1, begin, w x 1, r y 2, commit, begin, r x 1, w y 2, commit', 'A8 cycle of known edges', 'cycle 1.1 1.2 1.1',
-            "in short: 1.2 came after 1.1 in its session; 1.1 saw 1.2's y", '1.1 before 1.2: session 1', '1.2 before 1.1: 1.1 reads y 2 (line 4), which 1.2 wrote (line 8)',
-            'known as: a read from the future (G1c-process)'),
+            "in short: 1.2 saw 1.1's x; 1.1 saw 1.2's y", '1.1 before 1.2: 1.2 reads x 1 (line 7), which 1.1 wrote (line 3)',
+            '1.2 before 1.1: 1.1 reads y 2 (line 4), which 1.2 wrote (line 8)',
+            'known as: circular information flow (G1c)'),
     # neither order of two versions, and no write is missed in either
     by_hand('session 1, begin, w x 1, commit, begin, w x 2, w y 4, commit, session 2, begin, r x 1, w x 3, r y 4, commit',
             'A9 pruning ends in a cycle', "in short: 2.1 saw 1.2's y; 1.2 wrote x after 2.1 (by [1])", 'cycle from 1.2:', '1.2 before 2.1: 2.1 reads y 4 (line 13), which 1.2 wrote (line 7)',

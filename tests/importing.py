@@ -372,7 +372,8 @@ CONTRADICTING = [
 BACK = [
     (EXAMPLE, ['not serializable: A8 cycle of known edges', 'cycle %s %s %s',
                'in short: %s did not see what %s wrote to :x; %s did not see what %s wrote to :y',
-               '%s before %s: %s reads [] of list :x, and %s appended 1 to list :x', '%s before %s: %s reads [] of list :y, and %s appended 1 to list :y',
+               '%s before %s: %s reads [] of list :x, and %s, which reads it too, appended 1 to list :x',
+               '%s before %s: %s reads [] of list :y, and %s, which reads it too, appended 1 to list :y',
                'known as: write skew (G2-item)'],
      (2, 3, 2, 2, 3, 3, 2, 2, 3, 2, 3, 3, 2, 3, 2), {2: 0, 3: 1}),
     (CONTRADICTION, ['not serializable: A6 split read at %s', '%s appended 1 to list 1 behind nothing (as operation 5 read it)',

@@ -33,7 +33,7 @@ WOULD = re.compile("    %s's snapshot would come before %s's commit, since %s of
 # Forms of reasons.
 WROTE = re.compile('%s, which %s wrote \\(line (\\d+)\\)' % (READS, NAME))
 LATER = re.compile('%s, which %s writes itself only later \\(line (\\d+)\\)' % (READS, NAME))
-OVERWRITES = re.compile('%s, and %s overwrites it with (\\d+) \\(line (\\d+)\\)' % (READS, NAME))
+OVERWRITES = re.compile('%s(?: of %s|, the initial value), and %s, which reads it too, overwrites it with (\\d+) \\(line (\\d+)\\)' % (READS, NAME, NAME))
 INITIAL = re.compile('%s, the initial value, and %s wrote %s (\\d+) \\(line (\\d+)\\)' % (READS, NAME, KEY))
 BEHIND = re.compile('%s of %s, which by \\[(\\d+)\\] comes before (\\d+), which %s wrote \\(line (\\d+)\\)' % (READS, NAME, NAME))
 MOMENTS = re.compile('%s ended at (\\d+) \\(line (\\d+)\\), %s began at (\\d+) \\(line (\\d+)\\)' % (NAME, NAME))
@@ -117,9 +117,10 @@ class Telling:
             is_right = (writer, reader) == (one[0], other[0]) and shape == ('commit', 'snapshot')
             must((reader == writer) == bool(LATER.fullmatch(reason)), reason)
         elif found := OVERWRITES.fullmatch(reason):
-            reader, key, wid, line, writer, new, at = found.groups()
+            reader, key, wid, line, whose, writer, new, at = found.groups()
             log.must_read(reader, key, wid, line), log.must_write(writer, key, new, at)
             is_right = (reader, writer) == (one[0], other[0]) and shape == ('snapshot', 'commit') and reader != writer
+            must(whose == (log.wrote(key, wid) if wid != '0' else None), 'not of %s: %r' % (whose, reason))
             must((writer, key, int(wid)) in log.reads, '%s does not read %s %s: %r' % (writer, key, wid, reason))
         elif found := INITIAL.fullmatch(reason):
             reader, key, wid, line, writer, again, new, at = found.groups()
