@@ -1,11 +1,11 @@
 #!/usr/bin/env python3
-"""readme.py [FOLDER]: the commands of README.md, word by word, on a fresh clone of the repository.
+"""readme.py [FOLDER]: the commands of README.md and of docs/IMPORTING.md, word by word, on a fresh clone of the repository.
 
 A line `    $ COMMAND` is run by bash at the top of the clone, and must write the lines that stand below it, and end with the status that a
 comment `# status N` behind it names, or 0. A block ```sh is run whole, must end with status 0 and write what its comments `# prints TEXT`
 say. With several workers `check` may find another serial order than the page has: one with the same lines passes where `./run verify` accepts it.
 Left out are blocks that prove. The first command is run by two shells at once, as on a first day they may be. Where a solver is not
-installed, a small one of tests/solvers.py takes its place, and a note says so. FOLDER is a clone that stands already, in place of one of
+installed, a small one of tests/solvers.py takes its place, and a note says so. Of IMPORTING.md standard error is shown too. FOLDER is a clone that stands already, in place of one of
 the last commit. Last line: 'readme: N passed, M failed'."""
 import os, re, shutil, subprocess, sys, tempfile, time
 
@@ -78,7 +78,7 @@ class Page:
         out, error = ran.communicate(timeout=LATE)
         got = (ran.returncode, out.decode())
         agrees = got == (status, text) or ran.returncode == status and self.is_another_order(command, got[1], text)
-        self.expect(agrees, '%s: %r, and README.md has %r\n%s' % (command, got, (status, text), error.decode()))
+        self.expect(agrees, '%s: %r, and the page has %r\n%s' % (command, got, (status, text), error.decode()))
         return error.decode()
 
     def is_another_order(self, command, got, text):
@@ -128,6 +128,9 @@ def main():
         took = time.time() - began
         for command, status, text in commands:
             page.told(page.start(command), command, status, text)
+        with open(os.path.join(clone, 'docs', 'IMPORTING.md'), encoding='utf-8') as file:
+            for command, status, text in transcripts(file.read()):
+                page.told(page.start('exec 2>&1; ' + command), command, status, text)
         for block, text in scripts(page_text):
             page.told(page.start(block), block, 0, text)
         without_toolchain(bare)
