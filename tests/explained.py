@@ -251,7 +251,7 @@ class Log:
 
     def reasons(self, a, b):
         """Each reason why a stands before b, as its kind and what its line says, the one that is to be said first."""
-        kinds = (('read', self.by_read), ('session', self.by_session), ('anti-dependency', self.by_anti_dependency),
+        kinds = (('session', self.by_session), ('read', self.by_read), ('anti-dependency', self.by_anti_dependency),
                  ('version order', self.by_version_order), ('moments', self.by_moments))
         return [(kind, said) for kind, tried in kinds for said in tried(self.named[a], self.named[b]) if a != b]
 
@@ -1058,11 +1058,10 @@ BY_HAND = [
     by_hand('log 3, session 5, begin 7, r x 1, commit 8, session 6, begin 9, w x 1, commit 10', 'A8 cycle of known edges', 'cycle 5.1 6.1 5.1',
             "in short: 6.1 began after 5.1 ended; 5.1 saw 6.1's x", '5.1 before 6.1: 5.1 ended at 8 (line 5), 6.1 began at 9 (line 7)', '6.1 before 5.1: 5.1 reads x 1 (line 4), which 6.1 wrote (line 8)',
             'known as: a read from the future (G1c-realtime)'),
-    # what one of two reads of the other comes before their session
+    # the session of two comes before what one reads of the other
     by_hand('session 1, begin, w x 1, r y 2, commit, begin, r x 1, w y 2, commit', 'A8 cycle of known edges', 'cycle 1.1 1.2 1.1',
-            "in short: 1.2 saw 1.1's x; 1.1 saw 1.2's y", '1.1 before 1.2: 1.2 reads x 1 (line 7), which 1.1 wrote (line 3)',
-            '1.2 before 1.1: 1.1 reads y 2 (line 4), which 1.2 wrote (line 8)',
-            'known as: circular information flow (G1c)'),
+            "in short: 1.2 came after 1.1 in its session; 1.1 saw 1.2's y", '1.1 before 1.2: session 1', '1.2 before 1.1: 1.1 reads y 2 (line 4), which 1.2 wrote (line 8)',
+            'known as: a read from the future (G1c-process)'),
     # neither order of two versions, and no write is missed in either
     by_hand('session 1, begin, w x 1, commit, begin, w x 2, w y 4, commit, session 2, begin, r x 1, w x 3, r y 4, commit',
             'A9 pruning ends in a cycle', "in short: 2.1 saw 1.2's y; 1.2 wrote x after 2.1 (by [1])", 'cycle from 1.2:', '1.2 before 2.1: 2.1 reads y 4 (line 13), which 1.2 wrote (line 7)',

@@ -16,10 +16,10 @@ use std::alloc::{AllocError, Global};
 /// Why a node stands before another in each serial order. Operations count from 0.
 #[derive(Clone, Copy)]
 pub enum Reason {
-    /// Operation `read` of the second names the write that is operation `written` of the first.
-    Read { written: usize, read: usize },
     /// Both are of one session.
     Session,
+    /// Operation `read` of the second names the write that is operation `written` of the first.
+    Read { written: usize, read: usize },
     /// Both read the same write of a key, by operation `read` of the first, and operation
     /// `overwrites` of the second writes the key.
     Overwritten { read: usize, overwrites: usize },
@@ -76,6 +76,9 @@ pub fn reason_of(
     if a == b {
         return Ok(None);
     }
+    if are_of_session(history, a, b) {
+        return Ok(Some(Reason::Session));
+    }
     let nodes = history.committed();
     prove!(a.get() <= nodes);
     if let Some(found) = read_by(history, a, b) {
@@ -83,9 +86,6 @@ pub fn reason_of(
             written: found.first,
             read: found.second,
         }));
-    }
-    if are_of_session(history, a, b) {
-        return Ok(Some(Reason::Session));
     }
     if let Some(found) = overwritten_by(history, a, b) {
         return Ok(Some(Reason::Overwritten {
