@@ -336,7 +336,9 @@ def part_said(part):
 def check_fault(part, said, explain):
     if part is None:
         return must(said is None, 'JSON: a part %r' % said)
-    wanted = dict(code=part.code, known_as=part.known_as, part=part_said(part), **(dict(zip(EXPLAINED, (part.why, 'serializable' if part.is_serial_apart else None))) if explain else {}))
+    wanted = dict(code=part.code, known_as=part.known_as, part=part_said(part))
+    if explain:
+        wanted.update(explanation=part.why, without_sessions='serializable' if part.is_serial_apart else None)
     must(said == wanted, 'JSON: fault %r, wanted %r' % (said, wanted))
 
 

@@ -5,8 +5,8 @@ A line `    $ COMMAND` is run by bash at the top of the clone, and must write th
 comment `# status N` behind it names, or 0. A block ```sh is run whole, must end with status 0 and write what its comments `# prints TEXT`
 say. With several workers `check` may find another serial order than the page has: one with the same lines passes where `./run verify` accepts it.
 Left out are blocks that prove. The first command is run by two shells at once, as on a first day they may be. Where a solver is not
-installed, a small one of tests/solvers.py takes its place, and a note says so. Of IMPORTING.md standard error is shown too. FOLDER is a clone that stands already, in place of one of
-the last commit. Last line: 'readme: N passed, M failed'."""
+installed, a small one of tests/solvers.py takes its place, and a note says so. Of IMPORTING.md standard error is shown too. FOLDER is a
+clone that stands already, in place of one of the last commit. Last line: 'readme: N passed, M failed'."""
 import os, re, shutil, subprocess, sys, tempfile, time
 
 HERE = os.path.dirname(os.path.abspath(__file__))
