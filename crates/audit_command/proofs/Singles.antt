@@ -1,25 +1,11 @@
 -- Transactions of sessions, and each in a session of its own.
-use Rattle.std.proofs.Common.{◌≡◌, ℕ, ◌+◌, List, [], ◌∷◌, ◌++◌, length, map, refl, ap, sym, ◌∙◌, ◌<◌, ◌≤◌, ◌^◌, add-zero, arith}
-use Rattle.std.proofs.lemmas.Grind.{flat_map-append}
-use Rattle.std.proofs.lemmas.List.{map-append}
+use Rattle.std.proofs.Common.{◌≡◌, ℕ, ◌+◌, List, [], ◌∷◌, ◌++◌, length, ap, sym, ◌∙◌, ◌<◌, ◌≤◌, ◌^◌, add-zero, arith}
 use Rattle.std.specs.List.{AllByRecursion}
-use Rattle.session_log.specs.Text.{ClientSession, Transaction, IsLegal, IsLegalTxn, view, view_txn}
-use Rattle.session_log.specs.declared.session.Session.{Session}
-use Rattle.session_log.specs.declared.session.Txn.{Txn}
+use Rattle.session_log.specs.Text.{ClientSession, Transaction, IsLegal, IsLegalTxn}
 use Rattle.log_definitions.specs.Unknown.{txns_in}
 use Rattle.serializability.proofs.Places.{each_from_flat_map}
 use Rattle.audit_command.specs.Apart.{singles, apart}
-use Rattle.audit_command.specs.declared.apart.TheConstants.{MOST_APART}
-
--- those of a session more
-pub one_more : (all : List Txn) (ss : List Session) (s : Session) → map view_txn all ≡ txns_in (map view ss) → map view_txn (all ++ s.txns.items) ≡ txns_in (map view (ss ++ s ∷ []))
-one_more all ss s h =
-    map-append view_txn all s.txns.items ∙ ap (λ l. l ++ map view_txn s.txns.items) h
-    ∙ sym (ap txns_in (map-append view ss (s ∷ [])) ∙ flat_map-append (λ c. c.txns) (map view ss) (view s ∷ []) ∙ ap (λ l. txns_in (map view ss) ++ l) (last (view s).txns))
-  where
-    last : (ts : List Transaction) → ts ++ [] ≡ ts
-    last [] = refl
-    last (t ∷ ts) = ap (λ l. t ∷ l) (last ts)
+use Rattle.session_log.specs.declared.limits.TheConstants.{MAX_SESSIONS}
 
 -- one session more
 pub single_more : (n : ℕ) (ts : List Transaction) (t : Transaction) → singles n (ts ++ t ∷ []) ≡ singles n ts ++ singles (n + length ts) (t ∷ [])
@@ -35,5 +21,5 @@ legal_txns [] h = tt
 legal_txns (s ∷ ss) h = (h.0.txns, legal_txns ss h.1)
 
 -- each is one that a log can hold
-pub legal_apart : (ss : List ClientSession) → length (txns_in ss) ≤ MOST_APART → AllByRecursion IsLegal ss → AllByRecursion IsLegal (apart ss)
+pub legal_apart : (ss : List ClientSession) → length (txns_in ss) ≤ MAX_SESSIONS → AllByRecursion IsLegal ss → AllByRecursion IsLegal (apart ss)
 legal_apart ss few h = legal_singles 1 (txns_in ss) (omega (arith)) (omega (arith, few)) (each_from_flat_map IsLegalTxn (λ (s : ClientSession). s.txns) ss (legal_txns ss h))

@@ -17,7 +17,7 @@ use Rattle.judging.specs.declared.level.Level.{Level}
 use Rattle.judging.specs.declared.level.Level.TheVariants as level
 use Rattle.judging.specs.declared.means.JudgeMeans.{JudgeMeans}
 use Rattle.audit_command.specs.declared.explaining.TheConstants.{MANY_LINES}
-use Rattle.audit_command.specs.declared.apart.TheConstants.{MOST_APART}
+use Rattle.session_log.specs.declared.limits.TheConstants.{MAX_SESSIONS}
 
 -- these transactions, each in a session of its own, of which the first has this number
 abbrev pub singles : ℕ → List Transaction → List ClientSession
@@ -40,7 +40,7 @@ IsFound budget ss false = IsReduceFault ss TooManyChoices
 
 -- it has more sessions than `check` takes, or more lines than any log, or breaks another limit
 pub data IsTooLargeApart (ss : List ClientSession) : Type 0 where
-  many : MOST_APART < length (txns_in ss) → IsTooLargeApart ss
+  many : MAX_SESSIONS < length (txns_in ss) → IsTooLargeApart ss
   long : MANY_LINES < length (log_lines (apart ss)) → IsTooLargeApart ss
   limit : (f : LogFault) → list_fault (first_line One) (apart ss) ≡ Some f → IsTooLargeApart ss
 

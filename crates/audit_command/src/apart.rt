@@ -14,14 +14,11 @@ use judging::{JudgeMeans, Level};
 use log_parts::copy_log;
 use polygraph::PolyFault;
 use session_history::History;
-use session_log::{LogFault, Session, Txn, Version, line_count};
+use session_log::{LogFault, MAX_SESSIONS, Session, Txn, Version, line_count};
 use std::alloc::{AllocError, Global};
 use std::sync::Wait;
 use std::thread::Threads;
 use std::time::Clock;
-
-/// As many sessions as `check` takes.
-pub const MOST_APART: usize = 64;
 
 /// The transactions of all sessions.
 fn all_txns(alloc: Global, sessions: Vec<Session>) -> Result<Vec<Txn>, AllocError>
@@ -38,7 +35,7 @@ fn all_txns(alloc: Global, sessions: Vec<Session>) -> Result<Vec<Txn>, AllocErro
 
 /// A session of one transaction, of which the number is one more than this.
 fn single(alloc: Global, before: usize, txn: Txn) -> Result<Session, AllocError>
-    requires few { before < MOST_APART }
+    requires few { before < MAX_SESSIONS }
     ensures single { IfOk result (λ s. map view (s ∷ []) ≡ spec.singles (before + 1) (view_txn txn ∷ [])) }
 {
     let mut txns = Vec::new(alloc);
@@ -51,7 +48,7 @@ fn single(alloc: Global, before: usize, txn: Txn) -> Result<Session, AllocError>
 
 /// Each of these in a session of its own.
 fn singles(alloc: Global, txns: Vec<Txn>) -> Result<Vec<Session>, AllocError>
-    requires few { length txns.items ≤ MOST_APART }
+    requires few { length txns.items ≤ MAX_SESSIONS }
     ensures singles { IfOk result (λ all.
         map view all.items ≡ spec.singles 1 (map view_txn txns.items)) }
 {
@@ -68,13 +65,13 @@ fn singles(alloc: Global, txns: Vec<Txn>) -> Result<Vec<Session>, AllocError>
 fn without_sessions(alloc: Global, part: &[Session]) -> Result<Option<Vec<Session>>, AllocError>
     requires legal { AllByRecursion IsLegal (map view part.now) }
     ensures apart { IfOk result (λ all. MatchOption all
-        (MOST_APART < length (txns_in (map view part.now)))
+        (MAX_SESSIONS < length (txns_in (map view part.now)))
         (λ all. map view all.items ≡ spec.apart (map view part.now))) }
     ensures legal { IfOk result (λ all.
         IfSome all (λ all. AllByRecursion IsLegal (map view all.items))) }
 {
     let txns = all_txns(alloc, copy_log(alloc, part)?)?;
-    if txns.len() > MOST_APART {
+    if txns.len() > MAX_SESSIONS {
         return Ok(None);
     }
     Ok(Some(singles(alloc, txns)?))
