@@ -90,7 +90,7 @@ HINTS = {'A1': 'check first: does the log have each write of all clients, under 
 # What is said of a part that has an order without that of sessions.
 SERIAL_APART = 'without the order of sessions these have a serial order; of the rest of the log this says nothing'
 # What is said where a log has an order without its moments, and none with them.
-TIME_ALONE = ['only real time was broken: without it the whole log is serializable', 'check first: do the clients share a clock?']
+TIME_ALONE = ['only real time was broken: the whole log has a serial order, but none in the order of its moments', 'check first: do the clients share a clock?']
 
 
 class Part:

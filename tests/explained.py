@@ -35,7 +35,7 @@ SINCE = re.compile(r'    if [1-9][0-9]* came first, %s, which reads [0-9]+ \(lin
                    'would come before %s, which would overwrite it, but %s comes before %s:' % (NODE, BEHIND, NODE, NODE, NODE))
 FORCED, TABLE = 'these orders of versions are forced:', 'the reads and writes that matter:'
 # A cycle of so many edges is told in a sentence too.
-SHORT, FEW, CONCLUSION = 'in short: ', 6, '; so none of them can come first'
+SHORT, FEW, CONCLUSION = 'in short: ', 6, '; no serial order has all of this'
 CYCLE = re.compile('cycle from %s:' % NODE)
 ORDER = re.compile('suppose %s:' % VERSIONS)
 LEAVES = re.compile('proof: whichever of these versions came first, a cycle closes(?:, %s in all; the first 1000 of them)?:' % NUMBER)
@@ -184,9 +184,13 @@ class Log:
         return edges + ['known as: ' + self.known_as(names)] if edges else self.said_of_anomaly(first)
 
     def joined(self, names):
-        """These, of which one edge after the other is told, without those between two edges of a session."""
-        is_between = lambda a, it, b: self.reason(a, it)[0] == self.reason(it, b)[0] == 'session'
-        return names[:1] + [three[1] for three in zip(names, names[1:], names[2:]) if not is_between(*three)] + names[-1:]
+        """These, of which one edge after the other is told, without those between two of their session."""
+        return names[:1] + [three[1] for three in zip(names, names[1:], names[2:]) if not self.is_run(*three)] + names[-1:]
+
+    def is_run(self, a, it, b):
+        """Whether these stand one behind the other in one session."""
+        three = [self.named[name] for name in (a, it, b)]
+        return len({one.session for one in three}) == 1 and three[0].place < three[1].place < three[2].place
 
     def known_as(self, names):
         """What a cycle is called, by the kinds of its edges."""
@@ -235,13 +239,13 @@ class Log:
         return (b, False, "saw %s's %s" % (a, key)) if kind == 'read' else (a, True, "did not see %s's %s%s" % (b, key, by))
 
     def short(self, edges):
-        """The line that tells a cycle in a sentence, where it has few edges: two ends, and what is said of them. It begins so that what a
-        transaction did not see stands behind what else is said of that one."""
+        """The line that tells a cycle in a sentence, where it has few edges: two ends, and what is said of them. It ends with what a
+        transaction did not see, if one did not see something."""
         words = [self.words(*edge) for edge in edges]
         if not words or len(words) > FEW:
             return []
-        if words[0][1] and not words[-1][1]:
-            words = words[-1:] + words[:-1]
+        last = max((place for place, (_, misses, _) in enumerate(words, 1) if misses), default=0)
+        words = words[last:] + words[:last]
         said = SHORT + '%s %s' % words[0][::2]
         for (_, missed, _), (whose, misses, more) in zip(words, words[1:]):
             said += ', but ' + more if misses and not missed else '; %s %s' % (whose, more)
@@ -251,7 +255,7 @@ class Log:
 
     def reasons(self, a, b):
         """Each reason why a stands before b, as its kind and what its line says, the one that is to be said first."""
-        kinds = (('session', self.by_session), ('read', self.by_read), ('anti-dependency', self.by_anti_dependency),
+        kinds = (('read', self.by_read), ('session', self.by_session), ('anti-dependency', self.by_anti_dependency),
                  ('version order', self.by_version_order), ('moments', self.by_moments))
         return [(kind, said) for kind, tried in kinds for said in tried(self.named[a], self.named[b]) if a != b]
 
@@ -568,7 +572,7 @@ class Telling:
     def edges(self, where, decided, depth=None):
         """The edges that stand next, so deep, or as deep as these orders are decided, each with what it rests on. Each has its line, and
         begins where the one before it ends."""
-        found, before = [], None
+        found = []
         while True:
             edge = self.next(EDGE, len(decided) if depth is None else depth)
             if edge is None:
@@ -580,8 +584,7 @@ class Telling:
             kind, rights = self.rights((a, b), decided)
             told(rights, '%s: %s before %s: no reason, no step and no order' % (where, a, b))
             told(said in rights, '%s: %s before %s: %s: wanted %s' % (where, a, b, said, ' or '.join(rights)))
-            told(not (before == kind == 'session'), '%s: %s before %s: a run of one session in two lines' % (where, a, b))
-            before = kind
+            told(not found or not self.log.is_run(found[-1][0], a, b), '%s: %s before %s: a run of one session in two lines' % (where, a, b))
             self.used |= {rights[said]} if kind == 'forced' else set()
             self.met['%s %s' % (self.what if decided or self.what == 'A9' else 'step', kind)] += 1
             self.met['an order of 2 decided above'] += len(rights) > 1
@@ -775,14 +778,14 @@ def spoilt(r, text, checked, explained):
         for _, also in log.reasons(a, b)[1:]:
             yield 'a reason that holds too, and is not the first', instead(n, '%s before %s: %s' % (a, b, also))
         for it in log.nodes:
-            if log.reason(a, it.name)[0] == log.reason(it.name, b)[0] == 'session':
-                yield 'a run in two lines', instead(n, *('%s before %s: session %s' % (*two, it.session) for two in ((a, it.name), (it.name, b))))
+            if log.is_run(a, it.name, b):
+                yield 'a run in two lines', instead(n, *('%s before %s: %s' % (*two, log.reason(*two)[1]) for two in ((a, it.name), (it.name, b))))
         for it in log.nodes if cycles and (n < cycles[0] or not orders) and log.reason(a, b)[0] else ():
             if log.reason(a, it.name)[0] and log.reason(it.name, b)[0]:
                 way = ((a, it.name), (it.name, b))
                 yield 'a way around', instead(n, *('%s before %s: %s' % (*two, log.reason(*two)[1]) for two in way))
         for it in log.transactions:
-            if it not in log.nodes and log.reason(a, it.name)[0] == log.reason(it.name, b)[0] == 'session':
+            if it not in log.nodes and log.is_run(a, it.name, b):
                 way = ((a, it.name), (it.name, b))
                 yield 'a way by an aborted one', instead(n, *('%s before %s: session %s' % (*two, it.session) for two in way))
     if lines[-1].startswith('known as: '):
@@ -1058,10 +1061,10 @@ BY_HAND = [
     by_hand('log 3, session 5, begin 7, r x 1, commit 8, session 6, begin 9, w x 1, commit 10', 'A8 cycle of known edges', 'cycle 5.1 6.1 5.1',
             "in short: 6.1 began after 5.1 ended; 5.1 saw 6.1's x", '5.1 before 6.1: 5.1 ended at 8 (line 5), 6.1 began at 9 (line 7)', '6.1 before 5.1: 5.1 reads x 1 (line 4), which 6.1 wrote (line 8)',
             'known as: a read from the future (G1c-realtime)'),
-    # the session of two comes before what one reads of the other
+    # what one of two reads of the other comes before their session
     by_hand('session 1, begin, w x 1, r y 2, commit, begin, r x 1, w y 2, commit', 'A8 cycle of known edges', 'cycle 1.1 1.2 1.1',
-            "in short: 1.2 came after 1.1 in its session; 1.1 saw 1.2's y", '1.1 before 1.2: session 1', '1.2 before 1.1: 1.1 reads y 2 (line 4), which 1.2 wrote (line 8)',
-            'known as: a read from the future (G1c-process)'),
+            "in short: 1.2 saw 1.1's x; 1.1 saw 1.2's y", '1.1 before 1.2: 1.2 reads x 1 (line 7), which 1.1 wrote (line 3)',
+            '1.2 before 1.1: 1.1 reads y 2 (line 4), which 1.2 wrote (line 8)', 'known as: circular information flow (G1c)'),
     # neither order of two versions, and no write is missed in either
     by_hand('session 1, begin, w x 1, commit, begin, w x 2, w y 4, commit, session 2, begin, r x 1, w x 3, r y 4, commit',
             'A9 pruning ends in a cycle', "in short: 2.1 saw 1.2's y; 1.2 wrote x after 2.1 (by [1])", 'cycle from 1.2:', '1.2 before 2.1: 2.1 reads y 4 (line 13), which 1.2 wrote (line 7)',

@@ -18,7 +18,7 @@ LANES = min(4, os.cpu_count())
 LEVELS = ('strict-snapshot', 'snapshot')
 FORCED = 'these orders of snapshots and commits are forced:'
 # A circle of so many edges is told in a sentence too.
-SHORT, FEW, CONCLUSION = 'in short: ', 6, '; so none of them can come first'
+SHORT, FEW, CONCLUSION = 'in short: ', 6, '; no serial order has all of this'
 BY_SEARCH = 'no order of their snapshots and commits is left: a search shows it'
 NAME, KEY, POINT = r'(\d+\.\d+)', r'([A-Za-z0-9_.:/-]+)', r"(\d+\.\d+)'s (snapshot|commit)"
 EDGE = re.compile('%s before %s: (.+)' % (POINT, POINT))
@@ -186,12 +186,12 @@ class Telling:
 
     @staticmethod
     def sentences(lead, words, is_circle):
-        """What may be said of edges in a sentence, where they are few. Of a circle it begins so that what a transaction did not see stands
-        behind what else is said of that one, and ends with what follows; a way does not come back to where it begins."""
+        """What may be said of edges in a sentence, where they are few. Of a circle it begins behind the last one that says what a
+        transaction did not see, and ends with what follows; a way does not come back to where it begins."""
         if len(words) > FEW:
             return []
-        if is_circle and words[0][1] and not words[-1][1]:
-            words = words[-1:] + words[:-1]
+        last = max((place for place, (_, misses, _) in enumerate(words, 1) if misses), default=0) if is_circle else 0
+        words = words[last:] + words[:last]
         said = [lead + '%s %s' % (words[0][0], it) for it in words[0][2]]
         for (_, missed, _), (whose, misses, more) in zip(words, words[1:]):
             said = [front + (', but ' if misses and not missed else '; %s ' % whose) + it for front in said for it in more]

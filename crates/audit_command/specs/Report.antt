@@ -151,7 +151,7 @@ without_line word = codes "the whole log without real time: " ++ word_text word 
 unfoldable pub time_text : Word → List ℕ
 time_text word.Serializable = without_line word.Serializable
 time_text word.NotSerializable =
-    codes "only real time was broken: without it the whole log is serializable\n"
+    codes "only real time was broken: the whole log has a serial order, but none in the order of its moments\n"
     ++ codes "check first: do the clients share a clock?\n"
 time_text word.Unknown = without_line word.Serializable
 

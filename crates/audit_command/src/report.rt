@@ -303,7 +303,7 @@ fn put_time(out: &mut Vec<u8>, with: Word) -> Result<(), AllocError>
         Word::NotSerializable => {
             put(
                 out,
-                b"only real time was broken: without it the whole log is serializable\n",
+                b"only real time was broken: the whole log has a serial order, but none in the order of its moments\n",
             )?;
             put(out, b"check first: do the clients share a clock?\n")
         }

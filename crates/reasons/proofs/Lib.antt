@@ -10,3 +10,4 @@ pub mod Pairs
 pub mod Looks
 pub mod Squares
 pub mod Crossing
+pub mod Sessions

@@ -27,16 +27,16 @@ NoneOverwritten ss a b = (i j : ℕ) → IsOverwrittenBy ss a i b j → ⊥
 abbrev pub NoneInitial : List ClientSession → ℕ → ℕ → Type 0
 NoneInitial ss a b = (i j : ℕ) → IsOfInitialBefore ss a i b j → ⊥
 
--- none of the kinds that stand before this one has a reason: session, read, overwritten, initial,
+-- none of the kinds that stand before this one has a reason: read, session, overwritten, initial,
 -- moments
 abbrev pub IsOfFirstKind : List ClientSession → ℕ → ℕ → Reason → Type 0
-IsOfFirstKind ss a b reason.Session = Unit {0}
-IsOfFirstKind ss a b (reason.Read written read) = ¬ AreOfSession ss a b
-IsOfFirstKind ss a b (reason.Overwritten read overwrites) = (¬ AreOfSession ss a b)
-    × NoneRead ss a b
-IsOfFirstKind ss a b (reason.Initial read begins) = (¬ AreOfSession ss a b) × NoneRead ss a b
+IsOfFirstKind ss a b (reason.Read written read) = Unit {0}
+IsOfFirstKind ss a b reason.Session = NoneRead ss a b
+IsOfFirstKind ss a b (reason.Overwritten read overwrites) = NoneRead ss a b
+    × (¬ AreOfSession ss a b)
+IsOfFirstKind ss a b (reason.Initial read begins) = NoneRead ss a b × (¬ AreOfSession ss a b)
     × NoneOverwritten ss a b
-IsOfFirstKind ss a b reason.Moments = (¬ AreOfSession ss a b) × NoneRead ss a b
+IsOfFirstKind ss a b reason.Moments = NoneRead ss a b × (¬ AreOfSession ss a b)
     × NoneOverwritten ss a b × NoneInitial ss a b
 
 -- no kind has a reason

@@ -3,3 +3,4 @@ pub mod Squares
 pub mod Given
 pub mod Events
 pub mod Initials
+pub mod Runs

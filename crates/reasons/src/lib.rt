@@ -11,6 +11,8 @@ mod operations;
 mod overwritten;
 mod read;
 mod reason;
+mod runs;
 
 pub use crossed::{MAX_LOOKS, crossed_reads};
 pub use reason::{Reason, reason_of};
+pub use runs::without_runs;

@@ -3,12 +3,13 @@
 ghost use Rattle.std.specs.Prelude.{◌≡◌, ◌<◌, ◌≤◌, ◌≢◌, ◌↔◌, IsTrue, IfSome, IfNone, IfOk};
 ghost use Rattle.serializability.specs.Reads.{IsClean};
 ghost use Rattle.log_definitions.specs.Numbers.{log_of};
-ghost use Rattle.reason_laws.specs.Reasons.{IsNode, AreOfSession, EndsBefore};
+ghost use Rattle.reason_laws.specs.Reasons.{IsNode, EndsBefore};
 ghost use Rattle.reasons.specs.Given.{IsReason, IsOfFirstKind, IsLeast, HaveNone};
 
 use crate::initial::before_by_initial;
 use crate::overwritten::overwritten_by;
 use crate::read::read_by;
+use crate::runs::is_behind;
 use serializability::NodeIx;
 use session_history::History;
 use std::alloc::{AllocError, Global};
@@ -16,10 +17,10 @@ use std::alloc::{AllocError, Global};
 /// Why a node stands before another in each serial order. Operations count from 0.
 #[derive(Clone, Copy)]
 pub enum Reason {
-    /// Both are of one session.
-    Session,
     /// Operation `read` of the second names the write that is operation `written` of the first.
     Read { written: usize, read: usize },
+    /// Both are of one session.
+    Session,
     /// Both read the same write of a key, by operation `read` of the first, and operation
     /// `overwrites` of the second writes the key.
     Overwritten { read: usize, overwrites: usize },
@@ -29,15 +30,6 @@ pub enum Reason {
     Initial { read: usize, begins: usize },
     /// The first ended before the second began.
     Moments,
-}
-
-/// Whether both are of one session, and the first stands before the second in it.
-fn are_of_session(history: &History, a: NodeIx, b: NodeIx) -> bool
-    requires first { IsNode history.now a }
-    requires second { IsNode history.now b }
-    ensures { IsTrue result ↔ AreOfSession history.now a b }
-{
-    a.get() < b.get() && history.session_of(a) == history.session_of(b)
 }
 
 /// Whether the first ended before the second began.
@@ -76,9 +68,6 @@ pub fn reason_of(
     if a == b {
         return Ok(None);
     }
-    if are_of_session(history, a, b) {
-        return Ok(Some(Reason::Session));
-    }
     let nodes = history.committed();
     prove!(a.get() <= nodes);
     if let Some(found) = read_by(history, a, b) {
@@ -86,6 +75,9 @@ pub fn reason_of(
             written: found.first,
             read: found.second,
         }));
+    }
+    if is_behind(history, a, b) {
+        return Ok(Some(Reason::Session));
     }
     if let Some(found) = overwritten_by(history, a, b) {
         return Ok(Some(Reason::Overwritten {

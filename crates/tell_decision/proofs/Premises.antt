@@ -1,7 +1,6 @@
 -- What is known of a history where its answer is to be explained.
-use Rattle.std.proofs.Common.{◌≡◌, ℕ, List, [], ◌∷◌, ◌++◌, Option, sym, ap, ◌∙◌, subst, inl, inr}
+use Rattle.std.proofs.Common.{◌≡◌, ℕ, List, [], Option, ap, ◌∙◌, subst}
 use Rattle.session_log.specs.Text.{ClientSession}
-use Rattle.serializability.specs.Log.{Log}
 use Rattle.serializability.specs.Polygraph.{Choice, Polygraph}
 use Rattle.serializability.specs.Reads.{IsClean}
 use Rattle.headline.proofs.Answered.{clean_log}
@@ -10,15 +9,16 @@ use Rattle.log_lines.specs.declared.placed.PlacedHistory.{PlacedHistory}
 use Rattle.prune_ledger.specs.declared.ledger.Ledger.{Ledger}
 use Rattle.reasons.specs.Crossed.{IsCrossedAnswer}
 use Rattle.reason_laws.specs.declared.crossing.Crossing.{Crossing}
-use Rattle.reduction.specs.Chained.{IsKnownCycle, IsUnpruned}
+use Rattle.reduction.specs.Chained.{IsUnpruned}
 use Rattle.reduction.specs.Outcome.{IsDeadHistory}
 use Rattle.tell_steps.specs.Ledgers.{IsDeadLedger}
 use Rattle.tell_steps.specs.Steps.{IsLineTold, IsDeadTold}
 use Rattle.tell_steps.specs.declared.item.Item.{Item}
-use Rattle.tell_decision.specs.Runs.{joined_items}
 use Rattle.cube_laws.specs.declared.tree.TreeNode.{TreeNode}
 use Rattle.tell_trees.specs.Trees.{IsTreeTold}
-use Rattle.tell_decision.proofs.RunLines.{between_joined}
+use Rattle.tell_steps.specs.Lines.{IsRound}
+use Rattle.tell_steps.proofs.Telling.{runs_lead}
+use Rattle.reasons.specs.Runs.{without_runs}
 use Rattle.tell_decision.specs.Explained.{cycle_text, dead_text, tree_text, IsRoundTold, IsCycleWritten, IsDeadWritten, IsTreeWritten}
 use Rattle.call_options.specs.declared.format.Format.{Format}
 
@@ -44,27 +44,10 @@ cycle_written line format log items given text told same written = record { item
 pub dead_written : (format : Format) (log : PlacedHistory) (found : Option Crossing) (items given : List Item) (text : List ℕ) → IsCrossedAnswer log.history.now found → IsDeadTold log.history.now items → given ≡ items → text ≡ dead_text format log found given → IsDeadWritten format log text
 dead_written format log found items given text crossed told same written = record { found = found; crossed = crossed; items = items; told = told; written = written ∙ ap (dead_text format log found) same }
 
--- ---- a line that leads back to where it begins
-record Round (line : List ℕ) : Type 0 where
-  pub start : ℕ
-  pub inner : List ℕ
-  pub shape : line ≡ start ∷ (inner ++ start ∷ [])
-
-round_of : (log : Log) (line : List ℕ) → IsKnownCycle log line → Round line
-round_of log line (inl c) = record { start = c.0; inner = c.1.inner; shape = c.1.shape }
-round_of log line (inr c) = let cycle = c.1 in record { start = cycle.0; inner = cycle.1.inner; shape = cycle.1.shape }
-
-pub round_told : (ss : List ClientSession) (line : List ℕ) (each items : List Item) → IsKnownCycle (log_of ss) line → IsLineTold ss [] [] line each → items ≡ joined_items each → IsRoundTold ss line items
-round_told ss line each items cycle told same =
-    let r = round_of (log_of ss) line cycle in
-    let b = between_joined ss [] [] r.start r.start r.inner each (subst (λ l. IsLineTold ss [] [] l each) r.shape told) in
-    record {
-      each = each;
-      edges = told;
-      runs = same;
-      start = r.start;
-      rest = r.inner ++ r.start ∷ [];
-      begins = r.shape;
-      inner = b.inner;
-      told = subst (IsLineTold ss [] [] (r.start ∷ (b.inner ++ r.start ∷ []))) (sym same) b.says;
-    }
+pub round_told : (ss : List ClientSession) (line short : List ℕ) (items : List Item) → IsRound line → short ≡ without_runs ss line → IsLineTold ss [] [] short items → IsRoundTold ss line items
+round_told ss line short items round same told = record {
+  start = round.start;
+  whole = round.ends;
+  short = runs_lead ss round.start line round.ends;
+  told = subst (λ l. IsLineTold ss [] [] l items) same told;
+}

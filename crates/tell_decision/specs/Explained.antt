@@ -10,12 +10,13 @@ use Rattle.deciding.specs.declared.decision.Decision.TheVariants.{Serial, Anomal
 use Rattle.deciding.specs.declared.decision.Decision.TheVariants.{Refuted, Spent}
 use Rattle.reason_laws.specs.declared.crossing.Crossing.{Crossing}
 use Rattle.reasons.specs.Crossed.{IsCrossedAnswer}
+use Rattle.reasons.specs.Runs.{without_runs}
 use Rattle.tell_reasons.specs.Anomalies.{IsAnomalyTold}
 use Rattle.tell_reasons.specs.Crossed.{crossing_text}
+use Rattle.tell_steps.specs.Lines.{HasEnds}
 use Rattle.tell_steps.specs.Steps.{IsLineTold, IsDeadTold}
 use Rattle.tell_steps.specs.declared.item.Item.{Item}
 use Rattle.tell_steps.specs.declared.item.Item.TheVariants.{Step, Edge}
-use Rattle.tell_decision.specs.Runs.{joined_items}
 use Rattle.serializability.specs.Polygraph.{Choice}
 use Rattle.cube_laws.specs.declared.tree.TreeNode.{TreeNode}
 use Rattle.tell_trees.specs.Trees.{IsTreeTold}
@@ -127,17 +128,13 @@ pub record IsTreeWritten (choices : List Choice) (nodes : List TreeNode) (format
   pub told : IsTreeTold log.history.now choices nodes items
   pub written : text ≡ tree_text format log found items
 
--- the edges of a line of nodes, each with its reason, with each run of edges of one session as one:
--- what is told leads from the line's first node back to it
+-- the edges of a cycle, each with its reason, with each run of edges of one session as one: what is
+-- told leads from the cycle's first node back to it
 pub record IsRoundTold (ss : List ClientSession) (line : List ℕ) (items : List Item) : Type 0 where
-  pub each : List Item
-  pub edges : IsLineTold ss [] [] line each
-  pub runs : items ≡ joined_items each
   pub start : ℕ
-  pub rest : List ℕ
-  pub begins : line ≡ start ∷ rest
-  pub inner : List ℕ
-  pub told : IsLineTold ss [] [] (start ∷ (inner ++ start ∷ [])) items
+  pub whole : HasEnds start start line
+  pub short : HasEnds start start (without_runs ss line)
+  pub told : IsLineTold ss [] [] (without_runs ss line) items
 
 -- a cycle of known edges, and its name
 pub record IsCycleWritten (line : List ℕ) (format : Format) (log : PlacedHistory)

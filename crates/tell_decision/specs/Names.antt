@@ -31,7 +31,7 @@ kind_by_order None = MISSED
 
 abbrev pub kind_of : List ClientSession → ℕ → Why → Shape
 kind_of ss a (why.Known r) = kind_by_reason r
-kind_of ss a (why.Forced step o) = kind_by_order (left_at ss o.key a)
+kind_of ss a (why.Forced number o) = kind_by_order (left_at ss o.key a)
 kind_of ss a (why.Chosen o) = kind_by_order (left_at ss o.key a)
 
 -- with the edges that stand first among these

@@ -1,7 +1,8 @@
 -- A cycle in a sentence: what each of its transactions saw of another one, and what not: `in short:
 -- 2.1 saw 1.1's x, but did not see 1.1's y`.
-use Rattle.std.specs.Prelude.{ℕ, ◌+◌, ◌-◌, ◌||◌, ◌&&◌, Bool, true, not, nat_lt, if◌then◌else◌, List, [], ◌∷◌}
-use Rattle.std.specs.Prelude.{◌++◌, codes, decimal, length, take, slice_get, nat_eq, Option, None, Some}
+use Rattle.std.specs.Prelude.{ℕ, ◌-◌, ◌||◌, Bool, true, not, nat_lt, if◌then◌else◌, List, [], ◌∷◌}
+use Rattle.std.specs.Prelude.{◌++◌, codes, decimal, length, take, drop, reverse, nat_eq, Option, None, Some}
+use Rattle.std.specs.List.{prefix_len}
 use Rattle.session_log.specs.Text.{ClientSession}
 use Rattle.reasons.specs.declared.reason.Reason.{Reason}
 use Rattle.reasons.specs.declared.reason.Reason.TheVariants as reason
@@ -63,14 +64,14 @@ ordered_at log x a b (Some i) = codes " wrote "
 abbrev pub ordered_text : PlacedHistory → ℕ → ℕ → ℕ → List ℕ
 ordered_text log x a b = ordered_at log x a b (left_at log.history.now x a)
 
--- by which step: steps count from 1 in a text
+-- by which step
 abbrev pub by_text : ℕ → List ℕ
-by_text step = codes " (by [" ++ (decimal (step + 1) ++ codes "])")
+by_text number = codes " (by [" ++ (decimal number ++ codes "])")
 
 -- what an edge says, but for the transaction with which that begins
 abbrev pub said_text : PlacedHistory → ℕ → ℕ → Why → List ℕ
 said_text log a b (why.Known r) = known_text log a b r
-said_text log a b (why.Forced step o) = ordered_text log o.key a b ++ by_text step
+said_text log a b (why.Forced number o) = ordered_text log o.key a b ++ by_text number
 said_text log a b (why.Chosen o) = ordered_text log o.key a b
 
 abbrev pub words_of : PlacedHistory → Before → Item → List ℕ
@@ -93,26 +94,26 @@ all_words log before [] = []
 all_words log before (i ∷ items) =
     words_of log before i ++ all_words log (behind log.history.now i) items
 
--- the last of these edges, where the words of the first one go on its own
-abbrev pub led_at : List ClientSession → Option Item → Option Item → Option Item
-led_at ss (Some i) (Some j) = if misses ss i && not (misses ss j) then Some j else None
-led_at ss _ _ = None
+-- how many of these edges stand behind the last one that misses a write
+abbrev pub count_behind : List ClientSession → List Item → ℕ
+count_behind ss items = prefix_len (λ i. not (misses ss i)) (reverse items)
 
-abbrev pub led_by : List ClientSession → List Item → Option Item
-led_by ss items = led_at ss (slice_get items 0) (slice_get items (length items - 1))
+-- what stands before the words of edges that follow these, none of which misses a write
+abbrev pub behind_all : List Item → Before
+behind_all [] = Nothing
+behind_all (i ∷ items) = Same
 
--- from that one, or from the first
-abbrev pub round_at : PlacedHistory → List Item → Option Item → List ℕ
-round_at log items None = all_words log Nothing items
-round_at log items (Some last) =
-    words_of log Nothing last ++ all_words log Same (take (length items - 1) items)
+-- edges that close: those behind the last one that misses a write, and then the others up to it
+abbrev pub turned_text : PlacedHistory → ℕ → List Item → List ℕ
+turned_text log n items = all_words log Nothing (drop n items)
+    ++ all_words log (behind_all (drop n items)) (take n items)
 
 abbrev pub round_text : PlacedHistory → List Item → List ℕ
-round_text log items = round_at log items (led_by log.history.now items)
+round_text log items = turned_text log (length items - count_behind log.history.now items) items
 
 -- what follows from so many edges, where two do not show it at a glance
 abbrev pub end_text : ℕ → List ℕ
-end_text n = if nat_lt 2 n then codes "; so none of them can come first\n" else codes "\n"
+end_text n = if nat_lt 2 n then codes "; no serial order has all of this\n" else codes "\n"
 
 -- the edges of a cycle, where they are few
 abbrev pub short_text : Format → PlacedHistory → List Item → List ℕ

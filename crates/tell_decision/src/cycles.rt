@@ -5,12 +5,11 @@ ghost use Rattle.serializability.specs.Reads.{IsClean};
 ghost use Rattle.log_definitions.specs.Numbers.{log_of};
 ghost use Rattle.reduction.specs.Chained.{IsKnownCycle};
 ghost use Rattle.tell_reasons.specs.declared.why.Why.TheVariants as why;
+ghost use Rattle.tell_steps.specs.Lines.{Stands, LineStands};
 ghost use Rattle.tell_steps.specs.Steps.{IsWhy, IsLineTold};
 ghost use Rattle.tell_decision.specs.Explained.{IsRoundTold};
-ghost use Rattle.tell_decision.specs.Shown.{IsShown};
 
-use crate::runs::joined;
-use reasons::{Reason, reason_of};
+use reasons::{Reason, reason_of, without_runs};
 use serializability::NodeIx;
 use session_history::History;
 use std::alloc::{AllocError, Global};
@@ -20,7 +19,7 @@ use tell_steps::Item;
 /// Why the log shows that `a` stands before `b`, where it does.
 fn reason(alloc: Global, history: &History, a: NodeIx, b: NodeIx) -> Result<Reason, AllocError>
     requires clean { IsClean (log_of history.now) }
-    requires shown { IsShown history.now a b }
+    requires stands { Stands history.now [] [] a b }
     ensures why { IfOk result (λ reason. IsWhy history.now [] [] a b (why.Known reason)) }
 {
     let _invariant = history.committed();
@@ -30,16 +29,16 @@ fn reason(alloc: Global, history: &History, a: NodeIx, b: NodeIx) -> Result<Reas
     }
 }
 
-/// The edges of a cycle of known edges, each with its reason.
-fn tell_cycle(alloc: Global, history: &History, line: &[NodeIx]) -> Result<Vec<Item>, AllocError>
+/// The edges of a line, each with its reason.
+fn tell_line(alloc: Global, history: &History, line: &[NodeIx]) -> Result<Vec<Item>, AllocError>
     requires clean { IsClean (log_of history.now) }
-    requires cycle { IsKnownCycle (log_of history.now) line.now }
+    requires stands { LineStands history.now [] [] line.now }
     ensures told { IfOk result (λ items. IsLineTold history.now [] [] line.now items.items) }
 {
     let mut items = Vec::with_capacity(alloc, line.len())?;
-    for i in 1..line.len() {
-        let first = line[i - 1];
-        let second = line[i];
+    for i in 0..line.len() - 1 {
+        let first = line[i];
+        let second = line[i + 1];
         let shown = reason(alloc, history, first, second)?;
         let why = Why::Known(shown);
         items.push(Item::Edge { first, second, why })?;
@@ -57,6 +56,6 @@ pub fn cycle_items(
     requires cycle { IsKnownCycle (log_of history.now) line.now }
     ensures told { IfOk result (λ items. IsRoundTold history.now line.now items.items) }
 {
-    let told = tell_cycle(alloc, history, line)?;
-    joined(alloc, &told)
+    let short = without_runs(alloc, history, line)?;
+    tell_line(alloc, history, &short)
 }

@@ -9,7 +9,6 @@ ghost use Rattle.tell_decision.specs.Explained.{IsAnomalyExplained, IsCycleWritt
 ghost use Rattle.tell_decision.specs.Explained.{IsDeadWritten, IsTreeWritten};
 
 use crate::cycles::cycle_items;
-use crate::steps::{dead_items, tree_items};
 use crate::written::{written_cycle, written_dead, written_lines, written_tree};
 use call_options::Format;
 use cube_laws::Tree;
@@ -21,6 +20,8 @@ use serializability::{Anomaly, NodeIx};
 use session_history::History;
 use std::alloc::{AllocError, Global};
 use tell_reasons::put_anomaly;
+use tell_steps::tell_dead;
+use tell_trees::tell_tree;
 
 /// The operations that show an anomaly, which is the one of a history.
 pub fn explain_anomaly(
@@ -67,7 +68,7 @@ pub fn explain_dead(
 {
     let _invariant = log.history.committed();
     let chains = open_chains(alloc, log.history)?;
-    let items = dead_items(alloc, log.history, &chains, ledger)?;
+    let items = tell_dead(alloc, log.history, &chains, ledger)?;
     let found = crossed_reads(alloc, log.history)?;
     written_dead(alloc, log, format, found, &items)
 }
@@ -88,7 +89,7 @@ pub fn explain_tree(
 {
     let _invariant = log.history.committed();
     let chains = open_chains(alloc, log.history)?;
-    let items = tree_items(alloc, log.history, &chains, reduced, tree)?;
+    let items = tell_tree(alloc, log.history, &chains, reduced, tree)?;
     let found = crossed_reads(alloc, log.history)?;
     written_tree(alloc, log, format, found, &items)
 }

@@ -6,9 +6,7 @@
 mod cycles;
 mod explained;
 mod names;
-mod runs;
 mod short;
-mod steps;
 mod telling;
 mod written;
 

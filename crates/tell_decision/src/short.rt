@@ -1,12 +1,6 @@
 //! A cycle in a sentence: what each of its transactions saw of another one, and what not.
 
-ghost use Rattle.std.specs.Prelude.{◌≡◌, ◌+◌, ◌<◌, ◌≤◌, ◌^◌, ◌++◌, length, IfSome, OnOk};
-ghost use Rattle.log_definitions.specs.Serial.{ops_of};
-ghost use Rattle.log_definitions.specs.Numbers.{log_of};
-ghost use Rattle.reason_laws.specs.Reasons.{IsNode};
-ghost use Rattle.reasons.specs.Given.{IsReason};
-ghost use Rattle.tell_reasons.specs.Reasons.{CanTell};
-ghost use Rattle.tell_texts.specs.Texts.{IsTellable, AreTellable};
+ghost use Rattle.std.specs.Prelude.{◌≡◌, ◌≤◌, ◌++◌, length, OnOk};
 ghost use Rattle.tell_decision.specs.Short as spec;
 
 use crate::names::kind_of;
@@ -40,12 +34,8 @@ fn is_missed(history: &History, first: NodeIx, why: &Why) -> bool
 }
 
 /// The transaction with which the words of an edge begin.
-#[tactic(auto, using(reason_laws::proofs::Numbers::within))]
-fn whose(_history: &History, is_missed: bool, first: NodeIx, second: NodeIx) -> NodeIx
-    requires first { IsNode _history.now first }
-    requires second { IsNode _history.now second }
-    ensures whose { result ≡ spec.whose is_missed first second }
-    ensures within { result ≤ (log_of _history.now).nodes }
+fn whose(is_missed: bool, first: NodeIx, second: NodeIx) -> NodeIx
+    ensures { result ≡ spec.whose is_missed first second }
 {
     if is_missed { first } else { second }
 }
@@ -59,7 +49,6 @@ fn put_lead(
     is_missed: bool,
     whose: NodeIx,
 ) -> Result<(), AllocError>
-    requires within { whose ≤ (log_of log.now.history.now).nodes }
     ensures text { OnOk result (out.new.items
         ≡ out.old.items ++ spec.lead_text log.now before is_missed whose) }
 {
@@ -77,15 +66,12 @@ fn put_lead(
 }
 
 /// Appends that a write is not seen, by its key.
-#[tactic(auto, using(reason_laws::proofs::Numbers::within))]
 fn put_unseen(
     out: &mut Vec<u8>,
     log: &PlacedHistory<'_>,
     writer: NodeIx,
     op: usize,
 ) -> Result<(), AllocError>
-    requires writer { IsNode log.now.history.now writer }
-    requires op { op < length (ops_of log.now.history.now writer) }
     ensures text { OnOk result (out.new.items
         ≡ out.old.items ++ spec.unseen_text log.now writer op) }
 {
@@ -93,14 +79,12 @@ fn put_unseen(
 }
 
 /// Appends that what a transaction wrote of a key is not seen.
-#[tactic(auto, using(reason_laws::proofs::Numbers::within))]
 fn put_unseen_of(
     out: &mut Vec<u8>,
     log: &PlacedHistory<'_>,
     key: usize,
     writer: NodeIx,
 ) -> Result<(), AllocError>
-    requires writer { IsNode log.now.history.now writer }
     ensures text { OnOk result (out.new.items
         ≡ out.old.items ++ spec.unseen_of log.now key writer) }
 {
@@ -111,7 +95,6 @@ fn put_unseen_of(
 }
 
 /// Appends what an edge says that the log shows, but for the transaction with which that begins.
-#[tactic(auto, using(reason_laws::proofs::Numbers::within, tell_reasons::proofs::Ops::op_below))]
 fn put_known(
     out: &mut Vec<u8>,
     log: &PlacedHistory<'_>,
@@ -119,9 +102,6 @@ fn put_known(
     second: NodeIx,
     reason: Reason,
 ) -> Result<(), AllocError>
-    requires first { IsNode log.now.history.now first }
-    requires second { IsNode log.now.history.now second }
-    requires reason { IsReason log.now.history.now first second reason }
     ensures text { OnOk result (out.new.items
         ≡ out.old.items ++ spec.known_text log.now first second reason) }
 {
@@ -140,7 +120,6 @@ fn put_known(
 
 /// Appends what an edge by an order of two versions of a key says, but for the transaction with
 /// which that begins.
-#[tactic(auto, using(reason_laws::proofs::Numbers::within))]
 fn put_ordered(
     out: &mut Vec<u8>,
     log: &PlacedHistory<'_>,
@@ -148,8 +127,6 @@ fn put_ordered(
     first: NodeIx,
     second: NodeIx,
 ) -> Result<(), AllocError>
-    requires first { IsNode log.now.history.now first }
-    requires second { IsNode log.now.history.now second }
     ensures text { OnOk result (out.new.items
         ≡ out.old.items ++ spec.ordered_text log.now key first second) }
 {
@@ -161,12 +138,11 @@ fn put_ordered(
     }
 }
 
-/// Appends by which step an edge stands; steps count from 1 in a text.
-fn put_by(out: &mut Vec<u8>, log: &PlacedHistory<'_>, step: usize) -> Result<(), AllocError>
-    requires step { step + 1 < 2 ^ 64 }
-    ensures text { OnOk result (out.new.items ≡ out.old.items ++ spec.by_text step) }
+/// Appends by which step an edge stands.
+fn put_by(out: &mut Vec<u8>, log: &PlacedHistory<'_>, number: usize) -> Result<(), AllocError>
+    ensures text { OnOk result (out.new.items ≡ out.old.items ++ spec.by_text number) }
 {
-    say!(out, log; Text(b" (by ["), Number(step as u64 + 1), Text(b"])"))
+    say!(out, log; Text(b" (by ["), Number(number as u64), Text(b"])"))
 }
 
 /// Appends what an edge says, but for the transaction with which that begins.
@@ -177,17 +153,14 @@ fn put_said(
     second: NodeIx,
     why: &Why,
 ) -> Result<(), AllocError>
-    requires first { IsNode log.now.history.now first }
-    requires second { IsNode log.now.history.now second }
-    requires why { CanTell log.now.history.now first second why.now }
     ensures text { OnOk result (out.new.items
         ≡ out.old.items ++ spec.said_text log.now first second why.now) }
 {
     match why {
         Why::Known(reason) => put_known(out, log, first, second, *reason),
-        Why::Forced { step, order } => {
+        Why::Forced { number, order } => {
             put_ordered(out, log, order.key, first, second)?;
-            put_by(out, log, *step)
+            put_by(out, log, *number)
         }
         Why::Chosen(order) => put_ordered(out, log, order.key, first, second),
     }
@@ -200,14 +173,13 @@ fn put_words(
     before: Before,
     item: &Item,
 ) -> Result<(), AllocError>
-    requires item { IsTellable log.now.history.now item.now }
     ensures text { OnOk result (out.new.items
         ≡ out.old.items ++ spec.words_of log.now before item.now) }
 {
     match item {
         Item::Edge { first, second, why } => {
             let missed = is_missed(log.history, *first, why);
-            let begins = whose(log.history, missed, *first, *second);
+            let begins = whose(missed, *first, *second);
             put_lead(out, log, before, missed, begins)?;
             put_said(out, log, *first, *second, why)
         }
@@ -243,7 +215,6 @@ fn put_all(
     start: Before,
     items: &[Item],
 ) -> Result<(), AllocError>
-    requires items { AreTellable log.now.history.now items.now }
     ensures text { OnOk result (out.new.items
         ≡ out.old.items ++ spec.all_words log.now start items.now) }
 {
@@ -255,37 +226,37 @@ fn put_all(
     Ok(())
 }
 
-/// The last of these edges, where the words of the first one go on its own.
-fn led_by(history: &History, edges: &[Item]) -> Option<Item>
-    requires some { 0 < length edges.now }
-    requires edges { AreTellable history.now edges.now }
-    ensures led { result ≡ spec.led_by history.now edges.now }
-    ensures tellable { IfSome result (IsTellable history.now) }
+/// How many of these edges stand behind the last one that misses a write.
+fn count_behind(history: &History, edges: &[Item]) -> usize
+    ensures count { result ≡ spec.count_behind history.now edges.now }
+    ensures few { result ≤ length edges.now }
 {
-    let last = &edges[edges.len() - 1];
-    if misses(history, &edges[0]) && !misses(history, last) {
-        Some(*last)
-    } else {
-        None
+    edges
+        .iter()
+        .rev()
+        .take_while(|item| !misses(history, item))
+        .count()
+}
+
+/// What stands before the words of edges that follow these, none of which misses a write.
+fn behind_all(edges: &[Item]) -> Before
+    ensures { result ≡ spec.behind_all edges.now }
+{
+    match edges {
+        [] => Before::Nothing,
+        [_, ..] => Before::Same,
     }
 }
 
-/// Appends the words of edges that close: from the last one, where those of the first one go on its
-/// own.
+/// Appends the words of edges that close, so that the last ones say what a transaction did not see.
 fn put_round(out: &mut Vec<u8>, log: &PlacedHistory<'_>, edges: &[Item]) -> Result<(), AllocError>
-    requires some { 0 < length edges.now }
-    requires edges { AreTellable log.now.history.now edges.now }
     ensures text { OnOk result (out.new.items
         ≡ out.old.items ++ spec.round_text log.now edges.now) }
 {
-    match led_by(log.history, edges) {
-        Some(last) => {
-            let (before, _) = edges.split_at(edges.len() - 1);
-            put_words(out, log, Before::Nothing, &last)?;
-            put_all(out, log, Before::Same, before)
-        }
-        None => put_all(out, log, Before::Nothing, edges),
-    }
+    let count = edges.len() - count_behind(log.history, edges);
+    let (missing, first) = edges.split_at(count);
+    put_all(out, log, Before::Nothing, first)?;
+    put_all(out, log, behind_all(first), missing)
 }
 
 /// Appends what follows from so many edges, where two do not show it at a glance, and ends the line.
@@ -293,7 +264,7 @@ fn put_end(out: &mut Vec<u8>, log: &PlacedHistory<'_>, edges: usize) -> Result<(
     ensures text { OnOk result (out.new.items ≡ out.old.items ++ spec.end_text edges) }
 {
     if edges > 2 {
-        say!(out, log; Text(b"; so none of them can come first\n"))
+        say!(out, log; Text(b"; no serial order has all of this\n"))
     } else {
         say!(out, log; Text(b"\n"))
     }
@@ -306,7 +277,6 @@ pub fn put_short(
     format: Format,
     edges: &[Item],
 ) -> Result<(), AllocError>
-    requires edges { AreTellable log.now.history.now edges.now }
     ensures text { OnOk result (out.new.items
         ≡ out.old.items ++ spec.short_text format log.now edges.now) }
 {

@@ -1,9 +1,7 @@
 //! What is told, as text or as a graph.
 
-ghost use Rattle.std.specs.Prelude.{◌≡◌, ◌≤◌, ◌++◌, length, IfSome, IfOk, OnOk};
+ghost use Rattle.std.specs.Prelude.{◌≡◌, ◌≤◌, ◌++◌, length, IfOk, OnOk};
 ghost use Rattle.std.specs.List.{flat_map};
-ghost use Rattle.reason_laws.specs.Crossed.{AreCrossed};
-ghost use Rattle.tell_texts.specs.Texts.{AreTellable};
 ghost use Rattle.tell_decision.specs.Explained.{told_text, crossed_text, tree_text};
 ghost use Rattle.tell_decision.specs.Explained.{is_of_step, of_steps, forced_text, steps_last, front_text};
 ghost use Rattle.tell_decision.specs.Explained.{known_as, cycle_text, edges_behind, dead_text};
@@ -27,7 +25,6 @@ fn put_told(
     format: Format,
     items: &[Item],
 ) -> Result<(), AllocError>
-    requires items { AreTellable log.now.history.now items.now }
     ensures text { OnOk result (out.new.items
         ≡ out.old.items ++ told_text format log.now items.now) }
 {
@@ -44,7 +41,6 @@ fn put_crossed(
     format: Format,
     found: Option<Crossing>,
 ) -> Result<(), AllocError>
-    requires crossed { IfSome found (λ c. AreCrossed log.now.history.now c) }
     ensures text { OnOk result (out.new.items
         ≡ out.old.items ++ crossed_text format log.now found) }
 {
@@ -76,7 +72,6 @@ pub fn written_cycle(
     format: Format,
     items: &[Item],
 ) -> Result<Vec<u8>, AllocError>
-    requires items { AreTellable log.now.history.now items.now }
     ensures text { IfOk result (λ text. text.items ≡ cycle_text format log.now items.now) }
 {
     let mut out = Vec::new(alloc);
@@ -115,7 +110,6 @@ fn edges_behind(items: &[Item]) -> &[Item]
 
 /// Appends steps, where there are any.
 fn put_forced(out: &mut Vec<u8>, log: &PlacedHistory<'_>, items: &[Item]) -> Result<(), AllocError>
-    requires items { AreTellable log.now.history.now items.now }
     ensures text { OnOk result (out.new.items ≡ out.old.items ++ forced_text log.now items.now) }
 {
     match items {
@@ -136,7 +130,6 @@ fn put_steps_last(
     name: &str,
     items: &[Item],
 ) -> Result<(), AllocError>
-    requires items { AreTellable log.now.history.now items.now }
     ensures text { OnOk result (out.new.items ≡ out.old.items
         ++ steps_last format log.now name.now items.now) }
 {
@@ -161,8 +154,6 @@ fn put_front(
     found: Option<Crossing>,
     items: &[Item],
 ) -> Result<(), AllocError>
-    requires crossed { IfSome found (λ c. AreCrossed log.now.history.now c) }
-    requires items { AreTellable log.now.history.now items.now }
     ensures text { OnOk result (out.new.items
         ≡ out.old.items ++ front_text format log.now found items.now) }
 {
@@ -182,8 +173,6 @@ pub fn written_tree(
     found: Option<Crossing>,
     items: &[Item],
 ) -> Result<Vec<u8>, AllocError>
-    requires crossed { IfSome found (λ c. AreCrossed log.now.history.now c) }
-    requires items { AreTellable log.now.history.now items.now }
     ensures text { IfOk result (λ text. text.items ≡ tree_text format log.now found items.now) }
 {
     let mut out = Vec::new(alloc);
@@ -201,8 +190,6 @@ pub fn written_dead(
     found: Option<Crossing>,
     items: &[Item],
 ) -> Result<Vec<u8>, AllocError>
-    requires crossed { IfSome found (λ c. AreCrossed log.now.history.now c) }
-    requires items { AreTellable log.now.history.now items.now }
     ensures text { IfOk result (λ text. text.items ≡ dead_text format log.now found items.now) }
 {
     let mut out = Vec::new(alloc);

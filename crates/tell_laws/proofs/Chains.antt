@@ -1,12 +1,12 @@
 -- Of two chains of a key, a serial order has the one before the other.
-use Rattle.std.proofs.Common.{◌≢◌, ◌⊎◌, ℕ, ◌<◌, ◌≤◌, List, [], ◌∷◌, Some, sym, ◌∙◌, subst, inl, inr, arith}
+use Rattle.std.proofs.Common.{◌≢◌, ◌⊎◌, ℕ, ◌<◌, List, [], ◌∷◌, sym, ◌∙◌, subst, inl, inr, arith}
 use Rattle.std.specs.Prelude.{map}
 use Rattle.std.specs.List.{Contains, AllByRecursion}
 use Rattle.serializability.specs.Log.{Log}
 use Rattle.serializability.specs.Replay.{IsSerial, Before}
 use Rattle.serializability.specs.Reads.{IsClean}
 use Rattle.serializability.specs.Pairs.{pairs_of}
-use Rattle.serializability.specs.Polygraph.{Keeps, KeepsOne, all_keys, source}
+use Rattle.serializability.specs.Polygraph.{Keeps, KeepsOne, all_keys}
 use Rattle.serializability.proofs.Places.{Has, Has-from_Contains, Contains-from_Has, each_of_range, each_of_append, each_of_flat_map, each_of_map}
 use Rattle.serializability.proofs.Serial.{serial_fits, arcs_kept, source_within, arc_from_read}
 use Rattle.serializability.proofs.Sources.{reads_from_source}

@@ -1,5 +1,5 @@
 -- What is told holds in each serial order.
-use Rattle.std.proofs.Common.{◌≡◌, ◌⊎◌, ℕ, ◌+◌, ◌<◌, ◌≤◌, cond, List, [], ◌∷◌, ◌++◌, Option, None, Some, refl, sym, ap, ◌∙◌, subst, inl, inr, arith}
+use Rattle.std.proofs.Common.{◌≡◌, ◌⊎◌, ℕ, zero, suc, ◌+◌, ◌<◌, ◌≤◌, cond, List, [], ◌∷◌, ◌++◌, Option, None, Some, refl, sym, ap, ◌∙◌, subst, inl, inr, arith}
 use Rattle.std.proofs.lemmas.Bool.{le-ltb}
 use Rattle.std.specs.List.{AllByRecursion, Contains}
 use Rattle.list_lemmas.proofs.Elements.{contains_at}
@@ -67,7 +67,8 @@ reason_before ss order s a b reason.Moments h = ended_kept ss order s.well s.ser
 
 why_before : (ss : List ClientSession) (order : List ℕ) → Setting ss order → (steps decided : List ChainOrder) → AreKept ss order steps → AreKept ss order decided → (a b : ℕ) (w : Why) → IsWhy ss steps decided a b w → Before order a b
 why_before ss order s steps decided ks kd a b (Known r) h = reason_before ss order s a b r h.0
-why_before ss order s steps decided ks kd a b (Forced k o) h =
+why_before ss order s steps decided ks kd a b (Forced zero o) h = absurd h
+why_before ss order s steps decided ks kd a b (Forced (suc k) o) h =
     edge_among ss order steps o a b ks (contains_at steps k o h.1.at) h.1.has
 why_before ss order s steps decided ks kd a b (Chosen o) h = edge_among ss order decided o a b kd h.2 h.3
 

@@ -1,10 +1,9 @@
 pub mod Joined
 pub mod Ops
-pub mod Begun
+pub mod Rows
 pub mod Texts
 pub mod Found
 pub mod Written
 pub mod Told
 pub mod Updates
 pub mod Reported
-pub mod Pairs

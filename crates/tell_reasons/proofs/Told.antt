@@ -1,5 +1,5 @@
 -- Texts that were appended, and what they tell.
-use Rattle.std.proofs.Common.{◌≡◌, ◌≢◌, ℕ, List, [], ◌∷◌, ◌++◌, take, Option, Some, refl, sym, ap, ◌∙◌, subst, append_assoc}
+use Rattle.std.proofs.Common.{◌≡◌, ◌≢◌, ℕ, ◌<◌, length, List, [], ◌∷◌, ◌++◌, take, Option, Some, refl, sym, ap, ◌∙◌, subst, append_assoc}
 use Rattle.std.specs.Prelude.{codes, slice_get, Result, OnOk}
 use Rattle.std.proofs.lemmas.Result.{on_ok_weaker}
 use Rattle.std.proofs.lemmas.Option.{slice_get_within}
@@ -17,7 +17,7 @@ use Rattle.tell_reasons.specs.Reasons.{op_at, key_text, does_text, op_wid}
 use Rattle.tell_reasons.specs.Versions.{written_before, other_before}
 use Rattle.tell_reasons.specs.Anomalies.{Appends, IsRead, IsWriteAt, IsWriterTold, IsReadTold, IsDoneTold, IsBadReadTold, words_of_read, wrote_text, elsewhere_text}
 use Rattle.tell_reasons.specs.Anomalies.IsWriterTold.{initial, nobody, elsewhere, wrote}
-use Rattle.tell_reasons.specs.Writes.{IsNoneWrite, Finds, IsThere}
+use Rattle.tell_reasons.specs.Writes.{IsNoneWrite, Finds}
 use Rattle.tell_reasons.proofs.Written.{txn_ops, among_this, none_here, none_anywhere}
 
 -- ---- who wrote
@@ -28,9 +28,9 @@ pub nobody_told : {T E : Type 0} (r : Result T E) (ss : List ClientSession) (tab
     → OnOk r (Appends old new (IsWriterTold ss table read key wid))
 nobody_told r ss table read key wid old new nz none h = on_ok_weaker r (λ e. record { text = codes ", which no transaction wrote"; added = e; told = nobody nz (none_anywhere key wid (ops_in ss) none) }) h
 
--- the write that was found is an operation of its transaction, and has a line
-pub is_there : (ss : List ClientSession) (table : Table) (keys : Keys) (key : List ℕ) (wid : ℕ) (w : WriteAt) → Finds ss table keys key wid w → IsThere w
-is_there ss table keys key wid w f = record { op = slice_get_within w.txn.now.ops.items w.op (Write f.written wid) f.write.writes; lines = f.write.stands.lines }
+-- the write that was found is an operation of its transaction
+pub is_there : (ss : List ClientSession) (table : Table) (keys : Keys) (key : List ℕ) (wid : ℕ) (w : WriteAt) → Finds ss table keys key wid w → w.op < length w.txn.now.ops.items
+is_there ss table keys key wid w f = slice_get_within w.txn.now.ops.items w.op (Write f.written wid) f.write.writes
 
 pub elsewhere_told : {T E : Type 0} (r : Result T E) (ss : List ClientSession) (table : Table) (read : ℕ) (key : List ℕ) (wid : ℕ) (w : WriteAt) (old new : List ℕ) → wid ≢ 0 → IsNoneWrite This key wid (ops_in ss) → Finds ss table Any key wid w
     → OnOk r (new ≡ old ++ elsewhere_text key w.session w.place.now.place (slice_get w.txn.now.ops.items w.op) (line_at (view_place w.place.now) w.op)) → OnOk r (Appends old new (IsWriterTold ss table read key wid))

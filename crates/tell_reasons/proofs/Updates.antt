@@ -3,7 +3,7 @@ use Rattle.std.proofs.Common.{◌≡◌, ℕ, suc, ◌+◌, ◌-◌, ◌<◌, �
 use Rattle.std.specs.Prelude.{codes, slice_get, position, reverse, IfSome}
 use Rattle.std.specs.Option.{option_map}
 use Rattle.std.proofs.lemmas.Bool.{cases_Bool, false≢true}
-use Rattle.std.proofs.lemmas.List.{length-reverse, length-take-le, get_or-reverse, get_or-take}
+use Rattle.std.proofs.lemmas.List.{length-reverse, length-take, get_or-reverse, get_or-take}
 use Rattle.std.proofs.lemmas.Option.{slice_get-get_or}
 use Rattle.std.proofs.lemmas.List.Quantifiers.{position-Some}
 use Rattle.list_lemmas.proofs.Lists.{appended_twice as two}
@@ -13,10 +13,10 @@ use Rattle.session_log.specs.declared.session.Op.TheVariants.{Read, Write}
 use Rattle.serializability.specs.declared.event.Event.{Event}
 use Rattle.serializability.specs.declared.event.Event.TheVariants as event
 use Rattle.serializability.specs.Reads.{later, last_write, external_read}
-use Rattle.serializability.specs.Polygraph.{writer_of}
+use Rattle.serializability.specs.Events.{event_key}
+use Rattle.serializability.specs.Polygraph.{source, writer_of}
 use Rattle.anomaly_laws.specs.Meaning.{IsUpdate}
 use Rattle.log_definitions.specs.WellFormed.{keys_in}
-use Rattle.log_definitions.specs.Serial.{ops_of}
 use Rattle.log_definitions.specs.Numbers.{event_of, log_of}
 use Rattle.log_lines.specs.declared.placed.PlacedHistory.{PlacedHistory}
 use Rattle.tell_reasons.specs.Reasons.{op_at, named, wid_text, op_in_line}
@@ -24,8 +24,7 @@ use Rattle.tell_reasons.specs.Events.{is_write_in, is_read_in, is_other_in, last
 use Rattle.tell_reasons.specs.Versions.{left_at, read_at}
 use Rattle.tell_reasons.specs.Anomalies.{Appends, IsRead, IsReadTold, IsUpdateTold, AreUpdatesTold}
 use Rattle.tell_reasons.proofs.Found.{none_at}
-use Rattle.reasons.proofs.Ops.{op_of}
-use Rattle.tell_reasons.proofs.Ops.{event_count}
+use Rattle.reasons.proofs.Ops.{op_of, key_below}
 
 -- ---- an item that passes
 record PassesAt (p : Event → Bool) (es : List Event) : Type 0 where
@@ -114,17 +113,35 @@ pub first_is_read : (ss : List ClientSession) (x v i : ℕ) → read_at ss x v �
 first_is_read ss x v i e = let f = position-Some (is_read_in x) ((log_of ss).ops v) i (event.Read 0 0) e in at_read ss v i (is_read_in x) (λ k w. refl) f.0 f.1
 
 -- among the first n
-pub other_is_read : (ss : List ClientSession) (v x w n : ℕ) (found : Option ℕ) → n ≤ length (ops_of ss v) → found ≡ position (is_other_in x w) (take n ((log_of ss).ops v)) → IfSome found (λ i. IsRead (op_at ss v i))
-other_is_read ss v x w n None le e = tt
-other_is_read ss v x w n (Some i) le e =
+pub other_is_read : (ss : List ClientSession) (v x w n : ℕ) (found : Option ℕ) → found ≡ position (is_other_in x w) (take n ((log_of ss).ops v)) → IfSome found (λ i. IsRead (op_at ss v i))
+other_is_read ss v x w n None e = tt
+other_is_read ss v x w n (Some i) e =
     let es = (log_of ss).ops v in
     let d = event.Read 0 0 in
     let f = position-Some (is_other_in x w) (take n es) i d (sym e) in
-    let count = event_count ss v in
-    let size = length-take-le n es (omega (arith, le, count)) in
+    let size = length-take n es in
     let lt : i < n = omega (arith, f.0, size) in
+    let within : i < length es = omega (arith, f.0, size) in
     let same : get_or (take n es) i d ≡ get_or es i d = get_or-take n es i d lt in
-    at_read ss v i (is_other_in x w) (λ k y. refl) (omega (arith, lt, le, count)) (ap (is_other_in x w) (sym same) ∙ f.1)
+    at_read ss v i (is_other_in x w) (λ k y. refl) within (ap (is_other_in x w) (sym same) ∙ f.1)
+
+-- a key that the log does not have is not read
+pub no_source : (ss : List ClientSession) (v x : ℕ) → (log_of ss).keys ≤ x → None ≡ source (log_of ss) v x
+no_source ss v x high = ap (option_map (writer_of (log_of ss) x)) (go (external_read x es) refl)
+  where
+    es : List Event
+    es = (log_of ss).ops v
+
+    key_is : (e : Event) → is_read_in x e ≡ true → x ≡ event_key e
+    key_is (event.Read k w) t = eqb-true x k t
+    key_is (event.Write k w) t = absurd (false≢true t)
+
+    go : (o : Option ℕ) → external_read x es ≡ o → None ≡ o
+    go None e = refl
+    go (Some w) e =
+        let p = read_there x w es e in
+        let below = key_below ss v p.at (get_or es p.at (event.Read 0 0)) (slice_get-get_or es p.at (event.Read 0 0) p.below) in
+        absurd (omega (arith, below, high, key_is (get_or es p.at (event.Read 0 0)) p.passes))
 
 pub no_write : (ss : List ClientSession) (x u v : ℕ) → IsUpdate (log_of ss) x u v → None ≡ last_position (is_write_in x) ((log_of ss).ops v) → ⊥
 no_write ss x u v h e = let es = (log_of ss).ops v in last_there (is_write_in x) es (write_there x h.writes.0 es h.writes.1) e

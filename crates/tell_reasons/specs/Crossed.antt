@@ -1,7 +1,5 @@
 -- How it is told that all four pairs of two versions of a key and two of another were read.
-use Rattle.std.specs.Prelude.{ℕ, ◌<◌, List, ◌++◌, codes, length}
-use Rattle.session_log.specs.Text.{ClientSession}
-use Rattle.log_definitions.specs.Serial.{ops_of}
+use Rattle.std.specs.Prelude.{ℕ, List, ◌++◌, codes}
 use Rattle.log_lines.specs.declared.placed.PlacedHistory.{PlacedHistory}
 use Rattle.reason_laws.specs.declared.crossing.Crossing.{Crossing}
 use Rattle.reason_laws.specs.declared.crossing.PairRead.{PairRead}
@@ -21,8 +19,3 @@ crossing_text log c =
     ++ pair_text log c.one_one ++ pair_text log c.one_two
     ++ pair_text log c.two_one ++ pair_text log c.two_two
     ++ codes "known as: long fork (G-nonadjacent-item)\n"
-
--- its operations are there
-pub record CanTellPair (ss : List ClientSession) (p : PairRead) : Type 0 where
-  pub first : p.first < length (ops_of ss p.node)
-  pub second : p.second < length (ops_of ss p.node)

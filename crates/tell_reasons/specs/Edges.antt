@@ -1,5 +1,5 @@
 -- How it is told why one node stands before another, in a line.
-use Rattle.std.specs.Prelude.{ℕ, ◌+◌, ◌==◌, if◌then◌else◌, List, [], ◌∷◌, ◌++◌, codes, decimal}
+use Rattle.std.specs.Prelude.{ℕ, ◌==◌, if◌then◌else◌, List, [], ◌∷◌, ◌++◌, codes, decimal}
 use Rattle.std.specs.Prelude.{unwrap_or, Option, None, Some}
 use Rattle.tell_reasons.specs.declared.why.ChainOrder.{ChainOrder}
 use Rattle.tell_reasons.specs.declared.why.Why.{Why}
@@ -35,9 +35,9 @@ reason_text log a b reason.Moments =
     ++ end_in_line log a ++ codes ", " ++ named log b ++ codes " began at "
     ++ decimal (unwrap_or (begun_of log.history.now b) 0) ++ in_line (begin_in log b)
 
--- by which step a version comes first, from 1, or that it is supposed to
+-- by which step, by its number, a version comes first, or that it is supposed to
 abbrev pub comes_by : Option ℕ → List ℕ
-comes_by (Some k) = codes ", which by [" ++ decimal (k + 1) ++ codes "] comes before "
+comes_by (Some number) = codes ", which by [" ++ decimal number ++ codes "] comes before "
 comes_by None = codes ", which by supposition comes before "
 
 -- what a has of the key of this order, and that it comes before what b wrote of it: `7.1 reads y 3
@@ -48,5 +48,5 @@ comes_text log o a b step = held_text log o.key o.first a ++ comes_by step
 
 abbrev pub why_text : PlacedHistory → ℕ → ℕ → Why → List ℕ
 why_text log a b (why.Known r) = before_text log a b ++ reason_text log a b r ++ 10 ∷ []
-why_text log a b (why.Forced k o) = before_text log a b ++ comes_text log o a b (Some k)
+why_text log a b (why.Forced number o) = before_text log a b ++ comes_text log o a b (Some number)
 why_text log a b (why.Chosen o) = before_text log a b ++ comes_text log o a b None

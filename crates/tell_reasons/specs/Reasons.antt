@@ -1,23 +1,19 @@
 -- How it is told why one node stands before another, in the log's own lines. Operations count from
 -- 0.
-use Rattle.std.specs.Prelude.{ℕ, ◌==◌, ◌+◌, ◌<◌, ◌≤◌, ◌^◌, List, [], ◌∷◌, ◌++◌, if◌then◌else◌}
-use Rattle.std.specs.Prelude.{codes, decimal, slice_get, unwrap_or, Option, None}
-use Rattle.std.specs.Prelude.{Some}
+use Rattle.std.specs.Prelude.{ℕ, ◌==◌, List, [], ◌∷◌, ◌++◌, if◌then◌else◌}
+use Rattle.std.specs.Prelude.{codes, decimal, slice_get, unwrap_or, Option, None, Some}
 use Rattle.session_log.specs.Text.{ClientSession}
 use Rattle.session_log.specs.declared.session.Op.{Op}
 use Rattle.session_log.specs.declared.session.Op.TheVariants.{Read, Write}
 use Rattle.serializability.specs.declared.event.Event.{Event}
 use Rattle.serializability.specs.declared.event.Event.TheVariants as event
+use Rattle.serializability.specs.Events.{event_key, event_wid}
 use Rattle.log_definitions.specs.WellFormed.{keys_in}
 use Rattle.log_definitions.specs.Serial.{ops_of}
-use Rattle.log_definitions.specs.Numbers.{log_of}
 use Rattle.session_history.specs.Tables.{name_in}
 use Rattle.order_text.specs.Text.{name_text}
 use Rattle.log_lines.specs.Placed.{place_in, op_line_in, end_line_in}
 use Rattle.log_lines.specs.declared.placed.PlacedHistory.{PlacedHistory}
-use Rattle.reasons.specs.Given.{IsReason}
-use Rattle.tell_reasons.specs.declared.why.Why.{Why}
-use Rattle.tell_reasons.specs.declared.why.Why.TheVariants as why
 
 -- a node's name, as messages have it
 abbrev pub named : PlacedHistory → ℕ → List ℕ
@@ -37,6 +33,10 @@ op_in_line log v i = in_line (op_line_in log v i)
 abbrev pub end_in_line : PlacedHistory → ℕ → List ℕ
 end_in_line log v = in_line (end_line_in log v)
 
+-- the bytes of key number x
+abbrev pub key_bytes : List ClientSession → ℕ → List ℕ
+key_bytes ss x = unwrap_or (slice_get (keys_in ss) x) []
+
 -- an operation's key and identity, with a space between; its key; its identity
 abbrev pub key_and_wid : Option Op → List ℕ
 key_and_wid None = []
@@ -48,6 +48,10 @@ abbrev pub listed_text : Option Op → List ℕ
 listed_text None = []
 listed_text (Some (Read key wid)) = codes "r " ++ key_and_wid (Some (Read key wid))
 listed_text (Some (Write key wid)) = codes "w " ++ key_and_wid (Some (Write key wid))
+
+-- an event's key and identity, with a space between
+abbrev pub event_text : List ClientSession → Event → List ℕ
+event_text ss e = key_bytes ss (event_key e) ++ 32 ∷ decimal (event_wid e)
 
 -- the letter with which the line of an operation begins
 abbrev pub letter_text : Event → List ℕ
@@ -70,10 +74,6 @@ op_wid None = 0
 op_wid (Some (Read key wid)) = wid
 op_wid (Some (Write key wid)) = wid
 
--- the bytes of key number x
-abbrev pub key_bytes : List ClientSession → ℕ → List ℕ
-key_bytes ss x = unwrap_or (slice_get (keys_in ss) x) []
-
 -- a key's initial value, or its version of this identity
 abbrev pub base_text : ℕ → List ℕ
 base_text base = if base == 0 then codes "the initial value" else decimal base
@@ -89,10 +89,3 @@ reads_text log v i = does_text log v (codes " reads ") i
 -- `A before B: ` and why
 abbrev pub before_text : PlacedHistory → ℕ → ℕ → List ℕ
 before_text log a b = named log a ++ codes " before " ++ named log b ++ codes ": "
-
--- ---- what is told of an edge is there
-abbrev pub CanTell : List ClientSession → ℕ → ℕ → Why → Type 0
-CanTell ss a b (why.Known r) = IsReason ss a b r
-CanTell ss a b (why.Forced k o) = k + 1 < 2 ^ 64
-CanTell ss a b (why.Chosen o) = (o.key < (log_of ss).keys) × (o.first ≤ (log_of ss).nodes)
-    × (o.second ≤ (log_of ss).nodes)

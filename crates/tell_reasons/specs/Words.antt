@@ -1,8 +1,5 @@
 -- What a line says, as a list of words.
-use Rattle.std.specs.Prelude.{ℕ, ◌<◌, ◌≤◌, List, [], ◌∷◌, ◌++◌, length, decimal}
-use Rattle.std.specs.List.{AllByRecursion}
-use Rattle.log_definitions.specs.Serial.{ops_of}
-use Rattle.log_definitions.specs.Numbers.{log_of}
+use Rattle.std.specs.Prelude.{ℕ, List, [], ◌∷◌, ◌++◌, decimal}
 use Rattle.order_text.specs.Text.{name_text}
 use Rattle.log_lines.specs.declared.placed.PlacedHistory.{PlacedHistory}
 use Rattle.tell_reasons.specs.Reasons.{named, in_line, op_at, op_in_line, key_and_wid, wid_text}
@@ -32,18 +29,3 @@ abbrev pub words_text : PlacedHistory → List Word → List ℕ
 words_text log [] = []
 words_text log (word ∷ []) = word_text log word
 words_text log (word ∷ next ∷ more) = word_text log word ++ words_text log (next ∷ more)
-
--- what a word names is there
-abbrev pub CanSay : PlacedHistory → Word → Type 0
-CanSay log (Node v) = v ≤ (log_of log.history.now).nodes
-CanSay log (Key x) = x < (log_of log.history.now).keys
-CanSay log (KeyOf v i) = i < length (ops_of log.history.now v)
-CanSay log (Operation v i) = i < length (ops_of log.history.now v)
-CanSay log (Listed v i) = i < length (ops_of log.history.now v)
-CanSay log (Identity v i) = i < length (ops_of log.history.now v)
-CanSay log (AtLine v i) = i < length (ops_of log.history.now v)
-CanSay log (Does v does i) = i < length (ops_of log.history.now v)
-CanSay log _ = Unit {0}
-
-abbrev pub CanSayAll : PlacedHistory → List Word → Type 0
-CanSayAll log words = AllByRecursion (CanSay log) words

@@ -1,5 +1,5 @@
 -- Where an identity is written.
-use Rattle.std.specs.Prelude.{◌≡◌, ℕ, ◌<◌, ◌==◌, ◌&&◌, Bool, true, false, List, ◌++◌, length}
+use Rattle.std.specs.Prelude.{◌≡◌, ℕ, ◌==◌, ◌&&◌, Bool, true, false, List, ◌++◌, length}
 use Rattle.std.specs.Prelude.{map, take, Some, slice_get}
 use Rattle.std.specs.List.{flat_map, Contains}
 use Rattle.std.specs.Str.{bytes_eq}
@@ -29,11 +29,6 @@ is_write_as keys key wid (Write k w) = is_among keys key k && (w == wid)
 pub record IsNoneWrite (keys : Keys) (key : List ℕ) (wid : ℕ) (ops : List Op) : Type 0 where
   pub none : (written : List ℕ) → is_among keys key written ≡ true
       → ¬ Contains ops (Write written wid)
-
--- it is an operation of its transaction, whose place has a line for each
-pub record IsThere (w : WriteAt) : Type 0 where
-  pub op : w.op < length w.txn.now.ops.items
-  pub lines : length w.place.now.ops.items ≡ length w.txn.now.ops.items
 
 -- the write that was found among a session's transactions, which have these places: the first that
 -- is sought

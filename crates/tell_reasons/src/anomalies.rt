@@ -1,23 +1,21 @@
 //! What is wrong with a read, or with two transactions that update one key, in the log's own lines.
 
-ghost use Rattle.std.specs.Prelude.{◌≡◌, ℕ, ◌<◌, Some, length, IfSome, OnOk};
+ghost use Rattle.std.specs.Prelude.{◌≡◌, ℕ, Some, IfSome, OnOk};
 ghost use Rattle.serializability.specs.Anomalies.{anomaly_of};
 ghost use Rattle.anomaly_laws.specs.Meaning.{IsUpdate};
-ghost use Rattle.log_definitions.specs.Serial.{ops_of};
 ghost use Rattle.log_definitions.specs.Numbers.{log_of};
 ghost use Rattle.tell_reasons.specs.Reasons.{op_at};
-ghost use Rattle.tell_reasons.specs.Versions.{left_at, read_at};
 ghost use Rattle.tell_reasons.specs.Anomalies as spec;
 ghost use Rattle.tell_reasons.specs.Anomalies.{Appends, IsRead, IsReadTold, IsDoneTold};
 ghost use Rattle.tell_reasons.specs.Anomalies.{IsBadReadTold, IsUpdateTold, IsAnomalyTold};
 
 use crate::phrases::{key_at, line_of, put_does, put_text, wid_at};
 use crate::places::{last_write, other_read};
+use crate::say;
+use crate::versions::{left_at, read_at};
 use crate::writers::put_writer;
-use crate::{say, versions};
 use log_lines::PlacedHistory;
 use serializability::{Anomaly, NodeIx};
-use session_history::History;
 use std::alloc::AllocError;
 
 /// Appends the line of a read, in these words, and who wrote what it names.
@@ -29,7 +27,6 @@ fn put_read(
     reads: &[u8],
     op: usize,
 ) -> Result<(), AllocError>
-    requires op { op < length (ops_of log.now.history.now node) }
     requires read { IsRead (op_at log.now.history.now node op) }
     ensures told { OnOk result (Appends out.old.items out.new.items
         (IsReadTold log.now node reads.now op)) }
@@ -52,8 +49,6 @@ fn put_done(
     write: Option<usize>,
     read: Option<usize>,
 ) -> Result<(), AllocError>
-    requires write { IfSome write (λ i. i < length (ops_of log.now.history.now node)) }
-    requires read { IfSome read (λ i. i < length (ops_of log.now.history.now node)) }
     requires reads { IfSome read (λ i. IsRead (op_at log.now.history.now node i)) }
     ensures told { OnOk result (Appends out.old.items out.new.items
         (IsDoneTold log.now node write read)) }
@@ -86,7 +81,6 @@ fn put_bad_read(
     node: NodeIx,
     op: usize,
 ) -> Result<(), AllocError>
-    requires op { op < length (ops_of log.now.history.now node) }
     requires read { IsRead (op_at log.now.history.now node op) }
     ensures told { OnOk result (Appends out.old.items out.new.items
         (IsBadReadTold log.now node op)) }
@@ -98,32 +92,7 @@ fn put_bad_read(
     Ok(())
 }
 
-/// The first read of a key by a node that updates it.
-fn update_read(history: &History, node: NodeIx, key: usize) -> usize
-    requires update { (source : ℕ) × IsUpdate (log_of history.now) key source node }
-    ensures place { read_at history.now key node ≡ Some result }
-    ensures within { result < length (ops_of history.now node) }
-{
-    match versions::read_at(history, key, node) {
-        Some(read) => read,
-        None => unreachable!(),
-    }
-}
-
-/// The last write of a key by a node that updates it.
-fn update_write(history: &History, node: NodeIx, key: usize) -> usize
-    requires update { (source : ℕ) × IsUpdate (log_of history.now) key source node }
-    ensures place { left_at history.now key node ≡ Some result }
-    ensures within { result < length (ops_of history.now node) }
-{
-    match versions::left_at(history, key, node) {
-        Some(write) => write,
-        None => unreachable!(),
-    }
-}
-
 /// Appends the lines of an update of a key.
-#[tactic(auto, using(crate::proofs::Begun::op_within, crate::proofs::Updates::update_told, crate::proofs::Updates::first_is_read))]
 fn put_update(
     out: &mut Vec<u8>,
     log: &PlacedHistory<'_>,
@@ -134,8 +103,12 @@ fn put_update(
     ensures told { OnOk result (Appends out.old.items out.new.items
         (IsUpdateTold log.now key node)) }
 {
-    let read = update_read(log.history, node, key);
-    let write = update_write(log.history, node, key);
+    let Some(read) = read_at(log.history, key, node) else {
+        unreachable!()
+    };
+    let Some(write) = left_at(log.history, key, node) else {
+        unreachable!()
+    };
     put_read(out, log, node, b" reads ", read)?;
     say!(out, log; Node(node), Text(b" overwrites it with "), Identity(node, write),
         AtLine(node, write), Text(b"\n"))?;
@@ -172,7 +145,7 @@ pub fn put_anomaly(
         (IsAnomalyTold log.now anomaly)) }
 {
     match anomaly {
-        Anomaly::Read { node, op, .. } => put_bad_read(out, log, node, op - 1),
+        Anomaly::Read { node, op, .. } => put_bad_read(out, log, node, op.saturating_sub(1)),
         Anomaly::LostUpdate {
             key,
             first,

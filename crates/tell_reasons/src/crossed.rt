@@ -1,8 +1,7 @@
 //! Reads of all four pairs of two versions of a key and two of another.
 
 ghost use Rattle.std.specs.Prelude.{◌≡◌, ◌++◌, OnOk};
-ghost use Rattle.reason_laws.specs.Crossed.{AreCrossed};
-ghost use Rattle.tell_reasons.specs.Crossed.{CanTellPair, pair_text, crossing_text};
+ghost use Rattle.tell_reasons.specs.Crossed.{pair_text, crossing_text};
 
 use crate::phrases::put_text;
 use crate::say;
@@ -12,7 +11,6 @@ use std::alloc::AllocError;
 
 /// Appends what a transaction reads, as `    5.1 reads x 1 (line 19) and y 3 (line 20)`.
 fn put_pair(out: &mut Vec<u8>, log: &PlacedHistory<'_>, pair: PairRead) -> Result<(), AllocError>
-    requires there { CanTellPair log.now.history.now pair }
     ensures text { OnOk result (out.new.items ≡ out.old.items ++ pair_text log.now pair) }
 {
     let PairRead {
@@ -26,13 +24,11 @@ fn put_pair(out: &mut Vec<u8>, log: &PlacedHistory<'_>, pair: PairRead) -> Resul
 
 /// Appends that all four pairs of two versions of a key and two of another were read, and what that
 /// is called.
-#[tactic(auto, using(crate::proofs::Pairs::can_tell))]
 pub fn put_crossing(
     out: &mut Vec<u8>,
     log: &PlacedHistory<'_>,
     crossing: Crossing,
 ) -> Result<(), AllocError>
-    requires crossed { AreCrossed log.now.history.now crossing }
     ensures text { OnOk result (out.new.items ≡ out.old.items ++ crossing_text log.now crossing) }
 {
     put_text(

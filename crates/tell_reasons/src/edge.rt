@@ -1,11 +1,7 @@
 //! Why one node stands before another, in a line.
 
-ghost use Rattle.std.specs.Prelude.{◌≡◌, ◌+◌, ◌<◌, ◌^◌, ◌++◌, length, OnOk, IfSome};
-ghost use Rattle.reason_laws.specs.Reasons.{IsNode, IsReadBy};
-ghost use Rattle.reasons.specs.Given.{IsReason};
+ghost use Rattle.std.specs.Prelude.{◌≡◌, ◌++◌, OnOk};
 ghost use Rattle.reasons.specs.declared.reason.Reason.TheVariants as kind;
-ghost use Rattle.log_definitions.specs.Serial.{ops_of};
-ghost use Rattle.tell_reasons.specs.Reasons.{CanTell};
 ghost use Rattle.tell_reasons.specs.Edges.{origin_text, reason_text, why_text, comes_text};
 ghost use Rattle.tell_reasons.specs.Edges.{comes_by};
 
@@ -26,7 +22,6 @@ fn put_origin(
     node: NodeIx,
     op: usize,
 ) -> Result<(), AllocError>
-    requires op { op < length (ops_of log.now.history.now node) }
     ensures text { OnOk result (out.new.items ≡ out.old.items ++ origin_text log.now node op) }
 {
     if wid_at(log.history, node, op) == 0 {
@@ -37,7 +32,6 @@ fn put_origin(
 }
 
 /// Appends that `b` reads what `a` wrote.
-#[tactic(auto, using(reason_laws::proofs::Numbers::within, crate::proofs::Ops::op_below))]
 fn put_read(
     out: &mut Vec<u8>,
     log: &PlacedHistory<'_>,
@@ -46,7 +40,6 @@ fn put_read(
     written: usize,
     read: usize,
 ) -> Result<(), AllocError>
-    requires reason { IsReadBy log.now.history.now a written b read }
     ensures text { OnOk result (out.new.items ≡ out.old.items
         ++ reason_text log.now a b (kind.Read written read)) }
 {
@@ -55,7 +48,7 @@ fn put_read(
 }
 
 /// Appends why the log shows that `a` stands before `b`.
-#[tactic(auto, using(reason_laws::proofs::Numbers::within, crate::proofs::Ops::op_below), unfolding(log_definitions::specs::Numbers::log_of))]
+#[tactic(auto, unfolding(log_definitions::specs::Numbers::log_of))]
 fn put_reason(
     out: &mut Vec<u8>,
     log: &PlacedHistory<'_>,
@@ -63,7 +56,6 @@ fn put_reason(
     b: NodeIx,
     reason: Reason,
 ) -> Result<(), AllocError>
-    requires reason { IsReason log.now.history.now a b reason }
     ensures text { OnOk result (out.new.items ≡ out.old.items ++ reason_text log.now a b reason) }
 {
     match reason {
@@ -96,49 +88,42 @@ fn put_reason(
     }
 }
 
-/// Appends by which forced step a version comes first, or that it is supposed to; steps count from
-/// 1 in a text.
+/// Appends by which forced step a version comes first, or that it is supposed to.
 fn put_comes_by(
     out: &mut Vec<u8>,
     log: &PlacedHistory<'_>,
-    step: Option<usize>,
+    number: Option<usize>,
 ) -> Result<(), AllocError>
-    requires { IfSome step (λ k. k + 1 < 2 ^ 64) }
-    ensures text { OnOk result (out.new.items ≡ out.old.items ++ comes_by step) }
+    ensures text { OnOk result (out.new.items ≡ out.old.items ++ comes_by number) }
 {
-    match step {
-        Some(step) => say!(out, log;
-            Text(b", which by ["), Number(step as u64 + 1), Text(b"] comes before ")),
+    match number {
+        Some(number) => say!(out, log;
+            Text(b", which by ["), Number(number as u64), Text(b"] comes before ")),
         None => put_text(out, b", which by supposition comes before "),
     }
 }
 
 /// Appends what `a` has of a key, and that a forced step puts it before what `b` wrote of it, or
-/// that it by supposition comes before that, and ends the line.
-#[tactic(auto, using(reason_laws::proofs::Numbers::within))]
+/// that by supposition it comes before that, and ends the line.
 fn put_comes(
     out: &mut Vec<u8>,
     log: &PlacedHistory<'_>,
     order: ChainOrder,
     a: NodeIx,
     b: NodeIx,
-    step: Option<usize>,
+    number: Option<usize>,
 ) -> Result<(), AllocError>
-    requires first { IsNode log.now.history.now a }
-    requires second { IsNode log.now.history.now b }
-    requires step { IfSome step (λ k. k + 1 < 2 ^ 64) }
     ensures text { OnOk result (out.new.items ≡ out.old.items
-        ++ comes_text log.now order a b step) }
+        ++ comes_text log.now order a b number) }
 {
     put_held(out, log, order.key, order.first, a)?;
-    put_comes_by(out, log, step)?;
+    put_comes_by(out, log, number)?;
     put_version(out, log, order.key, b)?;
     put_text(out, b"\n")
 }
 
 /// Appends the line that says why `a` stands before `b`. Where memory runs out, a part of the line
 /// may have been appended.
-#[tactic(auto, using(reason_laws::proofs::Numbers::within))]
 pub fn put_edge(
     out: &mut Vec<u8>,
     log: &PlacedHistory<'_>,
@@ -146,9 +131,6 @@ pub fn put_edge(
     b: NodeIx,
     why: Why,
 ) -> Result<(), AllocError>
-    requires first { IsNode log.now.history.now a }
-    requires second { IsNode log.now.history.now b }
-    requires why { CanTell log.now.history.now a b why }
     ensures text { OnOk result (out.new.items ≡ out.old.items ++ why_text log.now a b why) }
 {
     say!(out, log; Node(a), Text(b" before "), Node(b), Text(b": "))?;
@@ -157,7 +139,7 @@ pub fn put_edge(
             put_reason(out, log, a, b, reason)?;
             put_text(out, b"\n")
         }
-        Why::Forced { step, order } => put_comes(out, log, order, a, b, Some(step)),
+        Why::Forced { number, order } => put_comes(out, log, order, a, b, Some(number)),
         Why::Chosen(order) => put_comes(out, log, order, a, b, None),
     }
 }

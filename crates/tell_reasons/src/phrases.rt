@@ -1,11 +1,9 @@
 //! Pieces of lines: places in the log, operations and their keys.
 
-ghost use Rattle.std.specs.Prelude.{◌≡◌, ◌+◌, ◌<◌, ◌≤◌, ◌++◌, Some, length, slice_get, decimal};
-ghost use Rattle.std.specs.Prelude.{OnOk};
-ghost use Rattle.reason_laws.specs.Reasons.{IsNode};
-ghost use Rattle.log_definitions.specs.Serial.{ops_of};
+ghost use Rattle.std.specs.Prelude.{◌≡◌, ◌++◌, slice_get, decimal, OnOk};
+ghost use Rattle.std.specs.Option.{option_map_or};
 ghost use Rattle.log_definitions.specs.Numbers.{log_of};
-ghost use Rattle.log_lines.specs.Rows.{view_place};
+ghost use Rattle.log_lines.specs.Rows.{view_place, no_row, line_at};
 ghost use Rattle.log_lines.specs.Placed.{row_in, place_in, begin_in, op_line_in, end_line_in};
 ghost use Rattle.order_text.specs.Text.{name_text};
 ghost use Rattle.tell_reasons.specs.Reasons as spec;
@@ -56,39 +54,34 @@ pub fn put_place(out: &mut Vec<u8>, session: u16, place: usize) -> Result<(), Al
     put_number(out, place as u64)
 }
 
-/// Where a node stands.
-fn row_of<'a>(log: &PlacedHistory<'a>, node: NodeIx) -> &'a TxnPlace
-    requires node { IsNode log.now.history.now node }
-    ensures row { view_place result.now ≡ row_in log.now node }
+/// The element at a place, where there is one.
+#[tactic(auto, using(crate::proofs::Found::got))]
+fn element<T: Copy>(elements: &[T], at: usize) -> Option<T>
+    ensures { result ≡ slice_get elements.now at }
 {
-    log.nodes[node.get() - 1]
+    elements.get(at).copied()
 }
 
-/// The place of a node in its session; that of node 0 is 0.
+/// Where a node stands, if it does.
+fn row_of<'a>(log: &PlacedHistory<'a>, node: NodeIx) -> Option<&'a TxnPlace>
+    ensures row { option_map_or (λ p. view_place p.now) result no_row ≡ row_in log.now node }
+{
+    element(&log.nodes, node.get().checked_sub(1)?)
+}
+
+/// The place of a node in its session; that of no node is 0, as its lines are.
 fn place_of(log: &PlacedHistory<'_>, node: NodeIx) -> usize
-    requires known { node ≤ (log_of log.now.history.now).nodes }
     ensures place { result ≡ place_in log.now node }
 {
-    if node.get() == 0 {
-        0
-    } else {
-        row_of(log, node).place
-    }
+    row_of(log, node).map_or(0, |row| row.place)
 }
 
-/// Appends a word, and the name of a node.
-pub fn put_named(
-    out: &mut Vec<u8>,
-    word: &[u8],
-    log: &PlacedHistory<'_>,
-    node: NodeIx,
-) -> Result<(), AllocError>
-    requires known { node ≤ (log_of log.now.history.now).nodes }
-    ensures text { OnOk result (out.new.items ≡ out.old.items ++ (word.now ++ named log.now node)) }
+/// Appends the name of a node.
+#[tactic(auto, using(crate::proofs::Rows::named_told))]
+pub fn put_named(out: &mut Vec<u8>, log: &PlacedHistory<'_>, node: NodeIx) -> Result<(), AllocError>
+    ensures text { OnOk result (out.new.items ≡ out.old.items ++ named log.now node) }
 {
-    out.extend_from_slice(word)?;
-    let name = log.history.name_of(node);
-    put_place(out, name.session, place_of(log, node))
+    put_place(out, log.history.session_of(node), place_of(log, node))
 }
 
 /// Appends a line of the log, as ` (line 12)`.
@@ -103,18 +96,23 @@ pub fn put_in_line(out: &mut Vec<u8>, line: usize) -> Result<(), AllocError>
 
 /// The line at which a node begins.
 pub fn begin_of(log: &PlacedHistory<'_>, node: NodeIx) -> usize
-    requires node { IsNode log.now.history.now node }
     ensures line { result ≡ begin_in log.now node }
 {
-    row_of(log, node).begin
+    row_of(log, node).map_or(0, |row| row.begin)
+}
+
+/// The line of an operation of a transaction.
+pub fn line_among(row: &TxnPlace, op: usize) -> usize
+    ensures { result ≡ line_at (view_place row.now) op }
+{
+    element(&row.ops, op).unwrap_or(0)
 }
 
 /// The line of an operation of a node.
 pub fn line_of(log: &PlacedHistory<'_>, node: NodeIx, op: usize) -> usize
-    requires op { op < length (ops_of log.now.history.now node) }
     ensures line { result ≡ op_line_in log.now node op }
 {
-    row_of(log, node).ops[op]
+    row_of(log, node).map_or(0, |row| line_among(row, op))
 }
 
 /// Appends the line of an operation of a node.
@@ -124,7 +122,6 @@ pub fn put_op_in_line(
     node: NodeIx,
     op: usize,
 ) -> Result<(), AllocError>
-    requires op { op < length (ops_of log.now.history.now node) }
     ensures text { OnOk result (out.new.items ≡ out.old.items ++ op_in_line log.now node op) }
 {
     put_in_line(out, line_of(log, node, op))
@@ -132,65 +129,98 @@ pub fn put_op_in_line(
 
 /// The line that ends a node.
 pub fn end_of(log: &PlacedHistory<'_>, node: NodeIx) -> usize
-    requires node { IsNode log.now.history.now node }
     ensures line { result ≡ end_line_in log.now node }
 {
-    row_of(log, node).end
+    row_of(log, node).map_or(0, |row| row.end)
 }
 
-/// An operation of a node.
-#[tactic(auto, using(crate::proofs::Ops::event_count))]
-fn event_at(history: &History, node: NodeIx, op: usize) -> Event
-    requires op { op < length (ops_of history.now node) }
-    ensures event { slice_get ((log_of history.now).ops node) op ≡ Some result }
+/// An operation of a node, if it has it.
+fn event_at(history: &History, node: NodeIx, op: usize) -> Option<Event>
+    ensures event { result ≡ slice_get ((log_of history.now).ops node) op }
 {
-    history.events_of(node)[op]
+    element(history.events_of(node), op)
 }
 
 /// The number of the key of an operation.
 pub fn key_number(history: &History, node: NodeIx, op: usize) -> usize
-    requires op { op < length (ops_of history.now node) }
     ensures key { result ≡ versions.key_number history.now node op }
-    ensures known { result < (log_of history.now).keys }
 {
-    event_at(history, node, op).key()
+    event_at(history, node, op).map_or(0, |event| event.key())
+}
+
+/// The bytes of a key.
+#[tactic(auto, using(crate::proofs::Ops::key_kept, crate::proofs::Ops::key_past))]
+pub fn key_bytes(history: &History, key: usize) -> &[u8]
+    ensures bytes { result.now ≡ spec.key_bytes history.now key }
+{
+    if key < history.keys() {
+        history.key_text(key).as_bytes()
+    } else {
+        b""
+    }
 }
 
 /// The bytes of the key of an operation.
-#[tactic(auto, using(reasons::proofs::Ops::key_below))]
+#[tactic(auto, using(crate::proofs::Ops::key_told, crate::proofs::Ops::no_key))]
 pub fn key_at(history: &History, node: NodeIx, op: usize) -> &[u8]
-    requires op { op < length (ops_of history.now node) }
     ensures bytes { result.now ≡ spec.key_text (op_at history.now node op) }
 {
-    history
-        .key_text(event_at(history, node, op).key())
-        .as_bytes()
+    match event_at(history, node, op) {
+        Some(event) => key_bytes(history, event.key()),
+        None => b"",
+    }
 }
 
 /// The identity that an operation names.
-#[tactic(auto, using(crate::proofs::Ops::wid_told, crate::proofs::Ops::wid_is))]
+#[tactic(auto, using(crate::proofs::Ops::wid_is, crate::proofs::Ops::no_wid))]
 pub fn wid_at(history: &History, node: NodeIx, op: usize) -> u64
-    requires op { op < length (ops_of history.now node) }
-    ensures text { decimal result ≡ spec.wid_text (op_at history.now node op) }
     ensures wid { result ≡ op_wid (op_at history.now node op) }
 {
-    event_at(history, node, op).wid()
+    event_at(history, node, op).map_or(0, |event| event.wid())
+}
+
+/// Appends the identity that an operation names.
+#[tactic(auto, using(crate::proofs::Ops::wid_told, crate::proofs::Ops::no_wid_text, crate::proofs::Ops::nothing))]
+pub fn put_wid(
+    out: &mut Vec<u8>,
+    history: &History,
+    node: NodeIx,
+    op: usize,
+) -> Result<(), AllocError>
+    ensures text { OnOk result (out.new.items
+        ≡ out.old.items ++ spec.wid_text (op_at history.now node op)) }
+{
+    match event_at(history, node, op) {
+        Some(event) => put_number(out, event.wid()),
+        None => Ok(()),
+    }
+}
+
+/// Appends the key and the identity of an event, with a space between.
+fn put_event(out: &mut Vec<u8>, history: &History, event: Event) -> Result<(), AllocError>
+    ensures text { OnOk result (out.new.items ≡ out.old.items
+        ++ spec.event_text history.now event) }
+{
+    out.extend_from_slice(key_bytes(history, event.key()))?;
+    out.push(b' ')?;
+    put_number(out, event.wid())
 }
 
 /// Appends the key and the identity of an operation, with a space between.
+#[tactic(auto, using(crate::proofs::Ops::event_told, crate::proofs::Ops::no_key_and_wid, crate::proofs::Ops::nothing))]
 pub fn put_key_and_wid(
     out: &mut Vec<u8>,
     history: &History,
     node: NodeIx,
     op: usize,
 ) -> Result<(), AllocError>
-    requires op { op < length (ops_of history.now node) }
     ensures text { OnOk result (out.new.items
         ≡ out.old.items ++ key_and_wid (op_at history.now node op)) }
 {
-    out.extend_from_slice(key_at(history, node, op))?;
-    out.push(b' ')?;
-    put_number(out, wid_at(history, node, op))
+    match event_at(history, node, op) {
+        Some(event) => put_event(out, history, event),
+        None => Ok(()),
+    }
 }
 
 /// The letter with which the line of an operation begins, and a space.
@@ -204,23 +234,26 @@ fn letter_of(event: Event) -> &'static [u8]
 }
 
 /// Appends an operation as its line has it, as `r x 7`.
-#[tactic(auto, using(crate::proofs::Ops::listed_told, std::proofs::Common::append_assoc))]
+#[tactic(auto, using(crate::proofs::Ops::listed_told, crate::proofs::Ops::no_listed, crate::proofs::Ops::nothing, std::proofs::Common::append_assoc))]
 pub fn put_listed(
     out: &mut Vec<u8>,
     history: &History,
     node: NodeIx,
     op: usize,
 ) -> Result<(), AllocError>
-    requires op { op < length (ops_of history.now node) }
     ensures text { OnOk result (out.new.items
         ≡ out.old.items ++ spec.listed_text (op_at history.now node op)) }
 {
-    put_text(out, letter_of(event_at(history, node, op)))?;
-    put_key_and_wid(out, history, node, op)
+    match event_at(history, node, op) {
+        Some(event) => {
+            put_text(out, letter_of(event))?;
+            put_event(out, history, event)
+        }
+        None => Ok(()),
+    }
 }
 
 /// Appends what a node does, as `2.1 reads x 7 (line 12)`.
-#[tactic(auto, using(crate::proofs::Begun::op_within))]
 pub fn put_does(
     out: &mut Vec<u8>,
     log: &PlacedHistory<'_>,
@@ -228,11 +261,10 @@ pub fn put_does(
     does: &[u8],
     op: usize,
 ) -> Result<(), AllocError>
-    requires op { op < length (ops_of log.now.history.now node) }
     ensures text { OnOk result (out.new.items
         ≡ out.old.items ++ does_text log.now node does.now op) }
 {
-    put_named(out, b"", log, node)?;
+    put_named(out, log, node)?;
     out.extend_from_slice(does)?;
     put_key_and_wid(out, log.history, node, op)?;
     put_op_in_line(out, log, node, op)

@@ -2,7 +2,6 @@
 
 ghost use Rattle.std.specs.Prelude.{◌≡◌, ◌+◌, ◌<◌, ◌≤◌, length, take, drop, reverse, position};
 ghost use Rattle.std.specs.Prelude.{IfSome};
-ghost use Rattle.log_definitions.specs.Serial.{ops_of};
 ghost use Rattle.log_definitions.specs.Numbers.{log_of};
 ghost use Rattle.tell_reasons.specs.Reasons.{op_at};
 ghost use Rattle.tell_reasons.specs.Events.{is_write_in, is_read_in, is_other_in, last_position};
@@ -59,48 +58,31 @@ fn back_of_last(events: &[Event], key: usize) -> Option<usize>
 /// The last of these that writes the key.
 pub fn last_among(events: &[Event], key: usize) -> Option<usize>
     ensures place { result ≡ last_position (is_write_in key) events.now }
-    ensures within { IfSome result (λ i. i < length events.now) }
 {
-    match back_of_last(events, key) {
-        Some(back) => Some(events.len() - (back + 1)),
-        None => None,
-    }
+    back_of_last(events, key).map(|back| events.len() - (back + 1))
 }
 
 /// The first of these that reads the key and names another identity.
 fn other_among(events: &[Event], key: usize, wid: u64) -> Option<usize>
     ensures place { result ≡ position (is_other_in key wid) events.now }
-    ensures within { IfSome result (λ i. i < length events.now) }
 {
     events
         .iter()
         .position(|event| reads_other(*event, key, wid))
 }
 
-/// The first `count` of these.
-fn front(events: &[Event], count: usize) -> &[Event]
-    requires { count ≤ length events.now }
-    ensures { result.now ≡ take count events.now }
+/// The operations of a node before operation `op`.
+#[tactic(auto, using(std::proofs::lemmas::List::take_min))]
+fn events_before(history: &History, node: NodeIx, op: usize) -> &[Event]
+    ensures before { result.now ≡ take op ((log_of history.now).ops node) }
 {
-    let (front, _) = events.split_at(count);
-    front
-}
-
-/// The first `count` operations of a node.
-#[tactic(auto, using(crate::proofs::Ops::event_count))]
-fn events_before(history: &History, node: NodeIx, count: usize) -> &[Event]
-    requires count { count ≤ length (ops_of history.now node) }
-    ensures before { result.now ≡ take count ((log_of history.now).ops node) }
-    ensures size { length result.now ≡ count }
-{
-    front(history.events_of(node), count)
+    let events = history.events_of(node);
+    &events[..op.min(events.len())]
 }
 
 /// The last write before operation `op` of a node of the same key.
 pub fn last_write(history: &History, node: NodeIx, op: usize) -> Option<usize>
-    requires op { op < length (ops_of history.now node) }
     ensures place { result ≡ written_before history.now node op }
-    ensures within { IfSome result (λ i. i < op) }
 {
     let key = key_number(history, node, op);
     last_among(events_before(history, node, op), key)
@@ -108,9 +90,7 @@ pub fn last_write(history: &History, node: NodeIx, op: usize) -> Option<usize>
 
 /// The first read of the same key before operation `op` of a node that names another identity.
 pub fn other_read(history: &History, node: NodeIx, op: usize) -> Option<usize>
-    requires op { op < length (ops_of history.now node) }
     ensures place { result ≡ other_before history.now node op }
-    ensures within { IfSome result (λ i. i < op) }
     ensures read { IfSome result (λ i. spec.IsRead (op_at history.now node i)) }
 {
     let key = key_number(history, node, op);
@@ -121,7 +101,6 @@ pub fn other_read(history: &History, node: NodeIx, op: usize) -> Option<usize>
 /// The first of these that reads the key.
 pub fn first_read_among(events: &[Event], key: usize) -> Option<usize>
     ensures place { result ≡ position (is_read_in key) events.now }
-    ensures within { IfSome result (λ i. i < length events.now) }
 {
     events.iter().position(|event| reads(*event, key))
 }
@@ -158,11 +137,6 @@ fn ops_behind(ops: &[Op], count: usize) -> &[Op]
 pub fn next_write(ops: &[Op], key: &[u8], op: usize) -> Option<usize>
     requires op { op < length ops.now }
     ensures place { result ≡ next_position (spec.is_write_of key.now) ops.now op }
-    ensures within { IfSome result (λ i. i < length ops.now) }
 {
-    let behind = ops_behind(ops, op + 1);
-    match first_among(behind, key) {
-        Some(more) => Some(op + 1 + more),
-        None => None,
-    }
+    first_among(ops_behind(ops, op + 1), key).map(|more| op + 1 + more)
 }

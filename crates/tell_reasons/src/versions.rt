@@ -1,9 +1,7 @@
 //! Versions of a key, by their writers.
 
-ghost use Rattle.std.specs.Prelude.{◌≡◌, ◌<◌, ◌≤◌, ◌++◌, Some, length, IfSome, OnOk};
+ghost use Rattle.std.specs.Prelude.{◌≡◌, ◌++◌, Some, OnOk};
 ghost use Rattle.serializability.specs.Polygraph.{source};
-ghost use Rattle.reason_laws.specs.Reasons.{IsNode};
-ghost use Rattle.log_definitions.specs.Serial.{ops_of};
 ghost use Rattle.log_definitions.specs.Numbers.{log_of};
 ghost use Rattle.tell_reasons.specs.Versions as spec;
 ghost use Rattle.tell_reasons.specs.Versions.{version_text, versions_text, over_text};
@@ -22,7 +20,6 @@ use std::alloc::AllocError;
 /// The last write of a key in a node.
 pub fn left_at(history: &History, key: usize, node: NodeIx) -> Option<usize>
     ensures place { result ≡ spec.left_at history.now key node }
-    ensures within { IfSome result (λ i. i < length (ops_of history.now node)) }
 {
     last_among(history.events_of(node), key)
 }
@@ -30,20 +27,17 @@ pub fn left_at(history: &History, key: usize, node: NodeIx) -> Option<usize>
 /// The first read of a key in a node.
 pub fn read_at(history: &History, key: usize, node: NodeIx) -> Option<usize>
     ensures place { result ≡ spec.read_at history.now key node }
-    ensures within { IfSome result (λ i. i < length (ops_of history.now node)) }
 {
     first_read_among(history.events_of(node), key)
 }
 
 /// Appends the version of a key that a node leaves, as `25, which 11.1 wrote (line 54)`.
-#[tactic(auto, using(crate::proofs::Begun::op_within))]
 pub fn put_version(
     out: &mut Vec<u8>,
     log: &PlacedHistory<'_>,
     key: usize,
     node: NodeIx,
 ) -> Result<(), AllocError>
-    requires node { node ≤ (log_of log.now.history.now).nodes }
     ensures text { OnOk result (out.new.items ≡ out.old.items ++ version_text log.now key node) }
 {
     match left_at(log.history, key, node) {
@@ -87,7 +81,6 @@ fn put_over(
 }
 
 /// Appends that what `writer` wrote last to a key was read, and over what it was written.
-#[tactic(auto, using(crate::proofs::Begun::op_within))]
 fn put_writer(
     out: &mut Vec<u8>,
     log: &PlacedHistory<'_>,
@@ -107,6 +100,18 @@ fn put_writer(
     }
 }
 
+/// The node from which a node reads a key externally.
+#[tactic(auto, using(crate::proofs::Updates::no_source))]
+fn source_of(history: &History, node: NodeIx, key: usize) -> Option<NodeIx>
+    ensures { result ≡ source (log_of history.now) node key }
+{
+    if key < history.keys() {
+        history.source_of(node, key)
+    } else {
+        None
+    }
+}
+
 /// Appends who wrote what a node reads of a key, and over what.
 fn put_source(
     out: &mut Vec<u8>,
@@ -115,10 +120,9 @@ fn put_source(
     base: u64,
     node: NodeIx,
 ) -> Result<(), AllocError>
-    requires key { key < (log_of log.now.history.now).keys }
     ensures text { OnOk result (out.new.items ≡ out.old.items ++ source_text log.now key base node) }
 {
-    match log.history.source_of(node, key) {
+    match source_of(log.history, node, key) {
         Some(writer) => put_writer(out, log, key, base, writer),
         None => say!(out, log; Text(b", an update of "), Base(base)),
     }
@@ -133,7 +137,6 @@ pub fn put_behind(
     node: NodeIx,
     op: usize,
 ) -> Result<(), AllocError>
-    requires op { op < length (ops_of log.now.history.now node) }
     ensures text { OnOk result (out.new.items ≡ out.old.items ++ behind_text log.now base node op) }
 {
     if wid_at(log.history, node, op) == base {
@@ -151,7 +154,6 @@ fn put_updates(
     node: NodeIx,
     op: usize,
 ) -> Result<(), AllocError>
-    requires op { op < length (ops_of log.now.history.now node) }
     ensures text { OnOk result (out.new.items
         ≡ out.old.items ++ updates_text log.now.history.now base node op) }
 {
@@ -163,7 +165,6 @@ fn put_updates(
 }
 
 /// Appends whose version of a key it is that `head` leaves, as ` of 3.1`.
-#[tactic(auto, using(crate::proofs::Begun::op_within))]
 fn put_of(
     out: &mut Vec<u8>,
     log: &PlacedHistory<'_>,
@@ -185,11 +186,10 @@ fn put_whose_of(
     key: usize,
     node: NodeIx,
 ) -> Result<(), AllocError>
-    requires key { key < (log_of log.now.history.now).keys }
     ensures text { OnOk result (out.new.items ≡ out.old.items
         ++ spec.whose_at log.now key (source (log_of log.now.history.now) node key)) }
 {
-    match log.history.source_of(node, key) {
+    match source_of(log.history, node, key) {
         Some(head) => put_of(out, log, key, head),
         None => Ok(()),
     }
@@ -202,7 +202,6 @@ pub fn put_whose(
     node: NodeIx,
     op: usize,
 ) -> Result<(), AllocError>
-    requires op { op < length (ops_of log.now.history.now node) }
     ensures text { OnOk result (out.new.items ≡ out.old.items ++ spec.whose_text log.now node op) }
 {
     put_whose_of(out, log, key_number(log.history, node, op), node)
@@ -218,7 +217,6 @@ fn put_from(
     node: NodeIx,
     op: usize,
 ) -> Result<(), AllocError>
-    requires op { op < length (ops_of log.now.history.now node) }
     ensures text { OnOk result (out.new.items
         ≡ out.old.items ++ from_text log.now key head node op) }
 {
@@ -233,7 +231,6 @@ fn put_from(
 /// Appends a node's first read of a key, and how that goes back to the version of `head`, as `7.1
 /// reads y 3 (line 30) of 3.1`, or `9.16 reads k1 16013 (line 1193), which 4.2 wrote (line 77) over
 /// 16009`.
-#[tactic(auto, using(reason_laws::proofs::Numbers::within))]
 fn put_had(
     out: &mut Vec<u8>,
     log: &PlacedHistory<'_>,
@@ -241,7 +238,6 @@ fn put_had(
     head: NodeIx,
     node: NodeIx,
 ) -> Result<(), AllocError>
-    requires node { IsNode log.now.history.now node }
     ensures text { OnOk result (out.new.items ≡ out.old.items
         ++ had_at log.now key head node (spec.read_at log.now.history.now key node)) }
 {
@@ -263,7 +259,6 @@ pub fn put_held(
     head: NodeIx,
     node: NodeIx,
 ) -> Result<(), AllocError>
-    requires node { IsNode log.now.history.now node }
     ensures text { OnOk result (out.new.items ≡ out.old.items ++ held_text log.now key head node) }
 {
     match left_at(log.history, key, node) {
@@ -282,9 +277,6 @@ pub fn put_versions(
     log: &PlacedHistory<'_>,
     order: ChainOrder,
 ) -> Result<(), AllocError>
-    requires key { order.key < (log_of log.now.history.now).keys }
-    requires first { order.first ≤ (log_of log.now.history.now).nodes }
-    requires second { order.second ≤ (log_of log.now.history.now).nodes }
     ensures text { OnOk result (out.new.items ≡ out.old.items ++ versions_text log.now order) }
 {
     say!(out, log; Key(order.key), Text(b": "))?;
@@ -302,8 +294,6 @@ pub fn put_since(
     source: NodeIx,
     target: NodeIx,
 ) -> Result<(), AllocError>
-    requires source { source ≤ (log_of log.now.history.now).nodes }
-    requires target { target ≤ (log_of log.now.history.now).nodes }
     ensures text { OnOk result (out.new.items
         ≡ out.old.items ++ since_text log.now order source target) }
 {

@@ -19,8 +19,8 @@ pub struct ChainOrder {
 pub enum Why {
     /// The log shows it.
     Known(Reason),
-    /// A forced step, which is this order, established it; steps count from 0.
-    Forced { step: usize, order: ChainOrder },
+    /// The forced step of this number, from 1, which is this order, established it.
+    Forced { number: usize, order: ChainOrder },
     /// It was decided that the chains stand in this order.
     Chosen(ChainOrder),
 }

@@ -1,11 +1,11 @@
 //! What a line says, as a list of words.
 
 ghost use Rattle.std.specs.Prelude.{◌≡◌, ◌++◌, OnOk};
-ghost use Rattle.tell_reasons.specs.Words.{word_text, words_text, CanSay, CanSayAll};
+ghost use Rattle.tell_reasons.specs.Words.{word_text, words_text};
 
 use crate::phrases::{
-    key_at, put_base, put_does, put_in_line, put_key_and_wid, put_listed, put_named, put_number,
-    put_op_in_line, put_place, put_text, wid_at,
+    key_at, key_bytes, put_base, put_does, put_in_line, put_key_and_wid, put_listed, put_named,
+    put_number, put_op_in_line, put_place, put_text, put_wid,
 };
 use log_lines::PlacedHistory;
 use serializability::NodeIx;
@@ -50,7 +50,6 @@ macro_rules! say {
 
 /// Appends a word.
 fn put_word(out: &mut Vec<u8>, log: &PlacedHistory<'_>, word: &Word<'_>) -> Result<(), AllocError>
-    requires { CanSay log.now word.now }
     ensures text { OnOk result (out.new.items ≡ out.old.items ++ word_text log.now word.now) }
 {
     match word {
@@ -58,12 +57,12 @@ fn put_word(out: &mut Vec<u8>, log: &PlacedHistory<'_>, word: &Word<'_>) -> Resu
         Word::Number(number) => put_number(out, *number),
         Word::Line(line) => put_in_line(out, *line),
         Word::Name(session, place) => put_place(out, *session, *place),
-        Word::Node(node) => put_named(out, b"", log, *node),
-        Word::Key(key) => put_text(out, log.history.key_text(*key).as_bytes()),
+        Word::Node(node) => put_named(out, log, *node),
+        Word::Key(key) => put_text(out, key_bytes(log.history, *key)),
         Word::KeyOf(node, op) => put_text(out, key_at(log.history, *node, *op)),
         Word::Operation(node, op) => put_key_and_wid(out, log.history, *node, *op),
         Word::Listed(node, op) => put_listed(out, log.history, *node, *op),
-        Word::Identity(node, op) => put_number(out, wid_at(log.history, *node, *op)),
+        Word::Identity(node, op) => put_wid(out, log.history, *node, *op),
         Word::AtLine(node, op) => put_op_in_line(out, log, *node, *op),
         Word::Does(node, does, op) => put_does(out, log, *node, does, *op),
         Word::Base(base) => put_base(out, *base),
@@ -71,13 +70,11 @@ fn put_word(out: &mut Vec<u8>, log: &PlacedHistory<'_>, word: &Word<'_>) -> Resu
 }
 
 /// Appends what words say, one behind the other.
-#[tactic(auto, using(crate::proofs::Joined::can_say_at))]
 pub fn put_words(
     out: &mut Vec<u8>,
     log: &PlacedHistory<'_>,
     words: &[Word<'_>],
 ) -> Result<(), AllocError>
-    requires { CanSayAll log.now words.now }
     ensures text { OnOk result (out.new.items ≡ out.old.items ++ words_text log.now words.now) }
 {
     for word in words {

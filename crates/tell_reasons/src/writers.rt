@@ -1,73 +1,72 @@
 //! Who wrote what a read names, in the log's own lines.
 
-ghost use Rattle.std.specs.Prelude.{◌≡◌, ◌≢◌, ◌<◌, ◌++◌, Some, length, slice_get, decimal, OnOk};
-ghost use Rattle.std.specs.Prelude.{IfSome};
+ghost use Rattle.std.specs.Prelude.{◌≡◌, ◌≢◌, ◌<◌, ◌++◌, length, slice_get, OnOk};
+ghost use Rattle.std.specs.Option.{option_copied};
 ghost use Rattle.session_log.specs.Text.{view_txn};
 ghost use Rattle.log_definitions.specs.Unknown.{ops_in};
 ghost use Rattle.log_lines.specs.Rows.{view_place, line_at, rows_of};
 ghost use Rattle.tell_reasons.specs.declared.writes.Keys.TheVariants.{This};
 ghost use Rattle.tell_reasons.specs.Reasons.{key_and_wid, wid_text};
-ghost use Rattle.tell_reasons.specs.Writes.{IsNoneWrite, IsThere};
+ghost use Rattle.tell_reasons.specs.Writes.{IsNoneWrite};
 ghost use Rattle.tell_reasons.specs.Anomalies as spec;
 ghost use Rattle.tell_reasons.specs.Anomalies.{Appends, IsWriterTold, elsewhere_text};
 ghost use Rattle.tell_reasons.specs.Anomalies.{overwrote_text, wrote_text, verb_text};
 
-use crate::phrases::{put_in_line, put_number, put_text};
+use crate::phrases::{line_among, put_in_line, put_number, put_text};
 use crate::places::next_write;
 use crate::say;
-use crate::writes::{Keys, WriteAt, op_among, write_at};
+use crate::writes::{Keys, WriteAt, write_at};
 use log_lines::{PlacedHistory, TxnPlace};
 use session_log::{Op, Outcome};
 use std::alloc::AllocError;
 
-/// The identity that an operation names.
-fn wid_of(op: &Op) -> u64
-    ensures { decimal result ≡ wid_text (Some op.now) }
+/// An operation, if it is there.
+#[tactic(auto, using(crate::proofs::Found::got))]
+fn op_among(ops: &[Op], at: usize) -> Option<&Op>
+    ensures { option_copied result ≡ slice_get ops.now at }
+{
+    ops.get(at)
+}
+
+/// Appends the identity that an operation names.
+fn put_wid(out: &mut Vec<u8>, op: Option<&Op>) -> Result<(), AllocError>
+    ensures text { OnOk result (out.new.items ≡ out.old.items ++ wid_text (option_copied op.entry)) }
 {
     match op {
-        Op::Read { wid, .. } | Op::Write { wid, .. } => *wid,
+        Some(Op::Read { wid, .. } | Op::Write { wid, .. }) => put_number(out, *wid),
+        None => Ok(()),
     }
 }
 
 /// Appends the key and the identity of an operation, with a space between.
-fn put_op(out: &mut Vec<u8>, op: &Op) -> Result<(), AllocError>
-    ensures text { OnOk result (out.new.items ≡ out.old.items ++ key_and_wid (Some op.now)) }
+fn put_op(out: &mut Vec<u8>, op: Option<&Op>) -> Result<(), AllocError>
+    ensures text { OnOk result (out.new.items ≡ out.old.items ++ key_and_wid (option_copied op.entry)) }
 {
     match op {
-        Op::Read { key, wid } | Op::Write { key, wid } => {
+        Some(Op::Read { key, wid } | Op::Write { key, wid }) => {
             out.extend_from_slice(key.as_bytes())?;
             out.push(b' ')?;
             put_number(out, *wid)
         }
+        None => Ok(()),
     }
-}
-
-/// The line of an operation of a transaction.
-fn line_among(place: &TxnPlace, op: usize) -> usize
-    requires { op < length place.now.ops.items }
-    ensures { result ≡ line_at (view_place place.now) op }
-{
-    place.ops[op]
 }
 
 /// Appends that a transaction that stands here wrote the key again, where it did.
 fn put_overwrote(
     out: &mut Vec<u8>,
-    log: &PlacedHistory<'_>,
     ops: &[Op],
     place: &TxnPlace,
     again: Option<usize>,
 ) -> Result<(), AllocError>
-    requires again { IfSome again (λ i. i < length ops.now) }
-    requires lines { length place.now.ops.items ≡ length ops.now }
     ensures text { OnOk result (out.new.items ≡ out.old.items
         ++ overwrote_text ops.now (view_place place.now) again) }
 {
     match again {
         Some(again) => {
-            let wid = wid_of(op_among(ops, again));
-            let line = line_among(place, again);
-            say!(out, log; Text(b" and overwrote with "), Number(wid), Line(line))
+            put_text(out, b" and overwrote with ")?;
+            put_wid(out, op_among(ops, again))?;
+            put_in_line(out, line_among(place, again))
         }
         None => Ok(()),
     }
@@ -109,7 +108,7 @@ fn put_written(
     key: &[u8],
     write: &WriteAt<'_>,
 ) -> Result<(), AllocError>
-    requires { IsThere write.now }
+    requires { write.now.op < length write.now.txn.now.ops.items }
     ensures text { OnOk result (out.new.items ≡ out.old.items ++ wrote_text read key.now
         write.now.session (view_txn write.now.txn.now) (view_place write.now.place.now)
         write.now.op) }
@@ -119,7 +118,7 @@ fn put_written(
     let line = line_among(place, write.op);
     say!(out, log; Text(b", which "), Name(write.session, place.place),
         Text(verb(read, place.begin, line)), Line(line))?;
-    put_overwrote(out, log, ops, place, next_write(ops, key, write.op))?;
+    put_overwrote(out, ops, place, next_write(ops, key, write.op))?;
     put_outcome(out, log, write.txn.outcome, place.end)
 }
 
@@ -131,7 +130,6 @@ fn put_written_elsewhere(
     key: &[u8],
     write: &WriteAt<'_>,
 ) -> Result<(), AllocError>
-    requires { IsThere write.now }
     ensures text { OnOk result (out.new.items ≡ out.old.items
         ++ elsewhere_text key.now write.now.session write.now.place.now.place
         (slice_get write.now.txn.now.ops.items write.now.op)
@@ -146,7 +144,7 @@ fn put_written_elsewhere(
 
 /// Appends which transaction wrote, to another key, an identity that is not 0 and that none wrote
 /// to this key, or that none did.
-#[tactic(auto, using(crate::proofs::Told::is_there, crate::proofs::Told::elsewhere_told, crate::proofs::Told::nobody_told))]
+#[tactic(auto, using(crate::proofs::Told::elsewhere_told, crate::proofs::Told::nobody_told))]
 fn put_elsewhere(
     out: &mut Vec<u8>,
     log: &PlacedHistory<'_>,

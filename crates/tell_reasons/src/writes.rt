@@ -1,6 +1,6 @@
 //! Where an identity is written, by a pass over the sessions.
 
-ghost use Rattle.std.specs.Prelude.{◌≡◌, ◌<◌, Some, length, map, position, slice_get};
+ghost use Rattle.std.specs.Prelude.{◌≡◌, length, map, position};
 ghost use Rattle.std.specs.Prelude.{IfSome, IfNone};
 ghost use Rattle.std.specs.List.{flat_map};
 ghost use Rattle.session_log.specs.Text.{view_txn};
@@ -31,14 +31,6 @@ pub struct WriteAt<'a> {
     pub place: &'a TxnPlace,
     /// The place of the write among the transaction's operations, from 0.
     pub op: usize,
-}
-
-/// An operation.
-pub fn op_among(ops: &[Op], at: usize) -> &Op
-    requires { at < length ops.now }
-    ensures { slice_get ops.now at ≡ Some result.now }
-{
-    &ops[at]
 }
 
 /// Whether a key is one of those under which a write is sought.

@@ -11,7 +11,7 @@ use std::alloc::{AllocError, Global};
 const MOST_EDGES: usize = 6;
 
 /// What follows from a circle, where two edges do not show it at a glance.
-const CONCLUSION: &str = "; so none of them can come first";
+const CONCLUSION: &str = "; no serial order has all of this";
 
 /// What an edge says.
 #[derive(Drop)]
@@ -161,39 +161,43 @@ impl Words {
     }
 }
 
-/// Appends words behind others: what a transaction did not see goes on what is said of it.
-fn go_on(alloc: Global, text: String, before: &Words, words: &Words) -> Result<String, AllocError> {
+/// Appends words, behind others if there are some: what a transaction did not see goes on what is said
+/// of it.
+fn go_on(
+    alloc: Global,
+    text: String,
+    before: Option<&Words>,
+    words: &Words,
+) -> Result<String, AllocError> {
     let (whose, said) = (&words.whose, &words.said);
-    if words.is_missed && !before.is_missed {
-        format!(in alloc; "{text}, but {said}")
-    } else {
-        format!(in alloc; "{text}; {whose} {said}")
+    match before {
+        None => format!(in alloc; "{text}{whose} {said}"),
+        Some(before) if words.is_missed && !before.is_missed => {
+            format!(in alloc; "{text}, but {said}")
+        }
+        Some(_) => format!(in alloc; "{text}; {whose} {said}"),
     }
 }
 
-/// What is said of edges, where they are few, behind what leads to that: of a circle from the last
-/// one, where the first one's words go on its own.
+/// What is said of edges, where they are few, behind what leads to that: of a circle those behind the
+/// last one that says what a transaction did not see, and then the others up to it.
 fn sentence(
     alloc: Global,
     lead: &str,
     all: &[Words],
     is_circle: bool,
 ) -> Result<Option<String>, AllocError> {
-    let (Some(first), Some(last)) = (all.first(), all.last()) else {
-        return Ok(None);
-    };
-    if all.len() > MOST_EDGES {
+    if all.is_empty() || all.len() > MOST_EDGES {
         return Ok(None);
     }
-    let is_led = is_circle && first.is_missed && !last.is_missed;
-    let start = if is_led { last } else { first };
-    let (whose, said) = (&start.whose, &start.said);
-    let mut text = format!(in alloc; "{lead}{whose} {said}")?;
-    let mut before = start;
-    let others = all.len() - 1;
-    for words in all.iter().skip(usize::from(!is_led)).take(others) {
+    let behind = all.iter().rev().take_while(|words| !words.is_missed);
+    let count = if is_circle { behind.count() } else { 0 };
+    let start = all.len().saturating_sub(count);
+    let mut text = String::from_str(alloc, lead)?;
+    let mut before = None;
+    for words in all.iter().skip(start).chain(all.iter().take(start)) {
         text = go_on(alloc, text, before, words)?;
-        before = words;
+        before = Some(words);
     }
     Ok(Some(text))
 }

@@ -238,6 +238,19 @@ pub walk_end : (edges : List Edge) (ws : List ℕ) (u v : ℕ) → Walk edges u 
 walk_end edges [] u v w = (u, w)
 walk_end edges (x ∷ ws) u v w = walk_end edges ws x v w.1
 
+-- a cycle of known edges
+pub known_closed : (ss : List ClientSession) → IsClean (log_of ss) → (line : List ℕ) → IsCycle (chain_polygraph (log_of ss)).known line → IsClosed ss [] line
+known_closed ss clean line c =
+    let edges = (chain_polygraph (log_of ss)).known in
+    let w = c.1 in
+    let last = walk_end edges w.inner c.0 c.0 w.steps in
+    let rests : (a b : ℕ) → Contains edges (a, b) → IsBetween ss a → Rests ss [] 0 a b =
+    λ a b e h. record { first = h; second = known_leads ss (a, b) e; kept = λ none. absurd (known_not ss clean a b h.low e none) } in
+    record {
+      round = record { start = c.0; ends = record { inner = w.inner; shape = w.shape } };
+      rests = subst (LineRests ss [] 0) (sym w.shape) (walk_rests ss [] 0 edges rests w.inner c.0 c.0 (known_leads ss (last.0, c.0) last.1) w.steps);
+    }
+
 -- ---- edges over what posts keep
 pub record Given (ss : List ClientSession) (p : Polygraph) : Type 0 where
   pub clean : IsClean (log_of ss)

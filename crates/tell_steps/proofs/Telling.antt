@@ -2,7 +2,7 @@
 use Rattle.std.proofs.Common.{◌≡◌, ℕ, zero, suc, ◌+◌, ◌-◌, ◌<◌, ◌≤◌, Bool, true, false, List, [], ◌∷◌, ◌++◌, length, get_or, drop, Some, sym, ap, ◌∙◌, subst, inl, inr, arith, append_assoc, Bor}
 use Rattle.std.specs.Prelude.{slice_get}
 use Rattle.std.specs.List.{All, Contains}
-use Rattle.std.proofs.lemmas.Bool.{cases_lt, false≢true}
+use Rattle.std.proofs.lemmas.Bool.{cases_lt, false≢true, false_from_ne_true}
 use Rattle.std.proofs.lemmas.Option.{slice_get_within}
 use Rattle.std.proofs.lemmas.List.{append-nil, drop_more, drop_all, length_push, length-map}
 use Rattle.std.proofs.lemmas.List.Elements.{Contains-append_left, Contains-append_right, All-weaker}
@@ -12,7 +12,11 @@ use Rattle.known_graph.proofs.Listed.{In-from_Contains}
 use Rattle.session_log.specs.Text.{ClientSession}
 use Rattle.serializability.specs.Polygraph.{Edge}
 use Rattle.log_definitions.specs.Numbers.{log_of}
+use Rattle.reason_laws.specs.Reasons.{IsNode}
+use Rattle.reason_laws.proofs.Numbers.{node_from}
 use Rattle.reasons.specs.Given.{HaveNone}
+use Rattle.reasons.specs.Runs.{is_behind, goes_on, without_runs}
+use Rattle.reasons.proofs.Sessions.{Beside, beside_at, of_session, ends_of_session, runs_some, runs_each, runs_ends, runs_beside}
 use Rattle.prune_ledger.specs.Posted.{Posted}
 use Rattle.prune_ledger.specs.Pruned.{posts_in}
 use Rattle.prune_ledger.specs.declared.ledger.LedgerEntry.{LedgerEntry}
@@ -23,7 +27,7 @@ use Rattle.tell_steps.specs.declared.item.Item.{Item}
 use Rattle.tell_steps.specs.declared.item.Item.TheVariants as item
 use Rattle.tell_steps.specs.Steps.{turned, edges_in, IsOrder, Follows, IsFirstWith, IsWhy, IsLineTold, ends, goes, AreStepsTold, none, step, IsCycleTold, closes, IsNamed, IsDeadTold}
 use Rattle.tell_steps.specs.Firsts.{IsFirstIn, HasSide}
-use Rattle.tell_steps.specs.Lines.{sides_of, IsUnshown, LineRests, OneHas, LineStands, IsRound, IsNeededIn}
+use Rattle.tell_steps.specs.Lines.{sides_of, HasEnds, IsBetween, IsUnshown, LineRests, OneHas, Stands, LineStands, IsRound, IsNeededIn}
 use Rattle.tell_steps.specs.Marks.{is_set, IsMarked, IsCovered, AreNeeded}
 use Rattle.tell_steps.specs.Ledgers.{IsStep}
 use Rattle.tell_steps.specs.Told.{IsPut, EdgesTold, IsRoundTold, IsStepTold, IsTold, IsOfMarked, IsEdgeTold, AreEdgesTold, AreTold, HasSteps, AreToldFor}
@@ -77,16 +81,18 @@ pub put_all : (ss : List ClientSession) (steps decided : List ChainOrder) (line 
 put_all ss steps decided line i out new some le lt h = record { items = h.items; appended = h.appended; kind = edges_all ss steps decided line i h.items some le lt h.kind }
 
 -- ---- edges among items
+edge_beside : (ss : List ClientSession) (steps decided : List ChainOrder) (line : List ℕ) (items : List Item) → IsLineTold ss steps decided line items → (u v : ℕ) → Beside u v line → IsEdgeTold ss steps decided u v items
+unfolding Beside
+edge_beside ss steps decided line items (ends w) u v h = absurd h
+edge_beside ss steps decided line items (goes a b rest why more w h) u v (inl e) =
+    let here : IsEdgeTold ss steps decided a b (item.Edge a b why ∷ more) = record { why = why; by = w; among = Contains-here (item.Edge a b why) more } in
+    subst (λ x. IsEdgeTold ss steps decided x v (item.Edge a b why ∷ more)) e.0 (subst (λ y. IsEdgeTold ss steps decided a y (item.Edge a b why ∷ more)) e.1 here)
+edge_beside ss steps decided line items (goes a b rest why more w h) u v (inr later) =
+    let t = edge_beside ss steps decided (b ∷ rest) more h u v later in
+    record { why = t.why; by = t.by; among = Contains-append_right (item.Edge a b why ∷ []) more (item.Edge u v t.why) t.among }
+
 edge_told : (ss : List ClientSession) (steps decided : List ChainOrder) (line : List ℕ) (items : List Item) → IsLineTold ss steps decided line items → (i : ℕ) → i + 1 < length line → IsEdgeTold ss steps decided (get_or line i 0) (get_or line (i + 1) 0) items
-edge_told ss steps decided line items (ends v) i lt = absurd (omega (arith, lt))
-edge_told ss steps decided line items (goes a b rest why more w h) zero lt = record { why = why; by = w; among = Contains-here (item.Edge a b why) more }
-edge_told ss steps decided line items (goes a b rest why more w h) (suc i) lt =
-    let e : suc i + 1 ≡ suc (i + 1) = omega arith in
-    let u = get_or (b ∷ rest) i 0 in
-    let v = get_or (b ∷ rest) (i + 1) 0 in
-    let t = edge_told ss steps decided (b ∷ rest) more h i (omega (arith, lt)) in
-    let there : IsEdgeTold ss steps decided u v (item.Edge a b why ∷ more) = record { why = t.why; by = t.by; among = Contains-append_right (item.Edge a b why ∷ []) more (item.Edge u v t.why) t.among } in
-    subst (λ k. IsEdgeTold ss steps decided u (get_or (a ∷ b ∷ rest) k 0) (item.Edge a b why ∷ more)) (sym e) there
+edge_told ss steps decided line items h i lt = edge_beside ss steps decided line items h (get_or line i 0) (get_or line (i + 1) 0) (beside_at line i lt)
 
 -- why an edge stands of which the log shows no reason
 one_step : (ss : List ClientSession) (steps : List ChainOrder) (e : Edge) (j k : ℕ) (o p : ChainOrder) → IsFirstWith (log_of ss) steps j o e → IsFirstWith (log_of ss) steps k p e → j ≡ k
@@ -98,13 +104,14 @@ one_step ss steps e j k o p f g = elim (cases_lt j k) [
   ])
 ]
 
-why_forced : (ss : List ClientSession) (steps decided : List ChainOrder) (a b r : ℕ) (o : ChainOrder) (why : Why) → IsWhy ss steps decided a b why → HaveNone ss a b → IsFirstWith (log_of ss) steps r o (a, b) → why ≡ Forced r o
+why_forced : (ss : List ClientSession) (steps decided : List ChainOrder) (a b r : ℕ) (o : ChainOrder) (why : Why) → IsWhy ss steps decided a b why → HaveNone ss a b → IsFirstWith (log_of ss) steps r o (a, b) → why ≡ Forced (suc r) o
 why_forced ss steps decided a b r o (Known x) w have f = absurd (reason_not_none ss a b x w.0 have)
-why_forced ss steps decided a b r o (Forced k p) w have f =
+why_forced ss steps decided a b r o (Forced zero p) w have f = absurd w
+why_forced ss steps decided a b r o (Forced (suc k) p) w have f =
     let e : k ≡ r = one_step ss steps (a, b) k r p o w.1 f in
     let Stands : ℕ → Type 0 = λ n. slice_get steps n ≡ Some p in
     let same : p ≡ o = same_item steps r p o (subst Stands e w.1.at) f.at in
-    ap (λ n. Forced n p) e ∙ ap (λ z. Forced r z) same
+    ap (λ n. Forced (suc n) p) e ∙ ap (λ z. Forced (suc r) z) same
 why_forced ss steps decided a b r o (Chosen p) w have f = absurd (w.1.none o (contains_at steps r o f.at) f.has)
 
 edge_named : (ss : List ClientSession) (steps decided : List ChainOrder) (a b r : ℕ) (o : ChainOrder) (items : List Item) → IsEdgeTold ss steps decided a b items → HaveNone ss a b → IsFirstWith (log_of ss) steps r o (a, b) → IsNamed items r
@@ -113,18 +120,23 @@ edge_named ss steps decided a b r o items t have f =
     record { first = a; second = b; order = o; among = subst P (why_forced ss steps decided a b r o t.why t.by have f) t.among }
 
 pub named_among : (items new : List Item) (r : ℕ) → ((x : Item) → Contains items x → Contains new x) → IsNamed items r → IsNamed new r
-named_among items new r up n = record { first = n.first; second = n.second; order = n.order; among = up (item.Edge n.first n.second (Forced r n.order)) n.among }
+named_among items new r up n = record { first = n.first; second = n.second; order = n.order; among = up (item.Edge n.first n.second (Forced (suc r) n.order)) n.among }
 
 -- a step that a told line needs
-pub needed_named : (ss : List ClientSession) (steps decided : List ChainOrder) (lines : List (Bor (List ℕ))) (r : ℕ) (items : List Item) (n : IsNeededIn ss steps lines r) → IsLineTold ss steps decided n.line.now items → IsNamed items r
-needed_named ss steps decided lines r items n h =
+needed_named : (ss : List ClientSession) (steps decided : List ChainOrder) (lines : List (Bor (List ℕ))) (r : ℕ) (items : List Item) (n : IsNeededIn ss steps lines r) → LineStands ss steps decided n.line.now → IsLineTold ss steps decided (without_runs ss n.line.now) items → IsNamed items r
+needed_named ss steps decided lines r items n stands h =
     let line = n.line.now in
-    edge_named ss steps decided (get_or line n.place 0) (get_or line (n.place + 1) 0) r n.order items (edge_told ss steps decided line items h n.place n.within) n.none n.first
+    let u = get_or line n.place 0 in
+    let v = get_or line (n.place + 1) 0 in
+    let edge = stands.each n.place n.within in
+    let apart : is_behind ss u v ≡ false = false_from_ne_true (is_behind ss u v) (λ t. n.none.session (of_session ss u v (node_from ss u edge.first.low edge.first.high) (node_from ss v edge.second.low edge.second.high) t)) in
+    edge_named ss steps decided u v r n.order items (edge_beside ss steps decided (without_runs ss line) items h u v (runs_beside ss u v apart line (beside_at line n.place n.within))) n.none n.first
 
 -- ---- more steps
 why_later : (ss : List ClientSession) (steps : List ChainOrder) (o : ChainOrder) (a b : ℕ) (why : Why) → IsWhy ss steps [] a b why → IsWhy ss (steps ++ o ∷ []) [] a b why
 why_later ss steps o a b (Known r) w = w
-why_later ss steps o a b (Forced k p) w =
+why_later ss steps o a b (Forced zero p) w = absurd w
+why_later ss steps o a b (Forced (suc k) p) w =
     let f = w.1 in (
       w.0,
       record {
@@ -347,20 +359,57 @@ round_cycle ss steps decided line items h =
     let r = h.round in
     subst (IsCycleTold ss steps decided) (sym h.whole) (closes r.start r.ends.inner h.edges (subst (λ l. IsLineTold ss steps decided l h.edges) r.ends.shape h.told))
 
-pub round_told : (ss : List ClientSession) (steps decided : List ChainOrder) (line : List ℕ) (old mid new : List Item) (start edges : ℕ) → IsRound line → start ≡ get_or line 0 start → edges ≡ length line - 1 → mid ≡ old ++ item.Cycle start edges ∷ [] → IsPut mid new (IsLineTold ss steps decided line) → IsPut old new (IsRoundTold ss steps decided line)
-round_told ss steps decided line old mid new start edges r first many is put =
-    let start_is : start ≡ r.start = first ∙ ap (λ l. get_or l 0 start) r.ends.shape in
-    let edges_are : edges ≡ length r.ends.inner + 1 = (let e = ap length r.ends.shape in let f = length_push r.ends.inner r.start in omega (arith, e, f, many)) in
+-- ---- without runs of sessions
+stands_on : (ss : List ClientSession) (steps decided : List ChainOrder) (a b c : ℕ) → Stands ss steps decided a b → Stands ss steps decided b c → goes_on ss a b c ≡ true → Stands ss steps decided a c
+stands_on ss steps decided a b c h g t =
+    let node : (v : ℕ) → IsBetween ss v → IsNode ss v = λ v z. node_from ss v z.low z.high in
+    record {
+      first = h.first;
+      second = g.second;
+      has = λ none. absurd (none.session (ends_of_session ss a b c (node a h.first) (node b g.first) (node c g.second) t));
+    }
+
+pub runs_stand : (ss : List ClientSession) (steps decided : List ChainOrder) (line : List ℕ) → LineStands ss steps decided line → LineStands ss steps decided (without_runs ss line)
+runs_stand ss steps decided line h = record { some = runs_some ss line h.some; each = runs_each ss (Stands ss steps decided) (stands_on ss steps decided) line h.each }
+
+pub runs_lead : (ss : List ClientSession) (u : ℕ) (line : List ℕ) → HasEnds u u line → HasEnds u u (without_runs ss line)
+runs_lead ss u line h = let r = runs_ends ss u u h.inner in record { inner = r.0; shape = ap (without_runs ss) h.shape ∙ r.1 }
+
+runs_round : (ss : List ClientSession) (line : List ℕ) → IsRound line → IsRound (without_runs ss line)
+runs_round ss line round = record { start = round.start; ends = runs_lead ss round.start line round.ends }
+
+-- a line of known edges
+pub known_stands : (ss : List ClientSession) (line : List ℕ) → LineRests ss [] 0 line → LineStands ss [] [] line
+known_stands ss line h = record {
+  some = h.some;
+  each = λ i lt.
+      (let r = h.each i lt in
+      record { first = r.first; second = r.second; has = λ none. (let kept = r.kept none in absurd (omega (arith, kept.below))) });
+}
+
+pub round_told : (ss : List ClientSession) (steps decided : List ChainOrder) (line short : List ℕ) (old mid new : List Item) (start edges : ℕ) → LineStands ss steps decided line → IsRound line → short ≡ without_runs ss line → start ≡ get_or short 0 start → edges ≡ length short - 1
+    → mid ≡ old ++ item.Cycle start edges ∷ [] → IsPut mid new (IsLineTold ss steps decided short) → IsPut old new (IsRoundTold ss steps decided line)
+round_told ss steps decided line short old mid new start edges stands round same first many is put =
+    let r = runs_round ss line round in
+    let shape : short ≡ r.start ∷ (r.ends.inner ++ r.start ∷ []) = same ∙ r.ends.shape in
+    let start_is : start ≡ r.start = first ∙ ap (λ l. get_or l 0 start) shape in
+    let edges_are : edges ≡ length r.ends.inner + 1 = (let e = ap length shape in let f = length_push r.ends.inner r.start in omega (arith, e, f, many)) in
     record {
       items = item.Cycle start edges ∷ put.items;
       appended = put.appended ∙ ap (λ l. l ++ put.items) is ∙ append_assoc old (item.Cycle start edges ∷ []) put.items;
-      kind = record { round = r; edges = put.items; told = put.kind; whole = ap (λ v. item.Cycle v edges ∷ put.items) start_is ∙ ap (λ n. item.Cycle r.start n ∷ put.items) edges_are };
+      kind = record {
+        stands = stands;
+        round = r;
+        edges = put.items;
+        told = subst (λ l. IsLineTold ss steps decided l put.items) same put.kind;
+        whole = ap (λ v. item.Cycle v edges ∷ put.items) start_is ∙ ap (λ n. item.Cycle r.start n ∷ put.items) edges_are;
+      };
     }
 
 pub round_named : (ss : List ClientSession) (steps decided : List ChainOrder) (lines : List (Bor (List ℕ))) (r : ℕ) (items : List Item) (n : IsNeededIn ss steps lines r) → IsRoundTold ss steps decided n.line.now items → IsNamed items r
 round_named ss steps decided lines r items n h =
     let head = item.Cycle h.round.start (length h.round.ends.inner + 1) ∷ [] in
-    named_among h.edges items r (λ x c. subst (λ l. Contains l x) (sym h.whole) (Contains-append_right head h.edges x c)) (needed_named ss steps decided lines r h.edges n h.told)
+    named_among h.edges items r (λ x c. subst (λ l. Contains l x) (sym h.whole) (Contains-append_right head h.edges x c)) (needed_named ss steps decided lines r h.edges n h.stands h.told)
 
 pub dead_told : (ss : List ClientSession) (kept steps : List ChainOrder) (line : Bor (List ℕ)) (before new : List Item) → AreToldFor ss kept steps before (line ∷ []) → IsPut before new (IsRoundTold ss steps [] line.now) → IsDeadTold ss new
 dead_told ss kept steps line before new t put = record {

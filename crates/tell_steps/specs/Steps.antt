@@ -1,6 +1,6 @@
 -- How the ledger of pruning is told: forced steps, each of which rests on the log and on earlier
 -- steps alone, and the cycle that they end in.
-use Rattle.std.specs.Prelude.{◌≡◌, ◌≢◌, ◌⊎◌, ℕ, ◌+◌, ◌<◌, List, [], ◌∷◌, ◌++◌, length}
+use Rattle.std.specs.Prelude.{◌≡◌, ◌≢◌, ◌⊎◌, ℕ, zero, suc, ◌+◌, ◌<◌, List, [], ◌∷◌, ◌++◌, length}
 use Rattle.std.specs.Prelude.{slice_get, Some}
 use Rattle.std.specs.List.{Contains}
 use Rattle.session_log.specs.Text.{ClientSession}
@@ -48,11 +48,13 @@ pub record NoStepHas (log : Log) (steps : List ChainOrder) (e : Edge) : Type 0 w
   pub none : (o : ChainOrder) → Contains steps o → Contains (edges_in log o) e → ⊥
 
 -- Why a stands before b: by a reason in the log, of the first kind that has one, with the least
--- operations; where the log has none, by the first step that puts it so, and the order that it is;
--- and where no step does, by what was decided.
+-- operations; where the log has none, by the first step that puts it so, by its number from 1, and
+-- the order that it is; and where no step does, by what was decided.
 abbrev pub IsWhy : List ClientSession → List ChainOrder → List ChainOrder → ℕ → ℕ → Why → Type 0
 IsWhy ss steps decided a b (Known r) = IsReason ss a b r × IsOfFirstKind ss a b r × IsLeast ss a b r
-IsWhy ss steps decided a b (Forced k o) = HaveNone ss a b × IsFirstWith (log_of ss) steps k o (a, b)
+IsWhy ss steps decided a b (Forced zero o) = ⊥
+IsWhy ss steps decided a b (Forced (suc k) o) = HaveNone ss a b
+    × IsFirstWith (log_of ss) steps k o (a, b)
 IsWhy ss steps decided a b (Chosen o) = HaveNone ss a b × NoStepHas (log_of ss) steps (a, b)
     × Contains decided o × Contains (edges_in (log_of ss) o) (a, b)
 
@@ -83,12 +85,12 @@ pub data IsCycleTold (ss : List ClientSession) (steps decided : List ChainOrder)
       → IsLineTold ss steps decided (start ∷ (inner ++ start ∷ [])) items →
       IsCycleTold ss steps decided (item.Cycle start (length inner + 1) ∷ items)
 
--- an edge is told that stands by step k, from 0
+-- an edge is told that stands by step k, from 0, of which the number is k + 1
 pub record IsNamed (items : List Item) (k : ℕ) : Type 0 where
   pub first : ℕ
   pub second : ℕ
   pub order : ChainOrder
-  pub among : Contains items (item.Edge first second (Forced k order))
+  pub among : Contains items (item.Edge first second (Forced (suc k) order))
 
 -- steps that end in a cycle, each of which is needed: an edge of the cycle or of a later step's
 -- walk stands by it

@@ -4,14 +4,14 @@ use Rattle.std.specs.Prelude.{Some, slice_get, slice_index}
 use Rattle.std.specs.Borrow.{Bor}
 use Rattle.std.specs.List.{All, Contains}
 use Rattle.session_log.specs.Text.{ClientSession}
-use Rattle.log_definitions.specs.Numbers.{log_of}
+use Rattle.reasons.specs.Runs.{without_runs}
 use Rattle.prune_ledger.specs.Posted.{Posted}
 use Rattle.tell_reasons.specs.declared.why.ChainOrder.{ChainOrder}
 use Rattle.tell_reasons.specs.declared.why.Why.{Why}
 use Rattle.tell_steps.specs.declared.item.Item.{Item}
 use Rattle.tell_steps.specs.declared.item.Item.TheVariants as item
 use Rattle.tell_steps.specs.Steps.{IsWhy, IsLineTold, AreStepsTold, IsNamed}
-use Rattle.tell_steps.specs.Lines.{sides_of, IsUnshown, IsRound, OneHas, IsNeededIn}
+use Rattle.tell_steps.specs.Lines.{sides_of, IsUnshown, IsRound, LineStands, OneHas, IsNeededIn}
 use Rattle.tell_steps.specs.Marks.{is_set}
 
 -- items of this kind were appended
@@ -34,12 +34,13 @@ pub record WhyPut (ss : List ClientSession) (steps decided : List ChainOrder) (a
   pub by : IsWhy ss steps decided a b why
   pub appended : new ≡ old ++ item.Edge a b why ∷ []
 
--- a line that closes is told as a cycle
+-- a line that closes is told as a cycle, with each run of edges of one session as one edge
 pub record IsRoundTold (ss : List ClientSession) (steps decided : List ChainOrder) (line : List ℕ)
     (items : List Item) : Type 0 where
-  pub round : IsRound line
+  pub stands : LineStands ss steps decided line
+  pub round : IsRound (without_runs ss line)
   pub edges : List Item
-  pub told : IsLineTold ss steps decided line edges
+  pub told : IsLineTold ss steps decided (without_runs ss line) edges
   pub whole : items ≡ item.Cycle round.start (length round.ends.inner + 1) ∷ edges
 
 -- a step's item, and those of its walk

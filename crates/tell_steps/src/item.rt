@@ -25,7 +25,7 @@ pub enum Item {
         start: NodeIx,
         edges: usize,
     },
-    /// A cube decides that the chains stand in this order; `depth` choices are decided before it.
+    /// A cube decides that the chains stand in this order, as its choice number `depth`, from 1.
     Decided {
         depth: usize,
         order: ChainOrder,

@@ -10,7 +10,7 @@ ghost use Rattle.tell_steps.specs.Told.{IsPut, WhyPut, IsRoundTold};
 use crate::decided::order_with;
 use crate::ground::{LogAndGrounds, answer, entry_with, kept_order};
 use crate::item::Item;
-use reasons::Reason;
+use reasons::{Reason, without_runs};
 use serializability::NodeIx;
 use std::alloc::AllocError;
 use tell_reasons::{ChainOrder, Why};
@@ -41,7 +41,10 @@ fn why_of(
         None => match entry_with(basis.grounds, a, b) {
             Some(step) => {
                 let order = kept_order(basis.grounds, step);
-                Ok(Why::Forced { step, order })
+                Ok(Why::Forced {
+                    number: step + 1,
+                    order,
+                })
             }
             None => match order_with(chains, decided, a, b) {
                 Some(order) => Ok(Why::Chosen(order)),
@@ -100,7 +103,7 @@ pub fn put_edges(
     Ok(())
 }
 
-/// Appends a cycle, and its edges.
+/// Appends a cycle, and its edges, with each run of edges of one session as one edge.
 pub fn put_cycle(
     items: &mut Vec<Item>,
     basis: &LogAndGrounds<'_>,
@@ -120,8 +123,9 @@ pub fn put_cycle(
     ensures put { OnOk result (IsPut items.old.items items.new.items
         (IsRoundTold basis.now.history.now basis.now.grounds.now.kept.items decided.now line.now)) }
 {
+    let line = without_runs(basis.alloc, basis.history, line)?;
     let start = line[0];
     let edges = line.len() - 1;
     items.extend_from_slice(&[Item::Cycle { start, edges }])?;
-    put_edges(items, basis, answers, chains, decided, line)
+    put_edges(items, basis, answers, chains, decided, &line)
 }

@@ -1,9 +1,9 @@
 -- An explanation as a graph in the language of Graphviz: a box for each transaction that takes
 -- part, with those of its operations that reasons name, in their lines, and an arrow for each edge,
 -- labelled and coloured by its kind.
-use Rattle.std.specs.Prelude.{◌≡◌, ℕ, ◌+◌, ◌<◌, ◌==◌, ◌&&◌, ◌||◌, Bool, false, List, [], ◌∷◌, ◌++◌}
+use Rattle.std.specs.Prelude.{◌≡◌, ℕ, ◌<◌, ◌==◌, ◌&&◌, ◌||◌, Bool, false, List, [], ◌∷◌, ◌++◌}
 use Rattle.std.specs.Prelude.{length, codes, decimal, slice_get, unwrap_or, Vec}
-use Rattle.std.specs.List.{filter, flat_map, list_any, range_with_len, AllByRecursion}
+use Rattle.std.specs.List.{filter, flat_map, list_any, range_with_len}
 use Rattle.std.specs.Option.{option_map}
 use Rattle.std.specs.declared.alloc.Global.{Global}
 use Rattle.session_log.specs.Text.{ClientSession}
@@ -31,7 +31,7 @@ reason_names a b reason.Moments = []
 
 abbrev pub why_names : ℕ → ℕ → Why → List (ℕ × ℕ)
 why_names a b (why.Known r) = reason_names a b r
-why_names a b (why.Forced k o) = []
+why_names a b (why.Forced number o) = []
 why_names a b (why.Chosen o) = []
 
 abbrev pub item_names : Item → List (ℕ × ℕ)
@@ -64,10 +64,6 @@ pub record AddsMarks (test : ℕ → Bool) (old new : List Bool) : Type 0 where
 abbrev pub row : List (Vec Bool Global) → ℕ → List Bool
 row table v = unwrap_or (option_map (λ marks. marks.items) (slice_get table v)) []
 
--- there is a mark for each of these operations
-pub record AreWithin (named : List (ℕ × ℕ)) (table : List (Vec Bool Global)) : Type 0 where
-  pub each : AllByRecursion (λ x. x.1 < length (row table x.0)) named
-
 -- these operations are marked besides
 pub record AddsNamed (named : List (ℕ × ℕ)) (old new : List (Vec Bool Global)) : Type 0 where
   pub each : (v : ℕ) → AddsMarks (is_named named v) (row old v) (row new v)
@@ -86,11 +82,6 @@ is_edge_of v _ = false
 
 abbrev pub takes_part : List Item → ℕ → Bool
 takes_part items v = list_any (is_edge_of v) items
-
--- where the item is an edge, its nodes are among the first so many
-abbrev pub HasNodes : ℕ → Item → Type 0
-HasNodes count (Edge a b w) = (a < count) × (b < count)
-HasNodes count _ = Unit {0}
 
 -- ---- boxes, and lines in their place
 -- before an operation: in a box the line break of a label, a backslash and n
@@ -138,7 +129,7 @@ reason_look reason.Moments = codes "moments\" color=\"purple"
 
 abbrev pub why_look : PlacedHistory → Why → List ℕ
 why_look log (why.Known r) = reason_look r
-why_look log (why.Forced k o) = codes "forced [" ++ decimal (k + 1) ++ codes "]\" color=\"orange"
+why_look log (why.Forced number o) = codes "forced [" ++ decimal number ++ codes "]\" color=\"orange"
 why_look log (why.Chosen o) = versions_text log o ++ codes "\" color=\"gray"
 
 -- `"1.1" -> "2.1" [label="read" color="blue"];`

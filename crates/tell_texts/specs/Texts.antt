@@ -1,12 +1,8 @@
 -- How an explanation is written as text, a line for each thing that it says, and up to two for a
 -- step.
-use Rattle.std.specs.Prelude.{◌≤◌, ◌<◌, ◌^◌, ℕ, ◌+◌, ◌*◌, List, [], ◌∷◌, ◌++◌, codes, decimal}
+use Rattle.std.specs.Prelude.{ℕ, ◌-◌, ◌*◌, List, [], ◌∷◌, ◌++◌, codes, decimal}
 use Rattle.std.specs.Prelude.{Bool, true, false, replicate, nat_lt, ◌==◌, if◌then◌else◌}
-use Rattle.std.specs.List.{AllByRecursion}
-use Rattle.session_log.specs.Text.{ClientSession}
-use Rattle.log_definitions.specs.Numbers.{log_of}
-use Rattle.reason_laws.specs.Reasons.{IsNode}
-use Rattle.tell_reasons.specs.Reasons.{named, CanTell}
+use Rattle.tell_reasons.specs.Reasons.{named}
 use Rattle.tell_reasons.specs.Edges.{why_text}
 use Rattle.tell_reasons.specs.Versions.{versions_text, since_text}
 use Rattle.tell_reasons.specs.declared.why.ChainOrder.{ChainOrder}
@@ -60,12 +56,12 @@ edge_depth before walks = if walks then 2 else before
 -- how deep an item stands, where so many choices are decided before it; and how many are decided
 -- behind it
 abbrev pub depth_at : ℕ → Bool → Item → ℕ
-depth_at before walks (Decided depth o) = depth
+depth_at before walks (Decided depth o) = depth - 1
 depth_at before walks (Edge a b why) = edge_depth before walks
 depth_at before walks _ = before
 
 abbrev pub depth_behind : ℕ → Item → ℕ
-depth_behind before (Decided depth o) = depth + 1
+depth_behind before (Decided depth o) = depth
 depth_behind before _ = before
 
 -- the lines of these, where so many choices are decided before the first, and an edge in its place
@@ -75,20 +71,3 @@ items_text log depth walks [] = []
 items_text log depth walks (i ∷ rest) =
     (indent (depth_at depth walks i) ++ item_line log i)
     ++ items_text log (depth_behind depth i) (walks_behind walks i) rest
-
--- an order of two chains of a key of the log
-abbrev pub IsOrderOf : List ClientSession → ChainOrder → Type 0
-IsOrderOf ss o = (o.key < (log_of ss).keys) × (o.first ≤ (log_of ss).nodes)
-    × (o.second ≤ (log_of ss).nodes)
-
--- what an item names is there, and its numbers fit
-abbrev pub IsTellable : List ClientSession → Item → Type 0
-IsTellable ss (Step number o u v) = IsOrderOf ss o × (u ≤ (log_of ss).nodes)
-    × (v ≤ (log_of ss).nodes)
-IsTellable ss (Edge a b why) = IsNode ss a × IsNode ss b × CanTell ss a b why
-IsTellable ss (Cycle start edges) = start ≤ (log_of ss).nodes
-IsTellable ss (Decided depth o) = IsOrderOf ss o × (depth < 2 ^ 62)
-IsTellable ss (Leaves count) = Unit {0}
-
-abbrev pub AreTellable : List ClientSession → List Item → Type 0
-AreTellable ss items = AllByRecursion (IsTellable ss) items

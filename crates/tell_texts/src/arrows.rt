@@ -1,10 +1,7 @@
 //! The arrows of a graph: edges, labelled and coloured by their kinds.
 
 ghost use Rattle.std.specs.Prelude.{◌≡◌, ◌++◌, OnOk};
-ghost use Rattle.reason_laws.specs.Reasons.{IsNode};
-ghost use Rattle.tell_reasons.specs.Reasons.{CanTell};
 ghost use Rattle.tell_texts.specs.Graphs as spec;
-ghost use Rattle.tell_texts.specs.Texts.{IsTellable, AreTellable};
 
 use log_lines::PlacedHistory;
 use reasons::Reason;
@@ -26,22 +23,14 @@ fn reason_look(reason: Reason) -> &'static [u8]
     }
 }
 
-/// Appends the kind of an edge, and behind it the colour of its arrow. Forced steps count from 1 in
-/// a text.
-fn put_look(
-    out: &mut Vec<u8>,
-    log: &PlacedHistory<'_>,
-    first: NodeIx,
-    second: NodeIx,
-    why: Why,
-) -> Result<(), AllocError>
-    requires why { CanTell log.now.history.now first second why }
+/// Appends the kind of an edge, and behind it the colour of its arrow.
+fn put_look(out: &mut Vec<u8>, log: &PlacedHistory<'_>, why: Why) -> Result<(), AllocError>
     ensures text { OnOk result (out.new.items ≡ out.old.items ++ spec.why_look log.now why) }
 {
     match why {
         Why::Known(reason) => say!(out, log; Text(reason_look(reason))),
-        Why::Forced { step, order: _ } => say!(out, log;
-            Text(b"forced ["), Number(step as u64 + 1), Text(b"]\" color=\"orange")),
+        Why::Forced { number, order: _ } => say!(out, log;
+            Text(b"forced ["), Number(number as u64), Text(b"]\" color=\"orange")),
         Why::Chosen(order) => {
             put_versions(out, log, order)?;
             say!(out, log; Text(b"\" color=\"gray"))
@@ -50,7 +39,6 @@ fn put_look(
 }
 
 /// Appends the arrow of an edge.
-#[tactic(auto, using(reason_laws::proofs::Numbers::within))]
 fn put_arrow(
     out: &mut Vec<u8>,
     log: &PlacedHistory<'_>,
@@ -58,21 +46,17 @@ fn put_arrow(
     second: NodeIx,
     why: Why,
 ) -> Result<(), AllocError>
-    requires first { IsNode log.now.history.now first }
-    requires second { IsNode log.now.history.now second }
-    requires why { CanTell log.now.history.now first second why }
     ensures text { OnOk result (out.new.items
         ≡ out.old.items ++ spec.arrow_text log.now first second why) }
 {
     say!(out, log; Text(b"\""), Node(first), Text(b"\" -> \""), Node(second),
         Text(b"\" [label=\""))?;
-    put_look(out, log, first, second, why)?;
+    put_look(out, log, why)?;
     say!(out, log; Text(b"\"];\n"))
 }
 
 /// Appends the arrow of an item, where it is an edge.
 fn put_where_edge(out: &mut Vec<u8>, log: &PlacedHistory<'_>, item: Item) -> Result<(), AllocError>
-    requires item { IsTellable log.now.history.now item }
     ensures text { OnOk result (out.new.items ≡ out.old.items ++ spec.arrow log.now item) }
 {
     match item {
@@ -88,7 +72,6 @@ pub fn put_arrows(
     log: &PlacedHistory<'_>,
     items: &[Item],
 ) -> Result<(), AllocError>
-    requires items { AreTellable log.now.history.now items.now }
     ensures text { OnOk result (out.new.items ≡ out.old.items ++ spec.arrows log.now items.now) }
 {
     for item in items {

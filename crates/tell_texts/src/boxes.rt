@@ -1,12 +1,9 @@
 //! The boxes of a graph, or lines: transactions, with those of their operations that the explanation
 //! names.
 
-ghost use Rattle.std.specs.Prelude.{◌≡◌, ◌<◌, ◌++◌, length, OnOk, if◌then◌else◌, []};
-ghost use Rattle.reason_laws.specs.Reasons.{IsNode};
+ghost use Rattle.std.specs.Prelude.{◌≡◌, ◌++◌, length, OnOk, if◌then◌else◌, []};
 ghost use Rattle.log_definitions.specs.Numbers.{log_of};
-ghost use Rattle.log_definitions.specs.Serial.{ops_of};
 ghost use Rattle.tell_texts.specs.Graphs as spec;
-ghost use Rattle.tell_texts.specs.Texts.{AreTellable};
 
 use crate::marks::marks_of;
 use log_lines::PlacedHistory;
@@ -43,7 +40,6 @@ fn put_op_label(
     node: NodeIx,
     op: usize,
 ) -> Result<(), AllocError>
-    requires op { op < length (ops_of log.now.history.now node) }
     ensures text { OnOk result (out.new.items
         ≡ out.old.items ++ spec.op_label look log.now node op) }
 {
@@ -59,7 +55,6 @@ fn put_where_marked(
     op: usize,
     marked: bool,
 ) -> Result<(), AllocError>
-    requires op { op < length (ops_of log.now.history.now node) }
     ensures text { OnOk result (out.new.items ≡ out.old.items
         ++ (if marked then spec.op_label look log.now node op else [])) }
 {
@@ -78,7 +73,6 @@ fn put_op_labels(
     node: NodeIx,
     marks: &[bool],
 ) -> Result<(), AllocError>
-    requires marks { length marks.now ≡ length (ops_of log.now.history.now node) }
     ensures text { OnOk result (out.new.items ≡ out.old.items
         ++ spec.op_labels look log.now node (spec.is_marked marks.now) (length marks.now)) }
 {
@@ -89,7 +83,6 @@ fn put_op_labels(
 }
 
 /// Appends the box of a node, of whose operations these are marked.
-#[tactic(auto, using(reason_laws::proofs::Numbers::within))]
 fn put_box(
     out: &mut Vec<u8>,
     look: Look,
@@ -97,8 +90,6 @@ fn put_box(
     node: NodeIx,
     marks: &[bool],
 ) -> Result<(), AllocError>
-    requires node { IsNode log.now.history.now node }
-    requires marks { length marks.now ≡ length (ops_of log.now.history.now node) }
     ensures text { OnOk result (out.new.items ≡ out.old.items ++ spec.box_with look log.now node
         (spec.op_labels look log.now node (spec.is_marked marks.now) (length marks.now))) }
 {
@@ -125,8 +116,6 @@ fn put_where_part(
     takes_part: bool,
     marks: &[bool],
 ) -> Result<(), AllocError>
-    requires node { IsNode log.now.history.now node }
-    requires marks { length marks.now ≡ length (ops_of log.now.history.now node) }
     ensures text { OnOk result (out.new.items ≡ out.old.items ++ (if takes_part
         then spec.box_with look log.now node (spec.op_labels look log.now node (spec.is_marked marks.now)
         (length marks.now)) else [])) }
@@ -145,7 +134,6 @@ pub fn put_boxes(
     log: &PlacedHistory<'_>,
     items: &[Item],
 ) -> Result<(), AllocError>
-    requires items { AreTellable log.now.history.now items.now }
     ensures text { OnOk result (out.new.items ≡ out.old.items
         ++ spec.boxes look log.now items.now (log_of log.now.history.now).nodes) }
 {

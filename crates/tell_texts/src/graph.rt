@@ -2,7 +2,6 @@
 
 ghost use Rattle.std.specs.Prelude.{◌≡◌, ◌++◌, OnOk};
 ghost use Rattle.tell_texts.specs.Graphs.{graph_text};
-ghost use Rattle.tell_texts.specs.Texts.{AreTellable};
 
 use crate::arrows::put_arrows;
 use crate::boxes::{Look, put_boxes};
@@ -19,7 +18,6 @@ pub fn put_graph(
     log: &PlacedHistory<'_>,
     items: &[Item],
 ) -> Result<(), AllocError>
-    requires items { AreTellable log.now.history.now items.now }
     ensures text { OnOk result (out.new.items ≡ out.old.items ++ graph_text log.now items.now) }
 {
     out.extend_from_slice(b"strict digraph explanation {\nnode [shape=box];\n")?;

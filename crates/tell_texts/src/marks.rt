@@ -1,11 +1,10 @@
 //! Which transactions take part in an explanation, and which of their operations it names.
 
-ghost use Rattle.std.specs.Prelude.{◌<◌, ◌+◌, ◌==◌, [], ◌∷◌, false, length, All, IfOk};
+ghost use Rattle.std.specs.Prelude.{◌+◌, ◌==◌, [], ◌∷◌, false, IfOk};
 ghost use Rattle.std.specs.List.{flat_map};
 ghost use Rattle.log_definitions.specs.Numbers.{log_of};
 ghost use Rattle.tell_texts.specs.Graphs as spec;
-ghost use Rattle.tell_texts.specs.Graphs.{AreWithin, AddsMarks, AddsNamed, AreMarks, AreRows};
-ghost use Rattle.tell_texts.specs.Texts.{AreTellable};
+ghost use Rattle.tell_texts.specs.Graphs.{AddsMarks, AddsNamed, AreMarks, AreRows};
 
 use reasons::Reason;
 use serializability::NodeIx;
@@ -23,17 +22,18 @@ pub struct Marks {
     pub operations: Vec<Vec<bool>>,
 }
 
-/// Marks a node.
+/// Marks a node, where it has a mark.
+#[tactic(auto, using(crate::proofs::Marking::none_added))]
 fn mark_node(nodes: &mut [bool], node: NodeIx)
-    requires within { node < length nodes.old }
     ensures adds { AddsMarks (λ v. node == v) nodes.old nodes.new }
 {
-    nodes[node.get()] = true;
+    if node.get() < nodes.len() {
+        nodes[node.get()] = true;
+    }
 }
 
 /// Marks the nodes that an item is an edge of.
 fn mark_nodes(nodes: &mut [bool], item: Item)
-    requires within { spec.HasNodes (length nodes.old) item }
     ensures adds { AddsMarks (λ v. spec.is_edge_of v item) nodes.old nodes.new }
 {
     match item {
@@ -45,13 +45,17 @@ fn mark_nodes(nodes: &mut [bool], item: Item)
     }
 }
 
-/// Marks an operation of a node.
+/// Marks an operation of a node, where it has a mark.
+#[tactic(auto, using(crate::proofs::Marking::none_named))]
 fn mark(operations: &mut [Vec<bool>], node: NodeIx, operation: usize)
-    requires within { AreWithin ((node, operation) ∷ []) operations.old }
     ensures adds { AddsNamed ((node, operation) ∷ []) operations.old operations.new }
 {
-    let marks = &mut operations[node.get()];
-    marks[operation] = true;
+    if node.get() < operations.len() {
+        let marks = &mut operations[node.get()];
+        if operation < marks.len() {
+            marks[operation] = true;
+        }
+    }
 }
 
 /// Marks an operation of each of two nodes.
@@ -62,7 +66,6 @@ fn mark_both(
     second: NodeIx,
     other: usize,
 )
-    requires within { AreWithin ((first, operation) ∷ (second, other) ∷ []) operations.old }
     ensures adds { AddsNamed ((first, operation) ∷ (second, other) ∷ []) operations.old
         operations.new }
 {
@@ -72,7 +75,6 @@ fn mark_both(
 
 /// Marks the operations that a reason names.
 fn mark_reason(operations: &mut [Vec<bool>], first: NodeIx, second: NodeIx, reason: Reason)
-    requires within { AreWithin (spec.reason_names first second reason) operations.old }
     ensures adds { AddsNamed (spec.reason_names first second reason) operations.old operations.new }
 {
     match reason {
@@ -87,7 +89,6 @@ fn mark_reason(operations: &mut [Vec<bool>], first: NodeIx, second: NodeIx, reas
 
 /// Marks the operations that an item names.
 fn mark_operations(operations: &mut [Vec<bool>], item: Item)
-    requires within { AreWithin (spec.item_names item) operations.old }
     ensures adds { AddsNamed (spec.item_names item) operations.old operations.new }
 {
     match item {
@@ -101,8 +102,6 @@ fn mark_operations(operations: &mut [Vec<bool>], item: Item)
 
 /// Marks the nodes that items are edges of, and the operations that they name.
 fn mark_items(nodes: &mut [bool], operations: &mut [Vec<bool>], items: &[Item])
-    requires nodes { All (spec.HasNodes (length nodes.old)) items.now }
-    requires operations { AreWithin (flat_map spec.item_names items.now) operations.old }
     ensures nodes { AddsMarks (spec.takes_part items.now) nodes.old nodes.new }
     ensures operations { AddsNamed (flat_map spec.item_names items.now) operations.old
         operations.new }
@@ -129,7 +128,6 @@ fn blank_operations(alloc: Global, history: &History) -> Result<Vec<Vec<bool>>, 
 
 /// The marks of the nodes that items are edges of, and of the operations that items name.
 pub fn marks_of(alloc: Global, history: &History, items: &[Item]) -> Result<Marks, AllocError>
-    requires items { AreTellable history.now items.now }
     ensures nodes { IfOk result (λ marks.
         AreMarks ((log_of history.now).nodes + 1) (spec.takes_part items.now) marks.nodes.items) }
     ensures operations { IfOk result (λ marks.

@@ -2,7 +2,6 @@
 
 ghost use Rattle.std.specs.Prelude.{◌≡◌, ◌++◌, OnOk};
 ghost use Rattle.tell_texts.specs.Graphs.{table_text};
-ghost use Rattle.tell_texts.specs.Texts.{AreTellable};
 
 use crate::boxes::{Look, put_boxes};
 use log_lines::PlacedHistory;
@@ -17,7 +16,6 @@ pub fn put_table(
     log: &PlacedHistory<'_>,
     items: &[Item],
 ) -> Result<(), AllocError>
-    requires items { AreTellable log.now.history.now items.now }
     ensures text { OnOk result (out.new.items ≡ out.old.items ++ table_text log.now items.now) }
 {
     out.extend_from_slice(b"the reads and writes that matter:\n")?;

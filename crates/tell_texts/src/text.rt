@@ -1,9 +1,7 @@
 //! Explanations as text.
 
-ghost use Rattle.std.specs.Prelude.{◌≡◌, ◌<◌, ◌≤◌, ◌^◌, ◌*◌, ◌++◌, false, OnOk};
-ghost use Rattle.log_definitions.specs.Numbers.{log_of};
+ghost use Rattle.std.specs.Prelude.{◌≡◌, ◌*◌, ◌++◌, false, OnOk};
 ghost use Rattle.tell_texts.specs.Texts as spec;
-ghost use Rattle.tell_texts.specs.Texts.{IsOrderOf, IsTellable, AreTellable};
 
 use log_lines::PlacedHistory;
 use serializability::NodeIx;
@@ -28,7 +26,6 @@ fn put_order(
     log: &PlacedHistory<'_>,
     order: ChainOrder,
 ) -> Result<(), AllocError>
-    requires order { IsOrderOf log.now.history.now order }
     ensures text { OnOk result (out.new.items ≡ out.old.items ++ spec.versions_line log.now order) }
 {
     put_versions(out, log, order)?;
@@ -44,8 +41,6 @@ fn put_reader(
     source: NodeIx,
     target: NodeIx,
 ) -> Result<(), AllocError>
-    requires source { source ≤ (log_of log.now.history.now).nodes }
-    requires target { target ≤ (log_of log.now.history.now).nodes }
     ensures text { OnOk result (out.new.items
         ≡ out.old.items ++ spec.reader_text log.now order.now source target) }
 {
@@ -65,9 +60,6 @@ fn put_step(
     source: NodeIx,
     target: NodeIx,
 ) -> Result<(), AllocError>
-    requires order { IsOrderOf log.now.history.now order }
-    requires source { source ≤ (log_of log.now.history.now).nodes }
-    requires target { target ≤ (log_of log.now.history.now).nodes }
     ensures text { OnOk result (out.new.items
         ≡ out.old.items ++ spec.step_lines log.now number order source target) }
 {
@@ -82,7 +74,6 @@ fn put_supposed(
     log: &PlacedHistory<'_>,
     order: ChainOrder,
 ) -> Result<(), AllocError>
-    requires order { IsOrderOf log.now.history.now order }
     ensures text { OnOk result (out.new.items ≡ out.old.items ++ spec.order_line log.now order) }
 {
     say!(out, log; Text(b"suppose "))?;
@@ -103,7 +94,6 @@ fn put_leaves(out: &mut Vec<u8>, log: &PlacedHistory<'_>, count: usize) -> Resul
 
 /// Appends the lines of an item.
 fn put_item(out: &mut Vec<u8>, log: &PlacedHistory<'_>, item: Item) -> Result<(), AllocError>
-    requires item { IsTellable log.now.history.now item }
     ensures text { OnOk result (out.new.items ≡ out.old.items ++ spec.item_line log.now item) }
 {
     match item {
@@ -145,7 +135,7 @@ fn depth_at(before: usize, walks: bool, item: Item) -> usize
     ensures { result ≡ spec.depth_at before walks item }
 {
     match item {
-        Item::Decided { depth, order: _ } => depth,
+        Item::Decided { depth, order: _ } => depth.saturating_sub(1),
         Item::Edge { .. } => edge_depth(before, walks),
         _ => before,
     }
@@ -153,11 +143,10 @@ fn depth_at(before: usize, walks: bool, item: Item) -> usize
 
 /// How many choices are decided behind an item, where so many were before it.
 fn depth_behind(before: usize, item: Item) -> usize
-    requires fits { spec.depth_behind before item < 2 ^ 64 }
     ensures { result ≡ spec.depth_behind before item }
 {
     match item {
-        Item::Decided { depth, order: _ } => depth + 1,
+        Item::Decided { depth, order: _ } => depth,
         _ => before,
     }
 }
@@ -170,7 +159,6 @@ pub fn put_items(
     log: &PlacedHistory<'_>,
     items: &[Item],
 ) -> Result<(), AllocError>
-    requires items { AreTellable log.now.history.now items.now }
     ensures text { OnOk result (out.new.items
         ≡ out.old.items ++ spec.items_text log.now 0 false items.now) }
 {

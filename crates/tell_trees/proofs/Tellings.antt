@@ -98,11 +98,11 @@ module _ (s : StepsView) (orders : List ChainOrder) (nodes : List TreeNode) wher
     pub cube : IsCubeTold s.sessions s.orders orders nodes i (length (cube_of nodes i)) (decided_at orders nodes i) n k after
 
   module _ (p : Polygraph) (t : IsRefutationTree p nodes) (each : All (IsOrder (log_of s.sessions)) orders) (count : length orders ≡ length p.choices) where
-    child_decides : (i c : ℕ) (side : Side) (j : ℕ) → IsChild nodes i c side j → (y : TreeNode) → slice_get nodes j ≡ Some y → decision_items orders (length (cube_of nodes j)) y.decision ≡ item.Decided (length (cube_of nodes i)) (order_at orders (c, side)) ∷ []
+    child_decides : (i c : ℕ) (side : Side) (j : ℕ) → IsChild nodes i c side j → (y : TreeNode) → slice_get nodes j ≡ Some y → decision_items orders (length (cube_of nodes j)) y.decision ≡ item.Decided (length (cube_of nodes i) + 1) (order_at orders (c, side)) ∷ []
     child_decides i c side j k y at =
         let decision : y.decision ≡ Some (record { choice = c; side = side }) = ap (λ (z : TreeNode). z.decision) (same_Some y k.node (sym at ∙ k.here)) ∙ k.decision in
         let one : length (cube_of nodes j) ≡ length ((c, side) ∷ cube_of nodes i) = ap length (child_cube p nodes t i c side j k) in
-        let depth : length (cube_of nodes j) - 1 ≡ length (cube_of nodes i) = omega (arith, one) in
+        let depth : length (cube_of nodes j) ≡ length (cube_of nodes i) + 1 = omega (arith, one) in
         ap (decision_items orders (length (cube_of nodes j))) decision ∙ ap (λ z. item.Decided z (order_at orders (c, side)) ∷ []) depth
 
     child_told : (i c : ℕ) (side : Side) (j n k : ℕ) (items : List Item) → IsChild nodes i c side j → IsCubeTold s.sessions s.orders orders nodes j (length (cube_of nodes j)) (decided_at orders nodes j) n k items
@@ -147,14 +147,14 @@ module _ (s : StepsView) (orders : List ChainOrder) (nodes : List TreeNode) wher
         let split = t.inner v.node x c first second of.here g in
         let o = order_at orders (c, One) in
         let L = length (cube_of nodes v.node) in
-        let front : parts.front ≡ item.Decided L o ∷ a.after = a.whole ∙ ap (λ l. l ++ a.after) (child_decides v.node c One first split.one a.node a.here) in
-        let back : parts.back ≡ item.Decided L (turned o) ∷ b.after = b.whole ∙ ap (λ l. l ++ b.after) (child_decides v.node c Two second split.two b.node b.here) in
+        let front : parts.front ≡ item.Decided (L + 1) o ∷ a.after = a.whole ∙ ap (λ l. l ++ a.after) (child_decides v.node c One first split.one a.node a.here) in
+        let back : parts.back ≡ item.Decided (L + 1) (turned o) ∷ b.after = b.whole ∙ ap (λ l. l ++ b.after) (child_decides v.node c Two second split.two b.node b.here) in
         let first_items : h.0 ≡ decision_items orders L own.node.decision = own_items v x true h.0 [] of own none ∙ append-nil (decision_items orders L own.node.decision) in
-        let rest_items : h.1 ≡ (item.Decided L o ∷ a.after) ++ (item.Decided L (turned o) ∷ b.after) = parts.whole ∙ (λ i. front i ++ back i) in
+        let rest_items : h.1 ≡ (item.Decided (L + 1) o ∷ a.after) ++ (item.Decided (L + 1) (turned o) ∷ b.after) = parts.whole ∙ (λ i. front i ++ back i) in
         record {
           node = own.node;
           here = own.here;
-          after = (item.Decided L o ∷ a.after) ++ (item.Decided L (turned o) ∷ b.after);
+          after = (item.Decided (L + 1) o ∷ a.after) ++ (item.Decided (L + 1) (turned o) ∷ b.after);
           whole = h.4 ∙ (λ i. first_items i ++ rest_items i);
           cube = told.split v.node L (decided_at orders nodes v.node) n m k c first second o a.after b.after (x, of.here, g) refl (order_is c split.choice)
               (child_told v.node c One first n m a.after split.one a.cube) (child_told v.node c Two second m k b.after split.two b.cube);

@@ -31,7 +31,7 @@ decided_at orders nodes i = map (order_at orders) (cube_of nodes i)
 -- what a node at this depth decides itself
 abbrev pub decision_items : List ChainOrder → ℕ → Option CubeDecision → List Item
 decision_items orders depth None = []
-decision_items orders depth (Some d) = item.Decided (depth - 1)
+decision_items orders depth (Some d) = item.Decided depth
     (order_at orders (d.choice, d.side)) ∷ []
 
 -- the cycle, where there is one

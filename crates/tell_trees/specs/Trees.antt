@@ -39,8 +39,8 @@ pub data IsCubeTold (ss : List ClientSession) (steps orders : List ChainOrder)
       → IsInnerAt nodes v c first second → o ≡ order_at orders (c, One) → IsOrder (log_of ss) o →
       IsCubeTold ss steps orders nodes first (depth + 1) (o ∷ decided) n m one
       → IsCubeTold ss steps orders nodes second (depth + 1) (turned o ∷ decided) m k two →
-      IsCubeTold ss steps orders nodes v depth decided n k (item.Decided depth o ∷ one
-      ++ item.Decided depth (turned o) ∷ two)
+      IsCubeTold ss steps orders nodes v depth decided n k (item.Decided (depth + 1) o ∷ one
+      ++ item.Decided (depth + 1) (turned o) ∷ two)
   left_out : (v depth : ℕ) (decided : List ChainOrder)
       → IsCubeTold ss steps orders nodes v depth decided MAX_LEAVES MAX_LEAVES []
 

@@ -59,7 +59,7 @@ fn put_decision(
 {
     match decision {
         Some(decision) => items.extend_from_slice(&[Item::Decided {
-            depth: depth.saturating_sub(1),
+            depth,
             order: order_of(orders, decision),
         }]),
         None => Ok(()),

@@ -1,19 +1,10 @@
-use Rattle.std.proofs.Common.{[], ◌∷◌, ◌++◌, subst, sym, lit<}
 use Rattle.std.proofs.lemmas.Result.{IfOk-weaker}
 use Rattle.headline.proofs.Answered.{clean_log}
-use Rattle.tell_texts.specs.Texts.{AreTellable}
 use Rattle.tell_decision.proofs.Premises.{cycle_written}
-use Rattle.tell_decision.proofs.Tellable.{line_tellable}
 use Rattle.tell_decision.proofs.explained.explain_cycle.Goals as goal
 
 pub cycle_items-requires-clause-clean : goal.cycle_items-requires-clause-clean
 cycle_items-requires-clause-clean c = clean_log c.args.log.now.history.now c.committed-invariant.ensures.well_formed c.requires.none
-
-pub written_cycle-requires : goal.written_cycle-requires
-written_cycle-requires c =
-    let ss = c.args.log.now.history.now in
-    let items = c.in_ok-items.items.items in
-    record { items = subst (AreTellable ss) (sym c.deref.ensures.value) (let r = c.in_ok-items.ensures.told in line_tellable ss [] [] (r.start ∷ (r.inner ++ r.start ∷ [])) items (lit< tt) tt tt r.told) }
 
 pub returns : goal.returns
 returns c = record {

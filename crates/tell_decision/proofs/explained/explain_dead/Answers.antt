@@ -1,32 +1,18 @@
-use Rattle.std.proofs.Common.{◌<◌, ◌^◌, length, subst, sym, arith}
 use Rattle.std.proofs.lemmas.Result.{IfOk-weaker}
-use Rattle.tell_texts.specs.Texts.{AreTellable}
 use Rattle.tell_decision.proofs.Premises.{unpruned_clean, dead_ledger, dead_written}
-use Rattle.tell_decision.proofs.Tellable.{dead_tellable}
 use Rattle.tell_decision.proofs.explained.explain_dead.Goals as goal
 
 pub open_chains-requires-clause-clean : goal.open_chains-requires-clause-clean
 open_chains-requires-clause-clean c = unpruned_clean c.args.log.now.history.now c.requires.dead.poly c.committed-invariant.ensures.well_formed c.requires.dead.unpruned
 
-pub dead_items-requires-clause-clean : goal.dead_items-requires-clause-clean
-dead_items-requires-clause-clean c = unpruned_clean c.args.log.now.history.now c.requires.dead.poly c.committed-invariant.ensures.well_formed c.requires.dead.unpruned
+pub tell_dead-requires-clause-clean : goal.tell_dead-requires-clause-clean
+tell_dead-requires-clause-clean c = unpruned_clean c.args.log.now.history.now c.requires.dead.poly c.committed-invariant.ensures.well_formed c.requires.dead.unpruned
 
-pub dead_items-requires-clause-ledger : goal.dead_items-requires-clause-ledger
-dead_items-requires-clause-ledger c = dead_ledger c.args.log.now.history.now c.args.ledger.now c.requires.dead
+pub tell_dead-requires-clause-ledger : goal.tell_dead-requires-clause-ledger
+tell_dead-requires-clause-ledger c = dead_ledger c.args.log.now.history.now c.args.ledger.now c.requires.dead
 
 pub crossed_reads-requires : goal.crossed_reads-requires
 crossed_reads-requires c = record { clean = unpruned_clean c.args.log.now.history.now c.requires.dead.poly c.committed-invariant.ensures.well_formed c.requires.dead.unpruned }
-
-pub written_dead-requires-clause-items : goal.written_dead-requires-clause-items
-written_dead-requires-clause-items c =
-    let ss = c.args.log.now.history.now in
-    let items = c.in_ok-items.items.items in
-    let made = c.in_ok-items.items in
-    let count = made.ok.0 in
-    let room = made.ok.1 in
-    let bound = made.small in
-    let small : length items < 2 ^ 63 = omega (arith, count, room, bound) in
-    subst (AreTellable ss) (sym c.deref.ensures.value) (dead_tellable ss items small c.in_ok-items.ensures.told)
 
 pub returns : goal.returns
 returns c = record {

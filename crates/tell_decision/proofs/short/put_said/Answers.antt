@@ -8,7 +8,7 @@ returns-in_ok-put_ordered-in-Forced c =
     let log = c.args.log.now in
     let old = c.args.out.now.items in
     let ordered = ordered_text log c.in-Forced.order.key c.args.first c.args.second in
-    let by = by_text c.in-Forced.step in
+    let by = by_text c.in-Forced.number in
     record {
       text = on_ok_weaker c.put_by.result
           (λ e. e ∙ ap (λ l. l ++ by) c.in_ok-put_ordered-in-Forced.ensures.text ∙ append_assoc old ordered by ∙ ap (λ w. old ++ said_text log c.args.first c.args.second w) (sym c.in-Forced.is))

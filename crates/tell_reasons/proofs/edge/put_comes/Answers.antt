@@ -12,7 +12,7 @@ returns c =
     record {
       text =
           on_ok_weaker c.put_text.result
-          (λ e. four_joined c.args.out.now.items held (comes_by c.args.step) version (codes "\n") c.put_held.new.out.items c.put_comes_by.new.out.items c.put_version.new.out.items c.put_text.new.out.items
+          (λ e. four_joined c.args.out.now.items held (comes_by c.args.number) version (codes "\n") c.put_held.new.out.items c.put_comes_by.new.out.items c.put_version.new.out.items c.put_text.new.out.items
           c.in_ok-put_held.ensures.text c.in_ok-put_comes_by.ensures.text c.in_ok-put_version.ensures.text e)
           c.put_text.ensures.text;
     }

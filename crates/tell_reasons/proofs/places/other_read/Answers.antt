@@ -1,6 +1,5 @@
-use Rattle.std.proofs.Common.{◌≤◌, take, length, ap, ◌∙◌, arith}
+use Rattle.std.proofs.Common.{take, ap, ◌∙◌}
 use Rattle.std.specs.Prelude.{position}
-use Rattle.log_definitions.specs.Serial.{ops_of}
 use Rattle.log_definitions.specs.Numbers.{log_of}
 use Rattle.tell_reasons.specs.Events.{is_other_in}
 use Rattle.tell_reasons.specs.Versions.{key_number}
@@ -18,6 +17,5 @@ returns-clause-place c =
 pub returns-clause-read : goal.returns-clause-read
 returns-clause-read c =
     let ss = c.args.history.now in
-    let le : c.args.op ≤ length (ops_of ss c.args.node) = omega (arith, c.requires.op) in
     let found = c.other_among.ensures.place ∙ ap (position (is_other_in c.key_number-key.result c.wid_at-wid.result)) c.events_before.ensures.before in
-    other_is_read ss c.args.node c.key_number-key.result c.wid_at-wid.result c.args.op c.other_among.result le found
+    other_is_read ss c.args.node c.key_number-key.result c.wid_at-wid.result c.args.op c.other_among.result found

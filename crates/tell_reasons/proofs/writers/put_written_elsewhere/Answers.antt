@@ -1,5 +1,6 @@
-use Rattle.std.proofs.Common.{◌≡◌, ◌++◌, Some, sym, ap, ◌∙◌}
+use Rattle.std.proofs.Common.{◌≡◌, ◌++◌, ap, ◌∙◌}
 use Rattle.std.specs.Prelude.{codes, slice_get}
+use Rattle.std.specs.Option.{option_copied}
 use Rattle.std.proofs.lemmas.Result.{on_ok_weaker}
 use Rattle.list_lemmas.proofs.Lists.{appended_twice}
 use Rattle.order_text.specs.Text.{name_text}
@@ -23,8 +24,8 @@ returns c =
     let three = c.put_words.new.out.items in
     let four = c.put_op.new.out.items in
     let new = c.put_in_line.new.out.items in
-    let op : at ≡ Some c.op_among.result.now = ap (λ ops. slice_get ops w.op) (sym c.deref.ensures.value) ∙ c.op_among.ensures in
-    let told : four ≡ three ++ key_and_wid at = c.in_ok-put_op.ensures.text ∙ ap (λ o. three ++ key_and_wid o) (sym op) in
+    let op : option_copied c.op_among.result ≡ at = c.op_among.ensures ∙ ap (λ ops. slice_get ops w.op) c.deref.ensures.value in
+    let told : four ≡ three ++ key_and_wid at = c.in_ok-put_op.ensures.text ∙ ap (λ o. three ++ key_and_wid o) op in
     record {
       text =
           on_ok_weaker c.put_in_line.result

@@ -1,4 +1,4 @@
-use Rattle.std.proofs.Common.{[], ◌∷◌, List, ℕ, subst, sym, Bor}
+use Rattle.std.proofs.Common.{[], List, ℕ, Bor}
 use Rattle.std.proofs.lemmas.List.Elements.{All-head}
 use Rattle.tell_steps.specs.Told.{HasSteps}
 use Rattle.tell_steps.proofs.Telling.{closed_stands, dead_told}

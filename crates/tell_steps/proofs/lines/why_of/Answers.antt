@@ -1,8 +1,9 @@
-use Rattle.std.proofs.Common.{subst}
+use Rattle.std.proofs.Common.{suc, sym, subst, add-one}
 use Rattle.std.specs.List.{All, Contains}
 use Rattle.serializability.specs.Polygraph.{Edge}
 use Rattle.log_definitions.specs.Numbers.{log_of}
-use Rattle.tell_steps.specs.Steps.{edges_in}
+use Rattle.tell_reasons.specs.declared.why.Why.TheVariants.{Forced}
+use Rattle.tell_steps.specs.Steps.{edges_in, IsWhy}
 use Rattle.tell_steps.specs.Lines.{sides_of}
 use Rattle.tell_steps.proofs.Covering.{first_step, first_within, no_step, none_left}
 use Rattle.tell_steps.proofs.lines.why_of.Goals as goal
@@ -24,7 +25,13 @@ returns-in-Some-entry_with-clause-why c =
     let ss = c.args.basis.now.history.now in
     let steps = c.args.basis.now.grounds.now.kept.items in
     let e : Edge = (c.args.a, c.args.b) in
-    ((rw c.in-None.is at c.in_ok-reason.ensures.answer), first_step ss steps e c.in-Some-entry_with.step c.kept_order-order.result c.kept_order-order.ensures.order (c.in-Some-entry_with.ensures.found (sides_of ss steps) c.requires.basis.grounds.firsts))
+    let k = c.in-Some-entry_with.step in
+    let o = c.kept_order-order.result in
+    let why : IsWhy ss steps c.args.decided.now c.args.a c.args.b (Forced (suc k) o) = (
+      rw c.in-None.is at c.in_ok-reason.ensures.answer,
+      first_step ss steps e k o c.kept_order-order.ensures.order (c.in-Some-entry_with.ensures.found (sides_of ss steps) c.requires.basis.grounds.firsts),
+    ) in
+    subst (λ n. IsWhy ss steps c.args.decided.now c.args.a c.args.b (Forced n o)) (sym (add-one k)) why
 
 pub returns-in-Some-order_with-clause-why : goal.returns-in-Some-order_with-clause-why
 returns-in-Some-order_with-clause-why c =

@@ -1,4 +1,3 @@
-use Rattle.std.proofs.Common.{◌<◌, length, arith}
 use Rattle.tell_steps.proofs.Ledgers.{post_at}
 use Rattle.tell_steps.proofs.Checked.{front_more}
 use Rattle.tell_steps.proofs.shorter.shorter_entries.Goals as goal

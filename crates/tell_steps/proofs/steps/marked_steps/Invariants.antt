@@ -1,4 +1,3 @@
-use Rattle.std.proofs.Common.{length}
 use Rattle.prune_ledger.specs.Pruned.{posts_in}
 use Rattle.tell_steps.specs.Lines.{AreAnswers, AreGrounds}
 use Rattle.tell_steps.specs.Told.{AreTold}

@@ -1,8 +1,7 @@
-use Rattle.std.proofs.Common.{◌≡◌, ◌<◌, ◌≤◌, ◌+◌, ◌-◌, ◌++◌, [], length, sym, ap, ◌∙◌, subst, arith}
+use Rattle.std.proofs.Common.{◌≡◌, ◌<◌, ◌+◌, ◌-◌, ◌++◌, [], length, sym, ap, ◌∙◌, subst, arith}
 use Rattle.std.specs.Prelude.{if◌then◌else◌}
 use Rattle.log_definitions.specs.Numbers.{log_of}
 use Rattle.log_definitions.specs.Serial.{ops_of}
-use Rattle.reason_laws.proofs.Numbers.{node_from}
 use Rattle.tell_texts.specs.Graphs.{AreMarks, box, box_with, boxes, names, takes_part}
 use Rattle.tell_texts.proofs.Pieces.{appended, begun}
 use Rattle.tell_texts.proofs.Marking.{mark_at, marks_at}
@@ -14,12 +13,6 @@ loop-number-init c =
     let look = c.args.look in
     let log = c.args.log.now in
     begun c.args.out.now.items (boxes look log c.args.items.now 0) (boxes_none look log c.args.items.now)
-
-pub put_where_part-requires-clause-node : goal.put_where_part-requires-clause-node
-put_where_part-requires-clause-node c =
-    let low : 0 < c.node.result = omega (arith, c.node.ensures.value, c.loop-number.auto.number) in
-    let high : c.node.result ≤ (log_of c.args.log.now.history.now).nodes = omega (arith, c.node.ensures.value, c.loop-number-test.true, c.committed-number-end.ensures.count) in
-    node_from c.args.log.now.history.now c.node.result low high
 
 pub loop-number-preserved : goal.loop-number-preserved
 loop-number-preserved c =

@@ -1,22 +1,9 @@
 use Rattle.std.proofs.Common.{◌+◌, false, sym, ap, ◌∙◌, subst}
-use Rattle.std.specs.Prelude.{All}
 use Rattle.std.proofs.lemmas.List.{with_items_is}
 use Rattle.log_definitions.specs.Numbers.{log_of}
-use Rattle.tell_texts.specs.Graphs.{AreMarks, AreRows, HasNodes, names, takes_part}
-use Rattle.tell_texts.proofs.Marking.{all_have_nodes, blank_marks, items_within, marks_added, rows_added}
+use Rattle.tell_texts.specs.Graphs.{AreMarks, AreRows, names, takes_part}
+use Rattle.tell_texts.proofs.Marking.{blank_marks, marks_added, rows_added}
 use Rattle.tell_texts.proofs.marks.marks_of.Goals as goal
-
-pub mark_items-requires : goal.mark_items-requires
-mark_items-requires c =
-    let ss = c.args.history.now in
-    let items = c.args.items.now in
-    let count = (log_of ss).nodes + 1 in
-    let blank = blank_marks count (c.committed.result + 1) c.deref_mut.result.now (c.deref_mut.ensures.value ∙ c.in_ok-nodes.ensures.items_if_clones_equal (λ y e. e)) (ap (λ n. n + 1) c.committed.ensures.count) in
-    let rows = subst (AreRows ss count (λ _ _. false)) (sym c.deref_mut-2.ensures.value) c.in_ok-operations.ensures.blank in
-    record {
-      nodes = subst (λ n. All (HasNodes n) items) (sym blank.long) (all_have_nodes ss items c.requires.items);
-      operations = items_within ss (λ _ _. false) c.deref_mut-2.result.now items rows c.requires.items;
-    }
 
 pub returns : goal.returns
 returns c =
